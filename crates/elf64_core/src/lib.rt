@@ -1,0 +1,12 @@
+//! The ELF64 format: headers and segments of a file's bytes, names and texts.
+//!
+//! Everything that is handed out is a part of the file's bytes, or a number that stands there. A core
+//! dump and the binaries that it mapped are read through this crate. The rules are those of the
+//! System V gABI for 64-bit little-endian files.
+#![tactic(auto)]
+
+mod name;
+mod text;
+
+pub use name::Name;
+pub use text::Text;

@@ -1,0 +1,14 @@
+//! Where the fields of an interpreter's records are: layouts, and the versions that they cover.
+#![tactic(auto)]
+
+mod error;
+mod layout;
+mod version;
+
+pub use error::LayoutError;
+pub use layout::{
+    BytesAt, CframeAt, CodeAt, DictAt, Dicts, FrameAt, Frames, GilAt, Head, HeapAt, Integers,
+    InterpreterAt, KeysAt, KlassAt, Lasti, Layout, Lines, ListAt, Lock, LongAt, Managed, ObjectAt,
+    OffsetsAt, StringAt, Strings, ThreadAt, TupleAt, ValueAt,
+};
+pub use version::Version;
