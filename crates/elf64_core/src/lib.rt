@@ -5,8 +5,10 @@
 //! System V gABI for 64-bit little-endian files.
 #![tactic(auto)]
 
+mod fields;
 mod name;
 mod text;
 
+pub use fields::{half_in, quarter_in, word_in};
 pub use name::Name;
 pub use text::Text;
