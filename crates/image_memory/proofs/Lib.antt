@@ -1,3 +1,4 @@
 pub mod Ranges
 pub mod Records
 pub mod Reading
+pub mod Stretch

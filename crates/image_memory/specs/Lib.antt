@@ -1,2 +1,5 @@
 pub mod Memory
 pub mod Seen
+pub mod Pieces
+pub mod Layers
+pub mod Dumps
