@@ -1,9 +1,13 @@
 //! Lists of layouts of which each is sound, and no two clash.
-ghost use Rattle.std.specs.Prelude.{◌≡◌, ℕ, ◌↔◌, ◌≤◌, ◌<◌, IsTrue, IsOk, IsNone, IsErrOf, MatchOption, IfOk, IfSome, All, Contains};
-ghost use Rattle.py_layout.specs.Sound.{Covers, IsSound, AreSound, IsFirstUnsound, IsFirstClash};
+ghost use Rattle.std.specs.Prelude.{◌≡◌, ℕ, ◌↔◌, ◌≤◌, ◌<◌, IsTrue, IsOk, IsNone, IsErrOf, MatchOption, IfOk, IfSome, All, AllPairs, Contains, length};
+ghost use Rattle.std.specs.List.{AllWithin};
+ghost use Rattle.py_layout.specs.Sound.{Covers, IsSound, AreSound, Clash, IsFirstUnsound, IsFirstFrom, IsFirstClash};
 
+use crate::error::LayoutError;
 use crate::layout::Layout;
+use crate::sound::is_sound;
 use crate::version::Version;
+use std::alloc::Global;
 use std::marker::Model;
 
 /// A list of layouts of which each is sound, and no two cover one version.
@@ -26,7 +30,79 @@ impl Model for Layouts {
     ghost invariant = { λ l. AreSound l.list.items };
 }
 
+/// The place of the first layout that is not sound.
+fn first_unsound(list: &[Layout]) -> Option<usize>
+    ensures { MatchOption result (All IsSound list.now) (IsFirstUnsound list.now) }
+{
+    for (table, layout) in list.iter().enumerate() {
+        if !is_sound(layout) {
+            return Some(table);
+        }
+    }
+    None
+}
+
+fn clashes(one: &Layout, other: &Layout) -> bool
+    ensures { IsTrue result ↔ Clash one.now other.now }
+{
+    one.major == other.major
+        && one.first_minor <= other.last_minor
+        && other.first_minor <= one.last_minor
+}
+
+/// The place of the first layout, from a place on, that clashes with this one.
+fn first_clash_with(layout: &Layout, list: &[Layout], start: usize) -> Option<usize>
+    ensures { MatchOption result (AllWithin (λ other. ¬ Clash layout.now other) list.now start (length list.now)) (IsFirstFrom (Clash layout.now) list.now start) }
+{
+    for place in start..list.len() {
+        if clashes(layout, &list[place]) {
+            return Some(place);
+        }
+    }
+    None
+}
+
+/// The places of the first two layouts that clash.
+fn first_clash(list: &[Layout]) -> Option<(usize, usize)>
+    ensures { MatchOption result (AllPairs (λ one other. ¬ Clash one other) list.now) (λ pair. IsFirstClash list.now pair.0 pair.1) }
+{
+    for (first, layout) in list.iter().enumerate() {
+        if let Some(second) = first_clash_with(layout, list, first + 1) {
+            return Some((first, second));
+        }
+    }
+    None
+}
+
 impl Layouts {
+    /// The layouts of a list, if each is sound and no two clash.
+    ///
+    /// `Unsound` names the first layout that isn't sound, and `Clash` the first that clashes with a later
+    /// one and the first of those, where all are sound.
+    pub fn of(alloc: Global, list: Vec<Layout>) -> Result<Layouts, LayoutError>
+        ensures ok { IfOk result (λ layouts. layouts ≡ list.items) }
+        ensures sound { IsOk result ↔ AreSound list.items }
+        ensures unsound { (table : ℕ) → (result ≡ Err (LayoutError.Unsound table)) ↔ IsFirstUnsound list.items table }
+        ensures clash { (first second : ℕ) → (result ≡ Err (LayoutError.Clash first second)) ↔ (All IsSound list.items × IsFirstClash list.items first second) }
+    {
+        if let Some(table) = first_unsound(&list) {
+            let table = table as u64;
+            return Err(LayoutError::Unsound { table });
+        }
+        if let Some((first, second)) = first_clash(&list) {
+            let (first, second) = (first as u64, second as u64);
+            return Err(LayoutError::Clash { first, second });
+        }
+        Ok(Layouts { list })
+    }
+
+    /// Whether each layout of a list is sound and no two clash, so that `of` takes them.
+    pub fn check(list: &[Layout]) -> bool
+        ensures { IsTrue result ↔ AreSound list.now }
+    {
+        first_unsound(list).is_none() && first_clash(list).is_none()
+    }
+
     /// The layout that covers a version, by its major and minor alone.
     pub fn choose(&self, version: &Version) -> Option<&Layout>
         ensures none { IsNone result ↔ All (λ layout. ¬ Covers layout version.now) self.now }
