@@ -1,5 +1,5 @@
 -- Sound layouts, and lists of them.
-use Rattle.std.specs.Prelude.{◌≡◌, ◌≢◌, ℕ, ◌+◌, ◌<◌, ◌≤◌, ◌^◌, ◌↔◌, List, IsSome, IfSome, All, AllPairs, length, slice_index_or, ◌⊎◌}
+use Rattle.std.specs.Prelude.{◌≡◌, ◌≢◌, ℕ, ◌+◌, ◌<◌, ◌≤◌, ◌^◌, ◌↔◌, List, IsSome, IfSome, All, AllPairs, length, slice_index_or, ◌⊎◌, ⊤}
 use Rattle.std.specs.List.{HoldsAt, AllWithin}
 use Rattle.py_layout.specs.Places.{Place, IsGroup, AreApart, EndBy, interpreter_places, thread_places, frame_places, code_places, string_head, string_places, state_bits, bytes_places, tuple_places, list_places, object_places, klass_places, long_places, value_places, dict_places, keys_places, heap_places, gil_places, offsets_places}
 use Rattle.py_layout.specs.declared.layout.Head.TheVariants.{Offsets}
@@ -21,6 +21,8 @@ use Rattle.py_layout.specs.declared.layout.LongAt.{LongAt}
 use Rattle.py_layout.specs.declared.layout.KeysAt.{KeysAt}
 use Rattle.py_layout.specs.declared.layout.HeapAt.{HeapAt}
 use Rattle.py_layout.specs.declared.layout.Layout.{Layout}
+use Rattle.py_layout.specs.declared.error.LayoutError.{LayoutError}
+use Rattle.py_layout.specs.declared.error.LayoutError.TheVariants.{NotToml, Shape, Unsound, Clash as Clashing, OutOfMemory}
 use Rattle.py_layout.specs.declared.version.Version.{Version}
 
 -- a number that is not bounded by a record's size
@@ -179,3 +181,11 @@ pub record ClashAt (list : List Layout) (first second : ℕ) : Type 0 where
 pub record IsFirstClash (list : List Layout) (first second : ℕ) : Type 0 where
   pub clash : ClashAt list first second
   pub before : (i j : ℕ) → ClashAt list i j → (first < i) ⊎ ((i ≡ first) × (second ≤ j))
+
+-- what can be wrong with a list of layouts, as against a file
+abbrev pub IsOfList : LayoutError → Type 0
+IsOfList NotToml = ⊥
+IsOfList (Shape table key) = ⊥
+IsOfList (Unsound table) = ⊤
+IsOfList (Clashing first second) = ⊤
+IsOfList OutOfMemory = ⊥

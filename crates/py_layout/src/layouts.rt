@@ -1,7 +1,7 @@
 //! Lists of layouts of which each is sound, and no two clash.
-ghost use Rattle.std.specs.Prelude.{◌≡◌, ℕ, ◌↔◌, ◌≤◌, ◌<◌, IsTrue, IsOk, IsNone, IsErrOf, MatchOption, IfOk, IfSome, All, AllPairs, Contains, length};
+ghost use Rattle.std.specs.Prelude.{◌≡◌, ℕ, ◌↔◌, IsTrue, IsOk, IsNone, MatchOption, IfOk, IfErr, IfSome, All, AllPairs, Contains, length};
 ghost use Rattle.std.specs.List.{AllWithin};
-ghost use Rattle.py_layout.specs.Sound.{Covers, IsSound, AreSound, Clash, IsFirstUnsound, IsFirstFrom, IsFirstClash};
+ghost use Rattle.py_layout.specs.Sound.{Covers, IsSound, AreSound, Clash, IsFirstUnsound, IsFirstFrom, IsFirstClash, IsOfList};
 
 use crate::error::LayoutError;
 use crate::layout::Layout;
@@ -42,6 +42,7 @@ fn first_unsound(list: &[Layout]) -> Option<usize>
     None
 }
 
+/// Whether two layouts cover one version.
 fn clashes(one: &Layout, other: &Layout) -> bool
     ensures { IsTrue result ↔ Clash one.now other.now }
 {
@@ -50,9 +51,11 @@ fn clashes(one: &Layout, other: &Layout) -> bool
         && other.first_minor <= one.last_minor
 }
 
-/// The place of the first layout, from a place on, that clashes with this one.
+/// The place of the first layout, from `start` on, that clashes with this one.
 fn first_clash_with(layout: &Layout, list: &[Layout], start: usize) -> Option<usize>
-    ensures { MatchOption result (AllWithin (λ other. ¬ Clash layout.now other) list.now start (length list.now)) (IsFirstFrom (Clash layout.now) list.now start) }
+    ensures { MatchOption result
+        (AllWithin (λ other. ¬ Clash layout.now other) list.now start (length list.now))
+        (IsFirstFrom (Clash layout.now) list.now start) }
 {
     for place in start..list.len() {
         if clashes(layout, &list[place]) {
@@ -64,7 +67,9 @@ fn first_clash_with(layout: &Layout, list: &[Layout], start: usize) -> Option<us
 
 /// The places of the first two layouts that clash.
 fn first_clash(list: &[Layout]) -> Option<(usize, usize)>
-    ensures { MatchOption result (AllPairs (λ one other. ¬ Clash one other) list.now) (λ pair. IsFirstClash list.now pair.0 pair.1) }
+    ensures { MatchOption result
+        (AllPairs (λ one other. ¬ Clash one other) list.now)
+        (λ pair. IsFirstClash list.now pair.0 pair.1) }
 {
     for (first, layout) in list.iter().enumerate() {
         if let Some(second) = first_clash_with(layout, list, first + 1) {
@@ -75,15 +80,21 @@ fn first_clash(list: &[Layout]) -> Option<(usize, usize)>
 }
 
 impl Layouts {
-    /// The layouts of a list, if each is sound and no two clash.
+    /// The layouts of a list, where each is sound and no two clash. It takes no memory.
     ///
-    /// `Unsound` names the first layout that isn't sound, and `Clash` the first that clashes with a later
-    /// one and the first of those, where all are sound.
-    pub fn of(alloc: Global, list: Vec<Layout>) -> Result<Layouts, LayoutError>
-        ensures ok { IfOk result (λ layouts. layouts ≡ list.items) }
-        ensures sound { IsOk result ↔ AreSound list.items }
-        ensures unsound { (table : ℕ) → (result ≡ Err (LayoutError.Unsound table)) ↔ IsFirstUnsound list.items table }
-        ensures clash { (first second : ℕ) → (result ≡ Err (LayoutError.Clash first second)) ↔ (All IsSound list.items × IsFirstClash list.items first second) }
+    /// `Unsound` comes exactly where a layout is not sound, and names the first. `Clash` comes exactly
+    /// where all are sound and two clash, and names the first pair: by the first of the two, then by
+    /// the second. No other error comes.
+    pub fn of(_alloc: Global, list: Vec<Layout>) -> Result<Layouts, LayoutError>
+        ensures value { IfOk result (λ layouts. layouts ≡ list.items) }
+        ensures ok { IsOk result ↔ AreSound list.items }
+
+        ensures unsound { (table : ℕ)
+            → (result ≡ Err (LayoutError.Unsound table)) ↔ IsFirstUnsound list.items table }
+        ensures clash { (first second : ℕ)
+            → (result ≡ Err (LayoutError.Clash first second))
+            ↔ (All IsSound list.items × IsFirstClash list.items first second) }
+        ensures errors { IfErr result IsOfList }
     {
         if let Some(table) = first_unsound(&list) {
             let table = table as u64;
@@ -103,7 +114,9 @@ impl Layouts {
         first_unsound(list).is_none() && first_clash(list).is_none()
     }
 
-    /// The layout that covers a version, by its major and minor alone.
+    /// The layout that covers a version, or `None` where none does.
+    ///
+    /// There is one at most, since no two layouts cover one version.
     pub fn choose(&self, version: &Version) -> Option<&Layout>
         ensures none { IsNone result ↔ All (λ layout. ¬ Covers layout version.now) self.now }
         ensures member { IfSome result (λ layout. Contains self.now layout.now) }

@@ -8,8 +8,8 @@ use Rattle.py_layout.proofs.layouts.Layouts.of.Goals as goal
 found_unsound : (c : goal.After-drop-list) → IsFirstUnsound c.args.list.items c.in-Some.table
 found_unsound c = rw c.deref.ensures.value at c.in-Some.ensures
 
-pub returns-in-Some-clause-sound : goal.returns-in-Some-clause-sound
-returns-in-Some-clause-sound c = (λ e. absurd (false≢true e), λ a. absurd (unsound-not_all _ _ (found_unsound c) a.each))
+pub returns-in-Some-clause-ok : goal.returns-in-Some-clause-ok
+returns-in-Some-clause-ok c = (λ e. absurd (false≢true e), λ a. absurd (unsound-not_all _ _ (found_unsound c) a.each))
 
 pub returns-in-Some-clause-unsound : goal.returns-in-Some-clause-unsound
 returns-in-Some-clause-unsound c table = (
@@ -26,8 +26,8 @@ returns-in-Some-clause-clash c first second =
 found_clash : (c : goal.After-drop-list-in-Some-first_clash) → IsFirstClash c.args.list.items c.in-Some-first_clash.first c.in-Some-first_clash.second
 found_clash c = rw c.deref-2.ensures.value at c.in-Some-first_clash.ensures
 
-pub returns-in-Some-first_clash-clause-sound : goal.returns-in-Some-first_clash-clause-sound
-returns-in-Some-first_clash-clause-sound c =
+pub returns-in-Some-first_clash-clause-ok : goal.returns-in-Some-first_clash-clause-ok
+returns-in-Some-first_clash-clause-ok c =
     (λ e. absurd (false≢true e), λ a. absurd (clash-not_apart _ _ _ (found_clash c).clash a.apart))
 
 pub returns-in-Some-first_clash-clause-unsound : goal.returns-in-Some-first_clash-clause-unsound
