@@ -12,7 +12,24 @@ use std::marker::Model;
 
 /// A list of layouts of which each is sound, and no two cover one version.
 ///
-/// Contracts see it as the list.
+/// Contracts see it as the list. By this project's own rules a layout is sound where all of these hold:
+///
+/// - A field or group with a condition is there exactly under it; the fields' docs name the conditions.
+/// - The major and both minors are at most 999, and the first minor is not above the last.
+/// - Each record has 1 to 65535 bytes, its fields lie inside it, and no two of them meet. Addresses,
+///   ids, counts, lengths and values have 8 bytes; the numbers of a code record, the state of a text,
+///   a digit and `gil.locked` 4; `frame.instr` 8 with `Pointer` and else 4; `frame.entry`,
+///   `keys.log2` and `keys.kind` 1.
+/// - An offset that no record's size bounds is at most 1048575: those of the interpreter's words, of
+///   which no two meet, `cframe.current`, `frame.locals`, `code.start`, `short_at`, `long_at`,
+///   `bytes.at`, `tuple.at` and `heap.inline`.
+/// - What follows a record's fields begins behind them: the locals of a frame behind all, a text's
+///   characters behind its length and state, the bytes of a bytes object behind its length, and a
+///   tuple's items and an integer's digits behind the count.
+/// - The three bits of a text's state from `kind_shift` on, `compact_bit` and `ascii_bit` are bits of 4
+///   bytes, and all different.
+/// - A frame's code has at most 3 tag bits.
+/// - Managed dicts are compact ones.
 #[derive(Debug, Drop)]
 pub struct Layouts {
     list: Vec<Layout>,
