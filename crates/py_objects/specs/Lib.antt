@@ -1,0 +1,4 @@
+pub mod ObjectError
+pub mod Sound
+pub mod TextKind
+pub mod Texts

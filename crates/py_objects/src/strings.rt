@@ -1,0 +1,147 @@
+//! Text objects.
+ghost use Rattle.std.specs.Prelude.{◌≡◌, ℕ, ◌+◌, ◌<◌, ◌≤◌, ◌^◌, ¬, length, IfOk, IsErrOf};
+ghost use Rattle.image_memory.specs.Seen.{Reads, Reading};
+ghost use Rattle.py_objects.specs.ObjectError.{fault_of};
+ghost use Rattle.py_objects.specs.Texts.{text_at, IsText, characters_of, characters_by, state_at, kind_in, place_in, bit_is_set};
+ghost use Rattle.py_objects.specs.Sound.{IsSoundString, IsSoundState};
+
+use crate::ObjectError;
+use crate::coding::{TextKind, decode};
+use elf64_core::{Text, half_in, word_in};
+use image_memory::{ProcessMemory, record, record_wide};
+use py_layout::{Layout, StringAt, Strings};
+use std::alloc::Global;
+
+/// The length from which on a text is not read, in units of its coding.
+const LENGTH_LIMIT: u64 = 4096;
+
+/// Where a text's state says how it is stored.
+#[derive(Clone, Copy)]
+pub(crate) struct StateAt {
+    state: u32,
+    pointer: u32,
+    long_at: u32,
+    kind_shift: u32,
+    compact_bit: u32,
+    ascii_bit: u32,
+}
+
+/// How the characters of a text are coded, and their address.
+#[derive(Clone, Copy)]
+pub(crate) struct Characters {
+    kind: TextKind,
+    at: u128,
+}
+
+/// The text that an object is.
+///
+/// Its record says how many units it has: none is the empty text, and a negative length or one of 4096 and
+/// more is `TooLong`. With the strings `State` the record's state says whether a unit has 1, 2 or 4 bytes,
+/// and whether the characters stand behind the record or apart; of 1 byte they are UTF-8 where the text
+/// is marked as ASCII and else Latin-1, of 2 UTF-16 and of 4 UTF-32. With `Bytes` they are UTF-8 and stand
+/// behind the record. Units that code no characters are `NoText`, and so is another width. Ranges that are
+/// not in memory are `Unreadable`. The record is looked at first, then the length, the width and the
+/// characters. At most 2 reads.
+pub fn copy_string<P: ProcessMemory>(
+    alloc: Global,
+    process: &mut P,
+    layout: &Layout,
+    addr: u64,
+) -> Result<Text, ObjectError>
+    requires sound { IsSoundString layout.now }
+    ensures answer { Reads fault_of 2 (P.seen process.old) (P.seen process.new) (λ m. text_at layout.now m addr) result }
+    ensures text { Reading 2 (P.seen process.old) (P.seen process.new) (λ m. IfOk result (IsText layout.now m addr)) }
+    ensures no_text { Reading 2 (P.seen process.old) (P.seen process.new) (λ m. IsErrOf result ObjectError.NoText → (cs : List ℕ) → ¬ (IsText layout.now m addr cs)) }
+{
+    let object = record(alloc, process, addr, layout.string.size as u64)?;
+    let length = word_in(&object, layout.string.length as usize);
+    if length == 0 {
+        return Ok(Text::from(String::new(alloc)));
+    }
+    if length >= LENGTH_LIMIT {
+        return Err(ObjectError::TooLong {
+            len: length.cast_signed(),
+        });
+    }
+    let Some(characters) = characters_of(layout, addr, &object) else {
+        return Err(ObjectError::NoText);
+    };
+    let len = length * characters.kind.width();
+    let bytes = record_wide(alloc, process, characters.at, len)?;
+    decode(alloc, characters.kind, bytes)
+}
+
+/// How the characters of a text are coded and where they stand, by its record.
+fn characters_of(layout: &Layout, addr: u64, object: &[u8]) -> Option<Characters>
+    requires sound { IsSoundString layout.now }
+    requires whole { length object.now ≡ layout.now.string.size }
+    ensures { result ≡ characters_of layout.now addr object.now }
+{
+    match layout.strings {
+        Strings::State => state_characters(&layout.string, addr, object),
+        Strings::Bytes => Some(Characters {
+            kind: TextKind::Utf8,
+            at: addr as u128 + layout.string.short_at as u128,
+        }),
+    }
+}
+
+fn state_characters(string: &StringAt, addr: u64, object: &[u8]) -> Option<Characters>
+    requires sound { IsSoundState string.now }
+    requires whole { length object.now ≡ string.now.size }
+    ensures { result ≡ characters_by string.now addr object.now (state_at string.now) }
+{
+    let at = state_at(string)?;
+    let state = half_in(object, at.state as usize);
+    let kind = kind_in(&at, state)?;
+    let at = place_in(string, &at, addr, object, state);
+    Some(Characters { kind, at })
+}
+
+/// Where the state is, if the layout has all of it.
+fn state_at(string: &StringAt) -> Option<StateAt>
+    ensures { result ≡ state_at string.now }
+{
+    Some(StateAt {
+        state: string.state?,
+        pointer: string.pointer?,
+        long_at: string.long_at?,
+        kind_shift: string.kind_shift?,
+        compact_bit: string.compact_bit?,
+        ascii_bit: string.ascii_bit?,
+    })
+}
+
+fn bit_is_set(number: u32, bit: u32) -> bool
+    requires { bit < 32 }
+    ensures { result ≡ bit_is_set number bit }
+{
+    number >> bit & 1 == 1
+}
+
+fn kind_in(at: &StateAt, state: u32) -> Option<TextKind>
+    requires { (at.now.kind_shift < 32) × (at.now.ascii_bit < 32) }
+    ensures { result ≡ kind_in at.now state }
+{
+    match state >> at.kind_shift & 7 {
+        1 if bit_is_set(state, at.ascii_bit) => Some(TextKind::Utf8),
+        1 => Some(TextKind::Latin1),
+        2 => Some(TextKind::Utf16),
+        4 => Some(TextKind::Utf32),
+        _ => None,
+    }
+}
+
+fn place_in(string: &StringAt, at: &StateAt, addr: u64, object: &[u8], state: u32) -> u128
+    requires bits { (at.now.compact_bit < 32) × (at.now.ascii_bit < 32) }
+    requires pointer { at.now.pointer + 8 ≤ length object.now }
+    ensures { result ≡ place_in string.now at.now addr object.now state }
+{
+    if !bit_is_set(state, at.compact_bit) {
+        word_in(object, at.pointer as usize) as u128
+    } else if bit_is_set(state, at.ascii_bit) {
+        addr as u128 + string.short_at as u128
+    } else {
+        addr as u128 + at.long_at as u128
+    }
+}
