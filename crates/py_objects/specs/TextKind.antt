@@ -1,7 +1,8 @@
 -- How the characters of a text are coded, and which characters bytes code.
-use Rattle.std.specs.Prelude.{◌≡◌, ℕ, Bool, true, Option, Some, None, List, [], ◌∷◌, if◌then◌else◌, ◌&&◌, encode_utf8_all}
+use Rattle.std.specs.Prelude.{◌≡◌, ℕ, ◌/◌, Bool, true, Option, Some, None, List, length, map, if◌then◌else◌, ◌&&◌, encode_utf8_all}
 use Rattle.std.specs.List.{flat_map}
-use Rattle.std.specs.Int.{w16, w32, to_le_bytes, from_le_bytes}
+use Rattle.std.specs.Int.{Width, w16, w32, to_le_bytes, from_le_bytes}
+use Rattle.std.specs.Simd.{first_chunks}
 use Rattle.std.specs.Str.{chars, all_scalars, bytes_eq}
 use Rattle.std.specs.Char.Escape.{encode_utf16}
 use Rattle.std.specs.Char.Utf16.{utf16_lossy_chars}
@@ -26,27 +27,18 @@ coded Utf32 cs = flat_map (to_le_bytes w32) cs
 -- the characters are scalar values, and the bytes are theirs
 pub record IsCodingOf (k : TextKind) (cs bytes : List ℕ) : Type 0 where
   pub scalars : all_scalars cs ≡ true
-  pub bytes : coded k cs ≡ bytes
+  pub is : coded k cs ≡ bytes
 
--- the numbers of the units of 2 bytes, and of 4
-abbrev pub units_of : List ℕ → List ℕ
-units_of [] = []
-units_of (a ∷ []) = []
-units_of (a ∷ b ∷ bytes) = from_le_bytes w16 (a ∷ b ∷ []) ∷ units_of bytes
-
-abbrev pub codes_of : List ℕ → List ℕ
-codes_of [] = []
-codes_of (a ∷ []) = []
-codes_of (a ∷ b ∷ []) = []
-codes_of (a ∷ b ∷ c ∷ []) = []
-codes_of (a ∷ b ∷ c ∷ d ∷ bytes) = from_le_bytes w32 (a ∷ b ∷ c ∷ d ∷ []) ∷ codes_of bytes
+-- the numbers of the groups of `n` bytes, the lowest byte of each first
+abbrev pub numbers_of : Width → ℕ → List ℕ → List ℕ
+numbers_of w n bytes = map (from_le_bytes w) (first_chunks n (length bytes / n) bytes)
 
 -- what the characters are, if the bytes code any
 abbrev pub read_as : TextKind → List ℕ → List ℕ
 read_as Utf8 bytes = chars bytes
 read_as Latin1 bytes = bytes
-read_as Utf16 bytes = utf16_lossy_chars (units_of bytes)
-read_as Utf32 bytes = codes_of bytes
+read_as Utf16 bytes = utf16_lossy_chars (numbers_of w16 2 bytes)
+read_as Utf32 bytes = numbers_of w32 4 bytes
 
 abbrev pub is_coding_of : TextKind → List ℕ → List ℕ → Bool
 is_coding_of k cs bytes = all_scalars cs && bytes_eq (coded k cs) bytes

@@ -1,7 +1,6 @@
 //! How the characters of a text are coded.
-ghost use Rattle.std.specs.Prelude.{◌≡◌, ◌≤◌, ◌%◌, length, IfOk};
-ghost use Rattle.std.specs.List.{flat_map};
-ghost use Rattle.std.specs.Int.{w16, to_le_bytes};
+ghost use Rattle.std.specs.Prelude.{◌≡◌, ◌≤◌, ◌%◌, length, map, IfOk, string_bytes, encode_utf8_all};
+ghost use Rattle.std.specs.Int.{w16, from_le_bytes};
 ghost use Rattle.image_memory.specs.Memory.{found_or};
 ghost use Rattle.image_memory.specs.Memory.Fault.{NoText};
 ghost use Rattle.image_memory.specs.Seen.{Answers};
@@ -64,32 +63,35 @@ fn utf8_text(bytes: Vec<u8>) -> Result<Text, ObjectError>
 fn latin1_text(alloc: Global, bytes: &[u8]) -> Result<Text, ObjectError>
     ensures { Answers fault_of (found_or (decoded TextKind.Latin1 bytes.now) NoText) result }
 {
-    let text: String = bytes.iter().map(|byte| char::from(*byte)).collect(alloc)?;
-    Ok(Text::from(text))
+    Ok(Text::from(latin1_string(alloc, bytes)?))
+}
+
+fn latin1_string(alloc: Global, bytes: &[u8]) -> Result<String, AllocError>
+    ensures { IfOk result (λ text. string_bytes text ≡ encode_utf8_all bytes.now) }
+{
+    bytes.iter().map(|byte| char::from(*byte)).collect(alloc)
 }
 
 fn utf16_text(alloc: Global, bytes: &[u8]) -> Result<Text, ObjectError>
     requires { length bytes.now % 2 ≡ 0 }
     ensures { Answers fault_of (found_or (decoded TextKind.Utf16 bytes.now) NoText) result }
 {
-    let units = utf16_units(alloc, bytes)?;
+    let (pairs, _) = bytes.as_chunks::<2>();
+    let units = utf16_units(alloc, pairs)?;
     match String::from_utf16(alloc, &units)? {
         Ok(text) => Ok(Text::from(text)),
         Err(_) => Err(ObjectError::NoText),
     }
 }
 
-/// The units of 2 bytes, the lowest byte first.
-fn utf16_units(alloc: Global, bytes: &[u8]) -> Result<Vec<u16>, AllocError>
-    requires { length bytes.now % 2 ≡ 0 }
-    ensures { IfOk result (λ units. flat_map (to_le_bytes w16) units.items ≡ bytes.now) }
+/// The units of UTF-16, the lowest byte first.
+fn utf16_units(alloc: Global, pairs: &[[u8; 2]]) -> Result<Vec<u16>, AllocError>
+    ensures { IfOk result (λ units. units.items ≡ map (from_le_bytes w16) pairs.now) }
 {
-    let (pairs, _) = bytes.as_chunks::<2>();
-    let mut units = Vec::with_capacity(alloc, pairs.len())?;
-    for pair in pairs {
-        units.push(u16::from_le_bytes(*pair))?;
-    }
-    Ok(units)
+    pairs
+        .iter()
+        .map(|pair| u16::from_le_bytes(*pair))
+        .collect(alloc)
 }
 
 fn utf32_text(alloc: Global, bytes: &[u8]) -> Result<Text, ObjectError>

@@ -1,8 +1,8 @@
 //! Text objects.
-ghost use Rattle.std.specs.Prelude.{◌≡◌, ℕ, ◌+◌, ◌<◌, ◌≤◌, ◌^◌, ¬, length, IfOk, IsErrOf};
+ghost use Rattle.std.specs.Prelude.{◌≡◌, ℕ, ◌+◌, ◌<◌, ◌≤◌, ◌^◌, List, length, IfOk, IsErrOf};
 ghost use Rattle.image_memory.specs.Seen.{Reads, Reading};
 ghost use Rattle.py_objects.specs.ObjectError.{fault_of};
-ghost use Rattle.py_objects.specs.Texts.{text_at, IsText, characters_of, characters_by, state_at, kind_in, place_in, bit_is_set};
+ghost use Rattle.py_objects.specs.Texts.{text_at, characters_at, IsText, characters_of, characters_by, state_at, kind_in, place_in, bit_is_set};
 ghost use Rattle.py_objects.specs.Sound.{IsSoundString, IsSoundState};
 
 use crate::ObjectError;
@@ -53,6 +53,18 @@ pub fn copy_string<P: ProcessMemory>(
     ensures text { Reading 2 (P.seen process.old) (P.seen process.new) (λ m. IfOk result (IsText layout.now m addr)) }
     ensures no_text { Reading 2 (P.seen process.old) (P.seen process.new) (λ m. IsErrOf result ObjectError.NoText → (cs : List ℕ) → ¬ (IsText layout.now m addr cs)) }
 {
+    read_text(alloc, process, layout, addr)
+}
+
+fn read_text<P: ProcessMemory>(
+    alloc: Global,
+    process: &mut P,
+    layout: &Layout,
+    addr: u64,
+) -> Result<Text, ObjectError>
+    requires sound { IsSoundString layout.now }
+    ensures { Reads fault_of 2 (P.seen process.old) (P.seen process.new) (λ m. text_at layout.now m addr) result }
+{
     let object = record(alloc, process, addr, layout.string.size as u64)?;
     let length = word_in(&object, layout.string.length as usize);
     if length == 0 {
@@ -63,15 +75,29 @@ pub fn copy_string<P: ProcessMemory>(
             len: length.cast_signed(),
         });
     }
-    let Some(characters) = characters_of(layout, addr, &object) else {
-        return Err(ObjectError::NoText);
-    };
+    match characters_of(layout, addr, &object) {
+        Some(characters) => read_characters(alloc, process, length, &characters),
+        None => Err(ObjectError::NoText),
+    }
+}
+
+/// The characters that so many units code.
+fn read_characters<P: ProcessMemory>(
+    alloc: Global,
+    process: &mut P,
+    length: u64,
+    characters: &Characters,
+) -> Result<Text, ObjectError>
+    requires { length < 4096 }
+    ensures { Reads fault_of 1 (P.seen process.old) (P.seen process.new) (λ m. characters_at m length (Some characters.now)) result }
+{
     let len = length * characters.kind.width();
     let bytes = record_wide(alloc, process, characters.at, len)?;
     decode(alloc, characters.kind, bytes)
 }
 
 /// How the characters of a text are coded and where they stand, by its record.
+#[tactic(auto, unfolding(crate::specs::Texts::characters_of))]
 fn characters_of(layout: &Layout, addr: u64, object: &[u8]) -> Option<Characters>
     requires sound { IsSoundString layout.now }
     requires whole { length object.now ≡ layout.now.string.size }
@@ -119,11 +145,12 @@ fn bit_is_set(number: u32, bit: u32) -> bool
     number >> bit & 1 == 1
 }
 
+#[tactic(auto, unfolding(crate::specs::Texts::kind_in))]
 fn kind_in(at: &StateAt, state: u32) -> Option<TextKind>
     requires { (at.now.kind_shift < 32) × (at.now.ascii_bit < 32) }
     ensures { result ≡ kind_in at.now state }
 {
-    match state >> at.kind_shift & 7 {
+    match (state >> at.kind_shift) % 8 {
         1 if bit_is_set(state, at.ascii_bit) => Some(TextKind::Utf8),
         1 => Some(TextKind::Latin1),
         2 => Some(TextKind::Utf16),
@@ -132,6 +159,7 @@ fn kind_in(at: &StateAt, state: u32) -> Option<TextKind>
     }
 }
 
+#[tactic(auto, unfolding(crate::specs::Texts::place_in))]
 fn place_in(string: &StringAt, at: &StateAt, addr: u64, object: &[u8], state: u32) -> u128
     requires bits { (at.now.compact_bit < 32) × (at.now.ascii_bit < 32) }
     requires pointer { at.now.pointer + 8 ≤ length object.now }
