@@ -5,10 +5,18 @@
 //! System V gABI for 64-bit little-endian files.
 #![tactic(auto)]
 
+mod error;
 mod fields;
+mod header;
 mod name;
+mod segment;
+mod steps;
 mod text;
 
+pub use error::ElfError;
 pub use fields::{half_in, quarter_in, word_in};
+pub use header::{Elf64, Machine};
 pub use name::Name;
+pub use segment::{LOAD, NOTE, Segment, Segments};
+pub use steps::Steps;
 pub use text::Text;

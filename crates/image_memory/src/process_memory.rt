@@ -54,3 +54,15 @@ pub trait ProcessMemory {
         Ok(bytes)
     }
 }
+
+impl<P: ProcessMemory> ProcessMemory for &mut P {
+    ghost seen = { λ p. P.seen p.now };
+
+    fn read(&mut self, addr: u64, buf: &mut [u8]) -> Result<(), ReadFault> {
+        (**self).read(addr, buf)
+    }
+
+    fn copy(&mut self, alloc: Global, addr: u64, len: u64) -> Result<Vec<u8>, ReadFault> {
+        (**self).copy(alloc, addr, len)
+    }
+}

@@ -1,0 +1,4 @@
+pub mod Places
+pub mod Sound
+pub mod Samples
+pub mod Version

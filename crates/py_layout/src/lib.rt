@@ -3,6 +3,9 @@
 
 mod error;
 mod layout;
+mod layouts;
+mod places;
+mod sound;
 mod version;
 
 pub use error::LayoutError;
@@ -11,4 +14,5 @@ pub use layout::{
     InterpreterAt, KeysAt, KlassAt, Lasti, Layout, Lines, ListAt, Lock, LongAt, Managed, ObjectAt,
     OffsetsAt, StringAt, Strings, ThreadAt, TupleAt, ValueAt,
 };
+pub use layouts::Layouts;
 pub use version::Version;

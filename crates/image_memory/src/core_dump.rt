@@ -1,0 +1,68 @@
+//! A core dump: the file of a dead process's memory.
+ghost use Rattle.std.specs.Prelude.{◌≡◌, ◌↔◌, ◌⊎◌, List, ℕ, IfOk, IfErr, IsErrOf};
+ghost use Rattle.elf64_core.specs.Header.{IsElf64, IsReadable, IsAccepted};
+ghost use Rattle.image_memory.specs.Pieces.{loads_of, memory_of};
+ghost use Rattle.image_memory.specs.Layers.{plain};
+
+use crate::{DumpError, ProcessMemory, View};
+use elf64_core::{Elf64, LOAD, Segment};
+use std::alloc::Global;
+use std::marker::Model;
+
+/// A core dump. Its bytes exist once; views share them.
+///
+/// Contracts see it as the list of the file's bytes, whose headers are accepted.
+#[derive(Drop)]
+pub struct CoreDump {
+    bytes: Vec<u8>,
+    loads: Vec<Segment>,
+}
+
+impl Model for CoreDump {
+    ghost Value = { List ℕ };
+
+    ghost view = { λ c. c.bytes.items };
+
+    ghost invariant = { λ c. IsAccepted c.bytes.items × (c.loads.items ≡ loads_of c.bytes.items) };
+}
+
+/// The load segments of a core, in table order.
+fn load_segments(alloc: Global, bytes: &[u8]) -> Result<Vec<Segment>, DumpError>
+    ensures not_elf { IsErrOf result DumpError.NotElf64 ↔ (¬ IsElf64 bytes.now) }
+    ensures bad { IsErrOf result DumpError.BadHeader ↔ (IsElf64 bytes.now × ¬ IsReadable bytes.now) }
+    ensures only { IfErr result (λ error. (error ≡ DumpError.NotElf64) ⊎ (error ≡ DumpError.BadHeader) ⊎ (error ≡ DumpError.OutOfMemory)) }
+    ensures accepted { IfOk result (λ loads. IsAccepted bytes.now) }
+    ensures loads { IfOk result (λ loads. loads.items ≡ loads_of bytes.now) }
+{
+    let elf = Elf64::parse(bytes)?;
+    let loads = elf
+        .segments()
+        .filter(|segment| segment.kind == LOAD)
+        .collect(alloc)?;
+    Ok(loads)
+}
+
+impl CoreDump {
+    /// The core dump of a file's bytes.
+    ///
+    /// `NotElf64` comes exactly where there are no 64 bytes, or the first six are not 7f 45 4c 46 02 01.
+    /// `BadHeader` comes exactly where the header is accepted and the program headers are not: see
+    /// `Elf64::parse`. Else the one error is want of memory.
+    pub fn new(alloc: Global, bytes: Vec<u8>) -> Result<CoreDump, DumpError>
+        ensures not_elf { IsErrOf result DumpError.NotElf64 ↔ (¬ IsElf64 bytes.items) }
+        ensures bad { IsErrOf result DumpError.BadHeader ↔ (IsElf64 bytes.items × ¬ IsReadable bytes.items) }
+        ensures only { IfErr result (λ error. (error ≡ DumpError.NotElf64) ⊎ (error ≡ DumpError.BadHeader) ⊎ (error ≡ DumpError.OutOfMemory)) }
+        ensures same { IfOk result (λ core. core ≡ bytes.items) }
+    {
+        let loads = load_segments(alloc, &bytes)?;
+        Ok(CoreDump { bytes, loads })
+    }
+
+    /// The memory of the core: one piece for each load segment, in table order, of the first bytes that
+    /// the file has of it, at most as many as it has in memory.
+    pub fn view<'a>(&'a self) -> View<'a>
+        ensures { ⟦<View<'a> as ProcessMemory>⟧.seen result ≡ plain (memory_of self.now) }
+    {
+        View::new(&self.bytes, &self.loads)
+    }
+}

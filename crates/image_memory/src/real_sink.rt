@@ -1,0 +1,56 @@
+//! A stream of the system.
+ghost use Rattle.std.specs.Prelude.{◌≡◌, ◌≤◌, ◌+◌, ℕ, None};
+
+use crate::{Sink, SinkFault};
+use std::io::{ErrorKind, Write};
+
+/// A stream of the system. Nothing is told of its bytes.
+///
+/// A piece is written by as many calls as it takes. A call that takes nothing of what is left is a fault,
+/// and so is an error that is no interruption.
+#[derive(Drop)]
+pub struct RealSink<W: Write> {
+    stream: W,
+    faults: u64,
+}
+
+impl<W: Write> RealSink<W> {
+    /// The stream, of which no call failed yet.
+    pub fn new(stream: W) -> RealSink<W> {
+        RealSink { stream, faults: 0 }
+    }
+}
+
+/// Writes all of it; false where a write fails, or takes nothing.
+fn pour<W: Write>(stream: &mut W, bytes: &[u8]) -> bool {
+    let mut rest = bytes;
+    for _ in 0..u64::MAX {
+        if rest.is_empty() {
+            return true;
+        }
+        match stream.write(rest) {
+            Ok(0) => return false,
+            Ok(count) => rest = &rest[count..],
+            Err(error) => {
+                if error.kind() != ErrorKind::Interrupted {
+                    return false;
+                }
+            }
+        }
+    }
+    false
+}
+
+impl<W: Write> Sink for RealSink<W> {
+    ghost written = { λ s. None };
+
+    ghost faults = { λ s. s.faults };
+
+    fn write(&mut self, bytes: &[u8]) -> Result<(), SinkFault> {
+        if pour(&mut self.stream, bytes) {
+            return Ok(());
+        }
+        self.faults = self.faults.saturating_add(1);
+        Err(SinkFault::Failed)
+    }
+}

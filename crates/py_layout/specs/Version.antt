@@ -1,0 +1,13 @@
+-- How a version is written.
+use Rattle.std.specs.Prelude.{ℕ, List, [], ◌++◌, Option, Some, None, codes, encode_utf8_all}
+use Rattle.std.specs.Fmt.{decimal}
+use Rattle.py_layout.specs.declared.version.Version.{Version}
+
+-- `+` and the metadata, where there is some
+abbrev pub metadata_text : Option (List ℕ) → List ℕ
+metadata_text None = []
+metadata_text (Some metadata) = codes "+" ++ encode_utf8_all metadata
+
+-- `major.minor.patch`, the flags and the metadata
+abbrev pub version_text : Version → List ℕ
+version_text v = decimal v.major ++ (codes "." ++ (decimal v.minor ++ (codes "." ++ (decimal v.patch ++ (encode_utf8_all v.release_flags ++ metadata_text v.build_metadata)))))
