@@ -1,4 +1,3 @@
 pub mod ObjectError
-pub mod Sound
 pub mod TextKind
 pub mod Texts

@@ -1,9 +1,9 @@
 //! Text objects.
 ghost use Rattle.std.specs.Prelude.{◌≡◌, ℕ, ◌+◌, ◌<◌, ◌≤◌, ◌^◌, List, length, IfOk, IsErrOf};
+ghost use Rattle.py_layout.specs.Sound.{IsSound, IsSoundString};
 ghost use Rattle.image_memory.specs.Seen.{Reads, Reading};
 ghost use Rattle.py_objects.specs.ObjectError.{fault_of};
 ghost use Rattle.py_objects.specs.Texts.{text_at, characters_at, IsText, characters_of, characters_by, state_at, kind_in, place_in, bit_is_set};
-ghost use Rattle.py_objects.specs.Sound.{IsSoundString, IsSoundState};
 
 use crate::ObjectError;
 use crate::coding::{TextKind, decode};
@@ -48,7 +48,7 @@ pub fn copy_string<P: ProcessMemory>(
     layout: &Layout,
     addr: u64,
 ) -> Result<Text, ObjectError>
-    requires sound { IsSoundString layout.now }
+    requires sound { IsSound layout.now }
     ensures answer { Reads fault_of 2 (P.seen process.old) (P.seen process.new) (λ m. text_at layout.now m addr) result }
     ensures text { Reading 2 (P.seen process.old) (P.seen process.new) (λ m. IfOk result (IsText layout.now m addr)) }
     ensures no_text { Reading 2 (P.seen process.old) (P.seen process.new) (λ m. IsErrOf result ObjectError.NoText → (cs : List ℕ) → ¬ (IsText layout.now m addr cs)) }
@@ -62,7 +62,7 @@ fn read_text<P: ProcessMemory>(
     layout: &Layout,
     addr: u64,
 ) -> Result<Text, ObjectError>
-    requires sound { IsSoundString layout.now }
+    requires sound { IsSoundString layout.now.strings layout.now.string }
     ensures { Reads fault_of 2 (P.seen process.old) (P.seen process.new) (λ m. text_at layout.now m addr) result }
 {
     let object = record(alloc, process, addr, layout.string.size as u64)?;
@@ -99,7 +99,7 @@ fn read_characters<P: ProcessMemory>(
 /// How the characters of a text are coded and where they stand, by its record.
 #[tactic(auto, unfolding(crate::specs::Texts::characters_of))]
 fn characters_of(layout: &Layout, addr: u64, object: &[u8]) -> Option<Characters>
-    requires sound { IsSoundString layout.now }
+    requires sound { IsSoundString layout.now.strings layout.now.string }
     requires whole { length object.now ≡ layout.now.string.size }
     ensures { result ≡ characters_of layout.now addr object.now }
 {
@@ -113,7 +113,7 @@ fn characters_of(layout: &Layout, addr: u64, object: &[u8]) -> Option<Characters
 }
 
 fn state_characters(string: &StringAt, addr: u64, object: &[u8]) -> Option<Characters>
-    requires sound { IsSoundState string.now }
+    requires sound { IsSoundString Strings.State string.now }
     requires whole { length object.now ≡ string.now.size }
     ensures { result ≡ characters_by string.now addr object.now (state_at string.now) }
 {
