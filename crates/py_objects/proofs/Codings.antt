@@ -1,6 +1,6 @@
 -- Characters and the bytes of their codings.
-use Rattle.std.proofs.Common.{◌≡◌, ℕ, zero, suc, ◌+◌, ◌-◌, ◌*◌, ◌/◌, ◌%◌, ◌<◌, ◌≤◌, ◌^◌, Bool, true, false, cond, not, List, [], ◌∷◌, ◌++◌, length, get_or, take, drop, map, refl, sym, ap, ap₂, ◌∙◌, rules, arith, inl, inr, length-append, append-nil, add-one, encode_utf8_all, encode_utf8, zero-add, add_assoc}
-use Rattle.std.specs.Prelude.{◌⊎◌, ◌&&◌, Some, None, Option, Ok, Err, is_some, ◌≢◌}
+use Rattle.std.proofs.Common.{◌≡◌, ℕ, zero, suc, ◌+◌, ◌-◌, ◌*◌, ◌/◌, ◌%◌, ◌<◌, ◌≤◌, ◌^◌, Bool, true, false, cond, not, List, [], ◌∷◌, ◌++◌, length, get_or, take, drop, map, refl, sym, ap, ap₂, ◌∙◌, arith, inl, inr, length-append, append-nil, add-one, encode_utf8_all, encode_utf8}
+use Rattle.std.specs.Prelude.{◌&&◌, Some, None, Ok, Err, is_some}
 use Rattle.std.specs.Option.{unwrap_or}
 use Rattle.std.specs.List.{flat_map, list_any}
 use Rattle.std.specs.Int.{w16, w32, to_le_bytes, from_le_bytes}
@@ -18,7 +18,7 @@ use Rattle.std.proofs.Math.Seq.{take-suc, take-append_seam, drop-append_seam}
 use Rattle.std.proofs.lemmas.List.{get_or-map, length-map, map-append, take-append-drop, get_or-take, get_or-drop, length-take, get_or_past}
 use Rattle.std.proofs.lemmas.Slice.Eq.{bytes_eq-Decides}
 use Rattle.std.proofs.lemmas.Str.{chars-encodes, encodes-chars, scalars-chars, encodes_same, encodes-append, utf16_chars-nil, utf16_chars_lone, utf16_chars_pair}
-use Rattle.image_memory.specs.Memory.{Fault, found_or}
+use Rattle.image_memory.specs.Memory.{found_or}
 use Rattle.image_memory.specs.Memory.Fault.{NoText}
 use Rattle.image_memory.specs.Seen.{Answers}
 use Rattle.py_objects.specs.declared.error.ObjectError.{ObjectError}
@@ -107,19 +107,23 @@ codes_written bytes even small = write_read 4 (to_le_bytes w32) (from_le_bytes w
 
 module _ (c : ℕ) (is : scalar c ≡ true) where
   units_fit : AllBelow (2 ^ 16) (encode_utf16 c)
-  units_fit = elim (cases_lt c 0x1_0000)
-      [ inl low ↦ rw (one_unit c low) (omega arith, tt)
-      | inr high ↦ elim (scalar_cases c is) [ inl below ↦ absurd (omega arith) | inr within ↦ rw (two_units c high) (omega arith, (omega arith, tt)) ] ]
+  units_fit = elim (cases_lt c 0x1_0000) [
+    | inl low ↦ rw (one_unit c low) (omega arith, tt)
+    | inr high ↦ elim (scalar_cases c is) [ inl below ↦ absurd (omega arith) | inr within ↦ rw (two_units c high) (omega arith, (omega arith, tt)) ]
+  ]
 
   first_char : (us : List ℕ) → utf16_chars (encode_utf16 c ++ us) ≡ Some c ∷ utf16_chars us
-  first_char us = elim (cases_lt c 0x1_0000)
-      [ inl low ↦ rw (one_unit c low) (utf16_chars_lone c us (apart low) ∙ ap (λ o. o ∷ utf16_chars us) (lone low))
-      | inr high ↦ elim (scalar_cases c is) [ inl below ↦ absurd (omega arith) | inr within ↦ rw (two_units c high) (pair high within.1) ] ]
+  first_char us = elim (cases_lt c 0x1_0000) [
+    | inl low ↦ rw (one_unit c low) (utf16_chars_lone c us (apart low) ∙ ap (λ o. o ∷ utf16_chars us) (lone low))
+    | inr high ↦ elim (scalar_cases c is) [ inl below ↦ absurd (omega arith) | inr within ↦ rw (two_units c high) (pair high within.1) ]
+  ]
     where
       apart : c < 0x1_0000 → IsPair c (get_or us 0 0) → ⊥
       apart low p = elim (scalar_cases c is) [ inl below ↦ absurd (omega arith) | inr within ↦ absurd (omega arith) ]
+
       lone : c < 0x1_0000 → lone_unit_char c ≡ Some c
       lone low = elim (scalar_cases c is) [ inl below ↦ lone_unit_char_low c below | inr within ↦ lone_unit_char_high c within.0 ]
+
       pair : 0x1_0000 ≤ c → c < 0x11_0000 → utf16_chars ((0xD800 + (c - 0x1_0000) / 0x400) ∷ (0xDC00 + (c - 0x1_0000) % 0x400) ∷ us) ≡ Some c ∷ utf16_chars us
       pair high below =
           let u = 0xD800 + (c - 0x1_0000) / 0x400 in

@@ -1,6 +1,6 @@
 -- What the soundness of a layout says of its texts.
-use Rattle.std.proofs.Common.{◌≡◌, ℕ, ◌+◌, ◌<◌, ◌≤◌, ◌^◌, arith}
-use Rattle.std.specs.Prelude.{Option, Some, None}
+use Rattle.std.proofs.Common.{◌≡◌, ℕ, ◌+◌, ◌≤◌}
+use Rattle.std.specs.Prelude.{Option, Some}
 use Rattle.py_layout.specs.declared.layout.StringAt.{StringAt}
 use Rattle.py_layout.specs.declared.layout.Strings.{Strings}
 use Rattle.py_layout.specs.Places.{string_places, state_bits, optional_place}

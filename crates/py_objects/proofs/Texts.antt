@@ -1,6 +1,6 @@
 -- The steps of reading a text.
-use Rattle.std.proofs.Common.{◌≡◌, ℕ, zero, suc, ◌+◌, ◌*◌, ◌<◌, ◌≤◌, ◌^◌, leb, true, false, cond, List, [], refl, sym, ap, ◌∙◌, arith, inl, inr}
-use Rattle.std.specs.Prelude.{Option, Some, None, Result, Ok, Err, IfOk, ◌⊎◌}
+use Rattle.std.proofs.Common.{◌≡◌, ℕ, zero, suc, ◌*◌, ◌<◌, ◌≤◌, leb, true, false, List, [], refl, sym, ap, ◌∙◌, arith, inl, inr}
+use Rattle.std.specs.Prelude.{Option, Some, None, Result, Ok, Err, IfOk, MatchResult}
 use Rattle.std.specs.Str.{chars}
 use Rattle.std.proofs.lemmas.Str.{chars-nil}
 use Rattle.std.specs.Int.{w64, cast_signed}
@@ -8,15 +8,15 @@ use Rattle.std.proofs.lemmas.Bool.{cases_lt}
 use Rattle.std.proofs.lemmas.Bool.Decides.{nat_tests}
 use Rattle.elf64_core.specs.Fields.{word_in}
 use Rattle.image_memory.specs.Memory.{Memory, Found, Fault, found_or, ◌>>=◌, record_at}
-use Rattle.image_memory.specs.Memory.Fault.{NoText, TooLong}
+use Rattle.image_memory.specs.Memory.Fault.{Missing, NoText, TooLong}
 use Rattle.image_memory.specs.Seen.{Seen, ReadingBelow, Answers}
 use Rattle.image_memory.proofs.Reading.{reading_gives, reading_none}
 use Rattle.py_layout.specs.declared.layout.Layout.{Layout}
 use Rattle.py_objects.specs.declared.strings.Characters.{Characters}
 use Rattle.py_objects.specs.declared.error.ObjectError.{ObjectError}
-use Rattle.py_objects.specs.declared.error.ObjectError.TheVariants.{NoText as HasNoText}
+use Rattle.py_objects.specs.declared.error.ObjectError.TheVariants.{Unreadable, NoText as HasNoText, TooLong as IsTooLong, BadDict, BadType, Visits, Depth, BadCount, BadBool, OutOfMemory}
 use Rattle.py_objects.specs.ObjectError.{fault_of}
-use Rattle.py_objects.specs.TextKind.{width, decoded, IsCodingOf}
+use Rattle.py_objects.specs.TextKind.{width, decoded}
 use Rattle.py_objects.specs.Texts.{characters_of, characters_at, text_of_length, text_at, StandsAt, HasCharacters, IsText}
 use Rattle.py_objects.proofs.Codings.{decoded_is, coding_of_decoded}
 
@@ -75,9 +75,10 @@ module _ (l : Layout) (m : Memory) (a : ℕ) (object : List ℕ) where
 
   has_characters : (n : ℕ) (cs : List ℕ) → text_of_length l m a object n ≡ Ok cs → HasCharacters l m a object n cs
   has_characters zero cs e = let h : Found (List ℕ) = Ok [] in let same : h ≡ Ok cs = sym (length_zero l m a object zero refl) ∙ e in cc
-  has_characters (suc n) cs e = elim (cases_lt (suc n) 4096)
-      [ inl short ↦ let k = by_kind (suc n) (characters_of l a object) cs (sym (length_fine l m a object (suc n) (omega arith) short) ∙ e) in (short, k.0, k.1, k.2)
-      | inr long ↦ absurd (let h : Err (TooLong (cast_signed w64 (suc n))) ≡ Ok cs = sym (length_long l m a object (suc n) long) ∙ e in cc) ]
+  has_characters (suc n) cs e = elim (cases_lt (suc n) 4096) [
+    | inl short ↦ let k = by_kind (suc n) (characters_of l a object) cs (sym (length_fine l m a object (suc n) (omega arith) short) ∙ e) in (short, k.0, k.1, k.2)
+    | inr long ↦ absurd (let h : Err (TooLong (cast_signed w64 (suc n))) ≡ Ok cs = sym (length_long l m a object (suc n) long) ∙ e in cc)
+  ]
 
   characters_had : (n : ℕ) (cs : List ℕ) → HasCharacters l m a object n cs → text_of_length l m a object n ≡ Ok cs
   characters_had zero cs h = length_zero l m a object zero refl ∙ ap Ok (sym h)
@@ -95,16 +96,26 @@ pub text_stands : (l : Layout) (m : Memory) (a : ℕ) (cs : List ℕ) → IsText
 unfolding text_at
 text_stands l m a cs t = rw t.there (characters_had l m a t.object (word_in t.object l.string.length) cs t.characters)
 
+other : (f : Fault) (d : Found (List ℕ)) (cs : List ℕ) → d ≡ Err f → d ≡ Ok cs → ⊥
+other f d cs p q = let both : Err f ≡ Ok cs = sym p ∙ q in cc
+
 -- what an answer says of the object
 pub text_answer : (l : Layout) (m : Memory) (a : ℕ) (r : Result (List ℕ) ObjectError) → Answers fault_of (text_at l m a) r → IfOk r (IsText l m a)
 text_answer l m a (Ok cs) p = text_read l m a cs p.is
 text_answer l m a (Err e) p = tt
 
-pub no_text_answer : (l : Layout) (m : Memory) (a : ℕ) (r : Result (List ℕ) ObjectError) → Answers fault_of (text_at l m a) r → r ≡ Err HasNoText → (cs : List ℕ) → IsText l m a cs → ⊥
-no_text_answer l m a r p is cs t =
-    let q : Answers fault_of (text_at l m a) (Err HasNoText) = rw is at p in
-    let both : Err NoText ≡ Ok cs = sym q.is ∙ text_stands l m a cs t in
-    cc
+pub found_answer : (l : Layout) (m : Memory) (a : ℕ) (r : Result (List ℕ) ObjectError) → Answers fault_of (text_at l m a) r → (cs : List ℕ) → IsText l m a cs → MatchResult r (λ text. text ≡ cs) (λ error. error ≡ OutOfMemory)
+found_answer l m a (Ok text) p cs t = let same : Ok text ≡ Ok cs = sym p.is ∙ text_stands l m a cs t in cc
+found_answer l m a (Err OutOfMemory) p cs t = refl
+found_answer l m a (Err (Unreadable addr len)) p cs t = absurd (other (Missing addr len) (text_at l m a) cs p.is (text_stands l m a cs t))
+found_answer l m a (Err HasNoText) p cs t = absurd (other NoText (text_at l m a) cs p.is (text_stands l m a cs t))
+found_answer l m a (Err (IsTooLong len)) p cs t = absurd (other (TooLong len) (text_at l m a) cs p.is (text_stands l m a cs t))
+found_answer l m a (Err BadDict) p cs t = absurd (other _ (text_at l m a) cs p.is (text_stands l m a cs t))
+found_answer l m a (Err BadType) p cs t = absurd (other _ (text_at l m a) cs p.is (text_stands l m a cs t))
+found_answer l m a (Err Visits) p cs t = absurd (other _ (text_at l m a) cs p.is (text_stands l m a cs t))
+found_answer l m a (Err Depth) p cs t = absurd (other _ (text_at l m a) cs p.is (text_stands l m a cs t))
+found_answer l m a (Err (BadCount count)) p cs t = absurd (other _ (text_at l m a) cs p.is (text_stands l m a cs t))
+found_answer l m a (Err (BadBool byte)) p cs t = absurd (other _ (text_at l m a) cs p.is (text_stands l m a cs t))
 
 pub empty_text : (text spelled : List ℕ) → text ≡ chars spelled → spelled ≡ [] → text ≡ []
 empty_text text spelled is none = is ∙ ap chars none ∙ chars-nil

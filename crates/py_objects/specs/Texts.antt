@@ -1,6 +1,6 @@
 -- Text objects: the characters that they are read as. The rule is CPython's of its str objects; that a
 -- length is below 4096 is this project's.
-use Rattle.std.specs.Prelude.{◌≡◌, ℕ, zero, suc, ◌+◌, ◌*◌, ◌/◌, ◌%◌, ◌^◌, ◌<◌, nat_le, Bool, true, false, Option, Some, None, List, [], ◌∷◌, if◌then◌else◌, ◌==◌, Result, Ok, Err}
+use Rattle.std.specs.Prelude.{◌≡◌, ℕ, zero, suc, ◌+◌, ◌*◌, ◌/◌, ◌%◌, ◌^◌, ◌<◌, nat_le, Bool, Option, Some, None, List, [], if◌then◌else◌, ◌==◌, Ok, Err}
 use Rattle.std.specs.Int.{w64, cast_signed, bit_at}
 use Rattle.elf64_core.specs.Fields.{word_in, half_in}
 use Rattle.image_memory.specs.Memory.{Memory, Found, found_or, ◌>>=◌, record_at}

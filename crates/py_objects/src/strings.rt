@@ -1,5 +1,5 @@
 //! Text objects.
-ghost use Rattle.std.specs.Prelude.{◌≡◌, ℕ, ◌+◌, ◌<◌, ◌≤◌, ◌^◌, List, length, IfOk, IsErrOf};
+ghost use Rattle.std.specs.Prelude.{◌≡◌, ℕ, ◌+◌, ◌<◌, ◌≤◌, ◌^◌, List, length, IfOk, MatchResult};
 ghost use Rattle.py_layout.specs.Sound.{IsSound, IsSoundString};
 ghost use Rattle.image_memory.specs.Seen.{Reads, Reading};
 ghost use Rattle.py_objects.specs.ObjectError.{fault_of};
@@ -51,7 +51,8 @@ pub fn copy_string<P: ProcessMemory>(
     requires sound { IsSound layout.now }
     ensures answer { Reads fault_of 2 (P.seen process.old) (P.seen process.new) (λ m. text_at layout.now m addr) result }
     ensures text { Reading 2 (P.seen process.old) (P.seen process.new) (λ m. IfOk result (IsText layout.now m addr)) }
-    ensures no_text { Reading 2 (P.seen process.old) (P.seen process.new) (λ m. IsErrOf result ObjectError.NoText → (cs : List ℕ) → ¬ (IsText layout.now m addr cs)) }
+    ensures found { Reading 2 (P.seen process.old) (P.seen process.new) (λ m. (cs : List ℕ) → IsText layout.now m addr cs
+        → MatchResult result (λ text. text ≡ cs) (λ error. error ≡ ObjectError.OutOfMemory)) }
 {
     read_text(alloc, process, layout, addr)
 }
@@ -173,3 +174,6 @@ fn place_in(string: &StringAt, at: &StateAt, addr: u64, object: &[u8], state: u3
         addr as u128 + at.long_at as u128
     }
 }
+
+#[cfg(test)]
+mod tests;

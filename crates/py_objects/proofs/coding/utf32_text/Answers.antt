@@ -1,6 +1,5 @@
-use Rattle.std.proofs.Common.{◌≡◌, ◌∙◌, ap, sym, take, length, map, arith, rules, encode_utf8_all, string_bytes, true}
+use Rattle.std.proofs.Common.{◌≡◌, ◌∙◌, ap, take, length, map, arith, rules}
 use Rattle.std.specs.Int.{w32, from_le_bytes}
-use Rattle.std.specs.Str.{all_scalars}
 use Rattle.std.proofs.Math.Seq.{take-length}
 use Rattle.py_objects.proofs.Codings.{answers_utf32, no_utf32, one_more, one_pushed, scalars_end}
 use Rattle.py_objects.proofs.coding.utf32_text.Goals as goal

@@ -38,8 +38,8 @@ returns-in-Some g c =
     let object = c.in_ok-object.object.items in
     let kind : characters_of shown c.args.addr object ≡ Some c.in-Some.characters = ap (characters_of shown c.args.addr) (sym c.deref-2.ensures.value) ∙ sym c.characters_of.ensures ∙ c.in-Some.is in
     reads_next 2 _ c.in_ok-object.ensures.answer
-      (reads_same _ (λ m. characters_at m c.word_in-length.result (Some c.in-Some.characters)) (λ m. ap (text_of_length shown m c.args.addr object) (sym length_is) ∙ length_fine shown m c.args.addr object c.word_in-length.result (omega arith) (omega arith) ∙ ap (characters_at m c.word_in-length.result) kind) c.read_characters.ensures)
-      (omega arith)
+    (reads_same _ (λ m. characters_at m c.word_in-length.result (Some c.in-Some.characters)) (λ m. ap (text_of_length shown m c.args.addr object) (sym length_is) ∙ length_fine shown m c.args.addr object c.word_in-length.result (omega arith) (omega arith) ∙ ap (characters_at m c.word_in-length.result) kind) c.read_characters.ensures)
+    (omega arith)
 
 pub returns : goal.returns
 unfolding text_at
@@ -49,5 +49,5 @@ returns g c =
     let object = c.in_ok-object.object.items in
     let kind : characters_of shown c.args.addr object ≡ None = ap (characters_of shown c.args.addr) (sym c.deref-2.ensures.value) ∙ sym c.characters_of.ensures ∙ c.in-None.is in
     reads_next 2 _ c.in_ok-object.ensures.answer
-      (reads_known 0 _ _ (λ m. record { is = ap (text_of_length shown m c.args.addr object) (sym length_is) ∙ length_fine shown m c.args.addr object c.word_in-length.result (omega arith) (omega arith) ∙ ap (characters_at m c.word_in-length.result) kind ∙ no_kind m c.word_in-length.result }))
-      (omega arith)
+    (reads_known 0 _ _ (λ m. record { is = ap (text_of_length shown m c.args.addr object) (sym length_is) ∙ length_fine shown m c.args.addr object c.word_in-length.result (omega arith) (omega arith) ∙ ap (characters_at m c.word_in-length.result) kind ∙ no_kind m c.word_in-length.result }))
+    (omega arith)

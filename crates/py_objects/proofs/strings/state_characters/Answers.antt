@@ -1,4 +1,4 @@
-use Rattle.std.proofs.Common.{◌≡◌, sym, arith}
+use Rattle.std.proofs.Common.{sym, arith}
 use Rattle.py_layout.specs.declared.layout.Strings.TheVariants.{State}
 use Rattle.py_objects.proofs.Sound.{state_inside}
 use Rattle.py_objects.proofs.strings.state_characters.Goals as goal
