@@ -17,7 +17,7 @@ const LENGTH_LIMIT: u64 = 4096;
 
 /// Where a text's state says how it is stored.
 #[derive(Clone, Copy)]
-pub(crate) struct StateAt {
+struct StateAt {
     state: u32,
     pointer: u32,
     long_at: u32,
@@ -28,20 +28,22 @@ pub(crate) struct StateAt {
 
 /// How the characters of a text are coded, and their address.
 #[derive(Clone, Copy)]
-pub(crate) struct Characters {
+struct Characters {
     kind: TextKind,
     at: u128,
 }
 
-/// The text that an object is.
+/// The text that an object is, by the rule of CPython's `str` objects.
 ///
 /// Its record says how many units it has: none is the empty text, and a negative length or one of 4096 and
-/// more is `TooLong`. With the strings `State` the record's state says whether a unit has 1, 2 or 4 bytes,
-/// and whether the characters stand behind the record or apart; of 1 byte they are UTF-8 where the text
-/// is marked as ASCII and else Latin-1, of 2 UTF-16 and of 4 UTF-32. With `Bytes` they are UTF-8 and stand
-/// behind the record. Units that code no characters are `NoText`, and so is another width. Ranges that are
-/// not in memory are `Unreadable`. The record is looked at first, then the length, the width and the
-/// characters. At most 2 reads.
+/// more is `TooLong`, with the length that is stated. With the strings `State` three bits of the record's
+/// state say whether a unit has 1, 2 or 4 bytes; units of 1 byte are UTF-8 where the text is marked as
+/// ASCII and else Latin-1, those of 2 are UTF-16 and those of 4 are UTF-32. The characters stand behind the
+/// record where the text is marked as compact, and else at the address that the record holds. With `Bytes`
+/// they are UTF-8 and stand behind the record. Another width is `NoText`, and so are units that code no
+/// characters, as a surrogate without its partner. A range that is not in memory is `Unreadable`.
+///
+/// The record is looked at first, then the length, the width and the characters. At most 2 reads.
 pub fn copy_string<P: ProcessMemory>(
     alloc: Global,
     process: &mut P,
