@@ -45,6 +45,15 @@ impl Text {
     }
 }
 
+/// The same characters; nothing is copied.
+impl From<String> for Text {
+    ghost from_gives = { λ s t. t ≡ chars (string_bytes s) };
+
+    fn from(inner: String) -> Text {
+        Text { inner }
+    }
+}
+
 impl PartialEq for Text {
     ghost eq = { on encode_utf8_all (pointwise nat_eq) };
 

@@ -1,0 +1,3 @@
+pub mod ObjectError
+pub mod TextKind
+pub mod Texts
