@@ -60,7 +60,7 @@ abbrev pub with_bytes : {E : Type 0} → List ℕ → Result Unit E → Result (
 with_bytes bytes (Ok u) = Ok bytes
 with_bytes bytes (Err e) = Err e
 
-abbrev pub items_of : {E : Type 0} → Result (Vec ℕ) E → Result (List ℕ) E
+abbrev pub items_of : {T E : Type 0} → Result (Vec T) E → Result (List T) E
 items_of (Ok v) = Ok v.items
 items_of (Err e) = Err e
 

@@ -1,0 +1,4 @@
+pub mod Frames
+pub mod Threads
+pub mod StackError
+pub mod Gathering

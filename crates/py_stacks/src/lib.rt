@@ -1,6 +1,15 @@
 //! Threads and frames of an interpreter, read from a process's memory.
+//!
+//! An interpreter names its first thread, each thread the next one and its newest frame, and each frame
+//! the one that called it. The walks go to null; where a record is not in memory, or a chain goes on past
+//! its limit, they answer so, and no part of a stack.
 #![tactic(auto)]
 
+mod error;
+mod frames;
+mod members;
 mod trace;
 
+pub use error::StackError;
+pub use frames::read_frames;
 pub use trace::{Addresses, Frame, LocalVariable, StackTrace};

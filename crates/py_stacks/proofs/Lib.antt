@@ -1,0 +1,3 @@
+pub mod Shown
+pub mod Gather
+pub mod FrameLaws
