@@ -17,7 +17,7 @@ use Rattle.py_stacks.specs.StackError.{fault_of}
 use Rattle.py_stacks.specs.Frames.{AreFrames, back_of, code_of, frame_faults, frame_limit, frame_next, frame_step, frames_at, frames_faults, is_entered, kept_after, kept_next, limit_faults, member_at, member_limit, members_at, name_at, or_skipped, part_of, shown, shown_as, shown_by, shown_by_records, step_of, visible}
 use Rattle.py_stacks.proofs.Gather.{bound}
 
-ok_same : {X : Type 0} (x y : X) → ◌≡◌ {A = Found X} (Ok x) (Ok y) → x ≡ y
+pub ok_same : {X : Type 0} (x y : X) → ◌≡◌ {A = Found X} (Ok x) (Ok y) → x ≡ y
 ok_same x y e = cc
 
 -- a step is a member, and the count after it
@@ -74,12 +74,11 @@ map_skipped part (a ∷ xs) (x ∷ ms) e =
     rw (first, map_skipped part xs ms rest) refl
 
 -- the frames are those of the whole chain, to null, less the skipped members
-pub frames_law : (l : Layout) (m : Memory) (first : ℕ) (r : Result (Vec Frame) StackError) → Answers fault_of (frames_at l m first) (items_of r) → IfOk r (λ frames. AreFrames l m first frames.items)
+pub frames_found : (l : Layout) (m : Memory) (first : ℕ) (frames : List Frame) → frames_at l m first ≡ Ok frames → AreFrames l m first frames
 unfolding frames_at members_at
-frames_law l m first (Err e) a = tt
-frames_law l m first (Ok v) a =
-    let walked = bound (walk_at ChainLimit (frame_step l m) member_limit 0 first) (λ ms. Ok (shown ms)) v.items a.is in
-    let same : shown walked.0 ≡ v.items = ok_same _ _ walked.2 in
+frames_found l m first frames e =
+    let walked = bound (walk_at ChainLimit (frame_step l m) member_limit 0 first) (λ ms. Ok (shown ms)) frames e in
+    let same : shown walked.0 ≡ frames = ok_same _ _ walked.2 in
     let chain = walk_chain ChainLimit (frame_step l m) (back_of l m) (λ a. part_of (member_at l m a))
     (λ s a x e. member_back l m a (x.next, x.part) (step_parts l m s a x e).member)
     (λ s a x e. rw (step_parts l m s a x e).member refl) member_limit 0 first walked.0 walked.1 in
@@ -91,9 +90,13 @@ frames_law l m first (Ok v) a =
       kept = let few = few_kept l m member_limit 0 first true walked.0 walked.1 (omega arith) in omega (arith, few, ap length same);
     }
 
+pub frames_law : (l : Layout) (m : Memory) (first : ℕ) (r : Result (Vec Frame) StackError) → Answers fault_of (frames_at l m first) (items_of r) → IfOk r (λ frames. AreFrames l m first frames.items)
+frames_law l m first (Err e) a = tt
+frames_law l m first (Ok v) a = frames_found l m first v.items a.is
+
 -- ---- the first fault
 
-then_same_twice : {T U V : Type 0} (d : Found T) (g : T → List Fault) (f : T → Found U) (h : U → Found V) → ((x : T) → first_fault (g x) ≡ fault_in (f x >>= h)) → first_fault (faults_then d g) ≡ fault_in ((d >>= f) >>= h)
+pub then_same_twice : {T U V : Type 0} (d : Found T) (g : T → List Fault) (f : T → Found U) (h : U → Found V) → ((x : T) → first_fault (g x) ≡ fault_in (f x >>= h)) → first_fault (faults_then d g) ≡ fault_in ((d >>= f) >>= h)
 then_same_twice (Ok x) g f h s = s x
 then_same_twice (Err e) g f h s = refl
 
@@ -116,7 +119,7 @@ kept_same kept (Some f) n =
     elim (ltb kept frame_limit) as (λ t. cond t (Ok (kept + 1)) (Err FrameLimit) ≡ Ok n → kept + 1 ≡ n)
     [ true ↦ λ e. ok_same _ _ e | false ↦ λ e. absurd (cc) ]
 
-pair_same : {X Y : Type 0} (a b : X) (x y : Y) → a ≡ b → x ≡ y → ◌≡◌ {A = X × Y} (a, x) (b, y)
+pub pair_same : {X Y : Type 0} (a b : X) (x y : Y) → a ≡ b → x ≡ y → ◌≡◌ {A = X × Y} (a, x) (b, y)
 pair_same a b x y p q = rw (p, q) refl
 
 lead : {X : Type 0} (d : Found (List ℕ)) (e : List ℕ → Found (List ℕ)) (g : List ℕ → List ℕ → X) (frame code : List ℕ) → d ≡ Ok frame → e frame ≡ Ok code → (d >>= (λ f. e f >>= (λ c. Ok (g f c)))) ≡ Ok (g frame code)

@@ -1,3 +1,6 @@
 pub mod Shown
 pub mod Gather
 pub mod FrameLaws
+pub mod Costs
+pub mod ThreadSteps
+pub mod ThreadLaws

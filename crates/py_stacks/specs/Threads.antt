@@ -37,6 +37,14 @@ trace_of t = record {
   frames = t.frames.items;
 }
 
+abbrev pub thread_of_result : {E : Type 0} → Result (ℕ × StackTrace) E → Result (ℕ × Trace) E
+thread_of_result (Ok x) = Ok (x.0, trace_of x.1)
+thread_of_result (Err e) = Err e
+
+abbrev pub traces_of_result : {E : Type 0} → Result (Vec StackTrace Global) E → Result (List Trace) E
+traces_of_result (Ok v) = Ok (map trace_of v.items)
+traces_of_result (Err e) = Err e
+
 -- the system's id of a thread, where the layout has it
 abbrev pub native_id : Option ℕ → List ℕ → Option ℕ
 native_id None thread = None

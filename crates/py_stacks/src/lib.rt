@@ -8,8 +8,10 @@
 mod error;
 mod frames;
 mod members;
+mod threads;
 mod trace;
 
 pub use error::StackError;
 pub use frames::read_frames;
+pub use threads::read_traces;
 pub use trace::{Addresses, Frame, LocalVariable, StackTrace};

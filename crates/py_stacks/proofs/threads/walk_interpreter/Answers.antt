@@ -1,0 +1,23 @@
+use Rattle.std.proofs.Common.{◌≡◌, arith, ap}
+use Rattle.std.proofs.Math.Nat.{le_refl}
+use Rattle.std.proofs.lemmas.Result.{err_from_is_err_and}
+use Rattle.image_memory.proofs.Reading.{reading_none, reads_next, reads_halt}
+use Rattle.py_stacks.specs.StackError.{fault_of}
+use Rattle.py_stacks.specs.Threads.{traces_at}
+use Rattle.py_stacks.proofs.Costs.{traces_budget, traces_costs}
+use Rattle.py_stacks.proofs.threads.walk_interpreter.Goals as goal
+
+pub returns-in_err-thread : goal.returns-in_err-thread
+returns-in_err-thread g c =
+    let p = err_from_is_err_and c.from_residual.result c.from_residual.ensures.1 in
+    rw (p.1, p.2) (reading_none _ _ _ (λ m. record { is = tt }))
+
+pub returns-in_err-head : goal.returns-in_err-head
+unfolding traces_at
+returns-in_err-head g c =
+    let p = err_from_is_err_and c.from_residual-in_err-head.result c.from_residual-in_err-head.ensures.1 in
+    rw p.1 (reads_halt _ p.0 _ c.in_err-head.ensures.answer p.2 (traces_costs _ _ _ _))
+
+pub returns : goal.returns
+unfolding traces_at
+returns g c = reads_next _ _ c.in_ok-head.ensures.answer c.walk_threads.ensures (traces_budget c.args.layout.now c.args.owner c.args.interpreter c.in_ok-head.head c.in_ok-head.ensures.answer)

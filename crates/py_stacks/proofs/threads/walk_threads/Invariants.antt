@@ -1,0 +1,11 @@
+use Rattle.std.proofs.Common.{map, length, vec_len, ◌-◌}
+use Rattle.image_memory.specs.Memory.Fault.{ThreadLimit}
+use Rattle.image_memory.specs.Walk.{Walking}
+use Rattle.py_stacks.specs.Threads.{thread_step, thread_cost, thread_limit, trace_of}
+use Rattle.py_stacks.proofs.threads.walk_threads.Given as goal
+
+abbrev pub invariant-loop-at : goal.invariant-loop-at
+invariant-loop-at g l = Walking ThreadLimit (λ m. thread_step l.layout m l.owner) (λ m s a. thread_cost l.layout m a) thread_limit tt l.head (g.P.ProcessMemory.seen l.initial.process) (g.P.ProcessMemory.seen l.process) (map trace_of l.traces.items) (vec_len l.traces) tt l.at
+
+abbrev pub decreases-loop-at : goal.decreases-loop-at
+decreases-loop-at g l = thread_limit - vec_len l.traces
