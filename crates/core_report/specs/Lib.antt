@@ -1,0 +1,5 @@
+pub mod Words
+pub mod Seen
+pub mod Lines
+pub mod Text
+pub mod Run

@@ -1,13 +1,19 @@
-// A library with one function.
+//! The top call: from the words of a command line to a core's stacks as text.
+//!
+//! `run` reads the file that the words name, walks the interpreter's threads in it, and writes one text
+//! or one line why there is none. `walk` is the work alone, over bytes that the caller has.
 #![tactic(auto)]
 
-ghost use Rattle.std.specs.Prelude.{◌≡◌};
-ghost use Rattle.core_report.specs.Echo.{echo_of};
+mod command;
+mod core_walk;
+mod error;
+mod lines;
+mod text;
+mod words;
 
-// The `ensures` clause is the contract: what `echo` returns is `echo_of` of its argument, a definition
-// in `specs/Echo.antt`, which a caller's clause can cite too.
-pub fn echo(x: usize) -> usize
-    ensures { result ≡ echo_of x }
-{
-    x
-}
+pub use command::run;
+pub use core_walk::walk;
+pub use error::CoreError;
+
+#[cfg(test)]
+mod tests;

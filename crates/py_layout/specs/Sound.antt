@@ -1,12 +1,10 @@
 -- Sound layouts, and lists of them.
-use Rattle.std.specs.Prelude.{◌≡◌, ◌≢◌, ℕ, ◌+◌, ◌<◌, ◌≤◌, ◌^◌, ◌↔◌, Option, List, [], ◌∷◌, IsSome, IfSome, All, AllPairs, length, slice_index_or, ◌⊎◌}
+use Rattle.std.specs.Prelude.{◌≡◌, ◌≢◌, ℕ, ◌+◌, ◌<◌, ◌≤◌, ◌^◌, ◌↔◌, List, IsSome, IfSome, All, AllPairs, length, slice_index_or, ◌⊎◌, ⊤}
 use Rattle.std.specs.List.{HoldsAt, AllWithin}
 use Rattle.py_layout.specs.Places.{Place, IsGroup, AreApart, EndBy, interpreter_places, thread_places, frame_places, code_places, string_head, string_places, state_bits, bytes_places, tuple_places, list_places, object_places, klass_places, long_places, value_places, dict_places, keys_places, heap_places, gil_places, offsets_places}
-use Rattle.py_layout.specs.declared.layout.Head.{Head}
 use Rattle.py_layout.specs.declared.layout.Head.TheVariants.{Offsets}
 use Rattle.py_layout.specs.declared.layout.Lock.{Lock}
 use Rattle.py_layout.specs.declared.layout.Lock.TheVariants.{Gil}
-use Rattle.py_layout.specs.declared.layout.Frames.{Frames}
 use Rattle.py_layout.specs.declared.layout.Frames.TheVariants.{Cframe}
 use Rattle.py_layout.specs.declared.layout.Lasti.{Lasti}
 use Rattle.py_layout.specs.declared.layout.Lasti.TheVariants.{Pointer}
@@ -14,20 +12,17 @@ use Rattle.py_layout.specs.declared.layout.Strings.{Strings}
 use Rattle.py_layout.specs.declared.layout.Strings.TheVariants.{State}
 use Rattle.py_layout.specs.declared.layout.Dicts.{Dicts}
 use Rattle.py_layout.specs.declared.layout.Dicts.TheVariants.{Absent, General, Compact}
-use Rattle.py_layout.specs.declared.layout.Managed.{Managed}
 use Rattle.py_layout.specs.declared.layout.Managed.TheVariants.{Absent as Unmanaged}
 use Rattle.py_layout.specs.declared.layout.InterpreterAt.{InterpreterAt}
-use Rattle.py_layout.specs.declared.layout.CframeAt.{CframeAt}
 use Rattle.py_layout.specs.declared.layout.FrameAt.{FrameAt}
 use Rattle.py_layout.specs.declared.layout.CodeAt.{CodeAt}
 use Rattle.py_layout.specs.declared.layout.StringAt.{StringAt}
 use Rattle.py_layout.specs.declared.layout.LongAt.{LongAt}
-use Rattle.py_layout.specs.declared.layout.DictAt.{DictAt}
 use Rattle.py_layout.specs.declared.layout.KeysAt.{KeysAt}
 use Rattle.py_layout.specs.declared.layout.HeapAt.{HeapAt}
-use Rattle.py_layout.specs.declared.layout.GilAt.{GilAt}
-use Rattle.py_layout.specs.declared.layout.OffsetsAt.{OffsetsAt}
 use Rattle.py_layout.specs.declared.layout.Layout.{Layout}
+use Rattle.py_layout.specs.declared.error.LayoutError.{LayoutError}
+use Rattle.py_layout.specs.declared.error.LayoutError.TheVariants.{NotToml, Shape, Unsound, Clash as Clashing, OutOfMemory}
 use Rattle.py_layout.specs.declared.version.Version.{Version}
 
 -- a number that is not bounded by a record's size
@@ -163,6 +158,13 @@ pub record AreSound (list : List Layout) : Type 0 where
   pub each : All IsSound list
   pub apart : AllPairs (λ a b. ¬ Clash a b) list
 
+-- of the layouts from `start` on that have the property, the first stands at this place
+pub record IsFirstFrom (P : Layout → Type 0) (list : List Layout) (start place : ℕ) : Type 0 where
+  pub from : start ≤ place
+  pub within : place < length list
+  pub here : HoldsAt P list place
+  pub before : AllWithin (λ l. ¬ P l) list start place
+
 -- the layout at this place is not sound, and those before it are
 pub record IsFirstUnsound (list : List Layout) (table : ℕ) : Type 0 where
   pub within : table < length list
@@ -179,3 +181,11 @@ pub record ClashAt (list : List Layout) (first second : ℕ) : Type 0 where
 pub record IsFirstClash (list : List Layout) (first second : ℕ) : Type 0 where
   pub clash : ClashAt list first second
   pub before : (i j : ℕ) → ClashAt list i j → (first < i) ⊎ ((i ≡ first) × (second ≤ j))
+
+-- what can be wrong with a list of layouts, as against a file
+abbrev pub IsOfList : LayoutError → Type 0
+IsOfList NotToml = ⊥
+IsOfList (Shape table key) = ⊥
+IsOfList (Unsound table) = ⊤
+IsOfList (Clashing first second) = ⊤
+IsOfList OutOfMemory = ⊥

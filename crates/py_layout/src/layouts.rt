@@ -1,14 +1,35 @@
 //! Lists of layouts of which each is sound, and no two clash.
-ghost use Rattle.std.specs.Prelude.{◌≡◌, ℕ, ◌↔◌, ◌≤◌, ◌<◌, IsTrue, IsOk, IsNone, IsErrOf, MatchOption, IfOk, IfSome, All, Contains};
-ghost use Rattle.py_layout.specs.Sound.{Covers, IsSound, AreSound, IsFirstUnsound, IsFirstClash};
+ghost use Rattle.std.specs.Prelude.{◌≡◌, ℕ, ◌↔◌, IsTrue, IsOk, IsNone, MatchOption, IfOk, IfErr, IfSome, All, AllPairs, Contains, length};
+ghost use Rattle.std.specs.List.{AllWithin};
+ghost use Rattle.py_layout.specs.Sound.{Covers, IsSound, AreSound, Clash, IsFirstUnsound, IsFirstFrom, IsFirstClash, IsOfList};
 
+use crate::error::LayoutError;
 use crate::layout::Layout;
+use crate::sound::is_sound;
 use crate::version::Version;
+use std::alloc::Global;
 use std::marker::Model;
 
 /// A list of layouts of which each is sound, and no two cover one version.
 ///
-/// Contracts see it as the list.
+/// Contracts see it as the list. By this project's own rules a layout is sound where all of these hold:
+///
+/// - A field or group with a condition is there exactly under it; the fields' docs name the conditions.
+/// - The major and both minors are at most 999, and the first minor is not above the last.
+/// - Each record has 1 to 65535 bytes, its fields lie inside it, and no two of them meet. Addresses,
+///   ids, counts, lengths and values have 8 bytes; the numbers of a code record, the state of a text,
+///   a digit and `gil.locked` 4; `frame.instr` 8 with `Pointer` and else 4; `frame.entry`,
+///   `keys.log2` and `keys.kind` 1.
+/// - An offset that no record's size bounds is at most 1048575: those of the interpreter's words, of
+///   which no two meet, `cframe.current`, `frame.locals`, `code.start`, `short_at`, `long_at`,
+///   `bytes.at`, `tuple.at` and `heap.inline`.
+/// - What follows a record's fields begins behind them: the locals of a frame behind all, a text's
+///   characters behind its length and state, the bytes of a bytes object behind its length, and a
+///   tuple's items and an integer's digits behind the count.
+/// - The three bits of a text's state from `kind_shift` on, `compact_bit` and `ascii_bit` are bits of 4
+///   bytes, and all different.
+/// - A frame's code has at most 3 tag bits.
+/// - Managed dicts are compact ones.
 #[derive(Debug, Drop)]
 pub struct Layouts {
     list: Vec<Layout>,
@@ -26,8 +47,93 @@ impl Model for Layouts {
     ghost invariant = { λ l. AreSound l.list.items };
 }
 
+/// The place of the first layout that is not sound.
+fn first_unsound(list: &[Layout]) -> Option<usize>
+    ensures { MatchOption result (All IsSound list.now) (IsFirstUnsound list.now) }
+{
+    for (table, layout) in list.iter().enumerate() {
+        if !is_sound(layout) {
+            return Some(table);
+        }
+    }
+    None
+}
+
+/// Whether two layouts cover one version.
+fn clashes(one: &Layout, other: &Layout) -> bool
+    ensures { IsTrue result ↔ Clash one.now other.now }
+{
+    one.major == other.major
+        && one.first_minor <= other.last_minor
+        && other.first_minor <= one.last_minor
+}
+
+/// The place of the first layout, from `start` on, that clashes with this one.
+fn first_clash_with(layout: &Layout, list: &[Layout], start: usize) -> Option<usize>
+    ensures { MatchOption result
+        (AllWithin (λ other. ¬ Clash layout.now other) list.now start (length list.now))
+        (IsFirstFrom (Clash layout.now) list.now start) }
+{
+    for place in start..list.len() {
+        if clashes(layout, &list[place]) {
+            return Some(place);
+        }
+    }
+    None
+}
+
+/// The places of the first two layouts that clash.
+fn first_clash(list: &[Layout]) -> Option<(usize, usize)>
+    ensures { MatchOption result
+        (AllPairs (λ one other. ¬ Clash one other) list.now)
+        (λ pair. IsFirstClash list.now pair.0 pair.1) }
+{
+    for (first, layout) in list.iter().enumerate() {
+        if let Some(second) = first_clash_with(layout, list, first + 1) {
+            return Some((first, second));
+        }
+    }
+    None
+}
+
 impl Layouts {
-    /// The layout that covers a version, by its major and minor alone.
+    /// The layouts of a list, where each is sound and no two clash. It takes no memory.
+    ///
+    /// `Unsound` comes exactly where a layout is not sound, and names the first. `Clash` comes exactly
+    /// where all are sound and two clash, and names the first pair: by the first of the two, then by
+    /// the second. No other error comes.
+    pub fn of(_alloc: Global, list: Vec<Layout>) -> Result<Layouts, LayoutError>
+        ensures value { IfOk result (λ layouts. layouts ≡ list.items) }
+        ensures ok { IsOk result ↔ AreSound list.items }
+
+        ensures unsound { (table : ℕ)
+            → (result ≡ Err (LayoutError.Unsound table)) ↔ IsFirstUnsound list.items table }
+        ensures clash { (first second : ℕ)
+            → (result ≡ Err (LayoutError.Clash first second))
+            ↔ (All IsSound list.items × IsFirstClash list.items first second) }
+        ensures errors { IfErr result IsOfList }
+    {
+        if let Some(table) = first_unsound(&list) {
+            let table = table as u64;
+            return Err(LayoutError::Unsound { table });
+        }
+        if let Some((first, second)) = first_clash(&list) {
+            let (first, second) = (first as u64, second as u64);
+            return Err(LayoutError::Clash { first, second });
+        }
+        Ok(Layouts { list })
+    }
+
+    /// Whether each layout of a list is sound and no two clash, so that `of` takes them.
+    pub fn check(list: &[Layout]) -> bool
+        ensures { IsTrue result ↔ AreSound list.now }
+    {
+        first_unsound(list).is_none() && first_clash(list).is_none()
+    }
+
+    /// The layout that covers a version, or `None` where none does.
+    ///
+    /// There is one at most, since no two layouts cover one version.
     pub fn choose(&self, version: &Version) -> Option<&Layout>
         ensures none { IsNone result ↔ All (λ layout. ¬ Covers layout version.now) self.now }
         ensures member { IfSome result (λ layout. Contains self.now layout.now) }

@@ -16,3 +16,6 @@ pub use layout::{
 };
 pub use layouts::Layouts;
 pub use version::Version;
+
+#[cfg(test)]
+mod tests;

@@ -17,24 +17,28 @@ use crate::places::{
 /// Plain numbers, which no record's size bounds, are below this.
 const PLAIN_LIMIT: u32 = 1 << 20;
 
+/// Where a place ends.
 fn end_of(place: Place) -> u64
     ensures { result ≡ place.0 + place.1 }
 {
     u64::from(place.0) + u64::from(place.1)
 }
 
+/// Whether two places do not meet.
 fn is_apart(one: Place, other: Place) -> bool
     ensures { IsTrue result ↔ Apart one other }
 {
     end_of(one) <= u64::from(other.0) || end_of(other) <= u64::from(one.0)
 }
 
+/// Whether a place meets none of the others.
 fn is_apart_from(place: Place, places: &[Place]) -> bool
     ensures { IsTrue result ↔ ApartFrom place places.now }
 {
     places.iter().all(|other| is_apart(place, *other))
 }
 
+/// Whether no two of the places meet.
 fn are_apart(places: &[Place]) -> bool
     ensures { IsTrue result ↔ AreApart places.now }
 {
@@ -46,18 +50,21 @@ fn are_apart(places: &[Place]) -> bool
     true
 }
 
+/// Whether each place ends at `end` or before.
 fn end_by(end: u32, places: &[Place]) -> bool
     ensures { IsTrue result ↔ EndBy end places.now }
 {
     places.iter().all(|place| end_of(*place) <= u64::from(end))
 }
 
+/// Whether the places lie inside `size`, and no two of them meet.
 fn is_group(size: u32, places: &[Place]) -> bool
     ensures { IsTrue result ↔ IsGroup size places.now }
 {
     end_by(size, places) && are_apart(places)
 }
 
+/// Whether a record has 1 to 65535 bytes, with its fields inside it, no two of which meet.
 fn is_record(size: u32, places: &[Place]) -> bool
     ensures { IsTrue result ↔ IsRecord size places.now }
 {
@@ -79,6 +86,7 @@ fn is_plain_if_there(number: Option<u32>) -> bool
     }
 }
 
+/// Whether what follows the fields may begin here: behind each of them.
 fn is_start(start: u32, places: &[Place]) -> bool
     ensures { IsTrue result ↔ IsStart places.now start }
 {
@@ -143,6 +151,7 @@ fn is_sound_string(strings: Strings, at: &StringAt) -> bool
         && is_group(32, &state_bits(at))
 }
 
+/// Whether a record with items behind its fields is sound.
 fn is_sound_sequence(size: u32, places: &[Place], start: u32) -> bool
     ensures { IsTrue result ↔ IsSoundSequence size places.now start }
 {
@@ -221,6 +230,7 @@ fn has_groups(layout: &Layout) -> bool
         && layout.offsets.is_some() == (layout.head == Head::Offsets)
 }
 
+/// Whether the versions are a range of minors, with numbers up to 999.
 fn is_range(layout: &Layout) -> bool
     ensures { IsTrue result ↔ IsRange layout.now }
 {

@@ -1,0 +1,6 @@
+pub mod Digits
+pub mod Five
+pub mod Hex
+pub mod Pieces
+pub mod Outcomes
+pub mod Texts

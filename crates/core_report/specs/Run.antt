@@ -1,0 +1,95 @@
+-- What a run of the top call means.
+use Rattle.std.specs.Prelude.{◌≡◌, ◌≢◌, ℕ, ◌++◌, ⊤, List, [], ◌∷◌, Option, Some, None, Result, Ok, Err, codes}
+use Rattle.std.specs.Io.KnownBytes.{Appends}
+use Rattle.image_memory.specs.Outside.{Told, FailedNames, Gives, Rose, AppendsFront}
+use Rattle.image_memory.specs.declared.faults.FileFault.{FileFault}
+use Rattle.image_memory.specs.declared.faults.FileFault.TheVariants as fault
+use Rattle.py_stacks.specs.declared.trace.StackTrace.{StackTrace}
+use Rattle.core_report.specs.declared.error.CoreError.{CoreError}
+use Rattle.core_report.specs.declared.error.CoreError.TheVariants as core
+use Rattle.core_report.specs.declared.command.Trouble.{Trouble}
+use Rattle.core_report.specs.declared.command.Trouble.TheVariants.{Work, Words, File, Write, OutOfMemory}
+use Rattle.core_report.specs.Words.{Command, walk, core_file}
+use Rattle.core_report.specs.Lines.{core_parts, file_parts}
+use Rattle.core_report.specs.Text.{walk_text}
+
+-- what a command prints over the bytes of its core: the text of some threads
+abbrev pub Works : Command → List ℕ → Result (List ℕ) CoreError → Type 0
+Works (walk w) core (Ok text) = (traces : List StackTrace) × (text ≡ walk_text w.version traces)
+Works (walk w) core (Err _) = ⊤
+
+-- A command is asked for, and over the bytes of its core, which are those of the told file, it comes to this result.
+pub record Reaches (asked : Option Command) (told : Told) (result : Result (List ℕ) CoreError) : Type 0 where
+  pub command : Command
+  pub is_asked : asked ≡ Some command
+  pub core : List ℕ
+  pub given : Gives told (core_file command) core
+  pub works : Works command core result
+
+-- the files and the stream before and after
+pub record Ran : Type 0 where
+  pub told : Told
+  pub failed : FailedNames
+  pub failed_after : FailedNames
+  pub written : Option (List ℕ)
+  pub written_after : Option (List ℕ)
+  pub faults : ℕ
+  pub faults_after : ℕ
+
+-- no file failed, and nothing was written
+pub record IsQuiet (r : Ran) : Type 0 where
+  pub failed : r.failed_after ≡ r.failed
+  pub written : r.written_after ≡ r.written
+
+-- the whole text was written
+pub record IsPrinted (asked : Option Command) (r : Ran) : Type 0 where
+  pub text : List ℕ
+  pub reached : Reaches asked r.told (Ok text)
+  pub added : Appends r.written r.written_after text
+  pub failed : r.failed_after ≡ r.failed
+
+-- a write failed after a front of the text
+pub record IsCut (asked : Option Command) (r : Ran) : Type 0 where
+  pub text : List ℕ
+  pub reached : Reaches asked r.told (Ok text)
+  pub front : AppendsFront r.written r.written_after text
+  pub rose : Rose r.faults r.faults_after
+  pub failed : r.failed_after ≡ r.failed
+
+-- the file that the command names could not be read
+pub record IsUnread (asked : Option Command) (r : Ran) (name : List ℕ) (why : FileFault) : Type 0 where
+  pub command : Command
+  pub is_asked : asked ≡ Some command
+  pub named : core_file command ≡ name
+  pub not_memory : why ≢ fault.OutOfMemory
+  pub failed : r.failed_after ≡ r.failed ++ (name, why) ∷ []
+  pub written : r.written_after ≡ r.written
+
+-- what is so where a run gives up
+abbrev pub HasCause : Option Command → Ran → Trouble → Type 0
+HasCause asked r (Work error) = (error ≢ core.OutOfMemory) × Reaches asked r.told (Err error) × IsQuiet r
+HasCause asked r Words = (asked ≡ None) × IsQuiet r
+HasCause asked r (File name why) = IsUnread asked r name.now why
+HasCause asked r Write = IsCut asked r
+HasCause asked r OutOfMemory = ((command : Command) × (asked ≡ Some command)) × IsQuiet r
+
+-- what is so where it ends
+abbrev pub Ends : Option Command → Ran → Result (Unit {0}) Trouble → Type 0
+Ends asked r (Ok _) = IsPrinted asked r
+Ends asked r (Err trouble) = HasCause asked r trouble
+
+-- the status of a run that gave up
+abbrev pub status_of : Trouble → ℕ
+status_of (Work _) = 1
+status_of Words = 2
+status_of (File _ _) = 3
+status_of Write = 4
+status_of OutOfMemory = 5
+
+-- the parts of its line
+abbrev pub trouble_parts : Trouble → List (List ℕ)
+trouble_parts (Work error) = core_parts error
+trouble_parts Words = codes "bad words" ∷ []
+trouble_parts (File name why) = file_parts name.now why
+trouble_parts Write = codes "cannot write" ∷ []
+trouble_parts OutOfMemory = codes "out of memory" ∷ []

@@ -1,0 +1,75 @@
+-- The words of a command line, as lists of bytes, and what they ask for.
+use Rattle.std.specs.Prelude.{ℕ, ◌^◌, ◌==◌, ◌&&◌, Bool, nat_lt, nat_le, nat_eq, if◌then◌else◌, List, [], ◌∷◌, length, drop, map, Option, Some, None, option_and_then, option_map, bytes_eq, codes, string_bytes, String}
+use Rattle.std.specs.List.{list_all, position_or_len, starts_with, before_first, after_first}
+use Rattle.std.specs.Char.{digit_value}
+use Rattle.std.specs.Str.Parse.{digits_value}
+use Rattle.std.specs.Global.{Global}
+use Rattle.py_layout.specs.declared.version.Version.{Version}
+
+-- one digit or more of the radix, at most so many, of a number below 2 ^ 64
+abbrev pub is_numeral : ℕ → ℕ → List ℕ → Bool
+is_numeral radix most ds = nat_lt 0 (length ds) && (nat_le (length ds) most
+    && (list_all (λ c. nat_lt (digit_value c) radix) ds && nat_lt (digits_value radix ds) (2 ^ 64)))
+
+abbrev pub digits_in : ℕ → ℕ → List ℕ → Option ℕ
+digits_in radix most ds = if is_numeral radix most ds then Some (digits_value radix ds) else None
+
+-- 1 to 20 decimal digits, or 0x and 1 to 16 hexadecimal digits of either case
+abbrev pub number_of : List ℕ → Option ℕ
+number_of word = if starts_with nat_eq word (codes "0x") then digits_in 16 16 (drop 2 word) else digits_in 10 20 word
+
+-- a version of three numbers alone
+abbrev pub release : ℕ → ℕ → ℕ → Version
+release major minor patch = record { major = major; minor = minor; patch = patch; release_flags = []; build_metadata = None }
+
+abbrev pub release_by : Option ℕ → Option ℕ → Option ℕ → Option Version
+release_by (Some major) (Some minor) (Some patch) = Some (release major minor patch)
+release_by _ _ _ = None
+
+abbrev pub is_dot : ℕ → Bool
+is_dot c = c == 46
+
+-- the parts round the first dot
+abbrev pub split_at_dot : List ℕ → Option (List ℕ × List ℕ)
+split_at_dot word = if nat_lt (position_or_len is_dot word) (length word) then Some (before_first is_dot word, after_first is_dot word) else None
+
+-- three runs of 1 to 3 decimal digits joined by dots
+abbrev pub release_of : List ℕ → Option Version
+release_of word = option_and_then (λ front. option_and_then (λ back.
+    release_by (digits_in 10 3 front.0) (digits_in 10 3 back.0) (digits_in 10 3 back.1))
+    (split_at_dot front.1)) (split_at_dot word)
+
+-- a walk over the core of this name, from this interpreter, with the lock's holder named at this address
+pub record Walk : Type 0 where
+  pub core : List ℕ
+  pub version : Version
+  pub interp : ℕ
+  pub lock : ℕ
+
+-- what words ask for
+pub data Command : Type 0 where
+  walk : Walk → Command
+
+-- a walk of these parts, where all are there and the lock is 0
+abbrev pub walk_by : List ℕ → Option Version → Option ℕ → Option ℕ → Option Walk
+walk_by core (Some version) (Some interp) (Some lock) =
+    if lock == 0 then Some (record { core = core; version = version; interp = interp; lock = lock }) else None
+walk_by core _ _ _ = None
+
+-- CORE sample VERSION INTERP LOCK
+abbrev pub walk_words : List (List ℕ) → Option Walk
+walk_words (core ∷ layouts ∷ version ∷ interp ∷ lock ∷ []) =
+    if bytes_eq layouts (codes "sample") then walk_by core (release_of version) (number_of interp) (number_of lock) else None
+walk_words _ = None
+
+-- the command's name, and then its words
+abbrev pub command_of : List (List ℕ) → Option Command
+command_of [] = None
+command_of (name ∷ words) = if bytes_eq name (codes "walk") then option_map (λ w. walk w) (walk_words words) else None
+
+-- the file that a command names
+abbrev pub core_file : Command → List ℕ
+core_file (walk w) = w.core
+
+abbrev pub texts : List (String Global) → List (List ℕ)
+texts words = map (λ word. string_bytes word) words

@@ -1,0 +1,177 @@
+//! The words of the command line.
+ghost use Rattle.std.specs.Prelude.{◌≡◌, ◌≤◌, ◌∷◌, [], option_map, IfOk};
+ghost use Rattle.core_report.specs.Words.{command_of, digits_in, number_of, release_by, release_of, split_at_dot, texts, walk_by, walk_words};
+ghost use Rattle.core_report.specs.Seen.{command_at, version_at, walk_at};
+
+use elf64_core::Text;
+use py_layout::Version;
+use std::alloc::{AllocError, Global};
+
+/// What words ask for.
+#[derive(Clone, Copy)]
+pub(crate) enum Command<'a> {
+    /// The stacks of a core.
+    Walk(WalkWords<'a>),
+}
+
+/// The words of a walk.
+#[derive(Clone, Copy)]
+pub(crate) struct WalkWords<'a> {
+    /// The core's file.
+    pub(crate) core: &'a str,
+    pub(crate) version: Release,
+    /// The interpreter's address.
+    pub(crate) interp: u64,
+    /// The address of what names the lock's holder.
+    pub(crate) lock: u64,
+}
+
+/// A version of three numbers alone.
+#[derive(Clone, Copy)]
+pub(crate) struct Release {
+    pub(crate) major: u64,
+    pub(crate) minor: u64,
+    pub(crate) patch: u64,
+}
+
+impl Release {
+    /// The same as a version, with no flags and no metadata.
+    pub(crate) fn version(&self, alloc: Global) -> Result<Version, AllocError>
+        ensures { IfOk result (λ version. version ≡ version_at self.now) }
+    {
+        let release_flags = Text::of(alloc, "")?;
+        Ok(Version {
+            major: self.major,
+            minor: self.minor,
+            patch: self.patch,
+            release_flags,
+            build_metadata: None,
+        })
+    }
+}
+
+/// One digit or more of the radix, at most so many.
+fn digits_in(radix: u32, most: usize, digits: &str) -> Option<u64>
+    requires low { 2 ≤ radix }
+    requires high { radix ≤ 36 }
+    ensures { result ≡ digits_in radix most digits.now }
+{
+    if digits.len() > most || digits.starts_with('+') {
+        return None;
+    }
+    u64::from_str_radix(digits, radix).ok()
+}
+
+/// 1 to 20 decimal digits, or `0x` and 1 to 16 hexadecimal digits.
+fn number_of(word: &str) -> Option<u64>
+    ensures { result ≡ number_of word.now }
+{
+    match word.strip_prefix("0x") {
+        Some(digits) => digits_in(16, 16, digits),
+        None => digits_in(10, 20, word),
+    }
+}
+
+fn release_by(major: Option<u64>, minor: Option<u64>, patch: Option<u64>) -> Option<Release>
+    ensures { option_map version_at result ≡ release_by major minor patch }
+{
+    match (major, minor, patch) {
+        (Some(major), Some(minor), Some(patch)) => Some(Release {
+            major,
+            minor,
+            patch,
+        }),
+        _ => None,
+    }
+}
+
+fn split_at_dot(word: &str) -> Option<(&str, &str)>
+    ensures { option_map (λ parts. (parts.0.now, parts.1.now)) result ≡ split_at_dot word.now }
+{
+    word.split_once('.')
+}
+
+/// Three runs of 1 to 3 digits joined by dots.
+fn release_of(word: &str) -> Option<Release>
+    ensures { option_map version_at result ≡ release_of word.now }
+{
+    let Some((major, rest)) = split_at_dot(word) else {
+        return None;
+    };
+    let Some((minor, patch)) = split_at_dot(rest) else {
+        return None;
+    };
+    release_by(
+        digits_in(10, 3, major),
+        digits_in(10, 3, minor),
+        digits_in(10, 3, patch),
+    )
+}
+
+fn walk_by(
+    core: &str,
+    version: Option<Release>,
+    interp: Option<u64>,
+    lock: Option<u64>,
+) -> Option<WalkWords<'_>>
+    ensures { option_map walk_at result ≡ walk_by core.now (option_map version_at version) interp lock }
+{
+    match (version, interp, lock) {
+        (Some(version), Some(interp), Some(lock)) if lock == 0 => Some(WalkWords {
+            core,
+            version,
+            interp,
+            lock,
+        }),
+        _ => None,
+    }
+}
+
+fn walk_of<'a>(
+    core: &'a str,
+    layouts: &str,
+    version: &str,
+    interp: &str,
+    lock: &str,
+) -> Option<WalkWords<'a>>
+    ensures { option_map walk_at result ≡ walk_words (core.now ∷ layouts.now ∷ version.now ∷ interp.now ∷ lock.now ∷ []) }
+{
+    if layouts != "sample" {
+        return None;
+    }
+    walk_by(
+        core,
+        release_of(version),
+        number_of(interp),
+        number_of(lock),
+    )
+}
+
+/// `CORE sample VERSION INTERP 0`
+fn walk_words(words: &[String]) -> Option<WalkWords<'_>>
+    ensures { option_map walk_at result ≡ walk_words (texts words.now) }
+{
+    if words.len() != 5 {
+        return None;
+    }
+    walk_of(
+        words[0].as_str(),
+        words[1].as_str(),
+        words[2].as_str(),
+        words[3].as_str(),
+        words[4].as_str(),
+    )
+}
+
+/// `walk CORE sample VERSION INTERP 0`
+pub(crate) fn read_words(words: &[String]) -> Option<Command<'_>>
+    ensures { option_map command_at result ≡ command_of (texts words.now) }
+{
+    let [name, rest @ ..] = words else {
+        return None;
+    };
+    if name.as_str() != "walk" {
+        return None;
+    }
+    walk_words(rest).map(Command::Walk)
+}
