@@ -15,6 +15,7 @@ use Rattle.py_objects.specs.declared.strings.StateAt.{StateAt}
 use Rattle.py_objects.specs.declared.strings.Characters.{Characters}
 use Rattle.py_objects.specs.TextKind.{width, decoded, IsCodingOf}
 
+-- whether a number has a bit, counted from the lowest, which is bit 0
 abbrev pub bit_is_set : ℕ → ℕ → Bool
 bit_is_set n bit = bit_at n bit == 1
 
@@ -36,6 +37,7 @@ kind_by (suc (suc (suc zero))) ascii = None
 kind_by (suc (suc (suc (suc zero)))) ascii = Some Utf32
 kind_by (suc (suc (suc (suc (suc n))))) ascii = None
 
+-- the kind that a state says
 unfoldable pub kind_in : StateAt → ℕ → Option TextKind
 kind_in s state = kind_by (state / 2 ^ s.kind_shift % 8) (bit_is_set state s.ascii_bit)
 
@@ -60,12 +62,14 @@ characters_with Bytes t a object = Some (record { kind = Utf8; at = a + t.short_
 unfoldable pub characters_of : Layout → ℕ → List ℕ → Option Characters
 characters_of l a object = characters_with l.strings l.string a object
 
+-- the characters that `n` units code, where and as is said
 unfoldable pub characters_at : Memory → ℕ → Option Characters → Found (List ℕ)
 characters_at m n None = Err NoText
 characters_at m n (Some p) = do
   bytes ← record_at m p.at (n * width p.kind)
   found_or (decoded p.kind bytes) NoText
 
+-- the characters of a text whose record says that it has so many units
 unfoldable pub text_of_length : Layout → Memory → ℕ → List ℕ → ℕ → Found (List ℕ)
 text_of_length l m a object zero = Ok []
 text_of_length l m a object (suc n) =
@@ -83,6 +87,7 @@ pub record StandsAt (m : Memory) (n : ℕ) (p : Characters) (cs : List ℕ) : Ty
   pub there : record_at m p.at (n * width p.kind) ≡ Ok units
   pub coding : IsCodingOf p.kind cs units
 
+-- the characters of a text whose record says that it has so many units: none, or those that the units code
 abbrev pub HasCharacters : Layout → Memory → ℕ → List ℕ → ℕ → List ℕ → Type 0
 HasCharacters l m a object zero cs = cs ≡ []
 HasCharacters l m a object (suc n) cs = (suc n < 4096) × (p : Characters) × (characters_of l a object ≡ Some p) × StandsAt m (suc n) p cs

@@ -1,6 +1,6 @@
 //! Text objects.
 ghost use Rattle.std.specs.Prelude.{◌≡◌, ℕ, ◌+◌, ◌<◌, ◌≤◌, ◌^◌, List, length, IfOk, MatchResult};
-ghost use Rattle.py_layout.specs.Sound.{IsSound, IsSoundString};
+ghost use Rattle.py_layout.specs.Sound.{IsSound};
 ghost use Rattle.image_memory.specs.Seen.{Reads, Reading};
 ghost use Rattle.py_objects.specs.ObjectError.{fault_of};
 ghost use Rattle.py_objects.specs.Texts.{text_at, characters_at, IsText, characters_of, characters_by, state_at, kind_in, place_in, bit_is_set};
@@ -65,7 +65,7 @@ fn read_text<P: ProcessMemory>(
     layout: &Layout,
     addr: u64,
 ) -> Result<Text, ObjectError>
-    requires sound { IsSoundString layout.now.strings layout.now.string }
+    requires sound { IsSound layout.now }
     ensures { Reads fault_of 2 (P.seen process.old) (P.seen process.new) (λ m. text_at layout.now m addr) result }
 {
     let object = record(alloc, process, addr, layout.string.size as u64)?;
@@ -102,12 +102,12 @@ fn read_characters<P: ProcessMemory>(
 /// How the characters of a text are coded and where they stand, by its record.
 #[tactic(auto, unfolding(crate::specs::Texts::characters_of))]
 fn characters_of(layout: &Layout, addr: u64, object: &[u8]) -> Option<Characters>
-    requires sound { IsSoundString layout.now.strings layout.now.string }
+    requires sound { IsSound layout.now }
     requires whole { length object.now ≡ layout.now.string.size }
     ensures { result ≡ characters_of layout.now addr object.now }
 {
     match layout.strings {
-        Strings::State => state_characters(&layout.string, addr, object),
+        Strings::State => state_characters(layout, addr, object),
         Strings::Bytes => Some(Characters {
             kind: TextKind::Utf8,
             at: addr as u128 + layout.string.short_at as u128,
@@ -115,15 +115,15 @@ fn characters_of(layout: &Layout, addr: u64, object: &[u8]) -> Option<Characters
     }
 }
 
-fn state_characters(string: &StringAt, addr: u64, object: &[u8]) -> Option<Characters>
-    requires sound { IsSoundString Strings.State string.now }
-    requires whole { length object.now ≡ string.now.size }
-    ensures { result ≡ characters_by string.now addr object.now (state_at string.now) }
+fn state_characters(layout: &Layout, addr: u64, object: &[u8]) -> Option<Characters>
+    requires sound { IsSound layout.now }
+    requires whole { length object.now ≡ layout.now.string.size }
+    ensures { result ≡ characters_by layout.now.string addr object.now (state_at layout.now.string) }
 {
-    let at = state_at(string)?;
+    let at = state_at(&layout.string)?;
     let state = half_in(object, at.state as usize);
     let kind = kind_in(&at, state)?;
-    let at = place_in(string, &at, addr, object, state);
+    let at = place_in(&layout.string, &at, addr, object, state);
     Some(Characters { kind, at })
 }
 

@@ -5,12 +5,12 @@ use Rattle.elf64_core.specs.Fields.{word_in}
 use Rattle.image_memory.specs.Memory.Fault.{TooLong}
 use Rattle.image_memory.proofs.Reading.{reads_next, reads_halt}
 use Rattle.py_objects.specs.Texts.{text_at, text_of_length, characters_of, characters_at}
-use Rattle.py_objects.proofs.Sound.{length_inside}
+use Rattle.py_layout.proofs.Fields.{string_fits}
 use Rattle.py_objects.proofs.Texts.{reads_known, reads_same, length_zero, length_long, length_fine, no_kind, empty_text}
 use Rattle.py_objects.proofs.strings.read_text.Goals as goal
 
 pub word_in-length-requires : goal.word_in-length-requires
-word_in-length-requires g c = omega (arith, length_inside c.args.layout.now.strings c.args.layout.now.string c.requires.sound, c.deref.ensures.len, c.in_ok-object.ensures.whole)
+word_in-length-requires g c = omega (arith, (string_fits c.requires.sound).length, c.deref.ensures.len, c.in_ok-object.ensures.whole)
 
 pub returns-in_err-object : goal.returns-in_err-object
 unfolding text_at
