@@ -1,7 +1,7 @@
 //! Layouts that are sound, that are not and that clash, and how versions and errors are written.
 use crate::layout::{
-    CframeAt, DictAt, Dicts, FrameAt, Frames, GilAt, Head, HeapAt, Integers, InterpreterAt, KeysAt,
-    Lasti, Layout, Lines, Lock, Managed, OffsetsAt, Strings, ThreadAt,
+    CframeAt, CodeAt, DictAt, Dicts, FrameAt, Frames, GilAt, Head, HeapAt, Integers, InterpreterAt,
+    KeysAt, Lasti, Layout, Lines, Lock, Managed, OffsetsAt, Strings, ThreadAt,
 };
 use crate::{LayoutError, Layouts, Version};
 use elf64_core::Text;
@@ -9,67 +9,73 @@ use std::alloc::{AllocError, Global};
 use std::test::Fail;
 
 fn python_3_10() -> Layout {
-    let mut layout = Layout::sample();
-    layout.first_minor = 10;
-    layout.last_minor = 10;
-    layout.lasti = Lasti::Units;
-    layout.lines = Lines::Ranges;
-    layout
+    Layout {
+        first_minor: 10,
+        last_minor: 10,
+        lasti: Lasti::Units,
+        lines: Lines::Ranges,
+        ..Layout::sample()
+    }
 }
 
 fn python_3_12() -> Layout {
-    let mut layout = Layout::sample();
-    layout.first_minor = 12;
-    layout.last_minor = 12;
-    layout.lock = Lock::Gil;
-    layout.frames = Frames::Cframe;
-    layout.lasti = Lasti::Pointer;
-    layout.lines = Lines::Locations;
-    layout.integers = Integers::Tagged;
-    layout.dicts = Dicts::Compact;
-    layout.managed = Managed::Tagged;
-    layout.interpreter = InterpreterAt {
-        threads: 8,
-        modules: 16,
-        gil: Some(24),
-    };
-    layout.thread = ThreadAt {
-        size: 96,
-        next: 8,
-        interp: 16,
-        id: 32,
-        frame: 56,
-        native_id: Some(40),
-    };
-    layout.cframe = Some(CframeAt { current: 0 });
-    layout.frame = FrameAt {
-        size: 80,
-        code: 0,
-        back: 8,
-        instr: 56,
-        entry: Some(70),
-        locals: 72,
-        code_tag_bits: 0,
-    };
-    layout.code.start = Some(64);
-    layout.keys = Some(KeysAt {
-        size: 32,
-        used: 24,
-        slots: None,
-        log2: Some(9),
-        kind: Some(10),
-    });
-    layout.heap = Some(HeapAt {
-        size: 64,
-        cached_keys: 48,
-        inline: 24,
-    });
-    layout.gil = Some(GilAt {
-        size: 24,
-        locked: 16,
-        holder: 8,
-    });
-    layout
+    let sample = Layout::sample();
+    Layout {
+        first_minor: 12,
+        last_minor: 12,
+        lock: Lock::Gil,
+        frames: Frames::Cframe,
+        lasti: Lasti::Pointer,
+        lines: Lines::Locations,
+        integers: Integers::Tagged,
+        dicts: Dicts::Compact,
+        managed: Managed::Tagged,
+        interpreter: InterpreterAt {
+            threads: 8,
+            modules: 16,
+            gil: Some(24),
+        },
+        thread: ThreadAt {
+            size: 96,
+            next: 8,
+            interp: 16,
+            id: 32,
+            frame: 56,
+            native_id: Some(40),
+        },
+        cframe: Some(CframeAt { current: 0 }),
+        frame: FrameAt {
+            size: 80,
+            code: 0,
+            back: 8,
+            instr: 56,
+            entry: Some(70),
+            locals: 72,
+            code_tag_bits: 0,
+        },
+        code: CodeAt {
+            start: Some(64),
+            ..sample.code
+        },
+        keys: Some(KeysAt {
+            size: 32,
+            used: 24,
+            slots: None,
+            log2: Some(9),
+            kind: Some(10),
+        }),
+        heap: Some(HeapAt {
+            size: 64,
+            cached_keys: 48,
+            inline: 24,
+        }),
+        gil: Some(GilAt {
+            size: 24,
+            locked: 16,
+            holder: 8,
+        }),
+        ..sample
+    }
 }
 
 fn version(
@@ -337,11 +343,12 @@ fn unsound_layouts_are_refused(rt: HostRuntime) -> Result<(), Fail> {
 }
 
 fn with_range(major: u32, first_minor: u32, last_minor: u32) -> Layout {
-    let mut layout = Layout::sample();
-    layout.major = major;
-    layout.first_minor = first_minor;
-    layout.last_minor = last_minor;
-    layout
+    Layout {
+        major,
+        first_minor,
+        last_minor,
+        ..Layout::sample()
+    }
 }
 
 #[test]
