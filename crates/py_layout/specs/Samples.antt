@@ -1,4 +1,4 @@
--- The layout of a release build of CPython 3.9.
+-- An example of a layout: with the families of CPython 3.9, and shorter records.
 use Rattle.std.specs.Prelude.{Some, None, false}
 use Rattle.py_layout.specs.declared.layout.Head.TheVariants.{Runtime}
 use Rattle.py_layout.specs.declared.layout.Lock.TheVariants.{Runtime as RuntimeLock}

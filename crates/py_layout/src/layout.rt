@@ -352,7 +352,8 @@ impl Layout {
     ghost use Rattle.py_layout.specs.Samples.{sample_layout};
     ghost use Rattle.py_layout.specs.Sound.{Covers, IsSound};
 
-    /// The layout of a release build of CPython 3.9.
+    /// A sound layout for 3.9, as an example and for tests: it has the families of CPython 3.9, and
+    /// shorter records, so it is not that of any build.
     pub fn sample() -> Layout
         ensures value { result ≡ sample_layout }
         ensures sound { IsSound result }

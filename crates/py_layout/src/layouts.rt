@@ -16,10 +16,10 @@ use std::marker::Model;
 ///
 /// - A field or group with a condition is there exactly under it; the fields' docs name the conditions.
 /// - The major and both minors are at most 999, and the first minor is not above the last.
-/// - Each record has 1 to 65535 bytes, its fields lie inside it, and no two of them meet. Addresses,
-///   ids, counts, lengths and values have 8 bytes; the numbers of a code record, the state of a text,
-///   a digit and `gil.locked` 4; `frame.instr` 8 with `Pointer` and else 4; `frame.entry`,
-///   `keys.log2` and `keys.kind` 1.
+/// - Each record has 1 to 65535 bytes, its fields lie inside it, and no two of them meet. A field has
+///   8 bytes, but `argcount`, `nlocals` and `first_line` of a code record, a text's `state`, the first
+///   of an integer's `digits` and `gil.locked` have 4, `frame.instr` has 4 unless it is a `Pointer`,
+///   and `frame.entry`, `keys.log2` and `keys.kind` have 1.
 /// - An offset that no record's size bounds is at most 1048575: those of the interpreter's words, of
 ///   which no two meet, `cframe.current`, `frame.locals`, `code.start`, `short_at`, `long_at`,
 ///   `bytes.at`, `tuple.at` and `heap.inline`.

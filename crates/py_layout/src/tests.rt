@@ -1,7 +1,7 @@
 //! Layouts that are sound, that are not and that clash, and how versions and errors are written.
 use crate::layout::{
     CframeAt, CodeAt, DictAt, Dicts, FrameAt, Frames, GilAt, Head, HeapAt, Integers, InterpreterAt,
-    KeysAt, Lasti, Layout, Lines, Lock, Managed, OffsetsAt, Strings, ThreadAt,
+    KeysAt, Lasti, Layout, Lines, Lock, Managed, OffsetsAt, StringAt, Strings, ThreadAt,
 };
 use crate::{LayoutError, Layouts, Version};
 use elf64_core::Text;
@@ -78,6 +78,30 @@ fn python_3_12() -> Layout {
     }
 }
 
+/// A layout with text as bytes, no dicts, and a runtime record that says where things are.
+fn with_few_groups() -> Layout {
+    let sample = Layout::sample();
+    Layout {
+        major: 2,
+        head: Head::Offsets,
+        strings: Strings::Bytes,
+        dicts: Dicts::Absent,
+        string: StringAt {
+            state: None,
+            pointer: None,
+            long_at: None,
+            kind_shift: None,
+            compact_bit: None,
+            ascii_bit: None,
+            ..sample.string
+        },
+        dict: None,
+        keys: None,
+        offsets: Some(OffsetsAt { size: 8, head: 0 }),
+        ..sample
+    }
+}
+
 fn version(
     alloc: Global,
     minor: u64,
@@ -99,7 +123,12 @@ fn version(
 #[test]
 fn samples_are_sound(rt: HostRuntime) -> Result<(), Fail> {
     let alloc = rt.alloc();
-    let list = vec![in alloc; Layout::sample(), python_3_10(), python_3_12()]?;
+    let list = vec![in alloc;
+        Layout::sample(),
+        python_3_10(),
+        python_3_12(),
+        with_few_groups(),
+    ]?;
     assert!(rt; Layouts::check(&list));
     let layouts = Layouts::of(alloc, list)?;
     for (minor, found) in [
@@ -115,6 +144,7 @@ fn samples_are_sound(rt: HostRuntime) -> Result<(), Fail> {
     }
     let mut other = version(alloc, 9, "", None)?;
     other.major = 2;
+    assert_eq!(rt; layouts.choose(&other).map(|layout| layout.major), Some(2));
     assert!(rt; !Layout::sample().covers(&other));
     Ok(())
 }
@@ -312,6 +342,15 @@ fn spoil_python_3_12(layout: &mut Layout, case: u32) {
             holder: 20,
         }),
         15 => layout.dicts = Dicts::General,
+        16 => layout.gil = Some(GilAt {
+            size: 0,
+            locked: 16,
+            holder: 8,
+        }),
+        17 => {
+            layout.head = Head::Offsets;
+            layout.offsets = Some(OffsetsAt { size: 0, head: 0 });
+        }
         _ => {}
     }
 }
@@ -334,7 +373,7 @@ fn unsound_layouts_are_refused(rt: HostRuntime) -> Result<(), Fail> {
         spoil_objects(&mut layout, case);
         assert_eq!(rt; unsound_table(alloc, layout)?, Some(1), "object {case}");
     }
-    for case in 0..16 {
+    for case in 0..18 {
         let mut layout = python_3_12();
         spoil_python_3_12(&mut layout, case);
         assert_eq!(rt; unsound_table(alloc, layout)?, Some(1), "3.12 {case}");
