@@ -4,3 +4,5 @@ pub mod Hex
 pub mod Pieces
 pub mod Outcomes
 pub mod Texts
+pub mod Means
+pub mod Finds

@@ -59,7 +59,7 @@ module _ (asked : Option Command) (r : Ran) (a b : Option (List ℕ)) (before no
   memory_of Write cause says is = absurd (omega (arith, is))
   memory_of OutOfMemory cause says is = says
 
-one_more : {X : Type 0} (xs : List X) (x : X) → xs ++ x ∷ [] ≡ xs → ⊥
+pub one_more : {X : Type 0} (xs : List X) (x : X) → xs ++ x ∷ [] ≡ xs → ⊥
 one_more xs x e = omega (arith, ap length e, length-append xs (x ∷ []))
 
 module _ (asked : Option Command) (r : Ran) where

@@ -1,7 +1,7 @@
 -- What a run of the top call means.
-use Rattle.std.specs.Prelude.{◌≡◌, ◌≢◌, ℕ, ◌++◌, ⊤, List, [], ◌∷◌, Option, Some, None, Result, Ok, Err, codes}
+use Rattle.std.specs.Prelude.{◌≡◌, ◌≢◌, ℕ, ◌++◌, ⊤, List, [], ◌∷◌, Option, Some, None, Result, Ok, Err, codes, map}
 use Rattle.std.specs.Io.KnownBytes.{Appends}
-use Rattle.image_memory.specs.Outside.{Told, FailedNames, Gives, Rose, AppendsFront}
+use Rattle.image_memory.specs.Outside.{Told, FailedNames, Gives, Rose, AppendsFront, bytes_of}
 use Rattle.image_memory.specs.declared.faults.FileFault.{FileFault}
 use Rattle.image_memory.specs.declared.faults.FileFault.TheVariants as fault
 use Rattle.py_stacks.specs.declared.trace.StackTrace.{StackTrace}
@@ -9,14 +9,25 @@ use Rattle.core_report.specs.declared.error.CoreError.{CoreError}
 use Rattle.core_report.specs.declared.error.CoreError.TheVariants as core
 use Rattle.core_report.specs.declared.command.Trouble.{Trouble}
 use Rattle.core_report.specs.declared.command.Trouble.TheVariants.{Work, Words, File, Write, OutOfMemory}
-use Rattle.core_report.specs.Words.{Command, walk, core_file}
+use Rattle.core_report.specs.Words.{Command, Walk, walk, core_file}
 use Rattle.core_report.specs.Lines.{core_parts, file_parts}
 use Rattle.core_report.specs.Text.{walk_text}
+use Rattle.core_report.specs.Answer.{Finds, Means, fault_by}
+use Rattle.elf64_core.specs.Header.{IsAccepted}
+use Rattle.py_layout.specs.declared.layout.Layout.{Layout}
+use Rattle.py_layout.specs.Samples.{sample_layout}
+use Rattle.py_layout.specs.Sound.{Covers}
+use Rattle.py_stacks.specs.Threads.{trace_of}
 
--- what a command prints over the bytes of its core: the text of some threads
+-- the layouts of a walk
+abbrev pub sample_layouts : List Layout
+sample_layouts = sample_layout ∷ []
+
+-- what a command comes to over the bytes of its core: the text of the traces that it finds, or the cause why
+-- there are none
 abbrev pub Works : Command → List ℕ → Result (List ℕ) CoreError → Type 0
-Works (walk w) core (Ok text) = (traces : List StackTrace) × (text ≡ walk_text w.version traces)
-Works (walk w) core (Err _) = ⊤
+Works (walk w) core (Ok text) = (traces : List StackTrace) × (text ≡ walk_text w.version traces) × Finds core sample_layouts w.version w.interp (map trace_of traces)
+Works (walk w) core (Err error) = Means core sample_layouts w.version w.interp (Err error)
 
 -- A command is asked for, and over the bytes of its core, which are those of the told file, it comes to this result.
 pub record Reaches (asked : Option Command) (told : Told) (result : Result (List ℕ) CoreError) : Type 0 where
@@ -93,3 +104,13 @@ trouble_parts Words = codes "bad words" ∷ []
 trouble_parts (File name why) = file_parts name.now why
 trouble_parts Write = codes "cannot write" ∷ []
 trouble_parts OutOfMemory = codes "out of memory" ∷ []
+
+-- the files tell the bytes of this name
+abbrev pub Tells : Told → List ℕ → List ℕ → Type 0
+Tells told name bytes = (files : List (List ℕ × List ℕ)) × (told ≡ Some files) × (bytes_of files name ≡ Some bytes)
+
+-- a core in which the walk of a command has nothing to complain of
+pub record IsFaultless (w : Walk) (core : List ℕ) : Type 0 where
+  pub accepted : IsAccepted core
+  pub covered : Covers sample_layout w.version
+  pub faultless : fault_by sample_layout core w.interp ≡ None

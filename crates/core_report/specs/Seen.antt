@@ -11,7 +11,7 @@ abbrev pub version_at : Release → Version
 version_at r = words.release r.major r.minor r.patch
 
 abbrev pub walk_at : WalkWords → words.Walk
-walk_at w = record { core = w.core.now; version = version_at w.version; interp = w.interp; lock = w.lock }
+walk_at w = record { core = w.core.now; version = version_at w.version; interp = w.interp }
 
 abbrev pub command_at : Command → words.Command
 command_at (Walk w) = words.walk (walk_at w)

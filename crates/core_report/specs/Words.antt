@@ -39,12 +39,11 @@ release_of word = option_and_then (λ front. option_and_then (λ back.
     release_by (digits_in 10 3 front.0) (digits_in 10 3 back.0) (digits_in 10 3 back.1))
     (split_at_dot front.1)) (split_at_dot word)
 
--- a walk over the core of this name, from this interpreter, with the lock's holder named at this address
+-- a walk over the core of this name, from this interpreter
 pub record Walk : Type 0 where
   pub core : List ℕ
   pub version : Version
   pub interp : ℕ
-  pub lock : ℕ
 
 -- what words ask for
 pub data Command : Type 0 where
@@ -53,7 +52,7 @@ pub data Command : Type 0 where
 -- a walk of these parts, where all are there and the lock is 0
 abbrev pub walk_by : List ℕ → Option Version → Option ℕ → Option ℕ → Option Walk
 walk_by core (Some version) (Some interp) (Some lock) =
-    if lock == 0 then Some (record { core = core; version = version; interp = interp; lock = lock }) else None
+    if lock == 0 then Some (record { core = core; version = version; interp = interp }) else None
 walk_by core _ _ _ = None
 
 -- CORE sample VERSION INTERP LOCK

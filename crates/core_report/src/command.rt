@@ -1,13 +1,13 @@
 //! The top call.
-ghost use Rattle.std.specs.Prelude.{◌≡◌, ◌≢◌, ◌≤◌, ◌↔◌, ◌⊎◌, ◌++◌, [], ◌∷◌, List, ℕ, Some, None, Ok, Err, codes, string_bytes, MatchResult};
+ghost use Rattle.std.specs.Prelude.{◌≡◌, ◌≢◌, ◌≤◌, ◌↔◌, ◌⊎◌, ◌++◌, [], ◌∷◌, List, ℕ, Some, None, Ok, Err, codes, string_bytes, MatchResult, IfOk};
 ghost use Rattle.std.specs.Io.KnownBytes.{Appends};
 ghost use Rattle.image_memory.specs.Outside.{Rose, AppendsFront};
 ghost use Rattle.image_memory.specs.declared.faults.FileFault.{FileFault as Why};
 ghost use Rattle.core_report.specs.declared.error.CoreError.{CoreError as Cause};
-ghost use Rattle.core_report.specs.Words.{Command as Asked, command_of, core_file, texts, walk};
+ghost use Rattle.core_report.specs.Words.{Command as Asked, Walk, command_of, core_file, texts, walk};
 ghost use Rattle.core_report.specs.Seen.{command_at, walk_at};
 ghost use Rattle.core_report.specs.Lines.{Says, line, core_parts, file_parts};
-ghost use Rattle.core_report.specs.Run.{Ends, Reaches, Works, status_of, trouble_parts};
+ghost use Rattle.core_report.specs.Run.{Ends, IsFaultless, Reaches, Tells, Works, sample_layouts, status_of, trouble_parts};
 
 use crate::CoreError;
 use crate::core_walk::walk;
@@ -15,8 +15,9 @@ use crate::lines::{say_core, say_file, say_text};
 use crate::text::walk_text;
 use crate::words::{Command, WalkWords, read_words};
 use image_memory::{FileFault, Files, Sink};
+use py_layout::{Layout, Layouts};
 use py_stacks::Addresses;
-use std::alloc::Global;
+use std::alloc::{AllocError, Global};
 
 /// Why a run printed nothing, or not all.
 #[derive(Drop)]
@@ -33,6 +34,17 @@ pub(crate) enum Trouble<'a> {
     OutOfMemory,
 }
 
+/// The one layout of a walk: the sample.
+fn sample_layouts(alloc: Global) -> Result<Layouts, AllocError>
+    ensures { IfOk result (λ layouts. layouts ≡ sample_layouts) }
+{
+    let list = vec![in alloc; Layout::sample()]?;
+    match Layouts::of(alloc, list) {
+        Ok(layouts) => Ok(layouts),
+        Err(_) => unreachable!(),
+    }
+}
+
 /// The text of a walk over a core's bytes.
 fn work(alloc: Global, words: &WalkWords<'_>, core: Vec<u8>) -> Result<String, CoreError>
     ensures { MatchResult result (λ text. Works (walk (walk_at words.now)) core.items (Ok (string_bytes text)))
@@ -41,9 +53,10 @@ fn work(alloc: Global, words: &WalkWords<'_>, core: Vec<u8>) -> Result<String, C
     let version = words.version.version(alloc)?;
     let addresses = Addresses {
         interpreter: words.interp,
-        lock: words.lock,
+        lock: 0,
     };
-    let traces = walk(alloc, core, &version, &addresses)?;
+    let layouts = sample_layouts(alloc)?;
+    let traces = walk(alloc, core, &layouts, &version, &addresses)?;
     let text = walk_text(alloc, &version, &traces)?;
     Ok(text)
 }
@@ -201,6 +214,10 @@ pub fn run<F: Files, S: Sink, E: Sink>(
     ensures told { F.told files.new ≡ F.told files.old }
 
     // Where the words ask for a command and no fault rises, only the work and memory decide.
+    ensures finds { (asked : Walk) (core : List ℕ) → command_of (texts words.now) ≡ Some (walk asked)
+        → Tells (F.told files.old) asked.core core → IsFaultless asked core
+        → F.failed files.new ≡ F.failed files.old → (Rose (S.faults out.old) (S.faults out.new) → ⊥)
+        → (result ≡ 0) ⊎ (result ≡ 5) }
     ensures complete { (command : Asked) → command_of (texts words.now) ≡ Some command
         → F.failed files.new ≡ F.failed files.old → (Rose (S.faults out.old) (S.faults out.new) → ⊥)
         → (result ≡ 0) ⊎ (result ≡ 1) ⊎ (result ≡ 5) }

@@ -1,18 +1,69 @@
 //! The walk over a core's threads.
-use crate::CoreError;
-use py_layout::Version;
-use py_stacks::{Addresses, StackTrace};
-use std::alloc::Global;
+ghost use Rattle.std.specs.Prelude.{◌≡◌, IfOk};
+ghost use Rattle.image_memory.specs.Pieces.{memory_of};
+ghost use Rattle.core_report.specs.Answer.{Means, traced};
 
-/// The threads of the interpreter at `addresses`, in the order of their chain.
+use crate::CoreError;
+use elf64_core::Text;
+use image_memory::CoreDump;
+use py_layout::{Layouts, Version};
+use py_stacks::{Addresses, StackTrace, read_traces};
+use std::alloc::{AllocError, Global};
+
+/// A copy of a version's metadata. The one error is want of memory.
+fn copy_metadata(alloc: Global, metadata: &Option<Text>) -> Result<Option<Text>, AllocError>
+    ensures { IfOk result (λ copy. copy ≡ metadata.now) }
+{
+    match metadata {
+        Some(metadata) => {
+            let copy = metadata.copy(alloc)?;
+            Ok(Some(copy))
+        }
+        None => Ok(None),
+    }
+}
+
+/// A copy of a version. The one error is want of memory.
+fn copy_version(alloc: Global, version: &Version) -> Result<Version, AllocError>
+    ensures { IfOk result (λ copy. copy ≡ version.now) }
+{
+    let release_flags = version.release_flags.copy(alloc)?;
+    let build_metadata = copy_metadata(alloc, &version.build_metadata)?;
+    Ok(Version {
+        major: version.major,
+        minor: version.minor,
+        patch: version.patch,
+        release_flags,
+        build_metadata,
+    })
+}
+
+/// The traces of the threads of the interpreter at a handed-in address, in the order of their chain.
+///
+/// The bytes are those of a core's file, and the layout is the one that covers the version. The threads
+/// are the whole chain from the one that the interpreter names, to null, and the frames of each its whole
+/// chain, to null, less the members that are skipped (`py_stacks::read_frames`). Lines are 0, and there
+/// are no locals and no names of threads.
+///
+/// The error is the first of these: `NotElf64` and `BadHeader` (`image_memory::CoreDump::new`);
+/// `UnsupportedVersion` where no layout covers the version; `Unreadable`, `FrameLimit`, `ChainLimit` and
+/// `ThreadLimit`, as `py_stacks::read_traces` orders them. Else it is want of memory.
 pub fn walk(
     alloc: Global,
     bytes: Vec<u8>,
-    _version: &Version,
-    _addresses: &Addresses,
-) -> Result<Vec<StackTrace>, CoreError> {
-    if !bytes.starts_with(b"\x7fELF") {
-        return Err(CoreError::NotElf64);
-    }
-    Ok(Vec::new(alloc))
+    layouts: &Layouts,
+    version: &Version,
+    addresses: &Addresses,
+) -> Result<Vec<StackTrace>, CoreError>
+    requires { addresses.now.lock ≡ 0 }
+    ensures { Means bytes.items layouts.now version.now addresses.now.interpreter (traced result) }
+{
+    let core = CoreDump::new(alloc, bytes)?;
+    let Some(layout) = layouts.choose(version) else {
+        let version = copy_version(alloc, version)?;
+        return Err(CoreError::UnsupportedVersion { version });
+    };
+    let mut view = core.view();
+    let traces = read_traces(alloc, &mut view, layout, 0, addresses.interpreter)?;
+    Ok(traces)
 }

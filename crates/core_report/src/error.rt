@@ -3,7 +3,9 @@ ghost use Rattle.std.specs.Prelude.{◌≡◌};
 ghost use Rattle.core_report.specs.declared.error.CoreError.TheVariants.{OutOfMemory};
 
 use elf64_core::Name;
+use image_memory::DumpError;
 use py_layout::Version;
+use py_stacks::StackError;
 use std::alloc::AllocError;
 use thiserror::Error;
 
@@ -79,5 +81,39 @@ impl From<AllocError> for CoreError {
 
     fn from(_: AllocError) -> CoreError {
         CoreError::OutOfMemory
+    }
+}
+
+impl From<DumpError> for CoreError {
+    ghost use Rattle.core_report.specs.Causes.{cause_of_dump};
+
+    ghost from_gives = { λ error cause. cause ≡ cause_of_dump error };
+
+    fn from(error: DumpError) -> CoreError {
+        match error {
+            DumpError::NotElf64 => CoreError::NotElf64,
+            DumpError::BadHeader => CoreError::BadHeader,
+            DumpError::NoNotes => CoreError::NoNotes,
+            DumpError::BadNote => CoreError::BadNote,
+            DumpError::OutOfMemory => CoreError::OutOfMemory,
+        }
+    }
+}
+
+impl From<StackError> for CoreError {
+    ghost use Rattle.core_report.specs.Causes.{cause_of_stacks};
+
+    ghost from_gives = { λ error cause. cause ≡ cause_of_stacks error };
+
+    fn from(error: StackError) -> CoreError {
+        match error {
+            StackError::Unreadable { addr, len } => CoreError::Unreadable { addr, len },
+            StackError::BadValue { frame } => CoreError::BadValue { frame },
+            StackError::LocalsLimit { count } => CoreError::LocalsLimit { count },
+            StackError::ThreadLimit => CoreError::ThreadLimit,
+            StackError::FrameLimit => CoreError::FrameLimit,
+            StackError::ChainLimit => CoreError::ChainLimit,
+            StackError::OutOfMemory => CoreError::OutOfMemory,
+        }
     }
 }

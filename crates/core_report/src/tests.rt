@@ -91,14 +91,14 @@ struct Row {
 
 const GOOD: [&str; 6] = ["walk", "core", "sample", "3.9.0", "0x10000", "0"];
 
-const ROWS: [Row; 8] = [
+const ROWS: [Row; 10] = [
     Row {
         words: &GOOD,
         failing_reads: &[1],
         failing_writes: &[(1, 0)],
         room_for_line: 100,
         status: 0,
-        printed: b"Python v3.9.0\n\n",
+        printed: b"Python v3.9.0\n\nThread 0x7F00\n    f (a.py)\n    <module> (a.py)\n",
         said: b"",
     },
     Row {
@@ -109,6 +109,24 @@ const ROWS: [Row; 8] = [
         status: 1,
         printed: b"",
         said: b"pystacks: not an ELF64 little-endian file\n",
+    },
+    Row {
+        words: &["walk", "core", "sample", "3.8.0", "0x10000", "0"],
+        failing_reads: &[],
+        failing_writes: &[],
+        room_for_line: 100,
+        status: 1,
+        printed: b"",
+        said: b"pystacks: no layout for Python 3.8.0\n",
+    },
+    Row {
+        words: &["walk", "core", "sample", "3.9.0", "0x20000", "0"],
+        failing_reads: &[],
+        failing_writes: &[],
+        room_for_line: 100,
+        status: 1,
+        printed: b"",
+        said: b"pystacks: unreadable at 0x20008, 8 bytes\n",
     },
     Row {
         words: &["dude"],

@@ -22,8 +22,6 @@ pub(crate) struct WalkWords<'a> {
     pub(crate) version: Release,
     /// The interpreter's address.
     pub(crate) interp: u64,
-    /// The address of what names the lock's holder.
-    pub(crate) lock: u64,
 }
 
 /// A version of three numbers alone.
@@ -121,7 +119,6 @@ fn walk_by(
             core,
             version,
             interp,
-            lock,
         }),
         _ => None,
     }

@@ -37,6 +37,14 @@ impl Text {
         Ok(Text { inner })
     }
 
+    /// A copy of the text. The one error is want of memory.
+    pub fn copy(&self, alloc: Global) -> Result<Text, AllocError>
+        ensures { IfOk result (λ t. t ≡ self.now) }
+    {
+        let inner = String::from_str(alloc, self.inner.as_str())?;
+        Ok(Text { inner })
+    }
+
     /// The text in UTF-8.
     pub fn as_str(&self) -> &str
         ensures { result.now ≡ encode_utf8_all self.now }

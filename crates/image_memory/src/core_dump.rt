@@ -53,6 +53,7 @@ impl CoreDump {
         ensures bad { IsErrOf result DumpError.BadHeader ↔ (IsElf64 bytes.items × ¬ IsReadable bytes.items) }
         ensures only { IfErr result (λ error. (error ≡ DumpError.NotElf64) ⊎ (error ≡ DumpError.BadHeader) ⊎ (error ≡ DumpError.OutOfMemory)) }
         ensures same { IfOk result (λ core. core ≡ bytes.items) }
+        ensures accepted { IfOk result (λ core. IsAccepted bytes.items) }
     {
         let loads = load_segments(alloc, &bytes)?;
         Ok(CoreDump { bytes, loads })

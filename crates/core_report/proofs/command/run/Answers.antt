@@ -2,6 +2,7 @@ use Rattle.std.proofs.Common.{◌≡◌, ◌↔◌, ◌⊎◌, ℕ, sym, ap, sub
 use Rattle.core_report.specs.Run.{status_of}
 use Rattle.core_report.specs.Words.{command_of, texts}
 use Rattle.core_report.proofs.Outcomes.{work_of, words_of, unread_of, cut_of, memory_of, refused_of, complete_of}
+use Rattle.core_report.proofs.Finds.{finds_of}
 use Rattle.core_report.proofs.command.run.Goals as goal
 
 pub returns-in-Err-clause-failed : goal.returns-in-Err-clause-failed
@@ -26,3 +27,7 @@ returns-in-Err-clause-no_memory g c is = memory_of _ _ _ _ _ _ c.in-Err.trouble 
 pub returns-in-Err-clause-complete : goal.returns-in-Err-clause-complete
 returns-in-Err-clause-complete g c command is kept quiet =
     subst (λ n. (n ≡ 0) ⊎ (n ≡ 1) ⊎ (n ≡ 5)) (sym c.tell.ensures.status) (complete_of _ _ c.in-Err.trouble c.in-Err.ensures.ends command is kept quiet)
+
+pub returns-in-Err-clause-finds : goal.returns-in-Err-clause-finds
+returns-in-Err-clause-finds g c asked core is tells good kept quiet =
+    subst (λ n. (n ≡ 0) ⊎ (n ≡ 5)) (sym c.tell.ensures.status) (finds_of _ _ c.in-Err.trouble c.in-Err.ensures.ends asked core is tells good kept quiet)

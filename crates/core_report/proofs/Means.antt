@@ -1,0 +1,31 @@
+-- What the readers' answers mean of a core.
+use Rattle.std.proofs.Common.{◌≡◌, ℕ, List, [], ◌∷◌, rules, refl, arith}
+use Rattle.std.proofs.lemmas.Grind.{common_steps}
+use Rattle.std.specs.Prelude.{Option, Some, None, Ok, Err, Contains, All, AllPairs}
+use Rattle.elf64_core.specs.Header.{IsAccepted}
+use Rattle.image_memory.specs.Faults.{IsFirst}
+use Rattle.py_layout.specs.declared.layout.Layout.{Layout}
+use Rattle.py_layout.specs.declared.version.Version.{Version}
+use Rattle.py_layout.specs.Sound.{AreSound, Clash, Covers, IsSound}
+use Rattle.py_stacks.specs.declared.error.StackError.{StackError}
+use Rattle.py_stacks.specs.declared.error.StackError.TheVariants as stack
+use Rattle.py_stacks.specs.StackError.{fault_of}
+use Rattle.core_report.specs.Causes.{cause_of_stacks}
+use Rattle.core_report.specs.Answer.{IsWalked, Means, fault_by}
+
+-- one sound layout is a sound list
+pub one_sound : (l : Layout) → IsSound l → AreSound (l ∷ [])
+one_sound l s = record { each = search rules; apart = search rules }
+
+abbrev pub walked_by : (bytes : List ℕ) (layouts : List Layout) (version : Version) (layout : Layout) → IsAccepted bytes → Contains layouts layout → Covers layout version → IsWalked bytes layouts version
+walked_by bytes layouts version layout accepted listed covers = record { accepted = accepted; layout = layout; chosen = record { listed = listed; covers = covers } }
+
+-- an error of the readers is the first fault
+pub stack_means : (bytes : List ℕ) (layouts : List Layout) (version : Version) (interpreter : ℕ) (w : IsWalked bytes layouts version) (e : StackError) → IsFirst (fault_by w.layout bytes interpreter) (fault_of e) → Means bytes layouts version interpreter (Err (cause_of_stacks e))
+stack_means bytes layouts version interpreter w (stack.Unreadable addr len) h = (w, h)
+stack_means bytes layouts version interpreter w (stack.BadValue frame) h = (w, h)
+stack_means bytes layouts version interpreter w (stack.LocalsLimit count) h = (w, h)
+stack_means bytes layouts version interpreter w stack.ThreadLimit h = (w, h)
+stack_means bytes layouts version interpreter w stack.FrameLimit h = (w, h)
+stack_means bytes layouts version interpreter w stack.ChainLimit h = (w, h)
+stack_means bytes layouts version interpreter w stack.OutOfMemory h = tt
