@@ -144,3 +144,21 @@ pub record HasWritten {T E : Type 0} (old : HeldStream) (piece : List ℕ) (answ
 -- the call isn't listed, and there is room for the piece
 abbrev pub Fits : HeldStream → List ℕ → Type 0
 Fits held piece = (failing_at held.failing held.calls ≡ None) × (length held.bytes + length piece ≤ held.room)
+
+-- a stream of the system: the bytes written so far, where it tells them, and how many calls failed
+pub record StreamRecord : Type 0 where
+  pub written : Option (List ℕ)
+  pub faults : ℕ
+
+-- a stream of which no call failed yet
+abbrev pub opened_stream : Option (List ℕ) → StreamRecord
+opened_stream written = record { written = written; faults = 0 }
+
+-- the files of the system: the names that failed, and how many bytes were taken
+pub record FilesRecord : Type 0 where
+  pub failed : FailedNames
+  pub taken : ℕ
+
+-- the files of the system before the first call
+abbrev pub untouched_files : FilesRecord
+untouched_files = record { failed = []; taken = 0 }

@@ -1,14 +1,16 @@
 //! The files of the system.
-ghost use Rattle.std.specs.Prelude.{◌≡◌, ◌≤◌, ◌+◌, ◌^◌, ℕ, None, IsErrOf};
-ghost use Rattle.image_memory.specs.Outside.{RoseByMore};
+ghost use Rattle.std.specs.Prelude.{◌≡◌, ◌≤◌, ◌<◌, ◌+◌, ◌^◌, ℕ, None, IfErr, IfOk, IfSome, IsErrOf, MatchResult, OnOk, drop, take, vec_len};
+ghost use Rattle.std.specs.Io.KnownBytes.{Consumes, IsAtEnd, Keeps};
+ghost use Rattle.image_memory.specs.Outside.{RoseByMore, untouched_files};
 
 use crate::{FileFault, Files};
 use elf64_core::Name;
 use std::alloc::Global;
-use std::fs;
 use std::fs::OpenFile;
 use std::io::{ErrorKind, Read};
+use std::marker::Model;
 use std::rt::Files as SystemFiles;
+use std::{fs, io};
 
 /// The most bytes of a file.
 const FILE_LIMIT: usize = 1 << 36;
@@ -20,7 +22,8 @@ const PIECE: usize = 1 << 20;
 ///
 /// A file is read in pieces of up to 1 MiB into the memory that is handed out, which is taken at once by
 /// the file's own length, where the system tells it. A read that gives nothing is the file's end. A path
-/// that isn't UTF-8 is `Failed`, and so are a folder and an empty path.
+/// that isn't UTF-8 is `Failed`, and so are a folder and an empty path. Contracts see the names that failed
+/// and how many bytes were taken.
 #[derive(Drop)]
 pub struct RealFiles<R: SystemFiles> {
     system: R,
@@ -28,9 +31,19 @@ pub struct RealFiles<R: SystemFiles> {
     taken: u64,
 }
 
+impl<R: SystemFiles> Model for RealFiles<R> {
+    ghost use Rattle.image_memory.specs.Outside.{FilesRecord};
+
+    ghost Value = { FilesRecord };
+
+    ghost view = { λ f. record { failed = f.failed.items; taken = f.taken } };
+}
+
 impl<R: SystemFiles> RealFiles<R> {
     /// The files that `system` opens. No file is opened yet.
-    pub fn new(alloc: Global, system: R) -> RealFiles<R> {
+    pub fn new(alloc: Global, system: R) -> RealFiles<R>
+        ensures { result ≡ untouched_files }
+    {
         RealFiles {
             system,
             failed: Vec::new(alloc),
@@ -39,8 +52,36 @@ impl<R: SystemFiles> RealFiles<R> {
     }
 }
 
+/// Room for a piece after the bytes that are filled, where there is none.
+fn make_room(bytes: &mut Vec<u8>, filled: usize) -> Result<(), FileFault>
+    requires within { filled ≤ vec_len bytes.old }
+    requires small { filled ≤ 2 ^ 36 }
+    ensures kept { take filled bytes.new.items ≡ take filled bytes.old.items }
+    ensures room { OnOk result (filled < vec_len bytes.new) }
+    ensures memory { IfErr result (λ fault. fault ≡ FileFault.OutOfMemory) }
+{
+    if filled == bytes.len() && bytes.resize(filled + PIECE, 0).is_err() {
+        return Err(FileFault::OutOfMemory);
+    }
+    Ok(())
+}
+
+/// Reads after the bytes that are filled, and answers how many bytes came.
+fn read_piece<F: Read>(file: &mut F, bytes: &mut Vec<u8>, filled: usize) -> io::Result<usize>
+    requires { filled < vec_len bytes.old }
+    ensures len { vec_len bytes.new ≡ vec_len bytes.old }
+    ensures kept { take filled bytes.new.items ≡ take filled bytes.old.items }
+    ensures bound { IfOk result (λ count. filled + count ≤ vec_len bytes.new) }
+    ensures read { MatchResult result (λ count. Consumes (F.remaining file.old) (F.remaining file.new) (take count (drop filled bytes.new.items)))
+        (λ _. Keeps (F.remaining file.old) (F.remaining file.new)) }
+    ensures end { IfOk result (λ count. count ≡ 0 → IsAtEnd (F.remaining file.new)) }
+{
+    file.read(&mut bytes[filled..])
+}
+
 /// Reads to the end, in pieces of up to `PIECE` bytes, and counts the bytes.
 fn fill<F: Read>(file: &mut F, bytes: &mut Vec<u8>, taken: &mut u64) -> Result<(), FileFault>
+    ensures whole { OnOk result (IfSome (F.remaining file.old) (λ left. bytes.new.items ≡ left)) }
     ensures taken { taken.old ≤ taken.new }
     ensures too_long { IsErrOf result FileFault.TooLong → RoseByMore taken.old taken.new }
 {
@@ -50,10 +91,8 @@ fn fill<F: Read>(file: &mut F, bytes: &mut Vec<u8>, taken: &mut u64) -> Result<(
         if filled > FILE_LIMIT {
             return Err(FileFault::TooLong);
         }
-        if filled == bytes.len() && bytes.resize(filled + PIECE, 0).is_err() {
-            return Err(FileFault::OutOfMemory);
-        }
-        match file.read(&mut bytes[filled..]) {
+        make_room(bytes, filled)?;
+        match read_piece(file, bytes, filled) {
             Ok(0) => {
                 bytes.truncate(filled);
                 return Ok(());
@@ -102,7 +141,7 @@ fn fetch<R: SystemFiles>(
 impl<R: SystemFiles> Files for RealFiles<R> {
     ghost told = { λ f. None };
 
-    ghost failed = { λ f. f.failed.items };
+    ghost failed = { λ f. f.failed };
 
     ghost taken = { λ f. f.taken };
 
