@@ -15,3 +15,6 @@ pub use error::StackError;
 pub use frames::read_frames;
 pub use threads::read_traces;
 pub use trace::{Addresses, Frame, LocalVariable, StackTrace};
+
+#[cfg(test)]
+mod tests;

@@ -1,0 +1,423 @@
+//! Chains of threads and frames over pieces of memory, written out by hand.
+use crate::{Frame, StackError, StackTrace, read_frames, read_traces};
+use elf64_core::Text;
+use image_memory::{Part, Piece};
+use py_layout::{CframeAt, FrameAt, Frames, Layout, Layouts, ThreadAt, Version};
+use std::alloc::{AllocError, Global};
+use std::test::Fail;
+
+/// Where the code records stand, 64 bytes each.
+const CODES: u64 = 0x1000;
+
+/// Where the texts stand, 72 bytes each.
+const TEXTS: u64 = 0x2000;
+
+/// Where the frame records stand, 64 bytes each.
+const FRAMES: u64 = 0x10_0000;
+
+/// An address that is in no memory.
+const NOWHERE: u64 = 0xdead_0000;
+
+/// What a member of a chain is.
+#[derive(Clone, Copy)]
+enum Member {
+    /// `f` in `a.py`.
+    Kept,
+    /// `f` in `<shim>`.
+    Shim,
+    /// Its function name is not in memory.
+    NoName,
+    /// Its file name is not in memory.
+    NoFile,
+    /// Its function name is empty.
+    EmptyName,
+    /// Its file name is empty.
+    EmptyFile,
+    /// Its code record is not in memory.
+    NoCode,
+}
+
+/// The address of a member's code record.
+fn code_at(member: Member) -> u64 {
+    match member {
+        Member::Kept => CODES,
+        Member::Shim => CODES + 64,
+        Member::NoName => CODES + 128,
+        Member::NoFile => CODES + 192,
+        Member::EmptyName => CODES + 256,
+        Member::EmptyFile => CODES + 320,
+        Member::NoCode => NOWHERE,
+    }
+}
+
+fn push_words(bytes: &mut Vec<u8>, words: &[u64]) -> Result<(), AllocError> {
+    for word in words {
+        bytes.extend_from_slice(&word.to_le_bytes())?;
+    }
+    Ok(())
+}
+
+/// The code records: the file name's address is at 32, the function name's at 40.
+fn codes(alloc: Global) -> Result<Vec<u8>, AllocError> {
+    let mut bytes = Vec::new(alloc);
+    for (file, name) in [
+        (TEXTS, TEXTS + 72),
+        (TEXTS + 144, TEXTS + 72),
+        (TEXTS, NOWHERE),
+        (NOWHERE, TEXTS + 72),
+        (TEXTS, TEXTS + 216),
+        (TEXTS + 216, TEXTS + 72),
+    ] {
+        push_words(&mut bytes, &[0, 0, 0, 0, file, name, 0, 0])?;
+    }
+    Ok(bytes)
+}
+
+/// The texts `a.py`, `f`, `<shim>` and the empty one: the length is at 16, the state at 32 and the
+/// characters at 48.
+fn texts(alloc: Global) -> Result<Vec<u8>, AllocError> {
+    let mut bytes = Vec::new(alloc);
+    for (length, characters) in [(4, 0x7970_2e61), (1, 0x66), (6, 0x3e6d_6968_733c), (0, 0)] {
+        push_words(&mut bytes, &[0, 0, length, 0, 100, 0, characters, 0, 0])?;
+    }
+    Ok(bytes)
+}
+
+/// Frame records that follow each other, these members so many times; the last leads to `back`. The code
+/// is at 16, the one that called it at 24.
+fn chain(
+    alloc: Global,
+    members: &[Member],
+    times: usize,
+    back: u64,
+) -> Result<Vec<u8>, AllocError> {
+    let mut bytes = Vec::new(alloc);
+    let mut at = FRAMES;
+    for time in 0..times {
+        for (place, member) in members.iter().enumerate() {
+            at = at.wrapping_add(64);
+            let is_last = time.wrapping_add(1) == times && place.wrapping_add(1) == members.len();
+            let next = if is_last { back } else { at };
+            push_words(&mut bytes, &[0, 0, code_at(*member), next, 0, 0, 0, 0])?;
+        }
+    }
+    Ok(bytes)
+}
+
+fn memory(alloc: Global, frames: Vec<u8>) -> Result<Part, AllocError> {
+    let pieces = vec![in alloc;
+        Piece {
+            start: CODES,
+            bytes: codes(alloc)?
+        },
+        Piece {
+            start: TEXTS,
+            bytes: texts(alloc)?
+        },
+        Piece {
+            start: FRAMES,
+            bytes: frames
+        },
+    ]?;
+    Ok(Part::of(alloc, pieces))
+}
+
+/// Members, so many times, where the last leads; then how many frames there are, or the error.
+struct Row {
+    members: &'static [Member],
+    times: usize,
+    back: u64,
+    want: Result<usize, StackError>,
+}
+
+const ROWS: [Row; 14] = [
+    Row {
+        members: &[Member::Kept, Member::Shim],
+        times: 4096,
+        back: 0,
+        want: Ok(4096),
+    },
+    Row {
+        members: &[Member::Kept, Member::Shim],
+        times: 4097,
+        back: 0,
+        want: Err(StackError::FrameLimit),
+    },
+    Row {
+        members: &[Member::Shim],
+        times: 1,
+        back: FRAMES,
+        want: Err(StackError::ChainLimit),
+    },
+    Row {
+        members: &[Member::Shim],
+        times: 16384,
+        back: 0,
+        want: Ok(0),
+    },
+    Row {
+        members: &[Member::Shim],
+        times: 16385,
+        back: 0,
+        want: Err(StackError::ChainLimit),
+    },
+    Row {
+        members: &[Member::Kept],
+        times: 4097,
+        back: NOWHERE,
+        want: Err(StackError::FrameLimit),
+    },
+    Row {
+        members: &[Member::Kept],
+        times: 4096,
+        back: NOWHERE,
+        want: Err(StackError::Unreadable {
+            addr: NOWHERE,
+            len: 64,
+        }),
+    },
+    Row {
+        members: &[Member::Kept, Member::NoCode],
+        times: 1,
+        back: 0,
+        want: Err(StackError::Unreadable {
+            addr: NOWHERE,
+            len: 64,
+        }),
+    },
+    Row {
+        members: &[Member::Kept, Member::NoName, Member::Kept],
+        times: 1,
+        back: 0,
+        want: Ok(2),
+    },
+    Row {
+        members: &[Member::Kept, Member::NoFile, Member::Kept],
+        times: 1,
+        back: 0,
+        want: Ok(2),
+    },
+    Row {
+        members: &[Member::EmptyName],
+        times: 2,
+        back: 0,
+        want: Ok(2),
+    },
+    Row {
+        members: &[Member::EmptyFile],
+        times: 2,
+        back: 0,
+        want: Ok(0),
+    },
+    Row {
+        members: &[Member::Kept],
+        times: 1,
+        back: 0,
+        want: Ok(1),
+    },
+    Row {
+        members: &[Member::Shim, Member::Kept],
+        times: 3,
+        back: 0,
+        want: Ok(3),
+    },
+];
+
+#[test]
+fn chains_end_at_null_or_at_their_first_fault(rt: HostRuntime) -> Result<(), Fail> {
+    let alloc = rt.alloc();
+    for row in &ROWS {
+        let frames = chain(alloc, row.members, row.times, row.back)?;
+        let mut part = memory(alloc, frames)?;
+        let found = read_frames(alloc, &mut part, &Layout::sample(), FRAMES);
+        match (&found, &row.want) {
+            (Ok(frames), Ok(count)) => assert_eq!(rt; frames.len(), *count),
+            (Err(error), Err(want)) => assert_eq!(rt; error, want),
+            _ => return Err(Fail::from("another answer")),
+        }
+    }
+    Ok(())
+}
+
+/// Members, and of each frame whether its caller is not shown.
+const MARKS: [(&[Member], &[bool]); 4] = [
+    (&[Member::Kept, Member::Shim, Member::Kept], &[true, true]),
+    (&[Member::Shim, Member::Kept, Member::Kept], &[false, true]),
+    (
+        &[
+            Member::Kept,
+            Member::NoName,
+            Member::Shim,
+            Member::Kept,
+            Member::Kept,
+        ],
+        &[true, false, true],
+    ),
+    (
+        &[Member::Kept, Member::Kept, Member::EmptyFile],
+        &[false, true],
+    ),
+];
+
+#[test]
+fn a_frame_is_marked_where_its_caller_is_not_shown(rt: HostRuntime) -> Result<(), Fail> {
+    let alloc = rt.alloc();
+    for (members, marks) in &MARKS {
+        let mut part = memory(alloc, chain(alloc, members, 1, 0)?)?;
+        let frames = read_frames(alloc, &mut part, &Layout::sample(), FRAMES).map_err(
+            |_| "no frames",
+        )?;
+        assert_eq!(rt; frames.len(), marks.len());
+        for (frame, mark) in frames.iter().zip(marks.iter()) {
+            assert_eq!(rt; frame.is_shim_entry, *mark);
+            assert!(rt; is_plain(frame));
+        }
+    }
+    Ok(())
+}
+
+/// Whether a frame is `f` in `a.py`, with nothing else.
+fn is_plain(frame: &Frame) -> bool {
+    frame.name.as_str() == "f"
+        && frame.filename.as_str() == "a.py"
+        && frame.module.is_none()
+        && frame.short_filename.is_none()
+        && frame.line == 0
+        && frame.locals.is_none()
+        && frame.is_entry
+}
+
+/// Where the interpreter stands; the first thread's address is at 8.
+const INTERPRETER: u64 = 0x30_0000;
+
+/// Where the thread records stand, 64 bytes each.
+const THREADS: u64 = 0x40_0000;
+
+/// Thread records that follow each other, without frames: the next is at 8, the id at 32. The ids count
+/// from 0.
+fn threads(alloc: Global, count: u64) -> Result<Vec<u8>, AllocError> {
+    let mut bytes = Vec::new(alloc);
+    let mut at = THREADS;
+    for id in 0..count {
+        at = at.wrapping_add(64);
+        let next = if id.wrapping_add(1) == count { 0 } else { at };
+        push_words(&mut bytes, &[0, next, 0, 0, id, 0, 0, 0])?;
+    }
+    Ok(bytes)
+}
+
+fn traces(alloc: Global, count: u64) -> Result<Result<Vec<StackTrace>, StackError>, AllocError> {
+    let mut interpreter = Vec::new(alloc);
+    push_words(&mut interpreter, &[0, if count == 0 { 0 } else { THREADS }])?;
+    let pieces = vec![in alloc;
+        Piece {
+            start: INTERPRETER,
+            bytes: interpreter
+        },
+        Piece {
+            start: THREADS,
+            bytes: threads(alloc, count)?
+        },
+    ]?;
+    let mut part = Part::of(alloc, pieces);
+    Ok(read_traces(alloc, &mut part, &Layout::sample(), 0, INTERPRETER))
+}
+
+#[test]
+fn threads_are_walked_to_null(rt: HostRuntime) -> Result<(), Fail> {
+    let alloc = rt.alloc();
+    for count in [0, 1, 4096] {
+        let traces = traces(alloc, count)?.map_err(|_| "no traces")?;
+        assert_eq!(rt; traces.len() as u64, count);
+        for (id, trace) in traces.iter().enumerate() {
+            assert_eq!(rt; trace.thread_id, id as u64);
+            assert_eq!(rt; trace.owns_gil, id == 0);
+        }
+    }
+    assert!(rt; matches!(traces(alloc, 4097)?, Err(StackError::ThreadLimit)));
+    Ok(())
+}
+
+/// The sample with C frames, ids of the system, tag bits and marks of entry.
+fn other_layouts(alloc: Global) -> Result<Layouts, AllocError> {
+    let sample = Layout::sample();
+    let layout = Layout {
+        frames: Frames::Cframe,
+        cframe: Some(CframeAt { current: 8 }),
+        thread: ThreadAt {
+            native_id: Some(40),
+            ..sample.thread
+        },
+        frame: FrameAt {
+            entry: Some(48),
+            code_tag_bits: 2,
+            ..sample.frame
+        },
+        ..sample
+    };
+    Layouts::of(alloc, vec![in alloc; layout]?).map_err(|_| AllocError)
+}
+
+/// A thread of id 7 and the system's id 99, whose C frame at 0x500000 names two frames: the first has its
+/// code's address tagged, and a mark of entry alone.
+fn other_memory(alloc: Global) -> Result<Part, AllocError> {
+    let mut interpreter = Vec::new(alloc);
+    push_words(&mut interpreter, &[0, THREADS])?;
+    let mut thread = Vec::new(alloc);
+    push_words(&mut thread, &[0, 0, 0, 0x50_0000, 7, 99, 0, 0])?;
+    let mut cframe = Vec::new(alloc);
+    push_words(&mut cframe, &[0, FRAMES])?;
+    let mut frames = Vec::new(alloc);
+    push_words(&mut frames, &[0, 0, CODES | 3, FRAMES + 64, 0, 0, 1, 0])?;
+    push_words(&mut frames, &[0, 0, CODES | 1, 0, 0, 0, 0, 0])?;
+    let pieces = vec![in alloc;
+        Piece {
+            start: CODES,
+            bytes: codes(alloc)?
+        },
+        Piece {
+            start: TEXTS,
+            bytes: texts(alloc)?
+        },
+        Piece {
+            start: FRAMES,
+            bytes: frames
+        },
+        Piece {
+            start: INTERPRETER,
+            bytes: interpreter
+        },
+        Piece {
+            start: THREADS,
+            bytes: thread
+        },
+        Piece {
+            start: 0x50_0000,
+            bytes: cframe
+        },
+    ]?;
+    Ok(Part::of(alloc, pieces))
+}
+
+#[test]
+fn the_other_families_are_followed(rt: HostRuntime) -> Result<(), Fail> {
+    let alloc = rt.alloc();
+    let layouts = other_layouts(alloc)?;
+    let version = Version {
+        major: 3,
+        minor: 9,
+        patch: 0,
+        release_flags: Text::of(alloc, "")?,
+        build_metadata: None,
+    };
+    let layout = layouts.choose(&version).ok_or("no layout")?;
+    let mut part = other_memory(alloc)?;
+    let traces = read_traces(alloc, &mut part, layout, 7, INTERPRETER).map_err(|_| "no traces")?;
+    assert_eq!(rt; traces.len(), 1);
+    assert_eq!(rt; traces[0].os_thread_id, Some(99));
+    assert!(rt; traces[0].owns_gil);
+    let frames = &traces[0].frames;
+    assert_eq!(rt; frames.len(), 2);
+    assert!(rt; frames[0].is_entry && !frames[1].is_entry);
+    Ok(())
+}
