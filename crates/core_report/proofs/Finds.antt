@@ -5,13 +5,15 @@ use Rattle.image_memory.specs.Memory.{Fault}
 use Rattle.image_memory.specs.Outside.{Told, Gives, Rose, bytes_of}
 use Rattle.py_layout.specs.declared.layout.Layout.{Layout}
 use Rattle.py_layout.specs.Samples.{sample_layout}
+use Rattle.py_layout.specs.Sound.{Covers}
+use Rattle.py_stacks.specs.Threads.{Trace, trace_of}
 use Rattle.core_report.specs.declared.error.CoreError.{CoreError}
 use Rattle.core_report.specs.declared.error.CoreError.TheVariants as core
 use Rattle.core_report.specs.declared.command.Trouble.{Trouble}
 use Rattle.core_report.specs.declared.command.Trouble.TheVariants.{Work, Words, File, Write, OutOfMemory}
 use Rattle.core_report.specs.Words.{Command, Walk, walk, core_file}
-use Rattle.core_report.specs.Answer.{IsChosen, Means, Meets, fault_by}
-use Rattle.core_report.specs.Run.{Ran, Reaches, HasCause, IsFaultless, Tells, Works, sample_layouts, status_of}
+use Rattle.core_report.specs.Answer.{Finds, IsChosen, Means, Meets, fault_by}
+use Rattle.core_report.specs.Run.{Ran, Reaches, HasCause, IsFaultless, IsPrinted, Tells, Works, sample_layouts, status_of}
 use Rattle.core_report.proofs.Outcomes.{one_more}
 
 listed_one : (s l : Layout) → Contains (s ∷ []) l → l ≡ s
@@ -72,3 +74,43 @@ finds_of asked r Words cause w bytes is tells good kept quiet = absurd (cc (caus
 finds_of asked r (File name why) cause w bytes is tells good kept quiet = absurd (one_more r.failed (name.now, why) (sym cause.failed ∙ kept))
 finds_of asked r Write cause w bytes is tells good kept quiet = absurd (quiet cause.rose)
 finds_of asked r OutOfMemory cause w bytes is tells good kept quiet = inr refl
+
+-- ---- where they tell a core of which an error holds, the work comes to no text
+
+finds_meets : (w : Walk) (bytes : List ℕ) (traces : List Trace) (f : Fault) → Finds bytes sample_layouts w.version w.interp traces → Meets bytes sample_layouts w.version w.interp f → ⊥
+finds_meets w bytes traces f found met =
+    let layout : found.walked.layout ≡ sample_layout = listed_one sample_layout found.walked.layout found.walked.chosen.listed in
+    meets_none w bytes f (record {
+      accepted = found.walked.accepted;
+      covered = subst (λ l. Covers l w.version) layout found.walked.chosen.covers;
+      faultless = subst (λ l. fault_by l bytes w.interp ≡ None) layout found.faultless;
+    }) met
+
+finds_means : (w : Walk) (bytes : List ℕ) (traces : List Trace) (error : CoreError) → Finds bytes sample_layouts w.version w.interp traces → error ≢ core.OutOfMemory → Means bytes sample_layouts w.version w.interp (Err error) → ⊥
+finds_means w bytes traces error found memory h =
+    let layout : found.walked.layout ≡ sample_layout = listed_one sample_layout found.walked.layout found.walked.chosen.listed in
+    means_none w bytes error (record {
+      accepted = found.walked.accepted;
+      covered = subst (λ l. Covers l w.version) layout found.walked.chosen.covers;
+      faultless = subst (λ l. fault_by l bytes w.interp ≡ None) layout found.faultless;
+    }) memory h
+
+reaches_text : (asked : Option Command) (told : Told) (w : Walk) (bytes text : List ℕ) (error : CoreError) → asked ≡ Some (walk w) → Tells told w.core bytes → error ≢ core.OutOfMemory → Means bytes sample_layouts w.version w.interp (Err error) → Reaches asked told (Ok text) → ⊥
+reaches_text asked told w bytes text error is tells memory means reached = by reached.command (some_same _ _ (sym reached.is_asked ∙ is)) reached.given reached.works
+  where
+    by : (command : Command) → command ≡ walk w → Gives told (core_file command) reached.core → Works command reached.core (Ok text) → ⊥
+    by command same given works =
+        let given2 : Gives told w.core reached.core = subst (λ c. Gives told (core_file c) reached.core) same given in
+        let works2 : Works (walk w) reached.core (Ok text) = subst (λ c. Works c reached.core (Ok text)) same works in
+        let bytes_are : reached.core ≡ bytes = given_told told w.core reached.core bytes given2 tells in
+        finds_means w bytes (map trace_of works2.0) error (subst (λ b. Finds b sample_layouts w.version w.interp (map trace_of works2.0)) bytes_are works2.2) memory means
+
+pub fails_of : (asked : Option Command) (r : Ran) (t : Trouble) → HasCause asked r t → (w : Walk) (bytes : List ℕ) (error : CoreError) → asked ≡ Some (walk w) → Tells r.told w.core bytes → error ≢ core.OutOfMemory → Means bytes sample_layouts w.version w.interp (Err error) → r.failed_after ≡ r.failed → (status_of t ≡ 1) ⊎ (status_of t ≡ 5)
+fails_of asked r (Work e) cause w bytes error is tells memory means kept = inl refl
+fails_of asked r Words cause w bytes error is tells memory means kept = absurd (cc (cause.0, is))
+fails_of asked r (File name why) cause w bytes error is tells memory means kept = absurd (one_more r.failed (name.now, why) (sym cause.failed ∙ kept))
+fails_of asked r Write cause w bytes error is tells memory means kept = absurd (reaches_text asked r.told w bytes cause.text error is tells memory means cause.reached)
+fails_of asked r OutOfMemory cause w bytes error is tells memory means kept = inr refl
+
+pub fails_printed : (asked : Option Command) (r : Ran) → IsPrinted asked r → (w : Walk) (bytes : List ℕ) (error : CoreError) → asked ≡ Some (walk w) → Tells r.told w.core bytes → error ≢ core.OutOfMemory → Means bytes sample_layouts w.version w.interp (Err error) → ⊥
+fails_printed asked r printed w bytes error is tells memory means = reaches_text asked r.told w bytes printed.text error is tells memory means printed.reached

@@ -218,6 +218,10 @@ pub fn run<F: Files, S: Sink, E: Sink>(
         → Tells (F.told files.old) asked.core core → IsFaultless asked core
         → F.failed files.new ≡ F.failed files.old → (Rose (S.faults out.old) (S.faults out.new) → ⊥)
         → (result ≡ 0) ⊎ (result ≡ 5) }
+    ensures fails { (asked : Walk) (core : List ℕ) (error : Cause) → command_of (texts words.now) ≡ Some (walk asked)
+        → Tells (F.told files.old) asked.core core → error ≢ CoreError.OutOfMemory
+        → Works (walk asked) core (Err error) → F.failed files.new ≡ F.failed files.old
+        → (result ≡ 1) ⊎ (result ≡ 5) }
     ensures complete { (command : Asked) → command_of (texts words.now) ≡ Some command
         → F.failed files.new ≡ F.failed files.old → (Rose (S.faults out.old) (S.faults out.new) → ⊥)
         → (result ≡ 0) ⊎ (result ≡ 1) ⊎ (result ≡ 5) }

@@ -2,7 +2,7 @@ use Rattle.std.proofs.Common.{◌≡◌, ◌↔◌, ◌⊎◌, ℕ, sym, ap, sub
 use Rattle.core_report.specs.Run.{status_of}
 use Rattle.core_report.specs.Words.{command_of, texts}
 use Rattle.core_report.proofs.Outcomes.{work_of, words_of, unread_of, cut_of, memory_of, refused_of, complete_of}
-use Rattle.core_report.proofs.Finds.{finds_of}
+use Rattle.core_report.proofs.Finds.{fails_of, fails_printed, finds_of}
 use Rattle.core_report.proofs.command.run.Goals as goal
 
 pub returns-in-Err-clause-failed : goal.returns-in-Err-clause-failed
@@ -31,3 +31,10 @@ returns-in-Err-clause-complete g c command is kept quiet =
 pub returns-in-Err-clause-finds : goal.returns-in-Err-clause-finds
 returns-in-Err-clause-finds g c asked core is tells good kept quiet =
     subst (λ n. (n ≡ 0) ⊎ (n ≡ 5)) (sym c.tell.ensures.status) (finds_of _ _ c.in-Err.trouble c.in-Err.ensures.ends asked core is tells good kept quiet)
+
+pub returns-in-Err-clause-fails : goal.returns-in-Err-clause-fails
+returns-in-Err-clause-fails g c asked core error is tells memory means kept =
+    subst (λ n. (n ≡ 1) ⊎ (n ≡ 5)) (sym c.tell.ensures.status) (fails_of _ _ c.in-Err.trouble c.in-Err.ensures.ends asked core error is tells memory means kept)
+
+pub returns-in-Ok-clause-fails : goal.returns-in-Ok-clause-fails
+returns-in-Ok-clause-fails g c asked core error is tells memory means kept = absurd (fails_printed _ _ c.in-Ok.ensures.ends asked core error is tells memory means)
