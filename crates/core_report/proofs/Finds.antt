@@ -1,6 +1,6 @@
 -- Where the files tell a core in which the walk has nothing to complain of, the work comes to no error.
-use Rattle.std.proofs.Common.{◌≡◌, ◌≢◌, ◌⊎◌, ℕ, zero, suc, List, [], ◌∷◌, rules, refl, sym, ap, subst, ◌∙◌, arith, inl, inr}
-use Rattle.std.specs.Prelude.{Option, Some, None, Ok, Err, Result, Contains, IfSome, map}
+use Rattle.std.proofs.Common.{◌≡◌, ◌≢◌, ◌⊎◌, ℕ, zero, suc, List, [], ◌∷◌, refl, sym, ap, subst, ◌∙◌, arith, inl, inr}
+use Rattle.std.specs.Prelude.{Option, Some, None, Ok, Err, Contains, IfSome, map}
 use Rattle.image_memory.specs.Memory.{Fault}
 use Rattle.image_memory.specs.Outside.{Told, Gives, Rose, bytes_of}
 use Rattle.py_layout.specs.declared.layout.Layout.{Layout}
@@ -12,7 +12,7 @@ use Rattle.core_report.specs.declared.error.CoreError.TheVariants as core
 use Rattle.core_report.specs.declared.command.Trouble.{Trouble}
 use Rattle.core_report.specs.declared.command.Trouble.TheVariants.{Work, Words, File, Write, OutOfMemory}
 use Rattle.core_report.specs.Words.{Command, Walk, walk, core_file}
-use Rattle.core_report.specs.Answer.{Finds, IsChosen, Means, Meets, fault_by}
+use Rattle.core_report.specs.Answer.{Finds, Means, Meets, fault_by}
 use Rattle.core_report.specs.Run.{Ran, Reaches, HasCause, IsFaultless, IsPrinted, Tells, Works, sample_layouts, status_of}
 use Rattle.core_report.proofs.Outcomes.{one_more}
 

@@ -1,8 +1,8 @@
 -- Words one by one.
-use Rattle.std.proofs.Common.{◌≡◌, ◌≢◌, ℕ, suc, ◌+◌, List, [], ◌∷◌, length, get_or, Option, None, refl, sym, ap, ◌∙◌, arith, map}
+use Rattle.std.proofs.Common.{◌≡◌, ◌≢◌, ℕ, suc, List, [], ◌∷◌, length, get_or, None, refl, sym, ap, ◌∙◌, arith}
 use Rattle.std.specs.Prelude.{String, string_bytes}
 use Rattle.std.specs.Global.{Global}
-use Rattle.core_report.specs.Words.{Walk, walk_words, texts}
+use Rattle.core_report.specs.Words.{walk_words, texts}
 
 not_five_lists : (ws : List (List ℕ)) → length ws ≢ 5 → walk_words ws ≡ None
 not_five_lists [] n = refl

@@ -1,12 +1,11 @@
 -- What the readers' answers mean of a core.
-use Rattle.std.proofs.Common.{◌≡◌, ℕ, List, [], ◌∷◌, rules, refl, arith}
-use Rattle.std.proofs.lemmas.Grind.{common_steps}
-use Rattle.std.specs.Prelude.{Option, Some, None, Ok, Err, Contains, All, AllPairs}
+use Rattle.std.proofs.Common.{ℕ, List, [], ◌∷◌, rules}
+use Rattle.std.specs.Prelude.{Err, Contains}
 use Rattle.elf64_core.specs.Header.{IsAccepted}
 use Rattle.image_memory.specs.Faults.{IsFirst}
 use Rattle.py_layout.specs.declared.layout.Layout.{Layout}
 use Rattle.py_layout.specs.declared.version.Version.{Version}
-use Rattle.py_layout.specs.Sound.{AreSound, Clash, Covers, IsSound}
+use Rattle.py_layout.specs.Sound.{AreSound, Covers, IsSound}
 use Rattle.py_stacks.specs.declared.error.StackError.{StackError}
 use Rattle.py_stacks.specs.declared.error.StackError.TheVariants as stack
 use Rattle.py_stacks.specs.StackError.{fault_of}

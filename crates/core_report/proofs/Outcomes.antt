@@ -1,5 +1,5 @@
 -- What each status of a run that gave up means.
-use Rattle.std.proofs.Common.{◌≡◌, ◌≢◌, ◌⊎◌, ◌↔◌, ℕ, ◌+◌, List, [], ◌∷◌, ◌++◌, length, Option, Some, None, Result, Ok, Err, refl, sym, ap, subst, ◌∙◌, arith, inl, inr, length-append, codes}
+use Rattle.std.proofs.Common.{◌≡◌, ◌≢◌, ◌⊎◌, ◌↔◌, ℕ, List, [], ◌∷◌, ◌++◌, length, Option, Some, None, Ok, Err, refl, sym, ap, subst, ◌∙◌, arith, inl, inr, length-append, codes}
 use Rattle.image_memory.specs.Outside.{Rose, AppendsFront}
 use Rattle.image_memory.specs.declared.faults.FileFault.{FileFault}
 use Rattle.image_memory.specs.declared.faults.FileFault.TheVariants as fault

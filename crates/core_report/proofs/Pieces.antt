@@ -1,5 +1,5 @@
 -- Pieces written one after another.
-use Rattle.std.proofs.Common.{◌≡◌, ℕ, suc, ◌+◌, ◌-◌, ◌^◌, ◌<◌, ◌≤◌, min, List, [], ◌∷◌, ◌++◌, length, take, drop, get_or, Option, map, refl, sym, ap, subst, ◌∙◌, arith, inl, inr, append_assoc, length-append, take-append-drop}
+use Rattle.std.proofs.Common.{◌≡◌, ℕ, ◌+◌, ◌<◌, ◌≤◌, List, [], ◌∷◌, ◌++◌, length, take, drop, get_or, Option, map, refl, sym, ap, subst, ◌∙◌, arith, inr, append_assoc, take-append-drop}
 use Rattle.std.proofs.lemmas.List.{take_more, take_at, append-nil, map-append}
 use Rattle.std.proofs.lemmas.List.Folds.{concat-append}
 use Rattle.std.proofs.KnownBytes.{Appends-trans}

@@ -1,5 +1,5 @@
 -- What a run of the top call means.
-use Rattle.std.specs.Prelude.{◌≡◌, ◌≢◌, ℕ, ◌++◌, ⊤, List, [], ◌∷◌, Option, Some, None, Result, Ok, Err, codes, map}
+use Rattle.std.specs.Prelude.{◌≡◌, ◌≢◌, ℕ, ◌++◌, List, [], ◌∷◌, Option, Some, None, Result, Ok, Err, codes, map}
 use Rattle.std.specs.Io.KnownBytes.{Appends}
 use Rattle.image_memory.specs.Outside.{Told, FailedNames, Gives, Rose, AppendsFront, bytes_of}
 use Rattle.image_memory.specs.declared.faults.FileFault.{FileFault}

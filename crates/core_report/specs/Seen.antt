@@ -1,5 +1,4 @@
 -- What the program's own words stand for.
-use Rattle.std.specs.Prelude.{ℕ, List}
 use Rattle.py_layout.specs.declared.version.Version.{Version}
 use Rattle.core_report.specs.Words as words
 use Rattle.core_report.specs.declared.words.Release.{Release}

@@ -1,5 +1,5 @@
 -- The text of a walk.
-use Rattle.std.specs.Prelude.{ℕ, ℤ, pos, negsuc, ◌++◌, ◌==◌, Bool, true, false, if◌then◌else◌, List, [], ◌∷◌, map, reverse, Option, Some, None, unwrap_or, codes, decimal, encode_utf8_all}
+use Rattle.std.specs.Prelude.{ℕ, ℤ, pos, negsuc, ◌++◌, ◌==◌, Bool, true, false, if◌then◌else◌, List, [], map, reverse, Option, Some, None, unwrap_or, codes, decimal, encode_utf8_all}
 use Rattle.std.specs.Fmt.{digits, signed_decimal}
 use Rattle.std.specs.List.{concat}
 use Rattle.py_layout.specs.Version.{version_text}

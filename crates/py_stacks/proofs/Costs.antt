@@ -1,8 +1,8 @@
 -- What reading a thread costs.
-use Rattle.std.proofs.Common.{◌≡◌, ℕ, ◌+◌, ◌≤◌, List, refl, ap, arith}
+use Rattle.std.proofs.Common.{◌≡◌, ℕ, ◌+◌, ◌≤◌, List, ap, arith}
 use Rattle.std.specs.Prelude.{Option, None, Ok}
 use Rattle.elf64_core.specs.Fields.{word_in}
-use Rattle.image_memory.specs.Memory.{Memory, Found, Fault, byte_at, record_at, word_at, ◌>>=◌}
+use Rattle.image_memory.specs.Memory.{Memory, Fault, byte_at, record_at, word_at}
 use Rattle.image_memory.specs.Seen.{Seen, Reads}
 use Rattle.image_memory.proofs.Reading.{reading_here}
 use Rattle.py_layout.specs.declared.layout.Layout.{Layout}

@@ -9,12 +9,12 @@ use Rattle.image_memory.specs.Memory.Fault.{ChainLimit, FrameLimit}
 use Rattle.image_memory.specs.Seen.{Answers, items_of}
 use Rattle.image_memory.specs.Walk.{Step, walk_at, first_fault, fault_in}
 use Rattle.image_memory.specs.Faults.{FaultsAre, faults_then}
-use Rattle.image_memory.proofs.Walks.{HasChain, walk_chain, walk_first_fault, faults_from_answer}
+use Rattle.image_memory.proofs.Walks.{walk_chain, walk_first_fault, faults_from_answer}
 use Rattle.py_layout.specs.declared.layout.Layout.{Layout}
 use Rattle.py_stacks.specs.declared.trace.Frame.{Frame}
 use Rattle.py_stacks.specs.declared.error.StackError.{StackError}
 use Rattle.py_stacks.specs.StackError.{fault_of}
-use Rattle.py_stacks.specs.Frames.{AreFrames, back_of, code_of, frame_faults, frame_limit, frame_next, frame_step, frames_at, frames_faults, is_entered, kept_after, kept_next, limit_faults, member_at, member_limit, members_at, name_at, or_skipped, part_of, shown, shown_as, shown_by, shown_by_records, step_of, visible}
+use Rattle.py_stacks.specs.Frames.{AreFrames, back_of, code_of, frame_faults, frame_limit, frame_next, frame_step, frames_at, frames_faults, kept_after, kept_next, limit_faults, member_at, member_limit, members_at, name_at, or_skipped, part_of, shown, shown_by, shown_by_records, step_of}
 use Rattle.py_stacks.proofs.Gather.{bound}
 
 pub ok_same : {X : Type 0} (x y : X) → ◌≡◌ {A = Found X} (Ok x) (Ok y) → x ≡ y

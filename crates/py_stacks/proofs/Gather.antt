@@ -1,20 +1,20 @@
 -- The walk along a thread's frames, member by member.
-use Rattle.std.proofs.Common.{◌≡◌, ◌≢◌, ℕ, ◌+◌, ◌-◌, ◌<◌, ◌≤◌, Bool, true, false, cond, ltb, List, [], ◌∷◌, ◌++◌, length, refl, sym, ◌∙◌, ap, subst, arith, length-append, inl, inr}
-use Rattle.std.specs.Prelude.{Option, Some, None, IsSome, ◌⊎◌, Result, Ok, Err, bytes_eq, ◌||◌}
+use Rattle.std.proofs.Common.{◌≡◌, ◌≢◌, ℕ, ◌+◌, ◌<◌, ◌≤◌, Bool, true, false, cond, ltb, List, [], ◌∷◌, ◌++◌, length, refl, sym, ◌∙◌, ap, arith, length-append, inl, inr}
+use Rattle.std.specs.Prelude.{Option, Some, None, IsSome, ◌⊎◌, Result, Ok, Err}
 use Rattle.std.proofs.lemmas.Bool.Decides.{nat_tests}
 use Rattle.elf64_core.specs.Fields.{word_in}
 use Rattle.image_memory.specs.Memory.{Memory, Found, Fault, ◌>>=◌, byte_at, record_at}
 use Rattle.image_memory.specs.Memory.Fault.{ChainLimit, FrameLimit}
-use Rattle.image_memory.specs.Seen.{Seen, Reading, Reads, Answers, FaultIs}
-use Rattle.image_memory.specs.Walk.{Step, walk_at, walk_cost}
+use Rattle.image_memory.specs.Seen.{Seen, Reads, Answers}
+use Rattle.image_memory.specs.Walk.{Step, walk_at}
 use Rattle.image_memory.proofs.Reading.{reading_gives, reading_here, answers_then, answers_stop}
-use Rattle.image_memory.proofs.Walks.{walking_init, walking_more, walking_done, walking_full, walking_lost, walking_stop}
+use Rattle.image_memory.proofs.Walks.{walking_init, walking_more, walking_done, walking_full, walking_stop}
 use Rattle.py_layout.specs.declared.layout.Layout.{Layout}
 use Rattle.py_stacks.specs.declared.trace.Frame.{Frame}
 use Rattle.py_stacks.specs.declared.error.StackError.{StackError}
 use Rattle.py_stacks.specs.declared.error.StackError.TheVariants as stack
 use Rattle.py_stacks.specs.StackError.{fault_of}
-use Rattle.py_stacks.specs.Frames.{code_of, frame_limit, frame_step, frames_at, frames_cost, is_entered, is_hidden, kept_after, member_at, member_limit, members_at, name_at, frame_named, shown, shown_by, step_of, visible, with_mark}
+use Rattle.py_stacks.specs.Frames.{code_of, frame_limit, frame_step, frames_at, frames_cost, is_entered, is_hidden, member_at, member_limit, members_at, name_at, frame_named, shown, shown_by, step_of, visible, with_mark}
 use Rattle.py_stacks.specs.Gathering.{Adds, Gathering, mark_last}
 use Rattle.py_stacks.proofs.Shown.{length-mark_last, shown-kept, shown-last, shown-skipped}
 

@@ -1,8 +1,8 @@
 -- Which frames are shown, and how they are marked, member by member.
-use Rattle.std.proofs.Common.{◌≡◌, ℕ, zero, suc, ◌+◌, ◌-◌, ◌<◌, ◌≤◌, Bool, true, false, List, [], ◌∷◌, ◌++◌, length, get_or, set, refl, sym, ◌∙◌, ap, arith}
+use Rattle.std.proofs.Common.{◌≡◌, ℕ, zero, suc, true, false, List, [], ◌∷◌, ◌++◌, length, get_or, set, refl, sym, ◌∙◌, ap, arith}
 use Rattle.std.specs.Prelude.{Option, Some, None}
 use Rattle.py_stacks.specs.declared.trace.Frame.{Frame}
-use Rattle.py_stacks.specs.Frames.{shown_by, begins_hidden, with_mark}
+use Rattle.py_stacks.specs.Frames.{shown_by, with_mark}
 use Rattle.py_stacks.specs.Gathering.{mark_last}
 
 -- marking the last frame is a write to its place

@@ -1,21 +1,21 @@
 -- What the walk along an interpreter's threads says in the subject's own words: the whole chain, and the first
 -- fault.
-use Rattle.std.proofs.Common.{◌≡◌, ℕ, ◌+◌, List, [], ◌∷◌, map, refl, sym, ◌∙◌, ap, subst, arith}
-use Rattle.std.specs.Prelude.{Option, Some, None, Result, Ok, Err, IfOk}
+use Rattle.std.proofs.Common.{◌≡◌, ℕ, ◌+◌, List, [], ◌∷◌, map, refl, sym, ◌∙◌, ap, subst}
+use Rattle.std.specs.Prelude.{Result, Ok, Err, IfOk}
 use Rattle.std.specs.Global.{Vec}
 use Rattle.elf64_core.specs.Fields.{word_in}
-use Rattle.image_memory.specs.Memory.{Memory, Found, Fault, ◌>>=◌, record_at, word_at}
+use Rattle.image_memory.specs.Memory.{Memory, Found, ◌>>=◌, record_at, word_at}
 use Rattle.image_memory.specs.Memory.Fault.{ThreadLimit}
 use Rattle.image_memory.specs.Seen.{Answers}
-use Rattle.image_memory.specs.Walk.{Step, walk_at, first_fault, fault_in}
-use Rattle.image_memory.specs.Faults.{FaultsAre, faults_then}
+use Rattle.image_memory.specs.Walk.{Step, first_fault, fault_in}
+use Rattle.image_memory.specs.Faults.{FaultsAre}
 use Rattle.image_memory.proofs.Walks.{walk_chain, walk_first_fault, faults_from_answer, then_same}
 use Rattle.py_layout.specs.declared.layout.Layout.{Layout}
 use Rattle.py_stacks.specs.declared.trace.Frame.{Frame}
 use Rattle.py_stacks.specs.declared.trace.StackTrace.{StackTrace}
 use Rattle.py_stacks.specs.declared.error.StackError.{StackError}
 use Rattle.py_stacks.specs.StackError.{fault_of}
-use Rattle.py_stacks.specs.Frames.{AreFrames, frames_at, frames_faults, part_of}
+use Rattle.py_stacks.specs.Frames.{AreFrames, frames_at, part_of}
 use Rattle.py_stacks.specs.Threads.{AreTraces, AreTracesOf, IsTraceOf, Trace, first_frame_at, thread_after, thread_at, thread_faults, thread_limit, thread_next, thread_step, threads_at, trace_by, trace_of, traces_at, traces_faults, traces_of_result}
 use Rattle.py_stacks.proofs.Gather.{bound}
 use Rattle.py_stacks.proofs.FrameLaws.{frames_found, frames_same, ok_same, then_same_twice}

@@ -1,15 +1,15 @@
 -- A thread is one step of the walk of threads.
-use Rattle.std.proofs.Common.{◌≡◌, ℕ, refl, arith}
-use Rattle.std.specs.Prelude.{Option, Ok, Err}
+use Rattle.std.proofs.Common.{◌≡◌, ℕ, refl}
+use Rattle.std.specs.Prelude.{Ok, Err}
 use Rattle.std.proofs.Math.Nat.{le_refl}
-use Rattle.image_memory.specs.Memory.{Memory, Fault, byte_at, ◌>>=◌}
+use Rattle.image_memory.specs.Memory.{Memory}
 use Rattle.image_memory.specs.Seen.{Seen, Reads, Answers}
 use Rattle.image_memory.specs.Walk.{Step}
 use Rattle.image_memory.proofs.Reading.{reading_gives, answers_stop}
 use Rattle.py_layout.specs.declared.layout.Layout.{Layout}
 use Rattle.py_stacks.specs.declared.error.StackError.{StackError}
 use Rattle.py_stacks.specs.StackError.{fault_of}
-use Rattle.py_stacks.specs.Threads.{Trace, thread_at, thread_cost, thread_step}
+use Rattle.py_stacks.specs.Threads.{Trace, thread_at, thread_step}
 
 step_goes : (l : Layout) (m : Memory) (owner at : ℕ) (next : ℕ) (trace : Trace) → thread_at l m owner at ≡ Ok (next, trace) → thread_step l m owner tt at ≡ Ok (record { next = next; state = tt; part = trace })
 unfolding thread_step

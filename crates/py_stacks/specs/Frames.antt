@@ -1,6 +1,6 @@
 -- The frames of a thread: what each member of their chain is, which are shown, and the faults on the way.
 -- Where the fields are a layout says; which members are shown, and the limits, are this project's rules.
-use Rattle.std.specs.Prelude.{◌≡◌, ℕ, ◌+◌, ◌*◌, ◌/◌, ◌^◌, ◌≤◌, nat_eq, nat_lt, Bool, true, false, not, ◌||◌, Option, Some, None, List, [], ◌∷◌, map, length, Result, Ok, Err, pos, if◌then◌else◌, codes, bytes_eq, encode_utf8_all}
+use Rattle.std.specs.Prelude.{◌≡◌, ℕ, ◌+◌, ◌*◌, ◌/◌, ◌^◌, ◌≤◌, nat_eq, nat_lt, Bool, true, false, not, ◌||◌, Option, Some, None, List, [], ◌∷◌, map, length, Ok, Err, pos, if◌then◌else◌, codes, bytes_eq, encode_utf8_all}
 use Rattle.elf64_core.specs.Fields.{word_in, byte_in}
 use Rattle.image_memory.specs.Memory.{Memory, Found, Fault, ◌>>=◌, record_at}
 use Rattle.image_memory.specs.Memory.Fault.{FrameLimit, ChainLimit}

@@ -1,5 +1,5 @@
 -- The frames of a thread under way.
-use Rattle.std.specs.Prelude.{◌≡◌, ℕ, ◌<◌, ◌≤◌, Bool, true, false, Option, Some, None, List, [], ◌∷◌, ◌++◌, length}
+use Rattle.std.specs.Prelude.{◌≡◌, ℕ, ◌<◌, ◌≤◌, true, false, Option, Some, None, List, [], ◌∷◌, ◌++◌, length}
 use Rattle.image_memory.specs.Memory.Fault.{ChainLimit}
 use Rattle.image_memory.specs.Seen.{Seen}
 use Rattle.image_memory.specs.Walk.{Walking}

@@ -1,5 +1,5 @@
 -- The threads of an interpreter, each with its frames, and the faults on the way.
-use Rattle.std.specs.Prelude.{◌≡◌, ℕ, ◌+◌, ◌≤◌, nat_eq, Bool, true, false, Option, Some, None, List, [], ◌∷◌, map, length, Result, Ok, Err, ℤ, pos, Vec}
+use Rattle.std.specs.Prelude.{◌≡◌, ℕ, ◌+◌, ◌≤◌, nat_eq, Bool, true, Option, Some, None, List, [], ◌∷◌, map, length, Result, Ok, Err, ℤ, pos, Vec}
 use Rattle.std.specs.Global.{Global}
 use Rattle.elf64_core.specs.Fields.{word_in}
 use Rattle.image_memory.specs.Memory.{Memory, Found, Fault, ◌>>=◌, record_at, word_at}

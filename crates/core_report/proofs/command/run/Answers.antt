@@ -1,5 +1,4 @@
-use Rattle.std.proofs.Common.{◌≡◌, ◌↔◌, ◌⊎◌, ℕ, sym, ap, subst, ◌∙◌, None}
-use Rattle.core_report.specs.Run.{status_of}
+use Rattle.std.proofs.Common.{◌≡◌, ◌↔◌, ◌⊎◌, sym, subst, ◌∙◌, None}
 use Rattle.core_report.specs.Words.{command_of, texts}
 use Rattle.core_report.proofs.Outcomes.{work_of, words_of, unread_of, cut_of, memory_of, refused_of, complete_of}
 use Rattle.core_report.proofs.Finds.{fails_of, fails_printed, finds_of}

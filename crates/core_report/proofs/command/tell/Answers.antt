@@ -1,4 +1,4 @@
-use Rattle.std.proofs.Common.{◌≡◌, sym, ap}
+use Rattle.std.proofs.Common.{sym, ap}
 use Rattle.core_report.specs.Lines.{line}
 use Rattle.core_report.specs.Run.{trouble_parts}
 use Rattle.core_report.proofs.Pieces.{says_as}

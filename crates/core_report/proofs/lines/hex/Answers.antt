@@ -1,6 +1,6 @@
-use Rattle.std.proofs.Common.{◌≡◌, sym, ap, subst, ◌%◌, ◌/◌, ◌-◌, arith}
+use Rattle.std.proofs.Common.{sym, subst, ◌/◌, ◌-◌, arith}
 use Rattle.std.specs.Prelude.{slice_set}
-use Rattle.core_report.proofs.Hex.{IsSpelt, start, step, end}
+use Rattle.core_report.proofs.Hex.{IsSpelt, start, step}
 use Rattle.core_report.proofs.lines.hex.Goals as goal
 
 pub loop-rest-init : goal.loop-rest-init

@@ -1,4 +1,4 @@
-use Rattle.std.proofs.Common.{◌≡◌, ◌≤◌, sym, ap, subst, refl, arith, ◌++◌, take, ◌+◌, get_or}
+use Rattle.std.proofs.Common.{sym, subst, arith}
 use Rattle.std.proofs.KnownBytes.{Appends-trans}
 use Rattle.std.specs.Io.KnownBytes.{Appends}
 use Rattle.core_report.proofs.Pieces.{cut_short, joined_more}

@@ -1,4 +1,4 @@
-use Rattle.std.proofs.Common.{◌≡◌, ◌∙◌, ◌∷◌, [], sym, ap, codes, ◌++◌}
+use Rattle.std.proofs.Common.{◌∙◌, ◌∷◌, [], sym, ap, codes}
 use Rattle.core_report.specs.Lines.{line, file_parts}
 use Rattle.core_report.proofs.Pieces.{says_as}
 use Rattle.core_report.proofs.lines.say_file.Goals as goal

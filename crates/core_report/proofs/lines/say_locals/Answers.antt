@@ -1,4 +1,4 @@
-use Rattle.std.proofs.Common.{◌≡◌, ◌∙◌, ◌∷◌, [], sym, ap, codes, ◌++◌, w32, rules}
+use Rattle.std.proofs.Common.{◌∙◌, ◌∷◌, [], ap, codes, w32, rules}
 use Rattle.std.proofs.lemmas.Int.{to_z-of_z}
 use Rattle.std.specs.Fmt.{signed_decimal}
 use Rattle.core_report.specs.Lines.{line}

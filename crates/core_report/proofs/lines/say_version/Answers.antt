@@ -1,5 +1,4 @@
-use Rattle.std.proofs.Common.{◌≡◌, ◌∙◌, ◌∷◌, [], List, ℕ, sym, ap, codes, ◌++◌, append_assoc}
-use Rattle.core_report.specs.Lines.{line}
+use Rattle.std.proofs.Common.{◌≡◌, ◌∙◌, ◌∷◌, List, ℕ, ap, codes, ◌++◌, append_assoc}
 use Rattle.core_report.proofs.Pieces.{says_as}
 use Rattle.core_report.proofs.lines.say_version.Goals as goal
 

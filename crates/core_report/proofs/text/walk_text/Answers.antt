@@ -1,4 +1,4 @@
-use Rattle.std.proofs.Common.{◌≡◌, ◌∙◌, ◌++◌, map, sym, ap, append_assoc, string_bytes, reverse}
+use Rattle.std.proofs.Common.{◌∙◌, ◌++◌, map, sym, ap, append_assoc, string_bytes, reverse}
 use Rattle.std.specs.List.{concat}
 use Rattle.core_report.specs.Text.{thread_text}
 use Rattle.core_report.proofs.Texts.{last_part}

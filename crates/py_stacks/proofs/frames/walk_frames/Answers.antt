@@ -1,7 +1,6 @@
-use Rattle.std.proofs.Common.{◌≡◌, ◌≢◌, ◌<◌, arith, ap, sym}
+use Rattle.std.proofs.Common.{arith, ap}
 use Rattle.std.proofs.lemmas.Result.{err_from_is_err_and}
 use Rattle.py_stacks.specs.StackError.{fault_of}
-use Rattle.py_stacks.specs.Frames.{member_limit}
 use Rattle.py_stacks.proofs.Gather.{gather_init, gather_more, gather_done, gather_full, gather_stop, gather_refused}
 use Rattle.py_stacks.proofs.frames.walk_frames.Goals as goal
 

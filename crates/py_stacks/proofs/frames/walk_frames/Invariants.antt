@@ -1,4 +1,4 @@
-use Rattle.std.proofs.Common.{◌-◌, ◌≤◌, vec_len}
+use Rattle.std.proofs.Common.{◌-◌}
 use Rattle.py_stacks.specs.Frames.{member_limit}
 use Rattle.py_stacks.specs.Gathering.{Gathering}
 use Rattle.py_stacks.proofs.frames.walk_frames.Given as goal

@@ -1,7 +1,6 @@
-use Rattle.std.proofs.Common.{◌≡◌, ◌+◌, ◌≤◌, arith, refl, ap, sym, ◌∙◌, length}
-use Rattle.std.specs.Prelude.{ℕ, Option, Ok, Err}
+use Rattle.std.proofs.Common.{◌≡◌, arith, refl, ap}
+use Rattle.std.specs.Prelude.{ℕ, Option}
 use Rattle.std.proofs.lemmas.Result.{err_from_is_err_and}
-use Rattle.image_memory.specs.Seen.{Reads}
 use Rattle.image_memory.proofs.Reading.{reads_next, reads_halt, reads_end}
 use Rattle.elf64_core.specs.Fields.{word_in}
 use Rattle.py_stacks.specs.declared.trace.Frame.{Frame}

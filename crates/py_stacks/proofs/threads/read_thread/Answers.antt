@@ -1,12 +1,10 @@
-use Rattle.std.proofs.Common.{◌≡◌, ℕ, ◌+◌, ◌≤◌, nat_eq, arith, refl, ap, sym, ◌∙◌}
-use Rattle.std.specs.Prelude.{Ok, Err}
+use Rattle.std.proofs.Common.{arith, refl, ap}
 use Rattle.std.proofs.Math.Nat.{le_refl}
 use Rattle.std.proofs.lemmas.Result.{err_from_is_err_and}
-use Rattle.elf64_core.specs.Fields.{word_in}
 use Rattle.image_memory.proofs.Reading.{reads_next, reads_halt, reads_end}
 use Rattle.py_layout.proofs.Fields.{thread_fits}
 use Rattle.py_stacks.specs.StackError.{fault_of}
-use Rattle.py_stacks.specs.Threads.{Trace, native_id, thread_at, trace_by, trace_of}
+use Rattle.py_stacks.specs.Threads.{thread_at}
 use Rattle.py_stacks.proofs.Costs.{thread_costs, thread_costs_one, thread_budget}
 use Rattle.py_stacks.proofs.threads.read_thread.Goals as goal
 

@@ -1,4 +1,4 @@
-use Rattle.std.proofs.Common.{map, length, vec_len, ◌-◌}
+use Rattle.std.proofs.Common.{map, vec_len, ◌-◌}
 use Rattle.image_memory.specs.Memory.Fault.{ThreadLimit}
 use Rattle.image_memory.specs.Walk.{Walking}
 use Rattle.py_stacks.specs.Threads.{thread_step, thread_cost, thread_limit, trace_of}
