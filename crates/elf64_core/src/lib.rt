@@ -11,6 +11,8 @@ mod header;
 mod name;
 mod segment;
 mod steps;
+#[cfg(test)]
+mod tests;
 mod text;
 
 pub use error::ElfError;

@@ -21,6 +21,8 @@ mod real_files;
 mod real_sink;
 mod recorder;
 mod sink;
+#[cfg(test)]
+mod tests;
 mod view;
 
 pub use core_dump::CoreDump;
