@@ -49,7 +49,7 @@ fn core(alloc: Global) -> Result<Vec<u8>, AllocError> {
     Ok(bytes)
 }
 
-/// The same pieces of memory, handed in.
+/// The same memory in pieces, the last of which has more bytes than there are addresses for.
 fn part(alloc: Global) -> Result<Part, AllocError> {
     let pieces = vec![in alloc;
         Piece {
@@ -66,14 +66,14 @@ fn part(alloc: Global) -> Result<Part, AllocError> {
         },
         Piece {
             start: u64::MAX - 4,
-            bytes: HELD[32..].to_vec(alloc)?
+            bytes: b"CCCCCCC".to_vec(alloc)?
         },
     ]?;
     Ok(Part::of(alloc, pieces))
 }
 
 /// Addresses and lengths, and the bytes there, if they are in memory.
-const READS: [(u64, u16, Option<&[u8]>); 17] = [
+const READS: [(u64, u16, Option<&[u8]>); 18] = [
     (0x100c, 8, Some(b"AAAABBBB")),
     (0x1000, 24, Some(b"AAAAAAAAAAAAAAAABBBBBBBB")),
     (0x1010, 1, Some(b"B")),
@@ -89,6 +89,7 @@ const READS: [(u64, u16, Option<&[u8]>); 17] = [
     (u64::MAX - 4, 4, Some(b"CCCC")),
     (u64::MAX - 4, 5, None),
     (u64::MAX, 1, None),
+    (0, 1, None),
     (u64::MAX, 0, Some(b"")),
     (0, 0, Some(b"")),
 ];
@@ -139,7 +140,8 @@ fn each_memory_answers_the_same(rt: HostRuntime) -> Result<(), Fail> {
     check_reads(&rt, alloc, &mut Recorder::new(alloc, core.view()))?;
     let mut part = part(alloc)?;
     check_reads(&rt, alloc, &mut part)?;
-    check_reads(&rt, alloc, &mut Recorder::new(alloc, &mut part))?;
+    let mut recorder = Recorder::new(alloc, &mut part);
+    check_reads(&rt, alloc, &mut &mut recorder)?;
     Ok(())
 }
 
