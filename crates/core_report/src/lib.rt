@@ -17,3 +17,5 @@ pub use error::CoreError;
 
 #[cfg(test)]
 mod tests;
+#[cfg(test)]
+mod walk_tests;
