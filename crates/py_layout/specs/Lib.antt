@@ -2,3 +2,10 @@ pub mod Places
 pub mod Sound
 pub mod Samples
 pub mod Version
+pub mod Keys
+pub mod Words
+pub mod Values
+pub mod Faults
+pub mod File
+pub mod FaultPath
+pub mod Reading

@@ -1,9 +1,13 @@
 //! Lists of layouts of which each is sound, and no two clash.
-ghost use Rattle.std.specs.Prelude.{◌≡◌, ℕ, ◌↔◌, IsTrue, IsOk, IsNone, MatchOption, IfOk, IfErr, IfSome, All, AllPairs, Contains, length};
+ghost use Rattle.std.specs.Prelude.{◌≡◌, ◌≢◌, ℕ, List, Result, Ok, Err, ◌↔◌, IsTrue, IsOk, IsNone, MatchOption, IfOk, IfErr, IfSome, All, AllPairs, Contains, length};
 ghost use Rattle.std.specs.List.{AllWithin};
 ghost use Rattle.py_layout.specs.Sound.{Covers, IsSound, AreSound, Clash, IsFirstUnsound, IsFirstFrom, IsFirstClash, IsOfList};
+ghost use Rattle.py_layout.specs.File.{IsRightFor, IsUnlessMemory};
+ghost use Rattle.py_layout.specs.declared.error.LayoutError.{LayoutError};
+ghost use Rattle.py_layout.specs.declared.layout.Layout.{Layout};
 
 use crate::error::LayoutError;
+use crate::file::layouts_from_toml;
 use crate::layout::Layout;
 use crate::sound::is_sound;
 use crate::version::Version;
@@ -122,6 +126,17 @@ impl Layouts {
             return Err(LayoutError::Clash { first, second });
         }
         Ok(Layouts { list })
+    }
+
+    /// The layouts of a file.
+    pub fn from_toml(alloc: Global, text: &[u8]) -> Result<Layouts, LayoutError>
+        ensures right { IsRightFor text.now result }
+        ensures only { (answer : Result (List Layout) LayoutError)
+            → IsRightFor text.now answer
+            → answer ≢ Err LayoutError.OutOfMemory
+            → IsUnlessMemory answer result }
+    {
+        Layouts::of(alloc, layouts_from_toml(alloc, text)?)
     }
 
     /// Whether each layout of a list is sound and no two clash, so that `of` takes them.

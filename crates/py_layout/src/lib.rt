@@ -2,10 +2,16 @@
 #![tactic(auto)]
 
 mod error;
+mod families;
+mod faults;
+mod file;
+mod keys;
 mod layout;
 mod layouts;
 mod places;
+mod reading;
 mod sound;
+mod values;
 mod version;
 
 pub use error::LayoutError;

@@ -1,0 +1,204 @@
+-- The layout that a table without fault says: each field is the value of the key of its group and name.
+use Rattle.std.specs.Prelude.{List, Bool, ℕ, Option, Some, None, cond, codes, is_some}
+use Rattle.toml.specs.Data.{Members}
+use Rattle.py_layout.specs.Words.{families_of}
+use Rattle.py_layout.specs.Values.{group_at, number_at, optional_at, truth_at}
+use Rattle.py_layout.specs.declared.layout.InterpreterAt.{InterpreterAt}
+use Rattle.py_layout.specs.declared.layout.ThreadAt.{ThreadAt}
+use Rattle.py_layout.specs.declared.layout.CframeAt.{CframeAt}
+use Rattle.py_layout.specs.declared.layout.FrameAt.{FrameAt}
+use Rattle.py_layout.specs.declared.layout.CodeAt.{CodeAt}
+use Rattle.py_layout.specs.declared.layout.StringAt.{StringAt}
+use Rattle.py_layout.specs.declared.layout.BytesAt.{BytesAt}
+use Rattle.py_layout.specs.declared.layout.TupleAt.{TupleAt}
+use Rattle.py_layout.specs.declared.layout.ListAt.{ListAt}
+use Rattle.py_layout.specs.declared.layout.ObjectAt.{ObjectAt}
+use Rattle.py_layout.specs.declared.layout.KlassAt.{KlassAt}
+use Rattle.py_layout.specs.declared.layout.LongAt.{LongAt}
+use Rattle.py_layout.specs.declared.layout.ValueAt.{ValueAt}
+use Rattle.py_layout.specs.declared.layout.DictAt.{DictAt}
+use Rattle.py_layout.specs.declared.layout.KeysAt.{KeysAt}
+use Rattle.py_layout.specs.declared.layout.HeapAt.{HeapAt}
+use Rattle.py_layout.specs.declared.layout.GilAt.{GilAt}
+use Rattle.py_layout.specs.declared.layout.OffsetsAt.{OffsetsAt}
+use Rattle.py_layout.specs.declared.layout.Layout.{Layout}
+
+abbrev pub interpreter_of : Members → InterpreterAt
+interpreter_of ms = record {
+  threads = number_at ms (Some (codes "interpreter")) (codes "threads");
+  modules = number_at ms (Some (codes "interpreter")) (codes "modules");
+  gil = optional_at ms (Some (codes "interpreter")) (codes "gil");
+}
+
+abbrev pub thread_of : Members → ThreadAt
+thread_of ms = record {
+  size = number_at ms (Some (codes "thread")) (codes "size");
+  next = number_at ms (Some (codes "thread")) (codes "next");
+  interp = number_at ms (Some (codes "thread")) (codes "interp");
+  id = number_at ms (Some (codes "thread")) (codes "id");
+  frame = number_at ms (Some (codes "thread")) (codes "frame");
+  native_id = optional_at ms (Some (codes "thread")) (codes "native_id");
+}
+
+abbrev pub cframe_of : Members → CframeAt
+cframe_of ms = record {
+  current = number_at ms (Some (codes "cframe")) (codes "current");
+}
+
+abbrev pub frame_of : Members → FrameAt
+frame_of ms = record {
+  size = number_at ms (Some (codes "frame")) (codes "size");
+  code = number_at ms (Some (codes "frame")) (codes "code");
+  back = number_at ms (Some (codes "frame")) (codes "back");
+  instr = number_at ms (Some (codes "frame")) (codes "instr");
+  entry = optional_at ms (Some (codes "frame")) (codes "entry");
+  locals = number_at ms (Some (codes "frame")) (codes "locals");
+  code_tag_bits = number_at ms (Some (codes "frame")) (codes "code_tag_bits");
+}
+
+abbrev pub code_of : Members → CodeAt
+code_of ms = record {
+  size = number_at ms (Some (codes "code")) (codes "size");
+  argcount = number_at ms (Some (codes "code")) (codes "argcount");
+  nlocals = number_at ms (Some (codes "code")) (codes "nlocals");
+  first_line = number_at ms (Some (codes "code")) (codes "first_line");
+  filename = number_at ms (Some (codes "code")) (codes "filename");
+  name = number_at ms (Some (codes "code")) (codes "name");
+  table = number_at ms (Some (codes "code")) (codes "table");
+  varnames = number_at ms (Some (codes "code")) (codes "varnames");
+  start = optional_at ms (Some (codes "code")) (codes "start");
+}
+
+abbrev pub string_of : Members → StringAt
+string_of ms = record {
+  size = number_at ms (Some (codes "string")) (codes "size");
+  length = number_at ms (Some (codes "string")) (codes "length");
+  state = optional_at ms (Some (codes "string")) (codes "state");
+  pointer = optional_at ms (Some (codes "string")) (codes "pointer");
+  short_at = number_at ms (Some (codes "string")) (codes "short_at");
+  long_at = optional_at ms (Some (codes "string")) (codes "long_at");
+  kind_shift = optional_at ms (Some (codes "string")) (codes "kind_shift");
+  compact_bit = optional_at ms (Some (codes "string")) (codes "compact_bit");
+  ascii_bit = optional_at ms (Some (codes "string")) (codes "ascii_bit");
+}
+
+abbrev pub bytes_of : Members → BytesAt
+bytes_of ms = record {
+  size = number_at ms (Some (codes "bytes")) (codes "size");
+  length = number_at ms (Some (codes "bytes")) (codes "length");
+  at = number_at ms (Some (codes "bytes")) (codes "at");
+}
+
+abbrev pub tuple_of : Members → TupleAt
+tuple_of ms = record {
+  size = number_at ms (Some (codes "tuple")) (codes "size");
+  count = number_at ms (Some (codes "tuple")) (codes "count");
+  at = number_at ms (Some (codes "tuple")) (codes "at");
+}
+
+abbrev pub list_of : Members → ListAt
+list_of ms = record {
+  size = number_at ms (Some (codes "list")) (codes "size");
+  count = number_at ms (Some (codes "list")) (codes "count");
+  items = number_at ms (Some (codes "list")) (codes "items");
+}
+
+abbrev pub object_of : Members → ObjectAt
+object_of ms = record {
+  size = number_at ms (Some (codes "object")) (codes "size");
+  klass = number_at ms (Some (codes "object")) (codes "klass");
+}
+
+abbrev pub klass_of : Members → KlassAt
+klass_of ms = record {
+  size = number_at ms (Some (codes "klass")) (codes "size");
+  name = number_at ms (Some (codes "klass")) (codes "name");
+  flags = number_at ms (Some (codes "klass")) (codes "flags");
+  dict_offset = number_at ms (Some (codes "klass")) (codes "dict_offset");
+}
+
+abbrev pub long_of : Members → LongAt
+long_of ms = record {
+  size = number_at ms (Some (codes "long")) (codes "size");
+  count = number_at ms (Some (codes "long")) (codes "count");
+  digits = number_at ms (Some (codes "long")) (codes "digits");
+}
+
+abbrev pub value_of : Members → List ℕ → ValueAt
+value_of ms group = record { size = number_at ms (Some group) (codes "size"); value = number_at ms (Some group) (codes "value") }
+
+abbrev pub dict_of : Members → DictAt
+dict_of ms = record {
+  size = number_at ms (Some (codes "dict")) (codes "size");
+  keys = number_at ms (Some (codes "dict")) (codes "keys");
+  values = number_at ms (Some (codes "dict")) (codes "values");
+}
+
+abbrev pub keys_of : Members → KeysAt
+keys_of ms = record {
+  size = number_at ms (Some (codes "keys")) (codes "size");
+  used = number_at ms (Some (codes "keys")) (codes "used");
+  slots = optional_at ms (Some (codes "keys")) (codes "slots");
+  log2 = optional_at ms (Some (codes "keys")) (codes "log2");
+  kind = optional_at ms (Some (codes "keys")) (codes "kind");
+}
+
+abbrev pub heap_of : Members → HeapAt
+heap_of ms = record {
+  size = number_at ms (Some (codes "heap")) (codes "size");
+  cached_keys = number_at ms (Some (codes "heap")) (codes "cached_keys");
+  inline = number_at ms (Some (codes "heap")) (codes "inline");
+}
+
+abbrev pub gil_of : Members → GilAt
+gil_of ms = record {
+  size = number_at ms (Some (codes "gil")) (codes "size");
+  locked = number_at ms (Some (codes "gil")) (codes "locked");
+  holder = number_at ms (Some (codes "gil")) (codes "holder");
+}
+
+abbrev pub offsets_of : Members → OffsetsAt
+offsets_of ms = record {
+  size = number_at ms (Some (codes "offsets")) (codes "size");
+  head = number_at ms (Some (codes "offsets")) (codes "head");
+}
+
+-- whether a group is there
+abbrev pub has_group : Members → List ℕ → Bool
+has_group ms name = is_some (group_at ms name)
+
+unfoldable pub layout_of : Members → Layout
+layout_of ms = record {
+  major = number_at ms None (codes "major");
+  first_minor = number_at ms None (codes "first_minor");
+  last_minor = number_at ms None (codes "last_minor");
+  bytes_text = truth_at ms (codes "bytes_text");
+  head = (families_of ms).head;
+  lock = (families_of ms).lock;
+  frames = (families_of ms).frames;
+  lasti = (families_of ms).lasti;
+  lines = (families_of ms).lines;
+  strings = (families_of ms).strings;
+  integers = (families_of ms).integers;
+  dicts = (families_of ms).dicts;
+  managed = (families_of ms).managed;
+  interpreter = interpreter_of ms;
+  thread = thread_of ms;
+  cframe = cond (has_group ms (codes "cframe")) (Some (cframe_of ms)) None;
+  frame = frame_of ms;
+  code = code_of ms;
+  string = string_of ms;
+  bytes = bytes_of ms;
+  tuple = tuple_of ms;
+  list = list_of ms;
+  object = object_of ms;
+  klass = klass_of ms;
+  long = long_of ms;
+  small = value_of ms (codes "small");
+  float = value_of ms (codes "float");
+  dict = cond (has_group ms (codes "dict")) (Some (dict_of ms)) None;
+  keys = cond (has_group ms (codes "keys")) (Some (keys_of ms)) None;
+  heap = cond (has_group ms (codes "heap")) (Some (heap_of ms)) None;
+  gil = cond (has_group ms (codes "gil")) (Some (gil_of ms)) None;
+  offsets = cond (has_group ms (codes "offsets")) (Some (offsets_of ms)) None;
+}
