@@ -1,11 +1,11 @@
 -- What the readers' answers mean of a core.
 use Rattle.std.proofs.Common.{ℕ, List, [], ◌∷◌, rules}
-use Rattle.std.specs.Prelude.{Err, Contains}
+use Rattle.std.specs.Prelude.{AllPairs, Err, Contains}
 use Rattle.elf64_core.specs.Header.{IsAccepted}
 use Rattle.image_memory.specs.Faults.{IsFirst}
 use Rattle.py_layout.specs.declared.layout.Layout.{Layout}
 use Rattle.py_layout.specs.declared.version.Version.{Version}
-use Rattle.py_layout.specs.Sound.{AreSound, Covers, IsSound}
+use Rattle.py_layout.specs.Sound.{AreSound, Clash, Covers, IsSound}
 use Rattle.py_stacks.specs.declared.error.StackError.{StackError}
 use Rattle.py_stacks.specs.declared.error.StackError.TheVariants as stack
 use Rattle.py_stacks.specs.StackError.{fault_of}
@@ -15,6 +15,10 @@ use Rattle.core_report.specs.Answer.{IsWalked, Means, fault_by}
 -- one sound layout is a sound list
 pub one_sound : (l : Layout) → IsSound l → AreSound (l ∷ [])
 one_sound l s = record { each = search rules; apart = search rules }
+
+-- in a list of one no two clash
+pub one_apart : (l : Layout) → AllPairs (λ a b. ¬ Clash a b) (l ∷ [])
+one_apart l = search rules
 
 abbrev pub walked_by : (bytes : List ℕ) (layouts : List Layout) (version : Version) (layout : Layout) → IsAccepted bytes → Contains layouts layout → Covers layout version → IsWalked bytes layouts version
 walked_by bytes layouts version layout accepted listed covers = record { accepted = accepted; layout = layout; chosen = record { listed = listed; covers = covers } }

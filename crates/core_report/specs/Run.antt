@@ -1,5 +1,5 @@
 -- What a run of the top call means.
-use Rattle.std.specs.Prelude.{◌≡◌, ◌≢◌, ℕ, ◌++◌, List, [], ◌∷◌, Option, Some, None, Result, Ok, Err, codes, map}
+use Rattle.std.specs.Prelude.{◌≡◌, ◌≢◌, ℕ, ◌++◌, List, [], ◌∷◌, Option, Some, None, Result, Ok, Err, ⊤, codes, map}
 use Rattle.std.specs.Io.KnownBytes.{Appends}
 use Rattle.image_memory.specs.Outside.{Told, FailedNames, Gives, Rose, AppendsFront, bytes_of}
 use Rattle.image_memory.specs.declared.faults.FileFault.{FileFault}
@@ -8,34 +8,53 @@ use Rattle.py_stacks.specs.declared.trace.StackTrace.{StackTrace}
 use Rattle.core_report.specs.declared.error.CoreError.{CoreError}
 use Rattle.core_report.specs.declared.error.CoreError.TheVariants as core
 use Rattle.core_report.specs.declared.command.Trouble.{Trouble}
-use Rattle.core_report.specs.declared.command.Trouble.TheVariants.{Work, Words, File, Write, OutOfMemory}
-use Rattle.core_report.specs.Words.{Command, Walk, walk, core_file}
-use Rattle.core_report.specs.Lines.{core_parts, file_parts}
+use Rattle.core_report.specs.declared.command.Trouble.TheVariants.{Work, Words, File, Layouts, Write, OutOfMemory}
+use Rattle.core_report.specs.Words.{Command, LayoutSource, Names, Walk, walk, sample, file, core_file, layout_source}
+use Rattle.core_report.specs.Lines.{core_parts, file_parts, layout_parts}
 use Rattle.core_report.specs.Text.{walk_text}
-use Rattle.core_report.specs.Answer.{Finds, Means, fault_by}
+use Rattle.core_report.specs.Answer.{Finds, IsChosen, Means, fault_by}
 use Rattle.elf64_core.specs.Header.{IsAccepted}
+use Rattle.py_layout.specs.declared.error.LayoutError.{LayoutError}
+use Rattle.py_layout.specs.declared.error.LayoutError.TheVariants as layout
 use Rattle.py_layout.specs.declared.layout.Layout.{Layout}
+use Rattle.py_layout.specs.File.{IsRightFor}
 use Rattle.py_layout.specs.Samples.{sample_layout}
-use Rattle.py_layout.specs.Sound.{Covers}
 use Rattle.py_stacks.specs.Threads.{trace_of}
 
--- the layouts of a walk
+-- the layouts of a walk that names no file
 abbrev pub sample_layouts : List Layout
 sample_layouts = sample_layout ∷ []
 
--- what a command comes to over the bytes of its core: the text of the traces that it finds, or the cause why
--- there are none
-abbrev pub Works : Command → List ℕ → Result (List ℕ) CoreError → Type 0
-Works (walk w) core (Ok text) = (traces : List StackTrace) × (text ≡ walk_text w.version traces) × Finds core sample_layouts w.version w.interp (map trace_of traces)
-Works (walk w) core (Err error) = Means core sample_layouts w.version w.interp (Err error)
+-- the layouts of a source, or the first error of its file, whose text is that of the told file
+abbrev pub SourceGives : Told → LayoutSource → Result (List Layout) LayoutError → Type 0
+SourceGives told sample answer = answer ≡ Ok sample_layouts
+SourceGives told (file name) answer = (text : List ℕ) × Gives told name text × IsRightFor text answer
 
--- A command is asked for, and over the bytes of its core, which are those of the told file, it comes to this result.
+-- what a command comes to over the bytes of its core: the text of the traces that it finds by the layouts, or
+-- the cause why there are none
+abbrev pub Works : Command → List ℕ → List Layout → Result (List ℕ) CoreError → Type 0
+Works (walk w) core layouts (Ok text) = (traces : List StackTrace) × (text ≡ walk_text w.version traces) × Finds core layouts w.version w.interp (map trace_of traces)
+Works (walk w) core layouts (Err error) = Means core layouts w.version w.interp (Err error)
+
+-- A command is asked for, and over the bytes of its core, which are those of the told file, and by the layouts
+-- of its source, it comes to this result.
 pub record Reaches (asked : Option Command) (told : Told) (result : Result (List ℕ) CoreError) : Type 0 where
   pub command : Command
   pub is_asked : asked ≡ Some command
   pub core : List ℕ
   pub given : Gives told (core_file command) core
-  pub works : Works command core result
+  pub layouts : List Layout
+  pub said : SourceGives told (layout_source command) (Ok layouts)
+  pub works : Works command core layouts result
+
+-- A command is asked for, its core was read, and its layout file has this error.
+pub record HasBadLayouts (asked : Option Command) (told : Told) (error : LayoutError) : Type 0 where
+  pub command : Command
+  pub is_asked : asked ≡ Some command
+  pub core : List ℕ
+  pub given : Gives told (core_file command) core
+  pub said : SourceGives told (layout_source command) (Err error)
+  pub not_memory : error ≢ layout.OutOfMemory
 
 -- the files and the stream before and after
 pub record Ran : Type 0 where
@@ -67,11 +86,11 @@ pub record IsCut (asked : Option Command) (r : Ran) : Type 0 where
   pub rose : Rose r.faults r.faults_after
   pub failed : r.failed_after ≡ r.failed
 
--- the file that the command names could not be read
+-- a file that the command names could not be read
 pub record IsUnread (asked : Option Command) (r : Ran) (name : List ℕ) (why : FileFault) : Type 0 where
   pub command : Command
   pub is_asked : asked ≡ Some command
-  pub named : core_file command ≡ name
+  pub named : Names command name
   pub not_memory : why ≢ fault.OutOfMemory
   pub failed : r.failed_after ≡ r.failed ++ (name, why) ∷ []
   pub written : r.written_after ≡ r.written
@@ -81,6 +100,7 @@ abbrev pub HasCause : Option Command → Ran → Trouble → Type 0
 HasCause asked r (Work error) = (error ≢ core.OutOfMemory) × Reaches asked r.told (Err error) × IsQuiet r
 HasCause asked r Words = (asked ≡ None) × IsQuiet r
 HasCause asked r (File name why) = IsUnread asked r name.now why
+HasCause asked r (Layouts error) = HasBadLayouts asked r.told error × IsQuiet r
 HasCause asked r Write = IsCut asked r
 HasCause asked r OutOfMemory = ((command : Command) × (asked ≡ Some command)) × IsQuiet r
 
@@ -96,12 +116,14 @@ status_of Words = 2
 status_of (File _ _) = 3
 status_of Write = 4
 status_of OutOfMemory = 5
+status_of (Layouts _) = 6
 
 -- the parts of its line
 abbrev pub trouble_parts : Trouble → List (List ℕ)
 trouble_parts (Work error) = core_parts error
 trouble_parts Words = codes "bad words" ∷ []
 trouble_parts (File name why) = file_parts name.now why
+trouble_parts (Layouts error) = layout_parts error
 trouble_parts Write = codes "cannot write" ∷ []
 trouble_parts OutOfMemory = codes "out of memory" ∷ []
 
@@ -109,8 +131,28 @@ trouble_parts OutOfMemory = codes "out of memory" ∷ []
 abbrev pub Tells : Told → List ℕ → List ℕ → Type 0
 Tells told name bytes = (files : List (List ℕ × List ℕ)) × (told ≡ Some files) × (bytes_of files name ≡ Some bytes)
 
+-- the files tell these layouts of a source, or this error of its file
+abbrev pub TellsLayouts : Told → LayoutSource → Result (List Layout) LayoutError → Type 0
+TellsLayouts told sample answer = answer ≡ Ok sample_layouts
+TellsLayouts told (file name) answer = (text : List ℕ) × Tells told name text × IsRightFor text answer
+
 -- a core in which the walk of a command has nothing to complain of
-pub record IsFaultless (w : Walk) (core : List ℕ) : Type 0 where
+pub record IsFaultless (w : Walk) (core : List ℕ) (layouts : List Layout) : Type 0 where
   pub accepted : IsAccepted core
-  pub covered : Covers sample_layout w.version
-  pub faultless : fault_by sample_layout core w.interp ≡ None
+  pub layout : Layout
+  pub chosen : IsChosen layouts w.version layout
+  pub faultless : fault_by layout core w.interp ≡ None
+
+-- what may be wrong with a layout file's text, or want of memory
+abbrev pub IsTextTrouble : List ℕ → Trouble → Type 0
+IsTextTrouble text (Layouts error) = (error ≢ layout.OutOfMemory) × IsRightFor text (Err error)
+IsTextTrouble text OutOfMemory = ⊤
+IsTextTrouble text _ = ⊥
+
+-- what the reading of a source may leave where it gives no layouts: the fault of its file, the error of the
+-- file, or want of memory
+abbrev pub IsSourceTrouble : LayoutSource → Told → FailedNames → FailedNames → Trouble → Type 0
+IsSourceTrouble source told before after (File name why) = (source ≡ file name.now) × (why ≢ fault.OutOfMemory) × (after ≡ before ++ (name.now, why) ∷ [])
+IsSourceTrouble source told before after (Layouts error) = (error ≢ layout.OutOfMemory) × SourceGives told source (Err error) × (after ≡ before)
+IsSourceTrouble source told before after OutOfMemory = after ≡ before
+IsSourceTrouble source told before after _ = ⊥

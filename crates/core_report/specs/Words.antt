@@ -1,5 +1,5 @@
 -- The words of a command line, as lists of bytes, and what they ask for.
-use Rattle.std.specs.Prelude.{ℕ, ◌^◌, ◌==◌, ◌&&◌, Bool, nat_lt, nat_le, nat_eq, if◌then◌else◌, List, [], ◌∷◌, length, drop, map, Option, Some, None, option_and_then, option_map, bytes_eq, codes, string_bytes, String}
+use Rattle.std.specs.Prelude.{◌≡◌, ◌⊎◌, ℕ, ◌^◌, ◌==◌, ◌&&◌, Bool, nat_lt, nat_le, nat_eq, if◌then◌else◌, List, [], ◌∷◌, length, drop, map, Option, Some, None, option_and_then, option_map, bytes_eq, codes, string_bytes, String}
 use Rattle.std.specs.List.{list_all, position_or_len, starts_with, before_first, after_first}
 use Rattle.std.specs.Char.{digit_value}
 use Rattle.std.specs.Str.Parse.{digits_value}
@@ -39,9 +39,18 @@ release_of word = option_and_then (λ front. option_and_then (λ back.
     release_by (digits_in 10 3 front.0) (digits_in 10 3 back.0) (digits_in 10 3 back.1))
     (split_at_dot front.1)) (split_at_dot word)
 
+-- where the layouts come from: the sample, or the file of this name
+pub data LayoutSource : Type 0 where
+  sample : LayoutSource
+  file : List ℕ → LayoutSource
+
+abbrev pub source_of : List ℕ → LayoutSource
+source_of word = if bytes_eq word (codes "sample") then sample else file word
+
 -- a walk over the core of this name, from this interpreter
 pub record Walk : Type 0 where
   pub core : List ℕ
+  pub layouts : LayoutSource
   pub version : Version
   pub interp : ℕ
 
@@ -50,15 +59,15 @@ pub data Command : Type 0 where
   walk : Walk → Command
 
 -- a walk of these parts, where all are there and the lock is 0
-abbrev pub walk_by : List ℕ → Option Version → Option ℕ → Option ℕ → Option Walk
-walk_by core (Some version) (Some interp) (Some lock) =
-    if lock == 0 then Some (record { core = core; version = version; interp = interp }) else None
-walk_by core _ _ _ = None
+abbrev pub walk_by : List ℕ → LayoutSource → Option Version → Option ℕ → Option ℕ → Option Walk
+walk_by core layouts (Some version) (Some interp) (Some lock) =
+    if lock == 0 then Some (record { core = core; layouts = layouts; version = version; interp = interp }) else None
+walk_by core layouts _ _ _ = None
 
--- CORE sample VERSION INTERP LOCK
+-- CORE LAYOUTS VERSION INTERP LOCK
 abbrev pub walk_words : List (List ℕ) → Option Walk
 walk_words (core ∷ layouts ∷ version ∷ interp ∷ lock ∷ []) =
-    if bytes_eq layouts (codes "sample") then walk_by core (release_of version) (number_of interp) (number_of lock) else None
+    walk_by core (source_of layouts) (release_of version) (number_of interp) (number_of lock)
 walk_words _ = None
 
 -- the command's name, and then its words
@@ -66,9 +75,17 @@ abbrev pub command_of : List (List ℕ) → Option Command
 command_of [] = None
 command_of (name ∷ words) = if bytes_eq name (codes "walk") then option_map (λ w. walk w) (walk_words words) else None
 
--- the file that a command names
+-- the core's file that a command names
 abbrev pub core_file : Command → List ℕ
 core_file (walk w) = w.core
+
+-- where a command's layouts come from
+abbrev pub layout_source : Command → LayoutSource
+layout_source (walk w) = w.layouts
+
+-- a command names this file
+abbrev pub Names : Command → List ℕ → Type 0
+Names command name = (core_file command ≡ name) ⊎ (layout_source command ≡ file name)
 
 abbrev pub texts : List (String Global) → List (List ℕ)
 texts words = map (λ word. string_bytes word) words

@@ -1,21 +1,23 @@
 //! The top call.
-ghost use Rattle.std.specs.Prelude.{◌≡◌, ◌≢◌, ◌≤◌, ◌↔◌, ◌⊎◌, ◌++◌, [], ◌∷◌, List, ℕ, Some, None, Ok, Err, codes, string_bytes, MatchResult, IfOk};
+ghost use Rattle.std.specs.Prelude.{◌≡◌, ◌≢◌, ◌≤◌, ◌↔◌, ◌⊎◌, ◌++◌, [], ◌∷◌, List, ℕ, Some, None, Ok, Err, codes, string_bytes, MatchResult, IfErr, IfOk};
 ghost use Rattle.std.specs.Io.KnownBytes.{Appends};
 ghost use Rattle.image_memory.specs.Outside.{Rose, AppendsFront};
 ghost use Rattle.image_memory.specs.declared.faults.FileFault.{FileFault as Why};
+ghost use Rattle.py_layout.specs.File.{IsRightFor};
+ghost use Rattle.py_layout.specs.declared.error.LayoutError.{LayoutError as Flaw};
 ghost use Rattle.core_report.specs.declared.error.CoreError.{CoreError as Cause};
-ghost use Rattle.core_report.specs.Words.{Command as Asked, Walk, command_of, core_file, texts, walk};
-ghost use Rattle.core_report.specs.Seen.{command_at, walk_at};
-ghost use Rattle.core_report.specs.Lines.{Says, line, core_parts, file_parts};
-ghost use Rattle.core_report.specs.Run.{Ends, IsFaultless, Reaches, Tells, Works, sample_layouts, status_of, trouble_parts};
+ghost use Rattle.core_report.specs.Words.{Command as Asked, Names, Walk, command_of, file, texts, walk};
+ghost use Rattle.core_report.specs.Seen.{command_at, source_at, walk_at};
+ghost use Rattle.core_report.specs.Lines.{Says, line, core_parts, file_parts, layout_parts};
+ghost use Rattle.core_report.specs.Run.{Ends, HasBadLayouts, IsFaultless, IsSourceTrouble, IsTextTrouble, Reaches, SourceGives, Tells, TellsLayouts, Works, sample_layouts, status_of, trouble_parts};
 
 use crate::CoreError;
 use crate::core_walk::walk;
-use crate::lines::{say_core, say_file, say_text};
+use crate::lines::{say_core, say_file, say_layouts, say_text};
 use crate::text::walk_text;
-use crate::words::{Command, WalkWords, read_words};
+use crate::words::{Command, LayoutSource, WalkWords, read_words};
 use image_memory::{FileFault, Files, Sink};
-use py_layout::{Layout, Layouts};
+use py_layout::{Layout, LayoutError, Layouts};
 use py_stacks::Addresses;
 use std::alloc::{AllocError, Global};
 
@@ -26,15 +28,17 @@ pub(crate) enum Trouble<'a> {
     Work(CoreError),
     /// The words ask for nothing.
     Words,
-    /// The file that they name could not be read.
+    /// A file that they name could not be read.
     File { name: &'a str, fault: FileFault },
+    /// The layout file has a fault.
+    Layouts(LayoutError),
     /// The text could not be written.
     Write,
     /// There was no memory left.
     OutOfMemory,
 }
 
-/// The one layout of a walk: the sample.
+/// The one layout of a walk that names no layout file: the sample.
 fn sample_layouts(alloc: Global) -> Result<Layouts, AllocError>
     ensures { IfOk result (λ layouts. layouts ≡ sample_layouts) }
 {
@@ -45,23 +49,77 @@ fn sample_layouts(alloc: Global) -> Result<Layouts, AllocError>
     }
 }
 
+/// The layouts of a file's text.
+fn layouts_from_text<'a>(alloc: Global, text: &[u8]) -> Result<Layouts, Trouble<'a>>
+    ensures { MatchResult result (λ layouts. IsRightFor text.now (Ok layouts)) (IsTextTrouble text.now) }
+{
+    match Layouts::from_toml(alloc, text) {
+        Ok(layouts) => Ok(layouts),
+        Err(LayoutError::OutOfMemory) => Err(Trouble::OutOfMemory),
+        Err(error) => Err(Trouble::Layouts(error)),
+    }
+}
+
+/// The layouts of a file.
+fn layouts_from_file<'a, F: Files>(
+    alloc: Global,
+    name: &'a str,
+    files: &mut F,
+) -> Result<Layouts, Trouble<'a>>
+    ensures told { F.told files.new ≡ F.told files.old }
+    ensures ok { IfOk result (λ layouts. SourceGives (F.told files.old) (file name.now) (Ok layouts)
+        × (F.failed files.new ≡ F.failed files.old)) }
+    ensures trouble { IfErr result (IsSourceTrouble (file name.now) (F.told files.old) (F.failed files.old) (F.failed files.new)) }
+{
+    let text = match files.read(alloc, name.as_bytes()) {
+        Ok(text) => text,
+        Err(FileFault::OutOfMemory) => return Err(Trouble::OutOfMemory),
+        Err(fault) => return Err(Trouble::File { name, fault }),
+    };
+    layouts_from_text(alloc, &text)
+}
+
+/// The layouts of a walk.
+fn read_layouts<'a, F: Files>(
+    alloc: Global,
+    source: &LayoutSource<'a>,
+    files: &mut F,
+) -> Result<Layouts, Trouble<'a>>
+    ensures told { F.told files.new ≡ F.told files.old }
+    ensures ok { IfOk result (λ layouts. SourceGives (F.told files.old) (source_at source.now) (Ok layouts)
+        × (F.failed files.new ≡ F.failed files.old)) }
+    ensures trouble { IfErr result (IsSourceTrouble (source_at source.now) (F.told files.old) (F.failed files.old) (F.failed files.new)) }
+{
+    match source {
+        LayoutSource::Sample => match sample_layouts(alloc) {
+            Ok(layouts) => Ok(layouts),
+            Err(_) => Err(Trouble::OutOfMemory),
+        },
+        LayoutSource::File(name) => layouts_from_file(alloc, name, files),
+    }
+}
+
 /// The text of a walk over a core's bytes.
-fn work(alloc: Global, words: &WalkWords<'_>, core: Vec<u8>) -> Result<String, CoreError>
-    ensures { MatchResult result (λ text. Works (walk (walk_at words.now)) core.items (Ok (string_bytes text)))
-        (λ error. error ≢ CoreError.OutOfMemory → Works (walk (walk_at words.now)) core.items (Err error)) }
+fn work(
+    alloc: Global,
+    words: &WalkWords<'_>,
+    core: Vec<u8>,
+    layouts: &Layouts,
+) -> Result<String, CoreError>
+    ensures { MatchResult result (λ text. Works (walk (walk_at words.now)) core.items layouts.now (Ok (string_bytes text)))
+        (λ error. error ≢ CoreError.OutOfMemory → Works (walk (walk_at words.now)) core.items layouts.now (Err error)) }
 {
     let version = words.version.version(alloc)?;
     let addresses = Addresses {
         interpreter: words.interp,
         lock: 0,
     };
-    let layouts = sample_layouts(alloc)?;
-    let traces = walk(alloc, core, &layouts, &version, &addresses)?;
+    let traces = walk(alloc, core, layouts, &version, &addresses)?;
     let text = walk_text(alloc, &version, &traces)?;
     Ok(text)
 }
 
-/// Reads the core that a walk names, works and writes the text.
+/// Reads the files that a walk names, works and writes the text.
 fn execute_walk<'a, F: Files, S: Sink>(
     alloc: Global,
     words: &WalkWords<'a>,
@@ -89,7 +147,11 @@ fn execute_walk<'a, F: Files, S: Sink>(
             });
         }
     };
-    let text = match work(alloc, words, core) {
+    let layouts = match read_layouts(alloc, &words.layouts, files) {
+        Ok(layouts) => layouts,
+        Err(trouble) => return Err(trouble),
+    };
+    let text = match work(alloc, words, core, &layouts) {
         Ok(text) => text,
         Err(CoreError::OutOfMemory) => return Err(Trouble::OutOfMemory),
         Err(error) => return Err(Trouble::Work(error)),
@@ -153,22 +215,28 @@ fn tell<E: Sink>(err: &mut E, trouble: &Trouble<'_>) -> u8
             say_text(err, "out of memory");
             5
         }
+        Trouble::Layouts(error) => {
+            say_layouts(err, error);
+            6
+        }
     }
 }
 
-/// Does what the words ask for: `walk CORE sample VERSION INTERP 0`, with no program's name before it.
+/// Does what the words ask for: `walk CORE LAYOUTS VERSION INTERP 0`, with no program's name before it.
+/// `LAYOUTS` is `sample`, for `py_layout::Layout::sample`, or else the name of a layout file.
 ///
-/// The words are judged, the file that they name is read, the work is done, and its whole text is written
-/// to `out` by one call; `files` is asked for no other name. The answer is the status with which a program
-/// ends. Under each but 0 one line, `pystacks: ` and the cause, is written to `err`, and a fault of `err`
-/// changes no status.
+/// The words are judged, the core is read, and then the layout file, where one is named; the layouts are
+/// checked, the work is done, and its whole text is written to `out` by one call. `files` is asked for no
+/// other name. The answer is the status with which a program ends. Under each but 0 one line, `pystacks: `
+/// and the cause, is written to `err`, and a fault of `err` changes no status.
 ///
 /// - 0: the whole text was written.
 /// - 1: the core gives no stacks.
 /// - 2: the words ask for nothing.
-/// - 3: the file that they name can't be read, or is too long.
+/// - 3: a file that they name can't be read, or is too long.
 /// - 4: the text can't be written; a front of it may have been.
 /// - 5: there is no memory left.
+/// - 6: the layout file has a fault, as `py_layout::Layouts::from_toml` orders them.
 pub fn run<F: Files, S: Sink, E: Sink>(
     alloc: Global,
     words: &[String],
@@ -176,7 +244,7 @@ pub fn run<F: Files, S: Sink, E: Sink>(
     out: &mut S,
     err: &mut E,
 ) -> u8
-    ensures statuses { result ≤ 5 }
+    ensures statuses { result ≤ 6 }
 
     // 0: the whole text was written
     ensures printed { result ≡ 0 → (text : List ℕ) × Reaches (command_of (texts words.now)) (F.told files.old) (Ok text)
@@ -193,11 +261,11 @@ pub fn run<F: Files, S: Sink, E: Sink>(
     ensures refused_line { result ≡ 2
         → Says (E.written err.old) (E.written err.new) (E.faults err.old) (E.faults err.new) (line (codes "bad words" ∷ [])) }
 
-    // 3: exactly where the file that the words name could not be read
-    ensures unread { result ≡ 3 → (command : Asked) × (why : Why) × (command_of (texts words.now) ≡ Some command)
-        × (why ≢ FileFault.OutOfMemory)
-        × (F.failed files.new ≡ F.failed files.old ++ (core_file command, why) ∷ [])
-        × Says (E.written err.old) (E.written err.new) (E.faults err.old) (E.faults err.new) (line (file_parts (core_file command) why)) }
+    // 3: exactly where a file that the words name could not be read
+    ensures unread { result ≡ 3 → (command : Asked) × (name : List ℕ) × (why : Why) × (command_of (texts words.now) ≡ Some command)
+        × Names command name × (why ≢ FileFault.OutOfMemory)
+        × (F.failed files.new ≡ F.failed files.old ++ (name, why) ∷ [])
+        × Says (E.written err.old) (E.written err.new) (E.faults err.old) (E.faults err.new) (line (file_parts name why)) }
     ensures all_read { result ≢ 3 → F.failed files.new ≡ F.failed files.old }
 
     // 4: the write failed, after a front of the text
@@ -210,21 +278,32 @@ pub fn run<F: Files, S: Sink, E: Sink>(
     ensures no_memory { result ≡ 5
         → Says (E.written err.old) (E.written err.new) (E.faults err.old) (E.faults err.new) (line (codes "out of memory" ∷ [])) }
 
+    // 6: exactly where the layout file has an error, want of memory aside
+    ensures ill_laid { result ≡ 6 → (error : Flaw) × HasBadLayouts (command_of (texts words.now)) (F.told files.old) error
+        × Says (E.written err.old) (E.written err.new) (E.faults err.old) (E.faults err.new) (line (layout_parts error)) }
+
     ensures nothing_out { result ≢ 0 → result ≢ 4 → S.written out.new ≡ S.written out.old }
     ensures told { F.told files.new ≡ F.told files.old }
 
-    // Where the words ask for a command and no fault rises, only the work and memory decide.
-    ensures finds { (asked : Walk) (core : List ℕ) → command_of (texts words.now) ≡ Some (walk asked)
-        → Tells (F.told files.old) asked.core core → IsFaultless asked core
+    // Where the words ask for a command and no fault rises, only the layout file, the work and memory decide.
+    ensures finds { (asked : Walk) (core : List ℕ) (layouts : List Layout) → command_of (texts words.now) ≡ Some (walk asked)
+        → Tells (F.told files.old) asked.core core → TellsLayouts (F.told files.old) asked.layouts (Ok layouts)
+        → IsFaultless asked core layouts
         → F.failed files.new ≡ F.failed files.old → (Rose (S.faults out.old) (S.faults out.new) → ⊥)
         → (result ≡ 0) ⊎ (result ≡ 5) }
-    ensures fails { (asked : Walk) (core : List ℕ) (error : Cause) → command_of (texts words.now) ≡ Some (walk asked)
-        → Tells (F.told files.old) asked.core core → error ≢ CoreError.OutOfMemory
-        → Works (walk asked) core (Err error) → F.failed files.new ≡ F.failed files.old
+    ensures fails { (asked : Walk) (core : List ℕ) (layouts : List Layout) (error : Cause)
+        → command_of (texts words.now) ≡ Some (walk asked)
+        → Tells (F.told files.old) asked.core core → TellsLayouts (F.told files.old) asked.layouts (Ok layouts)
+        → error ≢ CoreError.OutOfMemory → Works (walk asked) core layouts (Err error)
+        → F.failed files.new ≡ F.failed files.old
         → (result ≡ 1) ⊎ (result ≡ 5) }
+    ensures flawed { (asked : Walk) (error : Flaw) → command_of (texts words.now) ≡ Some (walk asked)
+        → TellsLayouts (F.told files.old) asked.layouts (Err error) → error ≢ LayoutError.OutOfMemory
+        → F.failed files.new ≡ F.failed files.old
+        → (result ≡ 6) ⊎ (result ≡ 5) }
     ensures complete { (command : Asked) → command_of (texts words.now) ≡ Some command
         → F.failed files.new ≡ F.failed files.old → (Rose (S.faults out.old) (S.faults out.new) → ⊥)
-        → (result ≡ 0) ⊎ (result ≡ 1) ⊎ (result ≡ 5) }
+        → (result ≡ 0) ⊎ (result ≡ 1) ⊎ (result ≡ 5) ⊎ (result ≡ 6) }
 {
     match execute(alloc, words, files, out) {
         Ok(()) => 0,

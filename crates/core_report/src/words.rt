@@ -1,7 +1,7 @@
 //! The words of the command line.
 ghost use Rattle.std.specs.Prelude.{◌≡◌, ◌≤◌, ◌∷◌, [], option_map, IfOk};
-ghost use Rattle.core_report.specs.Words.{command_of, digits_in, number_of, release_by, release_of, split_at_dot, texts, walk_by, walk_words};
-ghost use Rattle.core_report.specs.Seen.{command_at, version_at, walk_at};
+ghost use Rattle.core_report.specs.Words.{command_of, digits_in, number_of, release_by, release_of, source_of, split_at_dot, texts, walk_by, walk_words};
+ghost use Rattle.core_report.specs.Seen.{command_at, source_at, version_at, walk_at};
 
 use elf64_core::Text;
 use py_layout::Version;
@@ -19,9 +19,19 @@ pub(crate) enum Command<'a> {
 pub(crate) struct WalkWords<'a> {
     /// The core's file.
     pub(crate) core: &'a str,
+    pub(crate) layouts: LayoutSource<'a>,
     pub(crate) version: Release,
     /// The interpreter's address.
     pub(crate) interp: u64,
+}
+
+/// Where the layouts come from.
+#[derive(Clone, Copy)]
+pub(crate) enum LayoutSource<'a> {
+    /// The one layout of `Layout::sample`.
+    Sample,
+    /// The file of this name.
+    File(&'a str),
 }
 
 /// A version of three numbers alone.
@@ -106,17 +116,30 @@ fn release_of(word: &str) -> Option<Release>
     )
 }
 
-fn walk_by(
-    core: &str,
+/// The word `sample`, or else a file's name.
+fn source_of(word: &str) -> LayoutSource<'_>
+    ensures { source_at result ≡ source_of word.now }
+{
+    if word == "sample" {
+        LayoutSource::Sample
+    } else {
+        LayoutSource::File(word)
+    }
+}
+
+fn walk_by<'a>(
+    core: &'a str,
+    layouts: LayoutSource<'a>,
     version: Option<Release>,
     interp: Option<u64>,
     lock: Option<u64>,
-) -> Option<WalkWords<'_>>
-    ensures { option_map walk_at result ≡ walk_by core.now (option_map version_at version) interp lock }
+) -> Option<WalkWords<'a>>
+    ensures { option_map walk_at result ≡ walk_by core.now (source_at layouts.entry) (option_map version_at version) interp lock }
 {
     match (version, interp, lock) {
         (Some(version), Some(interp), Some(lock)) if lock == 0 => Some(WalkWords {
             core,
+            layouts,
             version,
             interp,
         }),
@@ -124,27 +147,7 @@ fn walk_by(
     }
 }
 
-fn walk_of<'a>(
-    core: &'a str,
-    layouts: &str,
-    version: &str,
-    interp: &str,
-    lock: &str,
-) -> Option<WalkWords<'a>>
-    ensures { option_map walk_at result ≡ walk_words (core.now ∷ layouts.now ∷ version.now ∷ interp.now ∷ lock.now ∷ []) }
-{
-    if layouts != "sample" {
-        return None;
-    }
-    walk_by(
-        core,
-        release_of(version),
-        number_of(interp),
-        number_of(lock),
-    )
-}
-
-/// `CORE sample VERSION INTERP 0`
+/// `CORE LAYOUTS VERSION INTERP 0`
 fn walk_words(words: &[String]) -> Option<WalkWords<'_>>
     ensures { option_map walk_at result ≡ walk_words (texts words.now) }
 {
@@ -160,7 +163,25 @@ fn walk_words(words: &[String]) -> Option<WalkWords<'_>>
     )
 }
 
-/// `walk CORE sample VERSION INTERP 0`
+fn walk_of<'a>(
+    core: &'a str,
+    layouts: &'a str,
+    version: &str,
+    interp: &str,
+    lock: &str,
+) -> Option<WalkWords<'a>>
+    ensures { option_map walk_at result ≡ walk_words (core.now ∷ layouts.now ∷ version.now ∷ interp.now ∷ lock.now ∷ []) }
+{
+    walk_by(
+        core,
+        source_of(layouts),
+        release_of(version),
+        number_of(interp),
+        number_of(lock),
+    )
+}
+
+/// `walk CORE LAYOUTS VERSION INTERP 0`
 pub(crate) fn read_words(words: &[String]) -> Option<Command<'_>>
     ensures { option_map command_at result ≡ command_of (texts words.now) }
 {
