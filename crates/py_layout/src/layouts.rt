@@ -128,7 +128,22 @@ impl Layouts {
         Ok(Layouts { list })
     }
 
-    /// The layouts of a file.
+    /// The layouts of a file: TOML with one top key, `layout`, an array of tables, which may be empty.
+    ///
+    /// The keys of a table are the fields of a `Layout`, and those of its groups; `docs/LAYOUTS.md`
+    /// describes each. Causes are looked for in this order:
+    ///
+    /// - `NotToml`: the text is not UTF-8, or not TOML. TOML's integers are those of an i64.
+    /// - `Shape` at the top of the file, which counts as table 0: `layout` where it is missing or no
+    ///   array, and else the first other key.
+    /// - `Shape` in the first table that has a fault: the first key, in the order of the fields of
+    ///   `Layout`, that is missing or has the wrong kind; else the first unknown key of the table, by
+    ///   bytes; else that of its first group with one. A key or group whose condition is not met counts
+    ///   as unknown. A key of a group is named `group.key`, and an element of the array that is no table
+    ///   `layout`.
+    /// - `Unsound` and `Clash`, as `of` has them.
+    ///
+    /// `OutOfMemory` may come in place of any other answer.
     pub fn from_toml(alloc: Global, text: &[u8]) -> Result<Layouts, LayoutError>
         ensures right { IsRightFor text.now result }
         ensures only { (answer : Result (List Layout) LayoutError)

@@ -24,4 +24,6 @@ pub use layouts::Layouts;
 pub use version::Version;
 
 #[cfg(test)]
+mod file_tests;
+#[cfg(test)]
 mod tests;

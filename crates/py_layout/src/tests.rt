@@ -8,7 +8,7 @@ use elf64_core::Text;
 use std::alloc::{AllocError, Global};
 use std::test::Fail;
 
-fn python_3_10() -> Layout {
+pub fn python_3_10() -> Layout {
     Layout {
         first_minor: 10,
         last_minor: 10,
@@ -18,7 +18,7 @@ fn python_3_10() -> Layout {
     }
 }
 
-fn python_3_12() -> Layout {
+pub fn python_3_12() -> Layout {
     let sample = Layout::sample();
     Layout {
         first_minor: 12,
