@@ -1,6 +1,6 @@
 -- What each status of a run that gave up means.
-use Rattle.std.proofs.Common.{◌≡◌, ◌≢◌, ◌⊎◌, ◌↔◌, ℕ, List, [], ◌∷◌, ◌++◌, length, Option, Some, None, Ok, Err, refl, sym, ap, subst, ◌∙◌, arith, inl, inr, length-append, codes}
-use Rattle.image_memory.specs.Outside.{Gives, Rose, AppendsFront}
+use Rattle.std.proofs.Common.{◌≡◌, ◌≢◌, ◌⊎◌, ◌↔◌, ℕ, List, [], ◌∷◌, ◌++◌, length, Option, Some, None, Ok, Err, refl, sym, ap, ◌∙◌, arith, inl, inr, length-append, codes}
+use Rattle.image_memory.specs.Outside.{Rose, AppendsFront}
 use Rattle.image_memory.specs.declared.faults.FileFault.{FileFault}
 use Rattle.image_memory.specs.declared.faults.FileFault.TheVariants as fault
 use Rattle.core_report.specs.declared.error.CoreError.{CoreError}
@@ -8,9 +8,9 @@ use Rattle.core_report.specs.declared.error.CoreError.TheVariants as core
 use Rattle.core_report.specs.declared.command.Trouble.{Trouble}
 use Rattle.core_report.specs.declared.command.Trouble.TheVariants.{Work, Words, File, Layouts, Write, OutOfMemory}
 use Rattle.py_layout.specs.declared.error.LayoutError.{LayoutError}
-use Rattle.core_report.specs.Words.{Command, Names, Walk, walk, file}
+use Rattle.core_report.specs.Words.{Command, Names}
 use Rattle.core_report.specs.Lines.{Says, line, core_parts, file_parts, layout_parts}
-use Rattle.core_report.specs.Run.{Ran, Reaches, HasBadLayouts, HasCause, IsSourceTrouble, status_of, trouble_parts}
+use Rattle.core_report.specs.Run.{Ran, Reaches, HasBadLayouts, HasCause, status_of, trouble_parts}
 
 module _ (asked : Option Command) (r : Ran) (a b : Option (List ℕ)) (before now : ℕ) where
   pub work_of : (t : Trouble) → HasCause asked r t → Says a b before now (line (trouble_parts t)) → status_of t ≡ 1
@@ -87,22 +87,3 @@ module _ (asked : Option Command) (r : Ran) where
   complete_of (Layouts error) cause command is kept quiet = inr (inr (inr refl))
   complete_of Write cause command is kept quiet = absurd (quiet cause.rose)
   complete_of OutOfMemory cause command is kept quiet = inr (inr (inl refl))
-
--- a source that gave no layouts is a cause, where the core was read and nothing written
-pub source_cause : (w : Walk) (r : Ran) (core : List ℕ) (t : Trouble) → Gives r.told w.core core → r.written_after ≡ r.written → IsSourceTrouble w.layouts r.told r.failed r.failed_after t → HasCause (Some (walk w)) r t
-source_cause w r core (Work error) given quiet h = absurd h
-source_cause w r core Words given quiet h = absurd h
-source_cause w r core (File name why) given quiet h = record {
-  command = walk w;
-  is_asked = refl;
-  named = inr h.0;
-  not_memory = h.1;
-  failed = h.2;
-  written = quiet;
-}
-source_cause w r core (Layouts error) given quiet h = (
-  record { command = walk w; is_asked = refl; core = core; given = given; said = h.1; not_memory = h.0 },
-  record { failed = h.2; written = quiet },
-)
-source_cause w r core Write given quiet h = absurd h
-source_cause w r core OutOfMemory given quiet h = ((walk w, refl), record { failed = h; written = quiet })

@@ -1,6 +1,6 @@
 //! The top call: from the words of a command line to a core's stacks as text.
 //!
-//! `run` reads the file that the words name, walks the interpreter's threads in it, and writes one text
+//! `run` reads the files that the words name, walks the interpreter's threads in it, and writes one text
 //! or one line why there is none. `walk` is the work alone, over bytes that the caller has.
 #![tactic(auto)]
 
@@ -15,6 +15,8 @@ pub use command::run;
 pub use core_walk::walk;
 pub use error::CoreError;
 
+#[cfg(test)]
+mod layout_tests;
 #[cfg(test)]
 mod tests;
 #[cfg(test)]

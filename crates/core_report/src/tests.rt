@@ -51,7 +51,7 @@ const CORE_WORDS: [(usize, u64); 34] = [
     (0x300, 0x3e65_6c75_646f_6d3c),
 ];
 
-fn core(alloc: Global) -> Result<Vec<u8>, AllocError> {
+pub(crate) fn core(alloc: Global) -> Result<Vec<u8>, AllocError> {
     let mut bytes = Vec::new(alloc);
     for at in 0..99 {
         let word = CORE_WORDS
@@ -63,7 +63,7 @@ fn core(alloc: Global) -> Result<Vec<u8>, AllocError> {
     Ok(bytes)
 }
 
-fn words(alloc: Global, list: &[&str]) -> Result<Vec<String>, AllocError> {
+pub(crate) fn words(alloc: Global, list: &[&str]) -> Result<Vec<String>, AllocError> {
     let mut words = Vec::new(alloc);
     for word in list {
         words.push(String::from_str(alloc, word)?)?;
@@ -201,10 +201,9 @@ fn each_status_with_its_line(rt: HostRuntime) -> Result<(), Fail> {
 }
 
 /// Words in place of one of `GOOD`, by its number.
-const OTHER_WORDS: [(usize, &str); 16] = [
+const OTHER_WORDS: [(usize, &str); 15] = [
     (0, "Walk"),
     (0, ""),
-    (2, "samples"),
     (3, "3.9"),
     (3, "3.9.0.1"),
     (3, "3.9.0rc1"),
