@@ -1,5 +1,5 @@
 -- The one answer that is right for a text.
-use Rattle.std.proofs.Common.{◌≡◌, ◌≢◌, ℕ, List, [], Option, Result, Ok, Err, Some, None, All, IsOk, IfOk, IfErr, ◌↔◌, inl, inr, refl, sym, ap, ◌∙◌, rules}
+use Rattle.std.proofs.Common.{◌≡◌, ◌≢◌, ℕ, List, [], Option, Result, Ok, Err, Some, None, All, IsOk, IfOk, IfErr, ◌↔◌, inl, inr, refl, sym, ap, ◌∙◌}
 use Rattle.std.specs.Str.{chars}
 use Rattle.toml.specs.Data.{Members}
 use Rattle.py_layout.specs.declared.error.LayoutError.{LayoutError}

@@ -1,11 +1,11 @@
 -- The first fault of a layout's table in a file.
-use Rattle.std.specs.Prelude.{◌≡◌, List, [], ◌∷◌, ◌++◌, ℕ, Bool, true, false, ◌&&◌, not, Option, Some, None, is_some, cond, codes, bytes_eq, option_map, option_and_then}
+use Rattle.std.specs.Prelude.{List, [], ◌∷◌, ◌++◌, ℕ, Bool, true, false, ◌&&◌, not, Option, Some, None, codes, bytes_eq, option_map, option_and_then}
 use Rattle.std.specs.Option.{option_or}
 use Rattle.std.specs.List.{list_any, find}
-use Rattle.toml.specs.Data.{Data, table, Members, no_members, member}
+use Rattle.toml.specs.Data.{Data, Members, no_members, member}
 use Rattle.py_layout.specs.declared.families.Families.{Families}
 use Rattle.py_layout.specs.declared.keys.Kind.{Kind}
-use Rattle.py_layout.specs.declared.keys.Kind.TheVariants.{Version, Truth, Word, Number, Group}
+use Rattle.py_layout.specs.declared.keys.Kind.TheVariants.{Group}
 use Rattle.py_layout.specs.declared.keys.Presence.{Presence}
 use Rattle.py_layout.specs.declared.keys.Presence.TheVariants.{Always, Free, WithOffsets, WithGil, WithCframe, WithPointer, WithState, WithDicts, WithGeneral, WithCompact, WithManaged}
 use Rattle.py_layout.specs.declared.layout.Head.{Head}

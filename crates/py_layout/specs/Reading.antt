@@ -1,5 +1,5 @@
 -- The layout that a table without fault says: each field is the value of the key of its group and name.
-use Rattle.std.specs.Prelude.{List, Bool, ℕ, Option, Some, None, cond, codes, is_some}
+use Rattle.std.specs.Prelude.{List, Bool, ℕ, Some, None, cond, codes, is_some}
 use Rattle.toml.specs.Data.{Members}
 use Rattle.py_layout.specs.Words.{families_of}
 use Rattle.py_layout.specs.Values.{group_at, number_at, optional_at, truth_at}

@@ -1,4 +1,4 @@
-use Rattle.std.proofs.Common.{Option, None, List, ℕ, map, sym, ap, ◌∙◌}
+use Rattle.std.proofs.Common.{Option, None, List, ℕ, map, ap, ◌∙◌}
 use Rattle.std.specs.Option.{option_or}
 use Rattle.toml.specs.View.{table_view}
 use Rattle.py_layout.specs.Keys.{key_of}

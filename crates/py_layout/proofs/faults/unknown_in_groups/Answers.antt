@@ -2,7 +2,6 @@ use Rattle.std.proofs.Common.{Option, List, ℕ, sym, ◌∙◌, arith}
 use Rattle.toml.specs.View.{table_view}
 use Rattle.py_layout.specs.declared.keys.Key.{Key}
 use Rattle.py_layout.specs.Keys.{key_of}
-use Rattle.py_layout.specs.Faults.{unknown_at}
 use Rattle.py_layout.proofs.Faulting.{group_fault, first_of-map, first_of-miss, first_of-hit, first_of-end}
 use Rattle.py_layout.proofs.faults.unknown_in_groups.Goals as goal
 

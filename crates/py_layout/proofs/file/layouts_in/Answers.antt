@@ -1,4 +1,4 @@
-use Rattle.std.proofs.Common.{◌≡◌, ◌∙◌, ◌∷◌, [], ◌++◌, arith, sym, ap}
+use Rattle.std.proofs.Common.{◌≡◌, ◌∙◌, ◌∷◌, [], ◌++◌, ap}
 use Rattle.toml.specs.View.{table_view}
 use Rattle.py_layout.specs.Reading.{layout_of}
 use Rattle.py_layout.proofs.Filing.{layouts-pushed, layouts-kept, layouts-end}

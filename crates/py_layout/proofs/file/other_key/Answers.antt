@@ -1,4 +1,4 @@
-use Rattle.std.proofs.Common.{Some, None, ap, ◌∙◌}
+use Rattle.std.proofs.Common.{Some, ap, ◌∙◌}
 use Rattle.py_layout.specs.File.{is_other}
 use Rattle.py_layout.proofs.Faulting.{find-names}
 use Rattle.py_layout.proofs.file.other_key.Goals as goal
