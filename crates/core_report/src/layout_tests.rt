@@ -86,9 +86,9 @@ fn layout_files(alloc: Global) -> Result<Vec<(String, u8, &'static [u8])>, Alloc
             b"pystacks: no layout for Python 3.9.0\n"
         ),
         (
-            edited(alloc, "threads=8", "threads=0")?,
+            edited(alloc, "threads=8", "threads=1048575")?,
             1,
-            b"pystacks: unreadable at 0x0, 64 bytes\n"
+            b"pystacks: unreadable at 0x10ffff, 8 bytes\n"
         ),
     ]?;
     Ok(rows)
