@@ -8,9 +8,9 @@ use Rattle.core_report.specs.declared.error.CoreError.TheVariants as core
 use Rattle.core_report.specs.declared.command.Trouble.{Trouble}
 use Rattle.core_report.specs.declared.command.Trouble.TheVariants.{Work, Words, File, Layouts, Write, OutOfMemory}
 use Rattle.py_layout.specs.declared.error.LayoutError.{LayoutError}
-use Rattle.core_report.specs.Words.{Command, Names}
+use Rattle.core_report.specs.Words.{Command}
 use Rattle.core_report.specs.Lines.{Says, line, core_parts, file_parts, layout_parts}
-use Rattle.core_report.specs.Run.{Ran, Reaches, HasBadLayouts, HasCause, status_of, trouble_parts}
+use Rattle.core_report.specs.Run.{Asks, Ran, Reaches, HasBadLayouts, HasCause, status_of, trouble_parts}
 
 module _ (asked : Option Command) (r : Ran) (a b : Option (List ℕ)) (before now : ℕ) where
   pub work_of : (t : Trouble) → HasCause asked r t → Says a b before now (line (trouble_parts t)) → status_of t ≡ 1
@@ -31,7 +31,7 @@ module _ (asked : Option Command) (r : Ran) (a b : Option (List ℕ)) (before no
   words_of OutOfMemory cause says is = absurd (omega (arith, is))
 
   pub unread_of : (t : Trouble) → HasCause asked r t → Says a b before now (line (trouble_parts t)) → status_of t ≡ 3
-      → (command : Command) × (name : List ℕ) × (why : FileFault) × (asked ≡ Some command) × Names command name × (why ≢ fault.OutOfMemory)
+      → (command : Command) × (name : List ℕ) × (why : FileFault) × (asked ≡ Some command) × Asks r.told command name × (why ≢ fault.OutOfMemory)
       × (r.failed_after ≡ r.failed ++ (name, why) ∷ []) × Says a b before now (line (file_parts name why))
   unread_of (Work error) cause says is = absurd (omega (arith, is))
   unread_of Words cause says is = absurd (omega (arith, is))

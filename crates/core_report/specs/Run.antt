@@ -1,5 +1,5 @@
 -- What a run of the top call means.
-use Rattle.std.specs.Prelude.{◌≡◌, ◌≢◌, ℕ, ◌++◌, List, [], ◌∷◌, Option, Some, None, Result, Ok, Err, ⊤, codes, map}
+use Rattle.std.specs.Prelude.{◌≡◌, ◌≢◌, ◌⊎◌, ℕ, ◌++◌, List, [], ◌∷◌, Option, Some, None, Result, Ok, Err, ⊤, codes, map}
 use Rattle.std.specs.Io.KnownBytes.{Appends}
 use Rattle.image_memory.specs.Outside.{Told, FailedNames, Gives, Rose, AppendsFront, bytes_of}
 use Rattle.image_memory.specs.declared.faults.FileFault.{FileFault}
@@ -9,7 +9,7 @@ use Rattle.core_report.specs.declared.error.CoreError.{CoreError}
 use Rattle.core_report.specs.declared.error.CoreError.TheVariants as core
 use Rattle.core_report.specs.declared.command.Trouble.{Trouble}
 use Rattle.core_report.specs.declared.command.Trouble.TheVariants.{Work, Words, File, Layouts, Write, OutOfMemory}
-use Rattle.core_report.specs.Words.{Command, LayoutSource, Names, Walk, walk, sample, file, core_file, layout_source}
+use Rattle.core_report.specs.Words.{Command, LayoutSource, Walk, walk, sample, file, core_file, layout_source}
 use Rattle.core_report.specs.Lines.{core_parts, file_parts, layout_parts}
 use Rattle.core_report.specs.Text.{walk_text}
 use Rattle.core_report.specs.Answer.{Finds, IsChosen, Means, fault_by}
@@ -86,11 +86,15 @@ pub record IsCut (asked : Option Command) (r : Ran) : Type 0 where
   pub rose : Rose r.faults r.faults_after
   pub failed : r.failed_after ≡ r.failed
 
--- a file that the command names could not be read
+-- the file of this name is asked for: the core's, or the layout file, once the core was read
+abbrev pub Asks : Told → Command → List ℕ → Type 0
+Asks told command name = (core_file command ≡ name) ⊎ ((layout_source command ≡ file name) × ((core : List ℕ) × Gives told (core_file command) core))
+
+-- a file that the command asks for could not be read
 pub record IsUnread (asked : Option Command) (r : Ran) (name : List ℕ) (why : FileFault) : Type 0 where
   pub command : Command
   pub is_asked : asked ≡ Some command
-  pub named : Names command name
+  pub named : Asks r.told command name
   pub not_memory : why ≢ fault.OutOfMemory
   pub failed : r.failed_after ≡ r.failed ++ (name, why) ∷ []
   pub written : r.written_after ≡ r.written

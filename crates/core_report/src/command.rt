@@ -6,10 +6,10 @@ ghost use Rattle.image_memory.specs.declared.faults.FileFault.{FileFault as Why}
 ghost use Rattle.py_layout.specs.File.{IsRightFor};
 ghost use Rattle.py_layout.specs.declared.error.LayoutError.{LayoutError as Flaw};
 ghost use Rattle.core_report.specs.declared.error.CoreError.{CoreError as Cause};
-ghost use Rattle.core_report.specs.Words.{Command as Asked, Names, Walk, command_of, file, texts, walk};
+ghost use Rattle.core_report.specs.Words.{Command as Asked, Walk, command_of, file, texts, walk};
 ghost use Rattle.core_report.specs.Seen.{command_at, source_at, walk_at};
 ghost use Rattle.core_report.specs.Lines.{Says, line, core_parts, file_parts, layout_parts};
-ghost use Rattle.core_report.specs.Run.{Ends, HasBadLayouts, IsFaultless, IsSourceTrouble, IsTextTrouble, Reaches, SourceGives, Tells, TellsLayouts, Works, sample_layouts, status_of, trouble_parts};
+ghost use Rattle.core_report.specs.Run.{Asks, Ends, HasBadLayouts, IsFaultless, IsSourceTrouble, IsTextTrouble, Reaches, SourceGives, Tells, TellsLayouts, Works, sample_layouts, status_of, trouble_parts};
 
 use crate::CoreError;
 use crate::core_walk::walk;
@@ -261,9 +261,9 @@ pub fn run<F: Files, S: Sink, E: Sink>(
     ensures refused_line { result ≡ 2
         → Says (E.written err.old) (E.written err.new) (E.faults err.old) (E.faults err.new) (line (codes "bad words" ∷ [])) }
 
-    // 3: exactly where a file that the words name could not be read
+    // 3: exactly where a file that the words ask for could not be read; the core comes before the layout file
     ensures unread { result ≡ 3 → (command : Asked) × (name : List ℕ) × (why : Why) × (command_of (texts words.now) ≡ Some command)
-        × Names command name × (why ≢ FileFault.OutOfMemory)
+        × Asks (F.told files.old) command name × (why ≢ FileFault.OutOfMemory)
         × (F.failed files.new ≡ F.failed files.old ++ (name, why) ∷ [])
         × Says (E.written err.old) (E.written err.new) (E.faults err.old) (E.faults err.new) (line (file_parts name why)) }
     ensures all_read { result ≢ 3 → F.failed files.new ≡ F.failed files.old }

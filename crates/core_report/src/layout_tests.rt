@@ -128,7 +128,14 @@ struct Order {
     said: &'static [u8],
 }
 
-const ORDERS: [Order; 6] = [
+const ORDERS: [Order; 7] = [
+    Order {
+        core: "none",
+        layouts: "absent",
+        failing: &[],
+        status: 3,
+        said: b"pystacks: cannot read none\n",
+    },
     Order {
         core: "none",
         layouts: "bad",

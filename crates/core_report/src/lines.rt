@@ -202,12 +202,34 @@ pub(crate) fn say_core<E: Sink>(err: &mut E, error: &CoreError)
     }
 }
 
+/// The line of two tables that cover one version.
+fn say_clash<E: Sink>(err: &mut E, first: u64, second: u64)
+    ensures { Says (E.written err.old) (E.written err.new) (E.faults err.old) (E.faults err.new)
+        (line (codes "layouts: tables " ∷ decimal first ∷ codes " and " ∷ decimal second ∷ codes " clash" ∷ [])) }
+{
+    let mut one = Buffer::new();
+    let mut other = Buffer::new();
+    let first = one.format(first);
+    let second = other.format(second);
+    say(
+        err,
+        &[
+            PREFIX,
+            b"layouts: tables ",
+            first.as_bytes(),
+            b" and ",
+            second.as_bytes(),
+            b" clash",
+            END,
+        ],
+    );
+}
+
 /// The line of layouts that are refused.
 pub(crate) fn say_layouts<E: Sink>(err: &mut E, error: &LayoutError)
     ensures { Says (E.written err.old) (E.written err.new) (E.faults err.old) (E.faults err.new) (line (layout_parts error.now)) }
 {
-    let mut first = Buffer::new();
-    let mut second = Buffer::new();
+    let mut buffer = Buffer::new();
     match error {
         LayoutError::NotToml => say_text(err, "layouts: not TOML"),
         LayoutError::Shape { table, key } => say(
@@ -215,7 +237,7 @@ pub(crate) fn say_layouts<E: Sink>(err: &mut E, error: &LayoutError)
             &[
                 PREFIX,
                 b"layouts: table ",
-                first.format(*table).as_bytes(),
+                buffer.format(*table).as_bytes(),
                 b", key ",
                 key.as_str().as_bytes(),
                 END,
@@ -226,26 +248,12 @@ pub(crate) fn say_layouts<E: Sink>(err: &mut E, error: &LayoutError)
             &[
                 PREFIX,
                 b"layouts: table ",
-                first.format(*table).as_bytes(),
+                buffer.format(*table).as_bytes(),
                 b" is unsound",
                 END,
             ],
         ),
-        LayoutError::Clash {
-            first: one,
-            second: other,
-        } => say(
-            err,
-            &[
-                PREFIX,
-                b"layouts: tables ",
-                first.format(*one).as_bytes(),
-                b" and ",
-                second.format(*other).as_bytes(),
-                b" clash",
-                END,
-            ],
-        ),
+        LayoutError::Clash { first, second } => say_clash(err, *first, *second),
         LayoutError::OutOfMemory => say_text(err, "out of memory"),
     }
 }

@@ -20,11 +20,7 @@ returns-in-Unsound g c =
     ((λ i. line (codes "layouts: table " ∷ table i ∷ codes " is unsound" ∷ [])) ∙ ap (λ e. line (layout_parts e)) (sym c.in-Unsound.is))
 
 pub returns-in-Clash : goal.returns-in-Clash
-returns-in-Clash g c =
-    let one = c.as_bytes-in-Clash.ensures.value ∙ c.format-in-Clash.ensures.text in
-    let other = c.as_bytes-in-Clash-2.ensures.value ∙ c.format-in-Clash-2.ensures.text in
-    says_as _ _ _ _ _ _ c.say-in-Clash.ensures
-    ((λ i. line (codes "layouts: tables " ∷ one i ∷ codes " and " ∷ other i ∷ codes " clash" ∷ [])) ∙ ap (λ e. line (layout_parts e)) (sym c.in-Clash.is))
+returns-in-Clash g c = says_as _ _ _ _ _ _ c.say_clash.ensures (ap (λ e. line (layout_parts e)) (sym c.in-Clash.is))
 
 pub returns-in-OutOfMemory : goal.returns-in-OutOfMemory
 returns-in-OutOfMemory g c = says_as _ _ _ _ _ _ c.say_text-in-OutOfMemory.ensures (ap (λ e. line (layout_parts e)) (sym c.in-OutOfMemory.is))
