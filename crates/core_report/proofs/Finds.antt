@@ -9,7 +9,7 @@ use Rattle.image_memory.specs.Outside.{Told, Gives, Rose, bytes_of}
 use Rattle.py_layout.specs.declared.error.LayoutError.{LayoutError}
 use Rattle.py_layout.specs.declared.error.LayoutError.TheVariants as layout
 use Rattle.py_layout.specs.declared.layout.Layout.{Layout}
-use Rattle.py_layout.specs.declared.version.Version.{Version}
+use Rattle.py_version.specs.declared.version.Version.{Version}
 use Rattle.py_layout.specs.File.{IsRightFor}
 use Rattle.py_layout.specs.Samples.{sample_layout}
 use Rattle.py_layout.specs.Sound.{Clash, Covers}

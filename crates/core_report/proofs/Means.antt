@@ -4,7 +4,7 @@ use Rattle.std.specs.Prelude.{AllPairs, Err, Contains}
 use Rattle.elf64_core.specs.Header.{IsAccepted}
 use Rattle.image_memory.specs.Faults.{IsFirst}
 use Rattle.py_layout.specs.declared.layout.Layout.{Layout}
-use Rattle.py_layout.specs.declared.version.Version.{Version}
+use Rattle.py_version.specs.declared.version.Version.{Version}
 use Rattle.py_layout.specs.Sound.{AreSound, Clash, Covers, IsSound}
 use Rattle.py_stacks.specs.declared.error.StackError.{StackError}
 use Rattle.py_stacks.specs.declared.error.StackError.TheVariants as stack

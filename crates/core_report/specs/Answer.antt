@@ -8,7 +8,7 @@ use Rattle.image_memory.specs.Memory.Fault.{Missing, BadValue as IsBadValue, Loc
 use Rattle.image_memory.specs.Pieces.{memory_of}
 use Rattle.image_memory.specs.Walk.{first_fault}
 use Rattle.py_layout.specs.declared.layout.Layout.{Layout}
-use Rattle.py_layout.specs.declared.version.Version.{Version}
+use Rattle.py_version.specs.declared.version.Version.{Version}
 use Rattle.py_layout.specs.Sound.{Covers}
 use Rattle.py_stacks.specs.declared.trace.StackTrace.{StackTrace}
 use Rattle.py_stacks.specs.Threads.{AreTraces, Trace, trace_of, traces_faults}

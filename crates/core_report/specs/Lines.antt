@@ -7,7 +7,7 @@ use Rattle.std.specs.Io.KnownBytes.{Appends}
 use Rattle.image_memory.specs.Outside.{Rose, AppendsFront}
 use Rattle.image_memory.specs.declared.faults.FileFault.{FileFault}
 use Rattle.image_memory.specs.declared.faults.FileFault.TheVariants as fault
-use Rattle.py_layout.specs.Version.{version_text}
+use Rattle.py_version.specs.Version.{version_text}
 use Rattle.py_layout.specs.declared.error.LayoutError.{LayoutError}
 use Rattle.py_layout.specs.declared.error.LayoutError.TheVariants as layout
 use Rattle.core_report.specs.declared.error.CoreError.{CoreError}

@@ -1,5 +1,5 @@
 -- What the program's own words stand for.
-use Rattle.py_layout.specs.declared.version.Version.{Version}
+use Rattle.py_version.specs.declared.version.Version.{Version}
 use Rattle.core_report.specs.Words as words
 use Rattle.core_report.specs.declared.words.Release.{Release}
 use Rattle.core_report.specs.declared.words.WalkWords.{WalkWords}

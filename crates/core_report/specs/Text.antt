@@ -2,8 +2,8 @@
 use Rattle.std.specs.Prelude.{ℕ, ℤ, pos, negsuc, ◌++◌, ◌==◌, Bool, true, false, if◌then◌else◌, List, [], map, reverse, Option, Some, None, unwrap_or, codes, decimal, encode_utf8_all}
 use Rattle.std.specs.Fmt.{digits, signed_decimal}
 use Rattle.std.specs.List.{concat}
-use Rattle.py_layout.specs.Version.{version_text}
-use Rattle.py_layout.specs.declared.version.Version.{Version}
+use Rattle.py_version.specs.Version.{version_text}
+use Rattle.py_version.specs.declared.version.Version.{Version}
 use Rattle.py_stacks.specs.declared.trace.StackTrace.{StackTrace}
 use Rattle.py_stacks.specs.declared.trace.Frame.{Frame}
 

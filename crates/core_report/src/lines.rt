@@ -1,7 +1,7 @@
 //! The line of each case on the stream of errors, in pieces, so that it takes no memory.
 ghost use Rattle.std.specs.Prelude.{◌≡◌, ◌++◌, [], ◌∷◌, ◌<◌, false, drop, codes, decimal};
 ghost use Rattle.std.specs.Fmt.{digits, digit_glyph, signed_decimal};
-ghost use Rattle.py_layout.specs.Version.{metadata_text, version_text};
+ghost use Rattle.py_version.specs.Version.{metadata_text, version_text};
 ghost use Rattle.core_report.specs.Lines.{Says, address, core_parts, file_parts, joined, layout_parts, line, range_parts};
 
 use crate::CoreError;

@@ -1,7 +1,6 @@
 pub mod Places
 pub mod Sound
 pub mod Samples
-pub mod Version
 pub mod Keys
 pub mod Words
 pub mod Values

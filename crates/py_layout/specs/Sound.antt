@@ -23,7 +23,7 @@ use Rattle.py_layout.specs.declared.layout.HeapAt.{HeapAt}
 use Rattle.py_layout.specs.declared.layout.Layout.{Layout}
 use Rattle.py_layout.specs.declared.error.LayoutError.{LayoutError}
 use Rattle.py_layout.specs.declared.error.LayoutError.TheVariants.{NotToml, Shape, Unsound, Clash as Clashing, OutOfMemory}
-use Rattle.py_layout.specs.declared.version.Version.{Version}
+use Rattle.py_version.specs.declared.version.Version.{Version}
 
 -- a number that is not bounded by a record's size
 abbrev pub IsPlain : ℕ → Type 0

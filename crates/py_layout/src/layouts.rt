@@ -10,7 +10,7 @@ use crate::error::LayoutError;
 use crate::file::layouts_from_toml;
 use crate::layout::Layout;
 use crate::sound::is_sound;
-use crate::version::Version;
+use py_version::Version;
 use std::alloc::Global;
 use std::marker::Model;
 

@@ -12,7 +12,6 @@ mod places;
 mod reading;
 mod sound;
 mod values;
-mod version;
 
 pub use error::LayoutError;
 pub use layout::{
@@ -21,7 +20,9 @@ pub use layout::{
     OffsetsAt, StringAt, Strings, ThreadAt, TupleAt, ValueAt,
 };
 pub use layouts::Layouts;
-pub use version::Version;
+pub use py_version::{
+    ScanError, Version, get_interp_head_offset, get_tstate_current_offset,
+};
 
 #[cfg(test)]
 mod file_tests;

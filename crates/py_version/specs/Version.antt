@@ -1,7 +1,7 @@
 -- How a version is written.
 use Rattle.std.specs.Prelude.{ℕ, List, [], ◌++◌, Option, Some, None, codes, encode_utf8_all}
 use Rattle.std.specs.Fmt.{decimal}
-use Rattle.py_layout.specs.declared.version.Version.{Version}
+use Rattle.py_version.specs.declared.version.Version.{Version}
 
 -- `+` and the metadata, where there is some
 abbrev pub metadata_text : Option (List ℕ) → List ℕ

@@ -20,7 +20,7 @@ pub struct Version {
 }
 
 impl fmt::Display for Version {
-    ghost use Rattle.py_layout.specs.Version.{version_text};
+    ghost use Rattle.py_version.specs.Version.{version_text};
 
     ghost output = { λ v. Some (version_text v) };
 

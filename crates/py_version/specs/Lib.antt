@@ -1,0 +1,4 @@
+pub mod Version
+pub mod Spelling
+pub mod Fronts
+pub mod Offsets
