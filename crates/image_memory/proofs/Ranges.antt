@@ -1,11 +1,11 @@
 -- Lists of ranges that grow, and what a memory holds of them.
-use Rattle.std.proofs.Common.{◌≡◌, ℕ, zero, suc, ◌<◌, ◌≤◌, List, [], ◌∷◌, ◌++◌, length, refl, sym, ◌∙◌, ap, arith, append_assoc, length-append, append-nil, inl, inr}
+use Rattle.std.proofs.Common.{◌≡◌, ℕ, zero, suc, ◌<◌, List, [], ◌∷◌, ◌++◌, length, refl, sym, ◌∙◌, ap, arith, append_assoc, length-append, append-nil, inl, inr}
 use Rattle.std.specs.Prelude.{Option, Some, None, slice_get}
 use Rattle.std.proofs.lemmas.Bool.{cases_lt}
 use Rattle.std.proofs.lemmas.Option.{slice_get_within}
 use Rattle.image_memory.specs.declared.process_memory.Span.{Span}
 use Rattle.image_memory.specs.Memory.{Memory}
-use Rattle.image_memory.specs.Seen.{Extends, HoldsRead, HoldsSpan, AddsShort}
+use Rattle.image_memory.specs.Seen.{Extends, HoldsRead, AddsShort}
 
 slice_get-append : {X : Type 0} (xs zs : List X) (k : ℕ) (x : X) → slice_get xs k ≡ Some x → slice_get (xs ++ zs) k ≡ Some x
 slice_get-append [] zs k x h = cc

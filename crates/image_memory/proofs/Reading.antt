@@ -1,6 +1,6 @@
 -- How the clauses of readers are put together.
-use Rattle.std.proofs.Common.{◌≡◌, ℕ, zero, suc, ◌-◌, ◌+◌, ◌<◌, ◌≤◌, ◌^◌, ltb, false, List, [], ◌∷◌, ◌++◌, length, refl, sym, ◌∙◌, ap, rules, arith, length-append}
-use Rattle.std.specs.Prelude.{Option, Some, None, IsSome, Result, Ok, Err, ⊤, slice_get}
+use Rattle.std.proofs.Common.{◌≡◌, ℕ, ◌-◌, ◌+◌, ◌<◌, ◌≤◌, ◌^◌, ltb, false, List, [], ◌∷◌, ◌++◌, length, refl, sym, ◌∙◌, ap, arith, length-append}
+use Rattle.std.specs.Prelude.{Option, Some, None, IsSome, Result, Ok, Err}
 use Rattle.std.proofs.lemmas.Bool.Decides.{nat_tests}
 use Rattle.std.proofs.lemmas.Option.{slice_get_within}
 use Rattle.std.specs.Int.{w64, from_le_bytes}
@@ -8,8 +8,8 @@ use Rattle.image_memory.specs.declared.process_memory.Span.{Span}
 use Rattle.image_memory.specs.declared.process_memory.ReadFault.{ReadFault}
 use Rattle.image_memory.specs.declared.process_memory.ReadFault.TheVariants.{Unreadable, OutOfMemory}
 use Rattle.image_memory.specs.Memory.Fault.{Missing}
-use Rattle.image_memory.specs.Memory.{Memory, Region, byte_at, record_at, Found, Fault, ◌>>=◌, word_at}
-use Rattle.image_memory.specs.Seen.{Seen, Extends, HoldsRead, Covers, ReadingBelow, OneRead, Answers, FaultIs, fault_of, ranges_after, with_range, IsPartWith, AddsShort, with_bytes}
+use Rattle.image_memory.specs.Memory.{Memory, byte_at, record_at, Found, Fault, ◌>>=◌, word_at}
+use Rattle.image_memory.specs.Seen.{Seen, Extends, HoldsRead, ReadingBelow, OneRead, Answers, FaultIs, fault_of, ranges_after, with_range, IsPartWith, AddsShort, with_bytes}
 use Rattle.image_memory.proofs.Ranges.{slice_get-end, holds-before, holds-after, extends-trans, extends-self, holds-both, holds-self, short-both, short-self}
 use Rattle.image_memory.proofs.Records.{Within, record_kept, record_lost, record_all}
 
@@ -141,6 +141,14 @@ reading_here {s0 = s0} p = p.holds (byte_at s0.pieces) (record { agrees = λ a b
 -- the value at the end
 pub reads_end : {limit : ℕ} {T E : Type 0} {fault : E → Option Fault} (k : ℕ) {s : Seen} {x y : T} → x ≡ y → ReadingBelow limit k s s (λ m. Answers fault (Ok x) (Ok y))
 reads_end k {s} {x} {y} e = reading_none k s _ (λ m. record { is = ap Ok e })
+
+-- the same definition
+pub reads_same : {limit : ℕ} {T E : Type 0} {fault : E → Option Fault} {n : ℕ} {s0 s1 : Seen} {r : Result T E} (d e : Memory → Found T) → ((m : Memory) → d m ≡ e m) → ReadingBelow limit n s0 s1 (λ m. Answers fault (e m) r) → ReadingBelow limit n s0 s1 (λ m. Answers fault (d m) r)
+reads_same d e same p = reading_gives _ _ p (omega arith) (λ m a. rw (same m) a)
+
+-- nothing was read, and the definition says the result
+pub reads_known : {limit : ℕ} {T E : Type 0} {fault : E → Option Fault} (k : ℕ) {s : Seen} (d : Memory → Found T) (r : Result T E) → ((m : Memory) → Answers fault (d m) r) → ReadingBelow limit k s s (λ m. Answers fault (d m) r)
+reads_known k d r f = reading_none k _ _ f
 
 -- where the ranges were kept from the start
 pub reading_part : {limit : ℕ} {n : ℕ} {s0 s1 : Seen} {Q : Memory → Type 0} (ranges : List Span) (m : Memory) → ReadingBelow limit n s0 s1 Q → s0.ranges ≡ Some [] → s1.ranges ≡ Some ranges → IsPartWith (byte_at s0.pieces) ranges m → Q m

@@ -1,11 +1,11 @@
 -- Records of a memory, byte by byte, and of each memory that agrees with it.
-use Rattle.std.proofs.Common.{◌≡◌, ℕ, zero, suc, ◌+◌, ◌-◌, ◌<◌, ◌≤◌, ◌^◌, Bool, true, false, cond, ltb, List, [], ◌∷◌, length, get_or, refl, ap, ◌∙◌, rules, arith, add-zero, add_assoc}
+use Rattle.std.proofs.Common.{◌≡◌, ℕ, zero, suc, ◌+◌, ◌-◌, ◌<◌, ◌≤◌, ◌^◌, true, false, cond, ltb, List, [], ◌∷◌, length, get_or, refl, ap, ◌∙◌, rules, arith, add-zero, add_assoc}
 use Rattle.std.specs.Prelude.{Option, Some, None, IsSome, IfOk, Result, Ok, Err, vec_len}
 use Rattle.std.specs.Global.{Vec}
 use Rattle.std.proofs.lemmas.Bool.Decides.{nat_tests}
 use Rattle.image_memory.specs.declared.process_memory.ReadFault.{ReadFault}
 use Rattle.image_memory.specs.Memory.Fault.{Missing}
-use Rattle.image_memory.specs.Memory.{Memory, Region, byte_at, bytes_at, in_front, found_or, outside, record_at, Found, Fault}
+use Rattle.image_memory.specs.Memory.{Memory, Region, byte_at, bytes_at, in_front, found_or, outside, record_at, Fault}
 use Rattle.image_memory.specs.Seen.{Answers, fault_of, items_of}
 
 -- each byte of `m` is that of `w`

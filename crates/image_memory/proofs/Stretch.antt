@@ -1,10 +1,10 @@
 -- The first of some pieces that holds an address, and the run of bytes that it has from there on.
-use Rattle.std.proofs.Common.{◌≡◌, ℕ, zero, suc, ◌+◌, ◌-◌, ◌<◌, ◌≤◌, ◌^◌, List, [], ◌∷◌, ◌++◌, length, get_or, take, drop, ltb, leb, Bool, true, false, cond, refl, sym, ap, ◌∙◌, rules, arith, add-one, length-drop, length-append, inl, inr}
+use Rattle.std.proofs.Common.{◌≡◌, ℕ, ◌+◌, ◌-◌, ◌<◌, ◌≤◌, ◌^◌, List, ◌++◌, length, get_or, take, drop, ltb, leb, Bool, true, false, cond, refl, sym, ap, ◌∙◌, rules, arith, length-drop, length-append, inl, inr}
 use Rattle.std.specs.Prelude.{Option, Some, None, IsSome, slice_get}
 use Rattle.std.proofs.Math.ListN.{drop_of_length-le, get_or-append}
 use Rattle.std.proofs.lemmas.Bool.Decides.{nat_tests}
 use Rattle.std.proofs.lemmas.List.{drop_more, get_or-drop, get_or-take, length-take-le, get_or-append-add}
-use Rattle.std.proofs.lemmas.Option.{slice_get-get_or, get_or_from_slice_get, slice_get_past, slice_get_within}
+use Rattle.std.proofs.lemmas.Option.{same_Some, slice_get-get_or, get_or_from_slice_get, slice_get_past, slice_get_within}
 use Rattle.std.proofs.lemmas.Bool.{cases_lt}
 use borrow.Rule.Slice.PartMut.{put_mid}
 use Rattle.image_memory.proofs.Records.{byte_at-below}
@@ -31,14 +31,11 @@ pub record IsRun (p : Region) (a : ℕ) (run : List ℕ) : Type 0 where
   pub some : 0 < length run
   pub bytes : (k : ℕ) → k < length run → region_byte p (a + k) ≡ Some (get_or run k 0)
 
-some_same : {X : Type 0} (x y : X) → ◌≡◌ {A = Option X} (Some x) (Some y) → x ≡ y
-some_same x y e = cc
-
 pub run-some : (p : Region) (a : ℕ) (run : List ℕ) → run_in p a ≡ Some run → IsRun p a run
 run-some p a run =
     elim (leb p.0 a) as (λ t. leb p.0 a ≡ t → cond t (cond (ltb (a - p.0) (length p.1)) (Some (drop (a - p.0) p.1)) None) None ≡ Some run → IsRun p a run) [
       | true ↦ λ s. elim (ltb (a - p.0) (length p.1)) as (λ t. ltb (a - p.0) (length p.1) ≡ t → cond t (Some (drop (a - p.0) p.1)) None ≡ Some run → IsRun p a run)
-          [ true ↦ λ h e. held p a run s h (some_same _ _ e) | false ↦ λ h e. absurd (cc) ] refl
+          [ true ↦ λ h e. held p a run s h (same_Some _ _ e) | false ↦ λ h e. absurd (cc) ] refl
       | false ↦ λ s e. absurd (cc)
     ] refl
   where

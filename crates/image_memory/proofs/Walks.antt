@@ -1,10 +1,10 @@
 -- Walks, member by member.
-use Rattle.std.proofs.Common.{◌≡◌, ◌≢◌, ℕ, zero, suc, ◌+◌, ◌-◌, ◌<◌, ◌≤◌, List, [], ◌∷◌, ◌++◌, length, map, refl, sym, ◌∙◌, ap, subst, rules, arith, append-nil, append_assoc, add-zero, zero-add}
+use Rattle.std.proofs.Common.{◌≡◌, ◌≢◌, ℕ, zero, suc, ◌+◌, ◌-◌, ◌<◌, ◌≤◌, List, [], ◌∷◌, ◌++◌, length, map, refl, sym, ◌∙◌, ap, subst, arith, append-nil, append_assoc, zero-add}
 use Rattle.std.proofs.Math.Nat.{sub-zero}
-use Rattle.std.specs.Prelude.{Option, Some, None, Result, Ok, Err, IsOkAnd, ⊤}
+use Rattle.std.specs.Prelude.{Option, Some, None, Result, Ok, Err}
 use Rattle.image_memory.specs.Memory.{Memory, Found, Fault, ◌>>=◌, byte_at}
 use Rattle.image_memory.specs.Seen.{Seen, Reading, Reads, Answers, FaultIs}
-use Rattle.image_memory.specs.Walk.{IsChain, Step, walk_at, walk_cost, cost_next, after_all, Walking, walk_faults, goes_on, or_else, first_fault, fault_in}
+use Rattle.image_memory.specs.Walk.{IsChain, Step, walk_at, walk_cost, after_all, Walking, walk_faults, goes_on, or_else, first_fault, fault_in}
 use Rattle.image_memory.specs.Faults.{faults_then, FaultsAre, IsFirst}
 use Rattle.image_memory.proofs.Reading.{reading_then, reading_gives, reading_none, reading_here}
 
@@ -156,6 +156,11 @@ module _ {S T : Type 0} (over : Fault) (step : S → ℕ → Found (Step S T)) (
 pub then_same : {T U : Type 0} (d : Found T) (g : T → List Fault) (f : T → Found U) → ((x : T) → first_fault (g x) ≡ fault_in (f x)) → first_fault (faults_then d g) ≡ fault_in (d >>= f)
 then_same (Ok x) g f h = h x
 then_same (Err e) g f h = refl
+
+-- one step after two others
+pub then_same_twice : {T U V : Type 0} (d : Found T) (g : T → List Fault) (f : T → Found U) (h : U → Found V) → ((x : T) → first_fault (g x) ≡ fault_in (f x >>= h)) → first_fault (faults_then d g) ≡ fault_in ((d >>= f) >>= h)
+then_same_twice (Ok x) g f h s = s x
+then_same_twice (Err e) g f h s = refl
 
 -- an answer says where the first fault is
 pub faults_from_answer : {T E : Type 0} (fault : E → Option Fault) (d : Found T) (o : Option Fault) (r : Result T E) → o ≡ fault_in d → Answers fault d r → FaultsAre fault o r

@@ -1,5 +1,5 @@
 -- What objects that stand over another memory mean.
-use Rattle.std.specs.Prelude.{ℕ, Bool, true, false, Option, Some, None, List, length}
+use Rattle.std.specs.Prelude.{ℕ, true, false, Option, Some, None, List, length}
 use Rattle.std.specs.Borrow.{GName}
 use Rattle.image_memory.specs.declared.process_memory.Span.{Span}
 use Rattle.image_memory.specs.Memory.{Region}

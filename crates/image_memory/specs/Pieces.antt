@@ -1,7 +1,7 @@
 -- The pieces of memory that objects hold.
-use Rattle.std.specs.Prelude.{◌≡◌, ℕ, ◌-◌, ◌≤◌, nat_eq, nat_le, nat_lt, Bool, Option, Some, None, List, map, take, drop, min, length, filter, if◌then◌else◌}
+use Rattle.std.specs.Prelude.{ℕ, ◌-◌, nat_eq, nat_le, nat_lt, Bool, Option, Some, None, List, map, take, drop, min, length, filter, if◌then◌else◌}
 use Rattle.elf64_core.specs.declared.segment.Segment.{Segment}
-use Rattle.elf64_core.specs.Header.{IsAccepted, load_kind, segments_of}
+use Rattle.elf64_core.specs.Header.{load_kind, segments_of}
 use Rattle.image_memory.specs.declared.part.Piece.{Piece}
 use Rattle.image_memory.specs.Memory.{Region}
 

@@ -1,5 +1,5 @@
 -- What an object that reads a process's memory means, and what each reader of it owes.
-use Rattle.std.specs.Prelude.{◌≡◌, ℕ, ◌+◌, ◌<◌, ◌≤◌, ◌^◌, Bool, Option, Some, None, IsSome, List, [], ◌∷◌, ◌++◌, length, slice_get, Result, Ok, Err, ⊤, IsTrue}
+use Rattle.std.specs.Prelude.{◌≡◌, ℕ, ◌+◌, ◌<◌, ◌≤◌, ◌^◌, Bool, Option, Some, None, IsSome, List, [], ◌∷◌, ◌++◌, length, slice_get, Result, Ok, Err, ⊤}
 use Rattle.std.specs.Borrow.{GName}
 use Rattle.std.specs.Global.{Vec}
 use Rattle.image_memory.specs.declared.process_memory.Span.{Span}

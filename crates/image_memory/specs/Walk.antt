@@ -1,5 +1,5 @@
 -- Chains of records, each of which names the next, and walks along them.
-use Rattle.std.specs.Prelude.{◌≡◌, ◌≢◌, ℕ, zero, suc, ◌+◌, ◌-◌, ◌≤◌, Option, Some, None, List, [], ◌∷◌, ◌++◌, Result, Ok, Err, IsOkAnd}
+use Rattle.std.specs.Prelude.{◌≡◌, ◌≢◌, ℕ, zero, suc, ◌+◌, ◌-◌, ◌≤◌, Option, Some, None, List, [], ◌∷◌, ◌++◌, Ok, Err, IsOkAnd}
 use Rattle.image_memory.specs.Memory.{Memory, Found, Fault, ◌>>=◌, byte_at}
 use Rattle.image_memory.specs.Seen.{Seen, Reading}
 

@@ -347,6 +347,118 @@ pub struct Layout {
     pub offsets: Option<OffsetsAt>,
 }
 
+/// The example of a layout.
+const SAMPLE: Layout = Layout {
+    major: 3,
+    first_minor: 9,
+    last_minor: 9,
+    bytes_text: false,
+    head: Head::Runtime,
+    lock: Lock::Runtime,
+    frames: Frames::Direct,
+    lasti: Lasti::Bytes,
+    lines: Lines::Pairs,
+    strings: Strings::State,
+    integers: Integers::Signed,
+    dicts: Dicts::General,
+    managed: Managed::Absent,
+    interpreter: InterpreterAt {
+        threads: 8,
+        modules: 16,
+        gil: None,
+    },
+    thread: ThreadAt {
+        size: 64,
+        next: 8,
+        interp: 16,
+        id: 32,
+        frame: 24,
+        native_id: None,
+    },
+    cframe: None,
+    frame: FrameAt {
+        size: 64,
+        code: 16,
+        back: 24,
+        instr: 32,
+        entry: None,
+        locals: 56,
+        code_tag_bits: 0,
+    },
+    code: CodeAt {
+        size: 64,
+        argcount: 16,
+        nlocals: 20,
+        first_line: 24,
+        filename: 32,
+        name: 40,
+        table: 48,
+        varnames: 56,
+        start: None,
+    },
+    string: StringAt {
+        size: 72,
+        length: 16,
+        state: Some(32),
+        pointer: Some(64),
+        short_at: 48,
+        long_at: Some(72),
+        kind_shift: Some(2),
+        compact_bit: Some(5),
+        ascii_bit: Some(6),
+    },
+    bytes: BytesAt {
+        size: 32,
+        length: 16,
+        at: 32,
+    },
+    tuple: TupleAt {
+        size: 24,
+        count: 16,
+        at: 24,
+    },
+    list: ListAt {
+        size: 40,
+        count: 16,
+        items: 24,
+    },
+    object: ObjectAt { size: 16, klass: 8 },
+    klass: KlassAt {
+        size: 48,
+        name: 24,
+        flags: 32,
+        dict_offset: 40,
+    },
+    long: LongAt {
+        size: 32,
+        count: 16,
+        digits: 24,
+    },
+    small: ValueAt {
+        size: 24,
+        value: 16,
+    },
+    float: ValueAt {
+        size: 24,
+        value: 16,
+    },
+    dict: Some(DictAt {
+        size: 48,
+        keys: 32,
+        values: 40,
+    }),
+    keys: Some(KeysAt {
+        size: 40,
+        used: 32,
+        slots: Some(8),
+        log2: None,
+        kind: None,
+    }),
+    heap: None,
+    gil: None,
+    offsets: None,
+};
+
 impl Layout {
     ghost use Rattle.std.specs.Prelude.{◌≡◌, ◌↔◌, IsTrue};
     ghost use Rattle.py_layout.specs.Samples.{sample_layout};
@@ -358,116 +470,7 @@ impl Layout {
         ensures value { result ≡ sample_layout }
         ensures sound { IsSound result }
     {
-        Layout {
-            major: 3,
-            first_minor: 9,
-            last_minor: 9,
-            bytes_text: false,
-            head: Head::Runtime,
-            lock: Lock::Runtime,
-            frames: Frames::Direct,
-            lasti: Lasti::Bytes,
-            lines: Lines::Pairs,
-            strings: Strings::State,
-            integers: Integers::Signed,
-            dicts: Dicts::General,
-            managed: Managed::Absent,
-            interpreter: InterpreterAt {
-                threads: 8,
-                modules: 16,
-                gil: None,
-            },
-            thread: ThreadAt {
-                size: 64,
-                next: 8,
-                interp: 16,
-                id: 32,
-                frame: 24,
-                native_id: None,
-            },
-            cframe: None,
-            frame: FrameAt {
-                size: 64,
-                code: 16,
-                back: 24,
-                instr: 32,
-                entry: None,
-                locals: 56,
-                code_tag_bits: 0,
-            },
-            code: CodeAt {
-                size: 64,
-                argcount: 16,
-                nlocals: 20,
-                first_line: 24,
-                filename: 32,
-                name: 40,
-                table: 48,
-                varnames: 56,
-                start: None,
-            },
-            string: StringAt {
-                size: 72,
-                length: 16,
-                state: Some(32),
-                pointer: Some(64),
-                short_at: 48,
-                long_at: Some(72),
-                kind_shift: Some(2),
-                compact_bit: Some(5),
-                ascii_bit: Some(6),
-            },
-            bytes: BytesAt {
-                size: 32,
-                length: 16,
-                at: 32,
-            },
-            tuple: TupleAt {
-                size: 24,
-                count: 16,
-                at: 24,
-            },
-            list: ListAt {
-                size: 40,
-                count: 16,
-                items: 24,
-            },
-            object: ObjectAt { size: 16, klass: 8 },
-            klass: KlassAt {
-                size: 48,
-                name: 24,
-                flags: 32,
-                dict_offset: 40,
-            },
-            long: LongAt {
-                size: 32,
-                count: 16,
-                digits: 24,
-            },
-            small: ValueAt {
-                size: 24,
-                value: 16,
-            },
-            float: ValueAt {
-                size: 24,
-                value: 16,
-            },
-            dict: Some(DictAt {
-                size: 48,
-                keys: 32,
-                values: 40,
-            }),
-            keys: Some(KeysAt {
-                size: 40,
-                used: 32,
-                slots: Some(8),
-                log2: None,
-                kind: None,
-            }),
-            heap: None,
-            gil: None,
-            offsets: None,
-        }
+        SAMPLE
     }
 
     /// Whether the layout covers a version: by its major and minor alone.

@@ -20,9 +20,7 @@ pub use layout::{
     OffsetsAt, StringAt, Strings, ThreadAt, TupleAt, ValueAt,
 };
 pub use layouts::Layouts;
-pub use py_version::{
-    ScanError, Version, get_interp_head_offset, get_tstate_current_offset,
-};
+pub use py_version::{ScanError, Version, get_interp_head_offset, get_tstate_current_offset};
 
 #[cfg(test)]
 mod file_tests;

@@ -8,6 +8,38 @@ use elf64_core::Text;
 use std::alloc::{AllocError, Global};
 use std::test::Fail;
 
+fn keys_at(
+    size: u32,
+    used: u32,
+    slots: Option<u32>,
+    log2: Option<u32>,
+    kind: Option<u32>,
+) -> Option<KeysAt> {
+    Some(KeysAt {
+        size,
+        used,
+        slots,
+        log2,
+        kind,
+    })
+}
+
+fn heap_at(size: u32, inline: u32) -> Option<HeapAt> {
+    Some(HeapAt {
+        size,
+        cached_keys: 48,
+        inline,
+    })
+}
+
+fn gil_at(size: u32, locked: u32, holder: u32) -> Option<GilAt> {
+    Some(GilAt {
+        size,
+        locked,
+        holder,
+    })
+}
+
 /// The sample with the line tables of 3.10.
 pub(crate) fn python_3_10() -> Layout {
     Layout {
@@ -59,23 +91,9 @@ pub(crate) fn python_3_12() -> Layout {
             start: Some(64),
             ..sample.code
         },
-        keys: Some(KeysAt {
-            size: 32,
-            used: 24,
-            slots: None,
-            log2: Some(9),
-            kind: Some(10),
-        }),
-        heap: Some(HeapAt {
-            size: 64,
-            cached_keys: 48,
-            inline: 24,
-        }),
-        gil: Some(GilAt {
-            size: 24,
-            locked: 16,
-            holder: 8,
-        }),
+        keys: keys_at(32, 24, None, Some(9), Some(10)),
+        heap: heap_at(64, 24),
+        gil: gil_at(24, 16, 8),
         ..sample
     }
 }
@@ -241,53 +259,17 @@ fn spoil_objects(layout: &mut Layout, case: u32) {
             values: 40,
         }),
         16 => layout.dict = None,
-        17 => layout.keys = Some(KeysAt {
-            size: 0,
-            used: 32,
-            slots: Some(8),
-            log2: None,
-            kind: None,
-        }),
-        18 => layout.keys = Some(KeysAt {
-            size: 40,
-            used: 32,
-            slots: None,
-            log2: None,
-            kind: None,
-        }),
-        19 => layout.keys = Some(KeysAt {
-            size: 40,
-            used: 32,
-            slots: Some(8),
-            log2: Some(0),
-            kind: None,
-        }),
-        20 => layout.keys = Some(KeysAt {
-            size: 40,
-            used: 32,
-            slots: Some(8),
-            log2: None,
-            kind: Some(0),
-        }),
+        17 => layout.keys = keys_at(0, 32, Some(8), None, None),
+        18 => layout.keys = keys_at(40, 32, None, None, None),
+        19 => layout.keys = keys_at(40, 32, Some(8), Some(0), None),
+        20 => layout.keys = keys_at(40, 32, Some(8), None, Some(0)),
         21 => layout.keys = None,
         22 => layout.dicts = Dicts::Absent,
-        23 => layout.heap = Some(HeapAt {
-            size: 64,
-            cached_keys: 48,
-            inline: 24,
-        }),
-        24 => layout.gil = Some(GilAt {
-            size: 24,
-            locked: 16,
-            holder: 8,
-        }),
+        23 => layout.heap = heap_at(64, 24),
+        24 => layout.gil = gil_at(24, 16, 8),
         25 => {
             layout.managed = Managed::Tagged;
-            layout.heap = Some(HeapAt {
-                size: 64,
-                cached_keys: 48,
-                inline: 24,
-            });
+            layout.heap = heap_at(64, 24);
         }
         _ => {}
     }
@@ -304,43 +286,15 @@ fn spoil_python_3_12(layout: &mut Layout, case: u32) {
         5 => layout.frame.instr = 66,
         6 => layout.code.start = None,
         7 => layout.code.start = Some(1 << 20),
-        8 => layout.keys = Some(KeysAt {
-            size: 32,
-            used: 24,
-            slots: None,
-            log2: None,
-            kind: Some(10),
-        }),
-        9 => layout.keys = Some(KeysAt {
-            size: 32,
-            used: 24,
-            slots: None,
-            log2: Some(9),
-            kind: Some(9),
-        }),
+        8 => layout.keys = keys_at(32, 24, None, None, Some(10)),
+        9 => layout.keys = keys_at(32, 24, None, Some(9), Some(9)),
         10 => layout.heap = None,
-        11 => layout.heap = Some(HeapAt {
-            size: 0,
-            cached_keys: 48,
-            inline: 24,
-        }),
-        12 => layout.heap = Some(HeapAt {
-            size: 64,
-            cached_keys: 48,
-            inline: 1 << 20,
-        }),
+        11 => layout.heap = heap_at(0, 24),
+        12 => layout.heap = heap_at(64, 1 << 20),
         13 => layout.gil = None,
-        14 => layout.gil = Some(GilAt {
-            size: 24,
-            locked: 17,
-            holder: 20,
-        }),
+        14 => layout.gil = gil_at(24, 17, 20),
         15 => layout.dicts = Dicts::General,
-        16 => layout.gil = Some(GilAt {
-            size: 0,
-            locked: 16,
-            holder: 8,
-        }),
+        16 => layout.gil = gil_at(0, 16, 8),
         17 => {
             layout.head = Head::Offsets;
             layout.offsets = Some(OffsetsAt { size: 0, head: 0 });

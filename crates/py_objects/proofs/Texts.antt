@@ -9,8 +9,6 @@ use Rattle.std.proofs.lemmas.Bool.Decides.{nat_tests}
 use Rattle.elf64_core.specs.Fields.{word_in}
 use Rattle.image_memory.specs.Memory.{Memory, Found, Fault, found_or, ◌>>=◌, record_at}
 use Rattle.image_memory.specs.Memory.Fault.{Missing, NoText, TooLong}
-use Rattle.image_memory.specs.Seen.{Seen, ReadingBelow, Answers}
-use Rattle.image_memory.proofs.Reading.{reading_gives, reading_none}
 use Rattle.py_layout.specs.declared.layout.Layout.{Layout}
 use Rattle.py_objects.specs.declared.strings.Characters.{Characters}
 use Rattle.py_objects.specs.declared.error.ObjectError.{ObjectError}
@@ -19,14 +17,6 @@ use Rattle.py_objects.specs.ObjectError.{fault_of}
 use Rattle.py_objects.specs.TextKind.{width, decoded}
 use Rattle.py_objects.specs.Texts.{characters_of, characters_at, text_of_length, text_at, StandsAt, HasCharacters, IsText}
 use Rattle.py_objects.proofs.Codings.{decoded_is, coding_of_decoded}
-
--- the same definition
-pub reads_same : {limit : ℕ} {T E : Type 0} {fault : E → Option Fault} {n : ℕ} {s0 s1 : Seen} {r : Result T E} (d e : Memory → Found T) → ((m : Memory) → d m ≡ e m) → ReadingBelow limit n s0 s1 (λ m. Answers fault (e m) r) → ReadingBelow limit n s0 s1 (λ m. Answers fault (d m) r)
-reads_same d e same p = reading_gives _ _ p (omega arith) (λ m a. rw (same m) a)
-
--- nothing was read
-pub reads_known : {limit : ℕ} {T E : Type 0} {fault : E → Option Fault} (k : ℕ) {s : Seen} (d : Memory → Found T) (r : Result T E) → ((m : Memory) → Answers fault (d m) r) → ReadingBelow limit k s s (λ m. Answers fault (d m) r)
-reads_known k d r f = reading_none k _ _ f
 
 module _ (l : Layout) (m : Memory) (a : ℕ) (object : List ℕ) where
   pub length_zero : (n : ℕ) → n ≡ 0 → text_of_length l m a object n ≡ Ok []

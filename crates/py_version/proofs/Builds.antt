@@ -2,6 +2,7 @@
 use Rattle.std.proofs.Common.{◌≡◌, ◌≢◌, ℕ, ◌<◌, Bool, true, false, List, [], ◌∷◌, ◌++◌, length, take, drop, get_or, refl, sym, ap, subst, ◌∙◌, arith}
 use Rattle.std.specs.Prelude.{Option, Some, None, if◌then◌else◌, ◌==◌, All, IsTrue}
 use Rattle.std.proofs.lemmas.Bool.Decides.{nat_tests}
+use Rattle.std.proofs.lemmas.Option.{same_Some}
 use Rattle.std.proofs.lemmas.List.{get_or-take, take-append-drop}
 use Rattle.std.proofs.lemmas.List.Elements.{All-append, All-cons, All-from_get_or, All-head, All-nil, All-tail, All-weaker}
 use Rattle.std.proofs.lemmas.List.Folds.{length-prefix_len}
@@ -172,9 +173,9 @@ left_if b x y is = rw is refl
 
 pub metadata_spells : (bytes rest : List ℕ) (m : Option (List ℕ)) → metadata_front bytes ≡ Some (m, rest) → (text : List ℕ) × IsMetadata text m × (bytes ≡ text ++ rest)
 metadata_spells [] rest m e =
-    let same = chose true (None, []) (m, rest) e in
-    let none : None ≡ m = ap (λ (x : Option (List ℕ) × List ℕ). x.0) same.1 in
-    let left : [] ≡ rest = ap (λ (x : Option (List ℕ) × List ℕ). x.1) same.1 in
+    let same = same_Some (None, []) (m, rest) e in
+    let none : None ≡ m = ap (λ (x : Option (List ℕ) × List ℕ). x.0) same in
+    let left : [] ≡ rest = ap (λ (x : Option (List ℕ) × List ℕ). x.1) same in
     ([], subst (IsMetadata []) none refl, left)
 metadata_spells (plus ∷ more) rest m e = by (plus == 43) refl
   where
@@ -199,7 +200,7 @@ metadata_spells (plus ∷ more) rest m e = by (plus == 43) refl
           ap (λ r. plus ∷ r) (sym (take-append-drop n more) ∙ ap (λ r. take n more ++ r) left),
         )
     by false is =
-        let same = chose true (None, plus ∷ more) (m, rest) (sym (left_if (plus == 43) _ _ is) ∙ e) in
-        let none : None ≡ m = ap (λ (x : Option (List ℕ) × List ℕ). x.0) same.1 in
-        let left : plus ∷ more ≡ rest = ap (λ (x : Option (List ℕ) × List ℕ). x.1) same.1 in
+        let same = same_Some (None, plus ∷ more) (m, rest) (sym (left_if (plus == 43) _ _ is) ∙ e) in
+        let none : None ≡ m = ap (λ (x : Option (List ℕ) × List ℕ). x.0) same in
+        let left : plus ∷ more ≡ rest = ap (λ (x : Option (List ℕ) × List ℕ). x.1) same in
         ([], subst (IsMetadata []) none refl, left)

@@ -3,6 +3,7 @@ use Rattle.std.proofs.Common.{◌≡◌, ◌≢◌, ℕ, Bool, true, false, List
 use Rattle.std.specs.Prelude.{Option, Some, None, codes, ◌==◌, not}
 use Rattle.std.specs.Char.{encode_utf8}
 use Rattle.std.proofs.lemmas.Bool.{and_parts}
+use Rattle.std.proofs.lemmas.Option.{same_Some}
 use Rattle.std.proofs.lemmas.List.{append_cancel_left}
 use Rattle.std.proofs.lemmas.Bool.Decides.{nat_tests}
 use Rattle.bstr.specs.Utf8.{Decoded, decoded}
@@ -11,7 +12,6 @@ use Rattle.bstr.proofs.lemmas.SoundLemmas.{SpellsChar-decoded}
 use Rattle.py_version.specs.Spelling.{AreFlags, IsEnd, IsLevel, IsMetadata, IsPreRelease}
 use Rattle.py_version.specs.Fronts.{digit_front, has_end, is_no_newline, level_len}
 use Rattle.py_version.proofs.Builds.{Ends}
-use Rattle.py_version.proofs.Numbers.{chose}
 
 -- ---- what stands behind the flags and the metadata
 
@@ -75,5 +75,5 @@ end_once one other after left a b same =
     let bytes : encode_utf8 a.char ++ after ≡ encode_utf8 b.char ++ left = append_cancel_left (codes " ") _ _ (sym (ap (λ t. t ++ after) a.parts) ∙ same ∙ ap (λ t. t ++ left) b.parts) in
     let first : (decoded (encode_utf8 a.char ++ after)).char ≡ Some a.char = ap (λ (d : Decoded). d.char) (decoded-encode a.char after a.scalar) in
     let second : (decoded (encode_utf8 b.char ++ left)).char ≡ Some b.char = ap (λ (d : Decoded). d.char) (decoded-encode b.char left b.scalar) in
-    let chars : a.char ≡ b.char = (chose true a.char b.char (sym first ∙ ap (λ t. (decoded t).char) bytes ∙ second)).1 in
+    let chars : a.char ≡ b.char = same_Some a.char b.char (sym first ∙ ap (λ t. (decoded t).char) bytes ∙ second) in
     a.parts ∙ ap (λ c. codes " " ++ encode_utf8 c) chars ∙ sym b.parts

@@ -6,6 +6,7 @@ use Rattle.std.specs.Char.{is_ascii_digit}
 use Rattle.std.specs.Int.{is_in_range}
 use Rattle.std.proofs.lemmas.Bool.{cases_lt}
 use Rattle.std.proofs.lemmas.Bool.Decides.{nat_tests}
+use Rattle.std.proofs.lemmas.Option.{same_Some}
 use Rattle.std.proofs.lemmas.Fmt.{decimal_digit}
 use Rattle.py_version.specs.Spelling.{IsMajor, IsMinor, IsShort}
 use Rattle.py_version.specs.Fronts.{Front, digit_front, high_minor, low_minor, major_front, minor_front, or_front, short_front, two_digits}
@@ -134,9 +135,9 @@ short_spells bytes rest n e = first (digit_front bytes) refl e
     second : (tens : ℕ) (more : List ℕ) (ones : Front) → digit_front bytes ≡ Some (tens, more) → digit_front more ≡ ones → two_digits tens more ones ≡ Some (n, rest) → IsAnswer
     second tens more None one none found =
         let a = digit_spells bytes more tens one in
-        let same = chose true (tens, more) (n, rest) found in
-        let value : tens ≡ n = ap (λ (x : ℕ × List ℕ). x.0) same.1 in
-        let left : more ≡ rest = ap (λ (x : ℕ × List ℕ). x.1) same.1 in
+        let same = same_Some (tens, more) (n, rest) found in
+        let value : tens ≡ n = ap (λ (x : ℕ × List ℕ). x.0) same in
+        let left : more ≡ rest = ap (λ (x : ℕ × List ℕ). x.1) same in
         (a.0 ∷ [], (a.1, sym value ∙ a.2), a.3 ∙ ap (λ r. a.0 ∷ r) left)
     second tens more (Some ones) one two found =
         let a = digit_spells bytes more tens one in

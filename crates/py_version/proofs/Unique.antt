@@ -1,11 +1,12 @@
 -- At one place one text alone spells a version.
 use Rattle.std.proofs.Common.{◌≡◌, ℕ, true, List, ◌++◌, sym, ap, subst, ◌∙◌}
 use Rattle.std.specs.Prelude.{Option, Some, None, codes}
+use Rattle.std.proofs.lemmas.Option.{same_Some}
 use Rattle.std.proofs.lemmas.List.{append_cancel_left, append_cancel_right}
 use Rattle.py_version.specs.declared.version.Version.{Version}
 use Rattle.py_version.specs.Spelling.{IsMetadata, Spells, SpellsOnce}
 use Rattle.py_version.specs.Fronts.{short_front, spelled}
-use Rattle.py_version.proofs.Numbers.{chose, short_read}
+use Rattle.py_version.proofs.Numbers.{short_read}
 use Rattle.py_version.proofs.Ends.{behind_flags, behind_patch, end_once}
 use Rattle.py_version.proofs.Spellings.{along, spelled_read}
 
@@ -35,8 +36,8 @@ text_once text other after left v a b same =
     let from_minor : a.minor ++ (codes "." ++ (a.patch ++ a_rest)) ≡ b.minor ++ (codes "." ++ (b.patch ++ b_rest)) =
     behind_dot a.major b.major _ _ majors from_major in
     let from_patch : a.patch ++ a_rest ≡ b.patch ++ b_rest = behind_dot a.minor b.minor _ _ minors from_minor in
-    let fronts = chose true (v.patch, a_rest) (v.patch, b_rest) (sym (patch_left text after v a) ∙ ap short_front from_patch ∙ patch_left other left v b) in
-    let rests : a_rest ≡ b_rest = ap (λ (x : ℕ × List ℕ). x.1) fronts.1 in
+    let fronts = same_Some (v.patch, a_rest) (v.patch, b_rest) (sym (patch_left text after v a) ∙ ap short_front from_patch ∙ patch_left other left v b) in
+    let rests : a_rest ≡ b_rest = ap (λ (x : ℕ × List ℕ). x.1) fronts in
     let patches : a.patch ≡ b.patch = append_cancel_right a.patch b.patch b_rest (sym (ap (λ r. a.patch ++ r) rests) ∙ from_patch) in
     let from_metadata : a.metadata ++ (a.last ++ after) ≡ b.metadata ++ (b.last ++ left) = append_cancel_left flags _ _ rests in
     let metadatas : a.metadata ≡ b.metadata = metadata_same a.metadata b.metadata v.build_metadata a.is_metadata b.is_metadata in
@@ -46,7 +47,7 @@ text_once text other after left v a b same =
 
 version_once : (text other after left : List ℕ) (v w : Version) → Spells text v → Spells other w → text ++ after ≡ other ++ left → v ≡ w
 version_once text other after left v w a b same =
-    (chose true v w (sym (spelled_read text after v a) ∙ ap spelled same ∙ spelled_read other left w b)).1
+    same_Some v w (sym (spelled_read text after v a) ∙ ap spelled same ∙ spelled_read other left w b)
 
 pub spells_once : (bytes : List ℕ) → SpellsOnce bytes
 spells_once bytes place text other v w a b =

@@ -1,4 +1,4 @@
-use Rattle.std.proofs.Common.{◌≡◌, ◌+◌, ◌∙◌, ◌-◌, ◌≤◌, ◌<◌, length, take, drop, arith}
+use Rattle.std.proofs.Common.{◌+◌, arith}
 use Rattle.image_memory.proofs.Stretch.{run_fits, put_long, copied_more}
 use Rattle.image_memory.proofs.pieces.fill.Goals as goal
 

@@ -1,4 +1,4 @@
-use Rattle.std.proofs.Common.{ℕ, ◌+◌, ◌<◌, arith, rules}
+use Rattle.std.proofs.Common.{arith}
 use Rattle.image_memory.proofs.Records.{record_each, record_lack}
 use Rattle.image_memory.proofs.pieces.read_pieces.Goals as goal
 

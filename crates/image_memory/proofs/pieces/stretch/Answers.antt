@@ -1,9 +1,9 @@
-use Rattle.std.proofs.Common.{◌≡◌, ℕ, ◌+◌, ◌-◌, ◌<◌, ◌≤◌, length, take, get_or, arith, sym, ap, ◌∙◌, length-take, get_or-take}
+use Rattle.std.proofs.Common.{◌≡◌, ◌+◌, ◌<◌, length, arith, sym, ap, ◌∙◌, length-take, get_or-take}
 use Rattle.std.specs.Prelude.{Some, None}
 use Rattle.image_memory.specs.Pieces.{run_in}
 use Rattle.image_memory.specs.Memory.{Region}
 use Rattle.image_memory.proofs.Records.{byte_at-above}
-use Rattle.image_memory.proofs.Stretch.{IsRun, run-some, run-none, region_before, skips_more, byte_found, byte_missing}
+use Rattle.image_memory.proofs.Stretch.{run-some, run-none, region_before, skips_more, byte_found, byte_missing}
 use Rattle.image_memory.proofs.pieces.stretch.Goals as goal
 use Rattle.image_memory.proofs.pieces.stretch.Goals.{then-addr-start, else-addr-start}
 

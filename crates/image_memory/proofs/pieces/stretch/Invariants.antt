@@ -1,4 +1,4 @@
-use Rattle.std.proofs.Common.{◌≡◌, ℕ, ◌+◌, ◌-◌, ◌^◌, ◌<◌, ◌≤◌}
+use Rattle.std.proofs.Common.{◌+◌, ◌-◌, ◌^◌, ◌<◌, ◌≤◌}
 use Rattle.image_memory.proofs.Stretch.{AreSkipped}
 use Rattle.image_memory.proofs.pieces.stretch.Given as goal
 

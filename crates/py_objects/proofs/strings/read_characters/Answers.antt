@@ -1,8 +1,7 @@
 use Rattle.std.proofs.Common.{arith}
 use Rattle.std.proofs.lemmas.Result.{err_from_is_err_and}
-use Rattle.image_memory.proofs.Reading.{reads_next, reads_halt}
+use Rattle.image_memory.proofs.Reading.{reads_halt, reads_known, reads_next}
 use Rattle.py_objects.specs.Texts.{characters_at}
-use Rattle.py_objects.proofs.Texts.{reads_known}
 use Rattle.py_objects.proofs.strings.read_characters.Goals as goal
 
 pub returns-in_err-bytes : goal.returns-in_err-bytes

@@ -3,10 +3,10 @@ use Rattle.std.specs.Prelude.{Some, None, Ok, Err}
 use Rattle.std.proofs.lemmas.Result.{err_from_is_err_and}
 use Rattle.elf64_core.specs.Fields.{word_in}
 use Rattle.image_memory.specs.Memory.Fault.{TooLong}
-use Rattle.image_memory.proofs.Reading.{reads_next, reads_halt}
+use Rattle.image_memory.proofs.Reading.{reads_halt, reads_known, reads_next, reads_same}
 use Rattle.py_objects.specs.Texts.{text_at, text_of_length, characters_of, characters_at}
 use Rattle.py_layout.proofs.Fields.{string_fits}
-use Rattle.py_objects.proofs.Texts.{reads_known, reads_same, length_zero, length_long, length_fine, no_kind, empty_text}
+use Rattle.py_objects.proofs.Texts.{length_zero, length_long, length_fine, no_kind, empty_text}
 use Rattle.py_objects.proofs.strings.read_text.Goals as goal
 
 pub word_in-length-requires : goal.word_in-length-requires
