@@ -10,6 +10,7 @@ tell it, and where both do they must agree: else nothing is written, and the err
 
 import argparse
 import json
+import re
 import shlex
 import subprocess
 import sys
@@ -21,23 +22,20 @@ from layout_plan import MINORS, Field, Group, Plan, plan_of
 from layout_sources import Answers, from_debug_information, from_headers
 
 ASK = """
-import json, os, platform, struct, sys, sysconfig
-libraries = set()
+import json, os, platform, re, struct, sys, sysconfig
 with open("/proc/self/maps") as maps:
-    for line in maps:
-        path = line.rstrip("\\n").partition("/")
-        if os.path.basename(path[2]).startswith("libpython"):
-            libraries.add(path[1] + path[2])
+    libraries = re.findall(r"(/.*/libpython3[.][0-9].*)", maps.read())
 told = {
     "implementation": platform.python_implementation(),
     "version": list(sys.version_info[:3]),
     "level": sys.version_info[3],
     "build": " ".join(sys.version.split()),
     "executable": os.path.realpath(sys.executable),
-    "libraries": sorted(libraries),
+    "libraries": libraries,
     "machine": platform.machine(),
     "pointer": struct.calcsize("P"),
     "order": sys.byteorder,
+    "free_threaded": bool(sysconfig.get_config_var("Py_GIL_DISABLED")),
     "includes": [sysconfig.get_paths()[name] for name in ("include", "platinclude")],
     "configured": sysconfig.get_config_var("CONFIG_ARGS") or "",
     "flags": [sysconfig.get_config_var(name) or "" for name in ("CPPFLAGS", "CFLAGS")],
@@ -48,11 +46,17 @@ print(json.dumps(told))
 
 
 class DeriveError(Exception):
-    """Why there is no layout; `keys` are those of the fields that nothing tells."""
+    """Why there is no layout: one line, or, where fields are at fault, one for each, whose keys are `keys`."""
 
     def __init__(self, why: str, keys: Sequence[str] = ()):
         super().__init__(why)
         self.keys = tuple(keys)
+
+    @property
+    def brief(self) -> str:
+        """The first line, and how many more there are."""
+        first, *others = str(self).splitlines()
+        return f"{first} (and {len(others)} more fields)" if others else first
 
 
 @dataclass(frozen=True)
@@ -83,8 +87,8 @@ class Derived:
     build: Build
     text: str
     numbers: Dict[str, int]
-    """The layout's numbers, by keys such as thread.next, and, with runtime.head and runtime.current, those that lie
-    in _PyRuntime as far as anything tells them."""
+    """The layout's numbers, by keys such as thread.next; also runtime.head and runtime.current, places in _PyRuntime,
+    where something tells them."""
     lock: str
     with_dicts: bool
 
@@ -110,13 +114,13 @@ def build_of(python: str) -> Build:
         last = (ran.stderr.strip().splitlines() or ["it told nothing of itself"])[-1]
         raise DeriveError(f"it is no Python 3 that runs ({last})") from error
     version = tuple(told["version"])
+    name = f"{told['implementation']} {told['build']}"
     if told["implementation"] != "CPython" or version[0] != 3 or version[1] not in MINORS or told["level"] != "final":
-        raise DeriveError(f"it is {told['implementation']} {told['build']}: layouts are derived for CPython 3.7 to 3.13")
+        raise DeriveError(f"it is {name}, and layouts are derived for CPython 3.7 to 3.13")
     if told["pointer"] != 8 or told["order"] != "little":
         raise DeriveError("it isn't a 64-bit little-endian build")
-    # (FORTIFY wants an optimizing compiler, and changes no struct)
-    words = [word for flags in told["flags"] for word in shlex.split(flags)]
-    flags = [it for it in words if it[:2] in ("-D", "-U") and len(it) > 2 and "FORTIFY" not in it]
+    if told["free_threaded"]:
+        raise DeriveError("it is a free-threaded build, for which there is no plan")
     return Build(
         executable=told["executable"],
         version=version,
@@ -125,8 +129,18 @@ def build_of(python: str) -> Build:
         machine=told["machine"],
         includes=tuple(dict.fromkeys(told["includes"])),
         configured=told["configured"],
-        flags=tuple(dict.fromkeys(flags)),
+        flags=macros_in(" ".join(told["flags"])),
     )
+
+
+def macros_in(flags: str) -> Tuple[str, ...]:
+    """The -D and -U of a compiler's flags, but for FORTIFY, which wants an optimizing compiler and changes no struct."""
+    try:
+        words = shlex.split(flags)
+    except ValueError:
+        words = flags.split()
+    found = [it for it in words if it[:2] in ("-D", "-U") and len(it) > 2 and "FORTIFY" not in it]
+    return tuple(dict.fromkeys(found))
 
 
 def same_version(build: Build) -> Optional[str]:
@@ -134,9 +148,9 @@ def same_version(build: Build) -> Optional[str]:
     for folder in build.includes:
         header = Path(folder) / "patchlevel.h"
         if header.is_file():
-            defined = [line.split() for line in header.read_text().splitlines() if line.startswith("#define PY_VERSION ")]
-            told = defined[0][2].strip('"') if defined else "none"
-            return None if told == build.dotted else f"the headers in {folder} are of {told}"
+            defined = re.search(r'^#define PY_VERSION\s+"(.*)"', header.read_text(), re.MULTILINE)
+            told = defined.group(1) if defined else "no version"
+            return None if told.rstrip("+") == build.dotted else f"the headers in {folder} are of {told}"
     return None
 
 
@@ -176,7 +190,7 @@ def settled(plan: Plan, answers: Sequence[Answers]) -> Dict[str, int]:
     faults = {it.key: fault_of(it, answers) for it in plan.wanted}
     faults = {key: why for key, why in faults.items() if why}
     if faults:
-        raise DeriveError("; ".join(faults.values()), list(faults))
+        raise DeriveError("\n".join(faults.values()), list(faults))
     extra = [it for it in plan.runtime if fault_of(it, answers) is None]
     numbers = {}
     for it in [*plan.wanted, *extra]:
@@ -226,12 +240,12 @@ def comments(build: Build, plan: Plan, numbers: Dict[str, int], answers: Sequenc
         lines.append(f"debug information: {build.binary}")
     lines += told_by(plan, answers)
     if dict(plan.families)["dicts"] == "none":
-        lines.append("without dicts, as asked for: nothing told where their fields are")
-    lines.append("by neither: frame.code_tag_bits (no code's address has a tag up to 3.13), and small (there is no PyIntObject)")
+        lines.append("without dicts, since that was asked for")
+    lines.append("by neither: frame.code_tag_bits (no address of code has a tag), and small (there is no PyIntObject)")
     for key, what in (("runtime.head", "the first interpreter's address"), ("runtime.current", "the current thread's")):
         if key in numbers:
             lines.append(f"_PyRuntime holds {what} at {numbers[key]}")
-    return [f"# {line}" for line in lines]
+    return [f"# {' '.join(line.split())}" for line in lines]
 
 
 def derive(build: Build, with_dicts: bool = True, tools: Tools = Tools()) -> Derived:
@@ -261,10 +275,11 @@ def main() -> int:
     try:
         derived = derive(build_of(words.python), not words.without_dicts, Tools(words.cc, words.gdb))
     except DeriveError as error:
-        print(f"derive_layout: {words.python}: {error}", file=sys.stderr)
+        for line in str(error).splitlines():
+            print(f"derive_layout: {words.python}: {line}", file=sys.stderr)
         return 1
     if words.output:
-        Path(words.output).write_text(derived.text)
+        Path(words.output).write_text(derived.text, encoding="utf-8")
     else:
         print(derived.text, end="")
     return 0

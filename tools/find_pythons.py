@@ -35,7 +35,7 @@ def folders() -> Iterator[str]:
     yield from os.environ.get("PATH", "").split(os.pathsep)
     for pattern in MANAGED:
         try:
-            yield from sorted(glob.glob(os.path.expanduser(pattern.format(**os.environ))))
+            yield from sorted(glob.glob(os.path.expanduser(pattern.format_map(os.environ))))
         except KeyError:
             # (that manager isn't in use)
             continue
@@ -46,13 +46,20 @@ def version_key(path: str) -> List[int]:
     return [int(number) for number in re.findall(r"\d+", path)]
 
 
+def is_program(path: str) -> bool:
+    """Whether a file is a program, and no script, such as the shims of version managers are."""
+    try:
+        with open(path, "rb") as start:
+            return os.access(path, os.X_OK) and start.read(4) == b"\x7fELF"
+    except OSError:
+        return False
+
+
 def pythons() -> List[str]:
-    """The executables named python3 or python3.N, each once; shims of version managers, which are scripts, are not."""
-    found = {}
-    for folder in folders():
-        for path in sorted(glob.glob(f"{glob.escape(folder)}/python3*")):
-            if folder and re.fullmatch(r"python3(\.\d+t?)?", Path(path).name) and os.access(path, os.X_OK):
-                with open(path, "rb") as start:
-                    if start.read(4) == b"\x7fELF":
-                        found.setdefault(os.path.realpath(path), path)
+    """The programs named python3 or python3.N, each once."""
+    found = set()
+    for folder in filter(None, folders()):
+        for path in glob.glob(f"{glob.escape(folder)}/python3*"):
+            if re.fullmatch(r"python3(\.\d+t?)?", Path(path).name) and is_program(path):
+                found.add(os.path.realpath(path))
     return sorted(found, key=lambda path: (version_key(path), path))

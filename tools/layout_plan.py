@@ -74,7 +74,8 @@ def group(name: str, struct: str, sized=(), plain=(), has_size=True, size=None, 
 
 def families_of(minor: int, with_dicts: bool) -> Tuple[Tuple[str, str], ...]:
     """The families of 3.minor."""
-    managed = {11: "split"}.get(minor, "tagged" if minor >= 12 else "none")
+    # (3.13 has values inside its objects: `split` reaches those of objects with a weak reference, `tagged` none)
+    managed = {11: "split", 12: "tagged", 13: "split"}.get(minor, "none")
     return (
         ("head", "offsets" if minor >= 13 else "runtime"),
         ("lock", "gil" if minor >= 12 else "runtime"),

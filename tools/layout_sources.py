@@ -1,4 +1,4 @@
-"""The two that tell where fields stand: a CPython's installed headers, by a C compiler, and debug information, by gdb."""
+"""The two that tell where fields stand: installed headers, by a C compiler, and debug information, by gdb."""
 
 import json
 import os
@@ -104,12 +104,13 @@ def compiled(folder: Path, compiler: Sequence[str], lines: Sequence[str]) -> Tup
     """Whether the compiler takes these lines of C, and what it says."""
     (folder / "probe.c").write_text("\n".join(lines) + "\n")
     command = [*compiler, "-w", "probe.c", "-o", "probe"]
-    ran = subprocess.run(command, cwd=folder, stdout=subprocess.PIPE, stderr=subprocess.STDOUT, text=True)
+    how = {"stdin": subprocess.DEVNULL, "stdout": subprocess.PIPE, "stderr": subprocess.STDOUT}
+    ran = subprocess.run(command, cwd=folder, text=True, errors="replace", **how)
     return ran.returncode == 0, ran.stdout
 
 
 def from_headers(fields: Sequence[Field], includes: Sequence[str], flags: Sequence[str], cc: str) -> Answers:
-    """What the headers in these folders tell, by a C program that the compiler cc builds; left out is what it refuses."""
+    """What the headers in these folders tell, by a C program. Left out of it is what the compiler refuses."""
     answers = Answers("headers")
     if not any((Path(it) / "Python.h").is_file() for it in includes):
         return answers.none(fields, f"no Python.h in {', '.join(includes)}")
@@ -138,7 +139,10 @@ def from_headers(fields: Sequence[Field], includes: Sequence[str], flags: Sequen
             headers = {at: why for at, why in faults.items() if body[at][1] in installed}
             answers.reasons.update({body[at][1]: why for at, why in faults.items()})
             body = [it for at, it in enumerate(body) if at not in (headers or faults)]
-        ran = subprocess.run([folder / "probe"], stdout=subprocess.PIPE, text=True, check=True)
+        try:
+            ran = subprocess.run([str(folder / "probe")], stdout=subprocess.PIPE, text=True, check=True)
+        except (OSError, subprocess.CalledProcessError) as error:
+            return answers.none(fields, f"what {cc} built doesn't run ({error})")
         answers.take(ran.stdout)
     answers.reasons = {key: why for key, why in answers.reasons.items() if key not in answers.places}
     return answers
@@ -147,15 +151,16 @@ def from_headers(fields: Sequence[Field], includes: Sequence[str], flags: Sequen
 def from_debug_information(fields: Sequence[Field], binary: str, gdb: str) -> Answers:
     """What the debug information of a binary tells, by gdb."""
     answers = Answers("debug information")
-    script = Path(__file__).with_name("gdb_fields.py")
+    script = Path(__file__).resolve().with_name("gdb_fields.py")
     with tempfile.NamedTemporaryFile("w", suffix=".json") as asked:
         json.dump([[it.key, it.struct, it.member, it.is_bit, it.after] for it in fields], asked)
         asked.flush()
         # (nothing is to be fetched from servers)
         given = {**os.environ, "FIELDS": asked.name, "DEBUGINFOD_URLS": ""}
-        command = [gdb, "-nx", "-batch", "-x", str(script), binary]
+        command = [gdb, "-nx", "-batch", "-iex", "set auto-load off", "-x", str(script), binary]
         try:
-            ran = subprocess.run(command, env=given, stdin=subprocess.DEVNULL, capture_output=True, text=True)
+            how = {"stdin": subprocess.DEVNULL, "capture_output": True, "text": True, "errors": "replace"}
+            ran = subprocess.run(command, env=given, **how)
         except OSError as error:
             return answers.none(fields, f"no debugger {gdb} ({error.strerror})")
     keys = {it.key for it in fields}

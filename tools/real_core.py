@@ -10,6 +10,7 @@ nothing that was tried failed.
 """
 
 import argparse
+import glob
 import json
 import os
 import re
@@ -24,7 +25,7 @@ from dataclasses import dataclass
 from pathlib import Path
 from typing import List, Optional, Sequence, Tuple
 
-from derive_layout import Derived, DeriveError, Build, build_of, derive
+from derive_layout import Build, Derived, DeriveError, build_of, derive
 from find_pythons import pythons
 
 ROOT = Path(__file__).resolve().parent.parent
@@ -75,37 +76,41 @@ class Walk:
     kilobytes: int
 
 
-def core_pattern() -> str:
-    """The kernel's pattern for names of cores, once it is known that cores are written to files at all."""
-    if not hasattr(os, "wait4") or not Path("/proc/sys/kernel/core_pattern").is_file():
-        raise Skip("this system has no /proc/sys/kernel/core_pattern")
-    pattern = Path("/proc/sys/kernel/core_pattern").read_text().strip()
-    if pattern.startswith("|"):
+def core_names() -> str:
+    """The glob for names of cores, where {pid} stands for the process, once it is known that cores are written to
+    files, and to such as can be told from those of other processes."""
+    path = Path("/proc/sys/kernel/core_pattern")
+    if not path.is_file():
+        raise Skip(f"this system has no {path}")
+    pattern = path.read_text().strip()
+    if pattern.startswith(("|", "@")):
         raise Skip(f"the kernel hands cores to a program, by the pattern {pattern}")
     if not pattern:
         raise Skip("the kernel writes no cores, since its pattern is empty")
     if resource.getrlimit(resource.RLIMIT_CORE)[1] == 0:
         raise Skip("the hard limit on the size of cores is 0")
-    return pattern
+    return names_by(pattern, Path("/proc/sys/kernel/core_uses_pid").read_text().strip() != "0")
 
 
-def names_of_core(pattern: str, pid: int, uses_pid: bool) -> str:
-    """The glob for the names that a process's core may have: the kernel's %p is known, its other words are not."""
-    words = {"%%": "%", "%p": str(pid)}
+def names_by(pattern: str, uses_pid: bool) -> str:
+    """The glob for a kernel's pattern: its %p is known, and its other words may be anything."""
+    words = {"%%": "%", "%p": "{pid}"}
     parts = re.split(r"(%.?)", pattern)
-    name = "".join(words.get(it, "*") if it.startswith("%") else it.replace("[", "[[]") for it in parts)
-    return name if "%p" in pattern or not uses_pid else f"{name}.{pid}"
+    name = "".join(words.get(it, "*") if it.startswith("%") else glob.escape(it) for it in parts)
+    if uses_pid and "%p" not in pattern:
+        name += ".{pid}"
+    if os.path.isabs(name) and "*" in name and "{pid}" not in name:
+        raise Skip(f"by the kernel's pattern {pattern} a core can't be told from others")
+    return name
 
 
-def find_core(pattern: str, pid: int, folder: Path, since: float) -> Path:
-    """The core that a process left, which ran in this folder."""
-    uses_pid = Path("/proc/sys/kernel/core_uses_pid").read_text().strip() != "0"
-    name = names_of_core(pattern, pid, uses_pid)
-    found = folder.glob(name) if not os.path.isabs(name) else Path("/").glob(name.lstrip("/"))
+def find_core(names: str, pid: int, folder: Path, since: float) -> Path:
+    """The core that a process left, which ran in this folder, empty before."""
+    found = [Path(it) for it in glob.glob(os.path.join(glob.escape(str(folder)), names.replace("{pid}", str(pid))))]
     # (a clock of files may be coarse)
     new = [it for it in found if it.is_file() and it.stat().st_mtime >= since - 2]
     if not new:
-        raise Skip(f"the kernel left no core, by the pattern {pattern}")
+        raise Skip(f"the kernel left no core named {names}")
     return max(new, key=lambda it: it.stat().st_mtime)
 
 
@@ -131,9 +136,9 @@ def told_from(line: str, derived: Derived) -> Told:
     return Told(told["interpreter"], lock, threads[::-1])
 
 
-def leave_core(derived: Derived, pattern: str, folder: Path) -> Tuple[Told, Path]:
+def leave_core(derived: Derived, names: str, folder: Path) -> Tuple[Told, Path]:
     """Runs the child in this folder until it has left a core."""
-    child = Path(__file__).with_name("real_core_child.py")
+    child = Path(__file__).resolve().with_name("real_core_child.py")
     command = [derived.build.executable, "-I", str(child), str(derived.numbers.get("interpreter.gil", -1))]
     since = time.time()
     process = subprocess.Popen(
@@ -144,6 +149,7 @@ def leave_core(derived: Derived, pattern: str, folder: Path) -> Tuple[Told, Path
         stderr=subprocess.PIPE,
         text=True,
         encoding="utf-8",
+        errors="replace",
         preexec_fn=raise_core_limit,
     )
     try:
@@ -157,7 +163,7 @@ def leave_core(derived: Derived, pattern: str, folder: Path) -> Tuple[Told, Path
         raise Skip("it has no ctypes")
     if process.returncode != -signal.SIGABRT:
         raise Failure(f"the child ended with status {process.returncode}, and not by an abort: {last}")
-    core = find_core(pattern, process.pid, folder, since)
+    core = find_core(names, process.pid, folder, since)
     hard = resource.getrlimit(resource.RLIMIT_CORE)[1]
     if hard != resource.RLIM_INFINITY and core.stat().st_size >= hard:
         raise Skip(f"the hard limit on the size of cores, {hard} bytes, cuts its core")
@@ -165,7 +171,8 @@ def leave_core(derived: Derived, pattern: str, folder: Path) -> Tuple[Told, Path
 
 
 def walk(program: Path, core: Path, layouts: Path, build: Build, interpreter: int, lock: int) -> Walk:
-    """Runs the program over a core, and measures it."""
+    """Runs the program over a core, and measures it. (Linux counts the memory of this tool too, some 14 MiB, where
+    that is more than the program's.)"""
     command = [program, "walk", core, layouts, build.dotted, hex(interpreter), hex(lock) if lock else "0"]
     with tempfile.TemporaryFile() as out, tempfile.TemporaryFile() as err:
         begun = time.perf_counter()
@@ -214,27 +221,39 @@ def compare(wanted: Sequence[Thread], got: Sequence[Thread], with_lock: bool) ->
             raise Failure(f"thread {one.label} is printed {'with' if other.has_lock else 'without'} the lock")
 
 
-def walked(program: Path, core: Path, layouts: Path, build: Build, told: Told, lock: int) -> Walk:
-    """Walks a core and compares, unless the program refuses its words."""
-    run = walk(program, core, layouts, build, told.interpreter, lock)
-    if run.status == 2 and lock:
-        return run
+def walked(program: Path, core: Path, layouts: Path, build: Build, told: Told) -> Walk:
+    """Walks a core without the lock's address, and compares."""
+    run = walk(program, core, layouts, build, told.interpreter, 0)
     if run.status != 0:
         raise Failure(f"walk ended with status {run.status}: {run.err}")
-    compare(told.threads, printed(run.out, build), bool(lock))
+    compare(told.threads, printed(run.out, build), with_lock=False)
     return run
 
 
-def with_lock(program: Path, core: Path, layouts: Path, derived: Derived, told: Told) -> str:
-    """Walks a core once more with the lock's address, and says what came of it."""
+def holder_of(program: Path, core: Path, layouts: Path, derived: Derived, told: Told) -> str:
+    """Walks a core once more, with the lock's address, and says what came of it."""
     if not told.lock:
-        return "holder not tried: nothing told where the lock is"
-    run = walked(program, core, layouts, derived.build, told, told.lock)
-    if run.status != 2:
-        return "holder agrees"
-    if LOCK_REQUIRED:
-        raise Failure(f"walk refused the lock's address: {run.err}")
-    return "holder not tried: the program takes no lock's address"
+        return "holder not tried, as nothing tells where the lock is"
+    run = walk(program, core, layouts, derived.build, told.interpreter, told.lock)
+    if run.status == 2 and not LOCK_REQUIRED:
+        return "holder not tried, as walk takes no address of a lock"
+    if run.status != 0:
+        raise Failure(f"walk with the lock at {told.lock:#x} ended with status {run.status}: {run.err}")
+    compare(told.threads, printed(run.out, derived.build), with_lock=True)
+    return "holder agrees"
+
+
+def notice_wrong(program: Path, core: Path, folder: Path, derived: Derived, told: Told) -> None:
+    """Fails where a wrong layout, in which functions and files have changed places, isn't noticed."""
+    wrong = folder / "wrong.toml"
+    text, count = re.subn(r"filename=(\d+), name=(\d+)", r"filename=\2, name=\1", derived.text)
+    wrong.write_text(text, encoding="utf-8")
+    run = walk(program, core, wrong, derived.build, told.interpreter, 0)
+    try:
+        compare(told.threads, printed(run.out, derived.build), with_lock=False)
+    except Failure:
+        return
+    raise Failure(f"a wrong layout ({count} line changed) isn't noticed")
 
 
 def derived_for(build: Build) -> Derived:
@@ -247,41 +266,43 @@ def derived_for(build: Build) -> Derived:
         return derive(build, with_dicts=False)
 
 
-def same_as_stored(derived: Derived, layouts: Path) -> str:
-    """Compares the layout with the stored one of the same build, if there is one."""
-    body, builds = [], []
-    for path in sorted(layouts.glob("*.toml")):
-        lines = path.read_text(encoding="utf-8").splitlines()
-        if f"# build: {derived.build.build}" in lines:
-            builds.append(path.name)
-            body.append([line for line in lines if not line.startswith("#")])
-    own = [line for line in derived.text.splitlines() if not line.startswith("#")]
-    for name, stored in zip(builds, body):
-        if stored != own and derived.with_dicts:
+def body_of(text: str) -> List[str]:
+    """The lines of a layout file that aren't comments."""
+    return [line for line in text.splitlines() if not line.startswith("#")]
+
+
+def as_stored(derived: Derived, layouts: Path) -> str:
+    """Says which stored layout this one is. The stored layout of this very build must be it."""
+    if not derived.with_dicts:
+        return "without dicts"
+    texts = {path.name: path.read_text(encoding="utf-8") for path in sorted(layouts.glob("*.toml"))}
+    same = [name for name, text in texts.items() if body_of(text) == body_of(derived.text)]
+    for name, text in texts.items():
+        if f"# build: {derived.build.build}" in text.splitlines() and name not in same:
             raise Failure(f"layouts/{name} was written for this very build, and isn't the layout that is derived now")
-    return f"as {builds[0]}" if builds else "no layout of this build is stored"
+    return f"layouts/{same[0]}" if same else "no such layout in layouts/"
 
 
-def tried(program: Path, python: str, pattern: str) -> str:
+def tried(program: Path, python: str, names: str) -> str:
     """Derives the layout of one Python, and walks a core of it. Returns the line that tells of it."""
     build = build_of(python)
     derived = derived_for(build)
-    stored = same_as_stored(derived, ROOT / "layouts")
+    stored = as_stored(derived, ROOT / "layouts")
     with tempfile.TemporaryDirectory(prefix="real-core-") as name:
-        folder = Path(name)
+        folder, room = Path(name), Path(name) / "room"
+        room.mkdir()
         layouts = folder / "layout.toml"
         layouts.write_text(derived.text, encoding="utf-8")
-        told, core = leave_core(derived, pattern, folder)
+        told, core = leave_core(derived, names, room)
         try:
             size = core.stat().st_size
-            run = walked(program, core, layouts, build, told, 0)
-            holder = with_lock(program, core, layouts, derived, told)
+            run = walked(program, core, layouts, build, told)
+            holder = holder_of(program, core, layouts, derived, told)
+            notice_wrong(program, core, folder, derived, told)
         finally:
             core.unlink()
     frames = sum(len(it.frames) for it in told.threads)
-    what = f"{len(told.threads)} threads and {frames} frames agree, {holder}, {stored}"
-    if not derived.with_dicts:
-        what += ", without dicts"
+    what = f"{len(told.threads)} threads, {frames} frames agree; {holder}; {stored}"
     return row(build.dotted, f"{size / 2**20:.1f}", f"{run.seconds:.3f}", f"{run.kilobytes / 1024:.1f}", what)
 
 
@@ -303,9 +324,9 @@ def built_program() -> Path:
     return folder / "out" / "pystacks"
 
 
-def run(words: argparse.Namespace) -> int:
+def try_all(words: argparse.Namespace) -> int:
     """Tries each Python, and returns how many failed."""
-    pattern = core_pattern()
+    names = core_names()
     found = words.python or pythons()
     if not found:
         raise Skip("there is no python3 here")
@@ -316,9 +337,9 @@ def run(words: argparse.Namespace) -> int:
     print(row("Python", "core, MiB", "walk, s", "walk, MiB", "result"), flush=True)
     for python in found:
         try:
-            print(tried(program, python, pattern), flush=True)
+            print(tried(program, python, names), flush=True)
         except (Skip, DeriveError) as reason:
-            print(f"skipped: {python}: {reason}", flush=True)
+            print(f"skipped: {python}: {getattr(reason, 'brief', reason)}", flush=True)
         except Failure as reason:
             failed += 1
             print(f"FAILED: {python}: {reason}", flush=True)
@@ -332,7 +353,7 @@ def main() -> int:
     parser.add_argument("--program", help="the built program (default: rt builds it)")
     words = parser.parse_args()
     try:
-        failed = run(words)
+        failed = try_all(words)
     except Skip as reason:
         print(f"real_core: no core was walked: {reason}")
         return 0
