@@ -1,0 +1,289 @@
+#!/usr/bin/env python3
+"""Writes the layout file of an installed CPython, from its own headers and debug information.
+
+    tools/derive_layout.py /usr/bin/python3.9 -o layouts/cpython-3.9-x86_64.toml
+
+The interpreter is asked which build it is and where its headers are. Each number is then looked up in the headers,
+by a C program that is compiled against them, and in the debug information of the binary, by gdb. One of the two must
+tell it, and where both do they must agree: else nothing is written, and the error names the field.
+"""
+
+import argparse
+import json
+import re
+import shlex
+import subprocess
+import sys
+from dataclasses import dataclass
+from pathlib import Path
+from typing import Dict, List, Optional, Sequence, Tuple
+
+from layout_plan import MINORS, Field, Group, Plan, plan_of
+from layout_sources import Answers, from_debug_information, from_headers
+
+ASK = """
+import json, os, platform, re, struct, sys, sysconfig
+with open("/proc/self/maps") as maps:
+    libraries = re.findall(r"(/.*/libpython3[.][0-9].*)", maps.read())
+told = {
+    "implementation": platform.python_implementation(),
+    "version": list(sys.version_info[:3]),
+    "level": sys.version_info[3],
+    "build": " ".join(sys.version.split()),
+    "executable": os.path.realpath(sys.executable),
+    "libraries": libraries,
+    "machine": platform.machine(),
+    "pointer": struct.calcsize("P"),
+    "order": sys.byteorder,
+    "free_threaded": bool(sysconfig.get_config_var("Py_GIL_DISABLED")),
+    "includes": [sysconfig.get_paths()[name] for name in ("include", "platinclude")],
+    "configured": sysconfig.get_config_var("CONFIG_ARGS") or "",
+    "flags": [sysconfig.get_config_var(name) or "" for name in ("CPPFLAGS", "CFLAGS")],
+}
+print(json.dumps(told))
+"""
+"""What an interpreter is asked: a program for Python 3 that prints one line of JSON."""
+
+
+class DeriveError(Exception):
+    """Why there is no layout: one line, or, where fields are at fault, one for each, whose keys are `keys`."""
+
+    def __init__(self, why: str, keys: Sequence[str] = ()):
+        super().__init__(why)
+        self.keys = tuple(keys)
+
+    @property
+    def brief(self) -> str:
+        """The first line, and how many more there are."""
+        first, *others = str(self).splitlines()
+        return f"{first} (and {len(others)} more fields)" if others else first
+
+
+@dataclass(frozen=True)
+class Build:
+    """An installed CPython, as it tells of itself."""
+
+    executable: str
+    version: Tuple[int, int, int]
+    build: str
+    binary: str
+    """The file that has the interpreter's code: its library, where it has one, else the executable."""
+    machine: str
+    includes: Tuple[str, ...]
+    configured: str
+    flags: Tuple[str, ...]
+    """What its C code was told by -D and -U."""
+
+    @property
+    def dotted(self) -> str:
+        """The version, as in 3.9.18."""
+        return ".".join(map(str, self.version))
+
+
+@dataclass(frozen=True)
+class Derived:
+    """A layout that was derived."""
+
+    build: Build
+    text: str
+    numbers: Dict[str, int]
+    """The layout's numbers, by keys such as thread.next; also runtime.head and runtime.current, places in _PyRuntime,
+    where something tells them."""
+    lock: str
+    with_dicts: bool
+
+
+@dataclass(frozen=True)
+class Tools:
+    """The commands that are used; an empty one is not."""
+
+    cc: str = "cc"
+    gdb: str = "gdb"
+
+
+def build_of(python: str) -> Build:
+    """Asks an interpreter which build it is. An error says why no layout can describe it."""
+    try:
+        ran = subprocess.run(
+            [python, "-I", "-c", ASK], stdin=subprocess.DEVNULL, capture_output=True, text=True, timeout=60
+        )
+        told = json.loads(ran.stdout)
+    except (OSError, subprocess.TimeoutExpired) as error:
+        raise DeriveError(f"it can't be run ({error})") from error
+    except ValueError as error:
+        last = (ran.stderr.strip().splitlines() or ["it told nothing of itself"])[-1]
+        raise DeriveError(f"it is no Python 3 that runs ({last})") from error
+    version = tuple(told["version"])
+    name = f"{told['implementation']} {told['build']}"
+    if told["implementation"] != "CPython" or version[0] != 3 or version[1] not in MINORS or told["level"] != "final":
+        raise DeriveError(f"it is {name}, and layouts are derived for CPython 3.7 to 3.13")
+    if told["pointer"] != 8 or told["order"] != "little":
+        raise DeriveError("it isn't a 64-bit little-endian build")
+    if told["free_threaded"]:
+        raise DeriveError("it is a free-threaded build, for which there is no plan")
+    return Build(
+        executable=told["executable"],
+        version=version,
+        build=told["build"],
+        binary=(told["libraries"] or [told["executable"]])[0],
+        machine=told["machine"],
+        includes=tuple(dict.fromkeys(told["includes"])),
+        configured=told["configured"],
+        flags=macros_in(" ".join(told["flags"])),
+    )
+
+
+def macros_in(flags: str) -> Tuple[str, ...]:
+    """The -D and -U of a compiler's flags, but for FORTIFY, which wants an optimizing compiler and changes no struct."""
+    try:
+        words = shlex.split(flags)
+    except ValueError:
+        words = flags.split()
+    found = [it for it in words if it[:2] in ("-D", "-U") and len(it) > 2 and "FORTIFY" not in it]
+    return tuple(dict.fromkeys(found))
+
+
+def same_version(build: Build) -> Optional[str]:
+    """Why the headers are not this build's, where their version is another."""
+    for folder in build.includes:
+        header = Path(folder) / "patchlevel.h"
+        if header.is_file():
+            defined = re.search(r'^#define PY_VERSION\s+"(.*)"', header.read_text(), re.MULTILINE)
+            told = defined.group(1) if defined else "no version"
+            return None if told.rstrip("+") == build.dotted else f"the headers in {folder} are of {told}"
+    return None
+
+
+def asked(fields: Sequence[Field], build: Build, tools: Tools) -> List[Answers]:
+    """What the sources that are at hand tell."""
+    headers, debug = Answers("headers"), Answers("debug information")
+    other = same_version(build)
+    if not tools.cc:
+        headers.none(fields, "not asked")
+    elif other:
+        headers.none(fields, other)
+    else:
+        headers = from_headers(fields, build.includes, build.flags, tools.cc)
+    if not tools.gdb:
+        debug.none(fields, "not asked")
+    else:
+        debug = from_debug_information(fields, build.binary, tools.gdb)
+    return [headers, debug]
+
+
+def fault_of(it: Field, answers: Sequence[Answers]) -> Optional[str]:
+    """What is wrong with the answers for a field, if anything is."""
+    told = [(source.name, source.places[it.key]) for source in answers if it.key in source.places]
+    spelled = f"{it.key} ({it.what})"
+    if not told:
+        return f"{spelled}: " + "; ".join(f"{source.name}: {source.reasons[it.key]}" for source in answers)
+    if len({place.number for _, place in told}) > 1:
+        return f"{spelled}: " + ", ".join(f"{name} say {place.number}" for name, place in told)
+    for name, place in told:
+        if it.width and place.width != it.width:
+            return f"{spelled}: by {name} it is {place.width} wide, and a layout has {it.width}"
+    return None
+
+
+def settled(plan: Plan, answers: Sequence[Answers]) -> Dict[str, int]:
+    """The numbers that the sources tell. An error names each field that none does, or on which they differ."""
+    faults = {it.key: fault_of(it, answers) for it in plan.wanted}
+    faults = {key: why for key, why in faults.items() if why}
+    if faults:
+        raise DeriveError("\n".join(faults.values()), list(faults))
+    extra = [it for it in plan.runtime if fault_of(it, answers) is None]
+    numbers = {}
+    for it in [*plan.wanted, *extra]:
+        numbers[it.key] = next(source.places[it.key].number for source in answers if it.key in source.places)
+    return numbers
+
+
+def values_of(it: Group, numbers: Dict[str, int]) -> List[Tuple[str, int]]:
+    """A group's keys and numbers, its size first: up to the end of its last field, unless a field says it."""
+    values = [(field.key.partition(".")[2], numbers[field.key]) for field in it.fields]
+    if it.has_size:
+        ends = [numbers[field.key] + field.width for field in it.fields if field.width and not field.is_bit]
+        values.insert(0, ("size", numbers[it.size.key] if it.size else max(ends)))
+    return values + list(it.constants)
+
+
+def told_by(plan: Plan, answers: Sequence[Answers]) -> List[str]:
+    """Lines that say which source told which numbers."""
+    lines, headers, debug = [], answers[0], answers[1]
+    both = [it.key for it in plan.wanted if it.key in headers.places and it.key in debug.places]
+    for name, source, other in (("headers", headers, debug), ("debug information", debug, headers)):
+        alone = [it.key for it in plan.wanted if it.key in source.places and it.key not in other.places]
+        if alone:
+            lines.append(f"by the {name} alone: {'all' if len(alone) == len(plan.wanted) else ', '.join(alone)}")
+    if both:
+        lines.insert(0, f"by headers and debug information, which agree: {'all' if not lines else 'all but these'}")
+    return lines
+
+
+def version_of(command: str) -> str:
+    """The first line of what a compiler says of its version."""
+    ran = subprocess.run([command, "--version"], stdout=subprocess.PIPE, stderr=subprocess.DEVNULL, text=True)
+    return (ran.stdout.splitlines() or ["unknown"])[0]
+
+
+def comments(build: Build, plan: Plan, numbers: Dict[str, int], answers: Sequence[Answers], tools: Tools) -> List[str]:
+    """The head of the file: which build it was read from, and how."""
+    lines = [
+        f"The layout of CPython {build.dotted} on {build.machine}, written by tools/derive_layout.py.",
+        f"build: {build.build}",
+        f"executable: {build.executable}",
+        f"configured: {build.configured}",
+    ]
+    if answers[0].places:
+        lines.append(f"headers: {', '.join(build.includes)}, by {version_of(tools.cc)}")
+    if answers[1].places:
+        lines.append(f"debug information: {build.binary}")
+    lines += told_by(plan, answers)
+    if dict(plan.families)["dicts"] == "none":
+        lines.append("without dicts, since that was asked for")
+    lines.append("by neither: frame.code_tag_bits (no address of code has a tag), and small (there is no PyIntObject)")
+    for key, what in (("runtime.head", "the first interpreter's address"), ("runtime.current", "the current thread's")):
+        if key in numbers:
+            lines.append(f"_PyRuntime holds {what} at {numbers[key]}")
+    return [f"# {' '.join(line.split())}" for line in lines]
+
+
+def derive(build: Build, with_dicts: bool = True, tools: Tools = Tools()) -> Derived:
+    """Derives the layout of a build."""
+    plan = plan_of(build.version[1], with_dicts)
+    answers = asked([*plan.wanted, *plan.runtime], build, tools)
+    numbers = settled(plan, answers)
+    lines = comments(build, plan, numbers, answers, tools)
+    major, minor, _ = build.version
+    lines += ["", "[[layout]]", f"major = {major}", f"first_minor = {minor}", f"last_minor = {minor}"]
+    lines += ["bytes_text = false", *(f'{name} = "{word}"' for name, word in plan.families)]
+    for it in plan.groups:
+        inside = ", ".join(f"{key}={number}" for key, number in values_of(it, numbers))
+        lines.append(f"{it.name} = {{{inside}}}")
+    return Derived(build, "\n".join(lines) + "\n", numbers, dict(plan.families)["lock"], with_dicts)
+
+
+def main() -> int:
+    """The command."""
+    parser = argparse.ArgumentParser(description=__doc__.splitlines()[0])
+    parser.add_argument("python", nargs="?", default=sys.executable, help="the interpreter (default: this one)")
+    parser.add_argument("-o", "--output", help="the file to write (default: the standard output)")
+    parser.add_argument("--without-dicts", action="store_true", help='leave dicts out: dicts = "none"')
+    parser.add_argument("--cc", default="cc", help="the C compiler, or '' to ask no headers (default: cc)")
+    parser.add_argument("--gdb", default="gdb", help="the debugger, or '' to ask no debug information (default: gdb)")
+    words = parser.parse_args()
+    try:
+        derived = derive(build_of(words.python), not words.without_dicts, Tools(words.cc, words.gdb))
+    except DeriveError as error:
+        for line in str(error).splitlines():
+            print(f"derive_layout: {words.python}: {line}", file=sys.stderr)
+        return 1
+    if words.output:
+        Path(words.output).write_text(derived.text, encoding="utf-8")
+    else:
+        print(derived.text, end="")
+    return 0
+
+
+if __name__ == "__main__":
+    sys.exit(main())

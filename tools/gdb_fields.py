@@ -1,0 +1,54 @@
+"""Run inside gdb: tells where the fields of layout_sources.py stand, by debug information.
+
+The file that the environment's FIELDS names is a list, in JSON, of [key, struct, member, is_bit, after]. A line
+`key number width` answers each, or `key ! reason`. The width is 0 for a struct or for what has none.
+"""
+
+import json
+import os
+
+import gdb
+
+
+def member_of(struct, name):
+    """A struct's field of that name, with its bit in the struct; fields of nameless members count as its own."""
+    for field in struct.strip_typedefs().fields():
+        if field.name == name:
+            return field, field.bitpos
+        if not field.name:
+            found = member_of(field.type, name)
+            if found:
+                return found[0], field.bitpos + found[1]
+    return None
+
+
+def place(struct, member, is_bit):
+    """The number and the width of a member: bits where it is a bit field, else bytes."""
+    at, kind = 0, gdb.lookup_type(struct)
+    for part in member.split("."):
+        name, _, index = part.partition("[")
+        found = member_of(kind, name)
+        if not found:
+            raise gdb.error("no field named %s" % name)
+        field, bit = found
+        at, kind = bit if is_bit else at + bit, field.type.strip_typedefs()
+        if index:
+            kind = kind.target().strip_typedefs()
+    if is_bit:
+        return at, field.bitsize
+    return at // 8, kind.sizeof
+
+
+def answer(key, struct, member, is_bit, after):
+    """The line that answers for one field."""
+    try:
+        before = gdb.lookup_type(after).sizeof if after else 0
+        at, width = place(struct, member, is_bit) if member else (gdb.lookup_type(struct).sizeof, 0)
+        return "%s %d %d" % (key, before + at, width)
+    except (gdb.error, TypeError) as error:
+        return "%s ! %s" % (key, str(error).replace("\n", " "))
+
+
+with open(os.environ["FIELDS"]) as asked:
+    for one in json.load(asked):
+        print(answer(*one))

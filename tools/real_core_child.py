@@ -1,0 +1,147 @@
+"""The program whose core is walked: for Python 3.7 to 3.13, started by real_core.py.
+
+Three threads stand still: the main one, one below a recursion of 50, and one in a generator. Their code has file
+names of one-byte, two-byte and four-byte characters, and goes through C (`map`, `max`, `next`) on its way. The main
+thread stands in an import, whose code is a part of the interpreter. It prints one line of JSON that tells all stacks,
+and aborts from the very function that has read them.
+
+The one argument is where the interpreter's record has the pointer to that of its lock, or -1 where it has none.
+"""
+
+import _thread
+import ctypes
+import json
+import os
+import sys
+import threading
+from importlib.machinery import ModuleSpec
+
+ONE_BYTE = """
+def descend(depth, bottom):
+    if depth == 1:
+        return bottom()
+    if depth % 10 == 0:
+        return list(map(lambda it: descend(it, bottom), [depth - 1]))
+    return descend(depth - 1, bottom)
+"""
+
+TWO_BYTES = """
+class Wait:
+    def __init__(self, ready, gate):
+        self.ready, self.gate = ready, gate
+
+    def wait_für_immer(self):
+        self.ready.release()
+        self.gate.acquire()
+"""
+
+FOUR_BYTES = """
+def generate(bottom):
+    yield bottom()
+
+def drain(bottom):
+    return max([generate(bottom)], key=next)
+"""
+
+
+def module(source, name):
+    """The names of a module whose code has this file name."""
+    names = {"__name__": name}
+    exec(compile(source, name, "exec"), names)
+    return names
+
+
+def address_of(name):
+    """The address of one of the interpreter's symbols, or None where it isn't exported."""
+    try:
+        return ctypes.addressof(ctypes.c_char.in_dll(ctypes.pythonapi, name))
+    except ValueError:
+        return None
+
+
+def interpreter():
+    """The address of the interpreter's record."""
+    names = ("PyInterpreterState_Get", "_PyInterpreterState_Get", "PyInterpreterState_Main")
+    get = next(getattr(ctypes.pythonapi, name) for name in names if hasattr(ctypes.pythonapi, name))
+    get.restype, get.argtypes = ctypes.c_void_p, ()
+    return get()
+
+
+def frames_from(frame):
+    """The names and files of a frame and its callers."""
+    found = []
+    while frame is not None:
+        found.append([frame.f_code.co_name, frame.f_code.co_filename])
+        frame = frame.f_back
+    return found
+
+
+def start(target, natives):
+    """Starts a thread below `target`, and waits until it stands still."""
+    ready, gate = _thread.allocate_lock(), _thread.allocate_lock()
+    ready.acquire()
+    gate.acquire()
+    wait = module(TWO_BYTES, "日本.py")["Wait"](ready, gate)
+
+    def run():
+        natives[threading.get_ident()] = native_id()
+        target(wait.wait_für_immer)
+
+    threading.Thread(target=run, daemon=True).start()
+    # (no Python runs in that thread between the release of `ready` and the wait for `gate`)
+    ready.acquire()
+
+
+def native_id():
+    """The system's number for this thread, or None before 3.8."""
+    return threading.get_native_id() if hasattr(threading, "get_native_id") else None
+
+
+def report(natives, gil):
+    """Prints what the core has to show, and leaves it: nothing is called between the two that has frames."""
+    address = interpreter()
+    told = {
+        "interpreter": address,
+        "runtime": address_of("_PyRuntime"),
+        "gil": ctypes.c_uint64.from_address(address + gil).value if gil >= 0 else None,
+        "aborts": threading.get_ident(),
+        "threads": [],
+    }
+    for ident, frame in sys._current_frames().items():
+        told["threads"].append({"id": ident, "native": natives[ident], "frames": frames_from(frame)})
+    sys.stdout.write(json.dumps(told) + "\n")
+    sys.stdout.flush()
+    os.abort()
+
+
+class Importer:
+    """Calls a function where the module `last` is imported."""
+
+    def __init__(self, call):
+        self.call = call
+
+    def find_spec(self, name, path=None, target=None):
+        """Finds that module alone."""
+        return ModuleSpec(name, self) if name == "last" else None
+
+    def create_module(self, spec):
+        """Leaves the module's making to the import."""
+        return None
+
+    def exec_module(self, module):
+        """Calls the function."""
+        self.call()
+
+
+def main():
+    """The whole program."""
+    natives = {threading.get_ident(): native_id()}
+    descend = module(ONE_BYTE, "récursion.py")["descend"]
+    drain = module(FOUR_BYTES, "𝄞.py")["drain"]
+    start(lambda bottom: descend(50, bottom), natives)
+    start(drain, natives)
+    sys.meta_path.insert(0, Importer(lambda: report(natives, int(sys.argv[1]))))
+    __import__("last")
+
+
+main()
