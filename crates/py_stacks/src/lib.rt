@@ -8,11 +8,15 @@
 mod error;
 mod frames;
 mod members;
+mod owner;
+mod stacks;
 mod threads;
 mod trace;
 
 pub use error::StackError;
 pub use frames::read_frames;
+pub use owner::get_gil_threadid;
+pub use stacks::read_stacks;
 pub use threads::read_traces;
 pub use trace::{Addresses, Frame, LocalVariable, StackTrace};
 
