@@ -20,57 +20,23 @@ const NOWHERE: u64 = 0xdead_0000;
 
 /// The pieces: where each begins, and its words of 8 bytes. The last one is an interpreter, whose first
 /// thread is named at 8.
-const PIECES: [(u64, &[u64]); 4] = [
+const PIECES: [(u64, &[u64]); 12] = [
     (WORDS, &[THREADS, 0, NOWHERE, THREADS + 64]),
-    (
-        LOCKS,
-        &[
-            0,
-            1,
-            THREADS,
-            0,
-            0,
-            THREADS, //
-            0,
-            0,
-            NOWHERE,
-            0,
-            1,
-            NOWHERE, //
-            0,
-            1,
-            0,
-            0,
-            1 << 31,
-            THREADS, //
-            0,
-            1 << 32,
-            THREADS,
-            0,
-            1,
-        ],
-    ),
-    (
-        THREADS,
-        &[
-            0,
-            THREADS + 64,
-            0,
-            0,
-            0x7f00,
-            0,
-            0,
-            0, //
-            0,
-            0,
-            0,
-            0,
-            0,
-            0,
-            0,
-            0,
-        ],
-    ),
+    // held by the first thread
+    (LOCKS, &[0, 1, THREADS]),
+    // free
+    (LOCKS + 24, &[0, 0, THREADS]),
+    (LOCKS + 48, &[0, 0, NOWHERE]),
+    // held by what is in no memory, and by none
+    (LOCKS + 72, &[0, 1, NOWHERE]),
+    (LOCKS + 96, &[0, 1, 0]),
+    // `locked` has 4 bytes
+    (LOCKS + 120, &[0, 1 << 31, THREADS]),
+    (LOCKS + 144, &[0, 1 << 32, THREADS]),
+    // cut
+    (LOCKS + 168, &[0, 1]),
+    (THREADS, &[0, THREADS + 64, 0, 0, 0x7f00, 0, 0, 0]),
+    (THREADS + 64, &[0; 8]),
     (0x5000, &[0, THREADS]),
 ];
 
