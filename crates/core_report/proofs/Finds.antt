@@ -55,14 +55,14 @@ chosen_same layouts version a b apart one other = by one.listed other.listed
 
 -- ---- a core without fault has no error
 
-meets_none : (w : Walk) (bytes : List ℕ) (layouts : List Layout) (f : Fault) → NoneClash layouts → IsFaultless w bytes layouts → Meets bytes layouts w.version w.interp f → ⊥
+meets_none : (w : Walk) (bytes : List ℕ) (layouts : List Layout) (f : Fault) → NoneClash layouts → IsFaultless w bytes layouts → Meets bytes layouts w.version w.addresses f → ⊥
 meets_none w bytes layouts f apart good (walked, is) =
     let same : walked.layout ≡ good.layout = chosen_same layouts w.version walked.layout good.layout apart walked.chosen good.chosen in
-    let none : fault_by good.layout bytes w.interp ≡ Some f = ap (λ l. fault_by l bytes w.interp) (sym same) ∙ is in
+    let none : fault_by good.layout bytes w.addresses ≡ Some f = ap (λ l. fault_by l bytes w.addresses) (sym same) ∙ is in
     let clash : ◌≡◌ {A = Option Fault} None (Some f) = sym good.faultless ∙ none in
     cc
 
-means_none : (w : Walk) (bytes : List ℕ) (layouts : List Layout) (error : CoreError) → NoneClash layouts → IsFaultless w bytes layouts → error ≢ core.OutOfMemory → Means bytes layouts w.version w.interp (Err error) → ⊥
+means_none : (w : Walk) (bytes : List ℕ) (layouts : List Layout) (error : CoreError) → NoneClash layouts → IsFaultless w bytes layouts → error ≢ core.OutOfMemory → Means bytes layouts w.version w.addresses (Err error) → ⊥
 means_none w bytes layouts core.NotElf64 apart good memory h = h good.accepted.header
 means_none w bytes layouts core.BadHeader apart good memory h = h.1 good.accepted.readable
 means_none w bytes layouts core.NoNotes apart good memory h = h
@@ -84,7 +84,7 @@ means_none w bytes layouts core.FrameLimit apart good memory h = meets_none w by
 means_none w bytes layouts core.ChainLimit apart good memory h = meets_none w bytes layouts _ apart good h
 means_none w bytes layouts core.OutOfMemory apart good memory h = memory refl
 
-finds_means : (w : Walk) (bytes : List ℕ) (layouts : List Layout) (traces : List Trace) (error : CoreError) → NoneClash layouts → Finds bytes layouts w.version w.interp traces → error ≢ core.OutOfMemory → Means bytes layouts w.version w.interp (Err error) → ⊥
+finds_means : (w : Walk) (bytes : List ℕ) (layouts : List Layout) (traces : List Trace) (error : CoreError) → NoneClash layouts → Finds bytes layouts w.version w.addresses traces → error ≢ core.OutOfMemory → Means bytes layouts w.version w.addresses (Err error) → ⊥
 finds_means w bytes layouts traces error apart found memory h =
     means_none w bytes layouts error apart (record {
       accepted = found.walked.accepted;
@@ -179,12 +179,12 @@ finds_of asked r OutOfMemory cause w bytes layouts is tells laid good kept quiet
 
 -- ---- where they tell a core of which an error holds, the work comes to no text
 
-reaches_text : (asked : Option Command) (told : Told) (w : Walk) (bytes : List ℕ) (layouts : List Layout) (text : List ℕ) (error : CoreError) → IsTold asked told w bytes layouts → error ≢ core.OutOfMemory → Means bytes layouts w.version w.interp (Err error) → Reaches asked told (Ok text) → ⊥
+reaches_text : (asked : Option Command) (told : Told) (w : Walk) (bytes : List ℕ) (layouts : List Layout) (text : List ℕ) (error : CoreError) → IsTold asked told w bytes layouts → error ≢ core.OutOfMemory → Means bytes layouts w.version w.addresses (Err error) → Reaches asked told (Ok text) → ⊥
 reaches_text asked told w bytes layouts text error tells memory means reached =
     let works = reached_works asked told w bytes layouts (Ok text) tells reached in
     finds_means w bytes layouts (map trace_of works.0) error (told_apart told w.layouts layouts tells.laid) works.2 memory means
 
-pub fails_of : (asked : Option Command) (r : Ran) (t : Trouble) → HasCause asked r t → (w : Walk) (bytes : List ℕ) (layouts : List Layout) (error : CoreError) → asked ≡ Some (walk w) → Tells r.told w.core bytes → TellsLayouts r.told w.layouts (Ok layouts) → error ≢ core.OutOfMemory → Means bytes layouts w.version w.interp (Err error) → r.failed_after ≡ r.failed → (status_of t ≡ 1) ⊎ (status_of t ≡ 5)
+pub fails_of : (asked : Option Command) (r : Ran) (t : Trouble) → HasCause asked r t → (w : Walk) (bytes : List ℕ) (layouts : List Layout) (error : CoreError) → asked ≡ Some (walk w) → Tells r.told w.core bytes → TellsLayouts r.told w.layouts (Ok layouts) → error ≢ core.OutOfMemory → Means bytes layouts w.version w.addresses (Err error) → r.failed_after ≡ r.failed → (status_of t ≡ 1) ⊎ (status_of t ≡ 5)
 fails_of asked r (Work e) cause w bytes layouts error is tells laid memory means kept = inl refl
 fails_of asked r Words cause w bytes layouts error is tells laid memory means kept = absurd (cc (cause.0, is))
 fails_of asked r (File name why) cause w bytes layouts error is tells laid memory means kept = absurd (one_more r.failed (name.now, why) (sym cause.failed ∙ kept))
@@ -193,7 +193,7 @@ fails_of asked r Write cause w bytes layouts error is tells laid memory means ke
     absurd (reaches_text asked r.told w bytes layouts cause.text error (record { is = is; core = tells; laid = laid }) memory means cause.reached)
 fails_of asked r OutOfMemory cause w bytes layouts error is tells laid memory means kept = inr refl
 
-pub fails_printed : (asked : Option Command) (r : Ran) → IsPrinted asked r → (w : Walk) (bytes : List ℕ) (layouts : List Layout) (error : CoreError) → asked ≡ Some (walk w) → Tells r.told w.core bytes → TellsLayouts r.told w.layouts (Ok layouts) → error ≢ core.OutOfMemory → Means bytes layouts w.version w.interp (Err error) → ⊥
+pub fails_printed : (asked : Option Command) (r : Ran) → IsPrinted asked r → (w : Walk) (bytes : List ℕ) (layouts : List Layout) (error : CoreError) → asked ≡ Some (walk w) → Tells r.told w.core bytes → TellsLayouts r.told w.layouts (Ok layouts) → error ≢ core.OutOfMemory → Means bytes layouts w.version w.addresses (Err error) → ⊥
 fails_printed asked r printed w bytes layouts error is tells laid memory means =
     reaches_text asked r.told w bytes layouts printed.text error (record { is = is; core = tells; laid = laid }) memory means printed.reached
 

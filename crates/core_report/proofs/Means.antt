@@ -8,6 +8,7 @@ use Rattle.py_version.specs.declared.version.Version.{Version}
 use Rattle.py_layout.specs.Sound.{AreSound, Clash, Covers, IsSound}
 use Rattle.py_stacks.specs.declared.error.StackError.{StackError}
 use Rattle.py_stacks.specs.declared.error.StackError.TheVariants as stack
+use Rattle.py_stacks.specs.declared.trace.Addresses.{Addresses}
 use Rattle.py_stacks.specs.StackError.{fault_of}
 use Rattle.core_report.specs.Causes.{cause_of_stacks}
 use Rattle.core_report.specs.Answer.{IsWalked, Means, fault_by}
@@ -24,11 +25,11 @@ abbrev pub walked_by : (bytes : List ℕ) (layouts : List Layout) (version : Ver
 walked_by bytes layouts version layout accepted listed covers = record { accepted = accepted; layout = layout; chosen = record { listed = listed; covers = covers } }
 
 -- an error of the readers is the first fault
-pub stack_means : (bytes : List ℕ) (layouts : List Layout) (version : Version) (interpreter : ℕ) (w : IsWalked bytes layouts version) (e : StackError) → IsFirst (fault_by w.layout bytes interpreter) (fault_of e) → Means bytes layouts version interpreter (Err (cause_of_stacks e))
-stack_means bytes layouts version interpreter w (stack.Unreadable addr len) h = (w, h)
-stack_means bytes layouts version interpreter w (stack.BadValue frame) h = (w, h)
-stack_means bytes layouts version interpreter w (stack.LocalsLimit count) h = (w, h)
-stack_means bytes layouts version interpreter w stack.ThreadLimit h = (w, h)
-stack_means bytes layouts version interpreter w stack.FrameLimit h = (w, h)
-stack_means bytes layouts version interpreter w stack.ChainLimit h = (w, h)
-stack_means bytes layouts version interpreter w stack.OutOfMemory h = tt
+pub stack_means : (bytes : List ℕ) (layouts : List Layout) (version : Version) (addresses : Addresses) (w : IsWalked bytes layouts version) (e : StackError) → IsFirst (fault_by w.layout bytes addresses) (fault_of e) → Means bytes layouts version addresses (Err (cause_of_stacks e))
+stack_means bytes layouts version addresses w (stack.Unreadable addr len) h = (w, h)
+stack_means bytes layouts version addresses w (stack.BadValue frame) h = (w, h)
+stack_means bytes layouts version addresses w (stack.LocalsLimit count) h = (w, h)
+stack_means bytes layouts version addresses w stack.ThreadLimit h = (w, h)
+stack_means bytes layouts version addresses w stack.FrameLimit h = (w, h)
+stack_means bytes layouts version addresses w stack.ChainLimit h = (w, h)
+stack_means bytes layouts version addresses w stack.OutOfMemory h = tt

@@ -1,5 +1,5 @@
 -- What a walk over a core's bytes answers: the traces, or the first cause why there are none. The file is
--- looked at first, then the version, then the chain of threads.
+-- looked at first, then the version, then the lock's owner and the chain of threads.
 use Rattle.std.specs.Prelude.{◌≡◌, ℕ, List, Option, Some, None, Result, Ok, Err, ⊤, Contains, map}
 use Rattle.std.specs.Global.{Vec}
 use Rattle.elf64_core.specs.Header.{IsElf64, IsReadable, IsAccepted}
@@ -10,8 +10,10 @@ use Rattle.image_memory.specs.Walk.{first_fault}
 use Rattle.py_layout.specs.declared.layout.Layout.{Layout}
 use Rattle.py_version.specs.declared.version.Version.{Version}
 use Rattle.py_layout.specs.Sound.{Covers}
+use Rattle.py_stacks.specs.declared.trace.Addresses.{Addresses}
 use Rattle.py_stacks.specs.declared.trace.StackTrace.{StackTrace}
-use Rattle.py_stacks.specs.Threads.{AreTraces, Trace, trace_of, traces_faults}
+use Rattle.py_stacks.specs.Stacks.{AreStacks, stacks_faults}
+use Rattle.py_stacks.specs.Threads.{Trace, trace_of}
 use Rattle.core_report.specs.declared.error.CoreError.{CoreError}
 use Rattle.core_report.specs.declared.error.CoreError.TheVariants.{NotElf64, BadHeader, NoNotes, BadNote, NoBinary, NoImage, BadImage, UnreadableVersion, NoVersion, UnsupportedVersion, NoInterpreter, Unreadable, NativeUnsupported, SubprocessesUnsupported, BadValue, LocalsLimit, ThreadLimit, FrameLimit, ChainLimit, OutOfMemory}
 
@@ -30,19 +32,19 @@ pub record IsWalked (bytes : List ℕ) (layouts : List Layout) (version : Versio
 abbrev pub core_memory : List ℕ → Memory
 core_memory bytes = byte_at (memory_of bytes)
 
--- the first fault on the way along the threads of an interpreter
-abbrev pub fault_by : Layout → List ℕ → ℕ → Option Fault
-fault_by layout bytes interpreter = first_fault (traces_faults layout (core_memory bytes) interpreter)
+-- the first fault on the way to the lock's owner and along the threads of an interpreter
+abbrev pub fault_by : Layout → List ℕ → Addresses → Option Fault
+fault_by layout bytes addresses = first_fault (stacks_faults layout (core_memory bytes) addresses)
 
 -- the walk meets this fault first
-abbrev pub Meets : List ℕ → List Layout → Version → ℕ → Fault → Type 0
-Meets bytes layouts version interpreter fault = (w : IsWalked bytes layouts version) × (fault_by w.layout bytes interpreter ≡ Some fault)
+abbrev pub Meets : List ℕ → List Layout → Version → Addresses → Fault → Type 0
+Meets bytes layouts version addresses fault = (w : IsWalked bytes layouts version) × (fault_by w.layout bytes addresses ≡ Some fault)
 
--- the walk meets no fault, and these are its traces. No thread holds the lock but one of id 0
-pub record Finds (bytes : List ℕ) (layouts : List Layout) (version : Version) (interpreter : ℕ) (traces : List Trace) : Type 0 where
+-- the walk meets no fault, and these are its traces
+pub record Finds (bytes : List ℕ) (layouts : List Layout) (version : Version) (addresses : Addresses) (traces : List Trace) : Type 0 where
   pub walked : IsWalked bytes layouts version
-  pub faultless : fault_by walked.layout bytes interpreter ≡ None
-  pub whole : AreTraces walked.layout (core_memory bytes) 0 interpreter traces
+  pub faultless : fault_by walked.layout bytes addresses ≡ None
+  pub whole : AreStacks walked.layout (core_memory bytes) addresses traces
 
 -- the file is accepted, and no layout covers the version
 pub record IsUncovered (bytes : List ℕ) (layouts : List Layout) (version : Version) : Type 0 where
@@ -51,28 +53,28 @@ pub record IsUncovered (bytes : List ℕ) (layouts : List Layout) (version : Ver
 
 -- what each answer means. The causes shut each other out, so that each answer comes exactly where its cause
 -- holds, want of memory aside; an answer that is no walk's never comes
-abbrev pub Means : List ℕ → List Layout → Version → ℕ → Result (List Trace) CoreError → Type 0
-Means bytes layouts version interpreter (Ok traces) = Finds bytes layouts version interpreter traces
-Means bytes layouts version interpreter (Err NotElf64) = ¬ IsElf64 bytes
-Means bytes layouts version interpreter (Err BadHeader) = IsElf64 bytes × ¬ IsReadable bytes
-Means bytes layouts version interpreter (Err (UnsupportedVersion named)) = IsUncovered bytes layouts version × (named ≡ version)
-Means bytes layouts version interpreter (Err (Unreadable addr len)) = Meets bytes layouts version interpreter (Missing addr len)
-Means bytes layouts version interpreter (Err ThreadLimit) = Meets bytes layouts version interpreter ManyThreads
-Means bytes layouts version interpreter (Err FrameLimit) = Meets bytes layouts version interpreter ManyFrames
-Means bytes layouts version interpreter (Err ChainLimit) = Meets bytes layouts version interpreter ManyMembers
-Means bytes layouts version interpreter (Err OutOfMemory) = ⊤
-Means bytes layouts version interpreter (Err NoNotes) = ⊥
-Means bytes layouts version interpreter (Err BadNote) = ⊥
-Means bytes layouts version interpreter (Err NoBinary) = ⊥
-Means bytes layouts version interpreter (Err (NoImage path)) = ⊥
-Means bytes layouts version interpreter (Err (BadImage path)) = ⊥
-Means bytes layouts version interpreter (Err (UnreadableVersion addr len)) = ⊥
-Means bytes layouts version interpreter (Err NoVersion) = ⊥
-Means bytes layouts version interpreter (Err NoInterpreter) = ⊥
-Means bytes layouts version interpreter (Err NativeUnsupported) = ⊥
-Means bytes layouts version interpreter (Err SubprocessesUnsupported) = ⊥
-Means bytes layouts version interpreter (Err (BadValue frame)) = Meets bytes layouts version interpreter (IsBadValue frame)
-Means bytes layouts version interpreter (Err (LocalsLimit count)) = Meets bytes layouts version interpreter (ManyLocals count)
+abbrev pub Means : List ℕ → List Layout → Version → Addresses → Result (List Trace) CoreError → Type 0
+Means bytes layouts version addresses (Ok traces) = Finds bytes layouts version addresses traces
+Means bytes layouts version addresses (Err NotElf64) = ¬ IsElf64 bytes
+Means bytes layouts version addresses (Err BadHeader) = IsElf64 bytes × ¬ IsReadable bytes
+Means bytes layouts version addresses (Err (UnsupportedVersion named)) = IsUncovered bytes layouts version × (named ≡ version)
+Means bytes layouts version addresses (Err (Unreadable addr len)) = Meets bytes layouts version addresses (Missing addr len)
+Means bytes layouts version addresses (Err ThreadLimit) = Meets bytes layouts version addresses ManyThreads
+Means bytes layouts version addresses (Err FrameLimit) = Meets bytes layouts version addresses ManyFrames
+Means bytes layouts version addresses (Err ChainLimit) = Meets bytes layouts version addresses ManyMembers
+Means bytes layouts version addresses (Err OutOfMemory) = ⊤
+Means bytes layouts version addresses (Err NoNotes) = ⊥
+Means bytes layouts version addresses (Err BadNote) = ⊥
+Means bytes layouts version addresses (Err NoBinary) = ⊥
+Means bytes layouts version addresses (Err (NoImage path)) = ⊥
+Means bytes layouts version addresses (Err (BadImage path)) = ⊥
+Means bytes layouts version addresses (Err (UnreadableVersion addr len)) = ⊥
+Means bytes layouts version addresses (Err NoVersion) = ⊥
+Means bytes layouts version addresses (Err NoInterpreter) = ⊥
+Means bytes layouts version addresses (Err NativeUnsupported) = ⊥
+Means bytes layouts version addresses (Err SubprocessesUnsupported) = ⊥
+Means bytes layouts version addresses (Err (BadValue frame)) = Meets bytes layouts version addresses (IsBadValue frame)
+Means bytes layouts version addresses (Err (LocalsLimit count)) = Meets bytes layouts version addresses (ManyLocals count)
 
 abbrev pub traced : {E : Type 0} → Result (Vec StackTrace) E → Result (List Trace) E
 traced (Ok v) = Ok (map trace_of v.items)

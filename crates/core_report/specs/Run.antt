@@ -33,8 +33,8 @@ SourceGives told (file name) answer = (text : List ℕ) × Gives told name text 
 -- what a command comes to over the bytes of its core: the text of the traces that it finds by the layouts, or
 -- the cause why there are none
 abbrev pub Works : Command → List ℕ → List Layout → Result (List ℕ) CoreError → Type 0
-Works (walk w) core layouts (Ok text) = (traces : List StackTrace) × (text ≡ walk_text w.version traces) × Finds core layouts w.version w.interp (map trace_of traces)
-Works (walk w) core layouts (Err error) = Means core layouts w.version w.interp (Err error)
+Works (walk w) core layouts (Ok text) = (traces : List StackTrace) × (text ≡ walk_text w.version traces) × Finds core layouts w.version w.addresses (map trace_of traces)
+Works (walk w) core layouts (Err error) = Means core layouts w.version w.addresses (Err error)
 
 -- A command is asked for, and over the bytes of its core, which are those of the told file, and by the layouts
 -- of its source, it comes to this result.
@@ -145,7 +145,7 @@ pub record IsFaultless (w : Walk) (core : List ℕ) (layouts : List Layout) : Ty
   pub accepted : IsAccepted core
   pub layout : Layout
   pub chosen : IsChosen layouts w.version layout
-  pub faultless : fault_by layout core w.interp ≡ None
+  pub faultless : fault_by layout core w.addresses ≡ None
 
 -- what may be wrong with a layout file's text, or want of memory
 abbrev pub IsTextTrouble : List ℕ → Trouble → Type 0

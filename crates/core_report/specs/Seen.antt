@@ -16,7 +16,7 @@ source_at Sample = words.sample
 source_at (File name) = words.file name.now
 
 abbrev pub walk_at : WalkWords → words.Walk
-walk_at w = record { core = w.core.now; layouts = source_at w.layouts; version = version_at w.version; interp = w.interp }
+walk_at w = record { core = w.core.now; layouts = source_at w.layouts; version = version_at w.version; addresses = w.addresses }
 
 abbrev pub command_at : Command → words.Command
 command_at (Walk w) = words.walk (walk_at w)

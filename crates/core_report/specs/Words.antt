@@ -4,7 +4,12 @@ use Rattle.std.specs.List.{list_all, position_or_len, starts_with, before_first,
 use Rattle.std.specs.Char.{digit_value}
 use Rattle.std.specs.Str.Parse.{digits_value}
 use Rattle.std.specs.Global.{Global}
+<<<<<<< HEAD
 use Rattle.py_version.specs.declared.version.Version.{Version}
+=======
+use Rattle.py_layout.specs.declared.version.Version.{Version}
+use Rattle.py_stacks.specs.declared.trace.Addresses.{Addresses}
+>>>>>>> 671c1221c2cd39069515a36d64ec8186c3cbfe8c
 
 -- one digit or more of the radix, at most so many, of a number below 2 ^ 64
 abbrev pub is_numeral : ℕ → ℕ → List ℕ → Bool
@@ -47,21 +52,21 @@ pub data LayoutSource : Type 0 where
 abbrev pub source_of : List ℕ → LayoutSource
 source_of word = if bytes_eq word (codes "sample") then sample else file word
 
--- a walk over the core of this name, from this interpreter
+-- a walk over the core of this name, from these addresses of an interpreter and its lock
 pub record Walk : Type 0 where
   pub core : List ℕ
   pub layouts : LayoutSource
   pub version : Version
-  pub interp : ℕ
+  pub addresses : Addresses
 
 -- what words ask for
 pub data Command : Type 0 where
   walk : Walk → Command
 
--- a walk of these parts, where all are there and the lock is 0
+-- a walk of these parts, where all are there
 abbrev pub walk_by : List ℕ → LayoutSource → Option Version → Option ℕ → Option ℕ → Option Walk
 walk_by core layouts (Some version) (Some interp) (Some lock) =
-    if lock == 0 then Some (record { core = core; layouts = layouts; version = version; interp = interp }) else None
+    Some (record { core = core; layouts = layouts; version = version; addresses = record { interpreter = interp; lock = lock } })
 walk_by core layouts _ _ _ = None
 
 -- CORE LAYOUTS VERSION INTERP LOCK

@@ -18,7 +18,6 @@ use crate::text::walk_text;
 use crate::words::{Command, LayoutSource, WalkWords, read_words};
 use image_memory::{FileFault, Files, Sink};
 use py_layout::{Layout, LayoutError, Layouts};
-use py_stacks::Addresses;
 use std::alloc::{AllocError, Global};
 
 /// Why a run printed nothing, or not all.
@@ -110,11 +109,7 @@ fn work(
         (λ error. error ≢ CoreError.OutOfMemory → Works (walk (walk_at words.now)) core.items layouts.now (Err error)) }
 {
     let version = words.version.version(alloc)?;
-    let addresses = Addresses {
-        interpreter: words.interp,
-        lock: 0,
-    };
-    let traces = walk(alloc, core, layouts, &version, &addresses)?;
+    let traces = walk(alloc, core, layouts, &version, &words.addresses)?;
     let text = walk_text(alloc, &version, &traces)?;
     Ok(text)
 }
@@ -222,8 +217,10 @@ fn tell<E: Sink>(err: &mut E, trouble: &Trouble<'_>) -> u8
     }
 }
 
-/// Does what the words ask for: `walk CORE LAYOUTS VERSION INTERP 0`, with no program's name before it.
-/// `LAYOUTS` is `sample`, for `py_layout::Layout::sample`, or else the name of a layout file.
+/// Does what the words ask for: `walk CORE LAYOUTS VERSION INTERP LOCK`, with no program's name before it.
+/// `LAYOUTS` is `sample`, for `py_layout::Layout::sample`, or else the name of a layout file. `LOCK` is the
+/// address of what names the holder of the interpreter lock, 0 where there is none
+/// (`py_stacks::get_gil_threadid`).
 ///
 /// The words are judged, the core is read, and then the layout file, where one is named; the layouts are
 /// checked, the work is done, and its whole text is written to `out` by one call. `files` is asked for no

@@ -7,7 +7,7 @@ use std::alloc::{AllocError, Global};
 use std::test::Fail;
 
 /// The layouts of `Layout::sample`.
-const SAMPLE: &str = r#"[[layout]]
+pub(crate) const SAMPLE: &str = r#"[[layout]]
 major = 3
 first_minor = 9
 last_minor = 9
@@ -40,7 +40,17 @@ keys = {size=40, used=32, slots=8}
 
 /// The sample, with one part in place of another.
 fn edited(alloc: Global, old: &str, new: &str) -> Result<String, AllocError> {
-    match SAMPLE.split_once(old) {
+    with_part(alloc, SAMPLE, old, new)
+}
+
+/// A text, with one part in place of another.
+pub(crate) fn with_part(
+    alloc: Global,
+    text: &str,
+    old: &str,
+    new: &str,
+) -> Result<String, AllocError> {
+    match text.split_once(old) {
         Some((front, back)) => format!(in alloc; "{front}{new}{back}"),
         None => format!(in alloc; "no such part: {old}"),
     }

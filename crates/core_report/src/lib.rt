@@ -16,6 +16,8 @@ pub use core_walk::walk;
 pub use error::CoreError;
 
 #[cfg(test)]
+mod family_tests;
+#[cfg(test)]
 mod layout_tests;
 #[cfg(test)]
 mod tests;

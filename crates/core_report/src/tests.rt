@@ -52,10 +52,16 @@ const CORE_WORDS: [(usize, u64); 34] = [
 ];
 
 pub(crate) fn core(alloc: Global) -> Result<Vec<u8>, AllocError> {
+    core_with(alloc, &[])
+}
+
+/// The core with other words at some offsets.
+pub(crate) fn core_with(alloc: Global, others: &[(usize, u64)]) -> Result<Vec<u8>, AllocError> {
     let mut bytes = Vec::new(alloc);
     for at in 0..99 {
-        let word = CORE_WORDS
+        let word = others
             .iter()
+            .chain(&CORE_WORDS)
             .find(|word| word.0 == 8 * at)
             .map_or(0, |word| word.1);
         bytes.extend_from_slice(&word.to_le_bytes())?;
@@ -91,7 +97,7 @@ struct Row {
 
 const GOOD: [&str; 6] = ["walk", "core", "sample", "3.9.0", "0x10000", "0"];
 
-const ROWS: [Row; 10] = [
+const ROWS: [Row; 14] = [
     Row {
         words: &GOOD,
         failing_reads: &[1],
@@ -121,6 +127,42 @@ const ROWS: [Row; 10] = [
     },
     Row {
         words: &["walk", "core", "sample", "3.9.0", "0x20000", "0"],
+        failing_reads: &[],
+        failing_writes: &[],
+        room_for_line: 100,
+        status: 1,
+        printed: b"",
+        said: b"pystacks: unreadable at 0x20008, 8 bytes\n",
+    },
+    Row {
+        words: &["walk", "core", "sample", "3.9.0", "0x10000", "0x10008"],
+        failing_reads: &[],
+        failing_writes: &[],
+        room_for_line: 100,
+        status: 0,
+        printed: b"Python v3.9.0\n\nThread 0x7F00 (gil)\n    f (a.py)\n    <module> (a.py)\n",
+        said: b"",
+    },
+    Row {
+        words: &["walk", "core", "sample", "3.9.0", "0x10000", "0x20000"],
+        failing_reads: &[],
+        failing_writes: &[],
+        room_for_line: 100,
+        status: 1,
+        printed: b"",
+        said: b"pystacks: unreadable at 0x20000, 8 bytes\n",
+    },
+    Row {
+        words: &["walk", "core", "sample", "3.9.0", "0x20000", "0x10118"],
+        failing_reads: &[],
+        failing_writes: &[],
+        room_for_line: 100,
+        status: 1,
+        printed: b"",
+        said: b"pystacks: unreadable at 0x3, 64 bytes\n",
+    },
+    Row {
+        words: &["walk", "core", "sample", "3.9.0", "0x20000", "65544"],
         failing_reads: &[],
         failing_writes: &[],
         room_for_line: 100,
@@ -201,7 +243,7 @@ fn each_status_with_its_line(rt: HostRuntime) -> Result<(), Fail> {
 }
 
 /// Words in place of one of `GOOD`, by its number.
-const OTHER_WORDS: [(usize, &str); 15] = [
+const OTHER_WORDS: [(usize, &str); 16] = [
     (0, "Walk"),
     (0, ""),
     (3, "3.9"),
@@ -216,7 +258,8 @@ const OTHER_WORDS: [(usize, &str); 15] = [
     (4, "18446744073709551616"),
     (4, "0x1000000000000000f"),
     (4, "ff"),
-    (5, "1"),
+    (5, ""),
+    (5, "-1"),
 ];
 
 #[test]
@@ -248,11 +291,12 @@ const NUMBERS: [(&str, u64); 5] = [
 fn numbers_are_read(rt: HostRuntime) -> Result<(), Fail> {
     let alloc = rt.alloc();
     for (word, number) in &NUMBERS {
-        let words = words(alloc, &["walk", "core", "sample", "3.10.999", word, "0x0"])?;
+        let words = words(alloc, &["walk", "core", "sample", "3.10.999", word, word])?;
         let Some(Command::Walk(walk)) = read_words(&words) else {
             return Err(Fail::from("refused"));
         };
-        assert_eq!(rt; walk.interp, *number);
+        assert_eq!(rt; walk.addresses.interpreter, *number);
+        assert_eq!(rt; walk.addresses.lock, *number);
         assert_eq!(rt;
             (walk.version.major, walk.version.minor, walk.version.patch),
             (3, 10, 999)

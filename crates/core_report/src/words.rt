@@ -5,6 +5,7 @@ ghost use Rattle.core_report.specs.Seen.{command_at, source_at, version_at, walk
 
 use elf64_core::Text;
 use py_layout::Version;
+use py_stacks::Addresses;
 use std::alloc::{AllocError, Global};
 
 /// What words ask for.
@@ -21,8 +22,7 @@ pub(crate) struct WalkWords<'a> {
     pub(crate) core: &'a str,
     pub(crate) layouts: LayoutSource<'a>,
     pub(crate) version: Release,
-    /// The interpreter's address.
-    pub(crate) interp: u64,
+    pub(crate) addresses: Addresses,
 }
 
 /// Where the layouts come from.
@@ -137,17 +137,17 @@ fn walk_by<'a>(
     ensures { option_map walk_at result ≡ walk_by core.now (source_at layouts.entry) (option_map version_at version) interp lock }
 {
     match (version, interp, lock) {
-        (Some(version), Some(interp), Some(lock)) if lock == 0 => Some(WalkWords {
+        (Some(version), Some(interpreter), Some(lock)) => Some(WalkWords {
             core,
             layouts,
             version,
-            interp,
+            addresses: Addresses { interpreter, lock },
         }),
         _ => None,
     }
 }
 
-/// `CORE LAYOUTS VERSION INTERP 0`
+/// `CORE LAYOUTS VERSION INTERP LOCK`
 fn walk_words(words: &[String]) -> Option<WalkWords<'_>>
     ensures { option_map walk_at result ≡ walk_words (texts words.now) }
 {
@@ -181,7 +181,7 @@ fn walk_of<'a>(
     )
 }
 
-/// `walk CORE LAYOUTS VERSION INTERP 0`
+/// `walk CORE LAYOUTS VERSION INTERP LOCK`
 pub(crate) fn read_words(words: &[String]) -> Option<Command<'_>>
     ensures { option_map command_at result ≡ command_of (texts words.now) }
 {

@@ -4,3 +4,5 @@ pub mod FrameLaws
 pub mod Costs
 pub mod ThreadSteps
 pub mod ThreadLaws
+pub mod Owners
+pub mod StackLaws

@@ -87,7 +87,7 @@ traces_each l m owner (a ∷ rest) (t ∷ ts) e =
     let same : thread.0.1 ≡ t = ok_same _ t thread.2 in
     (subst (IsTraceOf l m owner a) same (trace_is l m owner a thread.0 (thread_parts l m owner a thread.0 thread.1)), traces_each l m owner rest ts others)
 
-traces_found : (l : Layout) (m : Memory) (owner interpreter : ℕ) (traces : List Trace) → traces_at l m owner interpreter ≡ Ok traces → AreTraces l m owner interpreter traces
+pub traces_found : (l : Layout) (m : Memory) (owner interpreter : ℕ) (traces : List Trace) → traces_at l m owner interpreter ≡ Ok traces → AreTraces l m owner interpreter traces
 unfolding traces_at threads_at
 traces_found l m owner interpreter traces e =
     let head = bound (word_at m (interpreter + l.interpreter.threads)) _ traces e in
@@ -130,7 +130,7 @@ thread_leads l m owner s a x e =
     let parts = thread_parts l m owner a (x.next, x.part) (step_thread l m owner a s x e) in
     leads l (record_at m a l.thread.size) parts.thread parts.read ∙ ap (λ n. Ok (n, tt)) parts.next
 
-traces_same : (l : Layout) (m : Memory) (owner interpreter : ℕ) → first_fault (traces_faults l m interpreter) ≡ fault_in (traces_at l m owner interpreter)
+pub traces_same : (l : Layout) (m : Memory) (owner interpreter : ℕ) → first_fault (traces_faults l m interpreter) ≡ fault_in (traces_at l m owner interpreter)
 unfolding traces_faults traces_at threads_at
 traces_same l m owner interpreter =
     then_same (word_at m (interpreter + l.interpreter.threads)) _ _

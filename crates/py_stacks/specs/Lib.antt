@@ -1,4 +1,6 @@
 pub mod Frames
 pub mod Threads
+pub mod Owner
+pub mod Stacks
 pub mod StackError
 pub mod Gathering

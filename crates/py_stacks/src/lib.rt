@@ -2,19 +2,26 @@
 //!
 //! An interpreter names its first thread, each thread the next one and its newest frame, and each frame
 //! the one that called it. The walks go to null; where a record is not in memory, or a chain goes on past
-//! its limit, they answer so, and no part of a stack.
+//! its limit, they answer so, and no part of a stack. The lock's holder is named by a word or by a record
+//! of the lock's own, at an address that the caller has.
 #![tactic(auto)]
 
 mod error;
 mod frames;
 mod members;
+mod owner;
+mod stacks;
 mod threads;
 mod trace;
 
 pub use error::StackError;
 pub use frames::read_frames;
+pub use owner::get_gil_threadid;
+pub use stacks::read_stacks;
 pub use threads::read_traces;
 pub use trace::{Addresses, Frame, LocalVariable, StackTrace};
 
+#[cfg(test)]
+mod owner_tests;
 #[cfg(test)]
 mod tests;

@@ -1,0 +1,17 @@
+use Rattle.std.proofs.Common.{ap}
+use Rattle.std.proofs.lemmas.Result.{err_from_is_err_and}
+use Rattle.image_memory.proofs.Reading.{reads_next, reads_halt}
+use Rattle.py_stacks.specs.StackError.{fault_of}
+use Rattle.py_stacks.specs.Stacks.{stacks_at}
+use Rattle.py_stacks.proofs.StackLaws.{stacks_budget, stacks_costs}
+use Rattle.py_stacks.proofs.stacks.walk_stacks.Goals as goal
+
+pub returns-in_err-owner : goal.returns-in_err-owner
+unfolding stacks_at
+returns-in_err-owner g c =
+    let p = err_from_is_err_and c.from_residual.result c.from_residual.ensures.1 in
+    rw p.1 (reads_halt _ p.0 _ c.in_err-owner.ensures.answer (ap fault_of p.2) (stacks_costs _ _ _))
+
+pub returns : goal.returns
+unfolding stacks_at
+returns g c = reads_next _ _ c.in_ok-owner.ensures.answer c.read_traces.ensures.answer (stacks_budget c.args.layout.now c.args.addresses.now c.in_ok-owner.owner c.in_ok-owner.ensures.answer)
