@@ -30,9 +30,6 @@ from find_pythons import pythons
 
 ROOT = Path(__file__).resolve().parent.parent
 
-LOCK_REQUIRED = False
-"""Whether a program that refuses the lock's address (status 2) has failed. To be True once walk takes the address."""
-
 DICT_GROUPS = ("dict.", "keys.", "heap.")
 """The groups that a layout without dicts lacks."""
 
@@ -235,8 +232,6 @@ def holder_of(program: Path, core: Path, layouts: Path, derived: Derived, told: 
     if not told.lock:
         return "holder not tried, as nothing tells where the lock is"
     run = walk(program, core, layouts, derived.build, told.interpreter, told.lock)
-    if run.status == 2 and not LOCK_REQUIRED:
-        return "holder not tried, as walk takes no address of a lock"
     if run.status != 0:
         raise Failure(f"walk with the lock at {told.lock:#x} ended with status {run.status}: {run.err}")
     compare(told.threads, printed(run.out, derived.build), with_lock=True)

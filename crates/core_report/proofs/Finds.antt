@@ -3,6 +3,7 @@
 use Rattle.std.proofs.Common.{◌≡◌, ◌≢◌, ◌<◌, ◌⊎◌, ℕ, List, length, get_or, refl, sym, ap, subst, ◌∙◌, arith, inl, inr, ⊎_elim}
 use Rattle.std.proofs.lemmas.Bool.{cases_order}
 use Rattle.std.proofs.lemmas.List.{get_or_default}
+use Rattle.std.proofs.lemmas.Option.{same_Some}
 use Rattle.std.specs.Prelude.{Option, Some, None, Result, Ok, Err, AllPairs, Contains, IfSome, map}
 use Rattle.image_memory.specs.Memory.{Fault}
 use Rattle.image_memory.specs.Outside.{Told, Gives, Rose, bytes_of}
@@ -95,14 +96,11 @@ finds_means w bytes layouts traces error apart found memory h =
 
 -- ---- what files give is what they tell
 
-some_same : {X : Type 0} (x y : X) → ◌≡◌ {A = Option X} (Some x) (Some y) → x ≡ y
-some_same x y e = cc
-
 -- the bytes that the files gave are those that they tell
 given_told : (told : Told) (name given held : List ℕ) → Gives told name given → Tells told name held → given ≡ held
 given_told told name given held gives (files, is, holds) =
     let one : IfSome (Some files) (λ files. bytes_of files name ≡ Some given) = subst (λ t. Gives t name given) is gives in
-    some_same given held (sym one ∙ holds)
+    same_Some given held (sym one ∙ holds)
 
 -- an answer that a source gives, and one that the files tell of it
 gives_unless : (told : Told) (source : LayoutSource) (given held : Result (List Layout) LayoutError) → SourceGives told source given → TellsLayouts told source held → held ≢ Err layout.OutOfMemory → (given ≡ held) ⊎ (given ≡ Err layout.OutOfMemory)
@@ -151,7 +149,7 @@ record IsTold (asked : Option Command) (told : Told) (w : Walk) (bytes : List �
   laid : TellsLayouts told w.layouts (Ok layouts)
 
 reached_works : (asked : Option Command) (told : Told) (w : Walk) (bytes : List ℕ) (layouts : List Layout) (result : Result (List ℕ) CoreError) → IsTold asked told w bytes layouts → Reaches asked told result → Works (walk w) bytes layouts result
-reached_works asked told w bytes layouts result tells reached = by reached.command (some_same _ _ (sym reached.is_asked ∙ tells.is)) reached.given reached.said reached.works
+reached_works asked told w bytes layouts result tells reached = by reached.command (same_Some _ _ (sym reached.is_asked ∙ tells.is)) reached.given reached.said reached.works
   where
     by : (command : Command) → command ≡ walk w → Gives told (core_file command) reached.core → SourceGives told (layout_source command) (Ok reached.layouts) → Works command reached.core reached.layouts result → Works (walk w) bytes layouts result
     by command same given said works =
@@ -164,7 +162,7 @@ reached_works asked told w bytes layouts result tells reached = by reached.comma
 
 flaw_none : (asked : Option Command) (told : Told) (w : Walk) (error : LayoutError) (layouts : List Layout) → asked ≡ Some (walk w) → TellsLayouts told w.layouts (Ok layouts) → HasBadLayouts asked told error → ⊥
 flaw_none asked told w error layouts is tells bad =
-    let same : bad.command ≡ walk w = some_same _ _ (sym bad.is_asked ∙ is) in
+    let same : bad.command ≡ walk w = same_Some _ _ (sym bad.is_asked ∙ is) in
     no_flaw told w.layouts error layouts bad.not_memory (subst (λ c. SourceGives told (layout_source c) (Err error)) same bad.said) tells
 
 pub finds_of : (asked : Option Command) (r : Ran) (t : Trouble) → HasCause asked r t → (w : Walk) (bytes : List ℕ) (layouts : List Layout) → asked ≡ Some (walk w) → Tells r.told w.core bytes → TellsLayouts r.told w.layouts (Ok layouts) → IsFaultless w bytes layouts → r.failed_after ≡ r.failed → (Rose r.faults r.faults_after → ⊥) → (status_of t ≡ 0) ⊎ (status_of t ≡ 5)
@@ -201,7 +199,7 @@ fails_printed asked r printed w bytes layouts error is tells laid memory means =
 
 flaw_reaches : (asked : Option Command) (told : Told) (w : Walk) (error : LayoutError) (result : Result (List ℕ) CoreError) → asked ≡ Some (walk w) → TellsLayouts told w.layouts (Err error) → error ≢ layout.OutOfMemory → Reaches asked told result → ⊥
 flaw_reaches asked told w error result is tells memory reached =
-    let same : reached.command ≡ walk w = some_same _ _ (sym reached.is_asked ∙ is) in
+    let same : reached.command ≡ walk w = same_Some _ _ (sym reached.is_asked ∙ is) in
     no_layouts told w.layouts reached.layouts error memory (subst (λ c. SourceGives told (layout_source c) (Ok reached.layouts)) same reached.said) tells
 
 pub flawed_of : (asked : Option Command) (r : Ran) (t : Trouble) → HasCause asked r t → (w : Walk) (error : LayoutError) → asked ≡ Some (walk w) → TellsLayouts r.told w.layouts (Err error) → error ≢ layout.OutOfMemory → r.failed_after ≡ r.failed → (status_of t ≡ 6) ⊎ (status_of t ≡ 5)

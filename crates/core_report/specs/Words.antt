@@ -4,12 +4,8 @@ use Rattle.std.specs.List.{list_all, position_or_len, starts_with, before_first,
 use Rattle.std.specs.Char.{digit_value}
 use Rattle.std.specs.Str.Parse.{digits_value}
 use Rattle.std.specs.Global.{Global}
-<<<<<<< HEAD
 use Rattle.py_version.specs.declared.version.Version.{Version}
-=======
-use Rattle.py_layout.specs.declared.version.Version.{Version}
 use Rattle.py_stacks.specs.declared.trace.Addresses.{Addresses}
->>>>>>> 671c1221c2cd39069515a36d64ec8186c3cbfe8c
 
 -- one digit or more of the radix, at most so many, of a number below 2 ^ 64
 abbrev pub is_numeral : ℕ → ℕ → List ℕ → Bool

@@ -305,8 +305,8 @@ fn numbers_are_read(rt: HostRuntime) -> Result<(), Fail> {
     Ok(())
 }
 
-/// Each error with its line, after `pystacks: `.
-fn core_errors(alloc: Global) -> Result<Vec<(CoreError, &'static [u8])>, AllocError> {
+/// Each error of the files and of the version with its line, after `pystacks: `.
+fn file_errors(alloc: Global) -> Result<Vec<(CoreError, &'static [u8])>, AllocError> {
     let path = || Name::of(alloc, b"/lib/\xff.so");
     let version = Version {
         major: 3,
@@ -341,7 +341,14 @@ fn core_errors(alloc: Global) -> Result<Vec<(CoreError, &'static [u8])>, AllocEr
             CoreError::UnsupportedVersion { version },
             b"no layout for Python 3.99.0rc1+dev"
         ),
-        (CoreError::NoInterpreter, b"no interpreter found"),
+    ]?;
+    Ok(errors)
+}
+
+/// Each error of the search and the walk with its line, after `pystacks: `.
+fn walk_errors(alloc: Global) -> Result<Vec<(CoreError, &'static [u8])>, AllocError> {
+    let errors = vec![in alloc;
+        (CoreError::NoInterpreter, b"no interpreter found".as_slice()),
         (
             CoreError::Unreadable {
                 addr: u64::MAX,
@@ -379,11 +386,13 @@ fn core_errors(alloc: Global) -> Result<Vec<(CoreError, &'static [u8])>, AllocEr
 #[test]
 fn each_error_has_its_line(rt: HostRuntime) -> Result<(), Fail> {
     let alloc = rt.alloc();
-    for (error, line) in core_errors(alloc)? {
-        let mut err = MemorySink::new(alloc, 100, Vec::new(alloc))?;
-        say_core(&mut err, &error);
-        let said = err.bytes().strip_prefix(b"pystacks: ");
-        assert_eq!(rt; said.and_then(|said| said.strip_suffix(b"\n")), Some(line));
+    for errors in [file_errors(alloc)?, walk_errors(alloc)?] {
+        for (error, line) in errors {
+            let mut err = MemorySink::new(alloc, 100, Vec::new(alloc))?;
+            say_core(&mut err, &error);
+            let said = err.bytes().strip_prefix(b"pystacks: ");
+            assert_eq!(rt; said.and_then(|said| said.strip_suffix(b"\n")), Some(line));
+        }
     }
     Ok(())
 }

@@ -4,21 +4,18 @@ use Rattle.std.specs.Prelude.{Option, Some, None, Result, Ok, Err, IfOk}
 use Rattle.std.specs.Global.{Vec}
 use Rattle.std.proofs.lemmas.Bool.Decides.{nat_tests}
 use Rattle.elf64_core.specs.Fields.{word_in}
-use Rattle.image_memory.specs.Memory.{Memory, Found, Fault, ◌>>=◌, record_at}
+use Rattle.image_memory.specs.Memory.{Memory, Found, ◌>>=◌, record_at}
 use Rattle.image_memory.specs.Memory.Fault.{ChainLimit, FrameLimit}
 use Rattle.image_memory.specs.Seen.{Answers, items_of}
 use Rattle.image_memory.specs.Walk.{Step, walk_at, first_fault, fault_in}
-use Rattle.image_memory.specs.Faults.{FaultsAre, faults_then}
-use Rattle.image_memory.proofs.Walks.{walk_chain, walk_first_fault, faults_from_answer}
+use Rattle.image_memory.specs.Faults.{FaultsAre}
+use Rattle.image_memory.proofs.Founds.{bound, ok_same}
+use Rattle.image_memory.proofs.Walks.{walk_chain, walk_first_fault, faults_from_answer, then_same_twice}
 use Rattle.py_layout.specs.declared.layout.Layout.{Layout}
 use Rattle.py_stacks.specs.declared.trace.Frame.{Frame}
 use Rattle.py_stacks.specs.declared.error.StackError.{StackError}
 use Rattle.py_stacks.specs.StackError.{fault_of}
 use Rattle.py_stacks.specs.Frames.{AreFrames, back_of, code_of, frame_faults, frame_limit, frame_next, frame_step, frames_at, frames_faults, kept_after, kept_next, limit_faults, member_at, member_limit, members_at, name_at, or_skipped, part_of, shown, shown_by, shown_by_records, step_of}
-use Rattle.py_stacks.proofs.Gather.{bound}
-
-pub ok_same : {X : Type 0} (x y : X) → ◌≡◌ {A = Found X} (Ok x) (Ok y) → x ≡ y
-ok_same x y e = cc
 
 -- a step is a member, and the count after it
 record IsStep (l : Layout) (m : Memory) (kept a : ℕ) (x : Step ℕ (Option Frame)) : Type 0 where
@@ -95,10 +92,6 @@ frames_law l m first (Err e) a = tt
 frames_law l m first (Ok v) a = frames_found l m first v.items a.is
 
 -- ---- the first fault
-
-pub then_same_twice : {T U V : Type 0} (d : Found T) (g : T → List Fault) (f : T → Found U) (h : U → Found V) → ((x : T) → first_fault (g x) ≡ fault_in (f x >>= h)) → first_fault (faults_then d g) ≡ fault_in ((d >>= f) >>= h)
-then_same_twice (Ok x) g f h s = s x
-then_same_twice (Err e) g f h s = refl
 
 limit_same : (kept back : ℕ) (v : Option Frame) → first_fault (limit_faults kept v) ≡ fault_in (step_of kept (back, v))
 limit_same kept back None = refl

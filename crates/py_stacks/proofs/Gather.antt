@@ -3,7 +3,7 @@ use Rattle.std.proofs.Common.{◌≡◌, ◌≢◌, ℕ, ◌+◌, ◌<◌, ◌�
 use Rattle.std.specs.Prelude.{Option, Some, None, IsSome, ◌⊎◌, Result, Ok, Err}
 use Rattle.std.proofs.lemmas.Bool.Decides.{nat_tests}
 use Rattle.elf64_core.specs.Fields.{word_in}
-use Rattle.image_memory.specs.Memory.{Memory, Found, Fault, ◌>>=◌, byte_at, record_at}
+use Rattle.image_memory.specs.Memory.{Memory, Found, Fault, byte_at, record_at}
 use Rattle.image_memory.specs.Memory.Fault.{ChainLimit, FrameLimit}
 use Rattle.image_memory.specs.Seen.{Seen, Reads, Answers}
 use Rattle.image_memory.specs.Walk.{Step, walk_at}
@@ -16,15 +16,9 @@ use Rattle.py_stacks.specs.declared.error.StackError.TheVariants as stack
 use Rattle.py_stacks.specs.StackError.{fault_of}
 use Rattle.py_stacks.specs.Frames.{code_of, frame_limit, frame_step, frames_at, frames_cost, is_entered, is_hidden, member_at, member_limit, members_at, name_at, frame_named, shown, shown_by, step_of, visible, with_mark}
 use Rattle.py_stacks.specs.Gathering.{Adds, Gathering, mark_last}
+use Rattle.std.proofs.lemmas.Option.{same_Some}
+use Rattle.image_memory.proofs.Founds.{bound}
 use Rattle.py_stacks.proofs.Shown.{length-mark_last, shown-kept, shown-last, shown-skipped}
-
--- a value that comes of two steps
-pub bound : {T U : Type 0} (d : Found T) (f : T → Found U) (y : U) → (d >>= f) ≡ Ok y → (x : T) × (d ≡ Ok x) × (f x ≡ Ok y)
-bound (Ok x) f y e = (x, refl, e)
-bound (Err q) f y e = absurd (cc)
-
-some_same : {X : Type 0} (x y : X) → ◌≡◌ {A = Option X} (Some x) (Some y) → x ≡ y
-some_same x y e = cc
 
 second_same : {X Y : Type 0} (a b : X) (x y : Y) → ◌≡◌ {A = Found (X × Y)} (Ok (a, x)) (Ok (b, y)) → x ≡ y
 second_same {X = X} {Y = Y} a b x y e = let p : ◌≡◌ {A = X × Y} (a, x) (b, y) = cc in ap (λ (q : X × Y). q.1) p
@@ -36,7 +30,7 @@ visible_unmarked None name entered f = λ e. absurd (cc)
 visible_unmarked (Some file) None entered f = λ e. absurd (cc)
 visible_unmarked (Some file) (Some name) entered f =
     elim (is_hidden file) as (λ t. cond t None (Some (frame_named file name entered)) ≡ Some f → f.is_shim_entry ≡ false)
-    [ true ↦ λ e. absurd (cc) | false ↦ λ e. ap (λ (h : Frame). h.is_shim_entry) (sym (some_same (frame_named file name entered) f e)) ]
+    [ true ↦ λ e. absurd (cc) | false ↦ λ e. ap (λ (h : Frame). h.is_shim_entry) (sym (same_Some (frame_named file name entered) f e)) ]
 
 member_unmarked : (l : Layout) (m : Memory) (a back : ℕ) (f : Frame) → member_at l m a ≡ Ok (back, Some f) → f.is_shim_entry ≡ false
 unfolding member_at

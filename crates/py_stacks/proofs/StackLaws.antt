@@ -9,6 +9,7 @@ use Rattle.image_memory.specs.Walk.{first_fault, fault_in}
 use Rattle.image_memory.specs.Faults.{FaultsAre}
 use Rattle.image_memory.proofs.Reading.{reading_here}
 use Rattle.image_memory.proofs.Walks.{faults_from_answer, then_same}
+use Rattle.image_memory.proofs.Founds.{bound}
 use Rattle.py_layout.specs.declared.layout.Layout.{Layout}
 use Rattle.py_stacks.specs.declared.trace.Addresses.{Addresses}
 use Rattle.py_stacks.specs.declared.trace.StackTrace.{StackTrace}
@@ -17,7 +18,6 @@ use Rattle.py_stacks.specs.StackError.{fault_of}
 use Rattle.py_stacks.specs.Owner.{owner_at}
 use Rattle.py_stacks.specs.Stacks.{AreStacks, stacks_at, stacks_cost, stacks_faults}
 use Rattle.py_stacks.specs.Threads.{Trace, trace_of, traces_cost, traces_of_result}
-use Rattle.py_stacks.proofs.Gather.{bound}
 use Rattle.py_stacks.proofs.ThreadLaws.{traces_found, traces_same}
 
 pub stacks_costs : (l : Layout) (m : Memory) (addresses : Addresses) → 2 ≤ stacks_cost l m addresses

@@ -9,7 +9,8 @@ use Rattle.image_memory.specs.Memory.Fault.{ThreadLimit}
 use Rattle.image_memory.specs.Seen.{Answers}
 use Rattle.image_memory.specs.Walk.{Step, first_fault, fault_in}
 use Rattle.image_memory.specs.Faults.{FaultsAre}
-use Rattle.image_memory.proofs.Walks.{walk_chain, walk_first_fault, faults_from_answer, then_same}
+use Rattle.image_memory.proofs.Founds.{bound, ok_same}
+use Rattle.image_memory.proofs.Walks.{walk_chain, walk_first_fault, faults_from_answer, then_same, then_same_twice}
 use Rattle.py_layout.specs.declared.layout.Layout.{Layout}
 use Rattle.py_stacks.specs.declared.trace.Frame.{Frame}
 use Rattle.py_stacks.specs.declared.trace.StackTrace.{StackTrace}
@@ -17,8 +18,7 @@ use Rattle.py_stacks.specs.declared.error.StackError.{StackError}
 use Rattle.py_stacks.specs.StackError.{fault_of}
 use Rattle.py_stacks.specs.Frames.{AreFrames, frames_at, part_of}
 use Rattle.py_stacks.specs.Threads.{AreTraces, AreTracesOf, IsTraceOf, Trace, first_frame_at, thread_after, thread_at, thread_faults, thread_limit, thread_next, thread_step, threads_at, trace_by, trace_of, traces_at, traces_faults, traces_of_result}
-use Rattle.py_stacks.proofs.Gather.{bound}
-use Rattle.py_stacks.proofs.FrameLaws.{frames_found, frames_same, ok_same, then_same_twice}
+use Rattle.py_stacks.proofs.FrameLaws.{frames_found, frames_same}
 
 -- what a thread is, by its parts
 pub record HasParts (l : Layout) (m : Memory) (owner a : ℕ) (x : ℕ × Trace) : Type 0 where
