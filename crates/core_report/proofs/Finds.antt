@@ -9,11 +9,12 @@ use Rattle.image_memory.specs.Memory.{Fault}
 use Rattle.image_memory.specs.Outside.{Told, Gives, Rose, bytes_of}
 use Rattle.py_layout.specs.declared.error.LayoutError.{LayoutError}
 use Rattle.py_layout.specs.declared.error.LayoutError.TheVariants as layout
-use Rattle.py_layout.specs.declared.layout.Layout.{Layout}
+use Rattle.py_fields.specs.declared.layout.Layout.{Layout}
 use Rattle.py_version.specs.declared.version.Version.{Version}
 use Rattle.py_layout.specs.File.{IsRightFor}
-use Rattle.py_layout.specs.Samples.{sample_layout}
-use Rattle.py_layout.specs.Sound.{Clash, Covers}
+use Rattle.py_fields.specs.Samples.{sample_layout}
+use Rattle.py_fields.specs.Sound.{Covers}
+use Rattle.py_layout.specs.Lists.{Clash}
 use Rattle.py_layout.proofs.Answering.{right-unique}
 use Rattle.py_stacks.specs.Threads.{Trace, trace_of}
 use Rattle.core_report.specs.declared.error.CoreError.{CoreError}

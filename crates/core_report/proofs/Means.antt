@@ -3,9 +3,10 @@ use Rattle.std.proofs.Common.{ℕ, List, [], ◌∷◌, rules}
 use Rattle.std.specs.Prelude.{AllPairs, Err, Contains}
 use Rattle.elf64_core.specs.Header.{IsAccepted}
 use Rattle.image_memory.specs.Faults.{IsFirst}
-use Rattle.py_layout.specs.declared.layout.Layout.{Layout}
+use Rattle.py_fields.specs.declared.layout.Layout.{Layout}
 use Rattle.py_version.specs.declared.version.Version.{Version}
-use Rattle.py_layout.specs.Sound.{AreSound, Clash, Covers, IsSound}
+use Rattle.py_fields.specs.Sound.{Covers, IsSound}
+use Rattle.py_layout.specs.Lists.{AreSound, Clash}
 use Rattle.py_stacks.specs.declared.error.StackError.{StackError}
 use Rattle.py_stacks.specs.declared.error.StackError.TheVariants as stack
 use Rattle.py_stacks.specs.declared.trace.Addresses.{Addresses}

@@ -7,9 +7,9 @@ use Rattle.image_memory.specs.Memory.{Memory, Fault, byte_at}
 use Rattle.image_memory.specs.Memory.Fault.{Missing, BadValue as IsBadValue, LocalsLimit as ManyLocals, ThreadLimit as ManyThreads, FrameLimit as ManyFrames, ChainLimit as ManyMembers}
 use Rattle.image_memory.specs.Pieces.{memory_of}
 use Rattle.image_memory.specs.Walk.{first_fault}
-use Rattle.py_layout.specs.declared.layout.Layout.{Layout}
+use Rattle.py_fields.specs.declared.layout.Layout.{Layout}
 use Rattle.py_version.specs.declared.version.Version.{Version}
-use Rattle.py_layout.specs.Sound.{Covers}
+use Rattle.py_fields.specs.Sound.{Covers}
 use Rattle.py_stacks.specs.declared.trace.Addresses.{Addresses}
 use Rattle.py_stacks.specs.declared.trace.StackTrace.{StackTrace}
 use Rattle.py_stacks.specs.Stacks.{AreStacks, stacks_faults}

@@ -16,9 +16,9 @@ use Rattle.core_report.specs.Answer.{Finds, IsChosen, Means, fault_by}
 use Rattle.elf64_core.specs.Header.{IsAccepted}
 use Rattle.py_layout.specs.declared.error.LayoutError.{LayoutError}
 use Rattle.py_layout.specs.declared.error.LayoutError.TheVariants as layout
-use Rattle.py_layout.specs.declared.layout.Layout.{Layout}
+use Rattle.py_fields.specs.declared.layout.Layout.{Layout}
 use Rattle.py_layout.specs.File.{IsRightFor}
-use Rattle.py_layout.specs.Samples.{sample_layout}
+use Rattle.py_fields.specs.Samples.{sample_layout}
 use Rattle.py_stacks.specs.Threads.{trace_of}
 
 -- the layouts of a walk that names no file

@@ -4,8 +4,9 @@ use Rattle.std.specs.Str.{chars}
 use Rattle.toml.specs.Data.{Members}
 use Rattle.py_layout.specs.declared.error.LayoutError.{LayoutError}
 use Rattle.py_layout.specs.declared.error.LayoutError.TheVariants.{NotToml, Shape, Unsound, Clash, OutOfMemory}
-use Rattle.py_layout.specs.declared.layout.Layout.{Layout}
-use Rattle.py_layout.specs.Sound.{IsSound, AreSound, IsFirstUnsound, IsFirstClash, IsOfList}
+use Rattle.py_fields.specs.declared.layout.Layout.{Layout}
+use Rattle.py_fields.specs.Sound.{IsSound}
+use Rattle.py_layout.specs.Lists.{AreSound, IsFirstUnsound, IsFirstClash, IsOfList}
 use Rattle.py_layout.specs.Keys.{the_keys}
 use Rattle.py_layout.specs.File.{IsToml, FileSays, HasFault, HasUnsound, HasClash, HasLayouts, IsErrorFor, IsRightFor, IsUnlessMemory, IsOfText, file_fault, layouts_of}
 use Rattle.py_layout.proofs.Judging.{unsound-not_all, unsound-unique, clash-not_apart, clash-unique}

@@ -5,7 +5,7 @@ use Rattle.std.specs.Option.{option_or}
 use Rattle.toml.specs.Data.{Data, string, integer, float, boolean, datetime, array, table, Items, item, Members, as_table}
 use Rattle.toml.specs.View.{view, items_view}
 use Rattle.toml.specs.declared.value.Value.{Value}
-use Rattle.py_layout.specs.declared.layout.Layout.{Layout}
+use Rattle.py_fields.specs.declared.layout.Layout.{Layout}
 use Rattle.py_layout.specs.Keys.{Key}
 use Rattle.py_layout.specs.Reading.{layout_of}
 use Rattle.py_layout.specs.File.{element_fault, first_fault, layouts_in}

@@ -7,9 +7,10 @@ use Rattle.std.specs.Option.{is_some}
 use mathlib.Core.Bool.{not}
 use Rattle.std.specs.List.{AllWithin}
 use Rattle.std.proofs.lemmas.Bool.{cases_order, cases_lt, false≢true, true≢false}
-use Rattle.py_layout.specs.declared.layout.Layout.{Layout}
-use Rattle.py_layout.specs.Samples.{sample_layout}
-use Rattle.py_layout.specs.Sound.{IsSound, Clash, ClashAt, IsFirstFrom, IsFirstUnsound, IsFirstClash}
+use Rattle.py_fields.specs.declared.layout.Layout.{Layout}
+use Rattle.py_fields.specs.Samples.{sample_layout}
+use Rattle.py_fields.specs.Sound.{IsSound}
+use Rattle.py_layout.specs.Lists.{Clash, ClashAt, IsFirstFrom, IsFirstUnsound, IsFirstClash}
 
 -- one more layout is sound
 pub sound_more : (list : List Layout) (n : ℕ) (d : Layout) → n < length list → AllWithin IsSound list 0 n → IsSound (get_or list n d) → AllWithin IsSound list 0 (n + 1)

@@ -1,6 +1,4 @@
-pub mod Fields
 pub mod Judging
-pub mod ObjectFields
 pub mod Faulting
 pub mod Filing
 pub mod Answering

@@ -8,20 +8,20 @@ use Rattle.py_layout.specs.declared.keys.Kind.{Kind}
 use Rattle.py_layout.specs.declared.keys.Kind.TheVariants.{Group}
 use Rattle.py_layout.specs.declared.keys.Presence.{Presence}
 use Rattle.py_layout.specs.declared.keys.Presence.TheVariants.{Always, Free, WithOffsets, WithGil, WithCframe, WithPointer, WithState, WithDicts, WithGeneral, WithCompact, WithManaged}
-use Rattle.py_layout.specs.declared.layout.Head.{Head}
-use Rattle.py_layout.specs.declared.layout.Head.TheVariants as head
-use Rattle.py_layout.specs.declared.layout.Lock.{Lock}
-use Rattle.py_layout.specs.declared.layout.Lock.TheVariants as lock
-use Rattle.py_layout.specs.declared.layout.Frames.{Frames}
-use Rattle.py_layout.specs.declared.layout.Frames.TheVariants as frames
-use Rattle.py_layout.specs.declared.layout.Lasti.{Lasti}
-use Rattle.py_layout.specs.declared.layout.Lasti.TheVariants as lasti
-use Rattle.py_layout.specs.declared.layout.Strings.{Strings}
-use Rattle.py_layout.specs.declared.layout.Strings.TheVariants as strings
-use Rattle.py_layout.specs.declared.layout.Dicts.{Dicts}
-use Rattle.py_layout.specs.declared.layout.Dicts.TheVariants as dicts
-use Rattle.py_layout.specs.declared.layout.Managed.{Managed}
-use Rattle.py_layout.specs.declared.layout.Managed.TheVariants as managed
+use Rattle.py_fields.specs.declared.layout.Head.{Head}
+use Rattle.py_fields.specs.declared.layout.Head.TheVariants as head
+use Rattle.py_fields.specs.declared.layout.Lock.{Lock}
+use Rattle.py_fields.specs.declared.layout.Lock.TheVariants as lock
+use Rattle.py_fields.specs.declared.layout.Frames.{Frames}
+use Rattle.py_fields.specs.declared.layout.Frames.TheVariants as frames
+use Rattle.py_fields.specs.declared.layout.Lasti.{Lasti}
+use Rattle.py_fields.specs.declared.layout.Lasti.TheVariants as lasti
+use Rattle.py_fields.specs.declared.layout.Strings.{Strings}
+use Rattle.py_fields.specs.declared.layout.Strings.TheVariants as strings
+use Rattle.py_fields.specs.declared.layout.Dicts.{Dicts}
+use Rattle.py_fields.specs.declared.layout.Dicts.TheVariants as dicts
+use Rattle.py_fields.specs.declared.layout.Managed.{Managed}
+use Rattle.py_fields.specs.declared.layout.Managed.TheVariants as managed
 use Rattle.py_layout.specs.Keys.{Key}
 use Rattle.py_layout.specs.Words.{families_of}
 use Rattle.py_layout.specs.Values.{group_at, value_at, fits}

@@ -7,11 +7,12 @@ use Rattle.toml.specs.Data.{Data, table, Items, no_items, item, Members, get_mem
 use Rattle.toml.specs.Parse.{parse_document}
 use Rattle.py_layout.specs.declared.error.LayoutError.{LayoutError}
 use Rattle.py_layout.specs.declared.error.LayoutError.TheVariants.{NotToml, Shape, Unsound, Clash, OutOfMemory}
-use Rattle.py_layout.specs.declared.layout.Layout.{Layout}
+use Rattle.py_fields.specs.declared.layout.Layout.{Layout}
 use Rattle.py_layout.specs.Keys.{Key, the_keys}
 use Rattle.py_layout.specs.Faults.{names, table_fault}
 use Rattle.py_layout.specs.Reading.{layout_of}
-use Rattle.py_layout.specs.Sound.{IsSound, AreSound, IsFirstUnsound, IsFirstClash}
+use Rattle.py_fields.specs.Sound.{IsSound}
+use Rattle.py_layout.specs.Lists.{AreSound, IsFirstUnsound, IsFirstClash}
 
 -- the array of tables
 abbrev pub elements_of : Members → Option Items

@@ -1,6 +1,4 @@
-pub mod Places
-pub mod Sound
-pub mod Samples
+pub mod Lists
 pub mod Keys
 pub mod Words
 pub mod Values

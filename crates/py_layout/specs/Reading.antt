@@ -3,25 +3,25 @@ use Rattle.std.specs.Prelude.{List, Bool, ℕ, Some, None, cond, codes, is_some}
 use Rattle.toml.specs.Data.{Members}
 use Rattle.py_layout.specs.Words.{families_of}
 use Rattle.py_layout.specs.Values.{group_at, number_at, optional_at, truth_at}
-use Rattle.py_layout.specs.declared.layout.InterpreterAt.{InterpreterAt}
-use Rattle.py_layout.specs.declared.layout.ThreadAt.{ThreadAt}
-use Rattle.py_layout.specs.declared.layout.CframeAt.{CframeAt}
-use Rattle.py_layout.specs.declared.layout.FrameAt.{FrameAt}
-use Rattle.py_layout.specs.declared.layout.CodeAt.{CodeAt}
-use Rattle.py_layout.specs.declared.layout.StringAt.{StringAt}
-use Rattle.py_layout.specs.declared.layout.BytesAt.{BytesAt}
-use Rattle.py_layout.specs.declared.layout.TupleAt.{TupleAt}
-use Rattle.py_layout.specs.declared.layout.ListAt.{ListAt}
-use Rattle.py_layout.specs.declared.layout.ObjectAt.{ObjectAt}
-use Rattle.py_layout.specs.declared.layout.KlassAt.{KlassAt}
-use Rattle.py_layout.specs.declared.layout.LongAt.{LongAt}
-use Rattle.py_layout.specs.declared.layout.ValueAt.{ValueAt}
-use Rattle.py_layout.specs.declared.layout.DictAt.{DictAt}
-use Rattle.py_layout.specs.declared.layout.KeysAt.{KeysAt}
-use Rattle.py_layout.specs.declared.layout.HeapAt.{HeapAt}
-use Rattle.py_layout.specs.declared.layout.GilAt.{GilAt}
-use Rattle.py_layout.specs.declared.layout.OffsetsAt.{OffsetsAt}
-use Rattle.py_layout.specs.declared.layout.Layout.{Layout}
+use Rattle.py_fields.specs.declared.layout.InterpreterAt.{InterpreterAt}
+use Rattle.py_fields.specs.declared.layout.ThreadAt.{ThreadAt}
+use Rattle.py_fields.specs.declared.layout.CframeAt.{CframeAt}
+use Rattle.py_fields.specs.declared.layout.FrameAt.{FrameAt}
+use Rattle.py_fields.specs.declared.layout.CodeAt.{CodeAt}
+use Rattle.py_fields.specs.declared.layout.StringAt.{StringAt}
+use Rattle.py_fields.specs.declared.layout.BytesAt.{BytesAt}
+use Rattle.py_fields.specs.declared.layout.TupleAt.{TupleAt}
+use Rattle.py_fields.specs.declared.layout.ListAt.{ListAt}
+use Rattle.py_fields.specs.declared.layout.ObjectAt.{ObjectAt}
+use Rattle.py_fields.specs.declared.layout.KlassAt.{KlassAt}
+use Rattle.py_fields.specs.declared.layout.LongAt.{LongAt}
+use Rattle.py_fields.specs.declared.layout.ValueAt.{ValueAt}
+use Rattle.py_fields.specs.declared.layout.DictAt.{DictAt}
+use Rattle.py_fields.specs.declared.layout.KeysAt.{KeysAt}
+use Rattle.py_fields.specs.declared.layout.HeapAt.{HeapAt}
+use Rattle.py_fields.specs.declared.layout.GilAt.{GilAt}
+use Rattle.py_fields.specs.declared.layout.OffsetsAt.{OffsetsAt}
+use Rattle.py_fields.specs.declared.layout.Layout.{Layout}
 
 abbrev pub interpreter_of : Members → InterpreterAt
 interpreter_of ms = record {

@@ -4,24 +4,24 @@ use Rattle.toml.specs.Data.{Data, string, Members, get_member}
 use Rattle.py_layout.specs.declared.keys.Family.{Family}
 use Rattle.py_layout.specs.declared.keys.Family.TheVariants as family
 use Rattle.py_layout.specs.declared.families.Families.{Families}
-use Rattle.py_layout.specs.declared.layout.Head.{Head}
-use Rattle.py_layout.specs.declared.layout.Head.TheVariants as head
-use Rattle.py_layout.specs.declared.layout.Lock.{Lock}
-use Rattle.py_layout.specs.declared.layout.Lock.TheVariants as lock
-use Rattle.py_layout.specs.declared.layout.Frames.{Frames}
-use Rattle.py_layout.specs.declared.layout.Frames.TheVariants as frames
-use Rattle.py_layout.specs.declared.layout.Lasti.{Lasti}
-use Rattle.py_layout.specs.declared.layout.Lasti.TheVariants as lasti
-use Rattle.py_layout.specs.declared.layout.Lines.{Lines}
-use Rattle.py_layout.specs.declared.layout.Lines.TheVariants as lines
-use Rattle.py_layout.specs.declared.layout.Strings.{Strings}
-use Rattle.py_layout.specs.declared.layout.Strings.TheVariants as strings
-use Rattle.py_layout.specs.declared.layout.Integers.{Integers}
-use Rattle.py_layout.specs.declared.layout.Integers.TheVariants as integers
-use Rattle.py_layout.specs.declared.layout.Dicts.{Dicts}
-use Rattle.py_layout.specs.declared.layout.Dicts.TheVariants as dicts
-use Rattle.py_layout.specs.declared.layout.Managed.{Managed}
-use Rattle.py_layout.specs.declared.layout.Managed.TheVariants as managed
+use Rattle.py_fields.specs.declared.layout.Head.{Head}
+use Rattle.py_fields.specs.declared.layout.Head.TheVariants as head
+use Rattle.py_fields.specs.declared.layout.Lock.{Lock}
+use Rattle.py_fields.specs.declared.layout.Lock.TheVariants as lock
+use Rattle.py_fields.specs.declared.layout.Frames.{Frames}
+use Rattle.py_fields.specs.declared.layout.Frames.TheVariants as frames
+use Rattle.py_fields.specs.declared.layout.Lasti.{Lasti}
+use Rattle.py_fields.specs.declared.layout.Lasti.TheVariants as lasti
+use Rattle.py_fields.specs.declared.layout.Lines.{Lines}
+use Rattle.py_fields.specs.declared.layout.Lines.TheVariants as lines
+use Rattle.py_fields.specs.declared.layout.Strings.{Strings}
+use Rattle.py_fields.specs.declared.layout.Strings.TheVariants as strings
+use Rattle.py_fields.specs.declared.layout.Integers.{Integers}
+use Rattle.py_fields.specs.declared.layout.Integers.TheVariants as integers
+use Rattle.py_fields.specs.declared.layout.Dicts.{Dicts}
+use Rattle.py_fields.specs.declared.layout.Dicts.TheVariants as dicts
+use Rattle.py_fields.specs.declared.layout.Managed.{Managed}
+use Rattle.py_fields.specs.declared.layout.Managed.TheVariants as managed
 
 abbrev pub head_of_word : List ℕ → Option Head
 head_of_word word =

@@ -10,7 +10,7 @@ ghost use Rattle.py_layout.specs.Faults.{may_be, must_be, is_faulty, same_group,
 
 use crate::families::{Families, families_of};
 use crate::keys::{Key, Kind, Presence};
-use crate::layout::{Dicts, Frames, Head, Lasti, Lock, Managed, Strings};
+use py_fields::{Dicts, Frames, Head, Lasti, Lock, Managed, Strings};
 use crate::values::{fits, group_at, value_at};
 use toml::Table;
 

@@ -12,7 +12,7 @@ ghost use Rattle.py_layout.specs.File.{elements_of, element_fault, first_fault, 
 use crate::error::LayoutError;
 use crate::faults::{Fault, table_fault};
 use crate::keys::{Key, keys};
-use crate::layout::Layout;
+use py_fields::Layout;
 use crate::reading::layout_of;
 use crate::values::member;
 use elf64_core::Text;

@@ -1,39 +1,23 @@
 //! Lists of layouts of which each is sound, and no two clash.
 ghost use Rattle.std.specs.Prelude.{◌≡◌, ◌≢◌, ℕ, List, Result, Ok, Err, ◌↔◌, IsTrue, IsOk, IsNone, MatchOption, IfOk, IfErr, IfSome, All, AllPairs, Contains, length};
 ghost use Rattle.std.specs.List.{AllWithin};
-ghost use Rattle.py_layout.specs.Sound.{Covers, IsSound, AreSound, Clash, IsFirstUnsound, IsFirstFrom, IsFirstClash, IsOfList};
+ghost use Rattle.py_fields.specs.Sound.{Covers, IsSound};
+ghost use Rattle.py_layout.specs.Lists.{AreSound, Clash, IsFirstUnsound, IsFirstFrom, IsFirstClash, IsOfList};
 ghost use Rattle.py_layout.specs.File.{IsRightFor, IsUnlessMemory};
 ghost use Rattle.py_layout.specs.declared.error.LayoutError.{LayoutError};
-ghost use Rattle.py_layout.specs.declared.layout.Layout.{Layout};
+ghost use Rattle.py_fields.specs.declared.layout.Layout.{Layout};
 
 use crate::error::LayoutError;
 use crate::file::layouts_from_toml;
-use crate::layout::Layout;
-use crate::sound::is_sound;
+use py_fields::Layout;
+use py_fields::is_sound;
 use py_version::Version;
 use std::alloc::Global;
 use std::marker::Model;
 
 /// A list of layouts of which each is sound, and no two cover one version.
 ///
-/// Contracts see it as the list. By this project's own rules a layout is sound where all of these hold:
-///
-/// - A field or group with a condition is there exactly under it; the fields' docs name the conditions.
-/// - The major and both minors are at most 999, and the first minor is not above the last.
-/// - Each record has 1 to 65535 bytes, its fields lie inside it, and no two of them meet. A field has
-///   8 bytes, but `argcount`, `nlocals` and `first_line` of a code record, a text's `state`, the first
-///   of an integer's `digits` and `gil.locked` have 4, `frame.instr` has 4 unless it is a `Pointer`,
-///   and `frame.entry`, `keys.log2` and `keys.kind` have 1.
-/// - An offset that no record's size bounds is at most 1048575: those of the interpreter's words, of
-///   which no two meet, `cframe.current`, `frame.locals`, `code.start`, `short_at`, `long_at`,
-///   `bytes.at`, `tuple.at` and `heap.inline`.
-/// - What follows a record's fields begins behind them: the locals of a frame behind all, a text's
-///   characters behind its length and state, the bytes of a bytes object behind its length, and a
-///   tuple's items and an integer's digits behind the count.
-/// - The three bits of a text's state from `kind_shift` on, `compact_bit` and `ascii_bit` are bits of 4
-///   bytes, and all different.
-/// - A frame's code has at most 3 tag bits.
-/// - Managed dicts are compact ones.
+/// Contracts see it as the list. `py_fields::is_sound` has the rules of a sound layout.
 #[derive(Debug, Drop)]
 pub struct Layouts {
     list: Vec<Layout>,
@@ -41,8 +25,8 @@ pub struct Layouts {
 
 impl Model for Layouts {
     ghost use Rattle.std.specs.Prelude.{List};
-    ghost use Rattle.py_layout.specs.declared.layout.Layout.{Layout};
-    ghost use Rattle.py_layout.specs.Sound.{AreSound};
+    ghost use Rattle.py_fields.specs.declared.layout.Layout.{Layout};
+    ghost use Rattle.py_layout.specs.Lists.{AreSound};
 
     ghost Value = { List Layout };
 

@@ -1,4 +1,4 @@
-//! Where the fields of an interpreter's records are: layouts, and the versions that they cover.
+//! Lists of layouts, which say where the fields of an interpreter's records are, and the files that hold them.
 #![tactic(auto)]
 
 mod error;
@@ -6,15 +6,12 @@ mod families;
 mod faults;
 mod file;
 mod keys;
-mod layout;
 mod layouts;
-mod places;
 mod reading;
-mod sound;
 mod values;
 
 pub use error::LayoutError;
-pub use layout::{
+pub use py_fields::{
     BytesAt, CframeAt, CodeAt, DictAt, Dicts, FrameAt, Frames, GilAt, Head, HeapAt, Integers,
     InterpreterAt, KeysAt, KlassAt, Lasti, Layout, Lines, ListAt, Lock, LongAt, Managed, ObjectAt,
     OffsetsAt, StringAt, Strings, ThreadAt, TupleAt, ValueAt,

@@ -5,7 +5,7 @@ ghost use Rattle.py_layout.specs.Reading.{interpreter_of, thread_of, cframe_of, 
 ghost use Rattle.py_layout.specs.Words.{families_of};
 
 use crate::families::families_of;
-use crate::layout::{
+use py_fields::{
     BytesAt, CframeAt, CodeAt, DictAt, FrameAt, GilAt, HeapAt, InterpreterAt, KeysAt, KlassAt,
     Layout, ListAt, LongAt, ObjectAt, OffsetsAt, StringAt, ThreadAt, TupleAt, ValueAt,
 };

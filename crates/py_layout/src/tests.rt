@@ -1,5 +1,5 @@
 //! Layouts that are sound, that are not and that clash, and how errors are written.
-use crate::layout::{
+use py_fields::{
     CframeAt, CodeAt, DictAt, Dicts, FrameAt, Frames, GilAt, Head, HeapAt, Integers, InterpreterAt,
     KeysAt, Lasti, Layout, Lines, Lock, Managed, OffsetsAt, StringAt, Strings, ThreadAt,
 };

@@ -1,9 +1,9 @@
 -- What the soundness of a layout says of a text's state.
 use Rattle.std.proofs.Common.{◌≡◌, ℕ, ◌+◌, ◌≤◌, refl}
 use Rattle.std.specs.Prelude.{Option, Some}
-use Rattle.py_layout.specs.declared.layout.Layout.{Layout}
-use Rattle.py_layout.specs.Sound.{IsSound}
-use Rattle.py_layout.proofs.Fields.{string_fits}
+use Rattle.py_fields.specs.declared.layout.Layout.{Layout}
+use Rattle.py_fields.specs.Sound.{IsSound}
+use Rattle.py_fields.proofs.Fields.{string_fits}
 use Rattle.py_objects.specs.declared.strings.StateAt.{StateAt}
 use Rattle.py_objects.specs.Texts.{state_at, state_of_fields}
 

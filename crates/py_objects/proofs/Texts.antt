@@ -10,7 +10,7 @@ use Rattle.elf64_core.specs.Fields.{word_in}
 use Rattle.image_memory.specs.Memory.{Memory, Found, Fault, found_or, ◌>>=◌, record_at}
 use Rattle.image_memory.specs.Memory.Fault.{Missing, NoText, TooLong}
 use Rattle.image_memory.specs.Seen.{Answers}
-use Rattle.py_layout.specs.declared.layout.Layout.{Layout}
+use Rattle.py_fields.specs.declared.layout.Layout.{Layout}
 use Rattle.py_objects.specs.declared.strings.Characters.{Characters}
 use Rattle.py_objects.specs.declared.error.ObjectError.{ObjectError}
 use Rattle.py_objects.specs.declared.error.ObjectError.TheVariants.{Unreadable, NoText as HasNoText, TooLong as IsTooLong, BadDict, BadType, Visits, Depth, BadCount, BadBool, OutOfMemory}

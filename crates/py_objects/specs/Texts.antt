@@ -5,10 +5,10 @@ use Rattle.std.specs.Int.{w64, cast_signed, bit_at}
 use Rattle.elf64_core.specs.Fields.{word_in, half_in}
 use Rattle.image_memory.specs.Memory.{Memory, Found, found_or, ◌>>=◌, record_at}
 use Rattle.image_memory.specs.Memory.Fault.{NoText, TooLong}
-use Rattle.py_layout.specs.declared.layout.Layout.{Layout}
-use Rattle.py_layout.specs.declared.layout.StringAt.{StringAt}
-use Rattle.py_layout.specs.declared.layout.Strings.{Strings}
-use Rattle.py_layout.specs.declared.layout.Strings.TheVariants.{State, Bytes}
+use Rattle.py_fields.specs.declared.layout.Layout.{Layout}
+use Rattle.py_fields.specs.declared.layout.StringAt.{StringAt}
+use Rattle.py_fields.specs.declared.layout.Strings.{Strings}
+use Rattle.py_fields.specs.declared.layout.Strings.TheVariants.{State, Bytes}
 use Rattle.py_objects.specs.declared.coding.TextKind.{TextKind}
 use Rattle.py_objects.specs.declared.coding.TextKind.TheVariants.{Utf8, Latin1, Utf16, Utf32}
 use Rattle.py_objects.specs.declared.strings.StateAt.{StateAt}

@@ -1,6 +1,6 @@
 //! Text objects.
 ghost use Rattle.std.specs.Prelude.{◌≡◌, ℕ, ◌+◌, ◌<◌, ◌≤◌, ◌^◌, List, length, IfOk, MatchResult};
-ghost use Rattle.py_layout.specs.Sound.{IsSound};
+ghost use Rattle.py_fields.specs.Sound.{IsSound};
 ghost use Rattle.image_memory.specs.Seen.{Reads, Reading};
 ghost use Rattle.py_objects.specs.ObjectError.{fault_of};
 ghost use Rattle.py_objects.specs.Texts.{text_at, characters_at, IsText, characters_of, characters_by, state_at, kind_in, place_in, bit_is_set};
@@ -9,7 +9,7 @@ use crate::ObjectError;
 use crate::coding::{TextKind, decode};
 use elf64_core::{Text, half_in, word_in};
 use image_memory::{ProcessMemory, record, record_wide};
-use py_layout::{Layout, StringAt, Strings};
+use py_fields::{Layout, StringAt, Strings};
 use std::alloc::Global;
 
 /// The length from which on a text is not read, in units of its coding.

@@ -5,7 +5,7 @@ use Rattle.elf64_core.specs.Fields.{word_in}
 use Rattle.image_memory.specs.Memory.{Memory, Fault, byte_at, record_at, word_at}
 use Rattle.image_memory.specs.Seen.{Seen, Reads}
 use Rattle.image_memory.proofs.Reading.{reading_here}
-use Rattle.py_layout.specs.declared.layout.Layout.{Layout}
+use Rattle.py_fields.specs.declared.layout.Layout.{Layout}
 use Rattle.py_stacks.specs.Frames.{frames_cost}
 use Rattle.py_stacks.specs.Threads.{first_frame_at, frame_through, thread_cost, threads_cost, traces_cost}
 

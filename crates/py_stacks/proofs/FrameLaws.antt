@@ -11,7 +11,7 @@ use Rattle.image_memory.specs.Walk.{Step, walk_at, first_fault, fault_in}
 use Rattle.image_memory.specs.Faults.{FaultsAre}
 use Rattle.image_memory.proofs.Founds.{bound, ok_same}
 use Rattle.image_memory.proofs.Walks.{walk_chain, walk_first_fault, faults_from_answer, then_same_twice}
-use Rattle.py_layout.specs.declared.layout.Layout.{Layout}
+use Rattle.py_fields.specs.declared.layout.Layout.{Layout}
 use Rattle.py_stacks.specs.declared.trace.Frame.{Frame}
 use Rattle.py_stacks.specs.declared.error.StackError.{StackError}
 use Rattle.py_stacks.specs.StackError.{fault_of}

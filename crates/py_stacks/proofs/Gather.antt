@@ -9,7 +9,7 @@ use Rattle.image_memory.specs.Seen.{Seen, Reads, Answers}
 use Rattle.image_memory.specs.Walk.{Step, walk_at}
 use Rattle.image_memory.proofs.Reading.{reading_gives, reading_here, answers_then, answers_stop}
 use Rattle.image_memory.proofs.Walks.{walking_init, walking_more, walking_done, walking_full, walking_stop}
-use Rattle.py_layout.specs.declared.layout.Layout.{Layout}
+use Rattle.py_fields.specs.declared.layout.Layout.{Layout}
 use Rattle.py_stacks.specs.declared.trace.Frame.{Frame}
 use Rattle.py_stacks.specs.declared.error.StackError.{StackError}
 use Rattle.py_stacks.specs.declared.error.StackError.TheVariants as stack

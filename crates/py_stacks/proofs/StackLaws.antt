@@ -10,7 +10,7 @@ use Rattle.image_memory.specs.Faults.{FaultsAre}
 use Rattle.image_memory.proofs.Reading.{reading_here}
 use Rattle.image_memory.proofs.Walks.{faults_from_answer, then_same}
 use Rattle.image_memory.proofs.Founds.{bound}
-use Rattle.py_layout.specs.declared.layout.Layout.{Layout}
+use Rattle.py_fields.specs.declared.layout.Layout.{Layout}
 use Rattle.py_stacks.specs.declared.trace.Addresses.{Addresses}
 use Rattle.py_stacks.specs.declared.trace.StackTrace.{StackTrace}
 use Rattle.py_stacks.specs.declared.error.StackError.{StackError}

@@ -6,7 +6,7 @@ use Rattle.image_memory.specs.Memory.{Memory}
 use Rattle.image_memory.specs.Seen.{Seen, Reads, Answers}
 use Rattle.image_memory.specs.Walk.{Step}
 use Rattle.image_memory.proofs.Reading.{reading_gives, answers_stop}
-use Rattle.py_layout.specs.declared.layout.Layout.{Layout}
+use Rattle.py_fields.specs.declared.layout.Layout.{Layout}
 use Rattle.py_stacks.specs.declared.error.StackError.{StackError}
 use Rattle.py_stacks.specs.StackError.{fault_of}
 use Rattle.py_stacks.specs.Threads.{Trace, thread_at, thread_step}

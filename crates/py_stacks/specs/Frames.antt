@@ -6,8 +6,8 @@ use Rattle.image_memory.specs.Memory.{Memory, Found, Fault, ◌>>=◌, record_at
 use Rattle.image_memory.specs.Memory.Fault.{FrameLimit, ChainLimit}
 use Rattle.image_memory.specs.Walk.{Step, IsChain, walk_at, walk_cost, walk_faults}
 use Rattle.image_memory.specs.Faults.{faults_then}
-use Rattle.py_layout.specs.declared.layout.Layout.{Layout}
-use Rattle.py_layout.specs.declared.layout.FrameAt.{FrameAt}
+use Rattle.py_fields.specs.declared.layout.Layout.{Layout}
+use Rattle.py_fields.specs.declared.layout.FrameAt.{FrameAt}
 use Rattle.py_objects.specs.Texts.{text_at}
 use Rattle.py_stacks.specs.declared.trace.Frame.{Frame}
 

@@ -3,7 +3,7 @@ use Rattle.std.specs.Prelude.{◌≡◌, ℕ, ◌<◌, ◌≤◌, true, false, O
 use Rattle.image_memory.specs.Memory.Fault.{ChainLimit}
 use Rattle.image_memory.specs.Seen.{Seen}
 use Rattle.image_memory.specs.Walk.{Walking}
-use Rattle.py_layout.specs.declared.layout.Layout.{Layout}
+use Rattle.py_fields.specs.declared.layout.Layout.{Layout}
 use Rattle.py_stacks.specs.declared.trace.Frame.{Frame}
 use Rattle.py_stacks.specs.Frames.{frame_limit, frame_step, member_limit, shown_by, with_mark}
 

@@ -2,7 +2,7 @@
 use Rattle.std.specs.Prelude.{◌≡◌, ℕ, ◌+◌, List, Ok}
 use Rattle.image_memory.specs.Memory.{Memory, Found, Fault, ◌>>=◌}
 use Rattle.image_memory.specs.Faults.{faults_then}
-use Rattle.py_layout.specs.declared.layout.Layout.{Layout}
+use Rattle.py_fields.specs.declared.layout.Layout.{Layout}
 use Rattle.py_stacks.specs.declared.trace.Addresses.{Addresses}
 use Rattle.py_stacks.specs.Owner.{owner_at}
 use Rattle.py_stacks.specs.Threads.{AreTraces, Trace, cost_after, traces_at, traces_cost, traces_faults}

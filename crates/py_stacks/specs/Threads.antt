@@ -6,8 +6,8 @@ use Rattle.image_memory.specs.Memory.{Memory, Found, Fault, ◌>>=◌, record_at
 use Rattle.image_memory.specs.Memory.Fault.{ThreadLimit}
 use Rattle.image_memory.specs.Walk.{Step, IsChain, walk_at, walk_cost, walk_faults}
 use Rattle.image_memory.specs.Faults.{faults_then}
-use Rattle.py_layout.specs.declared.layout.Layout.{Layout}
-use Rattle.py_layout.specs.declared.layout.CframeAt.{CframeAt}
+use Rattle.py_fields.specs.declared.layout.Layout.{Layout}
+use Rattle.py_fields.specs.declared.layout.CframeAt.{CframeAt}
 use Rattle.py_stacks.specs.declared.trace.Frame.{Frame}
 use Rattle.py_stacks.specs.declared.trace.StackTrace.{StackTrace}
 use Rattle.py_stacks.specs.Frames.{frames_at, frames_cost, frames_faults, AreFrames}

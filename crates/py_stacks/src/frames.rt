@@ -4,7 +4,7 @@ ghost use Rattle.image_memory.specs.Memory.{byte_at};
 ghost use Rattle.image_memory.specs.Seen.{Reads, Reading, items_of};
 ghost use Rattle.image_memory.specs.Walk.{first_fault};
 ghost use Rattle.image_memory.specs.Faults.{FaultsAre};
-ghost use Rattle.py_layout.specs.Sound.{IsSound};
+ghost use Rattle.py_fields.specs.Sound.{IsSound};
 ghost use Rattle.py_stacks.specs.StackError.{fault_of};
 ghost use Rattle.py_stacks.specs.Frames.{AreFrames, frame_limit, frames_at, frames_cost, frames_faults};
 ghost use Rattle.py_stacks.specs.Gathering.{Adds, mark_last};
@@ -12,7 +12,7 @@ ghost use Rattle.py_stacks.specs.Gathering.{Adds, mark_last};
 use crate::members::read_member;
 use crate::{Frame, StackError};
 use image_memory::ProcessMemory;
-use py_layout::Layout;
+use py_fields::Layout;
 use std::alloc::Global;
 
 /// How many members of a thread's chain are met at most.

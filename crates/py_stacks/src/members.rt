@@ -1,14 +1,14 @@
 //! The members of a thread's chain of frames, one by one.
 ghost use Rattle.std.specs.Prelude.{◌≡◌, ◌+◌, ◌*◌, ◌/◌, ◌^◌, ◌≤◌, length, ℕ, Some};
 ghost use Rattle.image_memory.specs.Seen.{Reads};
-ghost use Rattle.py_layout.specs.Sound.{IsSound};
+ghost use Rattle.py_fields.specs.Sound.{IsSound};
 ghost use Rattle.py_stacks.specs.StackError.{fault_of};
 ghost use Rattle.py_stacks.specs.Frames.{code_of, is_entered, is_hidden, visible, name_at, member_at};
 
 use crate::{Frame, StackError};
 use elf64_core::{Text, word_in};
 use image_memory::{ProcessMemory, record_in};
-use py_layout::{FrameAt, Layout};
+use py_fields::{FrameAt, Layout};
 use py_objects::{ObjectError, copy_string};
 use std::alloc::Global;
 

@@ -1,8 +1,7 @@
 //! The owner of the lock over pieces of memory, written out by hand.
 use crate::{Addresses, StackError, get_gil_threadid, read_stacks};
-use elf64_core::Text;
 use image_memory::{Part, Piece};
-use py_layout::{GilAt, InterpreterAt, Layout, Layouts, Lock, Version};
+use py_fields::{GilAt, InterpreterAt, Layout, Lock, is_sound};
 use std::alloc::{AllocError, Global};
 use std::test::Fail;
 
@@ -55,12 +54,10 @@ fn memory(alloc: Global) -> Result<Part, AllocError> {
     Ok(Part::of(alloc, pieces))
 }
 
-/// The sample for 3.9, and the same with a record of the lock for 3.10.
-fn layouts(alloc: Global) -> Result<Layouts, AllocError> {
+/// The sample with a record of the lock.
+fn with_gil() -> Layout {
     let sample = Layout::sample();
-    let with_gil = Layout {
-        first_minor: 10,
-        last_minor: 10,
+    Layout {
         lock: Lock::Gil,
         interpreter: InterpreterAt {
             gil: Some(24),
@@ -72,42 +69,38 @@ fn layouts(alloc: Global) -> Result<Layouts, AllocError> {
             holder: 16,
         }),
         ..sample
-    };
-    Layouts::of(alloc, vec![in alloc; sample, with_gil]?).map_err(|_| AllocError)
-}
-
-fn version(alloc: Global, minor: u64) -> Result<Version, AllocError> {
-    Ok(Version {
-        major: 3,
-        minor,
-        patch: 0,
-        release_flags: Text::of(alloc, "")?,
-        build_metadata: None,
-    })
+    }
 }
 
 fn missing(addr: u64, len: u64) -> Result<u64, StackError> {
     Err(StackError::Unreadable { addr, len })
 }
 
-/// The minor of a layout, the address of the lock, and the owner.
-fn owners(alloc: Global) -> Result<Vec<(u64, u64, Result<u64, StackError>)>, AllocError> {
+/// Addresses of locks that words name, each with its owner.
+fn owners_by_word(alloc: Global) -> Result<Vec<(u64, Result<u64, StackError>)>, AllocError> {
     let rows = vec![in alloc;
-        (9, 0, Ok(0)),
-        (9, WORDS, Ok(0x7f00)),
-        (9, WORDS + 8, Ok(0)),
-        (9, WORDS + 16, missing(NOWHERE, 64)),
-        (9, WORDS + 24, Ok(0)),
-        (9, WORDS + 32, missing(WORDS + 32, 8)),
-        (10, 0, Ok(0)),
-        (10, LOCKS, Ok(0x7f00)),
-        (10, LOCKS + 24, Ok(0)),
-        (10, LOCKS + 48, Ok(0)),
-        (10, LOCKS + 72, missing(NOWHERE, 64)),
-        (10, LOCKS + 96, Ok(0)),
-        (10, LOCKS + 120, Ok(0x7f00)),
-        (10, LOCKS + 144, Ok(0)),
-        (10, LOCKS + 168, missing(LOCKS + 168, 24)),
+        (0, Ok(0)),
+        (WORDS, Ok(0x7f00)),
+        (WORDS + 8, Ok(0)),
+        (WORDS + 16, missing(NOWHERE, 64)),
+        (WORDS + 24, Ok(0)),
+        (WORDS + 32, missing(WORDS + 32, 8)),
+    ]?;
+    Ok(rows)
+}
+
+/// Addresses of locks' records, each with its owner.
+fn owners_by_record(alloc: Global) -> Result<Vec<(u64, Result<u64, StackError>)>, AllocError> {
+    let rows = vec![in alloc;
+        (0, Ok(0)),
+        (LOCKS, Ok(0x7f00)),
+        (LOCKS + 24, Ok(0)),
+        (LOCKS + 48, Ok(0)),
+        (LOCKS + 72, missing(NOWHERE, 64)),
+        (LOCKS + 96, Ok(0)),
+        (LOCKS + 120, Ok(0x7f00)),
+        (LOCKS + 144, Ok(0)),
+        (LOCKS + 168, missing(LOCKS + 168, 24)),
     ]?;
     Ok(rows)
 }
@@ -115,10 +108,14 @@ fn owners(alloc: Global) -> Result<Vec<(u64, u64, Result<u64, StackError>)>, All
 #[test]
 fn the_owner_is_the_holders_id_or_the_first_missing_range(rt: HostRuntime) -> Result<(), Fail> {
     let alloc = rt.alloc();
-    let layouts = layouts(alloc)?;
-    for (minor, lock, want) in owners(alloc)? {
-        let layout = layouts.choose(&version(alloc, minor)?).ok_or("no layout")?;
-        let owner = get_gil_threadid(lock, &mut memory(alloc)?, layout);
+    for (lock, want) in owners_by_word(alloc)? {
+        let owner = get_gil_threadid(lock, &mut memory(alloc)?, &Layout::sample());
+        assert_eq!(rt; owner, want, "{lock}");
+    }
+    let layout = with_gil();
+    assert!(rt; is_sound(&layout));
+    for (lock, want) in owners_by_record(alloc)? {
+        let owner = get_gil_threadid(lock, &mut memory(alloc)?, &layout);
         assert_eq!(rt; owner, want, "{lock}");
     }
     Ok(())

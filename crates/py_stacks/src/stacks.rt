@@ -4,7 +4,7 @@ ghost use Rattle.image_memory.specs.Memory.{byte_at};
 ghost use Rattle.image_memory.specs.Seen.{Reads, Reading};
 ghost use Rattle.image_memory.specs.Walk.{first_fault};
 ghost use Rattle.image_memory.specs.Faults.{FaultsAre};
-ghost use Rattle.py_layout.specs.Sound.{IsSound};
+ghost use Rattle.py_fields.specs.Sound.{IsSound};
 ghost use Rattle.py_stacks.specs.StackError.{fault_of};
 ghost use Rattle.py_stacks.specs.Threads.{trace_of, traces_of_result};
 ghost use Rattle.py_stacks.specs.Stacks.{AreStacks, stacks_at, stacks_cost, stacks_faults};
@@ -13,7 +13,7 @@ use crate::owner::get_gil_threadid;
 use crate::threads::read_traces;
 use crate::{Addresses, StackError, StackTrace};
 use image_memory::ProcessMemory;
-use py_layout::Layout;
+use py_fields::Layout;
 use std::alloc::Global;
 
 /// Reads the owner of the lock, and walks the threads.

@@ -2,7 +2,7 @@
 use crate::{Frame, StackError, StackTrace, read_frames, read_traces};
 use elf64_core::Text;
 use image_memory::{Part, Piece};
-use py_layout::{CframeAt, FrameAt, Frames, Layout, Layouts, ThreadAt, Version};
+use py_fields::{CframeAt, FrameAt, Frames, Layout, ThreadAt, is_sound};
 use std::alloc::{AllocError, Global};
 use std::test::Fail;
 
@@ -339,9 +339,9 @@ fn threads_are_walked_to_null(rt: HostRuntime) -> Result<(), Fail> {
 }
 
 /// The sample with C frames, ids of the system, tag bits and marks of entry.
-fn other_layouts(alloc: Global) -> Result<Layouts, AllocError> {
+fn other_layout() -> Layout {
     let sample = Layout::sample();
-    let layout = Layout {
+    Layout {
         frames: Frames::Cframe,
         cframe: Some(CframeAt { current: 8 }),
         thread: ThreadAt {
@@ -354,8 +354,7 @@ fn other_layouts(alloc: Global) -> Result<Layouts, AllocError> {
             ..sample.frame
         },
         ..sample
-    };
-    Layouts::of(alloc, vec![in alloc; layout]?).map_err(|_| AllocError)
+    }
 }
 
 /// A thread of id 7 and the system's id 99, whose C frame at 0x500000 names two frames: the first has its
@@ -402,17 +401,10 @@ fn other_memory(alloc: Global) -> Result<Part, AllocError> {
 #[test]
 fn the_other_families_are_followed(rt: HostRuntime) -> Result<(), Fail> {
     let alloc = rt.alloc();
-    let layouts = other_layouts(alloc)?;
-    let version = Version {
-        major: 3,
-        minor: 9,
-        patch: 0,
-        release_flags: Text::of(alloc, "")?,
-        build_metadata: None,
-    };
-    let layout = layouts.choose(&version).ok_or("no layout")?;
+    let layout = other_layout();
+    assert!(rt; is_sound(&layout));
     let mut part = other_memory(alloc)?;
-    let traces = read_traces(alloc, &mut part, layout, 7, INTERPRETER).map_err(|_| "no traces")?;
+    let traces = read_traces(alloc, &mut part, &layout, 7, INTERPRETER).map_err(|_| "no traces")?;
     assert_eq!(rt; traces.len(), 1);
     assert_eq!(rt; traces[0].os_thread_id, Some(99));
     assert!(rt; traces[0].owns_gil);

@@ -4,7 +4,7 @@ ghost use Rattle.image_memory.specs.Memory.{byte_at};
 ghost use Rattle.image_memory.specs.Seen.{Reads, Reading};
 ghost use Rattle.image_memory.specs.Walk.{first_fault};
 ghost use Rattle.image_memory.specs.Faults.{FaultsAre};
-ghost use Rattle.py_layout.specs.Sound.{IsSound};
+ghost use Rattle.py_fields.specs.Sound.{IsSound};
 ghost use Rattle.py_stacks.specs.StackError.{fault_of};
 ghost use Rattle.py_stacks.specs.Threads.{AreTraces, first_frame_at, native_id, thread_at, thread_cost, thread_of_result, trace_of, traces_at, traces_cost, traces_faults, traces_of_result, threads_at, threads_cost};
 
@@ -12,7 +12,7 @@ use crate::frames::read_frames;
 use crate::{StackError, StackTrace};
 use elf64_core::word_in;
 use image_memory::{ProcessMemory, record_in, word_past};
-use py_layout::Layout;
+use py_fields::Layout;
 use std::alloc::Global;
 
 /// How many threads are walked at most.

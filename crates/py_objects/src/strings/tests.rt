@@ -3,7 +3,7 @@ use super::copy_string;
 use crate::ObjectError;
 use elf64_core::Text;
 use image_memory::{Part, Piece};
-use py_layout::{Layout, Layouts, StringAt, Strings, Version};
+use py_fields::{Layout, StringAt, Strings, is_sound};
 use std::alloc::{AllocError, Global};
 use std::test::Fail;
 
@@ -153,7 +153,7 @@ fn a_text_that_is_cut_is_unreadable(rt: HostRuntime) -> Result<(), Fail> {
 }
 
 /// The sample layout with texts as bytes: their length is at 16, and they begin at 24.
-fn bytes_layouts(alloc: Global) -> Result<Layouts, Fail> {
+fn bytes_layout() -> Layout {
     let string = StringAt {
         size: 24,
         length: 16,
@@ -165,24 +165,18 @@ fn bytes_layouts(alloc: Global) -> Result<Layouts, Fail> {
         compact_bit: None,
         ascii_bit: None,
     };
-    let mut layout = Layout::sample();
-    layout.strings = Strings::Bytes;
-    layout.string = string;
-    Ok(Layouts::of(alloc, vec![in alloc; layout]?)?)
+    Layout {
+        strings: Strings::Bytes,
+        string,
+        ..Layout::sample()
+    }
 }
 
 #[test]
 fn texts_of_bytes_are_utf8(rt: HostRuntime) -> Result<(), Fail> {
     let alloc = rt.alloc();
-    let layouts = bytes_layouts(alloc)?;
-    let version = Version {
-        major: 3,
-        minor: 9,
-        patch: 0,
-        release_flags: Text::of(alloc, "")?,
-        build_metadata: None,
-    };
-    let layout = layouts.choose(&version).ok_or("no layout")?;
+    let layout = bytes_layout();
+    assert!(rt; is_sound(&layout));
     for (last, is_text) in [(0xbc, true), (0x62, false)] {
         let mut bytes = vec![in alloc; 0u8; 16]?;
         bytes.extend_from_slice(&3u64.to_le_bytes())?;
@@ -196,7 +190,7 @@ fn texts_of_bytes_are_utf8(rt: HostRuntime) -> Result<(), Fail> {
                 },
             ]?,
         );
-        match copy_string(alloc, &mut part, layout, OBJECT) {
+        match copy_string(alloc, &mut part, &layout, OBJECT) {
             Ok(text) => assert!(rt; is_text && text.as_str() == "fü"),
             Err(error) => assert!(rt; !is_text && error == ObjectError::NoText),
         }

@@ -1,6 +1,6 @@
 use Rattle.std.proofs.Common.{◌≡◌, sym, subst, true, false}
 use Rattle.std.specs.Prelude.{IsOk}
-use Rattle.py_layout.specs.Sound.{AreSound}
+use Rattle.py_layout.specs.Lists.{AreSound}
 use Rattle.core_report.proofs.Means.{one_sound}
 use Rattle.core_report.proofs.command.sample_layouts.Goals as goal
 

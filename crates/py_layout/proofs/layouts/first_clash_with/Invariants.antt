@@ -1,5 +1,5 @@
 use Rattle.std.specs.List.{AllWithin}
-use Rattle.py_layout.specs.Sound.{Clash}
+use Rattle.py_layout.specs.Lists.{Clash}
 use Rattle.py_layout.proofs.layouts.first_clash_with.Given as goal
 
 abbrev pub invariant-loop-place : goal.invariant-loop-place

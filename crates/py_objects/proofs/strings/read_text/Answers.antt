@@ -5,7 +5,7 @@ use Rattle.elf64_core.specs.Fields.{word_in}
 use Rattle.image_memory.specs.Memory.Fault.{TooLong}
 use Rattle.image_memory.proofs.Reading.{reads_halt, reads_known, reads_next, reads_same}
 use Rattle.py_objects.specs.Texts.{text_at, text_of_length, characters_of, characters_at}
-use Rattle.py_layout.proofs.Fields.{string_fits}
+use Rattle.py_fields.proofs.Fields.{string_fits}
 use Rattle.py_objects.proofs.Texts.{length_zero, length_long, length_fine, no_kind, empty_text}
 use Rattle.py_objects.proofs.strings.read_text.Goals as goal
 

@@ -4,7 +4,7 @@ use Rattle.std.proofs.lemmas.Result.{err_from_is_err_and}
 use Rattle.image_memory.proofs.Reading.{reads_next, reads_halt, reads_end}
 use Rattle.elf64_core.specs.Fields.{word_in}
 use Rattle.py_stacks.specs.declared.trace.Frame.{Frame}
-use Rattle.py_layout.proofs.Fields.{frame_fits, code_fits}
+use Rattle.py_fields.proofs.Fields.{frame_fits, code_fits}
 use Rattle.py_stacks.specs.StackError.{fault_of}
 use Rattle.py_stacks.specs.Frames.{member_at, visible, is_entered}
 use Rattle.py_stacks.proofs.members.read_member.Goals as goal

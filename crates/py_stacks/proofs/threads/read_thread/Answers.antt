@@ -2,7 +2,7 @@ use Rattle.std.proofs.Common.{arith, refl, ap}
 use Rattle.std.proofs.Math.Nat.{le_refl}
 use Rattle.std.proofs.lemmas.Result.{err_from_is_err_and}
 use Rattle.image_memory.proofs.Reading.{reads_next, reads_halt, reads_end}
-use Rattle.py_layout.proofs.Fields.{thread_fits}
+use Rattle.py_fields.proofs.Fields.{thread_fits}
 use Rattle.py_stacks.specs.StackError.{fault_of}
 use Rattle.py_stacks.specs.Threads.{thread_at}
 use Rattle.py_stacks.proofs.Costs.{thread_costs, thread_costs_one, thread_budget}

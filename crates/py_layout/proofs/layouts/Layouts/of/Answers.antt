@@ -1,7 +1,7 @@
 use Rattle.std.proofs.Common.{◌≡◌, Err, ap, refl}
 use Rattle.std.proofs.lemmas.Bool.{false≢true}
 use Rattle.py_layout.specs.declared.error.LayoutError.TheVariants.{Unsound}
-use Rattle.py_layout.specs.Sound.{IsFirstUnsound, IsFirstClash}
+use Rattle.py_layout.specs.Lists.{IsFirstUnsound, IsFirstClash}
 use Rattle.py_layout.proofs.Judging.{unsound-not_all, unsound-unique, clash-not_apart, clash-unique}
 use Rattle.py_layout.proofs.layouts.Layouts.of.Goals as goal
 

@@ -1,6 +1,6 @@
 //! The places of each record's fields: one list for each record.
 ghost use Rattle.std.specs.Prelude.{◌≡◌};
-ghost use Rattle.py_layout.specs.Places.{optional_place, instr_width, interpreter_places, thread_places, frame_places, code_places, string_head, string_places, state_bits, bytes_places, tuple_places, list_places, object_places, klass_places, long_places, value_places, dict_places, keys_places, heap_places, gil_places, offsets_places};
+ghost use Rattle.py_fields.specs.Places.{optional_place, instr_width, interpreter_places, thread_places, frame_places, code_places, string_head, string_places, state_bits, bytes_places, tuple_places, list_places, object_places, klass_places, long_places, value_places, dict_places, keys_places, heap_places, gil_places, offsets_places};
 
 use crate::layout::{
     BytesAt, CodeAt, DictAt, FrameAt, GilAt, HeapAt, InterpreterAt, KeysAt, KlassAt, Lasti, ListAt,

@@ -1,7 +1,7 @@
 //! Whether a layout is sound: a test for each of its groups, over the list of its places.
 ghost use Rattle.std.specs.Prelude.{◌≡◌, ◌≢◌, ℕ, ◌+◌, ◌<◌, ◌≤◌, ◌^◌, ◌↔◌, IsTrue, IsSome, IfSome};
-ghost use Rattle.py_layout.specs.Places.{Apart, ApartFrom, AreApart, EndBy, IsGroup};
-ghost use Rattle.py_layout.specs.Sound.{IsPlain, IsRecord, IsStart, IsSoundInterpreter, IsSoundFrame, IsSoundCode, HasState, IsSoundString, IsSoundSequence, IsSoundLong, IsSoundKeys, IsSoundHeap, HasGroups, IsRange, AreSoundGroups, AreSoundObjects, IsSound};
+ghost use Rattle.py_fields.specs.Places.{Apart, ApartFrom, AreApart, EndBy, IsGroup};
+ghost use Rattle.py_fields.specs.Sound.{IsPlain, IsRecord, IsStart, IsSoundInterpreter, IsSoundFrame, IsSoundCode, HasState, IsSoundString, IsSoundSequence, IsSoundLong, IsSoundKeys, IsSoundHeap, HasGroups, IsRange, AreSoundGroups, AreSoundObjects, IsSound};
 
 use crate::layout::{
     CodeAt, Dicts, FrameAt, Frames, Head, HeapAt, InterpreterAt, KeysAt, Lasti, Layout, Lock,
@@ -252,7 +252,24 @@ fn are_sound_frames(layout: &Layout) -> bool
         && is_sound_string(layout.strings, &layout.string)
 }
 
-/// Whether a layout is sound.
+/// Whether a layout is sound: by this project's own rules, where all of these hold.
+///
+/// - A field or group with a condition is there exactly under it; the fields' docs name the conditions.
+/// - The major and both minors are at most 999, and the first minor is not above the last.
+/// - Each record has 1 to 65535 bytes, its fields lie inside it, and no two of them meet. A field has
+///   8 bytes, but `argcount`, `nlocals` and `first_line` of a code record, a text's `state`, the first
+///   of an integer's `digits` and `gil.locked` have 4, `frame.instr` has 4 unless it is a `Pointer`,
+///   and `frame.entry`, `keys.log2` and `keys.kind` have 1.
+/// - An offset that no record's size bounds is at most 1048575: those of the interpreter's words, of
+///   which no two meet, `cframe.current`, `frame.locals`, `code.start`, `short_at`, `long_at`,
+///   `bytes.at`, `tuple.at` and `heap.inline`.
+/// - What follows a record's fields begins behind them: the locals of a frame behind all, a text's
+///   characters behind its length and state, the bytes of a bytes object behind its length, and a
+///   tuple's items and an integer's digits behind the count.
+/// - The three bits of a text's state from `kind_shift` on, `compact_bit` and `ascii_bit` are bits of 4
+///   bytes, and all different.
+/// - A frame's code has at most 3 tag bits.
+/// - Managed dicts are compact ones.
 pub fn is_sound(layout: &Layout) -> bool
     ensures { IsTrue result ↔ IsSound layout.now }
 {

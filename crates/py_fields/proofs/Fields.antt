@@ -2,17 +2,17 @@
 -- numbers are. `let fits = thread_fits sound in omega arith` has all the facts on threads.
 use Rattle.std.proofs.Common.{◌≡◌, ℕ, ◌+◌, ◌<◌, ◌≤◌, ◌^◌, Option, Some, None, arith}
 use Rattle.std.specs.Prelude.{IfSome, IsSome}
-use Rattle.py_layout.specs.Places.{optional_place, instr_width, thread_places, frame_places, code_places, string_head, string_places, state_bits}
-use Rattle.py_layout.specs.declared.layout.Strings.TheVariants.{State}
-use Rattle.py_layout.specs.Sound.{IsPlain, IsStart, IsSound}
-use Rattle.py_layout.specs.declared.layout.Lasti.{Lasti}
-use Rattle.py_layout.specs.declared.layout.InterpreterAt.{InterpreterAt}
-use Rattle.py_layout.specs.declared.layout.ThreadAt.{ThreadAt}
-use Rattle.py_layout.specs.declared.layout.CframeAt.{CframeAt}
-use Rattle.py_layout.specs.declared.layout.FrameAt.{FrameAt}
-use Rattle.py_layout.specs.declared.layout.CodeAt.{CodeAt}
-use Rattle.py_layout.specs.declared.layout.StringAt.{StringAt}
-use Rattle.py_layout.specs.declared.layout.Layout.{Layout}
+use Rattle.py_fields.specs.Places.{optional_place, instr_width, thread_places, frame_places, code_places, string_head, string_places, state_bits}
+use Rattle.py_fields.specs.declared.layout.Strings.TheVariants.{State}
+use Rattle.py_fields.specs.Sound.{IsPlain, IsStart, IsSound}
+use Rattle.py_fields.specs.declared.layout.Lasti.{Lasti}
+use Rattle.py_fields.specs.declared.layout.InterpreterAt.{InterpreterAt}
+use Rattle.py_fields.specs.declared.layout.ThreadAt.{ThreadAt}
+use Rattle.py_fields.specs.declared.layout.CframeAt.{CframeAt}
+use Rattle.py_fields.specs.declared.layout.FrameAt.{FrameAt}
+use Rattle.py_fields.specs.declared.layout.CodeAt.{CodeAt}
+use Rattle.py_fields.specs.declared.layout.StringAt.{StringAt}
+use Rattle.py_fields.specs.declared.layout.Layout.{Layout}
 
 -- a field that is there ends where its place does
 pub optional_end : (field : Option ℕ) (width end at : ℕ) → (optional_place field width).0 + (optional_place field width).1 ≤ end → field ≡ Some at → at + width ≤ end

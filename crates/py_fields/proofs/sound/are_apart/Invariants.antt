@@ -1,6 +1,6 @@
 use Rattle.std.proofs.Common.{◌↔◌, drop}
-use Rattle.py_layout.specs.Places.{AreApart}
-use Rattle.py_layout.proofs.sound.are_apart.Given as goal
+use Rattle.py_fields.specs.Places.{AreApart}
+use Rattle.py_fields.proofs.sound.are_apart.Given as goal
 
 abbrev pub invariant-loop-i : goal.invariant-loop-i
 invariant-loop-i l = AreApart l.places ↔ AreApart (drop l.i l.places)

@@ -1,25 +1,25 @@
 -- Where the fields of a layout's records are: one list of places for each record.
 use Rattle.std.specs.Prelude.{ℕ, ◌+◌, ◌≤◌, ◌⊎◌, Option, Some, None, List, [], ◌∷◌, ⊤}
 use Rattle.std.specs.List.{AllByRecursion}
-use Rattle.py_layout.specs.declared.layout.Lasti.{Lasti}
-use Rattle.py_layout.specs.declared.layout.Lasti.TheVariants.{Bytes, Units, Pointer}
-use Rattle.py_layout.specs.declared.layout.InterpreterAt.{InterpreterAt}
-use Rattle.py_layout.specs.declared.layout.ThreadAt.{ThreadAt}
-use Rattle.py_layout.specs.declared.layout.FrameAt.{FrameAt}
-use Rattle.py_layout.specs.declared.layout.CodeAt.{CodeAt}
-use Rattle.py_layout.specs.declared.layout.StringAt.{StringAt}
-use Rattle.py_layout.specs.declared.layout.BytesAt.{BytesAt}
-use Rattle.py_layout.specs.declared.layout.TupleAt.{TupleAt}
-use Rattle.py_layout.specs.declared.layout.ListAt.{ListAt}
-use Rattle.py_layout.specs.declared.layout.ObjectAt.{ObjectAt}
-use Rattle.py_layout.specs.declared.layout.KlassAt.{KlassAt}
-use Rattle.py_layout.specs.declared.layout.LongAt.{LongAt}
-use Rattle.py_layout.specs.declared.layout.ValueAt.{ValueAt}
-use Rattle.py_layout.specs.declared.layout.DictAt.{DictAt}
-use Rattle.py_layout.specs.declared.layout.KeysAt.{KeysAt}
-use Rattle.py_layout.specs.declared.layout.HeapAt.{HeapAt}
-use Rattle.py_layout.specs.declared.layout.GilAt.{GilAt}
-use Rattle.py_layout.specs.declared.layout.OffsetsAt.{OffsetsAt}
+use Rattle.py_fields.specs.declared.layout.Lasti.{Lasti}
+use Rattle.py_fields.specs.declared.layout.Lasti.TheVariants.{Bytes, Units, Pointer}
+use Rattle.py_fields.specs.declared.layout.InterpreterAt.{InterpreterAt}
+use Rattle.py_fields.specs.declared.layout.ThreadAt.{ThreadAt}
+use Rattle.py_fields.specs.declared.layout.FrameAt.{FrameAt}
+use Rattle.py_fields.specs.declared.layout.CodeAt.{CodeAt}
+use Rattle.py_fields.specs.declared.layout.StringAt.{StringAt}
+use Rattle.py_fields.specs.declared.layout.BytesAt.{BytesAt}
+use Rattle.py_fields.specs.declared.layout.TupleAt.{TupleAt}
+use Rattle.py_fields.specs.declared.layout.ListAt.{ListAt}
+use Rattle.py_fields.specs.declared.layout.ObjectAt.{ObjectAt}
+use Rattle.py_fields.specs.declared.layout.KlassAt.{KlassAt}
+use Rattle.py_fields.specs.declared.layout.LongAt.{LongAt}
+use Rattle.py_fields.specs.declared.layout.ValueAt.{ValueAt}
+use Rattle.py_fields.specs.declared.layout.DictAt.{DictAt}
+use Rattle.py_fields.specs.declared.layout.KeysAt.{KeysAt}
+use Rattle.py_fields.specs.declared.layout.HeapAt.{HeapAt}
+use Rattle.py_fields.specs.declared.layout.GilAt.{GilAt}
+use Rattle.py_fields.specs.declared.layout.OffsetsAt.{OffsetsAt}
 
 -- a place: an offset, and how wide it is
 abbrev pub Place : Type 0

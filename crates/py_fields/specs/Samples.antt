@@ -1,15 +1,15 @@
 -- An example of a layout: with the families of CPython 3.9, and shorter records.
 use Rattle.std.specs.Prelude.{Some, None, false}
-use Rattle.py_layout.specs.declared.layout.Head.TheVariants.{Runtime}
-use Rattle.py_layout.specs.declared.layout.Lock.TheVariants.{Runtime as RuntimeLock}
-use Rattle.py_layout.specs.declared.layout.Frames.TheVariants.{Direct}
-use Rattle.py_layout.specs.declared.layout.Lasti.TheVariants.{Bytes}
-use Rattle.py_layout.specs.declared.layout.Lines.TheVariants.{Pairs}
-use Rattle.py_layout.specs.declared.layout.Strings.TheVariants.{State}
-use Rattle.py_layout.specs.declared.layout.Integers.TheVariants.{Signed}
-use Rattle.py_layout.specs.declared.layout.Dicts.TheVariants.{General}
-use Rattle.py_layout.specs.declared.layout.Managed.TheVariants.{Absent}
-use Rattle.py_layout.specs.declared.layout.Layout.{Layout}
+use Rattle.py_fields.specs.declared.layout.Head.TheVariants.{Runtime}
+use Rattle.py_fields.specs.declared.layout.Lock.TheVariants.{Runtime as RuntimeLock}
+use Rattle.py_fields.specs.declared.layout.Frames.TheVariants.{Direct}
+use Rattle.py_fields.specs.declared.layout.Lasti.TheVariants.{Bytes}
+use Rattle.py_fields.specs.declared.layout.Lines.TheVariants.{Pairs}
+use Rattle.py_fields.specs.declared.layout.Strings.TheVariants.{State}
+use Rattle.py_fields.specs.declared.layout.Integers.TheVariants.{Signed}
+use Rattle.py_fields.specs.declared.layout.Dicts.TheVariants.{General}
+use Rattle.py_fields.specs.declared.layout.Managed.TheVariants.{Absent}
+use Rattle.py_fields.specs.declared.layout.Layout.{Layout}
 
 abbrev pub sample_layout : Layout
 sample_layout = record {

@@ -1,21 +1,21 @@
 -- What a sound layout says of the fields of objects, dicts, the lock and a runtime record.
 use Rattle.std.proofs.Common.{◌≡◌, ℕ, ◌+◌, ◌<◌, ◌≤◌, ◌^◌, Some}
-use Rattle.py_layout.proofs.Fields.{optional_end, some_is}
-use Rattle.py_layout.specs.Places.{bytes_places, tuple_places, list_places, object_places, klass_places, long_places, value_places, dict_places, keys_places, heap_places, gil_places, offsets_places}
-use Rattle.py_layout.specs.Sound.{IsRecord, IsSound, IsSoundKeys, IsSoundHeap}
-use Rattle.py_layout.specs.declared.layout.BytesAt.{BytesAt}
-use Rattle.py_layout.specs.declared.layout.TupleAt.{TupleAt}
-use Rattle.py_layout.specs.declared.layout.ListAt.{ListAt}
-use Rattle.py_layout.specs.declared.layout.ObjectAt.{ObjectAt}
-use Rattle.py_layout.specs.declared.layout.KlassAt.{KlassAt}
-use Rattle.py_layout.specs.declared.layout.LongAt.{LongAt}
-use Rattle.py_layout.specs.declared.layout.ValueAt.{ValueAt}
-use Rattle.py_layout.specs.declared.layout.DictAt.{DictAt}
-use Rattle.py_layout.specs.declared.layout.KeysAt.{KeysAt}
-use Rattle.py_layout.specs.declared.layout.HeapAt.{HeapAt}
-use Rattle.py_layout.specs.declared.layout.GilAt.{GilAt}
-use Rattle.py_layout.specs.declared.layout.OffsetsAt.{OffsetsAt}
-use Rattle.py_layout.specs.declared.layout.Layout.{Layout}
+use Rattle.py_fields.proofs.Fields.{optional_end, some_is}
+use Rattle.py_fields.specs.Places.{bytes_places, tuple_places, list_places, object_places, klass_places, long_places, value_places, dict_places, keys_places, heap_places, gil_places, offsets_places}
+use Rattle.py_fields.specs.Sound.{IsRecord, IsSound, IsSoundKeys, IsSoundHeap}
+use Rattle.py_fields.specs.declared.layout.BytesAt.{BytesAt}
+use Rattle.py_fields.specs.declared.layout.TupleAt.{TupleAt}
+use Rattle.py_fields.specs.declared.layout.ListAt.{ListAt}
+use Rattle.py_fields.specs.declared.layout.ObjectAt.{ObjectAt}
+use Rattle.py_fields.specs.declared.layout.KlassAt.{KlassAt}
+use Rattle.py_fields.specs.declared.layout.LongAt.{LongAt}
+use Rattle.py_fields.specs.declared.layout.ValueAt.{ValueAt}
+use Rattle.py_fields.specs.declared.layout.DictAt.{DictAt}
+use Rattle.py_fields.specs.declared.layout.KeysAt.{KeysAt}
+use Rattle.py_fields.specs.declared.layout.HeapAt.{HeapAt}
+use Rattle.py_fields.specs.declared.layout.GilAt.{GilAt}
+use Rattle.py_fields.specs.declared.layout.OffsetsAt.{OffsetsAt}
+use Rattle.py_fields.specs.declared.layout.Layout.{Layout}
 
 pub record BytesFits (b : BytesAt) : Type 0 where
   pub positive : 0 < b.size

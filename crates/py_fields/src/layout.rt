@@ -461,8 +461,8 @@ const SAMPLE: Layout = Layout {
 
 impl Layout {
     ghost use Rattle.std.specs.Prelude.{◌≡◌, ◌↔◌, IsTrue};
-    ghost use Rattle.py_layout.specs.Samples.{sample_layout};
-    ghost use Rattle.py_layout.specs.Sound.{Covers, IsSound};
+    ghost use Rattle.py_fields.specs.Samples.{sample_layout};
+    ghost use Rattle.py_fields.specs.Sound.{Covers, IsSound};
 
     /// A sound layout for 3.9, as an example and for tests: it has the families of CPython 3.9, and
     /// shorter records, so it is not that of any build.
