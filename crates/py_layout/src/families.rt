@@ -4,8 +4,8 @@ ghost use Rattle.toml.specs.View.{view, table_view};
 ghost use Rattle.py_layout.specs.Words.{head_of_word, lock_of_word, frames_of_word, lasti_of_word, lines_of_word, strings_of_word, integers_of_word, dicts_of_word, managed_of_word, is_word, word_of, word_at, families_of};
 
 use crate::keys::Family;
-use py_fields::{Dicts, Frames, Head, Integers, Lasti, Lines, Lock, Managed, Strings};
 use crate::values::member;
+use py_fields::{Dicts, Frames, Head, Integers, Lasti, Lines, Lock, Managed, Strings};
 use toml::{Table, Value};
 
 /// The families of a layout.

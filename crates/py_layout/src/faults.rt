@@ -10,8 +10,8 @@ ghost use Rattle.py_layout.specs.Faults.{may_be, must_be, is_faulty, same_group,
 
 use crate::families::{Families, families_of};
 use crate::keys::{Key, Kind, Presence};
-use py_fields::{Dicts, Frames, Head, Lasti, Lock, Managed, Strings};
 use crate::values::{fits, group_at, value_at};
+use py_fields::{Dicts, Frames, Head, Lasti, Lock, Managed, Strings};
 use toml::Table;
 
 /// A key that is missing, has the wrong kind or is unknown.

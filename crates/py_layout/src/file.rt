@@ -12,10 +12,10 @@ ghost use Rattle.py_layout.specs.File.{elements_of, element_fault, first_fault, 
 use crate::error::LayoutError;
 use crate::faults::{Fault, table_fault};
 use crate::keys::{Key, keys};
-use py_fields::Layout;
 use crate::reading::layout_of;
 use crate::values::member;
 use elf64_core::Text;
+use py_fields::Layout;
 use std::alloc::{AllocError, Global};
 use toml::value::Array;
 use toml::{Table, Value};

@@ -5,11 +5,11 @@ ghost use Rattle.py_layout.specs.Reading.{interpreter_of, thread_of, cframe_of, 
 ghost use Rattle.py_layout.specs.Words.{families_of};
 
 use crate::families::families_of;
+use crate::values::{group_at, number_at, optional_at, truth_at};
 use py_fields::{
     BytesAt, CframeAt, CodeAt, DictAt, FrameAt, GilAt, HeapAt, InterpreterAt, KeysAt, KlassAt,
     Layout, ListAt, LongAt, ObjectAt, OffsetsAt, StringAt, ThreadAt, TupleAt, ValueAt,
 };
-use crate::values::{group_at, number_at, optional_at, truth_at};
 use toml::Table;
 
 fn interpreter_of(table: &Table) -> InterpreterAt

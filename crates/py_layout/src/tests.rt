@@ -1,10 +1,10 @@
 //! Layouts that are sound, that are not and that clash, and how errors are written.
+use crate::{LayoutError, Layouts, Version};
+use elf64_core::Text;
 use py_fields::{
     CframeAt, CodeAt, DictAt, Dicts, FrameAt, Frames, GilAt, Head, HeapAt, Integers, InterpreterAt,
     KeysAt, Lasti, Layout, Lines, Lock, Managed, OffsetsAt, StringAt, Strings, ThreadAt,
 };
-use crate::{LayoutError, Layouts, Version};
-use elf64_core::Text;
 use std::alloc::{AllocError, Global};
 use std::test::Fail;
 
