@@ -115,8 +115,8 @@ kept_same kept (Some f) n =
 pub pair_same : {X Y : Type 0} (a b : X) (x y : Y) → a ≡ b → x ≡ y → ◌≡◌ {A = X × Y} (a, x) (b, y)
 pair_same a b x y p q = rw (p, q) refl
 
-lead : {X : Type 0} (d : Found (List ℕ)) (e : List ℕ → Found (List ℕ)) (g : List ℕ → List ℕ → X) (frame code : List ℕ) → d ≡ Ok frame → e frame ≡ Ok code → (d >>= (λ f. e f >>= (λ c. Ok (g f c)))) ≡ Ok (g frame code)
-lead d e g frame code p q = rw (p, q) refl
+lead : {X : Type 0} (d : Found (List ℕ)) (e : List ℕ → Found (List ℕ)) (g : List ℕ → List ℕ → X) (frame code : List ℕ) (x : X) → d ≡ Ok frame → e frame ≡ Ok code → g frame code ≡ x → (d >>= (λ f. e f >>= (λ c. Ok (g f c)))) ≡ Ok x
+lead d e g frame code x p q r = rw (p, q) (ap Ok r)
 
 frame_leads : (l : Layout) (m : Memory) (kept a : ℕ) (x : Step ℕ (Option Frame)) → frame_step l m kept a ≡ Ok x → frame_next l m kept a ≡ Ok (x.next, x.state)
 unfolding member_at frame_next name_at
@@ -128,8 +128,8 @@ frame_leads l m kept a x e =
     let back : word_in one.0 l.frame.back ≡ x.next = ap (λ (y : ℕ × Option Frame). y.0) same in
     let part : shown_by_records l m one.0 two.0 ≡ x.part = ap (λ (y : ℕ × Option Frame). y.1) same in
     let count : kept_next kept (shown_by_records l m one.0 two.0) ≡ x.state = ap (kept_next kept) part ∙ kept_same kept x.part x.state is.count in
-    lead (record_at m a l.frame.size) (λ frame. record_at m (code_of l.frame frame) l.code.size) (λ frame code. (word_in frame l.frame.back, kept_next kept (shown_by_records l m frame code))) one.0 two.0 one.1 two.1
-    ∙ ap Ok (pair_same _ _ _ _ back count)
+    lead (record_at m a l.frame.size) (λ frame. record_at m (code_of l.frame frame) l.code.size) (λ frame code. (word_in frame l.frame.back, kept_next kept (shown_by_records l m frame code))) one.0 two.0 (x.next, x.state) one.1 two.1
+    (pair_same _ _ _ _ back count)
 
 from_inner : {T U : Type 0} (d : Found T) (f : T → U) → fault_in d ≡ fault_in (d >>= (λ x. Ok (f x)))
 from_inner (Ok x) f = refl

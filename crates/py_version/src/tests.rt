@@ -78,6 +78,8 @@ fn the_leftmost_spelling_is_found(rt: HostRuntime) -> Result<(), Fail> {
         let found = Version::scan_bytes(alloc, text.as_bytes());
         assert!(rt; found == Ok(wanted), "{text}");
     }
+    let text = Version::scan_bytes(alloc, b"2.7.15+ (default")?.to_string(alloc)?;
+    assert_eq!(rt; text.as_str(), "2.7.15+");
     Ok(())
 }
 

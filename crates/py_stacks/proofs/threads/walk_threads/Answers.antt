@@ -26,7 +26,7 @@ pub returns-in_err-push : goal.returns-in_err-push
 unfolding threads_at threads_cost
 returns-in_err-push g c =
     let p = err_from_is_err_and c.from_residual-in_err-push.result c.from_residual-in_err-push.ensures.1 in
-    rw p.1 (walking_lost p.0 (walking_more c.loop-at.invariant (omega arith) (omega arith) (thread_goes c.args.layout.now c.args.owner c.loop-at.at _ _ c.in_ok-next.ensures)) (ap fault_of p.2))
+    rw p.1 (walking_lost {step = λ m. thread_step c.args.layout.now m c.args.owner} p.0 (walking_more c.loop-at.invariant (omega arith) (omega arith) (thread_goes c.args.layout.now c.args.owner c.loop-at.at _ _ c.in_ok-next.ensures)) (ap fault_of p.2))
 
 pub loop-at-preserved : goal.loop-at-preserved
 loop-at-preserved g c =
