@@ -7,7 +7,7 @@ import subprocess
 import tempfile
 from dataclasses import dataclass, field
 from pathlib import Path
-from typing import Dict, List, Sequence, Tuple
+from typing import Dict, List, Optional, Sequence, Tuple
 
 from layout_plan import Field
 
@@ -109,6 +109,33 @@ def compiled(folder: Path, compiler: Sequence[str], lines: Sequence[str]) -> Tup
     return ran.returncode == 0, ran.stdout
 
 
+def build_probe(
+    folder: Path, compiler: Sequence[str], fields: Sequence[Field], installed: Sequence[str], answers: Answers
+) -> Optional[str]:
+    """Builds the program in this folder, without what the compiler refuses, whose reasons the answers take. Returns
+    why there is none, if so."""
+    head = [*PROBE_HEAD.splitlines()]
+    # line by line, what a compiler may refuse: at this number of probe.c stands this header, or this field
+    body: List[Tuple[str, str]] = [(f'#include "{it}"', it) for it in installed]
+    body += [("int main(void) {", "")] + [(c_line(it), it.key) for it in fields] + [("return 0; }", "")]
+    while True:
+        try:
+            well, said = compiled(folder, compiler, head + [line for line, _ in body])
+        except OSError as error:
+            return f"no compiler {compiler[0]} ({error.strerror})"
+        if well:
+            return None
+        faults = {at - len(head) - 1: why for at, why in faults_of(said).items() if at > len(head)}
+        faults = {at: why for at, why in faults.items() if at < len(body) and body[at][1]}
+        if not faults:
+            errors = [line for line in said.splitlines() if "error" in line] or ["no message"]
+            return f"{compiler[0]} failed: {errors[0]}"
+        # (headers first: a field may be well without one that is not)
+        headers = {at: why for at, why in faults.items() if body[at][1] in installed}
+        answers.reasons.update({body[at][1]: why for at, why in faults.items()})
+        body = [it for at, it in enumerate(body) if at not in (headers or faults)]
+
+
 def from_headers(fields: Sequence[Field], includes: Sequence[str], flags: Sequence[str], cc: str) -> Answers:
     """What the headers in these folders tell, by a C program. Left out of it is what the compiler refuses."""
     answers = Answers("headers")
@@ -117,30 +144,12 @@ def from_headers(fields: Sequence[Field], includes: Sequence[str], flags: Sequen
     # (some internal headers name others by paths below internal/; a public header of one name comes before)
     compiler = [cc, *flags, *(f"-I{it}" for it in includes), *(f"-idirafter{it}/internal" for it in includes)]
     installed = [it for it in HEADERS if any((Path(folder) / it).is_file() for folder in includes)]
-    head = [*PROBE_HEAD.splitlines()]
-    # line by line, what a compiler may refuse: at this number of probe.c stands this header, or this field
-    body: List[Tuple[str, str]] = [(f'#include "{it}"', it) for it in installed]
-    body += [("int main(void) {", "")] + [(c_line(it), it.key) for it in fields] + [("return 0; }", "")]
     with tempfile.TemporaryDirectory(prefix="derive-layout-") as name:
-        folder = Path(name)
-        while True:
-            try:
-                well, said = compiled(folder, compiler, head + [line for line, _ in body])
-            except OSError as error:
-                return answers.none(fields, f"no compiler {cc} ({error.strerror})")
-            if well:
-                break
-            faults = {at - len(head) - 1: why for at, why in faults_of(said).items() if at > len(head)}
-            faults = {at: why for at, why in faults.items() if at < len(body) and body[at][1]}
-            if not faults:
-                errors = [line for line in said.splitlines() if "error" in line] or ["no message"]
-                return answers.none(fields, f"{cc} failed: {errors[0]}")
-            # (headers first: a field may be well without one that is not)
-            headers = {at: why for at, why in faults.items() if body[at][1] in installed}
-            answers.reasons.update({body[at][1]: why for at, why in faults.items()})
-            body = [it for at, it in enumerate(body) if at not in (headers or faults)]
+        why = build_probe(Path(name), compiler, fields, installed, answers)
+        if why:
+            return answers.none(fields, why)
         try:
-            ran = subprocess.run([str(folder / "probe")], stdout=subprocess.PIPE, text=True, check=True)
+            ran = subprocess.run([str(Path(name) / "probe")], stdout=subprocess.PIPE, text=True, check=True)
         except (OSError, subprocess.CalledProcessError) as error:
             return answers.none(fields, f"what {cc} built doesn't run ({error})")
         answers.take(ran.stdout)
