@@ -5,8 +5,9 @@ use Rattle.std.proofs.lemmas.Bool.{cases_order}
 use Rattle.std.proofs.lemmas.List.{get_or_default}
 use Rattle.std.proofs.lemmas.Option.{same_Some}
 use Rattle.std.specs.Prelude.{Option, Some, None, Result, Ok, Err, AllPairs, Contains, IfSome, map}
-use Rattle.image_memory.specs.Memory.{Fault}
-use Rattle.image_memory.specs.Outside.{Told, Gives, Rose, bytes_of}
+use Rattle.process_memory.specs.Memory.{Fault}
+use Rattle.outside.specs.Counts.{Rose}
+use Rattle.outside.specs.Files.{Told, Gives, bytes_of}
 use Rattle.py_layout.specs.declared.error.LayoutError.{LayoutError}
 use Rattle.py_layout.specs.declared.error.LayoutError.TheVariants as layout
 use Rattle.py_fields.specs.declared.layout.Layout.{Layout}
@@ -17,8 +18,8 @@ use Rattle.py_fields.specs.Sound.{Covers}
 use Rattle.py_layout.specs.Lists.{Clash}
 use Rattle.py_layout.proofs.Answering.{right-unique}
 use Rattle.py_stacks.specs.Threads.{Trace, trace_of}
-use Rattle.core_report.specs.declared.error.CoreError.{CoreError}
-use Rattle.core_report.specs.declared.error.CoreError.TheVariants as core
+use Rattle.py_process.specs.declared.core_error.CoreError.{CoreError}
+use Rattle.py_process.specs.declared.core_error.CoreError.TheVariants as core
 use Rattle.core_report.specs.declared.command.Trouble.{Trouble}
 use Rattle.core_report.specs.declared.command.Trouble.TheVariants.{Work, Words, File, Layouts, Write, OutOfMemory}
 use Rattle.core_report.specs.Words.{Command, LayoutSource, Walk, walk, sample, file, core_file, layout_source}

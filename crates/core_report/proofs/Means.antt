@@ -2,7 +2,7 @@
 use Rattle.std.proofs.Common.{ℕ, List, [], ◌∷◌, rules}
 use Rattle.std.specs.Prelude.{AllPairs, Err, Contains}
 use Rattle.elf64_core.specs.Header.{IsAccepted}
-use Rattle.image_memory.specs.Faults.{IsFirst}
+use Rattle.process_memory.specs.Faults.{IsFirst}
 use Rattle.py_fields.specs.declared.layout.Layout.{Layout}
 use Rattle.py_version.specs.declared.version.Version.{Version}
 use Rattle.py_fields.specs.Sound.{Covers, IsSound}
@@ -11,7 +11,7 @@ use Rattle.py_stacks.specs.declared.error.StackError.{StackError}
 use Rattle.py_stacks.specs.declared.error.StackError.TheVariants as stack
 use Rattle.py_stacks.specs.declared.trace.Addresses.{Addresses}
 use Rattle.py_stacks.specs.StackError.{fault_of}
-use Rattle.core_report.specs.Causes.{cause_of_stacks}
+use Rattle.py_process.specs.Causes.{cause_of_stacks}
 use Rattle.core_report.specs.Answer.{IsWalked, Means, fault_by}
 
 -- one sound layout is a sound list

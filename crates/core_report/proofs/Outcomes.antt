@@ -1,10 +1,11 @@
 -- What each status of a run that gave up means.
 use Rattle.std.proofs.Common.{◌≡◌, ◌≢◌, ◌⊎◌, ◌↔◌, ℕ, List, [], ◌∷◌, ◌++◌, length, Option, Some, None, Ok, Err, refl, sym, ap, ◌∙◌, arith, inl, inr, length-append, codes}
-use Rattle.image_memory.specs.Outside.{Rose, AppendsFront}
-use Rattle.image_memory.specs.declared.faults.FileFault.{FileFault}
-use Rattle.image_memory.specs.declared.faults.FileFault.TheVariants as fault
-use Rattle.core_report.specs.declared.error.CoreError.{CoreError}
-use Rattle.core_report.specs.declared.error.CoreError.TheVariants as core
+use Rattle.outside.specs.Counts.{Rose}
+use Rattle.outside.specs.Streams.{AppendsFront}
+use Rattle.outside.specs.declared.faults.FileFault.{FileFault}
+use Rattle.outside.specs.declared.faults.FileFault.TheVariants as fault
+use Rattle.py_process.specs.declared.core_error.CoreError.{CoreError}
+use Rattle.py_process.specs.declared.core_error.CoreError.TheVariants as core
 use Rattle.core_report.specs.declared.command.Trouble.{Trouble}
 use Rattle.core_report.specs.declared.command.Trouble.TheVariants.{Work, Words, File, Layouts, Write, OutOfMemory}
 use Rattle.py_layout.specs.declared.error.LayoutError.{LayoutError}

@@ -6,7 +6,8 @@ use Rattle.std.proofs.KnownBytes.{Appends-trans}
 use Rattle.std.specs.Borrow.{Bor}
 use Rattle.std.specs.List.{concat}
 use Rattle.std.specs.Io.KnownBytes.{Appends}
-use Rattle.image_memory.specs.Outside.{Rose, AppendsFront}
+use Rattle.outside.specs.Counts.{Rose}
+use Rattle.outside.specs.Streams.{AppendsFront}
 use Rattle.core_report.specs.Lines.{Says, joined}
 
 joined-append : (ps qs : List (Bor (List ℕ))) → joined (ps ++ qs) ≡ joined ps ++ joined qs

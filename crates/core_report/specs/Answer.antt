@@ -2,11 +2,11 @@
 -- looked at first, then the version, then the lock's owner and the chain of threads.
 use Rattle.std.specs.Prelude.{◌≡◌, ℕ, List, Option, Some, None, Result, Ok, Err, ⊤, Contains, map}
 use Rattle.std.specs.Global.{Vec}
-use Rattle.elf64_core.specs.Header.{IsElf64, IsReadable, IsAccepted}
-use Rattle.image_memory.specs.Memory.{Memory, Fault, byte_at}
-use Rattle.image_memory.specs.Memory.Fault.{Missing, BadValue as IsBadValue, LocalsLimit as ManyLocals, ThreadLimit as ManyThreads, FrameLimit as ManyFrames, ChainLimit as ManyMembers}
+use Rattle.elf64_core.specs.Header.{IsElf64, HasSegments, IsAccepted}
+use Rattle.process_memory.specs.Memory.{Memory, Fault, byte_at}
+use Rattle.process_memory.specs.Memory.Fault.{Missing, BadValue as IsBadValue, LocalsLimit as ManyLocals, ThreadLimit as ManyThreads, FrameLimit as ManyFrames, ChainLimit as ManyMembers}
 use Rattle.image_memory.specs.Pieces.{memory_of}
-use Rattle.image_memory.specs.Walk.{first_fault}
+use Rattle.process_memory.specs.Walk.{first_fault}
 use Rattle.py_fields.specs.declared.layout.Layout.{Layout}
 use Rattle.py_version.specs.declared.version.Version.{Version}
 use Rattle.py_fields.specs.Sound.{Covers}
@@ -14,8 +14,8 @@ use Rattle.py_stacks.specs.declared.trace.Addresses.{Addresses}
 use Rattle.py_stacks.specs.declared.trace.StackTrace.{StackTrace}
 use Rattle.py_stacks.specs.Stacks.{AreStacks, stacks_faults}
 use Rattle.py_stacks.specs.Threads.{Trace, trace_of}
-use Rattle.core_report.specs.declared.error.CoreError.{CoreError}
-use Rattle.core_report.specs.declared.error.CoreError.TheVariants.{NotElf64, BadHeader, NoNotes, BadNote, NoBinary, NoImage, BadImage, UnreadableVersion, NoVersion, UnsupportedVersion, NoInterpreter, Unreadable, NativeUnsupported, SubprocessesUnsupported, BadValue, LocalsLimit, ThreadLimit, FrameLimit, ChainLimit, OutOfMemory}
+use Rattle.py_process.specs.declared.core_error.CoreError.{CoreError}
+use Rattle.py_process.specs.declared.core_error.CoreError.TheVariants.{NotElf64, BadHeader, NoNotes, BadNote, NoBinary, NoImage, BadImage, UnreadableVersion, NoVersion, UnsupportedVersion, NoInterpreter, Unreadable, NativeUnsupported, SubprocessesUnsupported, BadValue, LocalsLimit, ThreadLimit, FrameLimit, ChainLimit, OutOfMemory}
 
 -- a layout of the list that covers the version
 pub record IsChosen (layouts : List Layout) (version : Version) (layout : Layout) : Type 0 where
@@ -56,7 +56,7 @@ pub record IsUncovered (bytes : List ℕ) (layouts : List Layout) (version : Ver
 abbrev pub Means : List ℕ → List Layout → Version → Addresses → Result (List Trace) CoreError → Type 0
 Means bytes layouts version addresses (Ok traces) = Finds bytes layouts version addresses traces
 Means bytes layouts version addresses (Err NotElf64) = ¬ IsElf64 bytes
-Means bytes layouts version addresses (Err BadHeader) = IsElf64 bytes × ¬ IsReadable bytes
+Means bytes layouts version addresses (Err BadHeader) = IsElf64 bytes × ¬ HasSegments bytes
 Means bytes layouts version addresses (Err (UnsupportedVersion named)) = IsUncovered bytes layouts version × (named ≡ version)
 Means bytes layouts version addresses (Err (Unreadable addr len)) = Meets bytes layouts version addresses (Missing addr len)
 Means bytes layouts version addresses (Err ThreadLimit) = Meets bytes layouts version addresses ManyThreads

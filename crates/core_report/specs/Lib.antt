@@ -2,6 +2,5 @@ pub mod Words
 pub mod Seen
 pub mod Lines
 pub mod Text
-pub mod Causes
 pub mod Answer
 pub mod Run

@@ -4,14 +4,15 @@ use Rattle.std.specs.Borrow.{Bor}
 use Rattle.std.specs.Fmt.{digits, signed_decimal}
 use Rattle.std.specs.List.{concat}
 use Rattle.std.specs.Io.KnownBytes.{Appends}
-use Rattle.image_memory.specs.Outside.{Rose, AppendsFront}
-use Rattle.image_memory.specs.declared.faults.FileFault.{FileFault}
-use Rattle.image_memory.specs.declared.faults.FileFault.TheVariants as fault
+use Rattle.outside.specs.Counts.{Rose}
+use Rattle.outside.specs.Streams.{AppendsFront}
+use Rattle.outside.specs.declared.faults.FileFault.{FileFault}
+use Rattle.outside.specs.declared.faults.FileFault.TheVariants as fault
 use Rattle.py_version.specs.Version.{version_text}
 use Rattle.py_layout.specs.declared.error.LayoutError.{LayoutError}
 use Rattle.py_layout.specs.declared.error.LayoutError.TheVariants as layout
-use Rattle.core_report.specs.declared.error.CoreError.{CoreError}
-use Rattle.core_report.specs.declared.error.CoreError.TheVariants.{NotElf64, BadHeader, NoNotes, BadNote, NoBinary, NoImage, BadImage, UnreadableVersion, NoVersion, UnsupportedVersion, NoInterpreter, Unreadable, NativeUnsupported, SubprocessesUnsupported, BadValue, LocalsLimit, ThreadLimit, FrameLimit, ChainLimit, OutOfMemory}
+use Rattle.py_process.specs.declared.core_error.CoreError.{CoreError}
+use Rattle.py_process.specs.declared.core_error.CoreError.TheVariants.{NotElf64, BadHeader, NoNotes, BadNote, NoBinary, NoImage, BadImage, UnreadableVersion, NoVersion, UnsupportedVersion, NoInterpreter, Unreadable, NativeUnsupported, SubprocessesUnsupported, BadValue, LocalsLimit, ThreadLimit, FrameLimit, ChainLimit, OutOfMemory}
 
 -- a line of these parts
 abbrev pub line : List (List ℕ) → List ℕ

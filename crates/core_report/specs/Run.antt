@@ -1,12 +1,14 @@
 -- What a run of the top call means.
 use Rattle.std.specs.Prelude.{◌≡◌, ◌≢◌, ◌⊎◌, ℕ, ◌++◌, List, [], ◌∷◌, Option, Some, None, Result, Ok, Err, ⊤, codes, map}
 use Rattle.std.specs.Io.KnownBytes.{Appends}
-use Rattle.image_memory.specs.Outside.{Told, FailedNames, Gives, Rose, AppendsFront, bytes_of}
-use Rattle.image_memory.specs.declared.faults.FileFault.{FileFault}
-use Rattle.image_memory.specs.declared.faults.FileFault.TheVariants as fault
+use Rattle.outside.specs.Counts.{Rose}
+use Rattle.outside.specs.Files.{Told, FailedNames, Gives, bytes_of}
+use Rattle.outside.specs.Streams.{AppendsFront}
+use Rattle.outside.specs.declared.faults.FileFault.{FileFault}
+use Rattle.outside.specs.declared.faults.FileFault.TheVariants as fault
 use Rattle.py_stacks.specs.declared.trace.StackTrace.{StackTrace}
-use Rattle.core_report.specs.declared.error.CoreError.{CoreError}
-use Rattle.core_report.specs.declared.error.CoreError.TheVariants as core
+use Rattle.py_process.specs.declared.core_error.CoreError.{CoreError}
+use Rattle.py_process.specs.declared.core_error.CoreError.TheVariants as core
 use Rattle.core_report.specs.declared.command.Trouble.{Trouble}
 use Rattle.core_report.specs.declared.command.Trouble.TheVariants.{Work, Words, File, Layouts, Write, OutOfMemory}
 use Rattle.core_report.specs.Words.{Command, LayoutSource, Walk, walk, sample, file, core_file, layout_source}

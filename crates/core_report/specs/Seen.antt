@@ -8,15 +8,15 @@ use Rattle.core_report.specs.declared.words.LayoutSource.TheVariants.{Sample, Fi
 use Rattle.core_report.specs.declared.words.Command.{Command}
 use Rattle.core_report.specs.declared.words.Command.TheVariants.{Walk}
 
-abbrev pub version_at : Release → Version
-version_at r = words.release r.major r.minor r.patch
+abbrev pub asked_version : Release → Version
+asked_version r = words.release r.major r.minor r.patch
 
-abbrev pub source_at : LayoutSource → words.LayoutSource
-source_at Sample = words.sample
-source_at (File name) = words.file name.now
+abbrev pub asked_source : LayoutSource → words.LayoutSource
+asked_source Sample = words.sample
+asked_source (File name) = words.file name.now
 
-abbrev pub walk_at : WalkWords → words.Walk
-walk_at w = record { core = w.core.now; layouts = source_at w.layouts; version = version_at w.version; addresses = w.addresses }
+abbrev pub asked_walk : WalkWords → words.Walk
+asked_walk w = record { core = w.core.now; layouts = asked_source w.layouts; version = asked_version w.version; addresses = w.addresses }
 
-abbrev pub command_at : Command → words.Command
-command_at (Walk w) = words.walk (walk_at w)
+abbrev pub asked_command : Command → words.Command
+asked_command (Walk w) = words.walk (asked_walk w)

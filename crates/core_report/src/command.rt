@@ -1,17 +1,18 @@
 //! The top call.
 ghost use Rattle.std.specs.Prelude.{◌≡◌, ◌≢◌, ◌≤◌, ◌↔◌, ◌⊎◌, ◌++◌, [], ◌∷◌, List, ℕ, Some, None, Ok, Err, codes, string_bytes, MatchResult, IfErr, IfOk};
 ghost use Rattle.std.specs.Io.KnownBytes.{Appends};
-ghost use Rattle.image_memory.specs.Outside.{Rose, AppendsFront};
-ghost use Rattle.image_memory.specs.declared.faults.FileFault.{FileFault as Why};
+ghost use Rattle.outside.specs.Counts.{Rose};
+ghost use Rattle.outside.specs.Streams.{AppendsFront};
+ghost use Rattle.outside.specs.declared.faults.FileFault.{FileFault as Why};
 ghost use Rattle.py_layout.specs.File.{IsRightFor};
 ghost use Rattle.py_layout.specs.declared.error.LayoutError.{LayoutError as Flaw};
-ghost use Rattle.core_report.specs.declared.error.CoreError.{CoreError as Cause};
+ghost use Rattle.py_process.specs.declared.core_error.CoreError.{CoreError as Cause};
 ghost use Rattle.core_report.specs.Words.{Command as Asked, Walk, command_of, file, texts, walk};
-ghost use Rattle.core_report.specs.Seen.{command_at, source_at, walk_at};
+ghost use Rattle.core_report.specs.Seen.{asked_command, asked_source, asked_walk};
 ghost use Rattle.core_report.specs.Lines.{Says, line, core_parts, file_parts, layout_parts};
 ghost use Rattle.core_report.specs.Run.{Asks, Ends, HasBadLayouts, IsFaultless, IsSourceTrouble, IsTextTrouble, Reaches, SourceGives, Tells, TellsLayouts, Works, sample_layouts, status_of, trouble_parts};
 
-use crate::CoreError;
+use py_process::CoreError;
 use crate::core_walk::walk;
 use crate::lines::{say_core, say_file, say_layouts, say_text};
 use crate::text::walk_text;
@@ -65,10 +66,10 @@ fn layouts_from_file<'a, F: Files>(
     name: &'a str,
     files: &mut F,
 ) -> Result<Layouts, Trouble<'a>>
-    ensures told { F.told files.new ≡ F.told files.old }
-    ensures ok { IfOk result (λ layouts. SourceGives (F.told files.old) (file name.now) (Ok layouts)
-        × (F.failed files.new ≡ F.failed files.old)) }
-    ensures trouble { IfErr result (IsSourceTrouble (file name.now) (F.told files.old) (F.failed files.old) (F.failed files.new)) }
+    ensures told { (F.seen files.new).told ≡ (F.seen files.old).told }
+    ensures ok { IfOk result (λ layouts. SourceGives (F.seen files.old).told (file name.now) (Ok layouts)
+        × ((F.seen files.new).failed ≡ (F.seen files.old).failed)) }
+    ensures trouble { IfErr result (IsSourceTrouble (file name.now) (F.seen files.old).told (F.seen files.old).failed (F.seen files.new).failed) }
 {
     let text = match files.read(alloc, name.as_bytes()) {
         Ok(text) => text,
@@ -84,10 +85,10 @@ fn read_layouts<'a, F: Files>(
     source: &LayoutSource<'a>,
     files: &mut F,
 ) -> Result<Layouts, Trouble<'a>>
-    ensures told { F.told files.new ≡ F.told files.old }
-    ensures ok { IfOk result (λ layouts. SourceGives (F.told files.old) (source_at source.now) (Ok layouts)
-        × (F.failed files.new ≡ F.failed files.old)) }
-    ensures trouble { IfErr result (IsSourceTrouble (source_at source.now) (F.told files.old) (F.failed files.old) (F.failed files.new)) }
+    ensures told { (F.seen files.new).told ≡ (F.seen files.old).told }
+    ensures ok { IfOk result (λ layouts. SourceGives (F.seen files.old).told (asked_source source.now) (Ok layouts)
+        × ((F.seen files.new).failed ≡ (F.seen files.old).failed)) }
+    ensures trouble { IfErr result (IsSourceTrouble (asked_source source.now) (F.seen files.old).told (F.seen files.old).failed (F.seen files.new).failed) }
 {
     match source {
         LayoutSource::Sample => match sample_layouts(alloc) {
@@ -105,8 +106,8 @@ fn work(
     core: Vec<u8>,
     layouts: &Layouts,
 ) -> Result<String, CoreError>
-    ensures { MatchResult result (λ text. Works (walk (walk_at words.now)) core.items layouts.now (Ok (string_bytes text)))
-        (λ error. error ≢ CoreError.OutOfMemory → Works (walk (walk_at words.now)) core.items layouts.now (Err error)) }
+    ensures { MatchResult result (λ text. Works (walk (asked_walk words.now)) core.items layouts.now (Ok (string_bytes text)))
+        (λ error. error ≢ CoreError.OutOfMemory → Works (walk (asked_walk words.now)) core.items layouts.now (Err error)) }
 {
     let version = words.version.version(alloc)?;
     let traces = walk(alloc, core, layouts, &version, &words.addresses)?;
@@ -121,16 +122,16 @@ fn execute_walk<'a, F: Files, S: Sink>(
     files: &mut F,
     out: &mut S,
 ) -> Result<(), Trouble<'a>>
-    ensures ends { Ends (Some (walk (walk_at words.now))) (record {
-      told = F.told files.old;
-      failed = F.failed files.old;
-      failed_after = F.failed files.new;
-      written = S.written out.old;
-      written_after = S.written out.new;
-      faults = S.faults out.old;
-      faults_after = S.faults out.new;
+    ensures ends { Ends (Some (walk (asked_walk words.now))) (record {
+      told = (F.seen files.old).told;
+      failed = (F.seen files.old).failed;
+      failed_after = (F.seen files.new).failed;
+      written = (S.seen out.old).written;
+      written_after = (S.seen out.new).written;
+      faults = (S.seen out.old).faults;
+      faults_after = (S.seen out.new).faults;
     }) result }
-    ensures told { F.told files.new ≡ F.told files.old }
+    ensures told { (F.seen files.new).told ≡ (F.seen files.old).told }
 {
     let core = match files.read(alloc, words.core.as_bytes()) {
         Ok(core) => core,
@@ -165,15 +166,15 @@ fn execute<'a, F: Files, S: Sink>(
     out: &mut S,
 ) -> Result<(), Trouble<'a>>
     ensures ends { Ends (command_of (texts words.now)) (record {
-      told = F.told files.old;
-      failed = F.failed files.old;
-      failed_after = F.failed files.new;
-      written = S.written out.old;
-      written_after = S.written out.new;
-      faults = S.faults out.old;
-      faults_after = S.faults out.new;
+      told = (F.seen files.old).told;
+      failed = (F.seen files.old).failed;
+      failed_after = (F.seen files.new).failed;
+      written = (S.seen out.old).written;
+      written_after = (S.seen out.new).written;
+      faults = (S.seen out.old).faults;
+      faults_after = (S.seen out.new).faults;
     }) result }
-    ensures told { F.told files.new ≡ F.told files.old }
+    ensures told { (F.seen files.new).told ≡ (F.seen files.old).told }
 {
     let Some(command) = read_words(words) else {
         return Err(Trouble::Words);
@@ -186,7 +187,7 @@ fn execute<'a, F: Files, S: Sink>(
 /// Writes the line of a run that gave up, and answers its status.
 fn tell<E: Sink>(err: &mut E, trouble: &Trouble<'_>) -> u8
     ensures status { result ≡ status_of trouble.now }
-    ensures said { Says (E.written err.old) (E.written err.new) (E.faults err.old) (E.faults err.new)
+    ensures said { Says (E.seen err.old).written (E.seen err.new).written (E.seen err.old).faults (E.seen err.new).faults
         (line (trouble_parts trouble.now)) }
 {
     match trouble {
@@ -244,62 +245,62 @@ pub fn run<F: Files, S: Sink, E: Sink>(
     ensures statuses { result ≤ 6 }
 
     // 0: the whole text was written
-    ensures printed { result ≡ 0 → (text : List ℕ) × Reaches (command_of (texts words.now)) (F.told files.old) (Ok text)
-        × Appends (S.written out.old) (S.written out.new) text }
-    ensures silent { result ≡ 0 → E.written err.new ≡ E.written err.old }
+    ensures printed { result ≡ 0 → (text : List ℕ) × Reaches (command_of (texts words.now)) (F.seen files.old).told (Ok text)
+        × Appends (S.seen out.old).written (S.seen out.new).written text }
+    ensures silent { result ≡ 0 → (E.seen err.new).written ≡ (E.seen err.old).written }
 
     // 1: the work came to an error
     ensures failed { result ≡ 1 → (error : Cause) × (error ≢ CoreError.OutOfMemory)
-        × Reaches (command_of (texts words.now)) (F.told files.old) (Err error)
-        × Says (E.written err.old) (E.written err.new) (E.faults err.old) (E.faults err.new) (line (core_parts error)) }
+        × Reaches (command_of (texts words.now)) (F.seen files.old).told (Err error)
+        × Says (E.seen err.old).written (E.seen err.new).written (E.seen err.old).faults (E.seen err.new).faults (line (core_parts error)) }
 
     // 2: exactly where the words are refused
     ensures refused { (result ≡ 2) ↔ (command_of (texts words.now) ≡ None) }
     ensures refused_line { result ≡ 2
-        → Says (E.written err.old) (E.written err.new) (E.faults err.old) (E.faults err.new) (line (codes "bad words" ∷ [])) }
+        → Says (E.seen err.old).written (E.seen err.new).written (E.seen err.old).faults (E.seen err.new).faults (line (codes "bad words" ∷ [])) }
 
     // 3: exactly where a file that the words ask for could not be read; the core comes before the layout file
     ensures unread { result ≡ 3 → (command : Asked) × (name : List ℕ) × (why : Why) × (command_of (texts words.now) ≡ Some command)
-        × Asks (F.told files.old) command name × (why ≢ FileFault.OutOfMemory)
-        × (F.failed files.new ≡ F.failed files.old ++ (name, why) ∷ [])
-        × Says (E.written err.old) (E.written err.new) (E.faults err.old) (E.faults err.new) (line (file_parts name why)) }
-    ensures all_read { result ≢ 3 → F.failed files.new ≡ F.failed files.old }
+        × Asks (F.seen files.old).told command name × (why ≢ FileFault.OutOfMemory)
+        × ((F.seen files.new).failed ≡ (F.seen files.old).failed ++ (name, why) ∷ [])
+        × Says (E.seen err.old).written (E.seen err.new).written (E.seen err.old).faults (E.seen err.new).faults (line (file_parts name why)) }
+    ensures all_read { result ≢ 3 → (F.seen files.new).failed ≡ (F.seen files.old).failed }
 
     // 4: the write failed, after a front of the text
-    ensures cut { result ≡ 4 → (text : List ℕ) × Reaches (command_of (texts words.now)) (F.told files.old) (Ok text)
-        × AppendsFront (S.written out.old) (S.written out.new) text
-        × Rose (S.faults out.old) (S.faults out.new)
-        × Says (E.written err.old) (E.written err.new) (E.faults err.old) (E.faults err.new) (line (codes "cannot write" ∷ [])) }
+    ensures cut { result ≡ 4 → (text : List ℕ) × Reaches (command_of (texts words.now)) (F.seen files.old).told (Ok text)
+        × AppendsFront (S.seen out.old).written (S.seen out.new).written text
+        × Rose (S.seen out.old).faults (S.seen out.new).faults
+        × Says (E.seen err.old).written (E.seen err.new).written (E.seen err.old).faults (E.seen err.new).faults (line (codes "cannot write" ∷ [])) }
 
     // 5: want of memory
     ensures no_memory { result ≡ 5
-        → Says (E.written err.old) (E.written err.new) (E.faults err.old) (E.faults err.new) (line (codes "out of memory" ∷ [])) }
+        → Says (E.seen err.old).written (E.seen err.new).written (E.seen err.old).faults (E.seen err.new).faults (line (codes "out of memory" ∷ [])) }
 
     // 6: exactly where the layout file has an error, want of memory aside
-    ensures ill_laid { result ≡ 6 → (error : Flaw) × HasBadLayouts (command_of (texts words.now)) (F.told files.old) error
-        × Says (E.written err.old) (E.written err.new) (E.faults err.old) (E.faults err.new) (line (layout_parts error)) }
+    ensures ill_laid { result ≡ 6 → (error : Flaw) × HasBadLayouts (command_of (texts words.now)) (F.seen files.old).told error
+        × Says (E.seen err.old).written (E.seen err.new).written (E.seen err.old).faults (E.seen err.new).faults (line (layout_parts error)) }
 
-    ensures nothing_out { result ≢ 0 → result ≢ 4 → S.written out.new ≡ S.written out.old }
-    ensures told { F.told files.new ≡ F.told files.old }
+    ensures nothing_out { result ≢ 0 → result ≢ 4 → (S.seen out.new).written ≡ (S.seen out.old).written }
+    ensures told { (F.seen files.new).told ≡ (F.seen files.old).told }
 
     // Where the words ask for a command and no fault rises, only the layout file, the work and memory decide.
     ensures finds { (asked : Walk) (core : List ℕ) (layouts : List Layout) → command_of (texts words.now) ≡ Some (walk asked)
-        → Tells (F.told files.old) asked.core core → TellsLayouts (F.told files.old) asked.layouts (Ok layouts)
+        → Tells (F.seen files.old).told asked.core core → TellsLayouts (F.seen files.old).told asked.layouts (Ok layouts)
         → IsFaultless asked core layouts
-        → F.failed files.new ≡ F.failed files.old → (Rose (S.faults out.old) (S.faults out.new) → ⊥)
+        → (F.seen files.new).failed ≡ (F.seen files.old).failed → (Rose (S.seen out.old).faults (S.seen out.new).faults → ⊥)
         → (result ≡ 0) ⊎ (result ≡ 5) }
     ensures fails { (asked : Walk) (core : List ℕ) (layouts : List Layout) (error : Cause)
         → command_of (texts words.now) ≡ Some (walk asked)
-        → Tells (F.told files.old) asked.core core → TellsLayouts (F.told files.old) asked.layouts (Ok layouts)
+        → Tells (F.seen files.old).told asked.core core → TellsLayouts (F.seen files.old).told asked.layouts (Ok layouts)
         → error ≢ CoreError.OutOfMemory → Works (walk asked) core layouts (Err error)
-        → F.failed files.new ≡ F.failed files.old
+        → (F.seen files.new).failed ≡ (F.seen files.old).failed
         → (result ≡ 1) ⊎ (result ≡ 5) }
     ensures flawed { (asked : Walk) (error : Flaw) → command_of (texts words.now) ≡ Some (walk asked)
-        → TellsLayouts (F.told files.old) asked.layouts (Err error) → error ≢ LayoutError.OutOfMemory
-        → F.failed files.new ≡ F.failed files.old
+        → TellsLayouts (F.seen files.old).told asked.layouts (Err error) → error ≢ LayoutError.OutOfMemory
+        → (F.seen files.new).failed ≡ (F.seen files.old).failed
         → (result ≡ 6) ⊎ (result ≡ 5) }
     ensures complete { (command : Asked) → command_of (texts words.now) ≡ Some command
-        → F.failed files.new ≡ F.failed files.old → (Rose (S.faults out.old) (S.faults out.new) → ⊥)
+        → (F.seen files.new).failed ≡ (F.seen files.old).failed → (Rose (S.seen out.old).faults (S.seen out.new).faults → ⊥)
         → (result ≡ 0) ⊎ (result ≡ 1) ⊎ (result ≡ 5) ⊎ (result ≡ 6) }
 {
     match execute(alloc, words, files, out) {

@@ -3,7 +3,7 @@ ghost use Rattle.std.specs.Prelude.{◌≡◌, IfOk};
 ghost use Rattle.image_memory.specs.Pieces.{memory_of};
 ghost use Rattle.core_report.specs.Answer.{Means, traced};
 
-use crate::CoreError;
+use py_process::CoreError;
 use elf64_core::Text;
 use image_memory::CoreDump;
 use py_layout::{Layouts, Version};

@@ -6,14 +6,13 @@
 
 mod command;
 mod core_walk;
-mod error;
 mod lines;
 mod text;
 mod words;
 
 pub use command::run;
 pub use core_walk::walk;
-pub use error::CoreError;
+pub use py_process::CoreError;
 
 #[cfg(test)]
 mod family_tests;

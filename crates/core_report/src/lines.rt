@@ -4,7 +4,7 @@ ghost use Rattle.std.specs.Fmt.{digits, digit_glyph, signed_decimal};
 ghost use Rattle.py_version.specs.Version.{metadata_text, version_text};
 ghost use Rattle.core_report.specs.Lines.{Says, address, core_parts, file_parts, joined, layout_parts, line, range_parts};
 
-use crate::CoreError;
+use py_process::CoreError;
 use elf64_core::Text;
 use image_memory::{FileFault, Sink};
 use itoa::Buffer;
@@ -16,7 +16,7 @@ const END: &[u8] = b"\n";
 
 /// Writes the pieces, up to the first that fails.
 fn say<E: Sink>(err: &mut E, pieces: &[&[u8]])
-    ensures { Says (E.written err.old) (E.written err.new) (E.faults err.old) (E.faults err.new) (joined pieces.now) }
+    ensures { Says (E.seen err.old).written (E.seen err.new).written (E.seen err.old).faults (E.seen err.new).faults (joined pieces.now) }
 {
     for piece in pieces {
         match err.write(piece) {
@@ -55,21 +55,21 @@ fn glyph(digit: u8) -> u8
 
 /// A line of one text.
 pub(crate) fn say_text<E: Sink>(err: &mut E, text: &str)
-    ensures { Says (E.written err.old) (E.written err.new) (E.faults err.old) (E.faults err.new) (line (text.now ∷ [])) }
+    ensures { Says (E.seen err.old).written (E.seen err.new).written (E.seen err.old).faults (E.seen err.new).faults (line (text.now ∷ [])) }
 {
     say(err, &[PREFIX, text.as_bytes(), END]);
 }
 
 /// A line of a text and a name.
 fn say_name<E: Sink>(err: &mut E, text: &str, name: &[u8])
-    ensures { Says (E.written err.old) (E.written err.new) (E.faults err.old) (E.faults err.new) (line (text.now ∷ name.now ∷ [])) }
+    ensures { Says (E.seen err.old).written (E.seen err.new).written (E.seen err.old).faults (E.seen err.new).faults (line (text.now ∷ name.now ∷ [])) }
 {
     say(err, &[PREFIX, text.as_bytes(), name, END]);
 }
 
 /// A line of a text and so many bytes at an address.
 fn say_range<E: Sink>(err: &mut E, text: &str, addr: u64, len: u64)
-    ensures { Says (E.written err.old) (E.written err.new) (E.faults err.old) (E.faults err.new) (line (range_parts text.now addr len)) }
+    ensures { Says (E.seen err.old).written (E.seen err.new).written (E.seen err.old).faults (E.seen err.new).faults (line (range_parts text.now addr len)) }
 {
     let mut digits = [0; 16];
     let at = hex(addr, &mut digits);
@@ -93,7 +93,7 @@ fn say_range<E: Sink>(err: &mut E, text: &str, addr: u64, len: u64)
 
 /// A line of a text and an address.
 fn say_address<E: Sink>(err: &mut E, text: &str, addr: u64)
-    ensures { Says (E.written err.old) (E.written err.new) (E.faults err.old) (E.faults err.new) (line (text.now ∷ address addr ∷ [])) }
+    ensures { Says (E.seen err.old).written (E.seen err.new).written (E.seen err.old).faults (E.seen err.new).faults (line (text.now ∷ address addr ∷ [])) }
 {
     let mut digits = [0; 16];
     let at = hex(addr, &mut digits);
@@ -112,7 +112,7 @@ fn metadata_pieces(metadata: &Option<Text>) -> (&[u8], &[u8])
 
 /// The line of a version that no layout covers.
 fn say_version<E: Sink>(err: &mut E, version: &Version)
-    ensures { Says (E.written err.old) (E.written err.new) (E.faults err.old) (E.faults err.new)
+    ensures { Says (E.seen err.old).written (E.seen err.new).written (E.seen err.old).faults (E.seen err.new).faults
         (line (codes "no layout for Python " ∷ version_text version.now ∷ [])) }
 {
     let mut major = Buffer::new();
@@ -139,7 +139,7 @@ fn say_version<E: Sink>(err: &mut E, version: &Version)
 
 /// The line of a count of locals.
 fn say_locals<E: Sink>(err: &mut E, count: &i32)
-    ensures { Says (E.written err.old) (E.written err.new) (E.faults err.old) (E.faults err.new)
+    ensures { Says (E.seen err.old).written (E.seen err.new).written (E.seen err.old).faults (E.seen err.new).faults
         (line (codes "a frame counts " ∷ signed_decimal count.now ∷ codes " locals" ∷ [])) }
 {
     let count = *count;
@@ -159,7 +159,7 @@ fn say_locals<E: Sink>(err: &mut E, count: &i32)
 
 /// The line of a file that could not be read.
 pub(crate) fn say_file<E: Sink>(err: &mut E, name: &str, fault: FileFault)
-    ensures { Says (E.written err.old) (E.written err.new) (E.faults err.old) (E.faults err.new) (line (file_parts name.now fault)) }
+    ensures { Says (E.seen err.old).written (E.seen err.new).written (E.seen err.old).faults (E.seen err.new).faults (line (file_parts name.now fault)) }
 {
     match fault {
         FileFault::Failed => say_name(err, "cannot read ", name.as_bytes()),
@@ -170,7 +170,7 @@ pub(crate) fn say_file<E: Sink>(err: &mut E, name: &str, fault: FileFault)
 
 /// The line of a core that gives no stacks.
 pub(crate) fn say_core<E: Sink>(err: &mut E, error: &CoreError)
-    ensures { Says (E.written err.old) (E.written err.new) (E.faults err.old) (E.faults err.new) (line (core_parts error.now)) }
+    ensures { Says (E.seen err.old).written (E.seen err.new).written (E.seen err.old).faults (E.seen err.new).faults (line (core_parts error.now)) }
 {
     match error {
         CoreError::NotElf64 => say_text(err, "not an ELF64 little-endian file"),
@@ -204,7 +204,7 @@ pub(crate) fn say_core<E: Sink>(err: &mut E, error: &CoreError)
 
 /// The line of two tables that cover one version.
 fn say_clash<E: Sink>(err: &mut E, first: u64, second: u64)
-    ensures { Says (E.written err.old) (E.written err.new) (E.faults err.old) (E.faults err.new)
+    ensures { Says (E.seen err.old).written (E.seen err.new).written (E.seen err.old).faults (E.seen err.new).faults
         (line (codes "layouts: tables " ∷ decimal first ∷ codes " and " ∷ decimal second ∷ codes " clash" ∷ [])) }
 {
     let mut one = Buffer::new();
@@ -227,7 +227,7 @@ fn say_clash<E: Sink>(err: &mut E, first: u64, second: u64)
 
 /// The line of layouts that are refused.
 pub(crate) fn say_layouts<E: Sink>(err: &mut E, error: &LayoutError)
-    ensures { Says (E.written err.old) (E.written err.new) (E.faults err.old) (E.faults err.new) (line (layout_parts error.now)) }
+    ensures { Says (E.seen err.old).written (E.seen err.new).written (E.seen err.old).faults (E.seen err.new).faults (line (layout_parts error.now)) }
 {
     let mut buffer = Buffer::new();
     match error {

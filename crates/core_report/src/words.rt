@@ -1,7 +1,7 @@
 //! The words of the command line.
 ghost use Rattle.std.specs.Prelude.{◌≡◌, ◌≤◌, ◌∷◌, [], option_map, IfOk};
 ghost use Rattle.core_report.specs.Words.{command_of, digits_in, number_of, release_by, release_of, source_of, split_at_dot, texts, walk_by, walk_words};
-ghost use Rattle.core_report.specs.Seen.{command_at, source_at, version_at, walk_at};
+ghost use Rattle.core_report.specs.Seen.{asked_command, asked_source, asked_version, asked_walk};
 
 use elf64_core::Text;
 use py_layout::Version;
@@ -45,7 +45,7 @@ pub(crate) struct Release {
 impl Release {
     /// The same as a version, with no flags and no metadata.
     pub(crate) fn version(&self, alloc: Global) -> Result<Version, AllocError>
-        ensures { IfOk result (λ version. version ≡ version_at self.now) }
+        ensures { IfOk result (λ version. version ≡ asked_version self.now) }
     {
         let release_flags = Text::of(alloc, "")?;
         Ok(Version {
@@ -81,7 +81,7 @@ fn number_of(word: &str) -> Option<u64>
 }
 
 fn release_by(major: Option<u64>, minor: Option<u64>, patch: Option<u64>) -> Option<Release>
-    ensures { option_map version_at result ≡ release_by major minor patch }
+    ensures { option_map asked_version result ≡ release_by major minor patch }
 {
     match (major, minor, patch) {
         (Some(major), Some(minor), Some(patch)) => Some(Release {
@@ -101,7 +101,7 @@ fn split_at_dot(word: &str) -> Option<(&str, &str)>
 
 /// Three runs of 1 to 3 digits joined by dots.
 fn release_of(word: &str) -> Option<Release>
-    ensures { option_map version_at result ≡ release_of word.now }
+    ensures { option_map asked_version result ≡ release_of word.now }
 {
     let Some((major, rest)) = split_at_dot(word) else {
         return None;
@@ -118,7 +118,7 @@ fn release_of(word: &str) -> Option<Release>
 
 /// The word `sample`, or else a file's name.
 fn source_of(word: &str) -> LayoutSource<'_>
-    ensures { source_at result ≡ source_of word.now }
+    ensures { asked_source result ≡ source_of word.now }
 {
     if word == "sample" {
         LayoutSource::Sample
@@ -134,7 +134,7 @@ fn walk_by<'a>(
     interp: Option<u64>,
     lock: Option<u64>,
 ) -> Option<WalkWords<'a>>
-    ensures { option_map walk_at result ≡ walk_by core.now (source_at layouts.entry) (option_map version_at version) interp lock }
+    ensures { option_map asked_walk result ≡ walk_by core.now (asked_source layouts.entry) (option_map asked_version version) interp lock }
 {
     match (version, interp, lock) {
         (Some(version), Some(interpreter), Some(lock)) => Some(WalkWords {
@@ -149,7 +149,7 @@ fn walk_by<'a>(
 
 /// `CORE LAYOUTS VERSION INTERP LOCK`
 fn walk_words(words: &[String]) -> Option<WalkWords<'_>>
-    ensures { option_map walk_at result ≡ walk_words (texts words.now) }
+    ensures { option_map asked_walk result ≡ walk_words (texts words.now) }
 {
     if words.len() != 5 {
         return None;
@@ -170,7 +170,7 @@ fn walk_of<'a>(
     interp: &str,
     lock: &str,
 ) -> Option<WalkWords<'a>>
-    ensures { option_map walk_at result ≡ walk_words (core.now ∷ layouts.now ∷ version.now ∷ interp.now ∷ lock.now ∷ []) }
+    ensures { option_map asked_walk result ≡ walk_words (core.now ∷ layouts.now ∷ version.now ∷ interp.now ∷ lock.now ∷ []) }
 {
     walk_by(
         core,
@@ -183,7 +183,7 @@ fn walk_of<'a>(
 
 /// `walk CORE LAYOUTS VERSION INTERP LOCK`
 pub(crate) fn read_words(words: &[String]) -> Option<Command<'_>>
-    ensures { option_map command_at result ≡ command_of (texts words.now) }
+    ensures { option_map asked_command result ≡ command_of (texts words.now) }
 {
     let [name, rest @ ..] = words else {
         return None;

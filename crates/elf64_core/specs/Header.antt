@@ -2,7 +2,7 @@
 -- files. What a file must be to be read at all is stricter than the gABI: each part that may be read later
 -- lies in the file, so that nothing is found missing then.
 use Rattle.std.specs.Prelude.{◌≡◌, ◌≢◌, ◌⊎◌, ℕ, zero, suc, ◌+◌, ◌-◌, ◌*◌, ◌≤◌, ◌^◌, nat_eq, if◌then◌else◌, List, [], ◌∷◌, length, take, All}
-use Rattle.elf64_core.specs.Fields.{word_in, half_in, quarter_in}
+use Rattle.elf64_core.specs.Fields.{u64_in, u32_in, u16_in}
 use Rattle.elf64_core.specs.declared.segment.Segment.{Segment}
 use Rattle.elf64_core.specs.declared.header.Machine.{Machine}
 use Rattle.elf64_core.specs.declared.header.Machine.TheVariants.{X86_64, Aarch64, Other}
@@ -18,30 +18,30 @@ pub record IsElf64 (bytes : List ℕ) : Type 0 where
 
 -- where the program headers are, how long each is, and how many there are
 abbrev pub program_table : List ℕ → ℕ
-program_table bytes = word_in bytes 32
+program_table bytes = u64_in bytes 32
 
 abbrev pub entry_size : List ℕ → ℕ
-entry_size bytes = quarter_in bytes 54
+entry_size bytes = u16_in bytes 54
 
 abbrev pub segment_count : List ℕ → ℕ
-segment_count bytes = quarter_in bytes 56
+segment_count bytes = u16_in bytes 56
 
 -- the machine that the header names
 abbrev pub machine_named : ℕ → Machine
 machine_named number = if nat_eq number 62 then X86_64 else (if nat_eq number 183 then Aarch64 else Other)
 
 abbrev pub machine_of : List ℕ → Machine
-machine_of bytes = machine_named (quarter_in bytes 18)
+machine_of bytes = machine_named (u16_in bytes 18)
 
 -- the segment that the program header at an offset describes
 unfoldable pub segment_in : List ℕ → ℕ → Segment
 segment_in bytes at = record {
-  kind = half_in bytes at;
-  flags = half_in bytes (at + 4);
-  offset = word_in bytes (at + 8);
-  addr = word_in bytes (at + 16);
-  file_size = word_in bytes (at + 32);
-  mem_size = word_in bytes (at + 40);
+  kind = u32_in bytes at;
+  flags = u32_in bytes (at + 4);
+  offset = u64_in bytes (at + 8);
+  addr = u64_in bytes (at + 16);
+  file_size = u64_in bytes (at + 32);
+  mem_size = u64_in bytes (at + 40);
 }
 
 -- those of program headers that follow each other, 56 bytes each
@@ -76,11 +76,11 @@ pub record HasProgramTable (bytes : List ℕ) : Type 0 where
   pub inside : IsInside bytes (program_table bytes) (56 * segment_count bytes)
 
 -- a file whose program headers, and the segments that they describe, can be read
-pub record IsReadable (bytes : List ℕ) : Type 0 where
+pub record HasSegments (bytes : List ℕ) : Type 0 where
   pub table : HasProgramTable bytes
   pub segments : All (FitsFile bytes) (segments_of bytes)
 
 -- a file that is accepted
 pub record IsAccepted (bytes : List ℕ) : Type 0 where
   pub header : IsElf64 bytes
-  pub readable : IsReadable bytes
+  pub readable : HasSegments bytes

@@ -1,10 +1,10 @@
 //! The header of an ELF64 file.
 ghost use Rattle.std.specs.Prelude.{◌≡◌, ◌↔◌, ◌⊎◌, ◌+◌, ◌*◌, ◌≤◌, List, ℕ, IsTrue, IfOk, IfErr, IsErrOf, All, length};
-ghost use Rattle.elf64_core.specs.Header.{IsElf64, HasProgramTable, IsReadable, IsAccepted, FitsFile, machine_of, segments_of, segments_from, program_table, segment_count};
+ghost use Rattle.elf64_core.specs.Header.{IsElf64, HasProgramTable, HasSegments, IsAccepted, FitsFile, machine_of, segments_of, segments_from, program_table, segment_count};
 ghost use Rattle.elf64_core.specs.Rest.{segments_left};
 
 use crate::ElfError;
-use crate::fields::{quarter_in, word_in};
+use crate::fields::{u16_in, u64_in};
 use crate::segment::{ENTRY_SIZE, Segments, fits_file, is_inside};
 use std::marker::Model;
 
@@ -45,10 +45,10 @@ fn has_program_table(bytes: &[u8]) -> bool
     requires { 64 ≤ length bytes.now }
     ensures { IsTrue result ↔ HasProgramTable bytes.now }
 {
-    let count = quarter_in(bytes, 56);
+    let count = u16_in(bytes, 56);
     count != 0xffff
-        && (count == 0 || quarter_in(bytes, 54) == 56)
-        && is_inside(bytes, word_in(bytes, 32), 56 * count as u64)
+        && (count == 0 || u16_in(bytes, 54) == 56)
+        && is_inside(bytes, u64_in(bytes, 32), 56 * count as u64)
 }
 
 /// The segments of a file whose program headers lie in it.
@@ -58,11 +58,11 @@ fn table(bytes: &[u8]) -> Segments<'_>
     requires held { HasProgramTable bytes.now }
     ensures { segments_left result ≡ segments_of bytes.now }
 {
-    let count = quarter_in(bytes, 56) as usize;
+    let count = u16_in(bytes, 56) as usize;
     if count == 0 {
         return Segments::new(bytes, 0, 0);
     }
-    Segments::new(bytes, word_in(bytes, 32) as usize, count)
+    Segments::new(bytes, u64_in(bytes, 32) as usize, count)
 }
 
 /// Whether all segments fit the file.
@@ -82,7 +82,7 @@ impl<'a> Elf64<'a> {
     /// lie in the file; or a load segment's memory passes 2^64 - 1. Nothing else comes.
     pub fn parse(bytes: &'a [u8]) -> Result<Elf64<'a>, ElfError>
         ensures not_elf { IsErrOf result ElfError.NotElf64 ↔ (¬ IsElf64 bytes.now) }
-        ensures bad { IsErrOf result ElfError.BadHeader ↔ (IsElf64 bytes.now × ¬ IsReadable bytes.now) }
+        ensures bad { IsErrOf result ElfError.BadHeader ↔ (IsElf64 bytes.now × ¬ HasSegments bytes.now) }
         ensures only { IfErr result (λ error. (error ≡ ElfError.NotElf64) ⊎ (error ≡ ElfError.BadHeader)) }
         ensures same { IfOk result (λ elf. elf ≡ bytes.now) }
         ensures accepted { IfOk result (λ elf. IsAccepted bytes.now) }
@@ -100,7 +100,7 @@ impl<'a> Elf64<'a> {
     pub fn machine(&self) -> Machine
         ensures { result ≡ machine_of self.now }
     {
-        match quarter_in(self.bytes, 18) {
+        match u16_in(self.bytes, 18) {
             62 => Machine::X86_64,
             183 => Machine::Aarch64,
             _ => Machine::Other,

@@ -16,7 +16,7 @@ mod tests;
 mod text;
 
 pub use error::ElfError;
-pub use fields::{half_in, quarter_in, word_in};
+pub use fields::{u16_in, u32_in, u64_in};
 pub use header::{Elf64, Machine};
 pub use name::Name;
 pub use segment::{LOAD, NOTE, Segment, Segments};

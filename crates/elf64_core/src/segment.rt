@@ -3,7 +3,7 @@ ghost use Rattle.std.specs.Prelude.{◌≡◌, ◌+◌, ◌*◌, ◌≤◌, ◌�
 ghost use Rattle.std.specs.Iterator.{YieldsFirst, item_count};
 ghost use Rattle.elf64_core.specs.Header.{segment_in, segments_from, IsInside, FitsFile};
 
-use crate::fields::{half_in, word_in};
+use crate::fields::{u32_in, u64_in};
 
 /// The length of a program header, in bytes.
 pub(crate) const ENTRY_SIZE: usize = 56;
@@ -38,12 +38,12 @@ fn segment_in(bytes: &[u8], at: usize) -> Segment
     ensures { result ≡ segment_in bytes.now at }
 {
     Segment {
-        kind: half_in(bytes, at),
-        flags: half_in(bytes, at + 4),
-        offset: word_in(bytes, at + 8),
-        addr: word_in(bytes, at + 16),
-        file_size: word_in(bytes, at + 32),
-        mem_size: word_in(bytes, at + 40),
+        kind: u32_in(bytes, at),
+        flags: u32_in(bytes, at + 4),
+        offset: u64_in(bytes, at + 8),
+        addr: u64_in(bytes, at + 16),
+        file_size: u64_in(bytes, at + 32),
+        mem_size: u64_in(bytes, at + 40),
     }
 }
 

@@ -2,7 +2,7 @@
 ghost use Rattle.std.specs.Prelude.{◌≡◌, ◌<◌};
 
 use crate::{
-    Elf64, ElfError, LOAD, Machine, NOTE, Name, Segment, Steps, Text, half_in, quarter_in, word_in,
+    Elf64, ElfError, LOAD, Machine, NOTE, Name, Segment, Steps, Text, u16_in, u32_in, u64_in,
 };
 use std::alloc::{AllocError, Global};
 use std::cmp::Ordering;
@@ -219,9 +219,9 @@ fn machines_and_segments_are_those_of_the_headers(rt: HostRuntime) -> Result<(),
 #[test]
 fn numbers_stand_low_byte_first(rt: HostRuntime) {
     let bytes = [0xff, 1, 2, 3, 4, 5, 6, 7, 0x88];
-    assert_eq!(rt; word_in(&bytes, 1), 0x8807_0605_0403_0201);
-    assert_eq!(rt; half_in(&bytes, 1), 0x0403_0201);
-    assert_eq!(rt; quarter_in(&bytes, 7), 0x8807);
+    assert_eq!(rt; u64_in(&bytes, 1), 0x8807_0605_0403_0201);
+    assert_eq!(rt; u32_in(&bytes, 1), 0x0403_0201);
+    assert_eq!(rt; u16_in(&bytes, 7), 0x8807);
 }
 
 fn hash_of<T: Hash>(value: &T) -> u64 {

@@ -1,11 +1,12 @@
 //! A core dump: the file of a dead process's memory.
 ghost use Rattle.std.specs.Prelude.{◌≡◌, ◌↔◌, ◌⊎◌, List, ℕ, IfOk, IfErr, IsErrOf};
-ghost use Rattle.elf64_core.specs.Header.{IsElf64, IsReadable, IsAccepted};
+ghost use Rattle.elf64_core.specs.Header.{IsElf64, HasSegments, IsAccepted};
 ghost use Rattle.image_memory.specs.Pieces.{loads_of, memory_of};
-ghost use Rattle.image_memory.specs.Layers.{plain};
+ghost use Rattle.process_memory.specs.Layers.{plain};
 
-use crate::{DumpError, ProcessMemory, View};
+use crate::{DumpError, View};
 use elf64_core::{Elf64, LOAD, Segment};
+use process_memory::ProcessMemory;
 use std::alloc::Global;
 use std::marker::Model;
 
@@ -29,7 +30,7 @@ impl Model for CoreDump {
 /// The load segments of a core, in table order.
 fn load_segments(alloc: Global, bytes: &[u8]) -> Result<Vec<Segment>, DumpError>
     ensures not_elf { IsErrOf result DumpError.NotElf64 ↔ (¬ IsElf64 bytes.now) }
-    ensures bad { IsErrOf result DumpError.BadHeader ↔ (IsElf64 bytes.now × ¬ IsReadable bytes.now) }
+    ensures bad { IsErrOf result DumpError.BadHeader ↔ (IsElf64 bytes.now × ¬ HasSegments bytes.now) }
     ensures only { IfErr result (λ error. (error ≡ DumpError.NotElf64) ⊎ (error ≡ DumpError.BadHeader) ⊎ (error ≡ DumpError.OutOfMemory)) }
     ensures accepted { IfOk result (λ loads. IsAccepted bytes.now) }
     ensures loads { IfOk result (λ loads. loads.items ≡ loads_of bytes.now) }
@@ -50,7 +51,7 @@ impl CoreDump {
     /// `Elf64::parse`. Else the one error is want of memory.
     pub fn new(alloc: Global, bytes: Vec<u8>) -> Result<CoreDump, DumpError>
         ensures not_elf { IsErrOf result DumpError.NotElf64 ↔ (¬ IsElf64 bytes.items) }
-        ensures bad { IsErrOf result DumpError.BadHeader ↔ (IsElf64 bytes.items × ¬ IsReadable bytes.items) }
+        ensures bad { IsErrOf result DumpError.BadHeader ↔ (IsElf64 bytes.items × ¬ HasSegments bytes.items) }
         ensures only { IfErr result (λ error. (error ≡ DumpError.NotElf64) ⊎ (error ≡ DumpError.BadHeader) ⊎ (error ≡ DumpError.OutOfMemory)) }
         ensures same { IfOk result (λ core. core ≡ bytes.items) }
         ensures accepted { IfOk result (λ core. IsAccepted bytes.items) }

@@ -1,11 +1,10 @@
 //! The memory of a core, over its bytes.
 ghost use Rattle.std.specs.Prelude.{◌≡◌, map};
 ghost use Rattle.image_memory.specs.Pieces.{segment_region};
-ghost use Rattle.image_memory.specs.Layers.{plain};
+ghost use Rattle.process_memory.specs.Layers.{plain};
 
-use crate::pieces::{Pieces, read_pieces};
-use crate::{ProcessMemory, ReadFault};
 use elf64_core::Segment;
+use process_memory::{Pieces, ProcessMemory, ReadFault, read_pieces};
 
 /// The memory of a core, over the core's own bytes: one piece for each load segment, in table order.
 #[derive(Drop)]

@@ -8,7 +8,7 @@ use Rattle.py_fields.specs.declared.layout.Layout.{Layout}
 use Rattle.py_fields.specs.Sound.{IsSound}
 use Rattle.py_layout.specs.Lists.{AreSound, IsFirstUnsound, IsFirstClash, IsOfList}
 use Rattle.py_layout.specs.Keys.{the_keys}
-use Rattle.py_layout.specs.File.{IsToml, FileSays, HasFault, HasUnsound, HasClash, HasLayouts, IsErrorFor, IsRightFor, IsUnlessMemory, IsOfText, file_fault, layouts_of}
+use Rattle.py_layout.specs.File.{IsToml, FileSays, HasFlaw, HasUnsound, HasClash, HasLayouts, IsErrorFor, IsRightFor, IsUnlessMemory, IsOfText, file_flaw, layouts_of}
 use Rattle.py_layout.proofs.Judging.{unsound-not_all, unsound-unique, clash-not_apart, clash-unique}
 
 abbrev refused : LayoutError → Result (List Layout) LayoutError
@@ -17,15 +17,15 @@ refused error = Err error
 toml-unique : (text : List ℕ) (a b : Members) → IsToml text a → IsToml text b → a ≡ b
 toml-unique text a b one other = let both : Some a ≡ Some b = sym one.document ∙ other.document in cc
 
-abbrev no_fault : Option (ℕ × List ℕ)
-no_fault = None
+abbrev no_flaw : Option (ℕ × List ℕ)
+no_flaw = None
 
 says-unique : (text : List ℕ) (l m : List Layout) → FileSays text l → FileSays text m → l ≡ m
 says-unique text l m one other =
     one.says ∙ ap layouts_of (toml-unique text one.members other.members one.toml other.toml) ∙ sym other.says
 
-abbrev fault_at : ℕ → List ℕ → Option (ℕ × List ℕ)
-fault_at n name = Some (n, name)
+abbrev flaw_at : ℕ → List ℕ → Option (ℕ × List ℕ)
+flaw_at n name = Some (n, name)
 
 abbrev number_of : Option (ℕ × List ℕ) → ℕ
 number_of None = 0
@@ -35,16 +35,16 @@ abbrev name_of : Option (ℕ × List ℕ) → List ℕ
 name_of None = []
 name_of (Some f) = f.1
 
-says-no_fault : (text : List ℕ) (l : List Layout) (n : ℕ) (key : List ℕ) → FileSays text l → HasFault text n key → ⊥
-says-no_fault text l n key says bad =
-    let both : no_fault ≡ fault_at n bad.name =
-    sym says.whole ∙ ap (file_fault the_keys) (toml-unique text says.members bad.members says.toml bad.toml) ∙ bad.fault in
+says-no_flaw : (text : List ℕ) (l : List Layout) (n : ℕ) (key : List ℕ) → FileSays text l → HasFlaw text n key → ⊥
+says-no_flaw text l n key says bad =
+    let both : no_flaw ≡ flaw_at n bad.name =
+    sym says.whole ∙ ap (file_flaw the_keys) (toml-unique text says.members bad.members says.toml bad.toml) ∙ bad.flaw in
     cc
 
-fault-unique : (text : List ℕ) (n p : ℕ) (key name : List ℕ) → HasFault text n key → HasFault text p name → refused (Shape n key) ≡ refused (Shape p name)
-fault-unique text n p key name one other =
-    let both : fault_at n one.name ≡ fault_at p other.name =
-    sym one.fault ∙ ap (file_fault the_keys) (toml-unique text one.members other.members one.toml other.toml) ∙ other.fault in
+flaw-unique : (text : List ℕ) (n p : ℕ) (key name : List ℕ) → HasFlaw text n key → HasFlaw text p name → refused (Shape n key) ≡ refused (Shape p name)
+flaw-unique text n p key name one other =
+    let both : flaw_at n one.name ≡ flaw_at p other.name =
+    sym one.flaw ∙ ap (file_flaw the_keys) (toml-unique text one.members other.members one.toml other.toml) ∙ other.flaw in
     let number : n ≡ p = ap number_of both in
     let named : key ≡ name = one.named ∙ ap chars (ap name_of both) ∙ sym other.named in
     ap (λ k. refused (Shape k key)) number ∙ ap (λ k. refused (Shape p k)) named
@@ -74,7 +74,7 @@ same_clash text i j x y one other =
 pub right-unique : (text : List ℕ) (result answer : Result (List Layout) LayoutError) → IsRightFor text result → IsRightFor text answer → answer ≢ Err OutOfMemory → IsUnlessMemory answer result
 right-unique text (Ok l) (Ok m) h g ne = inl (ap Ok (says-unique text l m h.says g.says))
 right-unique text (Ok l) (Err NotToml) h g ne = absurd (g (h.says.members, h.says.toml))
-right-unique text (Ok l) (Err (Shape p name)) h g ne = absurd (says-no_fault text l p name h.says g)
+right-unique text (Ok l) (Err (Shape p name)) h g ne = absurd (says-no_flaw text l p name h.says g)
 right-unique text (Ok l) (Err (Unsound p)) h g ne = absurd (sound-not_unsound text l p h g)
 right-unique text (Ok l) (Err (Clash x y)) h g ne = absurd (sound-no_clash text l x y h g)
 right-unique text (Ok l) (Err OutOfMemory) h g ne = absurd (ne refl)
@@ -84,21 +84,21 @@ right-unique text (Err NotToml) (Err (Shape p name)) h g ne = absurd (h (g.membe
 right-unique text (Err NotToml) (Err (Unsound p)) h g ne = absurd (h (g.says.members, g.says.toml))
 right-unique text (Err NotToml) (Err (Clash x y)) h g ne = absurd (h (g.says.members, g.says.toml))
 right-unique text (Err NotToml) (Err OutOfMemory) h g ne = absurd (ne refl)
-right-unique text (Err (Shape n key)) (Ok m) h g ne = absurd (says-no_fault text m n key g.says h)
+right-unique text (Err (Shape n key)) (Ok m) h g ne = absurd (says-no_flaw text m n key g.says h)
 right-unique text (Err (Shape n key)) (Err NotToml) h g ne = absurd (g (h.members, h.toml))
-right-unique text (Err (Shape n key)) (Err (Shape p name)) h g ne = inl (fault-unique text n p key name h g)
-right-unique text (Err (Shape n key)) (Err (Unsound p)) h g ne = absurd (says-no_fault text g.list n key g.says h)
-right-unique text (Err (Shape n key)) (Err (Clash x y)) h g ne = absurd (says-no_fault text g.list n key g.says h)
+right-unique text (Err (Shape n key)) (Err (Shape p name)) h g ne = inl (flaw-unique text n p key name h g)
+right-unique text (Err (Shape n key)) (Err (Unsound p)) h g ne = absurd (says-no_flaw text g.list n key g.says h)
+right-unique text (Err (Shape n key)) (Err (Clash x y)) h g ne = absurd (says-no_flaw text g.list n key g.says h)
 right-unique text (Err (Shape n key)) (Err OutOfMemory) h g ne = absurd (ne refl)
 right-unique text (Err (Unsound n)) (Ok m) h g ne = absurd (sound-not_unsound text m n g h)
 right-unique text (Err (Unsound n)) (Err NotToml) h g ne = absurd (g (h.says.members, h.says.toml))
-right-unique text (Err (Unsound n)) (Err (Shape p name)) h g ne = absurd (says-no_fault text h.list p name h.says g)
+right-unique text (Err (Unsound n)) (Err (Shape p name)) h g ne = absurd (says-no_flaw text h.list p name h.says g)
 right-unique text (Err (Unsound n)) (Err (Unsound p)) h g ne = inl (ap (λ k. Err (Unsound k)) (same_unsound text n p h g))
 right-unique text (Err (Unsound n)) (Err (Clash x y)) h g ne = absurd (unsound-no_clash text n x y h g)
 right-unique text (Err (Unsound n)) (Err OutOfMemory) h g ne = absurd (ne refl)
 right-unique text (Err (Clash i j)) (Ok m) h g ne = absurd (sound-no_clash text m i j g h)
 right-unique text (Err (Clash i j)) (Err NotToml) h g ne = absurd (g (h.says.members, h.says.toml))
-right-unique text (Err (Clash i j)) (Err (Shape p name)) h g ne = absurd (says-no_fault text h.list p name h.says g)
+right-unique text (Err (Clash i j)) (Err (Shape p name)) h g ne = absurd (says-no_flaw text h.list p name h.says g)
 right-unique text (Err (Clash i j)) (Err (Unsound p)) h g ne = absurd (unsound-no_clash text p i j g h)
 right-unique text (Err (Clash i j)) (Err (Clash x y)) h g ne = inl (same_clash text i j x y h g)
 right-unique text (Err (Clash i j)) (Err OutOfMemory) h g ne = absurd (ne refl)

@@ -8,7 +8,7 @@ use Rattle.toml.specs.declared.value.Value.{Value}
 use Rattle.py_fields.specs.declared.layout.Layout.{Layout}
 use Rattle.py_layout.specs.Keys.{Key}
 use Rattle.py_layout.specs.Reading.{layout_of}
-use Rattle.py_layout.specs.File.{element_fault, first_fault, layouts_in}
+use Rattle.py_layout.specs.File.{element_flaw, first_flaw, layouts_in}
 
 next : (vs : List Value) (i : ℕ) → drop (i + 1) vs ≡ drop (suc i) vs
 next vs i = ap (λ k. drop k vs) (add-one i)
@@ -17,18 +17,18 @@ items-at : (vs : List Value) (i : ℕ) (v : Value) → i < length vs → v ≡ g
 items-at vs i v h is =
     ap items_view (drop-cons vs i v h) ∙ ap (λ w. item (view w) (items_view (drop (suc i) vs))) (sym is) ∙ ap (λ ds. item (view v) (items_view ds)) (sym (next vs i))
 
-pub first_fault-hit : (keys : List Key) (vs : List Value) (i : ℕ) (v : Value) (key : List ℕ) → i < length vs → v ≡ get_or vs i v → Some key ≡ element_fault keys (view v)
-    → Some (i, key) ≡ first_fault keys i (items_view (drop i vs))
-first_fault-hit keys vs i v key h is found =
-    sym (ap (first_fault keys i) (items-at vs i v h is) ∙ ap (λ o. option_or (option_map (λ k. (i, k)) o) (first_fault keys (i + 1) (items_view (drop (i + 1) vs)))) (sym found))
+pub first_flaw-hit : (keys : List Key) (vs : List Value) (i : ℕ) (v : Value) (key : List ℕ) → i < length vs → v ≡ get_or vs i v → Some key ≡ element_flaw keys (view v)
+    → Some (i, key) ≡ first_flaw keys i (items_view (drop i vs))
+first_flaw-hit keys vs i v key h is found =
+    sym (ap (first_flaw keys i) (items-at vs i v h is) ∙ ap (λ o. option_or (option_map (λ k. (i, k)) o) (first_flaw keys (i + 1) (items_view (drop (i + 1) vs)))) (sym found))
 
-pub first_fault-miss : (keys : List Key) (vs : List Value) (i : ℕ) (v : Value) → i < length vs → v ≡ get_or vs i v → None ≡ element_fault keys (view v)
-    → first_fault keys (i + 1) (items_view (drop (i + 1) vs)) ≡ first_fault keys i (items_view (drop i vs))
-first_fault-miss keys vs i v h is none =
-    sym (ap (first_fault keys i) (items-at vs i v h is) ∙ ap (λ o. option_or (option_map (λ k. (i, k)) o) (first_fault keys (i + 1) (items_view (drop (i + 1) vs)))) (sym none))
+pub first_flaw-miss : (keys : List Key) (vs : List Value) (i : ℕ) (v : Value) → i < length vs → v ≡ get_or vs i v → None ≡ element_flaw keys (view v)
+    → first_flaw keys (i + 1) (items_view (drop (i + 1) vs)) ≡ first_flaw keys i (items_view (drop i vs))
+first_flaw-miss keys vs i v h is none =
+    sym (ap (first_flaw keys i) (items-at vs i v h is) ∙ ap (λ o. option_or (option_map (λ k. (i, k)) o) (first_flaw keys (i + 1) (items_view (drop (i + 1) vs)))) (sym none))
 
-pub first_fault-end : (keys : List Key) (vs : List Value) (i n : ℕ) → length vs ≤ i → None ≡ first_fault keys n (items_view (drop i vs))
-first_fault-end keys vs i n h = sym (ap (λ ds. first_fault keys n (items_view ds)) (drop_all i vs h))
+pub first_flaw-end : (keys : List Key) (vs : List Value) (i n : ℕ) → length vs ≤ i → None ≡ first_flaw keys n (items_view (drop i vs))
+first_flaw-end keys vs i n h = sym (ap (λ ds. first_flaw keys n (items_view ds)) (drop_all i vs h))
 
 -- an element's layout, and where it is no table none
 table-layout : (d : Data) (ds : Items) (ms : Members) → Some ms ≡ as_table d → layouts_in (item d ds) ≡ layout_of ms ∷ layouts_in ds

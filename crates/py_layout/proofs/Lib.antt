@@ -1,4 +1,4 @@
 pub mod Judging
-pub mod Faulting
+pub mod FlawsFound
 pub mod Filing
 pub mod Answering

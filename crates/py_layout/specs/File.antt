@@ -1,4 +1,4 @@
--- What a layout file says, and its first fault.
+-- What a layout file says, and its first flaw.
 use Rattle.std.specs.Prelude.{◌≡◌, ◌⊎◌, ⊤, ℕ, ◌+◌, List, [], ◌∷◌, Bool, not, Option, Some, None, Result, Ok, Err, All, codes, bytes_eq, option_map, option_and_then}
 use Rattle.std.specs.Option.{option_or}
 use Rattle.std.specs.List.{find}
@@ -9,7 +9,7 @@ use Rattle.py_layout.specs.declared.error.LayoutError.{LayoutError}
 use Rattle.py_layout.specs.declared.error.LayoutError.TheVariants.{NotToml, Shape, Unsound, Clash, OutOfMemory}
 use Rattle.py_fields.specs.declared.layout.Layout.{Layout}
 use Rattle.py_layout.specs.Keys.{Key, the_keys}
-use Rattle.py_layout.specs.Faults.{names, table_fault}
+use Rattle.py_layout.specs.Flaws.{names, table_flaw}
 use Rattle.py_layout.specs.Reading.{layout_of}
 use Rattle.py_fields.specs.Sound.{IsSound}
 use Rattle.py_layout.specs.Lists.{AreSound, IsFirstUnsound, IsFirstClash}
@@ -18,15 +18,15 @@ use Rattle.py_layout.specs.Lists.{AreSound, IsFirstUnsound, IsFirstClash}
 abbrev pub elements_of : Members → Option Items
 elements_of ms = option_and_then as_array (get_member (codes "layout") ms)
 
--- the first fault of an element of the array; one that is no table is a fault itself
-abbrev pub element_fault : List Key → Data → Option (List ℕ)
-element_fault keys (table ms) = table_fault keys ms
-element_fault keys _ = Some (codes "layout")
+-- the first flaw of an element of the array; one that is no table is a flaw itself
+abbrev pub element_flaw : List Key → Data → Option (List ℕ)
+element_flaw keys (table ms) = table_flaw keys ms
+element_flaw keys _ = Some (codes "layout")
 
--- of the elements, of which the first has this number, the first with a fault: its number, and its first fault
-abbrev pub first_fault : List Key → ℕ → Items → Option (ℕ × List ℕ)
-first_fault keys n no_items = None
-first_fault keys n (item d ds) = option_or (option_map (λ key. (n, key)) (element_fault keys d)) (first_fault keys (n + 1) ds)
+-- of the elements, of which the first has this number, the first with a flaw: its number, and its first flaw
+abbrev pub first_flaw : List Key → ℕ → Items → Option (ℕ × List ℕ)
+first_flaw keys n no_items = None
+first_flaw keys n (item d ds) = option_or (option_map (λ key. (n, key)) (element_flaw keys d)) (first_flaw keys (n + 1) ds)
 
 -- the first name beside `layout`
 abbrev pub is_other : List ℕ → Bool
@@ -35,13 +35,13 @@ is_other name = not (bytes_eq name (codes "layout"))
 abbrev pub other_key : Members → Option (List ℕ)
 other_key ms = find is_other (names ms)
 
--- the first fault of a file: at its top, which counts as table 0, and then of its tables
-abbrev pub fault_among : List Key → Option (List ℕ) → Option Items → Option (ℕ × List ℕ)
-fault_among keys other None = Some (0, codes "layout")
-fault_among keys other (Some items) = option_or (option_map (λ key. (0, key)) other) (first_fault keys 0 items)
+-- the first flaw of a file: at its top, which counts as table 0, and then of its tables
+abbrev pub flaw_among : List Key → Option (List ℕ) → Option Items → Option (ℕ × List ℕ)
+flaw_among keys other None = Some (0, codes "layout")
+flaw_among keys other (Some items) = option_or (option_map (λ key. (0, key)) other) (first_flaw keys 0 items)
 
-abbrev pub file_fault : List Key → Members → Option (ℕ × List ℕ)
-file_fault keys ms = fault_among keys (other_key ms) (elements_of ms)
+abbrev pub file_flaw : List Key → Members → Option (ℕ × List ℕ)
+file_flaw keys ms = flaw_among keys (other_key ms) (elements_of ms)
 
 -- the layouts of the tables
 abbrev pub layouts_in : Items → List Layout
@@ -61,19 +61,19 @@ pub record IsToml (text : List ℕ) (ms : Members) : Type 0 where
   pub utf8 : IsUtf8 text
   pub document : parse_document text ≡ Some ms
 
--- the text is a layout file without fault, of these layouts
+-- the text is a layout file without flaw, of these layouts
 pub record FileSays (text : List ℕ) (list : List Layout) : Type 0 where
   pub members : Members
   pub toml : IsToml text members
-  pub whole : file_fault the_keys members ≡ None
+  pub whole : file_flaw the_keys members ≡ None
   pub says : list ≡ layouts_of members
 
--- the text is TOML, and this is its first fault
-pub record HasFault (text : List ℕ) (number : ℕ) (key : List ℕ) : Type 0 where
+-- the text is TOML, and this is its first flaw
+pub record HasFlaw (text : List ℕ) (number : ℕ) (key : List ℕ) : Type 0 where
   pub members : Members
   pub toml : IsToml text members
   pub name : List ℕ
-  pub fault : file_fault the_keys members ≡ Some (number, name)
+  pub flaw : file_flaw the_keys members ≡ Some (number, name)
   pub named : key ≡ chars name
 
 pub record HasUnsound (text : List ℕ) (number : ℕ) : Type 0 where
@@ -94,7 +94,7 @@ pub record HasLayouts (text : List ℕ) (list : List Layout) : Type 0 where
 -- this answer is right for the text; want of memory always is
 abbrev pub IsErrorFor : List ℕ → LayoutError → Type 0
 IsErrorFor text NotToml = ¬ ((ms : Members) × IsToml text ms)
-IsErrorFor text (Shape number key) = HasFault text number key
+IsErrorFor text (Shape number key) = HasFlaw text number key
 IsErrorFor text (Unsound number) = HasUnsound text number
 IsErrorFor text (Clash first second) = HasClash text first second
 IsErrorFor text OutOfMemory = ⊤
@@ -107,20 +107,20 @@ IsRightFor text (Err error) = IsErrorFor text error
 abbrev pub IsUnlessMemory : Result (List Layout) LayoutError → Result (List Layout) LayoutError → Type 0
 IsUnlessMemory answer result = (result ≡ answer) ⊎ (result ≡ Err OutOfMemory)
 
--- what the parts of the reader tell: the first fault, where there is one, and else the layouts
+-- what the parts of the reader tell: the first flaw, where there is one, and else the layouts
 abbrev pub IsShapeOf : ℕ → List ℕ → LayoutError → Type 0
 IsShapeOf number name (Shape n key) = (n ≡ number) × (key ≡ chars name)
 IsShapeOf number name OutOfMemory = ⊤
 IsShapeOf number name _ = ⊥
 
-abbrev pub IsFaultIn : Option (ℕ × List ℕ) → LayoutError → Type 0
-IsFaultIn fault (Shape n key) = (name : List ℕ) × (fault ≡ Some (n, name)) × (key ≡ chars name)
-IsFaultIn fault OutOfMemory = ⊤
-IsFaultIn fault _ = ⊥
+abbrev pub IsFlawIn : Option (ℕ × List ℕ) → LayoutError → Type 0
+IsFlawIn flaw (Shape n key) = (name : List ℕ) × (flaw ≡ Some (n, name)) × (key ≡ chars name)
+IsFlawIn flaw OutOfMemory = ⊤
+IsFlawIn flaw _ = ⊥
 
 abbrev pub IsOfText : List ℕ → LayoutError → Type 0
 IsOfText text NotToml = ¬ ((ms : Members) × IsToml text ms)
-IsOfText text (Shape number key) = HasFault text number key
+IsOfText text (Shape number key) = HasFlaw text number key
 IsOfText text OutOfMemory = ⊤
 IsOfText text _ = ⊥
 

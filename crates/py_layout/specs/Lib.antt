@@ -2,7 +2,7 @@ pub mod Lists
 pub mod Keys
 pub mod Words
 pub mod Values
-pub mod Faults
+pub mod Flaws
 pub mod File
-pub mod FaultPath
+pub mod FlawPath
 pub mod Reading

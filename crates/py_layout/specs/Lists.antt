@@ -1,4 +1,4 @@
--- Lists of layouts of which each is sound, and no two cover one version; and what is first at fault in others.
+-- Lists of layouts of which each is sound, and no two cover one version; and what is first at flaw in others.
 use Rattle.std.specs.Prelude.{◌≡◌, ℕ, ◌<◌, ◌≤◌, List, All, AllPairs, length, slice_index_or, ◌⊎◌, ⊤}
 use Rattle.std.specs.List.{HoldsAt, AllWithin}
 use Rattle.py_fields.specs.declared.layout.Layout.{Layout}

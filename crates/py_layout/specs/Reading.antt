@@ -1,4 +1,4 @@
--- The layout that a table without fault says: each field is the value of the key of its group and name.
+-- The layout that a table without flaw says: each field is the value of the key of its group and name.
 use Rattle.std.specs.Prelude.{List, Bool, ℕ, Some, None, cond, codes, is_some}
 use Rattle.toml.specs.Data.{Members}
 use Rattle.py_layout.specs.Words.{families_of}

@@ -35,13 +35,13 @@ fits (Word family) d = is_word family (word_of d)
 fits Number d = is_some (number_of d)
 fits Group d = is_some (as_table d)
 
--- the number at a key; 0 where there is none, which is a fault
+-- the number at a key; 0 where there is none, which is a flaw
 abbrev pub optional_at : Members → Option (List ℕ) → List ℕ → Option ℕ
 optional_at ms group name = option_and_then number_of (value_at ms group name)
 
 abbrev pub number_at : Members → Option (List ℕ) → List ℕ → ℕ
 number_at ms group name = unwrap_or (optional_at ms group name) 0
 
--- the truth at a name; false where there is none, which is a fault
+-- the truth at a name; false where there is none, which is a flaw
 abbrev pub truth_at : Members → List ℕ → Bool
 truth_at ms name = unwrap_or (option_and_then as_bool (get_member name ms)) false

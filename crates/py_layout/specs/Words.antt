@@ -96,19 +96,19 @@ word_if None = codes ""
 word_if (Some d) = word_of d
 
 -- the text at a key
-abbrev pub word_at : Members → List ℕ → List ℕ
-word_at ms name = word_if (get_member name ms)
+abbrev pub family_word : Members → List ℕ → List ℕ
+family_word ms name = word_if (get_member name ms)
 
--- the families; where a key has none of its family's words, which is a fault, the first
+-- the families; where a key has none of its family's words, which is a flaw, the first
 abbrev pub families_of : Members → Families
 families_of ms = record {
-  head = unwrap_or (head_of_word (word_at ms (codes "head"))) head.Symbol;
-  lock = unwrap_or (lock_of_word (word_at ms (codes "lock"))) lock.Symbol;
-  frames = unwrap_or (frames_of_word (word_at ms (codes "frames"))) frames.Direct;
-  lasti = unwrap_or (lasti_of_word (word_at ms (codes "lasti"))) lasti.Bytes;
-  lines = unwrap_or (lines_of_word (word_at ms (codes "lines"))) lines.Pairs;
-  strings = unwrap_or (strings_of_word (word_at ms (codes "strings"))) strings.State;
-  integers = unwrap_or (integers_of_word (word_at ms (codes "integers"))) integers.Signed;
-  dicts = unwrap_or (dicts_of_word (word_at ms (codes "dicts"))) dicts.Absent;
-  managed = unwrap_or (managed_of_word (word_at ms (codes "managed"))) managed.Absent;
+  head = unwrap_or (head_of_word (family_word ms (codes "head"))) head.Symbol;
+  lock = unwrap_or (lock_of_word (family_word ms (codes "lock"))) lock.Symbol;
+  frames = unwrap_or (frames_of_word (family_word ms (codes "frames"))) frames.Direct;
+  lasti = unwrap_or (lasti_of_word (family_word ms (codes "lasti"))) lasti.Bytes;
+  lines = unwrap_or (lines_of_word (family_word ms (codes "lines"))) lines.Pairs;
+  strings = unwrap_or (strings_of_word (family_word ms (codes "strings"))) strings.State;
+  integers = unwrap_or (integers_of_word (family_word ms (codes "integers"))) integers.Signed;
+  dicts = unwrap_or (dicts_of_word (family_word ms (codes "dicts"))) dicts.Absent;
+  managed = unwrap_or (managed_of_word (family_word ms (codes "managed"))) managed.Absent;
 }

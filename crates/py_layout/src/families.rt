@@ -1,7 +1,7 @@
 //! Families, by their words in a file.
 ghost use Rattle.std.specs.Prelude.{◌≡◌};
 ghost use Rattle.toml.specs.View.{view, table_view};
-ghost use Rattle.py_layout.specs.Words.{head_of_word, lock_of_word, frames_of_word, lasti_of_word, lines_of_word, strings_of_word, integers_of_word, dicts_of_word, managed_of_word, is_word, word_of, word_at, families_of};
+ghost use Rattle.py_layout.specs.Words.{head_of_word, lock_of_word, frames_of_word, lasti_of_word, lines_of_word, strings_of_word, integers_of_word, dicts_of_word, managed_of_word, is_word, word_of, family_word, families_of};
 
 use crate::keys::Family;
 use crate::values::member;
@@ -146,8 +146,8 @@ pub fn word_of(value: &Value) -> &str
 }
 
 /// The text at a key, which is empty where there is none.
-fn word_at<'a>(table: &'a Table, name: &str) -> &'a str
-    ensures { result.now ≡ word_at (table_view table.now) name.now }
+fn family_word<'a>(table: &'a Table, name: &str) -> &'a str
+    ensures { result.now ≡ family_word (table_view table.now) name.now }
 {
     match member(table, name) {
         Some(value) => word_of(value),
@@ -160,14 +160,14 @@ pub fn families_of(table: &Table) -> Families
     ensures { result ≡ families_of (table_view table.now) }
 {
     Families {
-        head: head_of_word(word_at(table, "head")).unwrap_or(Head::Symbol),
-        lock: lock_of_word(word_at(table, "lock")).unwrap_or(Lock::Symbol),
-        frames: frames_of_word(word_at(table, "frames")).unwrap_or(Frames::Direct),
-        lasti: lasti_of_word(word_at(table, "lasti")).unwrap_or(Lasti::Bytes),
-        lines: lines_of_word(word_at(table, "lines")).unwrap_or(Lines::Pairs),
-        strings: strings_of_word(word_at(table, "strings")).unwrap_or(Strings::State),
-        integers: integers_of_word(word_at(table, "integers")).unwrap_or(Integers::Signed),
-        dicts: dicts_of_word(word_at(table, "dicts")).unwrap_or(Dicts::Absent),
-        managed: managed_of_word(word_at(table, "managed")).unwrap_or(Managed::Absent),
+        head: head_of_word(family_word(table, "head")).unwrap_or(Head::Symbol),
+        lock: lock_of_word(family_word(table, "lock")).unwrap_or(Lock::Symbol),
+        frames: frames_of_word(family_word(table, "frames")).unwrap_or(Frames::Direct),
+        lasti: lasti_of_word(family_word(table, "lasti")).unwrap_or(Lasti::Bytes),
+        lines: lines_of_word(family_word(table, "lines")).unwrap_or(Lines::Pairs),
+        strings: strings_of_word(family_word(table, "strings")).unwrap_or(Strings::State),
+        integers: integers_of_word(family_word(table, "integers")).unwrap_or(Integers::Signed),
+        dicts: dicts_of_word(family_word(table, "dicts")).unwrap_or(Dicts::Absent),
+        managed: managed_of_word(family_word(table, "managed")).unwrap_or(Managed::Absent),
     }
 }

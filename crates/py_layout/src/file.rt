@@ -6,11 +6,11 @@ ghost use Rattle.std.specs.Str.{chars};
 ghost use Rattle.toml.specs.Parse.{parse_document};
 ghost use Rattle.toml.specs.View.{view, table_view, array_view, items_view};
 ghost use Rattle.py_layout.specs.Keys.{key_of, the_keys};
-ghost use Rattle.py_layout.specs.FaultPath.{fault_path, numbered, is_other_name};
-ghost use Rattle.py_layout.specs.File.{elements_of, element_fault, first_fault, other_key, file_fault, layouts_in, layouts_of, FileSays, IsShapeOf, IsFaultIn, IsOfText, IsDocumentError};
+ghost use Rattle.py_layout.specs.FlawPath.{flaw_path, numbered, is_other_name};
+ghost use Rattle.py_layout.specs.File.{elements_of, element_flaw, first_flaw, other_key, file_flaw, layouts_in, layouts_of, FileSays, IsShapeOf, IsFlawIn, IsOfText, IsDocumentError};
 
 use crate::error::LayoutError;
-use crate::faults::{Fault, table_fault};
+use crate::flaws::{Flaw, table_flaw};
 use crate::keys::{Key, keys};
 use crate::reading::layout_of;
 use crate::values::member;
@@ -53,68 +53,68 @@ fn other_key(root: &Table) -> Option<&str>
     }
 }
 
-/// The first fault of an element of the array.
-fn element_fault<'a>(keys: &'a [Key], value: &'a Value) -> Option<Fault<'a>>
-    ensures { option_map fault_path result ≡ element_fault (map key_of keys.now) (view value.now) }
+/// The first flaw of an element of the array.
+fn element_flaw<'a>(keys: &'a [Key], value: &'a Value) -> Option<Flaw<'a>>
+    ensures { option_map flaw_path result ≡ element_flaw (map key_of keys.now) (view value.now) }
 {
     match value {
-        Value::Table(table) => table_fault(keys, table),
-        _ => Some(Fault {
+        Value::Table(table) => table_flaw(keys, table),
+        _ => Some(Flaw {
             group: None,
             name: "layout",
         }),
     }
 }
 
-/// The first element with a fault, and its first fault.
-fn first_fault<'a>(keys: &'a [Key], list: &'a [Value]) -> Option<(usize, Fault<'a>)>
-    ensures { option_map numbered result ≡ first_fault (map key_of keys.now) 0 (items_view list.now) }
+/// The first element with a flaw, and its first flaw.
+fn first_flaw<'a>(keys: &'a [Key], list: &'a [Value]) -> Option<(usize, Flaw<'a>)>
+    ensures { option_map numbered result ≡ first_flaw (map key_of keys.now) 0 (items_view list.now) }
 {
     for (table, value) in list.iter().enumerate() {
-        if let Some(fault) = element_fault(keys, value) {
-            return Some((table, fault));
+        if let Some(flaw) = element_flaw(keys, value) {
+            return Some((table, flaw));
         }
     }
     None
 }
 
-/// The first fault of a file.
-fn file_fault<'a>(keys: &'a [Key], root: &'a Table) -> Option<(usize, Fault<'a>)>
-    ensures { option_map numbered result ≡ file_fault (map key_of keys.now) (table_view root.now) }
+/// The first flaw of a file.
+fn file_flaw<'a>(keys: &'a [Key], root: &'a Table) -> Option<(usize, Flaw<'a>)>
+    ensures { option_map numbered result ≡ file_flaw (map key_of keys.now) (table_view root.now) }
 {
     let Some(list) = elements_of(root) else {
         return Some((
             0,
-            Fault {
+            Flaw {
                 group: None,
                 name: "layout",
             },
         ));
     };
     match other_key(root) {
-        Some(name) => Some((0, Fault { group: None, name })),
-        None => first_fault(keys, list),
+        Some(name) => Some((0, Flaw { group: None, name })),
+        None => first_flaw(keys, list),
     }
 }
 
-/// How a fault is named: with its group and a dot, where it stands in one.
-fn fault_text(alloc: Global, fault: Fault<'_>) -> Result<Text, AllocError>
-    ensures { IfOk result (λ text. text ≡ chars (fault_path fault.entry)) }
+/// How a flaw is named: with its group and a dot, where it stands in one.
+fn flaw_text(alloc: Global, flaw: Flaw<'_>) -> Result<Text, AllocError>
+    ensures { IfOk result (λ text. text ≡ chars (flaw_path flaw.entry)) }
 {
-    match fault.group {
-        None => Text::of(alloc, fault.name),
+    match flaw.group {
+        None => Text::of(alloc, flaw.name),
         Some(group) => {
-            let name = fault.name;
+            let name = flaw.name;
             Ok(Text::from(format!(in alloc; "{group}.{name}")?))
         }
     }
 }
 
-/// The error that names a fault.
-fn shape(alloc: Global, table: usize, fault: Fault<'_>) -> LayoutError
-    ensures { IsShapeOf table (fault_path fault.entry) result }
+/// The error that names a flaw.
+fn shape(alloc: Global, table: usize, flaw: Flaw<'_>) -> LayoutError
+    ensures { IsShapeOf table (flaw_path flaw.entry) result }
 {
-    match fault_text(alloc, fault) {
+    match flaw_text(alloc, flaw) {
         Ok(key) => LayoutError::Shape {
             table: table as u64,
             key,
@@ -150,14 +150,14 @@ fn layouts_of(alloc: Global, root: &Table) -> Result<Vec<Layout>, LayoutError>
     }
 }
 
-/// The layouts of a file without fault.
+/// The layouts of a file without flaw.
 fn checked_layouts(alloc: Global, root: &Table) -> Result<Vec<Layout>, LayoutError>
-    ensures whole { IfOk result (λ _. file_fault the_keys (table_view root.now) ≡ None) }
+    ensures whole { IfOk result (λ _. file_flaw the_keys (table_view root.now) ≡ None) }
     ensures ok { IfOk result (λ layouts. layouts.items ≡ layouts_of (table_view root.now)) }
-    ensures errors { IfErr result (IsFaultIn (file_fault the_keys (table_view root.now))) }
+    ensures errors { IfErr result (IsFlawIn (file_flaw the_keys (table_view root.now))) }
 {
-    match file_fault(keys(), root) {
-        Some((table, fault)) => Err(shape(alloc, table, fault)),
+    match file_flaw(keys(), root) {
+        Some((table, flaw)) => Err(shape(alloc, table, flaw)),
         None => layouts_of(alloc, root),
     }
 }

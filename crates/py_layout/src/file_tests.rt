@@ -206,7 +206,7 @@ const EDITS: [(&str, &str, &str); 24] = [
 ];
 
 #[test]
-fn faults_are_named(rt: HostRuntime) -> Result<(), Fail> {
+fn flaws_are_named(rt: HostRuntime) -> Result<(), Fail> {
     let alloc = rt.alloc();
     for (old, new, wanted) in EDITS {
         let text = edited(alloc, old, new)?;

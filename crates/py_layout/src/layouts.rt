@@ -119,7 +119,7 @@ impl Layouts {
     /// - `NotToml`: the text is not UTF-8, or not TOML. TOML's integers are those of an i64.
     /// - `Shape` at the top of the file, which counts as table 0: `layout` where it is missing or no
     ///   array, and else the first other key.
-    /// - `Shape` in the first table that has a fault: the first key, in the order of the fields of
+    /// - `Shape` in the first table that has a flaw: the first key, in the order of the fields of
     ///   `Layout`, that is missing or has the wrong kind; else the first unknown key of the table, by
     ///   bytes; else that of its first group with one. A key or group whose condition is not met counts
     ///   as unknown. A key of a group is named `group.key`, and an element of the array that is no table

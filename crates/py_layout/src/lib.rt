@@ -3,8 +3,8 @@
 
 mod error;
 mod families;
-mod faults;
 mod file;
+mod flaws;
 mod keys;
 mod layouts;
 mod reading;

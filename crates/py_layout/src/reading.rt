@@ -1,4 +1,4 @@
-//! The layout that a table without fault says.
+//! The layout that a table without flaw says.
 ghost use Rattle.std.specs.Prelude.{◌≡◌, cond, is_some, Some, None, codes};
 ghost use Rattle.toml.specs.View.{table_view};
 ghost use Rattle.py_layout.specs.Reading.{interpreter_of, thread_of, cframe_of, frame_of, code_of, string_of, bytes_of, tuple_of, list_of, object_of, klass_of, long_of, value_of, dict_of, keys_of, heap_of, gil_of, offsets_of, has_group, layout_of};
@@ -276,7 +276,7 @@ fn offsets_if_there(table: &Table) -> Option<OffsetsAt>
     }
 }
 
-/// The layout that a table says; of a table with a fault, one with zeros for what is not there.
+/// The layout that a table says; of a table with a flaw, one with zeros for what is not there.
 #[tactic(auto, unfolding(crate::specs::Reading::layout_of))]
 pub fn layout_of(table: &Table) -> Layout
     ensures { result ≡ layout_of (table_view table.now) }

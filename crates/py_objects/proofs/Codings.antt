@@ -18,9 +18,9 @@ use Rattle.std.proofs.Math.Seq.{take-suc, take-append_seam, drop-append_seam}
 use Rattle.std.proofs.lemmas.List.{get_or-map, length-map, map-append, take-append-drop, get_or-take, get_or-drop, length-take, get_or_past}
 use Rattle.std.proofs.lemmas.Slice.Eq.{bytes_eq-Decides}
 use Rattle.std.proofs.lemmas.Str.{chars-encodes, encodes-chars, scalars-chars, encodes_same, encodes-append, utf16_chars-nil, utf16_chars_lone, utf16_chars_pair}
-use Rattle.image_memory.specs.Memory.{found_or}
-use Rattle.image_memory.specs.Memory.Fault.{NoText}
-use Rattle.image_memory.specs.Seen.{Answers}
+use Rattle.process_memory.specs.Memory.{found_or}
+use Rattle.process_memory.specs.Memory.Fault.{NoText}
+use Rattle.process_memory.specs.Seen.{Answers}
 use Rattle.py_objects.specs.declared.error.ObjectError.{ObjectError}
 use Rattle.py_objects.specs.declared.error.ObjectError.TheVariants.{NoText as HasNoText}
 use Rattle.py_objects.specs.declared.coding.TextKind.{TextKind}

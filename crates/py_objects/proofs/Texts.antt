@@ -6,10 +6,10 @@ use Rattle.std.proofs.lemmas.Str.{chars-nil}
 use Rattle.std.specs.Int.{w64, cast_signed}
 use Rattle.std.proofs.lemmas.Bool.{cases_lt}
 use Rattle.std.proofs.lemmas.Bool.Decides.{nat_tests}
-use Rattle.elf64_core.specs.Fields.{word_in}
-use Rattle.image_memory.specs.Memory.{Memory, Found, Fault, found_or, ◌>>=◌, record_at}
-use Rattle.image_memory.specs.Memory.Fault.{Missing, NoText, TooLong}
-use Rattle.image_memory.specs.Seen.{Answers}
+use Rattle.elf64_core.specs.Fields.{u64_in}
+use Rattle.process_memory.specs.Memory.{Memory, Found, Fault, found_or, ◌>>=◌, record_at}
+use Rattle.process_memory.specs.Memory.Fault.{Missing, NoText, TooLong}
+use Rattle.process_memory.specs.Seen.{Answers}
 use Rattle.py_fields.specs.declared.layout.Layout.{Layout}
 use Rattle.py_objects.specs.declared.strings.Characters.{Characters}
 use Rattle.py_objects.specs.declared.error.ObjectError.{ObjectError}
@@ -80,12 +80,12 @@ module _ (l : Layout) (m : Memory) (a : ℕ) (object : List ℕ) where
 pub text_read : (l : Layout) (m : Memory) (a : ℕ) (cs : List ℕ) → text_at l m a ≡ Ok cs → IsText l m a cs
 unfolding text_at
 text_read l m a cs e =
-    let b = bind_ok (record_at m a l.string.size) (λ object. text_of_length l m a object (word_in object l.string.length)) cs e in
-    record { object = b.0; there = b.1; characters = has_characters l m a b.0 (word_in b.0 l.string.length) cs b.2 }
+    let b = bind_ok (record_at m a l.string.size) (λ object. text_of_length l m a object (u64_in object l.string.length)) cs e in
+    record { object = b.0; there = b.1; characters = has_characters l m a b.0 (u64_in b.0 l.string.length) cs b.2 }
 
 pub text_stands : (l : Layout) (m : Memory) (a : ℕ) (cs : List ℕ) → IsText l m a cs → text_at l m a ≡ Ok cs
 unfolding text_at
-text_stands l m a cs t = rw t.there (characters_had l m a t.object (word_in t.object l.string.length) cs t.characters)
+text_stands l m a cs t = rw t.there (characters_had l m a t.object (u64_in t.object l.string.length) cs t.characters)
 
 other : (f : Fault) (d : Found (List ℕ)) (cs : List ℕ) → d ≡ Err f → d ≡ Ok cs → ⊥
 other f d cs p q = let both : Err f ≡ Ok cs = sym p ∙ q in cc

@@ -1,7 +1,7 @@
 -- The faults that errors name.
 use Rattle.std.specs.Prelude.{Option, Some, None}
-use Rattle.image_memory.specs.Memory.{Fault}
-use Rattle.image_memory.specs.Memory.Fault.{Missing, NoText as HasNoText, TooLong as IsTooLong, BadDict as IsBadDict, BadType as IsBadType, Visits as ManyVisits, Depth as ManyLevels, BadCount as IsBadCount, BadBool as IsBadBool}
+use Rattle.process_memory.specs.Memory.{Fault}
+use Rattle.process_memory.specs.Memory.Fault.{Missing, NoText as HasNoText, TooLong as IsTooLong, BadDict as IsBadDict, BadType as IsBadType, Visits as ManyVisits, Depth as ManyLevels, BadCount as IsBadCount, BadBool as IsBadBool}
 use Rattle.py_objects.specs.declared.error.ObjectError.{ObjectError}
 use Rattle.py_objects.specs.declared.error.ObjectError.TheVariants.{Unreadable, NoText, TooLong, BadDict, BadType, Visits, Depth, BadCount, BadBool, OutOfMemory}
 

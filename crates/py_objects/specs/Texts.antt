@@ -2,9 +2,9 @@
 -- length is below 4096 is this project's.
 use Rattle.std.specs.Prelude.{◌≡◌, ℕ, zero, suc, ◌+◌, ◌*◌, ◌/◌, ◌%◌, ◌^◌, ◌<◌, nat_le, Bool, Option, Some, None, List, [], if◌then◌else◌, ◌==◌, Ok, Err}
 use Rattle.std.specs.Int.{w64, cast_signed, bit_at}
-use Rattle.elf64_core.specs.Fields.{word_in, half_in}
-use Rattle.image_memory.specs.Memory.{Memory, Found, found_or, ◌>>=◌, record_at}
-use Rattle.image_memory.specs.Memory.Fault.{NoText, TooLong}
+use Rattle.elf64_core.specs.Fields.{u64_in, u32_in}
+use Rattle.process_memory.specs.Memory.{Memory, Found, found_or, ◌>>=◌, record_at}
+use Rattle.process_memory.specs.Memory.Fault.{NoText, TooLong}
 use Rattle.py_fields.specs.declared.layout.Layout.{Layout}
 use Rattle.py_fields.specs.declared.layout.StringAt.{StringAt}
 use Rattle.py_fields.specs.declared.layout.Strings.{Strings}
@@ -44,7 +44,7 @@ kind_in s state = kind_by (state / 2 ^ s.kind_shift % 8) (bit_is_set state s.asc
 -- the address of the characters of a text at `a`: behind its record where they stand with it, and else what the record says
 unfoldable pub place_in : StringAt → StateAt → ℕ → List ℕ → ℕ → ℕ
 place_in t s a object state =
-    if bit_is_set state s.compact_bit then (if bit_is_set state s.ascii_bit then a + t.short_at else a + s.long_at) else word_in object s.pointer
+    if bit_is_set state s.compact_bit then (if bit_is_set state s.ascii_bit then a + t.short_at else a + s.long_at) else u64_in object s.pointer
 
 abbrev pub with_place : ℕ → Option TextKind → Option Characters
 with_place at None = None
@@ -52,7 +52,7 @@ with_place at (Some k) = Some (record { kind = k; at = at })
 
 abbrev pub characters_by : StringAt → ℕ → List ℕ → Option StateAt → Option Characters
 characters_by t a object None = None
-characters_by t a object (Some s) = with_place (place_in t s a object (half_in object s.state)) (kind_in s (half_in object s.state))
+characters_by t a object (Some s) = with_place (place_in t s a object (u32_in object s.state)) (kind_in s (u32_in object s.state))
 
 abbrev pub characters_with : Strings → StringAt → ℕ → List ℕ → Option Characters
 characters_with State t a object = characters_by t a object (state_at t)
@@ -79,7 +79,7 @@ text_of_length l m a object (suc n) =
 unfoldable pub text_at : Layout → Memory → ℕ → Found (List ℕ)
 text_at l m a = do
   object ← record_at m a l.string.size
-  text_of_length l m a object (word_in object l.string.length)
+  text_of_length l m a object (u64_in object l.string.length)
 
 -- `n` units code the characters, where and as is said
 pub record StandsAt (m : Memory) (n : ℕ) (p : Characters) (cs : List ℕ) : Type 0 where
@@ -96,4 +96,4 @@ HasCharacters l m a object (suc n) cs = (suc n < 4096) × (p : Characters) × (c
 pub record IsText (l : Layout) (m : Memory) (a : ℕ) (cs : List ℕ) : Type 0 where
   pub object : List ℕ
   pub there : record_at m a l.string.size ≡ Ok object
-  pub characters : HasCharacters l m a object (word_in object l.string.length) cs
+  pub characters : HasCharacters l m a object (u64_in object l.string.length) cs

@@ -1,9 +1,9 @@
 //! How the characters of a text are coded.
 ghost use Rattle.std.specs.Prelude.{◌≡◌, ◌≤◌, ◌%◌, length, map, IfOk, string_bytes, encode_utf8_all};
 ghost use Rattle.std.specs.Int.{w16, from_le_bytes};
-ghost use Rattle.image_memory.specs.Memory.{found_or};
-ghost use Rattle.image_memory.specs.Memory.Fault.{NoText};
-ghost use Rattle.image_memory.specs.Seen.{Answers};
+ghost use Rattle.process_memory.specs.Memory.{found_or};
+ghost use Rattle.process_memory.specs.Memory.Fault.{NoText};
+ghost use Rattle.process_memory.specs.Seen.{Answers};
 ghost use Rattle.py_objects.specs.ObjectError.{fault_of};
 ghost use Rattle.py_objects.specs.TextKind.{width, decoded};
 

@@ -1,7 +1,7 @@
 //! Why an object is not read.
 ghost use Rattle.std.specs.Prelude.{◌≡◌};
 
-use image_memory::ReadFault;
+use process_memory::ReadFault;
 use std::alloc::AllocError;
 use thiserror::Error;
 
@@ -42,7 +42,7 @@ pub enum ObjectError {
 }
 
 impl From<ReadFault> for ObjectError {
-    ghost use Rattle.image_memory.specs.Seen.{fault_of as read_fault};
+    ghost use Rattle.process_memory.specs.Seen.{fault_of as read_fault};
     ghost use Rattle.py_objects.specs.ObjectError.{fault_of};
 
     ghost from_gives = { λ e d. fault_of d ≡ read_fault e };

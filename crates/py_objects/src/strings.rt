@@ -1,14 +1,14 @@
 //! Text objects.
 ghost use Rattle.std.specs.Prelude.{◌≡◌, ℕ, ◌+◌, ◌<◌, ◌≤◌, ◌^◌, List, length, IfOk, MatchResult};
 ghost use Rattle.py_fields.specs.Sound.{IsSound};
-ghost use Rattle.image_memory.specs.Seen.{Reads, Reading};
+ghost use Rattle.process_memory.specs.Seen.{Reads, Reading};
 ghost use Rattle.py_objects.specs.ObjectError.{fault_of};
 ghost use Rattle.py_objects.specs.Texts.{text_at, characters_at, IsText, characters_of, characters_by, state_at, kind_in, place_in, bit_is_set};
 
 use crate::ObjectError;
 use crate::coding::{TextKind, decode};
-use elf64_core::{Text, half_in, word_in};
-use image_memory::{ProcessMemory, record, record_wide};
+use elf64_core::{Text, u32_in, u64_in};
+use process_memory::{ProcessMemory, record, record_wide};
 use py_fields::{Layout, StringAt, Strings};
 use std::alloc::Global;
 
@@ -69,7 +69,7 @@ fn read_text<P: ProcessMemory>(
     ensures { Reads fault_of 2 (P.seen process.old) (P.seen process.new) (λ m. text_at layout.now m addr) result }
 {
     let object = record(alloc, process, addr, layout.string.size as u64)?;
-    let length = word_in(&object, layout.string.length as usize);
+    let length = u64_in(&object, layout.string.length as usize);
     if length == 0 {
         return Ok(Text::from(String::new(alloc)));
     }
@@ -121,7 +121,7 @@ fn state_characters(layout: &Layout, addr: u64, object: &[u8]) -> Option<Charact
     ensures { result ≡ characters_by layout.now.string addr object.now (state_at layout.now.string) }
 {
     let at = state_at(&layout.string)?;
-    let state = half_in(object, at.state as usize);
+    let state = u32_in(object, at.state as usize);
     let kind = kind_in(&at, state)?;
     let at = place_in(&layout.string, &at, addr, object, state);
     Some(Characters { kind, at })
@@ -169,7 +169,7 @@ fn place_in(string: &StringAt, at: &StateAt, addr: u64, object: &[u8], state: u3
     ensures { result ≡ place_in string.now at.now addr object.now state }
 {
     if !bit_is_set(state, at.compact_bit) {
-        word_in(object, at.pointer as usize) as u128
+        u64_in(object, at.pointer as usize) as u128
     } else if bit_is_set(state, at.ascii_bit) {
         addr as u128 + string.short_at as u128
     } else {

@@ -1,10 +1,10 @@
 -- What reading a thread costs.
 use Rattle.std.proofs.Common.{◌≡◌, ℕ, ◌+◌, ◌≤◌, List, ap, arith}
 use Rattle.std.specs.Prelude.{Option, None, Ok}
-use Rattle.elf64_core.specs.Fields.{word_in}
-use Rattle.image_memory.specs.Memory.{Memory, Fault, byte_at, record_at, word_at}
-use Rattle.image_memory.specs.Seen.{Seen, Reads}
-use Rattle.image_memory.proofs.Reading.{reading_here}
+use Rattle.elf64_core.specs.Fields.{u64_in}
+use Rattle.process_memory.specs.Memory.{Memory, Fault, byte_at, record_at, word_at}
+use Rattle.process_memory.specs.Seen.{Seen, Reads}
+use Rattle.process_memory.proofs.Reading.{reading_here}
 use Rattle.py_fields.specs.declared.layout.Layout.{Layout}
 use Rattle.py_stacks.specs.Frames.{frames_cost}
 use Rattle.py_stacks.specs.Threads.{first_frame_at, frame_through, thread_cost, threads_cost, traces_cost}
@@ -18,9 +18,9 @@ unfolding thread_cost
 thread_costs l m t = omega arith
 
 -- a thread that names its first frame itself
-pub first_named : (l : Layout) (m : Memory) (thread : List ℕ) → l.cframe ≡ None → first_frame_at l m thread ≡ Ok (word_in thread l.thread.frame)
+pub first_named : (l : Layout) (m : Memory) (thread : List ℕ) → l.cframe ≡ None → first_frame_at l m thread ≡ Ok (u64_in thread l.thread.frame)
 unfolding first_frame_at
-first_named l m thread e = ap (λ c. frame_through c m (word_in thread l.thread.frame)) e
+first_named l m thread e = ap (λ c. frame_through c m (u64_in thread l.thread.frame)) e
 
 pub traces_costs : (l : Layout) (m : Memory) (owner t : ℕ) → 1 ≤ traces_cost l m owner t
 unfolding traces_cost

@@ -3,14 +3,14 @@ use Rattle.std.proofs.Common.{◌≡◌, ℕ, zero, suc, ◌+◌, ◌<◌, ◌�
 use Rattle.std.specs.Prelude.{Option, Some, None, Result, Ok, Err, IfOk}
 use Rattle.std.specs.Global.{Vec}
 use Rattle.std.proofs.lemmas.Bool.Decides.{nat_tests}
-use Rattle.elf64_core.specs.Fields.{word_in}
-use Rattle.image_memory.specs.Memory.{Memory, Found, ◌>>=◌, record_at}
-use Rattle.image_memory.specs.Memory.Fault.{ChainLimit, FrameLimit}
-use Rattle.image_memory.specs.Seen.{Answers, items_of}
-use Rattle.image_memory.specs.Walk.{Step, walk_at, first_fault, fault_in}
-use Rattle.image_memory.specs.Faults.{FaultsAre}
-use Rattle.image_memory.proofs.Founds.{bound, ok_same}
-use Rattle.image_memory.proofs.Walks.{walk_chain, walk_first_fault, faults_from_answer, then_same_twice}
+use Rattle.elf64_core.specs.Fields.{u64_in}
+use Rattle.process_memory.specs.Memory.{Memory, Found, ◌>>=◌, record_at}
+use Rattle.process_memory.specs.Memory.Fault.{ChainLimit, FrameLimit}
+use Rattle.process_memory.specs.Seen.{Answers, items_of}
+use Rattle.process_memory.specs.Walk.{Step, walk_at, first_fault, fault_in}
+use Rattle.process_memory.specs.Faults.{FaultsAre}
+use Rattle.process_memory.proofs.Founds.{bound, ok_same}
+use Rattle.process_memory.proofs.Walks.{walk_chain, walk_first_fault, faults_from_answer, then_same_twice}
 use Rattle.py_fields.specs.declared.layout.Layout.{Layout}
 use Rattle.py_stacks.specs.declared.trace.Frame.{Frame}
 use Rattle.py_stacks.specs.declared.error.StackError.{StackError}
@@ -104,7 +104,7 @@ unfolding frame_faults frame_step member_at name_at
 frame_same l m kept a =
     then_same_twice (record_at m a l.frame.size) _ _ (step_of kept)
     (λ frame. then_same_twice (record_at m (code_of l.frame frame) l.code.size) _ _ (step_of kept)
-    (λ code. limit_same kept (word_in frame l.frame.back) (shown_by_records l m frame code)))
+    (λ code. limit_same kept (u64_in frame l.frame.back) (shown_by_records l m frame code)))
 
 kept_same : (kept : ℕ) (v : Option Frame) (n : ℕ) → kept_after kept v ≡ Ok n → kept_next kept v ≡ n
 kept_same kept None n = λ e. ok_same _ _ e
@@ -125,10 +125,10 @@ frame_leads l m kept a x e =
     let one = bound (record_at m a l.frame.size) _ (x.next, x.part) is.member in
     let two = bound (record_at m (code_of l.frame one.0) l.code.size) _ (x.next, x.part) one.2 in
     let same = ok_same _ (x.next, x.part) two.2 in
-    let back : word_in one.0 l.frame.back ≡ x.next = ap (λ (y : ℕ × Option Frame). y.0) same in
+    let back : u64_in one.0 l.frame.back ≡ x.next = ap (λ (y : ℕ × Option Frame). y.0) same in
     let part : shown_by_records l m one.0 two.0 ≡ x.part = ap (λ (y : ℕ × Option Frame). y.1) same in
     let count : kept_next kept (shown_by_records l m one.0 two.0) ≡ x.state = ap (kept_next kept) part ∙ kept_same kept x.part x.state is.count in
-    lead (record_at m a l.frame.size) (λ frame. record_at m (code_of l.frame frame) l.code.size) (λ frame code. (word_in frame l.frame.back, kept_next kept (shown_by_records l m frame code))) one.0 two.0 (x.next, x.state) one.1 two.1
+    lead (record_at m a l.frame.size) (λ frame. record_at m (code_of l.frame frame) l.code.size) (λ frame code. (u64_in frame l.frame.back, kept_next kept (shown_by_records l m frame code))) one.0 two.0 (x.next, x.state) one.1 two.1
     (pair_same _ _ _ _ back count)
 
 from_inner : {T U : Type 0} (d : Found T) (f : T → U) → fault_in d ≡ fault_in (d >>= (λ x. Ok (f x)))

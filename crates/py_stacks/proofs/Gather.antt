@@ -2,13 +2,13 @@
 use Rattle.std.proofs.Common.{◌≡◌, ◌≢◌, ℕ, ◌+◌, ◌<◌, ◌≤◌, Bool, true, false, cond, ltb, List, [], ◌∷◌, ◌++◌, length, refl, sym, ◌∙◌, ap, arith, length-append, inl, inr}
 use Rattle.std.specs.Prelude.{Option, Some, None, IsSome, ◌⊎◌, Result, Ok, Err}
 use Rattle.std.proofs.lemmas.Bool.Decides.{nat_tests}
-use Rattle.elf64_core.specs.Fields.{word_in}
-use Rattle.image_memory.specs.Memory.{Memory, Found, Fault, byte_at, record_at}
-use Rattle.image_memory.specs.Memory.Fault.{ChainLimit, FrameLimit}
-use Rattle.image_memory.specs.Seen.{Seen, Reads, Answers}
-use Rattle.image_memory.specs.Walk.{Step, walk_at}
-use Rattle.image_memory.proofs.Reading.{reading_gives, reading_here, answers_then, answers_stop}
-use Rattle.image_memory.proofs.Walks.{walking_init, walking_more, walking_done, walking_full, walking_stop}
+use Rattle.elf64_core.specs.Fields.{u64_in}
+use Rattle.process_memory.specs.Memory.{Memory, Found, Fault, byte_at, record_at}
+use Rattle.process_memory.specs.Memory.Fault.{ChainLimit, FrameLimit}
+use Rattle.process_memory.specs.Seen.{Seen, Reads, Answers}
+use Rattle.process_memory.specs.Walk.{Step, walk_at}
+use Rattle.process_memory.proofs.Reading.{reading_gives, reading_here, answers_then, answers_stop}
+use Rattle.process_memory.proofs.Walks.{walking_init, walking_more, walking_done, walking_full, walking_stop}
 use Rattle.py_fields.specs.declared.layout.Layout.{Layout}
 use Rattle.py_stacks.specs.declared.trace.Frame.{Frame}
 use Rattle.py_stacks.specs.declared.error.StackError.{StackError}
@@ -17,7 +17,7 @@ use Rattle.py_stacks.specs.StackError.{fault_of}
 use Rattle.py_stacks.specs.Frames.{code_of, frame_limit, frame_step, frames_at, frames_cost, is_entered, is_hidden, member_at, member_limit, members_at, name_at, frame_named, shown, shown_by, step_of, visible, with_mark}
 use Rattle.py_stacks.specs.Gathering.{Adds, Gathering, mark_last}
 use Rattle.std.proofs.lemmas.Option.{same_Some}
-use Rattle.image_memory.proofs.Founds.{bound}
+use Rattle.process_memory.proofs.Founds.{bound}
 use Rattle.py_stacks.proofs.Shown.{length-mark_last, shown-kept, shown-last, shown-skipped}
 
 second_same : {X Y : Type 0} (a b : X) (x y : Y) → ◌≡◌ {A = Found (X × Y)} (Ok (a, x)) (Ok (b, y)) → x ≡ y
@@ -37,8 +37,8 @@ unfolding member_at
 member_unmarked l m a back f e =
     let one = bound (record_at m a l.frame.size) _ (back, Some f) e in
     let two = bound (record_at m (code_of l.frame one.0) l.code.size) _ (back, Some f) one.2 in
-    let file = bound (name_at l m (word_in two.0 l.code.filename)) _ (back, Some f) two.2 in
-    let name = bound (name_at l m (word_in two.0 l.code.name)) _ (back, Some f) file.2 in
+    let file = bound (name_at l m (u64_in two.0 l.code.filename)) _ (back, Some f) two.2 in
+    let name = bound (name_at l m (u64_in two.0 l.code.name)) _ (back, Some f) file.2 in
     visible_unmarked file.0 name.0 (is_entered l.frame one.0) f (second_same _ _ _ _ name.2)
 
 -- what a step of the walk is, by the member

@@ -3,13 +3,13 @@
 use Rattle.std.proofs.Common.{◌≡◌, ℕ, ◌+◌, ◌≤◌, List, map, arith}
 use Rattle.std.specs.Prelude.{Option, Result, Ok, Err, IfOk}
 use Rattle.std.specs.Global.{Vec}
-use Rattle.image_memory.specs.Memory.{Memory, Fault, byte_at}
-use Rattle.image_memory.specs.Seen.{Seen, Reads, Answers}
-use Rattle.image_memory.specs.Walk.{first_fault, fault_in}
-use Rattle.image_memory.specs.Faults.{FaultsAre}
-use Rattle.image_memory.proofs.Reading.{reading_here}
-use Rattle.image_memory.proofs.Walks.{faults_from_answer, then_same}
-use Rattle.image_memory.proofs.Founds.{bound}
+use Rattle.process_memory.specs.Memory.{Memory, Fault, byte_at}
+use Rattle.process_memory.specs.Seen.{Seen, Reads, Answers}
+use Rattle.process_memory.specs.Walk.{first_fault, fault_in}
+use Rattle.process_memory.specs.Faults.{FaultsAre}
+use Rattle.process_memory.proofs.Reading.{reading_here}
+use Rattle.process_memory.proofs.Walks.{faults_from_answer, then_same}
+use Rattle.process_memory.proofs.Founds.{bound}
 use Rattle.py_fields.specs.declared.layout.Layout.{Layout}
 use Rattle.py_stacks.specs.declared.trace.Addresses.{Addresses}
 use Rattle.py_stacks.specs.declared.trace.StackTrace.{StackTrace}

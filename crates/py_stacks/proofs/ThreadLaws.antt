@@ -3,14 +3,14 @@
 use Rattle.std.proofs.Common.{◌≡◌, ℕ, ◌+◌, List, [], ◌∷◌, map, refl, sym, ◌∙◌, ap, subst}
 use Rattle.std.specs.Prelude.{Result, Ok, Err, IfOk}
 use Rattle.std.specs.Global.{Vec}
-use Rattle.elf64_core.specs.Fields.{word_in}
-use Rattle.image_memory.specs.Memory.{Memory, Found, ◌>>=◌, record_at, word_at}
-use Rattle.image_memory.specs.Memory.Fault.{ThreadLimit}
-use Rattle.image_memory.specs.Seen.{Answers}
-use Rattle.image_memory.specs.Walk.{Step, first_fault, fault_in}
-use Rattle.image_memory.specs.Faults.{FaultsAre}
-use Rattle.image_memory.proofs.Founds.{bound, ok_same}
-use Rattle.image_memory.proofs.Walks.{walk_chain, walk_first_fault, faults_from_answer, then_same, then_same_twice}
+use Rattle.elf64_core.specs.Fields.{u64_in}
+use Rattle.process_memory.specs.Memory.{Memory, Found, ◌>>=◌, record_at, word_at}
+use Rattle.process_memory.specs.Memory.Fault.{ThreadLimit}
+use Rattle.process_memory.specs.Seen.{Answers}
+use Rattle.process_memory.specs.Walk.{Step, first_fault, fault_in}
+use Rattle.process_memory.specs.Faults.{FaultsAre}
+use Rattle.process_memory.proofs.Founds.{bound, ok_same}
+use Rattle.process_memory.proofs.Walks.{walk_chain, walk_first_fault, faults_from_answer, then_same, then_same_twice}
 use Rattle.py_fields.specs.declared.layout.Layout.{Layout}
 use Rattle.py_stacks.specs.declared.trace.Frame.{Frame}
 use Rattle.py_stacks.specs.declared.trace.StackTrace.{StackTrace}
@@ -28,7 +28,7 @@ pub record HasParts (l : Layout) (m : Memory) (owner a : ℕ) (x : ℕ × Trace)
   pub names : first_frame_at l m thread ≡ Ok first
   pub frames : List Frame
   pub walked : frames_at l m first ≡ Ok frames
-  pub next : word_in thread l.thread.next ≡ x.0
+  pub next : u64_in thread l.thread.next ≡ x.0
   pub trace : trace_by l owner thread frames ≡ x.1
 
 thread_parts : (l : Layout) (m : Memory) (owner a : ℕ) (x : ℕ × Trace) → thread_at l m owner a ≡ Ok x → HasParts l m owner a x
@@ -65,7 +65,7 @@ parts_after : (l : Layout) (m : Memory) (owner a : ℕ) (x : ℕ × Trace) → H
 unfolding thread_after
 parts_after l m owner a x h = after (record_at m a l.thread.size) h.thread h.read ∙ ap Ok h.next
   where
-    after : (d : Found (List ℕ)) (thread : List ℕ) → d ≡ Ok thread → (d >>= (λ thread. Ok (word_in thread l.thread.next))) ≡ Ok (word_in thread l.thread.next)
+    after : (d : Found (List ℕ)) (thread : List ℕ) → d ≡ Ok thread → (d >>= (λ thread. Ok (u64_in thread l.thread.next))) ≡ Ok (u64_in thread l.thread.next)
     after d thread e = rw e refl
 
 -- a step is a thread
@@ -121,7 +121,7 @@ thread_same l m owner s a =
     (λ thread. then_same_twice (first_frame_at l m thread) _ _ _
     (λ first. frames_same l m first ∙ from_inner_twice (frames_at l m first) _ _))
 
-leads : (l : Layout) (d : Found (List ℕ)) (thread : List ℕ) → d ≡ Ok thread → ◌>>=◌ {U = ℕ × Unit {0}} d (λ thread. Ok (word_in thread l.thread.next, tt)) ≡ Ok (word_in thread l.thread.next, tt)
+leads : (l : Layout) (d : Found (List ℕ)) (thread : List ℕ) → d ≡ Ok thread → ◌>>=◌ {U = ℕ × Unit {0}} d (λ thread. Ok (u64_in thread l.thread.next, tt)) ≡ Ok (u64_in thread l.thread.next, tt)
 leads l d thread e = rw e refl
 
 thread_leads : (l : Layout) (m : Memory) (owner : ℕ) (s : Unit {0}) (a : ℕ) (x : Step (Unit {0}) Trace) → thread_step l m owner s a ≡ Ok x → thread_next l m s a ≡ Ok (x.next, x.state)

@@ -2,10 +2,10 @@
 use Rattle.std.proofs.Common.{◌≡◌, ℕ, refl}
 use Rattle.std.specs.Prelude.{Ok, Err}
 use Rattle.std.proofs.Math.Nat.{le_refl}
-use Rattle.image_memory.specs.Memory.{Memory}
-use Rattle.image_memory.specs.Seen.{Seen, Reads, Answers}
-use Rattle.image_memory.specs.Walk.{Step}
-use Rattle.image_memory.proofs.Reading.{reading_gives, answers_stop}
+use Rattle.process_memory.specs.Memory.{Memory}
+use Rattle.process_memory.specs.Seen.{Seen, Reads, Answers}
+use Rattle.process_memory.specs.Walk.{Step}
+use Rattle.process_memory.proofs.Reading.{reading_gives, answers_stop}
 use Rattle.py_fields.specs.declared.layout.Layout.{Layout}
 use Rattle.py_stacks.specs.declared.error.StackError.{StackError}
 use Rattle.py_stacks.specs.StackError.{fault_of}

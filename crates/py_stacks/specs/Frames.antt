@@ -1,11 +1,11 @@
 -- The frames of a thread: what each member of their chain is, which are shown, and the faults on the way.
 -- Where the fields are a layout says; which members are shown, and the limits, are this project's rules.
 use Rattle.std.specs.Prelude.{◌≡◌, ℕ, ◌+◌, ◌*◌, ◌/◌, ◌^◌, ◌≤◌, nat_eq, nat_lt, Bool, true, false, not, ◌||◌, Option, Some, None, List, [], ◌∷◌, map, length, Ok, Err, pos, if◌then◌else◌, codes, bytes_eq, encode_utf8_all}
-use Rattle.elf64_core.specs.Fields.{word_in, byte_in}
-use Rattle.image_memory.specs.Memory.{Memory, Found, Fault, ◌>>=◌, record_at}
-use Rattle.image_memory.specs.Memory.Fault.{FrameLimit, ChainLimit}
-use Rattle.image_memory.specs.Walk.{Step, IsChain, walk_at, walk_cost, walk_faults}
-use Rattle.image_memory.specs.Faults.{faults_then}
+use Rattle.elf64_core.specs.Fields.{u64_in, u8_in}
+use Rattle.process_memory.specs.Memory.{Memory, Found, Fault, ◌>>=◌, record_at}
+use Rattle.process_memory.specs.Memory.Fault.{FrameLimit, ChainLimit}
+use Rattle.process_memory.specs.Walk.{Step, IsChain, walk_at, walk_cost, walk_faults}
+use Rattle.process_memory.specs.Faults.{faults_then}
 use Rattle.py_fields.specs.declared.layout.Layout.{Layout}
 use Rattle.py_fields.specs.declared.layout.FrameAt.{FrameAt}
 use Rattle.py_objects.specs.Texts.{text_at}
@@ -20,12 +20,12 @@ frame_limit = 4096
 
 -- the address of a frame's code record, with its tag bits cleared
 unfoldable pub code_of : FrameAt → List ℕ → ℕ
-code_of f frame = word_in frame f.code / 2 ^ f.code_tag_bits * 2 ^ f.code_tag_bits
+code_of f frame = u64_in frame f.code / 2 ^ f.code_tag_bits * 2 ^ f.code_tag_bits
 
 -- whether a C call entered the frame: where the layout doesn't say, each one counts as entered
 abbrev pub entered_at : Option ℕ → List ℕ → Bool
 entered_at None frame = true
-entered_at (Some at) frame = not (nat_eq (byte_in frame at) 0)
+entered_at (Some at) frame = not (nat_eq (u8_in frame at) 0)
 
 unfoldable pub is_entered : FrameAt → List ℕ → Bool
 is_entered f frame = entered_at f.entry frame
@@ -67,9 +67,9 @@ unfoldable pub member_at : Layout → Memory → ℕ → Found (ℕ × Option Fr
 member_at l m a = do
   frame ← record_at m a l.frame.size
   code ← record_at m (code_of l.frame frame) l.code.size
-  file ← name_at l m (word_in code l.code.filename)
-  name ← name_at l m (word_in code l.code.name)
-  Ok (word_in frame l.frame.back, visible file name (is_entered l.frame frame))
+  file ← name_at l m (u64_in code l.code.filename)
+  name ← name_at l m (u64_in code l.code.name)
+  Ok (u64_in frame l.frame.back, visible file name (is_entered l.frame frame))
 
 -- how many are kept after a member, if not too many
 abbrev pub kept_after : ℕ → Option Frame → Found ℕ
@@ -121,7 +121,7 @@ unfoldable pub back_of : Layout → Memory → ℕ → Found ℕ
 back_of l m a = do
   frame ← record_at m a l.frame.size
   code ← record_at m (code_of l.frame frame) l.code.size
-  Ok (word_in frame l.frame.back)
+  Ok (u64_in frame l.frame.back)
 
 abbrev pub part_of : {X T : Type 0} → Found (X × T) → Found T
 part_of d = d >>= (λ x. Ok x.1)
@@ -154,7 +154,7 @@ limit_faults kept (Some f) = if nat_lt kept frame_limit then [] else FrameLimit 
 
 -- what a member shows as, by its two records
 abbrev pub shown_by_records : Layout → Memory → List ℕ → List ℕ → Option Frame
-shown_by_records l m frame code = visible (readable (text_at l m (word_in code l.code.filename))) (readable (text_at l m (word_in code l.code.name))) (is_entered l.frame frame)
+shown_by_records l m frame code = visible (readable (text_at l m (u64_in code l.code.filename))) (readable (text_at l m (u64_in code l.code.name))) (is_entered l.frame frame)
 
 -- the faults of one member: its missing frame record, then its missing code record, then the limit of kept
 -- members where it isn't skipped and so many stand before it
@@ -166,7 +166,7 @@ unfoldable pub frame_next : Layout → Memory → ℕ → ℕ → Found (ℕ × 
 frame_next l m kept a = do
   frame ← record_at m a l.frame.size
   code ← record_at m (code_of l.frame frame) l.code.size
-  Ok (word_in frame l.frame.back, kept_next kept (shown_by_records l m frame code))
+  Ok (u64_in frame l.frame.back, kept_next kept (shown_by_records l m frame code))
 
 -- the faults of a thread's frames: those of each member that is met, and last the limit of members
 unfoldable pub frames_faults : Layout → Memory → ℕ → List Fault

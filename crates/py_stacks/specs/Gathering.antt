@@ -1,8 +1,8 @@
 -- The frames of a thread under way.
 use Rattle.std.specs.Prelude.{◌≡◌, ℕ, ◌<◌, ◌≤◌, true, false, Option, Some, None, List, [], ◌∷◌, ◌++◌, length}
-use Rattle.image_memory.specs.Memory.Fault.{ChainLimit}
-use Rattle.image_memory.specs.Seen.{Seen}
-use Rattle.image_memory.specs.Walk.{Walking}
+use Rattle.process_memory.specs.Memory.Fault.{ChainLimit}
+use Rattle.process_memory.specs.Seen.{Seen}
+use Rattle.process_memory.specs.Walk.{Walking}
 use Rattle.py_fields.specs.declared.layout.Layout.{Layout}
 use Rattle.py_stacks.specs.declared.trace.Frame.{Frame}
 use Rattle.py_stacks.specs.Frames.{frame_limit, frame_step, member_limit, shown_by, with_mark}

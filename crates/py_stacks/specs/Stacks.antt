@@ -1,7 +1,7 @@
 -- The stacks of an interpreter: the owner of its lock, and the traces of its threads.
 use Rattle.std.specs.Prelude.{◌≡◌, ℕ, ◌+◌, List, Ok}
-use Rattle.image_memory.specs.Memory.{Memory, Found, Fault, ◌>>=◌}
-use Rattle.image_memory.specs.Faults.{faults_then}
+use Rattle.process_memory.specs.Memory.{Memory, Found, Fault, ◌>>=◌}
+use Rattle.process_memory.specs.Faults.{faults_then}
 use Rattle.py_fields.specs.declared.layout.Layout.{Layout}
 use Rattle.py_stacks.specs.declared.trace.Addresses.{Addresses}
 use Rattle.py_stacks.specs.Owner.{owner_at}

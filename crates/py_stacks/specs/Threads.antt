@@ -1,11 +1,11 @@
 -- The threads of an interpreter, each with its frames, and the faults on the way.
 use Rattle.std.specs.Prelude.{◌≡◌, ℕ, ◌+◌, ◌≤◌, nat_eq, Bool, true, Option, Some, None, List, [], ◌∷◌, map, length, Result, Ok, Err, ℤ, pos, Vec}
 use Rattle.std.specs.Global.{Global}
-use Rattle.elf64_core.specs.Fields.{word_in}
-use Rattle.image_memory.specs.Memory.{Memory, Found, Fault, ◌>>=◌, record_at, word_at}
-use Rattle.image_memory.specs.Memory.Fault.{ThreadLimit}
-use Rattle.image_memory.specs.Walk.{Step, IsChain, walk_at, walk_cost, walk_faults}
-use Rattle.image_memory.specs.Faults.{faults_then}
+use Rattle.elf64_core.specs.Fields.{u64_in}
+use Rattle.process_memory.specs.Memory.{Memory, Found, Fault, ◌>>=◌, record_at, word_at}
+use Rattle.process_memory.specs.Memory.Fault.{ThreadLimit}
+use Rattle.process_memory.specs.Walk.{Step, IsChain, walk_at, walk_cost, walk_faults}
+use Rattle.process_memory.specs.Faults.{faults_then}
 use Rattle.py_fields.specs.declared.layout.Layout.{Layout}
 use Rattle.py_fields.specs.declared.layout.CframeAt.{CframeAt}
 use Rattle.py_stacks.specs.declared.trace.Frame.{Frame}
@@ -48,7 +48,7 @@ traces_of_result (Err e) = Err e
 -- the system's id of a thread, where the layout has it
 abbrev pub native_id : Option ℕ → List ℕ → Option ℕ
 native_id None thread = None
-native_id (Some at) thread = Some (word_in thread at)
+native_id (Some at) thread = Some (u64_in thread at)
 
 -- the first frame of a thread: the one that its record names, or that the C frame names which its record names
 abbrev pub frame_through : Option CframeAt → Memory → ℕ → Found ℕ
@@ -56,17 +56,17 @@ frame_through None m a = Ok a
 frame_through (Some c) m a = word_at m (a + c.current)
 
 unfoldable pub first_frame_at : Layout → Memory → List ℕ → Found ℕ
-first_frame_at l m thread = frame_through l.cframe m (word_in thread l.thread.frame)
+first_frame_at l m thread = frame_through l.cframe m (u64_in thread l.thread.frame)
 
 -- the trace of a thread, by its record and its frames. It holds the lock where its id is the owner's
 abbrev pub trace_by : Layout → ℕ → List ℕ → List Frame → Trace
 trace_by l owner thread frames = record {
   pid = pos 0;
-  thread_id = word_in thread l.thread.id;
+  thread_id = u64_in thread l.thread.id;
   thread_name = None;
   os_thread_id = native_id l.thread.native_id thread;
   active = true;
-  owns_gil = nat_eq (word_in thread l.thread.id) owner;
+  owns_gil = nat_eq (u64_in thread l.thread.id) owner;
   frames = frames;
 }
 
@@ -76,7 +76,7 @@ thread_at l m owner a = do
   thread ← record_at m a l.thread.size
   first ← first_frame_at l m thread
   frames ← frames_at l m first
-  Ok (word_in thread l.thread.next, trace_by l owner thread frames)
+  Ok (u64_in thread l.thread.next, trace_by l owner thread frames)
 
 -- one step of the walk of threads
 unfoldable pub thread_step : Layout → Memory → ℕ → Unit {0} → ℕ → Found (Step (Unit {0}) Trace)
@@ -111,7 +111,7 @@ traces_cost l m owner interpreter = 1 + cost_after (word_at m (interpreter + l.i
 unfoldable pub thread_after : Layout → Memory → ℕ → Found ℕ
 thread_after l m a = do
   thread ← record_at m a l.thread.size
-  Ok (word_in thread l.thread.next)
+  Ok (u64_in thread l.thread.next)
 
 -- a trace is that of a thread: its fields by its record, and the frames of its whole chain
 pub record IsTraceOf (l : Layout) (m : Memory) (owner a : ℕ) (trace : Trace) : Type 0 where
@@ -147,7 +147,7 @@ thread_faults l m s a = faults_then (record_at m a l.thread.size) (λ thread. fa
 unfoldable pub thread_next : Layout → Memory → Unit {0} → ℕ → Found (ℕ × Unit {0})
 thread_next l m s a = do
   thread ← record_at m a l.thread.size
-  Ok (word_in thread l.thread.next, tt)
+  Ok (u64_in thread l.thread.next, tt)
 
 -- the faults of an interpreter: the missing head of its threads, then those of each thread that is met, and
 -- last the limit of threads

@@ -1,9 +1,9 @@
 //! The frames of a thread: its whole chain of callers, less the members that are skipped.
 ghost use Rattle.std.specs.Prelude.{◌≡◌, ◌≤◌, ◌⊎◌, ℕ, length, OnOk, IfOk, IfErr, IsErrOf, IsSome};
-ghost use Rattle.image_memory.specs.Memory.{byte_at};
-ghost use Rattle.image_memory.specs.Seen.{Reads, Reading, items_of};
-ghost use Rattle.image_memory.specs.Walk.{first_fault};
-ghost use Rattle.image_memory.specs.Faults.{FaultsAre};
+ghost use Rattle.process_memory.specs.Memory.{byte_at};
+ghost use Rattle.process_memory.specs.Seen.{Reads, Reading, items_of};
+ghost use Rattle.process_memory.specs.Walk.{first_fault};
+ghost use Rattle.process_memory.specs.Faults.{FaultsAre};
 ghost use Rattle.py_fields.specs.Sound.{IsSound};
 ghost use Rattle.py_stacks.specs.StackError.{fault_of};
 ghost use Rattle.py_stacks.specs.Frames.{AreFrames, frame_limit, frames_at, frames_cost, frames_faults};
@@ -11,7 +11,7 @@ ghost use Rattle.py_stacks.specs.Gathering.{Adds, mark_last};
 
 use crate::members::read_member;
 use crate::{Frame, StackError};
-use image_memory::ProcessMemory;
+use process_memory::ProcessMemory;
 use py_fields::Layout;
 use std::alloc::Global;
 

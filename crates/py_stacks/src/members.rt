@@ -1,13 +1,13 @@
 //! The members of a thread's chain of frames, one by one.
 ghost use Rattle.std.specs.Prelude.{◌≡◌, ◌+◌, ◌*◌, ◌/◌, ◌^◌, ◌≤◌, length, ℕ, Some};
-ghost use Rattle.image_memory.specs.Seen.{Reads};
+ghost use Rattle.process_memory.specs.Seen.{Reads};
 ghost use Rattle.py_fields.specs.Sound.{IsSound};
 ghost use Rattle.py_stacks.specs.StackError.{fault_of};
 ghost use Rattle.py_stacks.specs.Frames.{code_of, is_entered, is_hidden, visible, name_at, member_at};
 
 use crate::{Frame, StackError};
-use elf64_core::{Text, word_in};
-use image_memory::{ProcessMemory, record_in};
+use elf64_core::{Text, u64_in};
+use process_memory::{ProcessMemory, record_in};
 use py_fields::{FrameAt, Layout};
 use py_objects::{ObjectError, copy_string};
 use std::alloc::Global;
@@ -25,11 +25,11 @@ fn code_of(at: &FrameAt, frame: &[u8]) -> u64
         2 => 4,
         _ => 8,
     };
-    word_in(frame, at.code as usize) / tag * tag
+    u64_in(frame, at.code as usize) / tag * tag
 }
 
 /// Whether a C call entered the frame; each one counts as entered where the layout does not say.
-#[tactic(auto, unfolding(crate::specs::Frames::is_entered, elf64_core::specs::Fields::byte_in))]
+#[tactic(auto, unfolding(crate::specs::Frames::is_entered, elf64_core::specs::Fields::u8_in))]
 fn is_entered(at: &FrameAt, frame: &[u8]) -> bool
     requires { (entry : ℕ) → at.now.entry ≡ Some entry → entry + 1 ≤ length frame.now }
     ensures { result ≡ is_entered at.now frame.now }
@@ -109,11 +109,11 @@ pub(crate) fn read_member<P: ProcessMemory>(
 {
     record_in(process, at, frame)?;
     record_in(process, code_of(&layout.frame, frame), code)?;
-    let file_at = word_in(code, layout.code.filename as usize);
+    let file_at = u64_in(code, layout.code.filename as usize);
     let filename = read_name(alloc, process, layout, file_at)?;
-    let name_at = word_in(code, layout.code.name as usize);
+    let name_at = u64_in(code, layout.code.name as usize);
     let name = read_name(alloc, process, layout, name_at)?;
-    let back = word_in(frame, layout.frame.back as usize);
+    let back = u64_in(frame, layout.frame.back as usize);
     let entered = is_entered(&layout.frame, frame);
     Ok((back, visible(filename, name, entered)))
 }

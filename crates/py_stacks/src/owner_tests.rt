@@ -1,6 +1,6 @@
 //! The owner of the lock over pieces of memory, written out by hand.
 use crate::{Addresses, StackError, get_gil_threadid, read_stacks};
-use image_memory::{Part, Piece};
+use process_memory::{Part, Piece};
 use py_fields::{GilAt, InterpreterAt, Layout, Lock, is_sound};
 use std::alloc::{AllocError, Global};
 use std::test::Fail;

@@ -1,9 +1,9 @@
 //! The stacks of an interpreter, with the owner of its lock.
 ghost use Rattle.std.specs.Prelude.{◌≡◌, IfOk, map};
-ghost use Rattle.image_memory.specs.Memory.{byte_at};
-ghost use Rattle.image_memory.specs.Seen.{Reads, Reading};
-ghost use Rattle.image_memory.specs.Walk.{first_fault};
-ghost use Rattle.image_memory.specs.Faults.{FaultsAre};
+ghost use Rattle.process_memory.specs.Memory.{byte_at};
+ghost use Rattle.process_memory.specs.Seen.{Reads, Reading};
+ghost use Rattle.process_memory.specs.Walk.{first_fault};
+ghost use Rattle.process_memory.specs.Faults.{FaultsAre};
 ghost use Rattle.py_fields.specs.Sound.{IsSound};
 ghost use Rattle.py_stacks.specs.StackError.{fault_of};
 ghost use Rattle.py_stacks.specs.Threads.{trace_of, traces_of_result};
@@ -12,7 +12,7 @@ ghost use Rattle.py_stacks.specs.Stacks.{AreStacks, stacks_at, stacks_cost, stac
 use crate::owner::get_gil_threadid;
 use crate::threads::read_traces;
 use crate::{Addresses, StackError, StackTrace};
-use image_memory::ProcessMemory;
+use process_memory::ProcessMemory;
 use py_fields::Layout;
 use std::alloc::Global;
 

@@ -1,7 +1,7 @@
 //! Chains of threads and frames over pieces of memory, written out by hand.
 use crate::{Frame, StackError, StackTrace, read_frames, read_traces};
 use elf64_core::Text;
-use image_memory::{Part, Piece};
+use process_memory::{Part, Piece};
 use py_fields::{CframeAt, FrameAt, Frames, Layout, ThreadAt, is_sound};
 use std::alloc::{AllocError, Global};
 use std::test::Fail;

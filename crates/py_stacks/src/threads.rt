@@ -1,17 +1,17 @@
 //! The threads of an interpreter, each with its frames.
 ghost use Rattle.std.specs.Prelude.{◌≡◌, ◌≤◌, ◌+◌, ℕ, Some, length, IfOk, map};
-ghost use Rattle.image_memory.specs.Memory.{byte_at};
-ghost use Rattle.image_memory.specs.Seen.{Reads, Reading};
-ghost use Rattle.image_memory.specs.Walk.{first_fault};
-ghost use Rattle.image_memory.specs.Faults.{FaultsAre};
+ghost use Rattle.process_memory.specs.Memory.{byte_at};
+ghost use Rattle.process_memory.specs.Seen.{Reads, Reading};
+ghost use Rattle.process_memory.specs.Walk.{first_fault};
+ghost use Rattle.process_memory.specs.Faults.{FaultsAre};
 ghost use Rattle.py_fields.specs.Sound.{IsSound};
 ghost use Rattle.py_stacks.specs.StackError.{fault_of};
 ghost use Rattle.py_stacks.specs.Threads.{AreTraces, first_frame_at, native_id, thread_at, thread_cost, thread_of_result, trace_of, traces_at, traces_cost, traces_faults, traces_of_result, threads_at, threads_cost};
 
 use crate::frames::read_frames;
 use crate::{StackError, StackTrace};
-use elf64_core::word_in;
-use image_memory::{ProcessMemory, record_in, word_past};
+use elf64_core::u64_in;
+use process_memory::{ProcessMemory, record_in, word_past};
 use py_fields::Layout;
 use std::alloc::Global;
 
@@ -24,7 +24,7 @@ fn native_id(at: Option<u32>, thread: &[u8]) -> Option<u64>
     ensures { result ≡ native_id at thread.now }
 {
     match at {
-        Some(place) => Some(word_in(thread, place as usize)),
+        Some(place) => Some(u64_in(thread, place as usize)),
         None => None,
     }
 }
@@ -40,7 +40,7 @@ fn first_frame<P: ProcessMemory>(
     requires { layout.now.thread.frame + 8 ≤ length thread.now }
     ensures { Reads fault_of 1 (P.seen process.old) (P.seen process.new) (λ m. first_frame_at layout.now m thread.now) result }
 {
-    let named = word_in(thread, layout.thread.frame as usize);
+    let named = u64_in(thread, layout.thread.frame as usize);
     match layout.cframe {
         None => Ok(named),
         Some(cframe) => {
@@ -67,8 +67,8 @@ fn read_thread<P: ProcessMemory>(
     record_in(process, at, thread)?;
     let first = first_frame(process, layout, thread)?;
     let frames = read_frames(alloc, process, layout, first)?;
-    let thread_id = word_in(thread, layout.thread.id as usize);
-    let next = word_in(thread, layout.thread.next as usize);
+    let thread_id = u64_in(thread, layout.thread.id as usize);
+    let next = u64_in(thread, layout.thread.next as usize);
     let os_thread_id = native_id(layout.thread.native_id, thread);
     let trace = StackTrace {
         pid: 0,

@@ -2,7 +2,7 @@
 use super::copy_string;
 use crate::ObjectError;
 use elf64_core::Text;
-use image_memory::{Part, Piece};
+use process_memory::{Part, Piece};
 use py_fields::{Layout, StringAt, Strings, is_sound};
 use std::alloc::{AllocError, Global};
 use std::test::Fail;

@@ -1,7 +1,7 @@
 use Rattle.std.proofs.Common.{ap}
 use Rattle.std.proofs.lemmas.Result.{err_from_is_err_and}
-use Rattle.image_memory.specs.Seen.{Seen}
-use Rattle.image_memory.proofs.Reading.{reading_here}
+use Rattle.process_memory.specs.Seen.{Seen}
+use Rattle.process_memory.proofs.Reading.{reading_here}
 use Rattle.core_report.proofs.Means.{walked_by, stack_means}
 use Rattle.core_report.proofs.core_walk.walk.Goals as goal
 

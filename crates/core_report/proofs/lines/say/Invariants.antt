@@ -5,6 +5,6 @@ use Rattle.core_report.proofs.lines.say.Given as goal
 
 abbrev pub invariant-loop-piece : goal.invariant-loop-piece
 invariant-loop-piece g l = record {
-  later : g.E.Sink.faults l.initial.err ≤ g.E.Sink.faults l.err;
-  said : Appends (g.E.Sink.written l.initial.err) (g.E.Sink.written l.err) (joined (take l.piece-index l.pieces));
+  later : (g.E.Sink.seen l.initial.err).faults ≤ (g.E.Sink.seen l.err).faults;
+  said : Appends (g.E.Sink.seen l.initial.err).written (g.E.Sink.seen l.err).written (joined (take l.piece-index l.pieces));
 }

@@ -1,6 +1,6 @@
 use Rattle.std.proofs.Common.{Some, ap, ◌∙◌}
 use Rattle.py_layout.specs.File.{is_other}
-use Rattle.py_layout.proofs.Faulting.{find-names}
+use Rattle.py_layout.proofs.FlawsFound.{find-names}
 use Rattle.py_layout.proofs.file.other_key.Goals as goal
 
 pub returns-in-Some : goal.returns-in-Some

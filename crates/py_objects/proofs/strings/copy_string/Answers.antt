@@ -1,5 +1,5 @@
 use Rattle.std.proofs.Common.{arith}
-use Rattle.image_memory.proofs.Reading.{reading_gives}
+use Rattle.process_memory.proofs.Reading.{reading_gives}
 use Rattle.py_objects.proofs.Texts.{text_answer, found_answer}
 use Rattle.py_objects.proofs.strings.copy_string.Goals as goal
 

@@ -1,6 +1,6 @@
 use Rattle.std.proofs.Common.{arith}
 use Rattle.std.proofs.lemmas.Result.{err_from_is_err_and}
-use Rattle.image_memory.proofs.Reading.{reads_halt, reads_known, reads_next}
+use Rattle.process_memory.proofs.Reading.{reads_halt, reads_known, reads_next}
 use Rattle.py_objects.specs.Texts.{characters_at}
 use Rattle.py_objects.proofs.strings.read_characters.Goals as goal
 

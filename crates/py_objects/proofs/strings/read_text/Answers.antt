@@ -1,16 +1,16 @@
 use Rattle.std.proofs.Common.{◌≡◌, ◌∙◌, arith, ap, sym, rules}
 use Rattle.std.specs.Prelude.{Some, None, Ok, Err}
 use Rattle.std.proofs.lemmas.Result.{err_from_is_err_and}
-use Rattle.elf64_core.specs.Fields.{word_in}
-use Rattle.image_memory.specs.Memory.Fault.{TooLong}
-use Rattle.image_memory.proofs.Reading.{reads_halt, reads_known, reads_next, reads_same}
+use Rattle.elf64_core.specs.Fields.{u64_in}
+use Rattle.process_memory.specs.Memory.Fault.{TooLong}
+use Rattle.process_memory.proofs.Reading.{reads_halt, reads_known, reads_next, reads_same}
 use Rattle.py_objects.specs.Texts.{text_at, text_of_length, characters_of, characters_at}
 use Rattle.py_fields.proofs.Fields.{string_fits}
 use Rattle.py_objects.proofs.Texts.{length_zero, length_long, length_fine, no_kind, empty_text}
 use Rattle.py_objects.proofs.strings.read_text.Goals as goal
 
-pub word_in-length-requires : goal.word_in-length-requires
-word_in-length-requires g c = omega (arith, (string_fits c.requires.sound).length, c.deref.ensures.len, c.in_ok-object.ensures.whole)
+pub u64_in-length-requires : goal.u64_in-length-requires
+u64_in-length-requires g c = omega (arith, (string_fits c.requires.sound).length, c.deref.ensures.len, c.in_ok-object.ensures.whole)
 
 pub returns-in_err-object : goal.returns-in_err-object
 unfolding text_at
@@ -21,33 +21,33 @@ returns-in_err-object g c =
 pub returns-then-length-eq0 : goal.returns-then-length-eq0
 unfolding text_at
 returns-then-length-eq0 g c =
-    let length_is : c.word_in-length.result ≡ word_in c.in_ok-object.object.items c.args.layout.now.string.length = c.word_in-length.ensures ∙ ap (λ b. word_in b c.args.layout.now.string.length) c.deref.ensures.value in
+    let length_is : c.u64_in-length.result ≡ u64_in c.in_ok-object.object.items c.args.layout.now.string.length = c.u64_in-length.ensures ∙ ap (λ b. u64_in b c.args.layout.now.string.length) c.deref.ensures.value in
     reads_next 2 _ c.in_ok-object.ensures.answer (reads_known 0 _ _ (λ m. record { is = length_zero c.args.layout.now m c.args.addr c.in_ok-object.object.items _ (omega arith) ∙ ap Ok (sym (empty_text _ _ c.from.ensures c.new.ensures.bytes)) })) (omega arith)
 
 pub returns-then-length-ge-LENGTH_LIMIT : goal.returns-then-length-ge-LENGTH_LIMIT
 unfolding text_at
 returns-then-length-ge-LENGTH_LIMIT g c =
-    let length_is : c.word_in-length.result ≡ word_in c.in_ok-object.object.items c.args.layout.now.string.length = c.word_in-length.ensures ∙ ap (λ b. word_in b c.args.layout.now.string.length) c.deref.ensures.value in
+    let length_is : c.u64_in-length.result ≡ u64_in c.in_ok-object.object.items c.args.layout.now.string.length = c.u64_in-length.ensures ∙ ap (λ b. u64_in b c.args.layout.now.string.length) c.deref.ensures.value in
     reads_next 2 _ c.in_ok-object.ensures.answer (reads_known 0 _ _ (λ m. record { is = length_long c.args.layout.now m c.args.addr c.in_ok-object.object.items _ (omega arith) ∙ ap (λ z. Err (TooLong z)) (search rules) })) (omega arith)
 
 pub returns-in-Some : goal.returns-in-Some
 unfolding text_at
 returns-in-Some g c =
-    let length_is : c.word_in-length.result ≡ word_in c.in_ok-object.object.items c.args.layout.now.string.length = c.word_in-length.ensures ∙ ap (λ b. word_in b c.args.layout.now.string.length) c.deref.ensures.value in
+    let length_is : c.u64_in-length.result ≡ u64_in c.in_ok-object.object.items c.args.layout.now.string.length = c.u64_in-length.ensures ∙ ap (λ b. u64_in b c.args.layout.now.string.length) c.deref.ensures.value in
     let shown = c.args.layout.now in
     let object = c.in_ok-object.object.items in
     let kind : characters_of shown c.args.addr object ≡ Some c.in-Some.characters = ap (characters_of shown c.args.addr) (sym c.deref-2.ensures.value) ∙ sym c.characters_of.ensures ∙ c.in-Some.is in
     reads_next 2 _ c.in_ok-object.ensures.answer
-    (reads_same _ (λ m. characters_at m c.word_in-length.result (Some c.in-Some.characters)) (λ m. ap (text_of_length shown m c.args.addr object) (sym length_is) ∙ length_fine shown m c.args.addr object c.word_in-length.result (omega arith) (omega arith) ∙ ap (characters_at m c.word_in-length.result) kind) c.read_characters.ensures)
+    (reads_same _ (λ m. characters_at m c.u64_in-length.result (Some c.in-Some.characters)) (λ m. ap (text_of_length shown m c.args.addr object) (sym length_is) ∙ length_fine shown m c.args.addr object c.u64_in-length.result (omega arith) (omega arith) ∙ ap (characters_at m c.u64_in-length.result) kind) c.read_characters.ensures)
     (omega arith)
 
 pub returns : goal.returns
 unfolding text_at
 returns g c =
-    let length_is : c.word_in-length.result ≡ word_in c.in_ok-object.object.items c.args.layout.now.string.length = c.word_in-length.ensures ∙ ap (λ b. word_in b c.args.layout.now.string.length) c.deref.ensures.value in
+    let length_is : c.u64_in-length.result ≡ u64_in c.in_ok-object.object.items c.args.layout.now.string.length = c.u64_in-length.ensures ∙ ap (λ b. u64_in b c.args.layout.now.string.length) c.deref.ensures.value in
     let shown = c.args.layout.now in
     let object = c.in_ok-object.object.items in
     let kind : characters_of shown c.args.addr object ≡ None = ap (characters_of shown c.args.addr) (sym c.deref-2.ensures.value) ∙ sym c.characters_of.ensures ∙ c.in-None.is in
     reads_next 2 _ c.in_ok-object.ensures.answer
-    (reads_known 0 _ _ (λ m. record { is = ap (text_of_length shown m c.args.addr object) (sym length_is) ∙ length_fine shown m c.args.addr object c.word_in-length.result (omega arith) (omega arith) ∙ ap (characters_at m c.word_in-length.result) kind ∙ no_kind m c.word_in-length.result }))
+    (reads_known 0 _ _ (λ m. record { is = ap (text_of_length shown m c.args.addr object) (sym length_is) ∙ length_fine shown m c.args.addr object c.u64_in-length.result (omega arith) (omega arith) ∙ ap (characters_at m c.u64_in-length.result) kind ∙ no_kind m c.u64_in-length.result }))
     (omega arith)

@@ -2,8 +2,8 @@ use Rattle.std.proofs.Common.{sym, arith}
 use Rattle.py_objects.proofs.Sound.{state_fits}
 use Rattle.py_objects.proofs.strings.state_characters.Goals as goal
 
-pub half_in-state-requires : goal.half_in-state-requires
-half_in-state-requires c =
+pub u32_in-state-requires : goal.u32_in-state-requires
+u32_in-state-requires c =
     let at = state_fits c.requires.sound c.in_ok-at.at (sym c.in_ok-at.ensures) in
     omega (arith, at.state, c.requires.whole)
 

@@ -1,6 +1,6 @@
 use Rattle.std.proofs.Common.{arith}
 use Rattle.std.proofs.lemmas.Result.{err_from_is_err_and}
-use Rattle.image_memory.proofs.Reading.{reading_none, reading_gives}
+use Rattle.process_memory.proofs.Reading.{reading_none, reading_gives}
 use Rattle.py_stacks.proofs.FrameLaws.{frames_law, frames_faults_law}
 use Rattle.py_stacks.proofs.frames.read_frames.Goals as goal
 

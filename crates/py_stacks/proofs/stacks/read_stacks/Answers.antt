@@ -1,5 +1,5 @@
 use Rattle.std.proofs.Math.Nat.{le_refl}
-use Rattle.image_memory.proofs.Reading.{reading_gives}
+use Rattle.process_memory.proofs.Reading.{reading_gives}
 use Rattle.py_stacks.proofs.StackLaws.{stacks_law, stacks_faults_law}
 use Rattle.py_stacks.proofs.stacks.read_stacks.Goals as goal
 

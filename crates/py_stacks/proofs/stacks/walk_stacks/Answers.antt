@@ -1,6 +1,6 @@
 use Rattle.std.proofs.Common.{ap}
 use Rattle.std.proofs.lemmas.Result.{err_from_is_err_and}
-use Rattle.image_memory.proofs.Reading.{reads_next, reads_halt}
+use Rattle.process_memory.proofs.Reading.{reads_next, reads_halt}
 use Rattle.py_stacks.specs.StackError.{fault_of}
 use Rattle.py_stacks.specs.Stacks.{stacks_at}
 use Rattle.py_stacks.proofs.StackLaws.{stacks_budget, stacks_costs}

@@ -1,7 +1,7 @@
 use Rattle.std.proofs.Common.{arith, refl, ap}
 use Rattle.std.proofs.Math.Nat.{le_refl}
 use Rattle.std.proofs.lemmas.Result.{err_from_is_err_and}
-use Rattle.image_memory.proofs.Reading.{reads_next, reads_halt, reads_end}
+use Rattle.process_memory.proofs.Reading.{reads_next, reads_halt, reads_end}
 use Rattle.py_fields.proofs.Fields.{thread_fits}
 use Rattle.py_stacks.specs.StackError.{fault_of}
 use Rattle.py_stacks.specs.Threads.{thread_at}
@@ -14,11 +14,11 @@ record_in-requires g c = omega (arith, (thread_fits c.requires.sound).short, c.r
 pub first_frame-requires : goal.first_frame-requires
 first_frame-requires g c = omega (arith, (thread_fits c.requires.sound).frame, c.requires.thread, c.record_in.auto.buf)
 
-pub word_in-thread_id-requires : goal.word_in-thread_id-requires
-word_in-thread_id-requires g c = omega (arith, (thread_fits c.requires.sound).id, c.requires.thread, c.record_in.auto.buf)
+pub u64_in-thread_id-requires : goal.u64_in-thread_id-requires
+u64_in-thread_id-requires g c = omega (arith, (thread_fits c.requires.sound).id, c.requires.thread, c.record_in.auto.buf)
 
-pub word_in-next-requires : goal.word_in-next-requires
-word_in-next-requires g c = omega (arith, (thread_fits c.requires.sound).next, c.requires.thread, c.record_in.auto.buf)
+pub u64_in-next-requires : goal.u64_in-next-requires
+u64_in-next-requires g c = omega (arith, (thread_fits c.requires.sound).next, c.requires.thread, c.record_in.auto.buf)
 
 pub native_id-os_thread_id-requires : goal.native_id-os_thread_id-requires
 native_id-os_thread_id-requires g c = λ place is. omega (arith, (thread_fits c.requires.sound).native_id place is, c.requires.thread, c.record_in.auto.buf)
@@ -48,4 +48,4 @@ pub returns : goal.returns
 unfolding thread_at
 returns g c =
     let one = rw c.requires.thread at c.in_ok-record_in.ensures.answer in
-    reads_next _ _ one (reads_next _ _ c.in_ok-first.ensures (reads_next _ _ c.in_ok-frames.ensures.answer (reads_end 0 (rw (c.word_in-next.ensures, c.word_in-thread_id.ensures, c.native_id-os_thread_id.ensures) refl)) (omega arith)) (le_refl _)) (thread_budget c.args.layout.now c.args.at _ _ one c.in_ok-first.ensures)
+    reads_next _ _ one (reads_next _ _ c.in_ok-first.ensures (reads_next _ _ c.in_ok-frames.ensures.answer (reads_end 0 (rw (c.u64_in-next.ensures, c.u64_in-thread_id.ensures, c.native_id-os_thread_id.ensures) refl)) (omega arith)) (le_refl _)) (thread_budget c.args.layout.now c.args.at _ _ one c.in_ok-first.ensures)

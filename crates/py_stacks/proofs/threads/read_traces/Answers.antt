@@ -1,5 +1,5 @@
 use Rattle.std.proofs.Math.Nat.{le_refl}
-use Rattle.image_memory.proofs.Reading.{reading_gives}
+use Rattle.process_memory.proofs.Reading.{reading_gives}
 use Rattle.py_stacks.proofs.ThreadLaws.{traces_law, traces_faults_law}
 use Rattle.py_stacks.proofs.threads.read_traces.Goals as goal
 

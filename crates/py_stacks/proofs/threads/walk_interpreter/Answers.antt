@@ -1,5 +1,5 @@
 use Rattle.std.proofs.lemmas.Result.{err_from_is_err_and}
-use Rattle.image_memory.proofs.Reading.{reading_none, reads_next, reads_halt}
+use Rattle.process_memory.proofs.Reading.{reading_none, reads_next, reads_halt}
 use Rattle.py_stacks.specs.Threads.{traces_at}
 use Rattle.py_stacks.proofs.Costs.{traces_budget, traces_costs}
 use Rattle.py_stacks.proofs.threads.walk_interpreter.Goals as goal

@@ -1,6 +1,6 @@
 use Rattle.std.proofs.Common.{map, vec_len, ◌-◌}
-use Rattle.image_memory.specs.Memory.Fault.{ThreadLimit}
-use Rattle.image_memory.specs.Walk.{Walking}
+use Rattle.process_memory.specs.Memory.Fault.{ThreadLimit}
+use Rattle.process_memory.specs.Walk.{Walking}
 use Rattle.py_stacks.specs.Threads.{thread_step, thread_cost, thread_limit, trace_of}
 use Rattle.py_stacks.proofs.threads.walk_threads.Given as goal
 

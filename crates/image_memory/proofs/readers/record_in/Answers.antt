@@ -1,5 +1,0 @@
-use Rattle.image_memory.proofs.Reading.{reading_one}
-use Rattle.image_memory.proofs.readers.record_in.Goals as goal
-
-pub returns-clause-answer : goal.returns-clause-answer
-returns-clause-answer g c = reading_one c.requires c.read.ensures.law

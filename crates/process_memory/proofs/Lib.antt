@@ -1,0 +1,6 @@
+pub mod Ranges
+pub mod Records
+pub mod Reading
+pub mod Founds
+pub mod Stretch
+pub mod Walks

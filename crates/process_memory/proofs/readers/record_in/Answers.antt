@@ -1,0 +1,5 @@
+use Rattle.process_memory.proofs.Reading.{reading_one}
+use Rattle.process_memory.proofs.readers.record_in.Goals as goal
+
+pub returns-clause-answer : goal.returns-clause-answer
+returns-clause-answer g c = reading_one c.requires c.read.ensures.law

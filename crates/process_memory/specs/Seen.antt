@@ -1,0 +1,124 @@
+-- What an object that reads a process's memory means, and what each reader of it owes.
+use Rattle.std.specs.Prelude.{◌≡◌, ℕ, ◌+◌, ◌<◌, ◌≤◌, ◌^◌, Bool, Option, Some, None, IsSome, List, [], ◌∷◌, ◌++◌, length, slice_get, Result, Ok, Err, ⊤}
+use Rattle.std.specs.Borrow.{GName}
+use Rattle.std.specs.Global.{Vec}
+use Rattle.process_memory.specs.declared.memory.Span.{Span}
+use Rattle.process_memory.specs.declared.memory.ReadFault.{ReadFault}
+use Rattle.process_memory.specs.declared.memory.ReadFault.TheVariants.{Unreadable, OutOfMemory}
+use Rattle.process_memory.specs.Memory.{Memory, Region, byte_at, Found, Fault, record_at}
+use Rattle.process_memory.specs.Memory.Fault.{Missing}
+
+-- what an object that reads a process's memory means
+pub record Seen : Type 0 where
+  -- its memory
+  pub pieces : List Region
+  -- how many reads were counted
+  pub reads : ℕ
+  -- the ranges that were read, where they are kept
+  pub ranges : Option (List Span)
+  -- the counter that it counts on
+  pub counter : Option GName
+  -- whether a read may want memory
+  pub may_want_memory : Bool
+
+-- the ranges after one more was read
+abbrev pub with_range : Option (List Span) → Span → Option (List Span)
+with_range None s = None
+with_range (Some xs) s = Some (xs ++ s ∷ [])
+
+abbrev pub ranges_after : {T E : Type 0} → Result T E → Option (List Span) → Span → Option (List Span)
+ranges_after (Ok x) rs s = with_range rs s
+ranges_after (Err e) rs s = rs
+
+-- the fault that an error names; want of memory names none
+abbrev pub fault_of : ReadFault → Option Fault
+fault_of (Unreadable a n) = Some (Missing a n)
+fault_of OutOfMemory = None
+
+abbrev pub FaultIs : {T : Type 0} → Found T → Option Fault → Type 0
+FaultIs d None = ⊤
+FaultIs d (Some f) = d ≡ Err f
+
+abbrev pub AnswerIs : {T E : Type 0} → (E → Option Fault) → Found T → Result T E → Type 0
+AnswerIs fault d (Ok x) = d ≡ Ok x
+AnswerIs fault d (Err e) = FaultIs d (fault e)
+
+-- a result is what the definition says, or a want of memory
+pub record Answers {T E : Type 0} (fault : E → Option Fault) (definition : Found T) (result : Result T E) : Type 0 where
+  pub is : AnswerIs fault definition result
+
+-- one call that reads a range
+pub record OneRead (old new : Seen) (addr len : ℕ) (result : Result (List ℕ) ReadFault) : Type 0 where
+  pub pieces : new.pieces ≡ old.pieces
+  pub counter : new.counter ≡ old.counter
+  pub memory : new.may_want_memory ≡ old.may_want_memory
+  pub cost : new.reads ≤ old.reads + 1
+  pub ranges : new.ranges ≡ ranges_after result old.ranges (record { start = addr; len = len })
+  pub answer : Answers fault_of (record_at (byte_at old.pieces) addr len) result
+
+abbrev pub with_bytes : {E : Type 0} → List ℕ → Result Unit E → Result (List ℕ) E
+with_bytes bytes (Ok u) = Ok bytes
+with_bytes bytes (Err e) = Err e
+
+abbrev pub items_of : {T E : Type 0} → Result (Vec T) E → Result (List T) E
+items_of (Ok v) = Ok v.items
+items_of (Err e) = Err e
+
+-- the later list goes on from the earlier one
+abbrev pub Extends : Option (List Span) → Option (List Span) → Type 0
+Extends None None = ⊤
+Extends None (Some ys) = ⊥
+Extends (Some xs) None = ⊥
+Extends (Some xs) (Some ys) = (zs : List Span) × (ys ≡ xs ++ zs)
+
+abbrev pub HoldsSpan : Memory → Span → Type 0
+HoldsSpan m s = (k : ℕ) → k < s.len → IsSome (m (s.start + k))
+
+-- the memory holds what was read: the added ranges where they are kept, and else all of the memory
+abbrev pub HoldsRead : Option (List Span) → Option (List Span) → Memory → Memory → Type 0
+HoldsRead None new whole m = (a : ℕ) → IsSome (whole a) → IsSome (m a)
+HoldsRead (Some xs) None whole m = ⊤
+HoldsRead (Some xs) (Some ys) whole m = (k : ℕ) (s : Span) → length xs ≤ k → slice_get ys k ≡ Some s → HoldsSpan m s
+
+-- a memory that has no byte that this one lacks or has otherwise, and holds what was read in between
+pub record Suffices (old new : Seen) (m : Memory) : Type 0 where
+  pub agrees : (a b : ℕ) → m a ≡ Some b → byte_at old.pieces a ≡ Some b
+  pub holds : HoldsRead old.ranges new.ranges (byte_at old.pieces) m
+
+-- each of the added ranges is shorter than a limit
+abbrev pub AddsShort : ℕ → Option (List Span) → Option (List Span) → Type 0
+AddsShort limit None new = ⊤
+AddsShort limit (Some xs) None = ⊤
+AddsShort limit (Some xs) (Some ys) = (k : ℕ) (s : Span) → length xs ≤ k → slice_get ys k ≡ Some s → s.len < limit
+
+-- `new` comes of `old` by at most `n` reads of fewer bytes than a limit, and `Q` holds of every memory that
+-- covers them, of which this one is one
+pub record ReadingBelow (limit n : ℕ) (old new : Seen) (Q : Memory → Type 0) : Type 0 where
+  pub pieces : new.pieces ≡ old.pieces
+  pub counter : new.counter ≡ old.counter
+  pub memory : new.may_want_memory ≡ old.may_want_memory
+  pub ranges : Extends old.ranges new.ranges
+  pub here : HoldsRead old.ranges new.ranges (byte_at old.pieces) (byte_at old.pieces)
+  pub short : AddsShort limit old.ranges new.ranges
+  pub cost : new.reads ≤ old.reads + n
+  pub holds : (m : Memory) → Suffices old new m → Q m
+
+-- what readers of objects and stacks owe: each range that they read is shorter than 65536 bytes
+abbrev pub Reading : ℕ → Seen → Seen → (Memory → Type 0) → Type 0
+Reading n old new Q = ReadingBelow (2 ^ 16) n old new Q
+
+-- `new` comes of `old` by at most `n` reads, and the result is what the definition says over every memory that covers them
+abbrev pub Reads : {T E : Type 0} → (E → Option Fault) → ℕ → Seen → Seen → (Memory → Found T) → Result T E → Type 0
+Reads fault n old new definition result = Reading n old new (λ m. Answers fault (definition m) result)
+
+-- the same two, where the memory itself says how many reads there are at most
+abbrev pub ReadingBy : (Memory → ℕ) → Seen → Seen → (Memory → Type 0) → Type 0
+ReadingBy cost old new Q = Reading (cost (byte_at old.pieces)) old new Q
+
+abbrev pub ReadsBy : {T E : Type 0} → (E → Option Fault) → (Memory → ℕ) → Seen → Seen → (Memory → Found T) → Result T E → Type 0
+ReadsBy fault cost old new definition result = Reads fault (cost (byte_at old.pieces)) old new definition result
+
+-- a part of a memory that holds all of some ranges
+pub record IsPartWith (whole : Memory) (ranges : List Span) (m : Memory) : Type 0 where
+  pub agrees : (a b : ℕ) → m a ≡ Some b → whole a ≡ Some b
+  pub holds : (k : ℕ) (s : Span) → slice_get ranges k ≡ Some s → HoldsSpan m s

@@ -1,0 +1,23 @@
+-- Which error of a lower crate is which cause.
+use Rattle.image_memory.specs.declared.dump_error.DumpError.{DumpError}
+use Rattle.image_memory.specs.declared.dump_error.DumpError.TheVariants as dump
+use Rattle.py_stacks.specs.declared.error.StackError.{StackError}
+use Rattle.py_stacks.specs.declared.error.StackError.TheVariants as stack
+use Rattle.py_process.specs.declared.core_error.CoreError.{CoreError}
+use Rattle.py_process.specs.declared.core_error.CoreError.TheVariants.{NotElf64, BadHeader, NoNotes, BadNote, Unreadable, BadValue, LocalsLimit, ThreadLimit, FrameLimit, ChainLimit, OutOfMemory}
+
+abbrev pub cause_of_dump : DumpError → CoreError
+cause_of_dump dump.NotElf64 = NotElf64
+cause_of_dump dump.BadHeader = BadHeader
+cause_of_dump dump.NoNotes = NoNotes
+cause_of_dump dump.BadNote = BadNote
+cause_of_dump dump.OutOfMemory = OutOfMemory
+
+abbrev pub cause_of_stacks : StackError → CoreError
+cause_of_stacks (stack.Unreadable addr len) = Unreadable addr len
+cause_of_stacks (stack.BadValue frame) = BadValue frame
+cause_of_stacks (stack.LocalsLimit count) = LocalsLimit count
+cause_of_stacks stack.ThreadLimit = ThreadLimit
+cause_of_stacks stack.FrameLimit = FrameLimit
+cause_of_stacks stack.ChainLimit = ChainLimit
+cause_of_stacks stack.OutOfMemory = OutOfMemory
