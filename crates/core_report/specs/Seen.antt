@@ -1,4 +1,5 @@
 -- What the program's own words stand for.
+use Rattle.py_version.specs.Version.{release}
 use Rattle.py_version.specs.declared.version.Version.{Version}
 use Rattle.core_report.specs.Words as words
 use Rattle.core_report.specs.declared.words.Release.{Release}
@@ -9,7 +10,7 @@ use Rattle.core_report.specs.declared.words.Command.{Command}
 use Rattle.core_report.specs.declared.words.Command.TheVariants.{Walk}
 
 abbrev pub asked_version : Release → Version
-asked_version r = words.release r.major r.minor r.patch
+asked_version r = release r.major r.minor r.patch
 
 abbrev pub asked_source : LayoutSource → words.LayoutSource
 asked_source Sample = words.sample

@@ -4,6 +4,7 @@ use Rattle.std.specs.List.{list_all, position_or_len, starts_with, before_first,
 use Rattle.std.specs.Char.{digit_value}
 use Rattle.std.specs.Str.Parse.{digits_value}
 use Rattle.std.specs.Global.{Global}
+use Rattle.py_version.specs.Version.{release}
 use Rattle.py_version.specs.declared.version.Version.{Version}
 use Rattle.py_stacks.specs.declared.trace.Addresses.{Addresses}
 
@@ -19,10 +20,7 @@ digits_in radix most ds = if is_numeral radix most ds then Some (digits_value ra
 abbrev pub number_of : List ℕ → Option ℕ
 number_of word = if starts_with nat_eq word (codes "0x") then digits_in 16 16 (drop 2 word) else digits_in 10 20 word
 
--- a version of three numbers alone
-abbrev pub release : ℕ → ℕ → ℕ → Version
-release major minor patch = record { major = major; minor = minor; patch = patch; release_flags = []; build_metadata = None }
-
+-- such a version, where all three are there
 abbrev pub release_by : Option ℕ → Option ℕ → Option ℕ → Option Version
 release_by (Some major) (Some minor) (Some patch) = Some (release major minor patch)
 release_by _ _ _ = None

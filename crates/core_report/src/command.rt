@@ -12,13 +12,13 @@ ghost use Rattle.core_report.specs.Seen.{asked_command, asked_source, asked_walk
 ghost use Rattle.core_report.specs.Lines.{Says, line, core_parts, file_parts, layout_parts};
 ghost use Rattle.core_report.specs.Run.{Asks, Ends, HasBadLayouts, IsFaultless, IsSourceTrouble, IsTextTrouble, Reaches, SourceGives, Tells, TellsLayouts, Works, sample_layouts, status_of, trouble_parts};
 
-use py_process::CoreError;
 use crate::core_walk::walk;
 use crate::lines::{say_core, say_file, say_layouts, say_text};
 use crate::text::walk_text;
 use crate::words::{Command, LayoutSource, WalkWords, read_words};
 use image_memory::{FileFault, Files, Sink};
-use py_layout::{Layout, LayoutError, Layouts};
+use py_layout::{Layout, LayoutError, Layouts, Version};
+use py_process::CoreError;
 use std::alloc::{AllocError, Global};
 
 /// Why a run printed nothing, or not all.
@@ -109,7 +109,12 @@ fn work(
     ensures { MatchResult result (λ text. Works (walk (asked_walk words.now)) core.items layouts.now (Ok (string_bytes text)))
         (λ error. error ≢ CoreError.OutOfMemory → Works (walk (asked_walk words.now)) core.items layouts.now (Err error)) }
 {
-    let version = words.version.version(alloc)?;
+    let version = Version::of_numbers(
+        alloc,
+        words.version.major,
+        words.version.minor,
+        words.version.patch,
+    )?;
     let traces = walk(alloc, core, layouts, &version, &words.addresses)?;
     let text = walk_text(alloc, &version, &traces)?;
     Ok(text)

@@ -1,42 +1,13 @@
 //! The walk over a core's threads.
-ghost use Rattle.std.specs.Prelude.{◌≡◌, IfOk};
+ghost use Rattle.std.specs.Prelude.{◌≡◌};
 ghost use Rattle.image_memory.specs.Pieces.{memory_of};
 ghost use Rattle.core_report.specs.Answer.{Means, traced};
 
-use py_process::CoreError;
-use elf64_core::Text;
 use image_memory::CoreDump;
 use py_layout::{Layouts, Version};
+use py_process::CoreError;
 use py_stacks::{Addresses, StackTrace, read_stacks};
-use std::alloc::{AllocError, Global};
-
-/// A copy of a version's metadata. The one error is want of memory.
-fn copy_metadata(alloc: Global, metadata: &Option<Text>) -> Result<Option<Text>, AllocError>
-    ensures { IfOk result (λ copy. copy ≡ metadata.now) }
-{
-    match metadata {
-        Some(metadata) => {
-            let copy = metadata.copy(alloc)?;
-            Ok(Some(copy))
-        }
-        None => Ok(None),
-    }
-}
-
-/// A copy of a version. The one error is want of memory.
-fn copy_version(alloc: Global, version: &Version) -> Result<Version, AllocError>
-    ensures { IfOk result (λ copy. copy ≡ version.now) }
-{
-    let release_flags = version.release_flags.copy(alloc)?;
-    let build_metadata = copy_metadata(alloc, &version.build_metadata)?;
-    Ok(Version {
-        major: version.major,
-        minor: version.minor,
-        patch: version.patch,
-        release_flags,
-        build_metadata,
-    })
-}
+use std::alloc::Global;
 
 /// The traces of the threads of the interpreter at a handed-in address, in the order of their chain.
 ///
@@ -61,7 +32,7 @@ pub fn walk(
 {
     let core = CoreDump::new(alloc, bytes)?;
     let Some(layout) = layouts.choose(version) else {
-        let version = copy_version(alloc, version)?;
+        let version = version.copy(alloc)?;
         return Err(CoreError::UnsupportedVersion { version });
     };
     let mut view = core.view();

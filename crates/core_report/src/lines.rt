@@ -4,11 +4,11 @@ ghost use Rattle.std.specs.Fmt.{digits, digit_glyph, signed_decimal};
 ghost use Rattle.py_version.specs.Version.{metadata_text, version_text};
 ghost use Rattle.core_report.specs.Lines.{Says, address, core_parts, file_parts, joined, layout_parts, line, range_parts};
 
-use py_process::CoreError;
 use elf64_core::Text;
 use image_memory::{FileFault, Sink};
 use itoa::Buffer;
 use py_layout::{LayoutError, Version};
+use py_process::CoreError;
 
 const PREFIX: &[u8] = b"pystacks: ";
 

@@ -1,12 +1,9 @@
 //! The words of the command line.
-ghost use Rattle.std.specs.Prelude.{◌≡◌, ◌≤◌, ◌∷◌, [], option_map, IfOk};
+ghost use Rattle.std.specs.Prelude.{◌≡◌, ◌≤◌, ◌∷◌, [], option_map};
 ghost use Rattle.core_report.specs.Words.{command_of, digits_in, number_of, release_by, release_of, source_of, split_at_dot, texts, walk_by, walk_words};
 ghost use Rattle.core_report.specs.Seen.{asked_command, asked_source, asked_version, asked_walk};
 
-use elf64_core::Text;
-use py_layout::Version;
 use py_stacks::Addresses;
-use std::alloc::{AllocError, Global};
 
 /// What words ask for.
 #[derive(Clone, Copy)]
@@ -40,22 +37,6 @@ pub(crate) struct Release {
     pub(crate) major: u64,
     pub(crate) minor: u64,
     pub(crate) patch: u64,
-}
-
-impl Release {
-    /// The same as a version, with no flags and no metadata.
-    pub(crate) fn version(&self, alloc: Global) -> Result<Version, AllocError>
-        ensures { IfOk result (λ version. version ≡ asked_version self.now) }
-    {
-        let release_flags = Text::of(alloc, "")?;
-        Ok(Version {
-            major: self.major,
-            minor: self.minor,
-            patch: self.patch,
-            release_flags,
-            build_metadata: None,
-        })
-    }
 }
 
 /// One digit or more of the radix, at most so many.

@@ -122,16 +122,6 @@ fn with_few_groups() -> Layout {
     }
 }
 
-fn version(alloc: Global, minor: u64) -> Result<Version, AllocError> {
-    Ok(Version {
-        major: 3,
-        minor,
-        patch: 7,
-        release_flags: Text::of(alloc, "")?,
-        build_metadata: None,
-    })
-}
-
 #[test]
 fn samples_are_sound(rt: HostRuntime) -> Result<(), Fail> {
     let alloc = rt.alloc();
@@ -150,11 +140,11 @@ fn samples_are_sound(rt: HostRuntime) -> Result<(), Fail> {
         (11, None),
         (12, Some(12)),
     ] {
-        let version = version(alloc, minor)?;
+        let version = Version::of_numbers(alloc, 3, minor, 7)?;
         let chosen = layouts.choose(&version).map(|layout| layout.first_minor);
         assert_eq!(rt; chosen, found, "3.{minor}");
     }
-    let mut other = version(alloc, 9)?;
+    let mut other = Version::of_numbers(alloc, 3, 9, 7)?;
     other.major = 2;
     assert_eq!(rt; layouts.choose(&other).map(|layout| layout.major), Some(2));
     assert!(rt; !Layout::sample().covers(&other));

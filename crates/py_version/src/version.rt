@@ -1,7 +1,8 @@
 //! Versions of Python.
-ghost use Rattle.std.specs.Prelude.{Some};
+ghost use Rattle.std.specs.Prelude.{◌≡◌, IfOk, Some};
 
 use elf64_core::Text;
+use std::alloc::{AllocError, Global};
 use std::fmt;
 
 /// A version of Python, such as 3.10.0rc1.
@@ -17,6 +18,57 @@ pub struct Version {
     pub release_flags: Text,
     /// What follows a `+`, where there is one.
     pub build_metadata: Option<Text>,
+}
+
+/// A copy of a version's metadata. The one error is want of memory.
+fn copy_metadata(alloc: Global, metadata: &Option<Text>) -> Result<Option<Text>, AllocError>
+    ensures { IfOk result (λ copy. copy ≡ metadata.now) }
+{
+    match metadata {
+        Some(metadata) => {
+            let copy = metadata.copy(alloc)?;
+            Ok(Some(copy))
+        }
+        None => Ok(None),
+    }
+}
+
+impl Version {
+    ghost use Rattle.py_version.specs.Version.{release};
+
+    /// The version of three numbers alone, with no flags and no metadata. The one error is want of memory.
+    pub fn of_numbers(
+        alloc: Global,
+        major: u64,
+        minor: u64,
+        patch: u64,
+    ) -> Result<Version, AllocError>
+        ensures { IfOk result (λ version. version ≡ release major minor patch) }
+    {
+        let release_flags = Text::of(alloc, "")?;
+        Ok(Version {
+            major,
+            minor,
+            patch,
+            release_flags,
+            build_metadata: None,
+        })
+    }
+
+    /// A copy of the version. The one error is want of memory.
+    pub fn copy(&self, alloc: Global) -> Result<Version, AllocError>
+        ensures { IfOk result (λ copy. copy ≡ self.now) }
+    {
+        let release_flags = self.release_flags.copy(alloc)?;
+        let build_metadata = copy_metadata(alloc, &self.build_metadata)?;
+        Ok(Version {
+            major: self.major,
+            minor: self.minor,
+            patch: self.patch,
+            release_flags,
+            build_metadata,
+        })
+    }
 }
 
 impl fmt::Display for Version {
