@@ -66,8 +66,8 @@ meets_none w bytes layouts f apart good (walked, is) =
     cc
 
 means_none : (w : Walk) (bytes : List ℕ) (layouts : List Layout) (error : CoreError) → NoneClash layouts → IsFaultless w bytes layouts → error ≢ core.OutOfMemory → Means bytes layouts w.version w.addresses (Err error) → ⊥
-means_none w bytes layouts core.NotElf64 apart good memory h = h good.accepted.header
-means_none w bytes layouts core.BadHeader apart good memory h = h.1 good.accepted.readable
+means_none w bytes layouts core.NotElf64 apart good memory h = h good.accepted.accepted.header
+means_none w bytes layouts core.BadHeader apart good memory h = h.1 good.accepted.accepted.readable
 means_none w bytes layouts core.NoNotes apart good memory h = h
 means_none w bytes layouts core.BadNote apart good memory h = h
 means_none w bytes layouts core.NoBinary apart good memory h = h

@@ -1,7 +1,7 @@
 -- What the readers' answers mean of a core.
 use Rattle.std.proofs.Common.{ℕ, List, [], ◌∷◌, rules}
 use Rattle.std.specs.Prelude.{AllPairs, Err, Contains}
-use Rattle.elf64_core.specs.Header.{IsAccepted}
+use Rattle.image_memory.specs.Cores.{IsCore}
 use Rattle.process_memory.specs.Faults.{IsFirst}
 use Rattle.py_fields.specs.declared.layout.Layout.{Layout}
 use Rattle.py_version.specs.declared.version.Version.{Version}
@@ -22,7 +22,7 @@ one_sound l s = record { each = search rules; apart = search rules }
 pub one_apart : (l : Layout) → AllPairs (λ a b. ¬ Clash a b) (l ∷ [])
 one_apart l = search rules
 
-abbrev pub walked_by : (bytes : List ℕ) (layouts : List Layout) (version : Version) (layout : Layout) → IsAccepted bytes → Contains layouts layout → Covers layout version → IsWalked bytes layouts version
+abbrev pub walked_by : (bytes : List ℕ) (layouts : List Layout) (version : Version) (layout : Layout) → IsCore bytes → Contains layouts layout → Covers layout version → IsWalked bytes layouts version
 walked_by bytes layouts version layout accepted listed covers = record { accepted = accepted; layout = layout; chosen = record { listed = listed; covers = covers } }
 
 -- an error of the readers is the first fault

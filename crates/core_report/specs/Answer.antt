@@ -2,7 +2,8 @@
 -- looked at first, then the version, then the lock's owner and the chain of threads.
 use Rattle.std.specs.Prelude.{◌≡◌, ℕ, List, Option, Some, None, Result, Ok, Err, ⊤, Contains, map}
 use Rattle.std.specs.Global.{Vec}
-use Rattle.elf64_core.specs.Header.{IsElf64, HasSegments, IsAccepted}
+use Rattle.image_memory.specs.Cores.{IsCore, Refuses}
+use Rattle.image_memory.specs.declared.dump_error.DumpError.TheVariants as dump
 use Rattle.process_memory.specs.Memory.{Memory, Fault, byte_at}
 use Rattle.process_memory.specs.Memory.Fault.{Missing, BadValue as IsBadValue, LocalsLimit as ManyLocals, ThreadLimit as ManyThreads, FrameLimit as ManyFrames, ChainLimit as ManyMembers}
 use Rattle.image_memory.specs.Pieces.{memory_of}
@@ -24,7 +25,7 @@ pub record IsChosen (layouts : List Layout) (version : Version) (layout : Layout
 
 -- the file is accepted, and a layout covers the version
 pub record IsWalked (bytes : List ℕ) (layouts : List Layout) (version : Version) : Type 0 where
-  pub accepted : IsAccepted bytes
+  pub accepted : IsCore bytes
   pub layout : Layout
   pub chosen : IsChosen layouts version layout
 
@@ -38,33 +39,37 @@ fault_by layout bytes addresses = first_fault (stacks_faults layout (core_memory
 
 -- the walk meets this fault first
 abbrev pub Meets : List ℕ → List Layout → Version → Addresses → Fault → Type 0
-Meets bytes layouts version addresses fault = (w : IsWalked bytes layouts version) × (fault_by w.layout bytes addresses ≡ Some fault)
+Meets bytes layouts version addresses fault = (w : IsWalked bytes layouts version)
+    × (fault_by w.layout bytes addresses ≡ Some fault)
 
 -- the walk meets no fault, and these are its traces
-pub record Finds (bytes : List ℕ) (layouts : List Layout) (version : Version) (addresses : Addresses) (traces : List Trace) : Type 0 where
+pub record Finds (bytes : List ℕ) (layouts : List Layout) (version : Version) (addresses : Addresses)
+    (traces : List Trace) : Type 0 where
   pub walked : IsWalked bytes layouts version
   pub faultless : fault_by walked.layout bytes addresses ≡ None
   pub whole : AreStacks walked.layout (core_memory bytes) addresses traces
 
 -- the file is accepted, and no layout covers the version
 pub record IsUncovered (bytes : List ℕ) (layouts : List Layout) (version : Version) : Type 0 where
-  pub accepted : IsAccepted bytes
+  pub accepted : IsCore bytes
   pub none : (layout : Layout) → ¬ IsChosen layouts version layout
 
 -- what each answer means. The causes shut each other out, so that each answer comes exactly where its cause
 -- holds, want of memory aside; an answer that is no walk's never comes
 abbrev pub Means : List ℕ → List Layout → Version → Addresses → Result (List Trace) CoreError → Type 0
 Means bytes layouts version addresses (Ok traces) = Finds bytes layouts version addresses traces
-Means bytes layouts version addresses (Err NotElf64) = ¬ IsElf64 bytes
-Means bytes layouts version addresses (Err BadHeader) = IsElf64 bytes × ¬ HasSegments bytes
-Means bytes layouts version addresses (Err (UnsupportedVersion named)) = IsUncovered bytes layouts version × (named ≡ version)
-Means bytes layouts version addresses (Err (Unreadable addr len)) = Meets bytes layouts version addresses (Missing addr len)
+Means bytes layouts version addresses (Err NotElf64) = Refuses bytes dump.NotElf64
+Means bytes layouts version addresses (Err BadHeader) = Refuses bytes dump.BadHeader
+Means bytes layouts version addresses (Err (UnsupportedVersion named)) = IsUncovered bytes layouts version
+    × (named ≡ version)
+Means bytes layouts version addresses (Err (Unreadable addr len)) =
+    Meets bytes layouts version addresses (Missing addr len)
 Means bytes layouts version addresses (Err ThreadLimit) = Meets bytes layouts version addresses ManyThreads
 Means bytes layouts version addresses (Err FrameLimit) = Meets bytes layouts version addresses ManyFrames
 Means bytes layouts version addresses (Err ChainLimit) = Meets bytes layouts version addresses ManyMembers
 Means bytes layouts version addresses (Err OutOfMemory) = ⊤
-Means bytes layouts version addresses (Err NoNotes) = ⊥
-Means bytes layouts version addresses (Err BadNote) = ⊥
+Means bytes layouts version addresses (Err NoNotes) = Refuses bytes dump.NoNotes
+Means bytes layouts version addresses (Err BadNote) = Refuses bytes dump.BadNote
 Means bytes layouts version addresses (Err NoBinary) = ⊥
 Means bytes layouts version addresses (Err (NoImage path)) = ⊥
 Means bytes layouts version addresses (Err (BadImage path)) = ⊥
@@ -74,7 +79,8 @@ Means bytes layouts version addresses (Err NoInterpreter) = ⊥
 Means bytes layouts version addresses (Err NativeUnsupported) = ⊥
 Means bytes layouts version addresses (Err SubprocessesUnsupported) = ⊥
 Means bytes layouts version addresses (Err (BadValue frame)) = Meets bytes layouts version addresses (IsBadValue frame)
-Means bytes layouts version addresses (Err (LocalsLimit count)) = Meets bytes layouts version addresses (ManyLocals count)
+Means bytes layouts version addresses (Err (LocalsLimit count)) =
+    Meets bytes layouts version addresses (ManyLocals count)
 
 abbrev pub traced : {E : Type 0} → Result (Vec StackTrace) E → Result (List Trace) E
 traced (Ok v) = Ok (map trace_of v.items)

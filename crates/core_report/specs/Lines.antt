@@ -55,7 +55,8 @@ file_parts name fault.OutOfMemory = codes "out of memory" ∷ []
 
 abbrev pub layout_parts : LayoutError → List (List ℕ)
 layout_parts layout.NotToml = codes "layouts: not TOML" ∷ []
-layout_parts (layout.Shape table key) = codes "layouts: table " ∷ decimal table ∷ codes ", key " ∷ encode_utf8_all key ∷ []
+layout_parts (layout.Shape table key) = codes "layouts: table " ∷ decimal table ∷ codes ", key "
+    ∷ encode_utf8_all key ∷ []
 layout_parts (layout.Unsound table) = codes "layouts: table " ∷ decimal table ∷ codes " is unsound" ∷ []
 layout_parts (layout.Clash first second) =
     codes "layouts: tables " ∷ decimal first ∷ codes " and " ∷ decimal second ∷ codes " clash" ∷ []

@@ -15,7 +15,7 @@ use Rattle.core_report.specs.Words.{Command, LayoutSource, Walk, walk, sample, f
 use Rattle.core_report.specs.Lines.{core_parts, file_parts, layout_parts}
 use Rattle.core_report.specs.Text.{walk_text}
 use Rattle.core_report.specs.Answer.{Finds, IsChosen, Means, fault_by}
-use Rattle.elf64_core.specs.Header.{IsAccepted}
+use Rattle.image_memory.specs.Cores.{IsCore}
 use Rattle.py_layout.specs.declared.error.LayoutError.{LayoutError}
 use Rattle.py_layout.specs.declared.error.LayoutError.TheVariants as layout
 use Rattle.py_fields.specs.declared.layout.Layout.{Layout}
@@ -35,7 +35,8 @@ SourceGives told (file name) answer = (text : List ℕ) × Gives told name text 
 -- what a command comes to over the bytes of its core: the text of the traces that it finds by the layouts, or
 -- the cause why there are none
 abbrev pub Works : Command → List ℕ → List Layout → Result (List ℕ) CoreError → Type 0
-Works (walk w) core layouts (Ok text) = (traces : List StackTrace) × (text ≡ walk_text w.version traces) × Finds core layouts w.version w.addresses (map trace_of traces)
+Works (walk w) core layouts (Ok text) = (traces : List StackTrace) × (text ≡ walk_text w.version traces)
+    × Finds core layouts w.version w.addresses (map trace_of traces)
 Works (walk w) core layouts (Err error) = Means core layouts w.version w.addresses (Err error)
 
 -- A command is asked for, and over the bytes of its core, which are those of the told file, and by the layouts
@@ -90,7 +91,8 @@ pub record IsCut (asked : Option Command) (r : Ran) : Type 0 where
 
 -- the file of this name is asked for: the core's, or the layout file, once the core was read
 abbrev pub Asks : Told → Command → List ℕ → Type 0
-Asks told command name = (core_file command ≡ name) ⊎ ((layout_source command ≡ file name) × ((core : List ℕ) × Gives told (core_file command) core))
+Asks told command name = (core_file command ≡ name)
+    ⊎ ((layout_source command ≡ file name) × ((core : List ℕ) × Gives told (core_file command) core))
 
 -- a file that the command asks for could not be read
 pub record IsUnread (asked : Option Command) (r : Ran) (name : List ℕ) (why : FileFault) : Type 0 where
@@ -144,7 +146,7 @@ TellsLayouts told (file name) answer = (text : List ℕ) × Tells told name text
 
 -- a core in which the walk of a command has nothing to complain of
 pub record IsFaultless (w : Walk) (core : List ℕ) (layouts : List Layout) : Type 0 where
-  pub accepted : IsAccepted core
+  pub accepted : IsCore core
   pub layout : Layout
   pub chosen : IsChosen layouts w.version layout
   pub faultless : fault_by layout core w.addresses ≡ None
@@ -158,7 +160,9 @@ IsTextTrouble text _ = ⊥
 -- what the reading of a source may leave where it gives no layouts: the fault of its file, the error of the
 -- file, or want of memory
 abbrev pub IsSourceTrouble : LayoutSource → Told → FailedNames → FailedNames → Trouble → Type 0
-IsSourceTrouble source told before after (File name why) = (source ≡ file name.now) × (why ≢ fault.OutOfMemory) × (after ≡ before ++ (name.now, why) ∷ [])
-IsSourceTrouble source told before after (Layouts error) = (error ≢ layout.OutOfMemory) × SourceGives told source (Err error) × (after ≡ before)
+IsSourceTrouble source told before after (File name why) = (source ≡ file name.now) × (why ≢ fault.OutOfMemory)
+    × (after ≡ before ++ (name.now, why) ∷ [])
+IsSourceTrouble source told before after (Layouts error) = (error ≢ layout.OutOfMemory)
+    × SourceGives told source (Err error) × (after ≡ before)
 IsSourceTrouble source told before after OutOfMemory = after ≡ before
 IsSourceTrouble source told before after _ = ⊥

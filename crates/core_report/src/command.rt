@@ -69,7 +69,8 @@ fn layouts_from_file<'a, F: Files>(
     ensures told { (F.seen files.new).told ≡ (F.seen files.old).told }
     ensures ok { IfOk result (λ layouts. SourceGives (F.seen files.old).told (file name.now) (Ok layouts)
         × ((F.seen files.new).failed ≡ (F.seen files.old).failed)) }
-    ensures trouble { IfErr result (IsSourceTrouble (file name.now) (F.seen files.old).told (F.seen files.old).failed (F.seen files.new).failed) }
+    ensures trouble { IfErr result (IsSourceTrouble (file name.now) (F.seen files.old).told (F.seen files.old).failed
+        (F.seen files.new).failed) }
 {
     let text = match files.read(alloc, name.as_bytes()) {
         Ok(text) => text,
@@ -88,7 +89,8 @@ fn read_layouts<'a, F: Files>(
     ensures told { (F.seen files.new).told ≡ (F.seen files.old).told }
     ensures ok { IfOk result (λ layouts. SourceGives (F.seen files.old).told (asked_source source.now) (Ok layouts)
         × ((F.seen files.new).failed ≡ (F.seen files.old).failed)) }
-    ensures trouble { IfErr result (IsSourceTrouble (asked_source source.now) (F.seen files.old).told (F.seen files.old).failed (F.seen files.new).failed) }
+    ensures trouble { IfErr result (IsSourceTrouble (asked_source source.now) (F.seen files.old).told
+        (F.seen files.old).failed (F.seen files.new).failed) }
 {
     match source {
         LayoutSource::Sample => match sample_layouts(alloc) {
@@ -106,8 +108,10 @@ fn work(
     core: Vec<u8>,
     layouts: &Layouts,
 ) -> Result<String, CoreError>
-    ensures { MatchResult result (λ text. Works (walk (asked_walk words.now)) core.items layouts.now (Ok (string_bytes text)))
-        (λ error. error ≢ CoreError.OutOfMemory → Works (walk (asked_walk words.now)) core.items layouts.now (Err error)) }
+    ensures { MatchResult result (λ text. Works (walk (asked_walk words.now)) core.items layouts.now
+        (Ok (string_bytes text)))
+        (λ error. error ≢ CoreError.OutOfMemory
+        → Works (walk (asked_walk words.now)) core.items layouts.now (Err error)) }
 {
     let version = Version::of_numbers(
         alloc,
@@ -192,7 +196,8 @@ fn execute<'a, F: Files, S: Sink>(
 /// Writes the line of a run that gave up, and answers its status.
 fn tell<E: Sink>(err: &mut E, trouble: &Trouble<'_>) -> u8
     ensures status { result ≡ status_of trouble.now }
-    ensures said { Says (E.seen err.old).written (E.seen err.new).written (E.seen err.old).faults (E.seen err.new).faults
+    ensures said { Says (E.seen err.old).written (E.seen err.new).written (E.seen err.old).faults
+        (E.seen err.new).faults
         (line (trouble_parts trouble.now)) }
 {
     match trouble {
@@ -250,53 +255,67 @@ pub fn run<F: Files, S: Sink, E: Sink>(
     ensures statuses { result ≤ 6 }
 
     // 0: the whole text was written
-    ensures printed { result ≡ 0 → (text : List ℕ) × Reaches (command_of (texts words.now)) (F.seen files.old).told (Ok text)
+    ensures printed { result ≡ 0 → (text : List ℕ)
+        × Reaches (command_of (texts words.now)) (F.seen files.old).told (Ok text)
         × Appends (S.seen out.old).written (S.seen out.new).written text }
     ensures silent { result ≡ 0 → (E.seen err.new).written ≡ (E.seen err.old).written }
 
     // 1: the work came to an error
     ensures failed { result ≡ 1 → (error : Cause) × (error ≢ CoreError.OutOfMemory)
         × Reaches (command_of (texts words.now)) (F.seen files.old).told (Err error)
-        × Says (E.seen err.old).written (E.seen err.new).written (E.seen err.old).faults (E.seen err.new).faults (line (core_parts error)) }
+        × Says (E.seen err.old).written (E.seen err.new).written (E.seen err.old).faults (E.seen err.new).faults
+        (line (core_parts error)) }
 
     // 2: exactly where the words are refused
     ensures refused { (result ≡ 2) ↔ (command_of (texts words.now) ≡ None) }
     ensures refused_line { result ≡ 2
-        → Says (E.seen err.old).written (E.seen err.new).written (E.seen err.old).faults (E.seen err.new).faults (line (codes "bad words" ∷ [])) }
+        → Says (E.seen err.old).written (E.seen err.new).written (E.seen err.old).faults (E.seen err.new).faults
+        (line (codes "bad words" ∷ [])) }
 
     // 3: exactly where a file that the words ask for could not be read; the core comes before the layout file
-    ensures unread { result ≡ 3 → (command : Asked) × (name : List ℕ) × (why : Why) × (command_of (texts words.now) ≡ Some command)
+    ensures unread { result ≡ 3 → (command : Asked) × (name : List ℕ) × (why : Why)
+        × (command_of (texts words.now) ≡ Some command)
         × Asks (F.seen files.old).told command name × (why ≢ FileFault.OutOfMemory)
         × ((F.seen files.new).failed ≡ (F.seen files.old).failed ++ (name, why) ∷ [])
-        × Says (E.seen err.old).written (E.seen err.new).written (E.seen err.old).faults (E.seen err.new).faults (line (file_parts name why)) }
+        × Says (E.seen err.old).written (E.seen err.new).written (E.seen err.old).faults (E.seen err.new).faults
+        (line (file_parts name why)) }
     ensures all_read { result ≢ 3 → (F.seen files.new).failed ≡ (F.seen files.old).failed }
 
     // 4: the write failed, after a front of the text
-    ensures cut { result ≡ 4 → (text : List ℕ) × Reaches (command_of (texts words.now)) (F.seen files.old).told (Ok text)
+    ensures cut { result ≡ 4 → (text : List ℕ)
+        × Reaches (command_of (texts words.now)) (F.seen files.old).told (Ok text)
         × AppendsFront (S.seen out.old).written (S.seen out.new).written text
         × Rose (S.seen out.old).faults (S.seen out.new).faults
-        × Says (E.seen err.old).written (E.seen err.new).written (E.seen err.old).faults (E.seen err.new).faults (line (codes "cannot write" ∷ [])) }
+        × Says (E.seen err.old).written (E.seen err.new).written (E.seen err.old).faults (E.seen err.new).faults
+        (line (codes "cannot write" ∷ [])) }
 
     // 5: want of memory
     ensures no_memory { result ≡ 5
-        → Says (E.seen err.old).written (E.seen err.new).written (E.seen err.old).faults (E.seen err.new).faults (line (codes "out of memory" ∷ [])) }
+        → Says (E.seen err.old).written (E.seen err.new).written (E.seen err.old).faults (E.seen err.new).faults
+        (line (codes "out of memory" ∷ [])) }
 
     // 6: exactly where the layout file has an error, want of memory aside
-    ensures ill_laid { result ≡ 6 → (error : Flaw) × HasBadLayouts (command_of (texts words.now)) (F.seen files.old).told error
-        × Says (E.seen err.old).written (E.seen err.new).written (E.seen err.old).faults (E.seen err.new).faults (line (layout_parts error)) }
+    ensures ill_laid { result ≡ 6 → (error : Flaw)
+        × HasBadLayouts (command_of (texts words.now)) (F.seen files.old).told error
+        × Says (E.seen err.old).written (E.seen err.new).written (E.seen err.old).faults (E.seen err.new).faults
+        (line (layout_parts error)) }
 
     ensures nothing_out { result ≢ 0 → result ≢ 4 → (S.seen out.new).written ≡ (S.seen out.old).written }
     ensures told { (F.seen files.new).told ≡ (F.seen files.old).told }
 
     // Where the words ask for a command and no fault rises, only the layout file, the work and memory decide.
-    ensures finds { (asked : Walk) (core : List ℕ) (layouts : List Layout) → command_of (texts words.now) ≡ Some (walk asked)
-        → Tells (F.seen files.old).told asked.core core → TellsLayouts (F.seen files.old).told asked.layouts (Ok layouts)
+    ensures finds { (asked : Walk) (core : List ℕ) (layouts : List Layout)
+        → command_of (texts words.now) ≡ Some (walk asked)
+        → Tells (F.seen files.old).told asked.core core
+        → TellsLayouts (F.seen files.old).told asked.layouts (Ok layouts)
         → IsFaultless asked core layouts
-        → (F.seen files.new).failed ≡ (F.seen files.old).failed → (Rose (S.seen out.old).faults (S.seen out.new).faults → ⊥)
+        → (F.seen files.new).failed ≡ (F.seen files.old).failed
+        → (Rose (S.seen out.old).faults (S.seen out.new).faults → ⊥)
         → (result ≡ 0) ⊎ (result ≡ 5) }
     ensures fails { (asked : Walk) (core : List ℕ) (layouts : List Layout) (error : Cause)
         → command_of (texts words.now) ≡ Some (walk asked)
-        → Tells (F.seen files.old).told asked.core core → TellsLayouts (F.seen files.old).told asked.layouts (Ok layouts)
+        → Tells (F.seen files.old).told asked.core core
+        → TellsLayouts (F.seen files.old).told asked.layouts (Ok layouts)
         → error ≢ CoreError.OutOfMemory → Works (walk asked) core layouts (Err error)
         → (F.seen files.new).failed ≡ (F.seen files.old).failed
         → (result ≡ 1) ⊎ (result ≡ 5) }
@@ -305,7 +324,8 @@ pub fn run<F: Files, S: Sink, E: Sink>(
         → (F.seen files.new).failed ≡ (F.seen files.old).failed
         → (result ≡ 6) ⊎ (result ≡ 5) }
     ensures complete { (command : Asked) → command_of (texts words.now) ≡ Some command
-        → (F.seen files.new).failed ≡ (F.seen files.old).failed → (Rose (S.seen out.old).faults (S.seen out.new).faults → ⊥)
+        → (F.seen files.new).failed ≡ (F.seen files.old).failed
+        → (Rose (S.seen out.old).faults (S.seen out.new).faults → ⊥)
         → (result ≡ 0) ⊎ (result ≡ 1) ⊎ (result ≡ 5) ⊎ (result ≡ 6) }
 {
     match execute(alloc, words, files, out) {

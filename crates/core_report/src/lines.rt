@@ -16,7 +16,8 @@ const END: &[u8] = b"\n";
 
 /// Writes the pieces, up to the first that fails.
 fn say<E: Sink>(err: &mut E, pieces: &[&[u8]])
-    ensures { Says (E.seen err.old).written (E.seen err.new).written (E.seen err.old).faults (E.seen err.new).faults (joined pieces.now) }
+    ensures { Says (E.seen err.old).written (E.seen err.new).written (E.seen err.old).faults (E.seen err.new).faults
+        (joined pieces.now) }
 {
     for piece in pieces {
         match err.write(piece) {
@@ -55,21 +56,24 @@ fn glyph(digit: u8) -> u8
 
 /// A line of one text.
 pub(crate) fn say_text<E: Sink>(err: &mut E, text: &str)
-    ensures { Says (E.seen err.old).written (E.seen err.new).written (E.seen err.old).faults (E.seen err.new).faults (line (text.now ∷ [])) }
+    ensures { Says (E.seen err.old).written (E.seen err.new).written (E.seen err.old).faults (E.seen err.new).faults
+        (line (text.now ∷ [])) }
 {
     say(err, &[PREFIX, text.as_bytes(), END]);
 }
 
 /// A line of a text and a name.
 fn say_name<E: Sink>(err: &mut E, text: &str, name: &[u8])
-    ensures { Says (E.seen err.old).written (E.seen err.new).written (E.seen err.old).faults (E.seen err.new).faults (line (text.now ∷ name.now ∷ [])) }
+    ensures { Says (E.seen err.old).written (E.seen err.new).written (E.seen err.old).faults (E.seen err.new).faults
+        (line (text.now ∷ name.now ∷ [])) }
 {
     say(err, &[PREFIX, text.as_bytes(), name, END]);
 }
 
 /// A line of a text and so many bytes at an address.
 fn say_range<E: Sink>(err: &mut E, text: &str, addr: u64, len: u64)
-    ensures { Says (E.seen err.old).written (E.seen err.new).written (E.seen err.old).faults (E.seen err.new).faults (line (range_parts text.now addr len)) }
+    ensures { Says (E.seen err.old).written (E.seen err.new).written (E.seen err.old).faults (E.seen err.new).faults
+        (line (range_parts text.now addr len)) }
 {
     let mut digits = [0; 16];
     let at = hex(addr, &mut digits);
@@ -93,7 +97,8 @@ fn say_range<E: Sink>(err: &mut E, text: &str, addr: u64, len: u64)
 
 /// A line of a text and an address.
 fn say_address<E: Sink>(err: &mut E, text: &str, addr: u64)
-    ensures { Says (E.seen err.old).written (E.seen err.new).written (E.seen err.old).faults (E.seen err.new).faults (line (text.now ∷ address addr ∷ [])) }
+    ensures { Says (E.seen err.old).written (E.seen err.new).written (E.seen err.old).faults (E.seen err.new).faults
+        (line (text.now ∷ address addr ∷ [])) }
 {
     let mut digits = [0; 16];
     let at = hex(addr, &mut digits);
@@ -159,7 +164,8 @@ fn say_locals<E: Sink>(err: &mut E, count: &i32)
 
 /// The line of a file that could not be read.
 pub(crate) fn say_file<E: Sink>(err: &mut E, name: &str, fault: FileFault)
-    ensures { Says (E.seen err.old).written (E.seen err.new).written (E.seen err.old).faults (E.seen err.new).faults (line (file_parts name.now fault)) }
+    ensures { Says (E.seen err.old).written (E.seen err.new).written (E.seen err.old).faults (E.seen err.new).faults
+        (line (file_parts name.now fault)) }
 {
     match fault {
         FileFault::Failed => say_name(err, "cannot read ", name.as_bytes()),
@@ -170,7 +176,8 @@ pub(crate) fn say_file<E: Sink>(err: &mut E, name: &str, fault: FileFault)
 
 /// The line of a core that gives no stacks.
 pub(crate) fn say_core<E: Sink>(err: &mut E, error: &CoreError)
-    ensures { Says (E.seen err.old).written (E.seen err.new).written (E.seen err.old).faults (E.seen err.new).faults (line (core_parts error.now)) }
+    ensures { Says (E.seen err.old).written (E.seen err.new).written (E.seen err.old).faults (E.seen err.new).faults
+        (line (core_parts error.now)) }
 {
     match error {
         CoreError::NotElf64 => say_text(err, "not an ELF64 little-endian file"),
@@ -227,7 +234,8 @@ fn say_clash<E: Sink>(err: &mut E, first: u64, second: u64)
 
 /// The line of layouts that are refused.
 pub(crate) fn say_layouts<E: Sink>(err: &mut E, error: &LayoutError)
-    ensures { Says (E.seen err.old).written (E.seen err.new).written (E.seen err.old).faults (E.seen err.new).faults (line (layout_parts error.now)) }
+    ensures { Says (E.seen err.old).written (E.seen err.new).written (E.seen err.old).faults (E.seen err.new).faults
+        (line (layout_parts error.now)) }
 {
     let mut buffer = Buffer::new();
     match error {

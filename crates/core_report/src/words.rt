@@ -115,7 +115,8 @@ fn walk_by<'a>(
     interp: Option<u64>,
     lock: Option<u64>,
 ) -> Option<WalkWords<'a>>
-    ensures { option_map asked_walk result ≡ walk_by core.now (asked_source layouts.entry) (option_map asked_version version) interp lock }
+    ensures { option_map asked_walk result ≡ walk_by core.now (asked_source layouts.entry)
+        (option_map asked_version version) interp lock }
 {
     match (version, interp, lock) {
         (Some(version), Some(interpreter), Some(lock)) => Some(WalkWords {
@@ -151,7 +152,8 @@ fn walk_of<'a>(
     interp: &str,
     lock: &str,
 ) -> Option<WalkWords<'a>>
-    ensures { option_map asked_walk result ≡ walk_words (core.now ∷ layouts.now ∷ version.now ∷ interp.now ∷ lock.now ∷ []) }
+    ensures { option_map asked_walk result ≡ walk_words
+        (core.now ∷ layouts.now ∷ version.now ∷ interp.now ∷ lock.now ∷ []) }
 {
     walk_by(
         core,

@@ -1,6 +1,7 @@
 //! A core dump: the file of a dead process's memory.
-ghost use Rattle.std.specs.Prelude.{◌≡◌, ◌↔◌, ◌⊎◌, List, ℕ, IfOk, IfErr, IsErrOf};
-ghost use Rattle.elf64_core.specs.Header.{IsElf64, HasSegments, IsAccepted};
+ghost use Rattle.std.specs.Prelude.{◌≡◌, ◌≢◌, List, ℕ, IfOk, IfErr, Err};
+ghost use Rattle.image_memory.specs.Cores.{IsCore, Refuses};
+ghost use Rattle.image_memory.specs.declared.dump_error.DumpError.{DumpError as Refusal};
 ghost use Rattle.image_memory.specs.Pieces.{loads_of, memory_of};
 ghost use Rattle.process_memory.specs.Layers.{plain};
 
@@ -12,7 +13,7 @@ use std::marker::Model;
 
 /// A core dump. Its bytes exist once; views share them.
 ///
-/// Contracts see it as the list of the file's bytes, whose headers are accepted.
+/// Contracts see it as the list of the file's bytes, which are those of a core.
 #[derive(Drop)]
 pub struct CoreDump {
     bytes: Vec<u8>,
@@ -24,15 +25,15 @@ impl Model for CoreDump {
 
     ghost view = { λ c. c.bytes.items };
 
-    ghost invariant = { λ c. IsAccepted c.bytes.items × (c.loads.items ≡ loads_of c.bytes.items) };
+    ghost invariant = { λ c. IsCore c.bytes.items × (c.loads.items ≡ loads_of c.bytes.items) };
 }
 
 /// The load segments of a core, in table order.
 fn load_segments(alloc: Global, bytes: &[u8]) -> Result<Vec<Segment>, DumpError>
-    ensures not_elf { IsErrOf result DumpError.NotElf64 ↔ (¬ IsElf64 bytes.now) }
-    ensures bad { IsErrOf result DumpError.BadHeader ↔ (IsElf64 bytes.now × ¬ HasSegments bytes.now) }
-    ensures only { IfErr result (λ error. (error ≡ DumpError.NotElf64) ⊎ (error ≡ DumpError.BadHeader) ⊎ (error ≡ DumpError.OutOfMemory)) }
-    ensures accepted { IfOk result (λ loads. IsAccepted bytes.now) }
+    ensures right { IfErr result (Refuses bytes.now) }
+    ensures only { (error : Refusal) → error ≢ DumpError.OutOfMemory → Refuses bytes.now error
+        → result ≡ Err error }
+    ensures core { IfOk result (λ loads. IsCore bytes.now) }
     ensures loads { IfOk result (λ loads. loads.items ≡ loads_of bytes.now) }
 {
     let elf = Elf64::parse(bytes)?;
@@ -50,11 +51,11 @@ impl CoreDump {
     /// `BadHeader` comes exactly where the header is accepted and the program headers are not: see
     /// `Elf64::parse`. Else the one error is want of memory.
     pub fn new(alloc: Global, bytes: Vec<u8>) -> Result<CoreDump, DumpError>
-        ensures not_elf { IsErrOf result DumpError.NotElf64 ↔ (¬ IsElf64 bytes.items) }
-        ensures bad { IsErrOf result DumpError.BadHeader ↔ (IsElf64 bytes.items × ¬ HasSegments bytes.items) }
-        ensures only { IfErr result (λ error. (error ≡ DumpError.NotElf64) ⊎ (error ≡ DumpError.BadHeader) ⊎ (error ≡ DumpError.OutOfMemory)) }
+        ensures right { IfErr result (Refuses bytes.items) }
+        ensures only { (error : Refusal) → error ≢ DumpError.OutOfMemory → Refuses bytes.items error
+            → result ≡ Err error }
         ensures same { IfOk result (λ core. core ≡ bytes.items) }
-        ensures accepted { IfOk result (λ core. IsAccepted bytes.items) }
+        ensures core { IfOk result (λ core. IsCore bytes.items) }
     {
         let loads = load_segments(alloc, &bytes)?;
         Ok(CoreDump { bytes, loads })

@@ -55,7 +55,8 @@ gained name (Err fault) = failed_name name fault
 
 -- the name has more bytes than the limit where they are told; else more were taken
 abbrev pub IsTooLong : Told → List ℕ → ℕ → ℕ → Type 0
-IsTooLong (Some files) name before now = (bytes : List ℕ) × (bytes_of files name ≡ Some bytes) × (file_limit < length bytes)
+IsTooLong (Some files) name before now = (bytes : List ℕ) × (bytes_of files name ≡ Some bytes)
+    × (file_limit < length bytes)
 IsTooLong None name before now = RoseByMore before now
 
 -- files in memory: names with their bytes, the numbers of the calls that are to fail, how many calls there
@@ -98,7 +99,8 @@ taken_after taken (Ok bytes) = count_after taken (length bytes.items)
 taken_after taken (Err _) = taken
 
 -- what a call for this name with this answer leaves of files
-pub record HasRead (old : HeldFiles) (name : List ℕ) (answer : Result (Vec ℕ Global) FileFault) (new : HeldFiles) : Type 0 where
+pub record HasRead (old : HeldFiles) (name : List ℕ) (answer : Result (Vec ℕ Global) FileFault)
+    (new : HeldFiles) : Type 0 where
   pub files : new.files ≡ old.files
   pub failing : new.failing ≡ old.failing
   pub calls : new.calls ≡ count_after old.calls 1

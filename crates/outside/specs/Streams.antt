@@ -48,7 +48,8 @@ faults_after faults (Ok _) = faults
 faults_after faults (Err _) = count_after faults 1
 
 -- what a call with this piece and this answer leaves of a stream
-pub record HasWritten {T E : Type 0} (old : HeldStream) (piece : List ℕ) (answer : Result T E) (new : HeldStream) : Type 0 where
+pub record HasWritten {T E : Type 0} (old : HeldStream) (piece : List ℕ) (answer : Result T E)
+    (new : HeldStream) : Type 0 where
   pub bytes : new.bytes ≡ old.bytes
       ++ take (added_length (failing_at old.failing old.calls) (length piece) (old.room - length old.bytes)) piece
   pub room : new.room ≡ old.room

@@ -71,7 +71,8 @@ fn read_piece<F: Read>(file: &mut F, bytes: &mut Vec<u8>, filled: usize) -> io::
     ensures len { vec_len bytes.new ≡ vec_len bytes.old }
     ensures kept { take filled bytes.new.items ≡ take filled bytes.old.items }
     ensures bound { IfOk result (λ count. filled + count ≤ vec_len bytes.new) }
-    ensures read { MatchResult result (λ count. Consumes (F.remaining file.old) (F.remaining file.new) (take count (drop filled bytes.new.items)))
+    ensures read { MatchResult result (λ count. Consumes (F.remaining file.old) (F.remaining file.new)
+        (take count (drop filled bytes.new.items)))
         (λ _. Keeps (F.remaining file.old) (F.remaining file.new)) }
     ensures end { IfOk result (λ count. count ≡ 0 → IsAtEnd (F.remaining file.new)) }
 {

@@ -16,8 +16,20 @@ counted_or (Some name) reads recorded = reads
 -- one that keeps what was read. Its reads are those of its inner memory where that counts on a counter,
 -- and else as many as the ranges
 abbrev pub recorded : Seen → List Span → Seen
-recorded inner spans = record { pieces = inner.pieces; reads = counted_or inner.counter inner.reads (length spans); ranges = Some spans; counter = inner.counter; may_want_memory = true }
+recorded inner spans = record {
+  pieces = inner.pieces;
+  reads = counted_or inner.counter inner.reads (length spans);
+  ranges = Some spans;
+  counter = inner.counter;
+  may_want_memory = true;
+}
 
 -- one that counts on a counter
 abbrev pub counted : Seen → ℕ → GName → Seen
-counted inner count name = record { pieces = inner.pieces; reads = count; ranges = inner.ranges; counter = Some name; may_want_memory = inner.may_want_memory }
+counted inner count name = record {
+  pieces = inner.pieces;
+  reads = count;
+  ranges = inner.ranges;
+  counter = Some name;
+  may_want_memory = inner.may_want_memory;
+}

@@ -87,7 +87,8 @@ abbrev pub outside : ℕ → Found (List ℕ)
 outside zero = Ok []
 outside (suc n) = Err (Missing (2 ^ 64 - 1) (suc n))
 
--- the list of the `n` bytes at `a`, or the range that isn't in memory. A sum that passes the last address is in no memory
+-- the list of the `n` bytes at `a`, or the range that isn't in memory. A sum that passes the last address is
+-- in no memory
 unfoldable pub record_at : Memory → ℕ → ℕ → Found (List ℕ)
 record_at m a n = if nat_lt a (2 ^ 64) then found_or (bytes_at m a n) (Missing a n) else outside n
 

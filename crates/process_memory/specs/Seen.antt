@@ -107,7 +107,8 @@ pub record ReadingBelow (limit n : ℕ) (old new : Seen) (Q : Memory → Type 0)
 abbrev pub Reading : ℕ → Seen → Seen → (Memory → Type 0) → Type 0
 Reading n old new Q = ReadingBelow (2 ^ 16) n old new Q
 
--- `new` comes of `old` by at most `n` reads, and the result is what the definition says over every memory that covers them
+-- `new` comes of `old` by at most `n` reads, and the result is what the definition says over every memory
+-- that covers them
 abbrev pub Reads : {T E : Type 0} → (E → Option Fault) → ℕ → Seen → Seen → (Memory → Found T) → Result T E → Type 0
 Reads fault n old new definition result = Reading n old new (λ m. Answers fault (definition m) result)
 
@@ -115,7 +116,8 @@ Reads fault n old new definition result = Reading n old new (λ m. Answers fault
 abbrev pub ReadingBy : (Memory → ℕ) → Seen → Seen → (Memory → Type 0) → Type 0
 ReadingBy cost old new Q = Reading (cost (byte_at old.pieces)) old new Q
 
-abbrev pub ReadsBy : {T E : Type 0} → (E → Option Fault) → (Memory → ℕ) → Seen → Seen → (Memory → Found T) → Result T E → Type 0
+abbrev pub ReadsBy : {T E : Type 0} → (E → Option Fault) → (Memory → ℕ) → Seen → Seen → (Memory → Found T)
+    → Result T E → Type 0
 ReadsBy fault cost old new definition result = Reads fault (cost (byte_at old.pieces)) old new definition result
 
 -- a part of a memory that holds all of some ranges

@@ -32,28 +32,35 @@ cost_next (Err e) f = 0
 unfoldable pub walk_cost : {S T : Type 0} → (S → ℕ → Found (Step S T)) → (S → ℕ → ℕ) → ℕ → S → ℕ → ℕ
 walk_cost step cost limit state zero = 0
 walk_cost step cost zero state (suc a) = 0
-walk_cost step cost (suc limit) state (suc a) = cost state (suc a) + cost_next (step state (suc a)) (λ s n. walk_cost step cost limit s n)
+walk_cost step cost (suc limit) state (suc a) =
+    cost state (suc a) + cost_next (step state (suc a)) (λ s n. walk_cost step cost limit s n)
 
 abbrev pub after_all : {T : Type 0} → List T → Found (List T) → Found (List T)
 after_all xs (Ok ys) = Ok (xs ++ ys)
 after_all xs (Err f) = Err f
 
 -- a walk that has read `parts` at `met` members, and stands at `at` in a state
-pub record Walking {S T : Type 0} (over : Fault) (step : Memory → S → ℕ → Found (Step S T)) (cost : Memory → S → ℕ → ℕ) (limit : ℕ) (start : S) (head : ℕ) (old new : Seen) (parts : List T) (met : ℕ) (state : S) (at : ℕ) : Type 0 where
+pub record Walking {S T : Type 0} (over : Fault) (step : Memory → S → ℕ → Found (Step S T))
+    (cost : Memory → S → ℕ → ℕ) (limit : ℕ) (start : S) (head : ℕ) (old new : Seen) (parts : List T) (met : ℕ)
+    (state : S) (at : ℕ) : Type 0 where
   pub spent : ℕ
   pub within : met ≤ limit
-  pub reading : Reading spent old new (λ m. walk_at over (step m) limit start head ≡ after_all parts (walk_at over (step m) (limit - met) state at))
-  pub budget : spent + walk_cost (step (byte_at old.pieces)) (cost (byte_at old.pieces)) (limit - met) state at ≡ walk_cost (step (byte_at old.pieces)) (cost (byte_at old.pieces)) limit start head
+  pub reading : Reading spent old new (λ m. walk_at over (step m) limit start head
+      ≡ after_all parts (walk_at over (step m) (limit - met) state at))
+  pub budget : spent + walk_cost (step (byte_at old.pieces)) (cost (byte_at old.pieces)) (limit - met) state at
+      ≡ walk_cost (step (byte_at old.pieces)) (cost (byte_at old.pieces)) limit start head
 
 abbrev pub goes_on : {S : Type 0} → Found (ℕ × S) → (S → ℕ → List Fault) → List Fault
 goes_on (Ok x) f = f x.1 x.0
 goes_on (Err e) f = []
 
 -- the faults of a walk, in order: those of each member that it meets, and last the limit
-unfoldable pub walk_faults : {S : Type 0} → Fault → (S → ℕ → Found (ℕ × S)) → (S → ℕ → List Fault) → ℕ → S → ℕ → List Fault
+unfoldable pub walk_faults : {S : Type 0} → Fault → (S → ℕ → Found (ℕ × S)) → (S → ℕ → List Fault) → ℕ → S → ℕ
+    → List Fault
 walk_faults over go faults limit state zero = []
 walk_faults over go faults zero state (suc a) = over ∷ []
-walk_faults over go faults (suc limit) state (suc a) = faults state (suc a) ++ goes_on (go state (suc a)) (λ s n. walk_faults over go faults limit s n)
+walk_faults over go faults (suc limit) state (suc a) = faults state (suc a)
+    ++ goes_on (go state (suc a)) (λ s n. walk_faults over go faults limit s n)
 
 abbrev pub first_fault : List Fault → Option Fault
 first_fault [] = None

@@ -18,7 +18,8 @@ pub struct Counted<'s, P, L: Ledger> {
 impl<'s, P: ProcessMemory, L: Ledger> Counted<'s, P, L> {
     /// Over a memory, counting on a counter. Each `read` and each `copy` ticks once.
     pub fn new(inner: P, steps: &'s mut Steps<L>) -> Counted<'s, P, L>
-        ensures { ⟦<Counted<'s, P, L> as ProcessMemory>⟧.seen result ≡ counted (P.seen inner) steps.old steps.entry.ghost_name }
+        ensures { ⟦<Counted<'s, P, L> as ProcessMemory>⟧.seen result
+            ≡ counted (P.seen inner) steps.old steps.entry.ghost_name }
     {
         Counted { inner, steps }
     }
@@ -28,7 +29,9 @@ impl<'s, P: ProcessMemory, L: Ledger> ProcessMemory for Counted<'s, P, L> {
     ghost seen = { λ s. counted (P.seen s.inner) s.steps.now s.steps.ghost_name };
 
     fn read(&mut self, addr: u64, buf: &mut [u8]) -> Result<(), ReadFault>
-        ensures law { OneRead (counted (P.seen self.old.inner) self.old.steps.now self.old.steps.ghost_name) (counted (P.seen self.new.inner) self.new.steps.now self.new.steps.ghost_name) addr (length buf.old) (with_bytes buf.new result) }
+        ensures law { OneRead (counted (P.seen self.old.inner) self.old.steps.now self.old.steps.ghost_name)
+            (counted (P.seen self.new.inner) self.new.steps.now self.new.steps.ghost_name) addr (length buf.old)
+            (with_bytes buf.new result) }
         ensures left { OnErr result (buf.new ≡ buf.old) }
         ensures memory { IsErrOf result ReadFault.OutOfMemory → IsTrue (P.seen self.old.inner).may_want_memory }
         ensures ticks { self.new.steps.now ≡ self.old.steps.now + 1 }
@@ -38,10 +41,11 @@ impl<'s, P: ProcessMemory, L: Ledger> ProcessMemory for Counted<'s, P, L> {
     }
 
     fn copy(&mut self, alloc: Global, addr: u64, len: u64) -> Result<Vec<u8>, ReadFault>
-        ensures law { OneRead (counted (P.seen self.old.inner) self.old.steps.now self.old.steps.ghost_name) (counted (P.seen self.new.inner) self.new.steps.now self.new.steps.ghost_name) addr len (items_of result) }
+        ensures law { OneRead (counted (P.seen self.old.inner) self.old.steps.now self.old.steps.ghost_name)
+            (counted (P.seen self.new.inner) self.new.steps.now self.new.steps.ghost_name) addr len (items_of result) }
         ensures ticks { self.new.steps.now ≡ self.old.steps.now + 1 }
     {
-        self.steps.tick();
+        self.steps.tick(); // A copy is one read too.
         self.inner.copy(alloc, addr, len)
     }
 }

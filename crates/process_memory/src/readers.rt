@@ -16,7 +16,8 @@ pub fn record_in<P: ProcessMemory>(
     buf: &mut [u8],
 ) -> Result<(), ReadFault>
     requires { length buf.old < 2 ^ 16 }
-    ensures answer { Reads fault_of 1 (P.seen process.old) (P.seen process.new) (λ m. record_at m addr (length buf.old)) (with_bytes buf.new result) }
+    ensures answer { Reads fault_of 1 (P.seen process.old) (P.seen process.new)
+        (λ m. record_at m addr (length buf.old)) (with_bytes buf.new result) }
     ensures left { OnErr result (buf.new ≡ buf.old) }
     ensures memory { IsErrOf result ReadFault.OutOfMemory → IsTrue (P.seen process.old).may_want_memory }
 {
@@ -31,7 +32,8 @@ pub fn record<P: ProcessMemory>(
     len: u64,
 ) -> Result<Vec<u8>, ReadFault>
     requires { len < 2 ^ 16 }
-    ensures answer { Reads fault_of 1 (P.seen process.old) (P.seen process.new) (λ m. record_at m addr len) (items_of result) }
+    ensures answer { Reads fault_of 1 (P.seen process.old) (P.seen process.new) (λ m. record_at m addr len)
+        (items_of result) }
     ensures whole { IfOk result (λ v. vec_len v ≡ len) }
 {
     process.copy(alloc, addr, len)
@@ -46,7 +48,8 @@ pub fn record_wide<P: ProcessMemory>(
     len: u64,
 ) -> Result<Vec<u8>, ReadFault>
     requires { len < 2 ^ 16 }
-    ensures answer { Reads fault_of 1 (P.seen process.old) (P.seen process.new) (λ m. record_at m addr len) (items_of result) }
+    ensures answer { Reads fault_of 1 (P.seen process.old) (P.seen process.new) (λ m. record_at m addr len)
+        (items_of result) }
     ensures whole { IfOk result (λ v. vec_len v ≡ len) }
 {
     if addr < ADDRESSES {
@@ -78,7 +81,8 @@ pub fn word_past<P: ProcessMemory>(
     base: u64,
     offset: u64,
 ) -> Result<u64, ReadFault>
-    ensures answer { Reads fault_of 1 (P.seen process.old) (P.seen process.new) (λ m. word_at m (base + offset)) result }
+    ensures answer { Reads fault_of 1 (P.seen process.old) (P.seen process.new)
+        (λ m. word_at m (base + offset)) result }
     ensures memory { IsErrOf result ReadFault.OutOfMemory → IsTrue (P.seen process.old).may_want_memory }
 {
     match base.checked_add(offset) {

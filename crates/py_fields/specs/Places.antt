@@ -68,7 +68,8 @@ unfoldable pub frame_places : Lasti → FrameAt → List Place
 frame_places lasti f = (f.code, 8) ∷ (f.back, 8) ∷ (f.instr, instr_width lasti) ∷ optional_place f.entry 1 ∷ []
 
 unfoldable pub code_places : CodeAt → List Place
-code_places c = (c.argcount, 4) ∷ (c.nlocals, 4) ∷ (c.first_line, 4) ∷ (c.filename, 8) ∷ (c.name, 8) ∷ (c.table, 8) ∷ (c.varnames, 8) ∷ []
+code_places c = (c.argcount, 4) ∷ (c.nlocals, 4) ∷ (c.first_line, 4) ∷ (c.filename, 8) ∷ (c.name, 8) ∷ (c.table, 8)
+    ∷ (c.varnames, 8) ∷ []
 
 -- the length and the state, behind which the characters of a text begin
 unfoldable pub string_head : StringAt → List Place

@@ -26,7 +26,8 @@ element_flaw keys _ = Some (codes "layout")
 -- of the elements, of which the first has this number, the first with a flaw: its number, and its first flaw
 abbrev pub first_flaw : List Key → ℕ → Items → Option (ℕ × List ℕ)
 first_flaw keys n no_items = None
-first_flaw keys n (item d ds) = option_or (option_map (λ key. (n, key)) (element_flaw keys d)) (first_flaw keys (n + 1) ds)
+first_flaw keys n (item d ds) = option_or (option_map (λ key. (n, key)) (element_flaw keys d))
+    (first_flaw keys (n + 1) ds)
 
 -- the first name beside `layout`
 abbrev pub is_other : List ℕ → Bool

@@ -217,7 +217,8 @@ fn has_group(table: &Table, name: &str) -> bool
 }
 
 fn cframe_if_there(table: &Table) -> Option<CframeAt>
-    ensures { result ≡ cond (has_group (table_view table.now) (codes "cframe")) (Some (cframe_of (table_view table.now))) None }
+    ensures { result ≡ cond (has_group (table_view table.now) (codes "cframe"))
+        (Some (cframe_of (table_view table.now))) None }
 {
     if has_group(table, "cframe") {
         Some(cframe_of(table))
@@ -227,7 +228,8 @@ fn cframe_if_there(table: &Table) -> Option<CframeAt>
 }
 
 fn dict_if_there(table: &Table) -> Option<DictAt>
-    ensures { result ≡ cond (has_group (table_view table.now) (codes "dict")) (Some (dict_of (table_view table.now))) None }
+    ensures { result ≡ cond (has_group (table_view table.now) (codes "dict"))
+        (Some (dict_of (table_view table.now))) None }
 {
     if has_group(table, "dict") {
         Some(dict_of(table))
@@ -237,7 +239,8 @@ fn dict_if_there(table: &Table) -> Option<DictAt>
 }
 
 fn keys_if_there(table: &Table) -> Option<KeysAt>
-    ensures { result ≡ cond (has_group (table_view table.now) (codes "keys")) (Some (keys_of (table_view table.now))) None }
+    ensures { result ≡ cond (has_group (table_view table.now) (codes "keys"))
+        (Some (keys_of (table_view table.now))) None }
 {
     if has_group(table, "keys") {
         Some(keys_of(table))
@@ -247,7 +250,8 @@ fn keys_if_there(table: &Table) -> Option<KeysAt>
 }
 
 fn heap_if_there(table: &Table) -> Option<HeapAt>
-    ensures { result ≡ cond (has_group (table_view table.now) (codes "heap")) (Some (heap_of (table_view table.now))) None }
+    ensures { result ≡ cond (has_group (table_view table.now) (codes "heap"))
+        (Some (heap_of (table_view table.now))) None }
 {
     if has_group(table, "heap") {
         Some(heap_of(table))
@@ -257,7 +261,8 @@ fn heap_if_there(table: &Table) -> Option<HeapAt>
 }
 
 fn gil_if_there(table: &Table) -> Option<GilAt>
-    ensures { result ≡ cond (has_group (table_view table.now) (codes "gil")) (Some (gil_of (table_view table.now))) None }
+    ensures { result ≡ cond (has_group (table_view table.now) (codes "gil"))
+        (Some (gil_of (table_view table.now))) None }
 {
     if has_group(table, "gil") {
         Some(gil_of(table))
@@ -267,7 +272,8 @@ fn gil_if_there(table: &Table) -> Option<GilAt>
 }
 
 fn offsets_if_there(table: &Table) -> Option<OffsetsAt>
-    ensures { result ≡ cond (has_group (table_view table.now) (codes "offsets")) (Some (offsets_of (table_view table.now))) None }
+    ensures { result ≡ cond (has_group (table_view table.now) (codes "offsets"))
+        (Some (offsets_of (table_view table.now))) None }
 {
     if has_group(table, "offsets") {
         Some(offsets_of(table))

@@ -29,7 +29,8 @@ low_minor n dot rest = if is_in_range 51 57 n && dot == 46 then Some (n - 48, re
 
 -- `10` to `14`, and a dot
 abbrev pub high_minor : ℕ → ℕ → List ℕ → Front
-high_minor tens ones (dot ∷ rest) = if tens == 49 && is_in_range 48 52 ones && dot == 46 then Some (ones - 38, rest) else None
+high_minor tens ones (dot ∷ rest) = if tens == 49 && is_in_range 48 52 ones && dot == 46 then Some (ones - 38, rest)
+    else None
 high_minor tens ones [] = None
 
 abbrev pub or_front : Front → Front → Front
@@ -66,7 +67,8 @@ len_before n (Some x) = n - length x.1
 
 -- how many bytes of flags there are
 abbrev pub flags_len : List ℕ → ℕ
-flags_len bytes = if level_len bytes == 0 then 0 else len_before (length bytes) (short_front (drop (level_len bytes) bytes))
+flags_len bytes = if level_len bytes == 0 then 0
+    else len_before (length bytes) (short_front (drop (level_len bytes) bytes))
 
 -- a byte of metadata, or a dot between two runs of it
 abbrev pub is_dotted : ℕ → Bool
@@ -93,7 +95,8 @@ runs_front metadata rest = if are_runs metadata then Some (Some metadata, rest) 
 abbrev pub metadata_front : List ℕ → Option (Option (List ℕ) × List ℕ)
 metadata_front [] = Some (None, [])
 metadata_front (plus ∷ rest) =
-    if plus == 43 then runs_front (take (metadata_len rest) rest) (drop (metadata_len rest) rest) else Some (None, plus ∷ rest)
+    if plus == 43 then runs_front (take (metadata_len rest) rest) (drop (metadata_len rest) rest)
+        else Some (None, plus ∷ rest)
 
 abbrev pub borrowed : Option (Bor (List ℕ)) → Option (List ℕ)
 borrowed None = None
@@ -114,18 +117,23 @@ has_end (space ∷ rest) = space == 32 && is_no_newline (decoded rest).char
 
 -- a version of these parts
 abbrev pub version_by : ℕ → ℕ → ℕ → List ℕ → Option (List ℕ) → Version
-version_by major minor patch flags metadata = record { major = major; minor = minor; patch = patch; release_flags = flags; build_metadata = metadata }
+version_by major minor patch flags metadata = record { major = major; minor = minor; patch = patch;
+    release_flags = flags; build_metadata = metadata }
 
 abbrev pub spelled_last : ℕ → ℕ → ℕ → List ℕ → Option (List ℕ) × List ℕ → Option Version
-spelled_last major minor patch flags end = if has_end end.1 then Some (version_by major minor patch flags end.0) else None
+spelled_last major minor patch flags end = if has_end end.1 then Some (version_by major minor patch flags end.0)
+    else None
 
 unfoldable pub spelled_after : ℕ → ℕ → ℕ → List ℕ → Option Version
 spelled_after major minor patch rest =
-    option_and_then (spelled_last major minor patch (take (flags_len rest) rest)) (metadata_front (drop (flags_len rest) rest))
+    option_and_then (spelled_last major minor patch (take (flags_len rest) rest))
+        (metadata_front (drop (flags_len rest) rest))
 
 -- the version that some bytes begin with
 unfoldable pub spelled : List ℕ → Option Version
-spelled bytes = option_and_then (λ major. option_and_then (λ minor. option_and_then (λ patch. spelled_after major.0 minor.0 patch.0 patch.1) (short_front minor.1)) (minor_front major.1)) (major_front bytes)
+spelled bytes = option_and_then
+    (λ major. option_and_then (λ minor. option_and_then (λ patch. spelled_after major.0 minor.0 patch.0 patch.1)
+    (short_front minor.1)) (minor_front major.1)) (major_front bytes)
 
 -- a version by its parts among the bytes
 abbrev pub version_of : Spelling → Version

@@ -26,7 +26,8 @@ by_minor of_7 of_8 of_9 of_11 minor =
 
 -- where the address of the current thread lies, by a version of major 3
 abbrev pub current_of_3 : Machine → Version → Option ℕ
-current_of_3 X86_64 v = by_minor (if nat_le v.patch 3 then 1392 else 1480) (if is_cinder v.build_metadata then 1384 else 1368) 568 576 v.minor
+current_of_3 X86_64 v = by_minor (if nat_le v.patch 3 then 1392 else 1480)
+    (if is_cinder v.build_metadata then 1384 else 1368) 568 576 v.minor
 current_of_3 Aarch64 v = by_minor (if nat_le v.patch 3 then 1408 else 1496) 1384 584 592 v.minor
 current_of_3 Other v = None
 

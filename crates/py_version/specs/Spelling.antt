@@ -22,7 +22,8 @@ pub record IsMinor (text : List ℕ) (n : ℕ) : Type 0 where
 abbrev pub IsShort : List ℕ → ℕ → Type 0
 IsShort [] n = ⊥
 IsShort (ones ∷ []) n = IsTrue (is_ascii_digit ones) × (n ≡ ones - 48)
-IsShort (tens ∷ ones ∷ []) n = IsTrue (is_ascii_digit tens) × IsTrue (is_ascii_digit ones) × (n ≡ (tens - 48) * 10 + (ones - 48))
+IsShort (tens ∷ ones ∷ []) n = IsTrue (is_ascii_digit tens) × IsTrue (is_ascii_digit ones)
+    × (n ≡ (tens - 48) * 10 + (ones - 48))
 IsShort (a ∷ b ∷ c ∷ rest) n = ⊥
 
 -- the letters of a release that isn't final
@@ -93,7 +94,8 @@ pub record Spells (text : List ℕ) (v : Version) : Type 0 where
   pub is_metadata : IsMetadata metadata v.build_metadata
   pub last : List ℕ
   pub is_end : IsEnd last
-  pub parts : text ≡ major ++ (codes "." ++ (minor ++ (codes "." ++ (patch ++ (v.release_flags ++ (metadata ++ last))))))
+  pub parts : text ≡ major
+      ++ (codes "." ++ (minor ++ (codes "." ++ (patch ++ (v.release_flags ++ (metadata ++ last))))))
 
 -- at this place of some bytes, from 0 on, stands a text that spells the version
 pub record SpellsAt (bytes : List ℕ) (place : ℕ) (text : List ℕ) (v : Version) : Type 0 where
@@ -114,4 +116,5 @@ SpellsNone bytes = (place : ℕ) (text : List ℕ) (v : Version) → ¬ SpellsAt
 
 -- at no place of some bytes do two texts spell versions
 abbrev pub SpellsOnce : List ℕ → Type 0
-SpellsOnce bytes = (place : ℕ) (text other : List ℕ) (v w : Version) → SpellsAt bytes place text v → SpellsAt bytes place other w → (text ≡ other) × (v ≡ w)
+SpellsOnce bytes = (place : ℕ) (text other : List ℕ) (v w : Version) → SpellsAt bytes place text v
+    → SpellsAt bytes place other w → (text ≡ other) × (v ≡ w)

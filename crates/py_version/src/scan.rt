@@ -10,7 +10,8 @@ use std::alloc::{AllocError, Global};
 
 /// The spelling that stands first.
 fn first_spelling(bytes: &[u8]) -> Option<Spelling<'_>>
-    ensures { MatchOption result ((place : ℕ) → spelled (drop place bytes.now) ≡ None) (λ s. IsFirst bytes.now (version_of s)) }
+    ensures { MatchOption result ((place : ℕ) → spelled (drop place bytes.now) ≡ None)
+        (λ s. IsFirst bytes.now (version_of s)) }
 {
     for place in 0..bytes.len() {
         if let Some(spelling) = spelling_at(&bytes[place..]) {

@@ -10,7 +10,7 @@ returns-in_err-traces c =
     let p = err_from_is_err_and c.from_residual-in_err-traces.result c.from_residual-in_err-traces.ensures.1 in
     let pieces = ap (λ (s : Seen). s.pieces) c.view-view.ensures in
     let fault = rw (pieces, c.in_ok-core.ensures.same) at (reading_here c.in_err-traces.ensures.faults) in
-    let walked = walked_by c.args.bytes.items c.args.layouts.now c.args.version.now c.in-Some.layout.now c.in_ok-core.ensures.accepted c.in-Some.ensures.member c.in-Some.ensures.covers in
+    let walked = walked_by c.args.bytes.items c.args.layouts.now c.args.version.now c.in-Some.layout.now c.in_ok-core.ensures.core c.in-Some.ensures.member c.in-Some.ensures.covers in
     rw (p.1, p.2) (stack_means c.args.bytes.items c.args.layouts.now c.args.version.now c.args.addresses.now walked _ fault)
 
 pub returns : goal.returns
@@ -19,7 +19,7 @@ returns c =
     let fault = rw (pieces, c.in_ok-core.ensures.same) at (reading_here c.in_ok-traces.ensures.faults) in
     let whole = rw (pieces, c.in_ok-core.ensures.same) at (reading_here c.in_ok-traces.ensures.traces) in
     record {
-      walked = walked_by c.args.bytes.items c.args.layouts.now c.args.version.now c.in-Some.layout.now c.in_ok-core.ensures.accepted c.in-Some.ensures.member c.in-Some.ensures.covers;
+      walked = walked_by c.args.bytes.items c.args.layouts.now c.args.version.now c.in-Some.layout.now c.in_ok-core.ensures.core c.in-Some.ensures.member c.in-Some.ensures.covers;
       faultless = fault;
       whole = whole;
     }
