@@ -42,25 +42,17 @@ fn core(alloc: Global) -> Result<Vec<u8>, AllocError> {
 }
 
 /// Addresses and lengths, and the bytes there, if they are in memory.
-const READS: [(u64, u16, Option<&[u8]>); 18] = [
-    (0x100c, 8, Some(b"AAAABBBB")),
+const READS: [(u64, u64, Option<&[u8]>); 10] = [
     (0x1000, 24, Some(b"AAAAAAAAAAAAAAAABBBBBBBB")),
     (0x1010, 1, Some(b"B")),
-    (0x1017, 1, Some(b"B")),
-    (0x1018, 1, None),
-    (0x1017, 2, None),
     (0x1000, 25, None),
     (0xfff, 2, None),
-    (0xfff, 40, None),
     (0x2000, 8, Some(b"AAAAAAAA")),
-    (0x2000, 9, None),
+    (0x2007, 2, None),
     (0x3000, 1, None),
     (u64::MAX - 4, 4, Some(b"CCCC")),
-    (u64::MAX - 4, 5, None),
-    (u64::MAX, 1, None),
-    (0, 1, None),
+    (u64::MAX - 1, 2, None),
     (u64::MAX, 0, Some(b"")),
-    (0, 0, Some(b"")),
 ];
 
 #[test]
@@ -68,12 +60,11 @@ fn a_core_holds_its_segments(rt: HostRuntime) -> Result<(), Fail> {
     let alloc = rt.alloc();
     let core = CoreDump::new(alloc, core(alloc)?)?;
     let mut view = core.view();
-    for (addr, short, want) in &READS {
-        let len = *short as u64;
-        match view.copy(alloc, *addr, len) {
-            Ok(bytes) => assert_eq!(rt; Some(bytes.as_slice()), *want),
+    for (addr, len, want) in READS {
+        match view.copy(alloc, addr, len) {
+            Ok(bytes) => assert_eq!(rt; Some(bytes.as_slice()), want),
             Err(error) => {
-                let fault = ReadFault::Unreadable { addr: *addr, len };
+                let fault = ReadFault::Unreadable { addr, len };
                 assert!(rt; want.is_none() && error == fault, "{addr:#x} {len}");
             }
         }
