@@ -1,3 +1,7 @@
+pub mod BuildIds
 pub mod Fields
 pub mod Header
+pub mod Notes
 pub mod Rest
+pub mod Sections
+pub mod Symbols

@@ -1,4 +1,8 @@
 //! Why a file is not read as ELF64.
+ghost use Rattle.elf64_core.specs.declared.error.ElfError.TheVariants.{OutOfMemory};
+ghost use Rattle.std.specs.Prelude.{◌≡◌};
+
+use std::alloc::{AllocError, AllocFailed};
 use thiserror::Error;
 
 /// Why a file, or a part of it, is refused, in the order in which the causes are looked for.
@@ -16,4 +20,20 @@ pub enum ElfError {
     /// There was no memory left.
     #[error("out of memory")]
     OutOfMemory,
+}
+
+impl From<AllocError> for ElfError {
+    ghost from_gives = { λ _ error. error ≡ OutOfMemory };
+
+    fn from(_: AllocError) -> Self {
+        ElfError::OutOfMemory
+    }
+}
+
+impl<T: Drop> From<AllocFailed<T>> for ElfError {
+    ghost from_gives = { λ _ error. error ≡ OutOfMemory };
+
+    fn from(_: AllocFailed<T>) -> Self {
+        ElfError::OutOfMemory
+    }
 }

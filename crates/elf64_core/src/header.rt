@@ -96,6 +96,14 @@ impl<'a> Elf64<'a> {
         Ok(Elf64 { bytes })
     }
 
+    /// The file's bytes.
+    pub(crate) fn bytes(&self) -> &'a [u8]
+        ensures same { result.now ≡ self.now }
+        ensures whole { 64 ≤ length result.now }
+    {
+        self.bytes
+    }
+
     /// The machine that the header names.
     pub fn machine(&self) -> Machine
         ensures { result ≡ machine_of self.now }

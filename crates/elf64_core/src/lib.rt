@@ -1,24 +1,35 @@
-//! The ELF64 format: headers and segments of a file's bytes, names and texts.
+//! The ELF64 format: headers, segments, sections, symbols and notes of a file's bytes, names and texts.
 //!
 //! Everything that is handed out is a part of the file's bytes, or a number that stands there. A core
 //! dump and the binaries that it mapped are read through this crate. The rules are those of the
 //! System V gABI for 64-bit little-endian files.
 #![tactic(auto)]
 
+mod build_id;
 mod error;
 mod fields;
 mod header;
 mod name;
+mod note;
+mod section;
+mod section_table;
+#[cfg(test)]
+mod section_tests;
 mod segment;
 mod steps;
+mod symbol;
 #[cfg(test)]
 mod tests;
 mod text;
 
+pub use build_id::{BuildId, read_build_id, read_elf_build_id};
 pub use error::ElfError;
 pub use fields::{u16_in, u32_in, u64_in};
 pub use header::{Elf64, Machine};
 pub use name::Name;
+pub use note::Note;
+pub use section::{Section, Sections};
 pub use segment::{LOAD, NOTE, Segment, Segments};
 pub use steps::Steps;
+pub use symbol::{Symbol, SymbolKind};
 pub use text::Text;

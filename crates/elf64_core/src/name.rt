@@ -6,7 +6,10 @@ ghost use Rattle.std.specs.Hash as fed;
 ghost use Rattle.std.specs.Cmp.{partial_order_from_own_ties};
 ghost use Rattle.std.specs.Cmp.Lexicographic.{pointwise, slice_cmp};
 ghost use Rattle.std.specs.Cmp.Rules.{comparing, hashing};
+ghost use Rattle.bstr.specs.Utf8.{lossy_chars};
 
+use crate::Text;
+use bstr::ByteSlice;
 use std::alloc::{AllocError, Global};
 use std::cmp::Ordering;
 use std::hash::{Hash, Hasher};
@@ -40,6 +43,16 @@ impl Name {
         ensures { result.now ≡ self.now }
     {
         self.inner.as_slice()
+    }
+
+    /// The name as text: its characters where it is UTF-8; U+FFFD for each longest piece that is not (The
+    /// Unicode Standard, table 3-7). The one error is want of memory.
+    pub fn lossy(&self, alloc: Global) -> Result<Text, AllocError>
+        ensures { IfOk result (λ text. text ≡ lossy_chars self.now) }
+    {
+        let mut text = String::new(alloc);
+        self.as_bytes().to_str_lossy_into(&mut text)?;
+        Ok(Text::from(text))
     }
 }
 
