@@ -2,7 +2,6 @@
 -- (`Objects/lnotab_notes.txt`), `Locations` those from 3.11 on (`Objects/locations.md`). That a table ends
 -- before an entry that is cut, and that an odd last byte is no entry, are this project's rules.
 use Rattle.std.specs.Prelude.{ℕ, zero, suc, ◌+◌, ◌-◌, ◌*◌, ◌/◌, ◌%◌, ◌^◌, ◌≤◌, nat_le, nat_lt, ◌==◌, Option, Some, None, List, [], ◌∷◌, if◌then◌else◌, option_map, length, slice_index, drop, ℤ, pos, negsuc, ◌≤ℤ◌, ◌<ℤ◌}
-use Rattle.std.specs.Option.{option_and_then}
 use Rattle.std.specs.Ordering.{int_eq}
 use Rattle.std.specs.Int.{w8, cast_signed}
 use Rattle.py_lines.specs.declared.lines.LineFamily.{LineFamily}
@@ -13,8 +12,11 @@ use Rattle.py_lines.specs.declared.varint.Number.{Number}
 use Rattle.py_lines.specs.Varint.{varint, signed_of}
 
 -- two bytes: how many bytes of code, and a signed number, by how much the line moves behind them
+abbrev pub pair_of : (covers delta : ℕ) → Entry
+pair_of covers delta = record { size = 2; covers = covers; delta = Some (cast_signed w8 delta) }
+
 abbrev pub pair_entry : List ℕ → Option Entry
-pair_entry table = if nat_lt (length table) 2 then None else Some (record { size = 2; covers = slice_index table 0; delta = Some (cast_signed w8 (slice_index table 1)) })
+pair_entry table = if nat_lt (length table) 2 then None else Some (pair_of (slice_index table 0) (slice_index table 1))
 
 -- a line delta that says that the code has no line
 abbrev pub no_line : ℤ
@@ -39,16 +41,25 @@ moved_by delta = record { size = delta.size; delta = Some (signed_of delta.value
 abbrev pub end_of : List ℕ → ℕ → Option ℕ
 end_of rest at = option_map (λ v. at + v.size) (varint (drop at rest))
 
+-- what goes on with a value, if there is one
+infixl 1 ◌>>=◌
+abbrev pub ◌>>=◌ : {T U : Type 0} → Option T → (T → Option U) → Option U
+None >>= f = None
+Some x >>= f = f x
+
 -- a signed delta, and behind it three numbers: the end line and the two columns
 abbrev pub long_line : List ℕ → Option LocationLine
-long_line rest =
-    option_and_then (λ delta. option_and_then (λ end_line. option_and_then (λ column. option_map
-    (λ end_column. record { size = end_column; delta = Some (signed_of delta.value) })
-    (end_of rest column)) (end_of rest end_line)) (end_of rest delta.size)) (varint rest)
+long_line rest = do
+  delta ← varint rest
+  end_line ← end_of rest delta.size
+  column ← end_of rest end_line
+  end_column ← end_of rest column
+  Some (record { size = end_column; delta = Some (signed_of delta.value) })
 
 -- so many bytes more, and a delta
 abbrev pub short_line : List ℕ → ℕ → ℕ → Option LocationLine
-short_line rest size delta = if nat_lt (length rest) size then None else Some (record { size = size; delta = Some (pos delta) })
+short_line rest size delta =
+    if nat_lt (length rest) size then None else Some (record { size = size; delta = Some (pos delta) })
 
 -- what the bytes behind a location's first say, by its code
 abbrev pub location_line : ℕ → List ℕ → Option LocationLine
@@ -66,7 +77,8 @@ location_with byte line = record { size = 1 + line.size; covers = 2 * (byte % 8 
 -- a byte with bit 7, and what its code asks for
 abbrev pub location_entry : List ℕ → Option Entry
 location_entry [] = None
-location_entry (byte ∷ rest) = if nat_lt byte 128 then None else option_map (location_with byte) (location_line (byte / 8 % 16) rest)
+location_entry (byte ∷ rest) =
+    if nat_lt byte 128 then None else option_map (location_with byte) (location_line (byte / 8 % 16) rest)
 
 -- the entry that a table begins with, if it begins with a whole one
 unfoldable pub first_entry : LineFamily → List ℕ → Option Entry
@@ -81,7 +93,8 @@ entries_from (Some e) rest = e ∷ rest e
 -- the entries of a table, one behind the other; each has a byte at least, so there are no more than bytes
 unfoldable pub entries_within : ℕ → LineFamily → List ℕ → List Entry
 entries_within zero family table = []
-entries_within (suc most) family table = entries_from (first_entry family table) (λ e. entries_within most family (drop e.size table))
+entries_within (suc most) family table =
+    entries_from (first_entry family table) (λ e. entries_within most family (drop e.size table))
 
 unfoldable pub entries_of : LineFamily → List ℕ → List Entry
 entries_of family table = entries_within (length table) family table

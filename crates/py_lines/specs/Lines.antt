@@ -41,7 +41,11 @@ line_under Locations first before e = if is_some e.delta then line_behind first 
 
 -- the code under an entry, which begins where the code of the entries before it ends
 abbrev pub range_under : LineFamily → ℤ → List Entry → Entry → LineRange
-range_under family first before e = record { start = covered before; end = covered before + e.covers; line = line_under family first before e }
+range_under family first before e = record {
+  start = covered before;
+  end = covered before + e.covers;
+  line = line_under family first before e;
+}
 
 -- a range that isn't empty is kept
 abbrev pub kept : LineRange → List LineRange → List LineRange
@@ -56,7 +60,8 @@ last_range Locations first es = []
 -- the ranges of entries, behind those that stand before them
 unfoldable pub ranges_behind : LineFamily → ℤ → List Entry → List Entry → List LineRange
 ranges_behind family first before [] = last_range family first before
-ranges_behind family first before (e ∷ es) = kept (range_under family first before e) (ranges_behind family first (before ++ e ∷ []) es)
+ranges_behind family first before (e ∷ es) =
+    kept (range_under family first before e) (ranges_behind family first (before ++ e ∷ []) es)
 
 -- the ranges of a table whose code begins with this line
 unfoldable pub ranges_of : LineFamily → ℤ → List ℕ → List LineRange

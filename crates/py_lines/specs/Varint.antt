@@ -13,7 +13,9 @@ abbrev pub varint_within : ℕ → List ℕ → Option Number
 varint_within zero bytes = None
 varint_within (suc most) [] = None
 varint_within (suc most) (byte ∷ bytes) =
-    if bit_at byte 6 == 0 then Some (record { value = byte % 64; size = 1 }) else option_map (with_low byte) (varint_within most bytes)
+    if bit_at byte 6 == 0
+    then Some (record { value = byte % 64; size = 1 })
+    else option_map (with_low byte) (varint_within most bytes)
 
 -- the number that begins the bytes
 unfoldable pub varint : List ℕ → Option Number
