@@ -99,8 +99,7 @@ pub fn get_stack_traces<P: ProcessMemory>(
     ensures bound { (P.seen process.new).reads ≤ (P.seen process.old).reads
         + stacks_bound (asked_by config.entry) layout.now (byte_at (P.seen process.old).pieces) interpreter }
     // no line and no local is read
-    ensures details {
-        details_cost (asked_by config.entry) layout.now (byte_at (P.seen process.old).pieces) interpreter ≡ 0 }
+    ensures details { details_cost (asked_by config.entry) layout.now (byte_at (P.seen process.old).pieces) interpreter ≡ 0 }
     // whatever the memory holds, as cyclic chains
     ensures most { (P.seen process.new).reads ≤ (P.seen process.old).reads + (3 + 4096 * (2 + 6 * 16384)) }
 {
@@ -147,7 +146,7 @@ pub fn get_stack_over<P: ProcessMemory>(
         (stacks_faults (asked_of config.now) layout.now m addresses.now.lock addresses.now.interpreter)) result) }
     ensures bound { (P.seen process.new).reads ≤ (P.seen process.old).reads
         + stacks_bound (asked_of config.now) layout.now (byte_at (P.seen process.old).pieces)
-            addresses.now.interpreter }
+        addresses.now.interpreter }
     // no line and no local is read
     ensures details { details_cost (asked_of config.now) layout.now (byte_at (P.seen process.old).pieces)
         addresses.now.interpreter ≡ 0 }
