@@ -6,3 +6,4 @@ pub mod Outcomes
 pub mod Texts
 pub mod Means
 pub mod Finds
+pub mod Sole

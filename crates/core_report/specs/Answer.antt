@@ -1,6 +1,6 @@
 -- What a walk over a core's bytes answers: the traces, or the first cause why there are none. The file is
 -- looked at first, then the version, then the lock's owner and the chain of threads.
-use Rattle.std.specs.Prelude.{◌≡◌, ℕ, List, Option, Some, None, Result, Ok, Err, ⊤, Contains, map}
+use Rattle.std.specs.Prelude.{◌≡◌, ◌⊎◌, ℕ, List, Option, Some, None, Result, Ok, Err, ⊤, Contains, map}
 use Rattle.std.specs.Global.{Vec}
 use Rattle.image_memory.specs.Cores.{IsCore, Refuses}
 use Rattle.image_memory.specs.declared.dump_error.DumpError.TheVariants as dump
@@ -13,6 +13,7 @@ use Rattle.py_version.specs.declared.version.Version.{Version}
 use Rattle.py_fields.specs.Sound.{Covers}
 use Rattle.py_stacks.specs.declared.trace.Addresses.{Addresses}
 use Rattle.py_stacks.specs.declared.trace.StackTrace.{StackTrace}
+use Rattle.py_stacks.specs.Asking.{nothing}
 use Rattle.py_stacks.specs.Stacks.{AreStacks, stacks_faults}
 use Rattle.py_stacks.specs.Threads.{Trace, trace_of}
 use Rattle.py_process.specs.declared.core_error.CoreError.{CoreError}
@@ -35,7 +36,8 @@ core_memory bytes = byte_at (memory_of bytes)
 
 -- the first fault on the way to the lock's owner and along the threads of an interpreter
 abbrev pub fault_by : Layout → List ℕ → Addresses → Option Fault
-fault_by layout bytes addresses = first_fault (stacks_faults layout (core_memory bytes) addresses)
+fault_by layout bytes addresses =
+    first_fault (stacks_faults nothing layout (core_memory bytes) addresses.lock addresses.interpreter)
 
 -- the walk meets this fault first
 abbrev pub Meets : List ℕ → List Layout → Version → Addresses → Fault → Type 0
@@ -47,7 +49,7 @@ pub record Finds (bytes : List ℕ) (layouts : List Layout) (version : Version) 
     (traces : List Trace) : Type 0 where
   pub walked : IsWalked bytes layouts version
   pub faultless : fault_by walked.layout bytes addresses ≡ None
-  pub whole : AreStacks walked.layout (core_memory bytes) addresses traces
+  pub whole : AreStacks nothing walked.layout (core_memory bytes) addresses.lock addresses.interpreter traces
 
 -- the file is accepted, and no layout covers the version
 pub record IsUncovered (bytes : List ℕ) (layouts : List Layout) (version : Version) : Type 0 where
@@ -85,3 +87,7 @@ Means bytes layouts version addresses (Err (LocalsLimit count)) =
 abbrev pub traced : {E : Type 0} → Result (Vec StackTrace) E → Result (List Trace) E
 traced (Ok v) = Ok (map trace_of v.items)
 traced (Err e) = Err e
+
+-- the answer, unless memory ran out
+abbrev pub IsUnlessMemory : Result (List Trace) CoreError → Result (List Trace) CoreError → Type 0
+IsUnlessMemory answer result = (result ≡ answer) ⊎ (result ≡ Err OutOfMemory)

@@ -4,3 +4,4 @@ pub mod Reading
 pub mod Founds
 pub mod Stretch
 pub mod Walks
+pub mod WalkSums

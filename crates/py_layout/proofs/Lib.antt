@@ -2,3 +2,4 @@ pub mod Judging
 pub mod FlawsFound
 pub mod Filing
 pub mod Answering
+pub mod Choosing

@@ -152,6 +152,9 @@ impl Layouts {
         ensures member { IfSome result (λ layout. Contains self.now layout.now) }
         ensures covers { IfSome result (λ layout. Covers layout.now version.now) }
         ensures sound { IfSome result (λ layout. IsSound layout.now) }
+        // no other layout of the list covers it
+        ensures only { IfSome result (λ layout. (other : Layout)
+            → Contains self.now other → Covers other version.now → other ≡ layout.now) }
     {
         self.list.iter().find(|layout| layout.covers(version))
     }

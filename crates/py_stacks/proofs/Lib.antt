@@ -1,8 +1,14 @@
-pub mod Shown
+pub mod Owners
+pub mod Marking
+pub mod Details
+pub mod Parts
 pub mod Gather
 pub mod FrameLaws
 pub mod Costs
-pub mod ThreadSteps
 pub mod ThreadLaws
-pub mod Owners
 pub mod StackLaws
+pub mod Marks
+pub mod Bounds
+pub mod Unasked
+pub mod Candidates
+pub mod Wholes

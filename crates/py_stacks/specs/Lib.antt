@@ -3,4 +3,10 @@ pub mod Threads
 pub mod Owner
 pub mod Stacks
 pub mod StackError
+pub mod Shown
+pub mod Detail
+pub mod Records
 pub mod Gathering
+pub mod Asking
+pub mod Met
+pub mod Interpreter

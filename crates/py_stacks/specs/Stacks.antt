@@ -1,31 +1,39 @@
--- The stacks of an interpreter: the owner of its lock, and the traces of its threads.
-use Rattle.std.specs.Prelude.{◌≡◌, ℕ, ◌+◌, List, Ok}
+-- The stacks of an interpreter: the owner of its lock, and the traces of its threads, marked by it.
+use Rattle.std.specs.Prelude.{◌≡◌, ℕ, ◌+◌, nat_eq, List, map, Ok}
 use Rattle.process_memory.specs.Memory.{Memory, Found, Fault, ◌>>=◌}
 use Rattle.process_memory.specs.Faults.{faults_then}
 use Rattle.py_fields.specs.declared.layout.Layout.{Layout}
-use Rattle.py_stacks.specs.declared.trace.Addresses.{Addresses}
+use Rattle.py_stacks.specs.declared.asked.Asked.{Asked}
+use Rattle.py_stacks.specs.Frames.{cost_after}
 use Rattle.py_stacks.specs.Owner.{owner_at}
-use Rattle.py_stacks.specs.Threads.{AreTraces, Trace, cost_after, traces_at, traces_cost, traces_faults}
+use Rattle.py_stacks.specs.Threads.{AreTraces, Trace, traces_at, traces_cost, traces_faults}
+
+-- a trace holds the lock exactly where its id is the owner's
+abbrev pub by_owner : ℕ → Trace → Trace
+by_owner owner t = record t { owns_gil = nat_eq t.thread_id owner }
 
 -- the traces of an interpreter's threads, each marked by the owner of the lock, or the first fault
-unfoldable pub stacks_at : Layout → Memory → Addresses → Found (List Trace)
-stacks_at l m addresses = do
-  owner ← owner_at l m addresses.lock
-  traces_at l m owner addresses.interpreter
+unfoldable pub stacks_at : Asked → Layout → Memory → ℕ → ℕ → Found (List Trace)
+stacks_at q l m lock interpreter = do
+  owner ← owner_at l m lock
+  traces ← traces_at q l m interpreter
+  Ok (map (by_owner owner) traces)
 
 -- at most two reads for the owner, and those of the threads
-unfoldable pub stacks_cost : Layout → Memory → Addresses → ℕ
-stacks_cost l m addresses = 2 + cost_after (owner_at l m addresses.lock) (λ owner. traces_cost l m owner addresses.interpreter)
+unfoldable pub stacks_cost : Asked → Layout → Memory → ℕ → ℕ → ℕ
+stacks_cost q l m lock interpreter = 2 + cost_after (owner_at l m lock) (λ owner. traces_cost q l m interpreter)
 
 -- ---- in the subject's own words
 
 -- the traces are those of the interpreter's whole chain of threads, and those hold the lock whose id is the
 -- owner's
-pub record AreStacks (l : Layout) (m : Memory) (addresses : Addresses) (traces : List Trace) : Type 0 where
+pub record AreStacks (q : Asked) (l : Layout) (m : Memory) (lock interpreter : ℕ) (traces : List Trace) : Type 0 where
   pub owner : ℕ
-  pub held : owner_at l m addresses.lock ≡ Ok owner
-  pub threads : AreTraces l m owner addresses.interpreter traces
+  pub held : owner_at l m lock ≡ Ok owner
+  pub unmarked : List Trace
+  pub threads : AreTraces q l m interpreter unmarked
+  pub marks : traces ≡ map (by_owner owner) unmarked
 
 -- the faults, in order: the one on the way to the owner, then those of the threads
-unfoldable pub stacks_faults : Layout → Memory → Addresses → List Fault
-stacks_faults l m addresses = faults_then (owner_at l m addresses.lock) (λ owner. traces_faults l m addresses.interpreter)
+unfoldable pub stacks_faults : Asked → Layout → Memory → ℕ → ℕ → List Fault
+stacks_faults q l m lock interpreter = faults_then (owner_at l m lock) (λ owner. traces_faults q l m interpreter)

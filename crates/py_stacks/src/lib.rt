@@ -6,19 +6,25 @@
 //! of the lock's own, at an address that the caller has.
 #![tactic(auto)]
 
+mod asked;
+mod config;
+mod detail;
 mod error;
 mod frames;
+mod interpreter;
 mod members;
 mod owner;
+mod records;
 mod stacks;
 mod threads;
 mod trace;
 
+pub use asked::LineNo;
+pub use config::Config;
 pub use error::StackError;
-pub use frames::read_frames;
+pub use interpreter::is_interpreter;
 pub use owner::get_gil_threadid;
-pub use stacks::read_stacks;
-pub use threads::read_traces;
+pub use stacks::{get_stack_over, get_stack_trace, get_stack_traces};
 pub use trace::{Addresses, Frame, LocalVariable, StackTrace};
 
 #[cfg(test)]

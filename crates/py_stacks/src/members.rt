@@ -1,20 +1,27 @@
 //! The members of a thread's chain of frames, one by one.
-ghost use Rattle.std.specs.Prelude.{◌≡◌, ◌+◌, ◌*◌, ◌/◌, ◌^◌, ◌≤◌, length, ℕ, Some};
-ghost use Rattle.process_memory.specs.Seen.{Reads};
+ghost use Rattle.std.specs.Prelude.{◌≡◌, ◌+◌, ◌*◌, ◌/◌, ◌^◌, ◌≤◌, length, ℕ, Some, OnOk};
+ghost use Rattle.process_memory.specs.Seen.{Reads, ReadsBy};
 ghost use Rattle.py_fields.specs.Sound.{IsSound};
 ghost use Rattle.py_stacks.specs.StackError.{fault_of};
-ghost use Rattle.py_stacks.specs.Frames.{code_of, is_entered, is_hidden, visible, name_at, member_at};
+ghost use Rattle.py_stacks.specs.Frames.{call_of_option, code_of, frame_step, is_entered, is_hidden, member_cost, name_at, part_by, part_cost, part_of_result, plain_at, step_of_result, visible};
+ghost use Rattle.py_stacks.specs.Records.{AreWhole, member_of};
 
+use crate::asked::Asked;
+use crate::detail::read_detail;
+use crate::records::{Records, read_records};
 use crate::{Frame, StackError};
 use elf64_core::{Text, u64_in};
-use process_memory::{ProcessMemory, record_in};
+use process_memory::ProcessMemory;
 use py_fields::{FrameAt, Layout};
 use py_objects::{ObjectError, copy_string};
 use std::alloc::Global;
 
+/// How many frames of a thread are kept at most.
+const FRAME_LIMIT: usize = 4096;
+
 /// The address of a frame's code record, with its tag bits cleared.
 #[tactic(auto, unfolding(crate::specs::Frames::code_of))]
-fn code_of(at: &FrameAt, frame: &[u8]) -> u64
+pub(crate) fn code_of(at: &FrameAt, frame: &[u8]) -> u64
     requires inside { at.now.code + 8 ≤ length frame.now }
     requires tag { at.now.code_tag_bits ≤ 3 }
     ensures { result ≡ code_of at.now frame.now }
@@ -49,10 +56,10 @@ fn is_hidden(file: &Text) -> bool
     name.is_empty() || name == "<shim>"
 }
 
-/// The frame that a member shows as, by its two texts; none where it is skipped.
+/// The frame that a member shows as but for its detail, by its two texts; none where it is skipped.
 #[tactic(auto, unfolding(crate::specs::Frames::visible))]
 fn visible(filename: Option<Text>, name: Option<Text>, entered: bool) -> Option<Frame>
-    ensures { result ≡ visible filename name entered }
+    ensures { call_of_option result ≡ visible filename name entered }
 {
     match (filename, name) {
         (Some(filename), Some(name)) => {
@@ -92,28 +99,81 @@ fn read_name<P: ProcessMemory>(
     }
 }
 
-/// The member at an address: the one that called it, and the frame that it shows as, none where it is
-/// skipped. Its records are read into the two buffers. At most 6 reads.
+/// The frame that the member of these records shows as but for its detail; none where it is skipped. At most 4
+/// reads.
+fn read_plain<P: ProcessMemory>(
+    alloc: Global,
+    process: &mut P,
+    layout: &Layout,
+    records: &Records,
+) -> Result<Option<Frame>, StackError>
+    requires sound { IsSound layout.now }
+    requires whole { AreWhole layout.now records.now }
+    ensures { Reads fault_of 4 (P.seen process.old) (P.seen process.new)
+        (λ m. plain_at layout.now m (member_of records.now)) (part_of_result result) }
+{
+    let file_at = u64_in(&records.code, layout.code.filename as usize);
+    let filename = read_name(alloc, process, layout, file_at)?;
+    let name_at = u64_in(&records.code, layout.code.name as usize);
+    let name = read_name(alloc, process, layout, name_at)?;
+    let entered = is_entered(&layout.frame, &records.frame);
+    Ok(visible(filename, name, entered))
+}
+
+/// The frame that a member shows as, with its detail, where `kept` frames are kept already. `FrameLimit` comes
+/// where 4096 are and the member is not skipped, and then its detail is not read.
+fn read_part<P: ProcessMemory>(
+    alloc: Global,
+    process: &mut P,
+    layout: &Layout,
+    asked: Asked,
+    kept: usize,
+    plain: Option<Frame>,
+    records: &Records,
+) -> Result<Option<Frame>, StackError>
+    requires sound { IsSound layout.now }
+    requires whole { AreWhole layout.now records.now }
+    ensures { ReadsBy fault_of (λ m. part_cost asked layout.now m kept (member_of records.now) (call_of_option plain))
+        (P.seen process.old) (P.seen process.new)
+        (λ m. part_by asked layout.now m kept (member_of records.now) (call_of_option plain)) (part_of_result result) }
+{
+    match plain {
+        None => Ok(None),
+        Some(mut frame) => {
+            if kept >= FRAME_LIMIT {
+                return Err(StackError::FrameLimit);
+            }
+            let detail = read_detail(alloc, process, layout, asked, records)?;
+            frame.line = detail.line;
+            frame.locals = detail.locals;
+            Ok(Some(frame))
+        }
+    }
+}
+
+/// The member at an address, where `kept` frames are kept already: the one that called it, and the frame that
+/// it shows as, none where it is skipped.
+///
+/// A member is skipped where its file or function name is no text or is not in memory, or its file name is
+/// empty or `<shim>`. The error is the first of these, in order: `Unreadable` with its frame record, then
+/// with its code record; `FrameLimit` where it is not skipped and 4096 frames are kept; those of its detail.
+/// At most 6 reads, and those of its detail.
 pub(crate) fn read_member<P: ProcessMemory>(
     alloc: Global,
     process: &mut P,
     layout: &Layout,
+    asked: Asked,
+    kept: usize,
     at: u64,
-    frame: &mut [u8],
-    code: &mut [u8],
+    records: &mut Records,
 ) -> Result<(u64, Option<Frame>), StackError>
     requires sound { IsSound layout.now }
-    requires frame { length frame.old ≡ layout.now.frame.size }
-    requires code { length code.old ≡ layout.now.code.size }
-    ensures { Reads fault_of 6 (P.seen process.old) (P.seen process.new) (λ m. member_at layout.now m at) result }
+    ensures { ReadsBy fault_of (λ m. member_cost asked layout.now m kept at) (P.seen process.old) (P.seen process.new)
+        (λ m. frame_step asked layout.now m kept at) (step_of_result kept result) }
 {
-    record_in(process, at, frame)?;
-    record_in(process, code_of(&layout.frame, frame), code)?;
-    let file_at = u64_in(code, layout.code.filename as usize);
-    let filename = read_name(alloc, process, layout, file_at)?;
-    let name_at = u64_in(code, layout.code.name as usize);
-    let name = read_name(alloc, process, layout, name_at)?;
-    let back = u64_in(frame, layout.frame.back as usize);
-    let entered = is_entered(&layout.frame, frame);
-    Ok((back, visible(filename, name, entered)))
+    read_records(process, layout, at, records)?;
+    let plain = read_plain(alloc, process, layout, records)?;
+    let part = read_part(alloc, process, layout, asked, kept, plain, records)?;
+    let back = u64_in(&records.frame, layout.frame.back as usize);
+    Ok((back, part))
 }

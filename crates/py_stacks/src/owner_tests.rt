@@ -1,5 +1,7 @@
 //! The owner of the lock over pieces of memory, written out by hand.
-use crate::{Addresses, StackError, get_gil_threadid, read_stacks};
+use crate::{
+    Addresses, Config, LineNo, StackError, get_gil_threadid, get_stack_over, get_stack_trace,
+};
 use process_memory::{Part, Piece};
 use py_fields::{GilAt, InterpreterAt, Layout, Lock, is_sound};
 use std::alloc::{AllocError, Global};
@@ -131,16 +133,23 @@ const MARKS: [(u64, [bool; 2]); 3] = [
 #[test]
 fn threads_are_marked_by_the_owner(rt: HostRuntime) -> Result<(), Fail> {
     let alloc = rt.alloc();
+    let layout = Layout::sample();
     for (lock, marks) in &MARKS {
         let addresses = Addresses {
             interpreter: 0x5000,
             lock: *lock,
         };
-        let traces = read_stacks(alloc, &mut memory(alloc)?, &Layout::sample(), &addresses).map_err(
-            |_| "no stacks",
-        )?;
+        let mut part = memory(alloc)?;
+        let found = get_stack_over(alloc, &mut part, &layout, &addresses, &Config::default());
+        let traces = found.map_err(|_| "no stacks")?;
         assert_eq!(rt; traces.len(), 2);
         assert_eq!(rt; [traces[0].owns_gil, traces[1].owns_gil], *marks);
+    }
+    // by itself a thread has no mark, whatever its id
+    for thread in [THREADS, THREADS + 64] {
+        let mut part = memory(alloc)?;
+        let found = get_stack_trace(alloc, thread, &mut part, &layout, false, LineNo::NoLine);
+        assert!(rt; !found.map_err(|_| "no trace")?.owns_gil);
     }
     Ok(())
 }
@@ -152,7 +161,8 @@ fn the_owner_comes_before_the_threads(rt: HostRuntime) -> Result<(), Fail> {
         interpreter: NOWHERE,
         lock: WORDS + 16,
     };
-    let found = read_stacks(alloc, &mut memory(alloc)?, &Layout::sample(), &addresses);
+    let (layout, config) = (Layout::sample(), Config::default());
+    let found = get_stack_over(alloc, &mut memory(alloc)?, &layout, &addresses, &config);
     assert!(rt;
         matches!(
             found,

@@ -1,55 +1,224 @@
-//! The stacks of an interpreter, with the owner of its lock.
-ghost use Rattle.std.specs.Prelude.{◌≡◌, IfOk, map};
+//! The stacks of an interpreter, with the owner of its lock, and those of one thread.
+ghost use Rattle.std.specs.Prelude.{◌≡◌, ◌≤◌, ◌+◌, ◌*◌, IfOk, List, Ok, false, map};
+ghost use Rattle.std.specs.Option.{ForSome};
 ghost use Rattle.process_memory.specs.Memory.{byte_at};
-ghost use Rattle.process_memory.specs.Seen.{Reads, Reading};
+ghost use Rattle.process_memory.specs.Seen.{Answers, ReadsBy, ReadingBy};
 ghost use Rattle.process_memory.specs.Walk.{first_fault};
 ghost use Rattle.process_memory.specs.Faults.{FaultsAre};
 ghost use Rattle.py_fields.specs.Sound.{IsSound};
 ghost use Rattle.py_stacks.specs.StackError.{fault_of};
-ghost use Rattle.py_stacks.specs.Threads.{trace_of, traces_of_result};
-ghost use Rattle.py_stacks.specs.Stacks.{AreStacks, stacks_at, stacks_cost, stacks_faults};
+ghost use Rattle.py_stacks.specs.Asking.{asked_by, asked_of, asks};
+ghost use Rattle.py_stacks.specs.Met.{details_cost, stacks_bound};
+ghost use Rattle.py_stacks.specs.Threads.{IsTraceOf, Trace, thread_cost, thread_faults, trace_at};
+ghost use Rattle.py_stacks.specs.Threads.{trace_of, trace_of_result, traces_of_result};
+ghost use Rattle.py_stacks.specs.Stacks.{AreStacks, by_owner, stacks_at, stacks_cost, stacks_faults};
 
+use crate::asked::Asked;
+use crate::config::{Config, asked_by};
 use crate::owner::get_gil_threadid;
-use crate::threads::read_traces;
-use crate::{Addresses, StackError, StackTrace};
+use crate::records::Scratch;
+use crate::threads::{read_thread, read_traces};
+use crate::{Addresses, LineNo, StackError, StackTrace};
 use process_memory::ProcessMemory;
 use py_fields::Layout;
 use std::alloc::Global;
 
-/// Reads the owner of the lock, and walks the threads.
-fn walk_stacks<P: ProcessMemory>(
+/// Marks each trace by the id of the thread that holds the lock.
+fn mark_owner(traces: &mut Vec<StackTrace>, owner: u64)
+    ensures { map trace_of traces.new.items ≡ map (by_owner owner) (map trace_of traces.old.items) }
+{
+    for trace in traces.iter_mut() {
+        trace.owns_gil = trace.thread_id == owner;
+    }
+}
+
+/// Reads the owner of the lock, walks the threads, and marks them.
+fn walk_stack_traces<P: ProcessMemory>(
     alloc: Global,
     process: &mut P,
     layout: &Layout,
-    addresses: &Addresses,
+    asked: Asked,
+    lock: u64,
+    interpreter: u64,
 ) -> Result<Vec<StackTrace>, StackError>
     requires sound { IsSound layout.now }
-    ensures { Reads fault_of (stacks_cost layout.now (byte_at (P.seen process.old).pieces) addresses.now) (P.seen process.old) (P.seen process.new) (λ m. stacks_at layout.now m addresses.now) (traces_of_result result) }
+    ensures { ReadsBy fault_of (λ m. stacks_cost asked layout.now m lock interpreter)
+        (P.seen process.old) (P.seen process.new)
+        (λ m. stacks_at asked layout.now m lock interpreter) (traces_of_result result) }
 {
-    let owner = get_gil_threadid(addresses.lock, process, layout)?;
-    read_traces(alloc, process, layout, owner, addresses.interpreter)
+    let owner = get_gil_threadid(lock, process, layout)?;
+    let mut traces = read_traces(alloc, process, layout, asked, interpreter)?;
+    mark_owner(&mut traces, owner);
+    Ok(traces)
 }
 
 /// The traces of an interpreter's threads, in the order of their chain, each marked by the owner of the
 /// lock.
 ///
-/// The owner is the thread that holds the lock (`get_gil_threadid`), and a trace holds the lock exactly
-/// where its id is the owner's; with no owner a thread of id 0 does. The traces are those of the whole
-/// chain, each with the frames of its whole chain (`read_traces`).
+/// The owner is the thread that holds the lock at the address `lock` (`get_gil_threadid`), and a trace holds
+/// the lock exactly where its id is the owner's; with no owner a thread of id 0 does. The traces are those of
+/// the whole chain from the thread that the interpreter names, to null, each with the frames of its whole
+/// chain of callers, to null, less the members that are skipped: whose file or function name is no text or is
+/// not in memory, or whose file name is empty or `<shim>`. A frame is marked where the next member is skipped
+/// or there is none. A trace's process is 0, it counts as active, and it has no name; a frame has no module,
+/// no shorter file name and no locals, and its line is 0, whatever is asked for.
 ///
-/// The error is the first of these, in order: those of the owner, those of the threads. Else it is want of
-/// memory. At most 2 reads for the owner, 1 for the interpreter, 2 for each thread that is met, and 6 for
-/// each member.
-pub fn read_stacks<P: ProcessMemory>(
+/// The error is the first of these, in order: those of the owner; `Unreadable` with the word that names the
+/// first thread; for each thread `Unreadable` with its record, then with the C frame's word, then for each
+/// member of its chain `Unreadable` with its frame record, then with its code record, then `FrameLimit` where
+/// it is not skipped and 4096 frames are kept, and `ChainLimit` where 16384 members were met and the next is
+/// not 0; last `ThreadLimit` where 4096 threads were walked and the next is not 0. Else it is want of memory.
+/// At most 3 reads, 2 for each thread that is met, and 6 for each member.
+pub fn get_stack_traces<P: ProcessMemory>(
+    alloc: Global,
+    interpreter: u64,
+    process: &mut P,
+    layout: &Layout,
+    lock: u64,
+    config: Option<&Config>,
+) -> Result<Vec<StackTrace>, StackError>
+    requires sound { IsSound layout.now }
+    // no locals are read yet
+    requires locals { ForSome config (λ config. config.now.dump_locals ≡ 0) }
+    ensures answer { ReadsBy fault_of (λ m. stacks_cost (asked_by config.entry) layout.now m lock interpreter)
+        (P.seen process.old) (P.seen process.new)
+        (λ m. stacks_at (asked_by config.entry) layout.now m lock interpreter) (traces_of_result result) }
+    ensures traces { ReadingBy (λ m. stacks_cost (asked_by config.entry) layout.now m lock interpreter)
+        (P.seen process.old) (P.seen process.new)
+        (λ m. IfOk result (λ traces.
+        AreStacks (asked_by config.entry) layout.now m lock interpreter (map trace_of traces.items))) }
+    // what is right is the answer, want of memory aside
+    ensures only { ReadingBy (λ m. stacks_cost (asked_by config.entry) layout.now m lock interpreter)
+        (P.seen process.old) (P.seen process.new)
+        (λ m. (traces : List Trace) → AreStacks (asked_by config.entry) layout.now m lock interpreter traces
+        → Answers fault_of (Ok traces) (traces_of_result result)) }
+    ensures faults { ReadingBy (λ m. stacks_cost (asked_by config.entry) layout.now m lock interpreter)
+        (P.seen process.old) (P.seen process.new)
+        (λ m. FaultsAre fault_of
+        (first_fault (stacks_faults (asked_by config.entry) layout.now m lock interpreter)) result) }
+    ensures bound { (P.seen process.new).reads ≤ (P.seen process.old).reads
+        + stacks_bound (asked_by config.entry) layout.now (byte_at (P.seen process.old).pieces) interpreter }
+    // no line and no local is read
+    ensures details { details_cost (asked_by config.entry) layout.now (byte_at (P.seen process.old).pieces) interpreter ≡ 0 }
+    // whatever the memory holds, as cyclic chains
+    ensures most { (P.seen process.new).reads ≤ (P.seen process.old).reads + (3 + 4096 * (2 + 6 * 16384)) }
+{
+    let asked = asked_by(config);
+    walk_stack_traces(alloc, process, layout, asked, lock, interpreter)
+}
+
+/// The traces of the threads of the interpreter at these addresses, with what a `Config` asks for: those of
+/// `get_stack_traces`, by the same rules and with the same errors.
+///
+/// Names and values of locals are not read yet.
+pub fn get_stack_over<P: ProcessMemory>(
     alloc: Global,
     process: &mut P,
     layout: &Layout,
     addresses: &Addresses,
+    config: &Config,
 ) -> Result<Vec<StackTrace>, StackError>
     requires sound { IsSound layout.now }
-    ensures answer { Reads fault_of (stacks_cost layout.now (byte_at (P.seen process.old).pieces) addresses.now) (P.seen process.old) (P.seen process.new) (λ m. stacks_at layout.now m addresses.now) (traces_of_result result) }
-    ensures traces { Reading (stacks_cost layout.now (byte_at (P.seen process.old).pieces) addresses.now) (P.seen process.old) (P.seen process.new) (λ m. IfOk result (λ traces. AreStacks layout.now m addresses.now (map trace_of traces.items))) }
-    ensures faults { Reading (stacks_cost layout.now (byte_at (P.seen process.old).pieces) addresses.now) (P.seen process.old) (P.seen process.new) (λ m. FaultsAre fault_of (first_fault (stacks_faults layout.now m addresses.now)) result) }
+    // no locals are read yet
+    requires locals { config.now.dump_locals ≡ 0 }
+    ensures answer { ReadsBy fault_of
+        (λ m. stacks_cost (asked_of config.now) layout.now m addresses.now.lock addresses.now.interpreter)
+        (P.seen process.old) (P.seen process.new)
+        (λ m. stacks_at (asked_of config.now) layout.now m addresses.now.lock addresses.now.interpreter)
+        (traces_of_result result) }
+    ensures traces { ReadingBy
+        (λ m. stacks_cost (asked_of config.now) layout.now m addresses.now.lock addresses.now.interpreter)
+        (P.seen process.old) (P.seen process.new)
+        (λ m. IfOk result (λ traces.
+        AreStacks (asked_of config.now) layout.now m addresses.now.lock addresses.now.interpreter
+        (map trace_of traces.items))) }
+    // what is right is the answer, want of memory aside
+    ensures only { ReadingBy
+        (λ m. stacks_cost (asked_of config.now) layout.now m addresses.now.lock addresses.now.interpreter)
+        (P.seen process.old) (P.seen process.new)
+        (λ m. (traces : List Trace)
+        → AreStacks (asked_of config.now) layout.now m addresses.now.lock addresses.now.interpreter traces
+        → Answers fault_of (Ok traces) (traces_of_result result)) }
+    ensures faults { ReadingBy
+        (λ m. stacks_cost (asked_of config.now) layout.now m addresses.now.lock addresses.now.interpreter)
+        (P.seen process.old) (P.seen process.new)
+        (λ m. FaultsAre fault_of (first_fault
+        (stacks_faults (asked_of config.now) layout.now m addresses.now.lock addresses.now.interpreter)) result) }
+    ensures bound { (P.seen process.new).reads ≤ (P.seen process.old).reads
+        + stacks_bound (asked_of config.now) layout.now (byte_at (P.seen process.old).pieces)
+        addresses.now.interpreter }
+    // no line and no local is read
+    ensures details { details_cost (asked_of config.now) layout.now (byte_at (P.seen process.old).pieces)
+        addresses.now.interpreter ≡ 0 }
+    // whatever the memory holds, as cyclic chains
+    ensures most { (P.seen process.new).reads ≤ (P.seen process.old).reads + (3 + 4096 * (2 + 6 * 16384)) }
 {
-    walk_stacks(alloc, process, layout, addresses)
+    let interpreter = addresses.interpreter;
+    get_stack_traces(
+        alloc,
+        interpreter,
+        process,
+        layout,
+        addresses.lock,
+        Some(config),
+    )
+}
+
+/// Reads the trace of one thread.
+fn walk_stack_trace<P: ProcessMemory>(
+    alloc: Global,
+    process: &mut P,
+    layout: &Layout,
+    asked: Asked,
+    thread: u64,
+) -> Result<StackTrace, StackError>
+    requires sound { IsSound layout.now }
+    ensures { ReadsBy fault_of (λ m. thread_cost asked layout.now m tt thread) (P.seen process.old) (P.seen process.new)
+        (λ m. trace_at asked layout.now m thread) (trace_of_result result) }
+{
+    let mut scratch = Scratch::new(alloc);
+    let (_, trace) = read_thread(alloc, process, layout, asked, thread, &mut scratch)?;
+    Ok(trace)
+}
+
+/// The trace of the thread at an address, with the frames of its whole chain of callers: that which
+/// `get_stack_traces` has of this thread, but that it does not say who holds the lock (`owns_gil` is false).
+///
+/// The error is the first of these, in order: `Unreadable` with the thread's record, then with the C frame's
+/// word, and then those of its frames as `get_stack_traces` has them. Else it is want of memory. At most 2
+/// reads, and 6 for each member that is met.
+pub fn get_stack_trace<P: ProcessMemory>(
+    alloc: Global,
+    thread: u64,
+    process: &mut P,
+    layout: &Layout,
+    copy_locals: bool,
+    lineno: LineNo,
+) -> Result<StackTrace, StackError>
+    requires sound { IsSound layout.now }
+    // no locals are read yet
+    requires locals { copy_locals ≡ false }
+    ensures answer { ReadsBy fault_of (λ m. thread_cost (asks lineno copy_locals) layout.now m tt thread)
+        (P.seen process.old) (P.seen process.new)
+        (λ m. trace_at (asks lineno copy_locals) layout.now m thread) (trace_of_result result) }
+    ensures trace { ReadingBy (λ m. thread_cost (asks lineno copy_locals) layout.now m tt thread)
+        (P.seen process.old) (P.seen process.new)
+        (λ m. IfOk result (λ trace. IsTraceOf (asks lineno copy_locals) layout.now m thread (trace_of trace))) }
+    // what is right is the answer, want of memory aside
+    ensures only { ReadingBy (λ m. thread_cost (asks lineno copy_locals) layout.now m tt thread)
+        (P.seen process.old) (P.seen process.new)
+        (λ m. (trace : Trace) → IsTraceOf (asks lineno copy_locals) layout.now m thread trace
+        → Answers fault_of (Ok trace) (trace_of_result result)) }
+    ensures faults { ReadingBy (λ m. thread_cost (asks lineno copy_locals) layout.now m tt thread)
+        (P.seen process.old) (P.seen process.new)
+        (λ m. FaultsAre fault_of
+        (first_fault (thread_faults (asks lineno copy_locals) layout.now m tt thread)) result) }
+    // whatever the memory holds, as a cyclic chain
+    ensures most { (P.seen process.new).reads ≤ (P.seen process.old).reads + (2 + 6 * 16384) }
+{
+    let asked = Asked {
+        lineno,
+        locals: copy_locals,
+    };
+    walk_stack_trace(alloc, process, layout, asked, thread)
 }

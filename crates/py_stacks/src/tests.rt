@@ -1,5 +1,8 @@
 //! Chains of threads and frames over pieces of memory, written out by hand.
-use crate::{Frame, StackError, StackTrace, read_frames, read_traces};
+use crate::{
+    Addresses, Config, Frame, LineNo, StackError, StackTrace, get_stack_over, get_stack_trace,
+    get_stack_traces, is_interpreter,
+};
 use elf64_core::Text;
 use process_memory::{Part, Piece};
 use py_fields::{CframeAt, FrameAt, Frames, Layout, ThreadAt, is_sound};
@@ -14,6 +17,13 @@ const TEXTS: u64 = 0x2000;
 
 /// Where the frame records stand, 64 bytes each.
 const FRAMES: u64 = 0x10_0000;
+
+/// Where the interpreter stands; the first thread's address is at 8.
+const INTERPRETER: u64 = 0x30_0000;
+
+/// Where the thread records stand, 64 bytes each: the next is at 8, the interpreter at 16, the first frame at
+/// 24, the id at 32.
+const THREADS: u64 = 0x40_0000;
 
 /// An address that is in no memory.
 const NOWHERE: u64 = 0xdead_0000;
@@ -104,8 +114,18 @@ fn chain(
     Ok(bytes)
 }
 
+/// A piece of these words.
+fn piece(alloc: Global, start: u64, words: &[u64]) -> Result<Piece, AllocError> {
+    let mut bytes = Vec::new(alloc);
+    push_words(&mut bytes, words)?;
+    Ok(Piece { start, bytes })
+}
+
+/// An interpreter with one thread, of id 7, and its frames.
 fn memory(alloc: Global, frames: Vec<u8>) -> Result<Part, AllocError> {
     let pieces = vec![in alloc;
+        piece(alloc, INTERPRETER, &[0, THREADS])?,
+        piece(alloc, THREADS, &[0, 0, INTERPRETER, FRAMES, 7, 0, 0, 0])?,
         Piece {
             start: CODES,
             bytes: codes(alloc)?
@@ -223,18 +243,37 @@ const ROWS: [Row; 14] = [
     },
 ];
 
+/// Where the walks begin, without a lock.
+const ADDRESSES: Addresses = Addresses {
+    interpreter: INTERPRETER,
+    lock: 0,
+};
+
+/// How many frames the one thread has.
+fn count_of(traces: &[StackTrace]) -> Option<usize> {
+    match traces {
+        [trace] => Some(trace.frames.len()),
+        _ => None,
+    }
+}
+
+/// The interpreter is one exactly where its thread can be walked.
 #[test]
 fn chains_end_at_null_or_at_their_first_fault(rt: HostRuntime) -> Result<(), Fail> {
     let alloc = rt.alloc();
+    let layout = Layout::sample();
     for row in &ROWS {
-        let frames = chain(alloc, row.members, row.times, row.back)?;
-        let mut part = memory(alloc, frames)?;
-        let found = read_frames(alloc, &mut part, &Layout::sample(), FRAMES);
+        let mut part = memory(alloc, chain(alloc, row.members, row.times, row.back)?)?;
+        let found = get_stack_over(alloc, &mut part, &layout, &ADDRESSES, &Config::default());
         match (&found, &row.want) {
-            (Ok(frames), Ok(count)) => assert_eq!(rt; frames.len(), *count),
+            (Ok(traces), Ok(count)) => assert_eq!(rt; count_of(traces), Some(*count)),
             (Err(error), Err(want)) => assert_eq!(rt; error, want),
             _ => return Err(Fail::from("another answer")),
         }
+        let passes = is_interpreter(alloc, &mut part, &layout, INTERPRETER);
+        assert_eq!(rt; passes, Ok(row.want.is_ok()));
+        let other = is_interpreter(alloc, &mut part, &layout, INTERPRETER - 8);
+        assert_eq!(rt; other, Ok(false));
     }
     Ok(())
 }
@@ -264,9 +303,11 @@ fn a_frame_is_marked_where_its_caller_is_not_shown(rt: HostRuntime) -> Result<()
     let alloc = rt.alloc();
     for (members, marks) in &MARKS {
         let mut part = memory(alloc, chain(alloc, members, 1, 0)?)?;
-        let frames = read_frames(alloc, &mut part, &Layout::sample(), FRAMES).map_err(
-            |_| "no frames",
-        )?;
+        let layout = Layout::sample();
+        let found = get_stack_trace(alloc, THREADS, &mut part, &layout, false, LineNo::First);
+        let trace = found.map_err(|_| "no trace")?;
+        assert!(rt; trace.thread_id == 7 && !trace.owns_gil);
+        let frames = &trace.frames;
         assert_eq!(rt; frames.len(), marks.len());
         for (frame, mark) in frames.iter().zip(marks.iter()) {
             assert_eq!(rt; frame.is_shim_entry, *mark);
@@ -287,12 +328,6 @@ fn is_plain(frame: &Frame) -> bool {
         && frame.is_entry
 }
 
-/// Where the interpreter stands; the first thread's address is at 8.
-const INTERPRETER: u64 = 0x30_0000;
-
-/// Where the thread records stand, 64 bytes each.
-const THREADS: u64 = 0x40_0000;
-
 /// Thread records that follow each other, without frames: the next is at 8, the id at 32. The ids count
 /// from 0.
 fn threads(alloc: Global, count: u64) -> Result<Vec<u8>, AllocError> {
@@ -307,20 +342,20 @@ fn threads(alloc: Global, count: u64) -> Result<Vec<u8>, AllocError> {
 }
 
 fn traces(alloc: Global, count: u64) -> Result<Result<Vec<StackTrace>, StackError>, AllocError> {
-    let mut interpreter = Vec::new(alloc);
-    push_words(&mut interpreter, &[0, if count == 0 { 0 } else { THREADS }])?;
     let pieces = vec![in alloc;
-        Piece {
-            start: INTERPRETER,
-            bytes: interpreter
-        },
+        piece(
+            alloc,
+            INTERPRETER,
+            &[0, if count == 0 { 0 } else { THREADS }]
+        )?,
         Piece {
             start: THREADS,
             bytes: threads(alloc, count)?
         },
     ]?;
     let mut part = Part::of(alloc, pieces);
-    Ok(read_traces(alloc, &mut part, &Layout::sample(), 0, INTERPRETER))
+    let layout = Layout::sample();
+    Ok(get_stack_traces(alloc, INTERPRETER, &mut part, &layout, 0, None))
 }
 
 #[test]
@@ -357,18 +392,30 @@ fn other_layout() -> Layout {
     }
 }
 
-/// A thread of id 7 and the system's id 99, whose C frame at 0x500000 names two frames: the first has its
-/// code's address tagged, and a mark of entry alone.
+/// Where the word that names the lock's holder stands.
+const LOCK: u64 = 0x60_0000;
+
+/// A thread of id 7 and the system's id 99, which holds the lock, and whose C frame at 0x500000 names two
+/// frames: the first has its code's address tagged, and a mark of entry alone.
 fn other_memory(alloc: Global) -> Result<Part, AllocError> {
-    let mut interpreter = Vec::new(alloc);
-    push_words(&mut interpreter, &[0, THREADS])?;
-    let mut thread = Vec::new(alloc);
-    push_words(&mut thread, &[0, 0, 0, 0x50_0000, 7, 99, 0, 0])?;
-    let mut cframe = Vec::new(alloc);
-    push_words(&mut cframe, &[0, FRAMES])?;
-    let mut frames = Vec::new(alloc);
-    push_words(&mut frames, &[0, 0, CODES | 3, FRAMES + 64, 0, 0, 1, 0])?;
-    push_words(&mut frames, &[0, 0, CODES | 1, 0, 0, 0, 0, 0])?;
+    let frames = &[
+        0,
+        0,
+        CODES | 3,
+        FRAMES + 64,
+        0,
+        0,
+        1,
+        0,
+        0,
+        0,
+        CODES | 1,
+        0,
+        0,
+        0,
+        0,
+        0,
+    ];
     let pieces = vec![in alloc;
         Piece {
             start: CODES,
@@ -378,22 +425,11 @@ fn other_memory(alloc: Global) -> Result<Part, AllocError> {
             start: TEXTS,
             bytes: texts(alloc)?
         },
-        Piece {
-            start: FRAMES,
-            bytes: frames
-        },
-        Piece {
-            start: INTERPRETER,
-            bytes: interpreter
-        },
-        Piece {
-            start: THREADS,
-            bytes: thread
-        },
-        Piece {
-            start: 0x50_0000,
-            bytes: cframe
-        },
+        piece(alloc, FRAMES, frames)?,
+        piece(alloc, INTERPRETER, &[0, THREADS])?,
+        piece(alloc, THREADS, &[0, 0, 0, 0x50_0000, 7, 99, 0, 0])?,
+        piece(alloc, 0x50_0000, &[0, FRAMES])?,
+        piece(alloc, LOCK, &[THREADS])?,
     ]?;
     Ok(Part::of(alloc, pieces))
 }
@@ -404,12 +440,54 @@ fn the_other_families_are_followed(rt: HostRuntime) -> Result<(), Fail> {
     let layout = other_layout();
     assert!(rt; is_sound(&layout));
     let mut part = other_memory(alloc)?;
-    let traces = read_traces(alloc, &mut part, &layout, 7, INTERPRETER).map_err(|_| "no traces")?;
+    let found = get_stack_traces(alloc, INTERPRETER, &mut part, &layout, LOCK, None);
+    let traces = found.map_err(|_| "no traces")?;
     assert_eq!(rt; traces.len(), 1);
     assert_eq!(rt; traces[0].os_thread_id, Some(99));
     assert!(rt; traces[0].owns_gil);
     let frames = &traces[0].frames;
     assert_eq!(rt; frames.len(), 2);
     assert!(rt; frames[0].is_entry && !frames[1].is_entry);
+    Ok(())
+}
+
+/// The system's id, the interpreter's, and how they are shown.
+const IDS: [(Option<u64>, u64, &str); 4] = [
+    (Some(99), 0x7f00, "99"),
+    (Some(0), 1, "0"),
+    (None, 0x7fab_cdef, "0x7FABCDEF"),
+    (None, 0, "0x0"),
+];
+
+/// Whether a thread ran, whether it held the lock, and how that is shown.
+const STATES: [(bool, bool, &str); 4] = [
+    (true, true, "active+gil"),
+    (true, false, "active"),
+    (false, true, "idle"),
+    (false, false, "idle"),
+];
+
+#[test]
+fn ids_and_states_are_shown(rt: HostRuntime) -> Result<(), Fail> {
+    let alloc = rt.alloc();
+    let mut trace = StackTrace {
+        pid: 0,
+        thread_id: 0,
+        thread_name: None,
+        os_thread_id: None,
+        active: true,
+        owns_gil: false,
+        frames: Vec::new(alloc),
+    };
+    for (os, id, want) in &IDS {
+        trace.os_thread_id = *os;
+        trace.thread_id = *id;
+        assert_eq!(rt; trace.format_threadid(alloc)?.as_str(), *want);
+    }
+    for (active, owns_gil, want) in &STATES {
+        trace.active = *active;
+        trace.owns_gil = *owns_gil;
+        assert_eq!(rt; trace.status_str(), *want);
+    }
     Ok(())
 }

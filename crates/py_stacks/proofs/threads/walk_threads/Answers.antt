@@ -6,11 +6,10 @@ use Rattle.process_memory.proofs.Walks.{walking_init, walking_more, walking_done
 use Rattle.py_stacks.specs.declared.error.StackError.TheVariants as stack
 use Rattle.py_stacks.specs.StackError.{fault_of}
 use Rattle.py_stacks.specs.Threads.{thread_step, thread_cost, thread_limit, threads_at, threads_cost}
-use Rattle.py_stacks.proofs.ThreadSteps.{thread_goes, thread_stops}
 use Rattle.py_stacks.proofs.threads.walk_threads.Goals as goal
 
 pub loop-at-init : goal.loop-at-init
-loop-at-init g c = rw (c.new-traces.ensures.len, c.new-traces.ensures.items) (walking_init ThreadLimit (λ m. thread_step c.args.layout.now m c.args.owner) (λ m s a. thread_cost c.args.layout.now m a) thread_limit tt c.args.head _)
+loop-at-init g c = rw (c.new-traces.ensures.len, c.new-traces.ensures.items) (walking_init ThreadLimit (thread_step c.args.asked c.args.layout.now) (thread_cost c.args.asked c.args.layout.now) thread_limit tt c.args.head _)
 
 pub returns-then-len-eq-THREAD_LIMIT : goal.returns-then-len-eq-THREAD_LIMIT
 unfolding threads_at threads_cost
@@ -20,17 +19,17 @@ pub returns-in_err-next : goal.returns-in_err-next
 unfolding threads_at threads_cost
 returns-in_err-next g c =
     let p = err_from_is_err_and c.from_residual.result c.from_residual.ensures.1 in
-    rw p.1 (walking_stop p.0 c.loop-at.invariant (omega arith) (omega arith) (thread_stops c.args.layout.now c.args.owner c.loop-at.at _ c.in_err-next.ensures) (ap fault_of p.2))
+    rw p.1 (walking_stop p.0 c.loop-at.invariant (omega arith) (omega arith) c.in_err-next.ensures (ap fault_of p.2))
 
 pub returns-in_err-push : goal.returns-in_err-push
 unfolding threads_at threads_cost
 returns-in_err-push g c =
     let p = err_from_is_err_and c.from_residual-in_err-push.result c.from_residual-in_err-push.ensures.1 in
-    rw p.1 (walking_lost {step = λ m. thread_step c.args.layout.now m c.args.owner} p.0 (walking_more c.loop-at.invariant (omega arith) (omega arith) (thread_goes c.args.layout.now c.args.owner c.loop-at.at _ _ c.in_ok-next.ensures)) (ap fault_of p.2))
+    rw p.1 (walking_lost {step = thread_step c.args.asked c.args.layout.now} p.0 (walking_more c.loop-at.invariant (omega arith) (omega arith) c.in_ok-next.ensures) (ap fault_of p.2))
 
 pub loop-at-preserved : goal.loop-at-preserved
 loop-at-preserved g c =
-    rw (c.in_ok-push.ensures.len, c.in_ok-push.ensures.items, map-append) (walking_more c.loop-at.invariant (omega arith) (omega arith) (thread_goes c.args.layout.now c.args.owner c.loop-at.at _ _ c.in_ok-next.ensures))
+    rw (c.in_ok-push.ensures.len, c.in_ok-push.ensures.items, map-append) (walking_more c.loop-at.invariant (omega arith) (omega arith) c.in_ok-next.ensures)
 
 pub returns : goal.returns
 unfolding threads_at threads_cost

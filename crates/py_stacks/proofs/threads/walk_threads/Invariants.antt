@@ -5,7 +5,7 @@ use Rattle.py_stacks.specs.Threads.{thread_step, thread_cost, thread_limit, trac
 use Rattle.py_stacks.proofs.threads.walk_threads.Given as goal
 
 abbrev pub invariant-loop-at : goal.invariant-loop-at
-invariant-loop-at g l = Walking ThreadLimit (λ m. thread_step l.layout m l.owner) (λ m s a. thread_cost l.layout m a) thread_limit tt l.head (g.P.ProcessMemory.seen l.initial.process) (g.P.ProcessMemory.seen l.process) (map trace_of l.traces.items) (vec_len l.traces) tt l.at
+invariant-loop-at g l = Walking ThreadLimit (thread_step l.asked l.layout) (thread_cost l.asked l.layout) thread_limit tt l.head (g.P.ProcessMemory.seen l.initial.process) (g.P.ProcessMemory.seen l.process) (map trace_of l.traces.items) (vec_len l.traces) tt l.at
 
 abbrev pub decreases-loop-at : goal.decreases-loop-at
 decreases-loop-at g l = thread_limit - vec_len l.traces

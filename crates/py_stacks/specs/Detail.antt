@@ -1,0 +1,37 @@
+-- The detail of a kept member: its line and its locals. What walks along frames knows of it these three words
+-- alone, and never opens them: what it is, how many reads it takes, and its faults in order.
+use Rattle.std.specs.Prelude.{ℕ, Option, Some, None, List, [], Result, Ok, Err, ℤ, pos, option_map, Vec}
+use Rattle.std.specs.Global.{Global}
+use Rattle.process_memory.specs.Memory.{Memory, Found, Fault}
+use Rattle.py_fields.specs.declared.layout.Layout.{Layout}
+use Rattle.py_stacks.specs.declared.asked.Asked.{Asked}
+use Rattle.py_stacks.specs.declared.detail.Detail as read
+use Rattle.py_stacks.specs.declared.trace.LocalVariable.{LocalVariable}
+
+-- the two records of a member, with their addresses
+pub record MemberAt : Type 0 where
+  pub frame_at : ℕ
+  pub frame : List ℕ
+  pub code_at : ℕ
+  pub code : List ℕ
+
+pub record Detail : Type 0 where
+  pub line : ℤ
+  pub locals : Option (List LocalVariable)
+
+unfoldable pub detail_at : Asked → Layout → Memory → MemberAt → Found Detail
+detail_at q l m r = Ok (record { line = pos 0; locals = None })
+
+unfoldable pub detail_cost : Asked → Layout → Memory → MemberAt → ℕ
+detail_cost q l m r = 0
+
+-- the faults of a detail, in order
+unfoldable pub detail_faults : Asked → Layout → Memory → MemberAt → List Fault
+detail_faults q l m r = []
+
+abbrev pub detail_of : read.Detail → Detail
+detail_of d = record { line = d.line; locals = option_map (λ (v : Vec LocalVariable Global). v.items) d.locals }
+
+abbrev pub detail_of_result : {E : Type 0} → Result read.Detail E → Result Detail E
+detail_of_result (Ok d) = Ok (detail_of d)
+detail_of_result (Err e) = Err e

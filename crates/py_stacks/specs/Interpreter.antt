@@ -1,0 +1,59 @@
+-- The test of an address that may be an interpreter's: its first thread names it, and its threads can be walked.
+use Rattle.std.specs.Prelude.{◌≡◌, ℕ, ◌+◌, ◌*◌, nat_eq, Bool, true, false, MatchOption, List, Result, Ok, Err, if◌then◌else◌}
+use Rattle.elf64_core.specs.Fields.{u64_in}
+use Rattle.process_memory.specs.Memory.{Memory, Found, ◌>>=◌, record_at, word_at}
+use Rattle.py_fields.specs.declared.layout.Layout.{Layout}
+use Rattle.py_stacks.specs.declared.error.StackError.{StackError}
+use Rattle.py_stacks.specs.declared.error.StackError.TheVariants.{OutOfMemory}
+use Rattle.py_stacks.specs.StackError.{fault_of}
+use Rattle.py_stacks.specs.Asking.{nothing}
+use Rattle.py_stacks.specs.Met.{members_met, threads_met}
+use Rattle.py_stacks.specs.Threads.{AreTraces, Trace, traces_at, traces_cost}
+
+-- the interpreter that an interpreter's first thread names
+unfoldable pub named_at : Layout → Memory → ℕ → Found ℕ
+named_at l m a = do
+  head ← word_at m (a + l.interpreter.threads)
+  thread ← record_at m head l.thread.size
+  Ok (u64_in thread l.thread.interp)
+
+abbrev pub was_found : {T : Type 0} → Found T → Bool
+was_found (Ok x) = true
+was_found (Err f) = false
+
+abbrev pub passes_named : Layout → Memory → ℕ → Found ℕ → Bool
+passes_named l m a (Err f) = false
+passes_named l m a (Ok named) = if nat_eq named a then was_found (traces_at nothing l m a) else false
+
+unfoldable pub passes : Layout → Memory → ℕ → Bool
+passes l m a = passes_named l m a (named_at l m a)
+
+-- what is counted of the walk, where it is made
+abbrev pub where_named : ℕ → ℕ → Found ℕ → ℕ
+where_named n a (Err f) = 0
+where_named n a (Ok named) = if nat_eq named a then n else 0
+
+unfoldable pub test_cost : Layout → Memory → ℕ → ℕ
+test_cost l m a = 2 + where_named (traces_cost nothing l m a) a (named_at l m a)
+
+unfoldable pub threads_tested : Layout → Memory → ℕ → ℕ
+threads_tested l m a = where_named (threads_met nothing l m a) a (named_at l m a)
+
+unfoldable pub members_tested : Layout → Memory → ℕ → ℕ
+members_tested l m a = where_named (members_met nothing l m a) a (named_at l m a)
+
+-- at most 3 reads, 2 for each thread that the test meets, and 6 for each member
+abbrev pub test_bound : Layout → Memory → ℕ → ℕ
+test_bound l m a = 3 + 2 * threads_tested l m a + 6 * members_tested l m a
+
+-- a fault refuses the address, and want of memory is handed on
+abbrev pub Refuses : StackError → Result Bool StackError → Type 0
+Refuses e result = MatchOption (fault_of e) (result ≡ Err OutOfMemory) (λ f. result ≡ Ok false)
+
+-- ---- in the subject's own words
+
+-- its first thread names it, and there is a list of traces of its whole chain of threads
+pub record IsInterpreter (l : Layout) (m : Memory) (a : ℕ) : Type 0 where
+  pub named : named_at l m a ≡ Ok a
+  pub traces : List Trace
+  pub are : AreTraces nothing l m a traces

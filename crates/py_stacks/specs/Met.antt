@@ -1,0 +1,40 @@
+-- How many threads and members a walk meets before it ends: what the bound on its reads counts.
+use Rattle.std.specs.Prelude.{ℕ, ◌+◌, ◌*◌}
+use Rattle.process_memory.specs.Memory.{Memory, ◌>>=◌, record_at, word_at}
+use Rattle.process_memory.specs.Walk.{walk_cost}
+use Rattle.py_fields.specs.declared.layout.Layout.{Layout}
+use Rattle.py_stacks.specs.declared.asked.Asked.{Asked}
+use Rattle.py_stacks.specs.Frames.{cost_after, extra_cost, frame_step, member_limit}
+use Rattle.py_stacks.specs.Threads.{first_frame_at, thread_limit, thread_step}
+
+-- the members of a thread's chain that are met
+unfoldable pub frames_met : Asked → Layout → Memory → ℕ → ℕ
+frames_met q l m first = walk_cost (frame_step q l m) (λ kept a. 1) member_limit 0 first
+
+-- the reads of their details
+unfoldable pub frames_extra : Asked → Layout → Memory → ℕ → ℕ
+frames_extra q l m first = walk_cost (frame_step q l m) (extra_cost q l m) member_limit 0 first
+
+-- what one thread adds, by its first frame
+abbrev pub of_thread : (ℕ → ℕ) → Layout → Memory → Unit {0} → ℕ → ℕ
+of_thread count l m s a = cost_after (record_at m a l.thread.size >>= first_frame_at l m) count
+
+-- the sum over an interpreter's threads that are met
+abbrev pub over_threads : Asked → Layout → Memory → (Unit {0} → ℕ → ℕ) → ℕ → ℕ
+over_threads q l m count interpreter = cost_after (word_at m (interpreter + l.interpreter.threads))
+    (λ head. walk_cost (thread_step q l m) count thread_limit tt head)
+
+unfoldable pub threads_met : Asked → Layout → Memory → ℕ → ℕ
+threads_met q l m interpreter = over_threads q l m (λ s a. 1) interpreter
+
+unfoldable pub members_met : Asked → Layout → Memory → ℕ → ℕ
+members_met q l m interpreter = over_threads q l m (of_thread (frames_met q l m) l m) interpreter
+
+-- the reads of the details of all their members
+unfoldable pub details_cost : Asked → Layout → Memory → ℕ → ℕ
+details_cost q l m interpreter = over_threads q l m (of_thread (frames_extra q l m) l m) interpreter
+
+-- at most 3 reads, 2 for each thread that is met, 6 for each member, and those of the details
+abbrev pub stacks_bound : Asked → Layout → Memory → ℕ → ℕ
+stacks_bound q l m interpreter =
+    3 + 2 * threads_met q l m interpreter + 6 * members_met q l m interpreter + details_cost q l m interpreter

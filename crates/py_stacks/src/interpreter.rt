@@ -1,0 +1,98 @@
+//! The test of an address that may be an interpreter's.
+ghost use Rattle.std.specs.Prelude.{◌≡◌, ◌+◌, ◌*◌, ◌↔◌, IfOk, IsTrue, Ok};
+ghost use Rattle.process_memory.specs.Seen.{Reads, ReadsBy, ReadingBy};
+ghost use Rattle.py_fields.specs.Sound.{IsSound};
+ghost use Rattle.py_stacks.specs.StackError.{fault_of};
+ghost use Rattle.py_stacks.specs.Interpreter.{IsInterpreter, Refuses, named_at, passes, test_bound, test_cost};
+
+use crate::StackError;
+use crate::asked::{Asked, LineNo};
+use crate::records::read_bytes;
+use crate::threads::read_traces;
+use elf64_core::u64_in;
+use process_memory::{ProcessMemory, word_past};
+use py_fields::Layout;
+use std::alloc::Global;
+
+/// What the test answers where a read or the walk fails so: a fault refuses the address, and want of memory is
+/// handed on.
+fn refused(error: StackError) -> Result<bool, StackError>
+    ensures { Refuses error result }
+{
+    match error {
+        StackError::OutOfMemory => Err(StackError::OutOfMemory),
+        _ => Ok(false),
+    }
+}
+
+/// The interpreter that the first thread of the interpreter at an address names. At most 2 reads.
+fn read_named<P: ProcessMemory>(
+    alloc: Global,
+    process: &mut P,
+    layout: &Layout,
+    interpreter: u64,
+) -> Result<u64, StackError>
+    requires sound { IsSound layout.now }
+    ensures { Reads fault_of 2 (P.seen process.old) (P.seen process.new)
+        (λ m. named_at layout.now m interpreter) result }
+{
+    let mut thread = Vec::new(alloc);
+    let head = word_past(process, interpreter, layout.interpreter.threads as u64)?;
+    read_bytes(process, head, layout.thread.size, &mut thread)?;
+    Ok(u64_in(&thread, layout.thread.interp as usize))
+}
+
+/// Tests the address: its first thread is looked at, and where it names the address its threads are walked.
+fn walk_interpreter<P: ProcessMemory>(
+    alloc: Global,
+    process: &mut P,
+    layout: &Layout,
+    interpreter: u64,
+) -> Result<bool, StackError>
+    requires sound { IsSound layout.now }
+    ensures { ReadsBy fault_of (λ m. test_cost layout.now m interpreter) (P.seen process.old) (P.seen process.new)
+        (λ m. Ok (passes layout.now m interpreter)) result }
+{
+    let named = match read_named(alloc, process, layout, interpreter) {
+        Ok(named) => named,
+        Err(error) => return refused(error),
+    };
+    if named != interpreter {
+        return Ok(false);
+    }
+    let asked = Asked {
+        lineno: LineNo::NoLine,
+        locals: false,
+    };
+    let _traces = match read_traces(alloc, process, layout, asked, interpreter) {
+        Ok(traces) => traces,
+        Err(error) => return refused(error),
+    };
+    Ok(true)
+}
+
+/// Whether an address is an interpreter's: its first thread names it, and its threads can be walked.
+///
+/// The walk is that of `get_stack_traces`, to null and within the same limits, less the owner, the lines and
+/// the locals. Whether a map of the process holds the address, and the first thread's, is left to the caller.
+///
+/// A record that is not in memory, or a chain that goes on past its limit, refuses the address; the one error
+/// is want of memory. At most 3 reads, 2 for each thread that is met, and 6 for each member of its chain of
+/// frames: for a cyclic chain as many as its limit lets be met.
+pub fn is_interpreter<P: ProcessMemory>(
+    alloc: Global,
+    process: &mut P,
+    layout: &Layout,
+    interpreter: u64,
+) -> Result<bool, StackError>
+    requires sound { IsSound layout.now }
+    ensures answer { ReadsBy fault_of (λ m. test_bound layout.now m interpreter)
+        (P.seen process.old) (P.seen process.new) (λ m. Ok (passes layout.now m interpreter)) result }
+    ensures exact { ReadingBy (λ m. test_bound layout.now m interpreter)
+        (P.seen process.old) (P.seen process.new)
+        (λ m. IfOk result (λ is. IsTrue is ↔ IsInterpreter layout.now m interpreter)) }
+    ensures most { Reads fault_of (3 + 4096 * (2 + 6 * 16384)) (P.seen process.old) (P.seen process.new)
+        (λ m. Ok (passes layout.now m interpreter)) result }
+{
+    walk_interpreter(alloc, process, layout, interpreter)
+}
