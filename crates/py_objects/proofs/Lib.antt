@@ -1,3 +1,5 @@
+pub mod BytesRead
 pub mod Codings
+pub mod Refusals
 pub mod Sound
 pub mod Texts

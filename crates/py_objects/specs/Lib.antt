@@ -1,3 +1,5 @@
+pub mod Bytes
 pub mod ObjectError
+pub mod Refusals
 pub mod TextKind
 pub mod Texts

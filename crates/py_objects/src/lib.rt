@@ -1,13 +1,15 @@
-//! Python objects: texts, read out of a process's memory by a layout.
+//! Python objects: texts and bytes, read out of a process's memory by a layout.
 //!
 //! Each reader answers what the object means at this memory, or the first fault on the way, and says how
 //! many reads it made. The rules are CPython's where they say what an object means, and this project's
 //! own where they say which objects are refused.
 #![tactic(auto)]
 
+mod bytes;
 mod coding;
 mod error;
 mod strings;
 
+pub use bytes::copy_bytes;
 pub use error::ObjectError;
 pub use strings::copy_string;

@@ -3,6 +3,7 @@ ghost use Rattle.std.specs.Prelude.{◌≡◌, ℕ, ◌+◌, ◌<◌, ◌≤◌,
 ghost use Rattle.py_fields.specs.Sound.{IsSound};
 ghost use Rattle.process_memory.specs.Seen.{Reads, Reading};
 ghost use Rattle.py_objects.specs.ObjectError.{fault_of};
+ghost use Rattle.py_objects.specs.Refusals.{RefusesEarly};
 ghost use Rattle.py_objects.specs.Texts.{text_at, characters_at, IsText, characters_of, characters_by, state_at, kind_in, place_in, bit_is_set};
 
 use crate::ObjectError;
@@ -51,9 +52,12 @@ pub fn copy_string<P: ProcessMemory>(
     addr: u64,
 ) -> Result<Text, ObjectError>
     requires sound { IsSound layout.now }
-    ensures answer { Reads fault_of 2 (P.seen process.old) (P.seen process.new) (λ m. text_at layout.now m addr) result }
+    ensures answer { Reads fault_of 2 (P.seen process.old) (P.seen process.new) (λ m. text_at layout.now m addr)
+        result }
+    ensures early { RefusesEarly (P.seen process.old) (P.seen process.new) (λ m. text_at layout.now m addr) result }
     ensures text { Reading 2 (P.seen process.old) (P.seen process.new) (λ m. IfOk result (IsText layout.now m addr)) }
-    ensures found { Reading 2 (P.seen process.old) (P.seen process.new) (λ m. (cs : List ℕ) → IsText layout.now m addr cs
+    ensures found { Reading 2 (P.seen process.old) (P.seen process.new) (λ m. (cs : List ℕ)
+        → IsText layout.now m addr cs
         → MatchResult result (λ text. text ≡ cs) (λ error. error ≡ ObjectError.OutOfMemory)) }
 {
     read_text(alloc, process, layout, addr)
@@ -66,7 +70,9 @@ fn read_text<P: ProcessMemory>(
     addr: u64,
 ) -> Result<Text, ObjectError>
     requires sound { IsSound layout.now }
-    ensures { Reads fault_of 2 (P.seen process.old) (P.seen process.new) (λ m. text_at layout.now m addr) result }
+    ensures answer { Reads fault_of 2 (P.seen process.old) (P.seen process.new) (λ m. text_at layout.now m addr)
+        result }
+    ensures early { RefusesEarly (P.seen process.old) (P.seen process.new) (λ m. text_at layout.now m addr) result }
 {
     let object = record(alloc, process, addr, layout.string.size as u64)?;
     let length = u64_in(&object, layout.string.length as usize);
@@ -92,7 +98,8 @@ fn read_characters<P: ProcessMemory>(
     characters: &Characters,
 ) -> Result<Text, ObjectError>
     requires { length < 4096 }
-    ensures { Reads fault_of 1 (P.seen process.old) (P.seen process.new) (λ m. characters_at m length (Some characters.now)) result }
+    ensures { Reads fault_of 1 (P.seen process.old) (P.seen process.new)
+        (λ m. characters_at m length (Some characters.now)) result }
 {
     let len = length * characters.kind.width();
     let bytes = record_wide(alloc, process, characters.at, len)?;
