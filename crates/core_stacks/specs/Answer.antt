@@ -79,3 +79,10 @@ Means bytes layouts version addresses (Err (LocalsLimit count)) = Meets bytes la
 abbrev pub traced : {E : Type 0} → Result (Vec StackTrace) E → Result (List Trace) E
 traced (Ok v) = Ok (map trace_of v.items)
 traced (Err e) = Err e
+
+-- the file is accepted, a layout covers the version, and no fault is met on the way
+pub record IsWalkable (bytes : List ℕ) (layouts : List Layout) (version : Version) (addresses : Addresses) : Type 0 where
+  pub accepted : IsAccepted bytes
+  pub layout : Layout
+  pub chosen : IsChosen layouts version layout
+  pub faultless : fault_by layout bytes addresses ≡ None

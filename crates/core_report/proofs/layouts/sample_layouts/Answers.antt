@@ -1,8 +1,8 @@
 use Rattle.std.proofs.Common.{◌≡◌, sym, subst, true, false}
 use Rattle.std.specs.Prelude.{IsOk}
 use Rattle.py_layout.specs.Lists.{AreSound}
-use Rattle.core_report.proofs.Means.{one_sound}
-use Rattle.core_report.proofs.command.sample_layouts.Goals as goal
+use Rattle.core_report.proofs.Agreement.{one_sound}
+use Rattle.core_report.proofs.layouts.sample_layouts.Goals as goal
 
 pub unreachable-requires : goal.unreachable-requires
 unreachable-requires c =
