@@ -1,9 +1,3 @@
-pub mod Digits
-pub mod Five
-pub mod Hex
-pub mod Pieces
-pub mod Outcomes
-pub mod Texts
-pub mod Means
-pub mod Finds
-pub mod Sole
+pub mod Turns
+pub mod Agreement
+pub mod Ends

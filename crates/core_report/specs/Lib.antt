@@ -1,6 +1,4 @@
-pub mod Words
-pub mod Seen
+pub mod Reading
+pub mod Outcome
 pub mod Lines
-pub mod Text
-pub mod Answer
 pub mod Run

@@ -1,168 +1,165 @@
 -- What a run of the top call means.
-use Rattle.std.specs.Prelude.{◌≡◌, ◌≢◌, ◌⊎◌, ℕ, ◌++◌, List, [], ◌∷◌, Option, Some, None, Result, Ok, Err, ⊤, codes, map}
+use Rattle.std.specs.Prelude.{◌≡◌, ◌≢◌, ◌++◌, ℕ, List, [], ◌∷◌, Option, Some, None, IsSome, Result, Ok, Err, codes, string_bytes, String}
+use Rattle.std.specs.Global.{Global}
+use Rattle.std.specs.List.{concat}
 use Rattle.std.specs.Io.KnownBytes.{Appends}
-use Rattle.outside.specs.Counts.{Rose}
-use Rattle.outside.specs.Files.{Told, FailedNames, Gives, bytes_of}
-use Rattle.outside.specs.Streams.{AppendsFront}
+use Rattle.outside.specs.Files.{FailedNames, FilesSeen, Told}
+use Rattle.outside.specs.Streams.{SinkSeen}
 use Rattle.outside.specs.declared.faults.FileFault.{FileFault}
 use Rattle.outside.specs.declared.faults.FileFault.TheVariants as fault
-use Rattle.py_stacks.specs.declared.trace.StackTrace.{StackTrace}
-use Rattle.py_process.specs.declared.core_error.CoreError.{CoreError}
-use Rattle.py_process.specs.declared.core_error.CoreError.TheVariants as core
-use Rattle.core_report.specs.declared.command.Trouble.{Trouble}
-use Rattle.core_report.specs.declared.command.Trouble.TheVariants.{Work, Words, File, Layouts, Write, OutOfMemory}
-use Rattle.core_report.specs.Words.{Command, LayoutSource, Walk, walk, sample, file, core_file, layout_source}
-use Rattle.core_report.specs.Lines.{core_parts, file_parts, layout_parts}
-use Rattle.core_report.specs.Text.{walk_text}
-use Rattle.core_report.specs.Answer.{Finds, IsChosen, Means, fault_by}
-use Rattle.image_memory.specs.Cores.{IsCore}
-use Rattle.py_layout.specs.declared.error.LayoutError.{LayoutError}
-use Rattle.py_layout.specs.declared.error.LayoutError.TheVariants as layout
-use Rattle.py_fields.specs.declared.layout.Layout.{Layout}
-use Rattle.py_layout.specs.File.{IsRightFor}
-use Rattle.py_fields.specs.Samples.{sample_layout}
-use Rattle.py_stacks.specs.Threads.{trace_of}
+use Rattle.core_words.specs.Words.{Command}
+use Rattle.core_texts.specs.Parts.{line}
+use Rattle.core_texts.specs.Says.{IsAdded, IsCutOff, Says}
+use Rattle.core_report.specs.declared.cause.Cause.{Cause}
+use Rattle.core_report.specs.declared.cause.Cause.TheVariants as cause
+use Rattle.core_report.specs.declared.trouble.Trouble.{Trouble}
+use Rattle.core_report.specs.declared.trouble.Trouble.TheVariants.{Cause as Caused, Words, File, Write}
+use Rattle.core_report.specs.Reading.{IsAll, IsNext, IsRead}
+use Rattle.core_report.specs.Outcome.{IsOutcome, Outcome, cause_status}
+use Rattle.core_report.specs.Lines.{cause_parts, file_parts}
 
--- the layouts of a walk that names no file
-abbrev pub sample_layouts : List Layout
-sample_layouts = sample_layout ∷ []
+-- over the contents of all the files that it asks for, a command comes to this outcome
+pub record ComesTo (told : Told) (command : Command) (outcome : Outcome) : Type 0 where
+  pub contents : List (List ℕ)
+  pub read : IsRead told command contents
+  pub all : IsAll command contents
+  pub is : IsOutcome command contents outcome
 
--- the layouts of a source, or the first error of its file, whose text is that of the told file
-abbrev pub SourceGives : Told → LayoutSource → Result (List Layout) LayoutError → Type 0
-SourceGives told sample answer = answer ≡ Ok sample_layouts
-SourceGives told (file name) answer = (text : List ℕ) × Gives told name text × IsRightFor text answer
-
--- what a command comes to over the bytes of its core: the text of the traces that it finds by the layouts, or
--- the cause why there are none
-abbrev pub Works : Command → List ℕ → List Layout → Result (List ℕ) CoreError → Type 0
-Works (walk w) core layouts (Ok text) = (traces : List StackTrace) × (text ≡ walk_text w.version traces)
-    × Finds core layouts w.version w.addresses (map trace_of traces)
-Works (walk w) core layouts (Err error) = Means core layouts w.version w.addresses (Err error)
-
--- A command is asked for, and over the bytes of its core, which are those of the told file, and by the layouts
--- of its source, it comes to this result.
-pub record Reaches (asked : Option Command) (told : Told) (result : Result (List ℕ) CoreError) : Type 0 where
+-- the words ask for a command that comes to this outcome
+pub record Reaches (asked : Option Command) (told : Told) (outcome : Outcome) : Type 0 where
   pub command : Command
   pub is_asked : asked ≡ Some command
-  pub core : List ℕ
-  pub given : Gives told (core_file command) core
-  pub layouts : List Layout
-  pub said : SourceGives told (layout_source command) (Ok layouts)
-  pub works : Works command core layouts result
+  pub comes : ComesTo told command outcome
 
--- A command is asked for, its core was read, and its layout file has this error.
-pub record HasBadLayouts (asked : Option Command) (told : Told) (error : LayoutError) : Type 0 where
-  pub command : Command
-  pub is_asked : asked ≡ Some command
-  pub core : List ℕ
-  pub given : Gives told (core_file command) core
-  pub said : SourceGives told (layout_source command) (Err error)
-  pub not_memory : error ≢ layout.OutOfMemory
+-- after the contents of the files before it, this file is asked for, and could not be read
+pub record IsUnread (old new : FilesSeen) (command : Command) (name : List ℕ) (why : FileFault) : Type 0 where
+  pub contents : List (List ℕ)
+  pub read : IsRead old.told command contents
+  pub next : IsNext command contents name
+  pub not_memory : why ≢ fault.OutOfMemory
+  pub failed : new.failed ≡ old.failed ++ (name, why) ∷ []
 
--- the files and the stream before and after
+-- ---- how a run ends
+
+pub data End : Type 0 where
+  printed : End
+  stopped : Cause → End
+  refused : End
+  unread : List ℕ → FileFault → End
+  cut : End
+
+abbrev pub status_of : End → ℕ
+status_of printed = 0
+status_of (stopped cause) = cause_status cause
+status_of refused = 2
+status_of (unread name why) = 3
+status_of cut = 4
+
+-- the parts of its line; of a text that was printed there is none
+abbrev pub end_parts : End → List (List ℕ)
+end_parts printed = []
+end_parts (stopped cause) = cause_parts cause
+end_parts refused = codes "bad words" ∷ []
+end_parts (unread name why) = file_parts name why
+end_parts cut = codes "cannot write" ∷ []
+
+-- nothing is said of a text that was printed, and else one line
+abbrev pub SaysEnd : End → SinkSeen → SinkSeen → Type 0
+SaysEnd printed old new = new ≡ old
+SaysEnd end old new = Says old new (line (concat (end_parts end)))
+
+-- the files and the stream of the text, before and after
 pub record Ran : Type 0 where
-  pub told : Told
-  pub failed : FailedNames
-  pub failed_after : FailedNames
-  pub written : Option (List ℕ)
-  pub written_after : Option (List ℕ)
-  pub faults : ℕ
-  pub faults_after : ℕ
+  pub files : FilesSeen
+  pub files_after : FilesSeen
+  pub out : SinkSeen
+  pub out_after : SinkSeen
+
+abbrev pub ran : FilesSeen → FilesSeen → SinkSeen → SinkSeen → Ran
+ran files files_after out out_after =
+    record { files = files; files_after = files_after; out = out; out_after = out_after }
 
 -- no file failed, and nothing was written
 pub record IsQuiet (r : Ran) : Type 0 where
-  pub failed : r.failed_after ≡ r.failed
-  pub written : r.written_after ≡ r.written
+  pub failed : r.files_after.failed ≡ r.files.failed
+  pub written : r.out_after ≡ r.out
 
 -- the whole text was written
 pub record IsPrinted (asked : Option Command) (r : Ran) : Type 0 where
   pub text : List ℕ
-  pub reached : Reaches asked r.told (Ok text)
-  pub added : Appends r.written r.written_after text
-  pub failed : r.failed_after ≡ r.failed
+  pub reached : Reaches asked r.files.told (Ok text)
+  pub added : IsAdded r.out r.out_after text
+  pub failed : r.files_after.failed ≡ r.files.failed
 
 -- a write failed after a front of the text
 pub record IsCut (asked : Option Command) (r : Ran) : Type 0 where
   pub text : List ℕ
-  pub reached : Reaches asked r.told (Ok text)
-  pub front : AppendsFront r.written r.written_after text
-  pub rose : Rose r.faults r.faults_after
-  pub failed : r.failed_after ≡ r.failed
+  pub reached : Reaches asked r.files.told (Ok text)
+  pub cut : IsCutOff r.out r.out_after text
+  pub failed : r.files_after.failed ≡ r.files.failed
 
--- the file of this name is asked for: the core's, or the layout file, once the core was read
-abbrev pub Asks : Told → Command → List ℕ → Type 0
-Asks told command name = (core_file command ≡ name)
-    ⊎ ((layout_source command ≡ file name) × ((core : List ℕ) × Gives told (core_file command) core))
-
--- a file that the command asks for could not be read
-pub record IsUnread (asked : Option Command) (r : Ran) (name : List ℕ) (why : FileFault) : Type 0 where
+-- a file that the words name could not be read, and nothing was written
+pub record IsStuck (asked : Option Command) (r : Ran) (name : List ℕ) (why : FileFault) : Type 0 where
   pub command : Command
   pub is_asked : asked ≡ Some command
-  pub named : Asks r.told command name
-  pub not_memory : why ≢ fault.OutOfMemory
-  pub failed : r.failed_after ≡ r.failed ++ (name, why) ∷ []
-  pub written : r.written_after ≡ r.written
+  pub unread : IsUnread r.files r.files_after command name why
+  pub written : r.out_after ≡ r.out
 
--- what is so where a run gives up
-abbrev pub HasCause : Option Command → Ran → Trouble → Type 0
-HasCause asked r (Work error) = (error ≢ core.OutOfMemory) × Reaches asked r.told (Err error) × IsQuiet r
-HasCause asked r Words = (asked ≡ None) × IsQuiet r
-HasCause asked r (File name why) = IsUnread asked r name.now why
-HasCause asked r (Layouts error) = HasBadLayouts asked r.told error × IsQuiet r
-HasCause asked r Write = IsCut asked r
-HasCause asked r OutOfMemory = ((command : Command) × (asked ≡ Some command)) × IsQuiet r
+-- the words ask for a command that comes to this cause, unless memory ran out, and nothing was written
+pub record IsStopped (asked : Option Command) (r : Ran) (cause : Cause) : Type 0 where
+  pub command : Command
+  pub is_asked : asked ≡ Some command
+  pub reached : cause_status cause ≢ 5 → Reaches asked r.files.told (Err cause)
+  pub quiet : IsQuiet r
 
--- what is so where it ends
-abbrev pub Ends : Option Command → Ran → Result (Unit {0}) Trouble → Type 0
-Ends asked r (Ok _) = IsPrinted asked r
-Ends asked r (Err trouble) = HasCause asked r trouble
+-- what is so where a run ends so
+abbrev pub HasEnded : Option Command → Ran → End → Type 0
+HasEnded asked r printed = IsPrinted asked r
+HasEnded asked r (stopped cause) = IsStopped asked r cause
+HasEnded asked r refused = (asked ≡ None) × IsQuiet r
+HasEnded asked r (unread name why) = IsStuck asked r name why
+HasEnded asked r cut = IsCut asked r
 
--- the status of a run that gave up
-abbrev pub status_of : Trouble → ℕ
-status_of (Work _) = 1
-status_of Words = 2
-status_of (File _ _) = 3
-status_of Write = 4
-status_of OutOfMemory = 5
-status_of (Layouts _) = 6
+-- a run with this status: how it ended, and what it said
+pub record IsRun (asked : Option Command) (r : Ran) (err err_after : SinkSeen) (status : ℕ) : Type 0 where
+  pub end : End
+  pub is : status ≡ status_of end
+  pub ended : HasEnded asked r end
+  pub said : SaysEnd end err err_after
 
--- the parts of its line
-abbrev pub trouble_parts : Trouble → List (List ℕ)
-trouble_parts (Work error) = core_parts error
-trouble_parts Words = codes "bad words" ∷ []
-trouble_parts (File name why) = file_parts name.now why
-trouble_parts (Layouts error) = layout_parts error
-trouble_parts Write = codes "cannot write" ∷ []
-trouble_parts OutOfMemory = codes "out of memory" ∷ []
+-- the words ask for this command, and the files tell these contents of all that it asks for
+pub record Tells (asked : Option Command) (told : Told) (command : Command) (contents : List (List ℕ)) : Type 0 where
+  pub is_asked : asked ≡ Some command
+  pub tells : IsSome told
+  pub read : IsRead told command contents
+  pub all : IsAll command contents
 
--- the files tell the bytes of this name
-abbrev pub Tells : Told → List ℕ → List ℕ → Type 0
-Tells told name bytes = (files : List (List ℕ × List ℕ)) × (told ≡ Some files) × (bytes_of files name ≡ Some bytes)
+-- ---- the steps of a run
 
--- the files tell these layouts of a source, or this error of its file
-abbrev pub TellsLayouts : Told → LayoutSource → Result (List Layout) LayoutError → Type 0
-TellsLayouts told sample answer = answer ≡ Ok sample_layouts
-TellsLayouts told (file name) answer = (text : List ℕ) × Tells told name text × IsRightFor text answer
+-- what a command's own code answers: its text, or what was wrong
+abbrev pub IsTroubled : FilesSeen → FilesSeen → Command → Trouble → Type 0
+IsTroubled old new command (Caused cause) =
+    (cause_status cause ≢ 5 → ComesTo old.told command (Err cause)) × (new.failed ≡ old.failed)
+IsTroubled old new command (File name why) = IsUnread old new command name.now why
+IsTroubled old new command _ = ⊥
 
--- a core in which the walk of a command has nothing to complain of
-pub record IsFaultless (w : Walk) (core : List ℕ) (layouts : List Layout) : Type 0 where
-  pub accepted : IsCore core
-  pub layout : Layout
-  pub chosen : IsChosen layouts w.version layout
-  pub faultless : fault_by layout core w.addresses ≡ None
+abbrev pub Comes : FilesSeen → FilesSeen → Command → Result (String Global) Trouble → Type 0
+Comes old new command (Ok text) = ComesTo old.told command (Ok (string_bytes text)) × (new.failed ≡ old.failed)
+Comes old new command (Err trouble) = IsTroubled old new command trouble
 
--- what may be wrong with a layout file's text, or want of memory
-abbrev pub IsTextTrouble : List ℕ → Trouble → Type 0
-IsTextTrouble text (Layouts error) = (error ≢ layout.OutOfMemory) × IsRightFor text (Err error)
-IsTextTrouble text OutOfMemory = ⊤
-IsTextTrouble text _ = ⊥
+-- what the reading of one file may leave
+abbrev pub IsReadTrouble : FailedNames → FailedNames → List ℕ → Trouble → Type 0
+IsReadTrouble before after name (File n why) =
+    (n.now ≡ name) × (why ≢ fault.OutOfMemory) × (after ≡ before ++ (n.now, why) ∷ [])
+IsReadTrouble before after name (Caused cause.OutOfMemory) = after ≡ before
+IsReadTrouble before after name _ = ⊥
 
--- what the reading of a source may leave where it gives no layouts: the fault of its file, the error of the
--- file, or want of memory
-abbrev pub IsSourceTrouble : LayoutSource → Told → FailedNames → FailedNames → Trouble → Type 0
-IsSourceTrouble source told before after (File name why) = (source ≡ file name.now) × (why ≢ fault.OutOfMemory)
-    × (after ≡ before ++ (name.now, why) ∷ [])
-IsSourceTrouble source told before after (Layouts error) = (error ≢ layout.OutOfMemory)
-    × SourceGives told source (Err error) × (after ≡ before)
-IsSourceTrouble source told before after OutOfMemory = after ≡ before
-IsSourceTrouble source told before after _ = ⊥
+abbrev pub end_at : Trouble → End
+end_at (Caused cause) = stopped cause
+end_at Words = refused
+end_at (File name why) = unread name.now why
+end_at Write = cut
+
+abbrev pub end_of : Result (Unit {0}) Trouble → End
+end_of (Ok _) = printed
+end_of (Err trouble) = end_at trouble

@@ -1,17 +1,20 @@
-//! The top call: from the words of a command line to a core's stacks as text.
+//! The top call: from the words of a command line to a text.
 //!
-//! `run` reads the files that the words name, walks the interpreter's threads in it, and writes one text
-//! or one line why there is none. `walk` is the work alone, over bytes that the caller has.
+//! `run` reads the files that the words name, does the command's work over their contents, and writes one
+//! text or one line why there is none. A command has its words in `core_words`, what it comes to in the
+//! specs here, and a function over the contents of its files; `run` and its contract are the same for all.
 #![tactic(auto)]
 
+mod cause;
 mod command;
-mod core_walk;
+mod layouts;
 mod lines;
-mod text;
-mod words;
+mod reading;
+mod trouble;
+mod walk_command;
 
 pub use command::run;
-pub use core_walk::walk;
+pub use core_stacks::walk;
 pub use py_process::CoreError;
 
 #[cfg(test)]

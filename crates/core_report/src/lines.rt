@@ -1,267 +1,181 @@
-//! The line of each case on the stream of errors, in pieces, so that it takes no memory.
-ghost use Rattle.std.specs.Prelude.{◌≡◌, ◌++◌, [], ◌∷◌, ◌<◌, false, drop, codes, decimal};
-ghost use Rattle.std.specs.Fmt.{digits, digit_glyph, signed_decimal};
-ghost use Rattle.py_version.specs.Version.{metadata_text, version_text};
-ghost use Rattle.core_report.specs.Lines.{Says, address, core_parts, file_parts, joined, layout_parts, line, range_parts};
+//! The parts of each line on the stream of errors, as tables, and the line with its status.
+ghost use Rattle.std.specs.Prelude.{◌≡◌, ◌++◌, ◌∷◌, [], codes};
+ghost use Rattle.std.specs.List.{concat};
+ghost use Rattle.py_version.specs.Version.{version_text};
+ghost use Rattle.core_texts.specs.Parts.{said};
+ghost use Rattle.core_report.specs.Lines.{cause_parts, core_parts, file_parts, layout_parts, range_parts};
+ghost use Rattle.core_report.specs.Run.{SaysEnd, end_at, end_parts, status_of};
 
-use elf64_core::Text;
-use image_memory::{FileFault, Sink};
-use itoa::Buffer;
+use crate::cause::Cause;
+use crate::trouble::Trouble;
+use core_texts::{Part, Parts, parts, say_line};
+use outside::{FileFault, Sink};
 use py_layout::{LayoutError, Version};
 use py_process::CoreError;
 
-const PREFIX: &[u8] = b"pystacks: ";
-
-const END: &[u8] = b"\n";
-
-/// Writes the pieces, up to the first that fails.
-fn say<E: Sink>(err: &mut E, pieces: &[&[u8]])
-    ensures { Says (E.seen err.old).written (E.seen err.new).written (E.seen err.old).faults (E.seen err.new).faults
-        (joined pieces.now) }
+fn text_part<'a>(text: &'a str) -> Parts<'a>
+    ensures { said result ≡ text.now }
 {
-    for piece in pieces {
-        match err.write(piece) {
-            Ok(()) => {}
-            Err(_) => return,
+    parts(&[Part::Text(text)])
+}
+
+fn named_parts<'a>(text: &'a str, name: &'a [u8]) -> Parts<'a>
+    ensures { said result ≡ text.now ++ name.now }
+{
+    parts(&[Part::Text(text), Part::Bytes(name)])
+}
+
+/// What so many bytes at an address are.
+fn range_parts<'a>(text: &'a str, addr: u64, len: u64) -> Parts<'a>
+    ensures { said result ≡ concat (range_parts text.now addr len) }
+{
+    parts(&[
+        Part::Text(text),
+        Part::Text(" at "),
+        Part::Address(addr),
+        Part::Text(", "),
+        Part::Decimal(len),
+        Part::Text(" bytes"),
+    ])
+}
+
+/// The version that no layout covers.
+fn version_parts<'a>(version: &'a Version) -> Parts<'a>
+    ensures { said result ≡ codes "no layout for Python " ++ version_text version.now }
+{
+    let (plus, metadata) = match &version.build_metadata {
+        Some(metadata) => ("+", metadata.as_str()),
+        None => ("", ""),
+    };
+    parts(&[
+        Part::Text("no layout for Python "),
+        Part::Decimal(version.major),
+        Part::Text("."),
+        Part::Decimal(version.minor),
+        Part::Text("."),
+        Part::Decimal(version.patch),
+        Part::Text(version.release_flags.as_str()),
+        Part::Text(plus),
+        Part::Text(metadata),
+    ])
+}
+
+/// Why a core gives no stacks.
+fn core_parts<'a>(error: &'a CoreError) -> Parts<'a>
+    ensures { said result ≡ concat (core_parts error.now) }
+{
+    match error {
+        CoreError::NotElf64 => text_part("not an ELF64 little-endian file"),
+        CoreError::BadHeader => text_part("bad program headers"),
+        CoreError::NoNotes => text_part("no note segment"),
+        CoreError::BadNote => text_part("bad note"),
+        CoreError::NoBinary => text_part("no named executable map"),
+        CoreError::NoImage { path } => named_parts("image not given: ", path.as_bytes()),
+        CoreError::BadImage { path } => named_parts("bad image: ", path.as_bytes()),
+        CoreError::UnreadableVersion { addr, len } => {
+            range_parts("version unreadable", *addr, *len)
         }
+        CoreError::NoVersion => text_part("no Python version found"),
+        CoreError::UnsupportedVersion { version } => version_parts(version),
+        CoreError::NoInterpreter => text_part("no interpreter found"),
+        CoreError::Unreadable { addr, len } => range_parts("unreadable", *addr, *len),
+        CoreError::NativeUnsupported => text_part("native frames are not read from a core"),
+        CoreError::SubprocessesUnsupported => text_part("subprocesses are not read from a core"),
+        CoreError::BadValue { frame } => parts(&[
+            Part::Text("bad variable name or count in frame "),
+            Part::Address(*frame),
+        ]),
+        CoreError::LocalsLimit { count } => parts(&[
+            Part::Text("a frame counts "),
+            Part::Signed(*count),
+            Part::Text(" locals"),
+        ]),
+        CoreError::ThreadLimit => text_part("more than 4096 threads"),
+        CoreError::FrameLimit => text_part("more than 4096 frames in a thread"),
+        CoreError::ChainLimit => text_part("more than 16384 frames visited in a thread"),
+        CoreError::OutOfMemory => text_part("out of memory"),
     }
 }
 
-/// Writes the hexadecimal digits of a number at the end of the buffer, and answers where they begin.
-fn hex(n: u64, buf: &mut [u8; 16]) -> usize
-    ensures within { result < 16 }
-    ensures digits { drop result buf.new ≡ digits 16 false n }
+/// Why layouts are refused.
+fn layout_parts<'a>(error: &'a LayoutError) -> Parts<'a>
+    ensures { said result ≡ concat (layout_parts error.now) }
 {
-    let mut rest = n;
-    let mut at = 15;
-    buf[at] = glyph((rest % 16) as u8);
-    while rest >= 16 {
-        rest /= 16;
-        at -= 1;
-        buf[at] = glyph((rest % 16) as u8);
-    }
-    at
-}
-
-fn glyph(digit: u8) -> u8
-    requires { digit < 16 }
-    ensures { result ≡ digit_glyph false digit }
-{
-    if digit < 10 {
-        b'0' + digit
-    } else {
-        b'a' - 10 + digit
-    }
-}
-
-/// A line of one text.
-pub(crate) fn say_text<E: Sink>(err: &mut E, text: &str)
-    ensures { Says (E.seen err.old).written (E.seen err.new).written (E.seen err.old).faults (E.seen err.new).faults
-        (line (text.now ∷ [])) }
-{
-    say(err, &[PREFIX, text.as_bytes(), END]);
-}
-
-/// A line of a text and a name.
-fn say_name<E: Sink>(err: &mut E, text: &str, name: &[u8])
-    ensures { Says (E.seen err.old).written (E.seen err.new).written (E.seen err.old).faults (E.seen err.new).faults
-        (line (text.now ∷ name.now ∷ [])) }
-{
-    say(err, &[PREFIX, text.as_bytes(), name, END]);
-}
-
-/// A line of a text and so many bytes at an address.
-fn say_range<E: Sink>(err: &mut E, text: &str, addr: u64, len: u64)
-    ensures { Says (E.seen err.old).written (E.seen err.new).written (E.seen err.old).faults (E.seen err.new).faults
-        (line (range_parts text.now addr len)) }
-{
-    let mut digits = [0; 16];
-    let at = hex(addr, &mut digits);
-    let mut buffer = Buffer::new();
-    let len = buffer.format(len);
-    say(
-        err,
-        &[
-            PREFIX,
-            text.as_bytes(),
-            b" at ",
-            b"0x",
-            &digits[at..],
-            b", ",
-            len.as_bytes(),
-            b" bytes",
-            END,
-        ],
-    );
-}
-
-/// A line of a text and an address.
-fn say_address<E: Sink>(err: &mut E, text: &str, addr: u64)
-    ensures { Says (E.seen err.old).written (E.seen err.new).written (E.seen err.old).faults (E.seen err.new).faults
-        (line (text.now ∷ address addr ∷ [])) }
-{
-    let mut digits = [0; 16];
-    let at = hex(addr, &mut digits);
-    say(err, &[PREFIX, text.as_bytes(), b"0x", &digits[at..], END]);
-}
-
-/// The `+` of the metadata and the metadata, or nothing.
-fn metadata_pieces(metadata: &Option<Text>) -> (&[u8], &[u8])
-    ensures { result.0.now ++ result.1.now ≡ metadata_text metadata.now }
-{
-    match metadata {
-        Some(metadata) => (b"+", metadata.as_str().as_bytes()),
-        None => (b"", b""),
+    match error {
+        LayoutError::NotToml => text_part("layouts: not TOML"),
+        LayoutError::Shape { table, key } => parts(&[
+            Part::Text("layouts: table "),
+            Part::Decimal(*table),
+            Part::Text(", key "),
+            Part::Text(key.as_str()),
+        ]),
+        LayoutError::Unsound { table } => parts(&[
+            Part::Text("layouts: table "),
+            Part::Decimal(*table),
+            Part::Text(" is unsound"),
+        ]),
+        LayoutError::Clash { first, second } => parts(&[
+            Part::Text("layouts: tables "),
+            Part::Decimal(*first),
+            Part::Text(" and "),
+            Part::Decimal(*second),
+            Part::Text(" clash"),
+        ]),
+        LayoutError::OutOfMemory => text_part("out of memory"),
     }
 }
 
-/// The line of a version that no layout covers.
-fn say_version<E: Sink>(err: &mut E, version: &Version)
-    ensures { Says (E.seen err.old).written (E.seen err.new).written (E.seen err.old).faults (E.seen err.new).faults
-        (line (codes "no layout for Python " ∷ version_text version.now ∷ [])) }
+/// Why a command gives no text.
+pub(crate) fn cause_parts<'a>(cause: &'a Cause) -> Parts<'a>
+    ensures { said result ≡ concat (cause_parts cause.now) }
 {
-    let mut major = Buffer::new();
-    let mut minor = Buffer::new();
-    let mut patch = Buffer::new();
-    let (plus, metadata) = metadata_pieces(&version.build_metadata);
-    say(
-        err,
-        &[
-            PREFIX,
-            b"no layout for Python ",
-            major.format(version.major).as_bytes(),
-            b".",
-            minor.format(version.minor).as_bytes(),
-            b".",
-            patch.format(version.patch).as_bytes(),
-            version.release_flags.as_str().as_bytes(),
-            plus,
-            metadata,
-            END,
-        ],
-    );
+    match cause {
+        Cause::Core(error) => core_parts(error),
+        Cause::Layouts(error) => layout_parts(error),
+        Cause::OutOfMemory => text_part("out of memory"),
+    }
 }
 
-/// The line of a count of locals.
-fn say_locals<E: Sink>(err: &mut E, count: &i32)
-    ensures { Says (E.seen err.old).written (E.seen err.new).written (E.seen err.old).faults (E.seen err.new).faults
-        (line (codes "a frame counts " ∷ signed_decimal count.now ∷ codes " locals" ∷ [])) }
-{
-    let count = *count;
-    let mut buffer = Buffer::new();
-    let count = buffer.format(count);
-    say(
-        err,
-        &[
-            PREFIX,
-            b"a frame counts ",
-            count.as_bytes(),
-            b" locals",
-            END,
-        ],
-    );
-}
-
-/// The line of a file that could not be read.
-pub(crate) fn say_file<E: Sink>(err: &mut E, name: &str, fault: FileFault)
-    ensures { Says (E.seen err.old).written (E.seen err.new).written (E.seen err.old).faults (E.seen err.new).faults
-        (line (file_parts name.now fault)) }
+/// Why a file could not be read.
+fn file_parts<'a>(name: &'a str, fault: FileFault) -> Parts<'a>
+    ensures { said result ≡ concat (file_parts name.now fault) }
 {
     match fault {
-        FileFault::Failed => say_name(err, "cannot read ", name.as_bytes()),
-        FileFault::TooLong => say_name(err, "file too long: ", name.as_bytes()),
-        FileFault::OutOfMemory => say_text(err, "out of memory"),
+        FileFault::Failed => named_parts("cannot read ", name.as_bytes()),
+        FileFault::TooLong => named_parts("file too long: ", name.as_bytes()),
+        FileFault::OutOfMemory => text_part("out of memory"),
     }
 }
 
-/// The line of a core that gives no stacks.
-pub(crate) fn say_core<E: Sink>(err: &mut E, error: &CoreError)
-    ensures { Says (E.seen err.old).written (E.seen err.new).written (E.seen err.old).faults (E.seen err.new).faults
-        (line (core_parts error.now)) }
+/// Why a run printed nothing, or not all.
+fn trouble_parts<'a>(trouble: &'a Trouble<'a>) -> Parts<'a>
+    ensures { said result ≡ concat (end_parts (end_at trouble.now)) }
 {
-    match error {
-        CoreError::NotElf64 => say_text(err, "not an ELF64 little-endian file"),
-        CoreError::BadHeader => say_text(err, "bad program headers"),
-        CoreError::NoNotes => say_text(err, "no note segment"),
-        CoreError::BadNote => say_text(err, "bad note"),
-        CoreError::NoBinary => say_text(err, "no named executable map"),
-        CoreError::NoImage { path } => say_name(err, "image not given: ", path.as_bytes()),
-        CoreError::BadImage { path } => say_name(err, "bad image: ", path.as_bytes()),
-        CoreError::UnreadableVersion { addr, len } => {
-            say_range(err, "version unreadable", *addr, *len);
-        }
-        CoreError::NoVersion => say_text(err, "no Python version found"),
-        CoreError::UnsupportedVersion { version } => say_version(err, version),
-        CoreError::NoInterpreter => say_text(err, "no interpreter found"),
-        CoreError::Unreadable { addr, len } => say_range(err, "unreadable", *addr, *len),
-        CoreError::NativeUnsupported => say_text(err, "native frames are not read from a core"),
-        CoreError::SubprocessesUnsupported => {
-            say_text(err, "subprocesses are not read from a core");
-        }
-        CoreError::BadValue { frame } => {
-            say_address(err, "bad variable name or count in frame ", *frame);
-        }
-        CoreError::LocalsLimit { count } => say_locals(err, count),
-        CoreError::ThreadLimit => say_text(err, "more than 4096 threads"),
-        CoreError::FrameLimit => say_text(err, "more than 4096 frames in a thread"),
-        CoreError::ChainLimit => say_text(err, "more than 16384 frames visited in a thread"),
-        CoreError::OutOfMemory => say_text(err, "out of memory"),
+    match trouble {
+        Trouble::Cause(cause) => cause_parts(cause),
+        Trouble::Words => text_part("bad words"),
+        Trouble::File { name, fault } => file_parts(name, *fault),
+        Trouble::Write => text_part("cannot write"),
     }
 }
 
-/// The line of two tables that cover one version.
-fn say_clash<E: Sink>(err: &mut E, first: u64, second: u64)
-    ensures { Says (E.seen err.old).written (E.seen err.new).written (E.seen err.old).faults (E.seen err.new).faults
-        (line (codes "layouts: tables " ∷ decimal first ∷ codes " and " ∷ decimal second ∷ codes " clash" ∷ [])) }
+/// Its status.
+fn status_of(trouble: &Trouble<'_>) -> u8
+    ensures { result ≡ status_of (end_at trouble.now) }
 {
-    let mut one = Buffer::new();
-    let mut other = Buffer::new();
-    let first = one.format(first);
-    let second = other.format(second);
-    say(
-        err,
-        &[
-            PREFIX,
-            b"layouts: tables ",
-            first.as_bytes(),
-            b" and ",
-            second.as_bytes(),
-            b" clash",
-            END,
-        ],
-    );
+    match trouble {
+        Trouble::Cause(cause) => cause.status(),
+        Trouble::Words => 2,
+        Trouble::File { .. } => 3,
+        Trouble::Write => 4,
+    }
 }
 
-/// The line of layouts that are refused.
-pub(crate) fn say_layouts<E: Sink>(err: &mut E, error: &LayoutError)
-    ensures { Says (E.seen err.old).written (E.seen err.new).written (E.seen err.old).faults (E.seen err.new).faults
-        (line (layout_parts error.now)) }
+/// Writes the line of a run that printed nothing, or not all, and answers its status.
+pub(crate) fn tell<E: Sink>(err: &mut E, trouble: &Trouble<'_>) -> u8
+    ensures status { result ≡ status_of (end_at trouble.now) }
+    ensures said { SaysEnd (end_at trouble.now) (E.seen err.old) (E.seen err.new) }
 {
-    let mut buffer = Buffer::new();
-    match error {
-        LayoutError::NotToml => say_text(err, "layouts: not TOML"),
-        LayoutError::Shape { table, key } => say(
-            err,
-            &[
-                PREFIX,
-                b"layouts: table ",
-                buffer.format(*table).as_bytes(),
-                b", key ",
-                key.as_str().as_bytes(),
-                END,
-            ],
-        ),
-        LayoutError::Unsound { table } => say(
-            err,
-            &[
-                PREFIX,
-                b"layouts: table ",
-                buffer.format(*table).as_bytes(),
-                b" is unsound",
-                END,
-            ],
-        ),
-        LayoutError::Clash { first, second } => say_clash(err, *first, *second),
-        LayoutError::OutOfMemory => say_text(err, "out of memory"),
-    }
+    say_line(err, &trouble_parts(trouble));
+    status_of(trouble)
 }

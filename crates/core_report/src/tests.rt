@@ -1,7 +1,6 @@
 //! Whole runs over files and streams in memory, and the lines and texts that no clause spells out.
 use crate::lines::{say_core, say_layouts};
 use crate::text::walk_text;
-use crate::words::{Command, read_words};
 use crate::{CoreError, run};
 use elf64_core::{Name, Text};
 use image_memory::{MemoryFiles, MemorySink};
@@ -238,69 +237,6 @@ fn each_status_with_its_line(rt: HostRuntime) -> Result<(), Fail> {
         assert_eq!(rt; status, row.status);
         assert_eq!(rt; out.bytes(), row.printed);
         assert_eq!(rt; err.bytes(), row.said);
-    }
-    Ok(())
-}
-
-/// Words in place of one of `GOOD`, by its number.
-const OTHER_WORDS: [(usize, &str); 16] = [
-    (0, "Walk"),
-    (0, ""),
-    (3, "3.9"),
-    (3, "3.9.0.1"),
-    (3, "3.9.0rc1"),
-    (3, "3.9.1234"),
-    (3, "3..0"),
-    (4, ""),
-    (4, "0x"),
-    (4, "0X10000"),
-    (4, "+1"),
-    (4, "18446744073709551616"),
-    (4, "0x1000000000000000f"),
-    (4, "ff"),
-    (5, ""),
-    (5, "-1"),
-];
-
-#[test]
-fn words_out_of_form_are_refused(rt: HostRuntime) -> Result<(), Fail> {
-    let alloc = rt.alloc();
-    for (place, word) in &OTHER_WORDS {
-        let mut words = words(alloc, &GOOD)?;
-        if let Some(other) = words.get_mut(*place) {
-            *other = String::from_str(alloc, word)?;
-        }
-        assert!(rt; read_words(&words).is_none(), "{word}");
-    }
-    for count in 0..6 {
-        assert!(rt; read_words(&words(alloc, &GOOD[..count])?).is_none());
-    }
-    Ok(())
-}
-
-/// Words in the form of a number, and their numbers.
-const NUMBERS: [(&str, u64); 5] = [
-    ("0", 0),
-    ("00000000000000000065", 65),
-    ("18446744073709551615", u64::MAX),
-    ("0xfFaB", 0xffab),
-    ("0x00000000000000a0", 0xa0),
-];
-
-#[test]
-fn numbers_are_read(rt: HostRuntime) -> Result<(), Fail> {
-    let alloc = rt.alloc();
-    for (word, number) in &NUMBERS {
-        let words = words(alloc, &["walk", "core", "sample", "3.10.999", word, word])?;
-        let Some(Command::Walk(walk)) = read_words(&words) else {
-            return Err(Fail::from("refused"));
-        };
-        assert_eq!(rt; walk.addresses.interpreter, *number);
-        assert_eq!(rt; walk.addresses.lock, *number);
-        assert_eq!(rt;
-            (walk.version.major, walk.version.minor, walk.version.patch),
-            (3, 10, 999)
-        );
     }
     Ok(())
 }

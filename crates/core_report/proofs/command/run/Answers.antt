@@ -1,49 +1,54 @@
-use Rattle.std.proofs.Common.{◌≡◌, ◌↔◌, ◌⊎◌, sym, subst, ◌∙◌, None}
-use Rattle.core_report.specs.Words.{command_of, texts}
-use Rattle.core_report.proofs.Outcomes.{work_of, words_of, unread_of, cut_of, memory_of, laid_of, refused_of, complete_of}
-use Rattle.core_report.proofs.Finds.{fails_of, fails_printed, finds_of, flawed_of, flawed_printed}
+use Rattle.std.proofs.Common.{◌≡◌, ◌↔◌, ◌≢◌, ◌⊎◌, ◌∙◌, sym, subst, None}
+use Rattle.core_words.specs.Words.{command_of, texts}
+use Rattle.core_report.specs.Outcome.{cause_status}
+use Rattle.core_report.specs.Run.{ran}
+use Rattle.core_report.proofs.Ends.{complete_of, nothing_out_of, only_of, printed_of, refused_of, silent_of, unread_of}
 use Rattle.core_report.proofs.command.run.Goals as goal
 
-pub returns-in-Err-clause-failed : goal.returns-in-Err-clause-failed
-returns-in-Err-clause-failed g c is = work_of _ _ _ _ _ _ c.in-Err.trouble c.in-Err.ensures.ends c.tell.ensures.said (sym c.tell.ensures.status ∙ is)
+pub returns-clause-printed : goal.returns-clause-printed
+returns-clause-printed g c is =
+    let asked = command_of (texts c.args.words.now) in
+    let r = ran (g.F.Files.seen c.args.files.now) (g.F.Files.seen c.conclude.new.files) (g.S.Sink.seen c.args.out.now) (g.S.Sink.seen c.conclude.new.out) in
+    let right = c.conclude.ensures.right in
+    printed_of asked r right.end right.ended (sym right.is ∙ is)
 
-pub returns-in-Err-clause-refused : goal.returns-in-Err-clause-refused
-returns-in-Err-clause-refused g c =
-    subst (λ n. (n ≡ 2) ↔ (command_of (texts c.args.words.now) ≡ None)) (sym c.tell.ensures.status) (refused_of _ _ c.in-Err.trouble c.in-Err.ensures.ends)
+pub returns-clause-silent : goal.returns-clause-silent
+returns-clause-silent g c is =
+    let right = c.conclude.ensures.right in
+    silent_of _ _ right.end right.said (sym right.is ∙ is)
 
-pub returns-in-Err-clause-refused_line : goal.returns-in-Err-clause-refused_line
-returns-in-Err-clause-refused_line g c is = words_of _ _ _ _ _ _ c.in-Err.trouble c.in-Err.ensures.ends c.tell.ensures.said (sym c.tell.ensures.status ∙ is)
+pub returns-clause-nothing_out : goal.returns-clause-nothing_out
+returns-clause-nothing_out g c n0 n4 =
+    let asked = command_of (texts c.args.words.now) in
+    let r = ran (g.F.Files.seen c.args.files.now) (g.F.Files.seen c.conclude.new.files) (g.S.Sink.seen c.args.out.now) (g.S.Sink.seen c.conclude.new.out) in
+    let right = c.conclude.ensures.right in
+    nothing_out_of asked r right.end right.ended (λ is. n0 (right.is ∙ is)) (λ is. n4 (right.is ∙ is))
 
-pub returns-in-Err-clause-unread : goal.returns-in-Err-clause-unread
-returns-in-Err-clause-unread g c is = unread_of _ _ _ _ _ _ c.in-Err.trouble c.in-Err.ensures.ends c.tell.ensures.said (sym c.tell.ensures.status ∙ is)
+pub returns-clause-refused : goal.returns-clause-refused
+returns-clause-refused g c =
+    let asked = command_of (texts c.args.words.now) in
+    let r = ran (g.F.Files.seen c.args.files.now) (g.F.Files.seen c.conclude.new.files) (g.S.Sink.seen c.args.out.now) (g.S.Sink.seen c.conclude.new.out) in
+    let right = c.conclude.ensures.right in
+    subst (λ n. (n ≡ 2) ↔ (asked ≡ None)) (sym right.is) (refused_of asked r right.end right.ended)
 
-pub returns-in-Err-clause-cut : goal.returns-in-Err-clause-cut
-returns-in-Err-clause-cut g c is = cut_of _ _ _ _ _ _ c.in-Err.trouble c.in-Err.ensures.ends c.tell.ensures.said (sym c.tell.ensures.status ∙ is)
+pub returns-clause-unread : goal.returns-clause-unread
+returns-clause-unread g c =
+    let asked = command_of (texts c.args.words.now) in
+    let r = ran (g.F.Files.seen c.args.files.now) (g.F.Files.seen c.conclude.new.files) (g.S.Sink.seen c.args.out.now) (g.S.Sink.seen c.conclude.new.out) in
+    let right = c.conclude.ensures.right in
+    subst (λ n. (n ≡ 3) ↔ ((g.F.Files.seen c.conclude.new.files).failed ≢ (g.F.Files.seen c.args.files.now).failed)) (sym right.is)
+    (unread_of asked r right.end right.ended)
 
-pub returns-in-Err-clause-no_memory : goal.returns-in-Err-clause-no_memory
-returns-in-Err-clause-no_memory g c is = memory_of _ _ _ _ _ _ c.in-Err.trouble c.in-Err.ensures.ends c.tell.ensures.said (sym c.tell.ensures.status ∙ is)
+pub returns-clause-only : goal.returns-clause-only
+returns-clause-only g c command contents cause tells is ne same =
+    let asked = command_of (texts c.args.words.now) in
+    let r = ran (g.F.Files.seen c.args.files.now) (g.F.Files.seen c.conclude.new.files) (g.S.Sink.seen c.args.out.now) (g.S.Sink.seen c.conclude.new.out) in
+    let right = c.conclude.ensures.right in
+    subst (λ n. (n ≡ cause_status cause) ⊎ (n ≡ 5)) (sym right.is) (only_of asked r right.end right.ended command contents cause tells is ne same)
 
-pub returns-in-Err-clause-complete : goal.returns-in-Err-clause-complete
-returns-in-Err-clause-complete g c command is kept quiet =
-    subst (λ n. (n ≡ 0) ⊎ (n ≡ 1) ⊎ (n ≡ 5) ⊎ (n ≡ 6)) (sym c.tell.ensures.status) (complete_of _ _ c.in-Err.trouble c.in-Err.ensures.ends command is kept quiet)
-
-pub returns-in-Err-clause-finds : goal.returns-in-Err-clause-finds
-returns-in-Err-clause-finds g c asked core layouts is tells laid good kept quiet =
-    subst (λ n. (n ≡ 0) ⊎ (n ≡ 5)) (sym c.tell.ensures.status) (finds_of _ _ c.in-Err.trouble c.in-Err.ensures.ends asked core layouts is tells laid good kept quiet)
-
-pub returns-in-Err-clause-fails : goal.returns-in-Err-clause-fails
-returns-in-Err-clause-fails g c asked core layouts error is tells laid memory means kept =
-    subst (λ n. (n ≡ 1) ⊎ (n ≡ 5)) (sym c.tell.ensures.status) (fails_of _ _ c.in-Err.trouble c.in-Err.ensures.ends asked core layouts error is tells laid memory means kept)
-
-pub returns-in-Ok-clause-fails : goal.returns-in-Ok-clause-fails
-returns-in-Ok-clause-fails g c asked core layouts error is tells laid memory means kept = absurd (fails_printed _ _ c.in-Ok.ensures.ends asked core layouts error is tells laid memory means)
-
-pub returns-in-Err-clause-ill_laid : goal.returns-in-Err-clause-ill_laid
-returns-in-Err-clause-ill_laid g c is = laid_of _ _ _ _ _ _ c.in-Err.trouble c.in-Err.ensures.ends c.tell.ensures.said (sym c.tell.ensures.status ∙ is)
-
-pub returns-in-Err-clause-flawed : goal.returns-in-Err-clause-flawed
-returns-in-Err-clause-flawed g c asked error is tells memory kept =
-    subst (λ n. (n ≡ 6) ⊎ (n ≡ 5)) (sym c.tell.ensures.status) (flawed_of _ _ c.in-Err.trouble c.in-Err.ensures.ends asked error is tells memory kept)
-
-pub returns-in-Ok-clause-flawed : goal.returns-in-Ok-clause-flawed
-returns-in-Ok-clause-flawed g c asked error is tells memory kept = absurd (flawed_printed _ _ c.in-Ok.ensures.ends asked error is tells memory)
+pub returns-clause-complete : goal.returns-clause-complete
+returns-clause-complete g c command contents tells good same quiet =
+    let asked = command_of (texts c.args.words.now) in
+    let r = ran (g.F.Files.seen c.args.files.now) (g.F.Files.seen c.conclude.new.files) (g.S.Sink.seen c.args.out.now) (g.S.Sink.seen c.conclude.new.out) in
+    let right = c.conclude.ensures.right in
+    subst (λ n. (n ≡ 0) ⊎ (n ≡ 5)) (sym right.is) (complete_of asked r right.end right.ended command contents tells good same quiet)

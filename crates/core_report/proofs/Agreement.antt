@@ -1,0 +1,244 @@
+-- Two outcomes of a command over the same contents have one status, want of memory aside; and over contents with
+-- which nothing is wrong no outcome is a cause.
+use Rattle.std.proofs.Common.{◌≡◌, ◌≢◌, ◌⊎◌, ℕ, List, [], ◌∷◌, Result, Ok, Err, refl, sym, ap, subst, ◌∙◌, ◌<◌, arith, inl, inr, ⊎_elim, rules}
+use Rattle.std.proofs.lemmas.Bool.Decides.{eqb_tells}
+
+use Rattle.py_fields.specs.declared.layout.Layout.{Layout}
+use Rattle.py_fields.specs.Samples.{sample_layout}
+use Rattle.py_fields.specs.Sound.{IsSound}
+use Rattle.py_layout.specs.declared.error.LayoutError.{LayoutError}
+use Rattle.py_layout.specs.declared.error.LayoutError.TheVariants as layout
+use Rattle.py_layout.specs.File.{IsRightFor}
+use Rattle.py_layout.specs.Lists.{AreSound, Clash}
+use Rattle.py_layout.proofs.Answering.{right-unique}
+use Rattle.py_stacks.specs.Threads.{trace_of}
+use Rattle.py_stacks.specs.declared.trace.StackTrace.{StackTrace}
+use Rattle.py_process.specs.declared.core_error.CoreError.{CoreError}
+use Rattle.py_process.specs.declared.core_error.CoreError.TheVariants as core
+use Rattle.core_words.specs.Words.{Command, LayoutSource, Walk, walk, sample, file}
+use Rattle.core_texts.specs.Text.{walk_text}
+use Rattle.core_stacks.specs.Answer.{IsWalkable}
+use Rattle.core_stacks.proofs.Finds.{NoneClash, finds_means, means_none}
+use Rattle.core_report.specs.declared.cause.Cause.{Cause}
+use Rattle.core_report.specs.declared.cause.Cause.TheVariants.{Core, Layouts, OutOfMemory}
+use Rattle.core_report.specs.Outcome.{IsFaultless, IsFaultlessWalk, IsOutcome, IsShown, IsWalked, IsWalkedBy, Outcome, SourceSays, Then, WalkAnswers, cause_status, core_status, layouts_status, outcome_status}
+
+-- one sound layout is a sound list
+pub one_sound : (l : Layout) → IsSound l → AreSound (l ∷ [])
+one_sound l s = record { each = search rules; apart = search rules }
+
+-- in a list of one no two clash
+one_apart : (l : Layout) → NoneClash (l ∷ [])
+one_apart l = search rules
+
+-- two outcomes have one status, unless memory ran out
+abbrev pub Agree : (Outcome → Type 0) → Type 0
+Agree Right = (a b : Outcome) → Right a → Right b → outcome_status a ≢ 5 → outcome_status b ≢ 5
+    → outcome_status a ≡ outcome_status b
+
+-- no cause is right but want of memory
+abbrev pub NoCause : (Outcome → Type 0) → Type 0
+NoCause Right = (cause : Cause) → cause_status cause ≢ 5 → Right (Err cause) → ⊥
+
+-- ---- two steps
+
+-- the first of two steps tells values from causes, and its causes have one status
+pub record Excludes {T E : Type 0} (as_cause : E → Cause) (First : Result T E → Type 0) : Type 0 where
+  pub apart : (x : T) (e : E) → First (Ok x) → First (Err e) → cause_status (as_cause e) ≢ 5 → ⊥
+  pub alike : (e f : E) → First (Err e) → First (Err f) → cause_status (as_cause e) ≢ 5
+      → cause_status (as_cause f) ≢ 5 → cause_status (as_cause e) ≡ cause_status (as_cause f)
+
+-- what follows either of two values of the first step agrees
+abbrev AgreeAfter : {T E : Type 0} → (Result T E → Type 0) → (T → Outcome → Type 0) → Type 0
+AgreeAfter {T} {E} First Rest = (x y : T) → First (Ok x) → First (Ok y) → (a b : Outcome) → Rest x a → Rest y b
+    → outcome_status a ≢ 5 → outcome_status b ≢ 5 → outcome_status a ≡ outcome_status b
+
+pub then_agree : {T E : Type 0} (as_cause : E → Cause) (First : Result T E → Type 0) (Rest : T → Outcome → Type 0)
+    → Excludes as_cause First → AgreeAfter First Rest → Agree (Then as_cause First Rest)
+then_agree {T} {E} as_cause First Rest excludes agree a b one other na nb = ⊎_elim
+    (λ p. ⊎_elim
+    (λ q. ap outcome_status p.1 ∙ excludes.alike p.0 q.0 p.2 q.2 (own a p.0 p.1 na) (own b q.0 q.1 nb)
+    ∙ sym (ap outcome_status q.1))
+    (λ q. absurd (excludes.apart q.0 p.0 q.1 p.2 (own a p.0 p.1 na))) other)
+    (λ p. ⊎_elim (λ q. absurd (excludes.apart p.0 q.0 p.1 q.2 (own b q.0 q.1 nb)))
+    (λ q. agree p.0 q.0 p.1 q.1 a b p.2 q.2 na nb) other) one
+  where
+    own : (o : Outcome) (e : E) → o ≡ Err (as_cause e) → outcome_status o ≢ 5 → cause_status (as_cause e) ≢ 5
+    own o e is ne five = ne (ap outcome_status is ∙ five)
+
+pub then_sound : {T E : Type 0} (as_cause : E → Cause) (First : Result T E → Type 0) (Rest : T → Outcome → Type 0)
+    → ((e : E) → First (Err e) → cause_status (as_cause e) ≢ 5 → ⊥) → ((x : T) → First (Ok x) → NoCause (Rest x))
+    → NoCause (Then as_cause First Rest)
+then_sound as_cause First Rest first rest cause ne right = ⊎_elim
+    (λ p. first p.0 p.2 (λ five. ne (ap outcome_status p.1 ∙ five))) (λ p. rest p.0 p.1 cause ne p.2) right
+
+-- ---- layouts
+
+abbrev pub Laid : Type 0
+Laid = Result (List Layout) LayoutError
+
+-- two answers on the layouts are the same, unless memory ran out
+abbrev pub Unique : (Laid → Type 0) → Type 0
+Unique Says = (a b : Laid) → Says a → Says b → b ≢ Err layout.OutOfMemory → (a ≡ b) ⊎ (a ≡ Err layout.OutOfMemory)
+
+ok_err : (a : List Layout) (e : LayoutError) → ◌≡◌ {A = Laid} (Ok a) (Err e) → ⊥
+ok_err a e is = cc
+
+ok_same : (a b : List Layout) → ◌≡◌ {A = Laid} (Ok a) (Ok b) → a ≡ b
+ok_same a b is = cc
+
+err_same : (a b : LayoutError) → ◌≡◌ {A = Laid} (Err a) (Err b) → a ≡ b
+err_same a b is = cc
+
+ok_unique : (Says : Laid → Type 0) → Unique Says → (a b : List Layout) → Says (Ok a) → Says (Ok b) → a ≡ b
+ok_unique Says unique a b one other =
+    ⊎_elim (ok_same a b) (λ is. absurd (ok_err a layout.OutOfMemory is))
+    (unique (Ok a) (Ok b) one other (ok_err b layout.OutOfMemory))
+
+flaw_apart : (Says : Laid → Type 0) → Unique Says → (a : List Layout) (e : LayoutError) → e ≢ layout.OutOfMemory
+    → Says (Ok a) → Says (Err e) → ⊥
+flaw_apart Says unique a e ne one other =
+    ⊎_elim (ok_err a e) (ok_err a layout.OutOfMemory) (unique (Ok a) (Err e) one other (λ is. ne (err_same e layout.OutOfMemory is)))
+
+flaw_status : (e : LayoutError) → layouts_status e ≢ 5 → (layouts_status e ≡ 6) × (e ≢ layout.OutOfMemory)
+flaw_status layout.NotToml ne = (refl, λ is. cc)
+flaw_status (layout.Shape table key) ne = (refl, λ is. cc)
+flaw_status (layout.Unsound table) ne = (refl, λ is. cc)
+flaw_status (layout.Clash first second) ne = (refl, λ is. cc)
+flaw_status layout.OutOfMemory ne = absurd (ne refl)
+
+layouts_exclude : (Says : Laid → Type 0) → Unique Says → Excludes (λ error. Layouts error) Says
+layouts_exclude Says unique = record {
+  apart = λ l e one other ne. flaw_apart Says unique l e (flaw_status e ne).1 one other;
+  alike = λ e f one other ne nf. (flaw_status e ne).0 ∙ sym (flaw_status f nf).0;
+}
+
+-- a step of layouts, after which the work agrees
+pub layouts_agree : (Says : Laid → Type 0) (Works : List Layout → Outcome → Type 0) → Unique Says
+    → ((layouts : List Layout) → Says (Ok layouts) → Agree (Works layouts)) → Agree (Then (λ error. Layouts error) Says Works)
+layouts_agree Says Works unique agree = then_agree (λ error. Layouts error) Says Works (layouts_exclude Says unique)
+    (λ l m says also a b p q na nb. agree l says a b p (subst (λ x. Works x b) (ok_unique Says unique m l also says) q) na nb)
+
+-- and after which no cause is right
+pub layouts_sound : (Says : Laid → Type 0) (Works : List Layout → Outcome → Type 0) → Unique Says
+    → (layouts : List Layout) → Says (Ok layouts) → NoCause (Works layouts) → NoCause (Then (λ error. Layouts error) Says Works)
+layouts_sound Says Works unique layouts says works = then_sound (λ error. Layouts error) Says Works
+    (λ e error ne. flaw_apart Says unique layouts e (flaw_status e ne).1 says error)
+    (λ l other. subst (λ m. NoCause (Works m)) (ok_unique Says unique layouts l says other) works)
+
+pub source_unique : (source : LayoutSource) (rest : List (List ℕ)) → Unique (SourceSays source rest)
+source_unique sample [] a b one other ne = inl (one ∙ sym other)
+source_unique sample (text ∷ rest) a b one other ne = absurd one
+source_unique (file name) [] a b one other ne = absurd one
+source_unique (file name) (text ∷ []) a b one other ne = right-unique text a b one other ne
+source_unique (file name) (text ∷ more ∷ rest) a b one other ne = absurd one
+
+source_apart : (source : LayoutSource) (rest : List (List ℕ)) (list : List Layout) → SourceSays source rest (Ok list) → NoneClash list
+source_apart sample [] list says = subst NoneClash (sym (ok_same list (sample_layout ∷ []) says)) (one_apart sample_layout)
+source_apart sample (text ∷ rest) list says = absurd says
+source_apart (file name) [] list says = absurd says
+source_apart (file name) (text ∷ []) list says = says.sound.apart
+source_apart (file name) (text ∷ more ∷ rest) list says = absurd says
+
+-- ---- the work over a core
+
+core_one : (e : CoreError) → core_status e ≢ 5 → (core_status e ≡ 1) × (e ≢ core.OutOfMemory)
+core_one core.NotElf64 ne = (refl, λ is. cc)
+core_one core.BadHeader ne = (refl, λ is. cc)
+core_one core.NoNotes ne = (refl, λ is. cc)
+core_one core.BadNote ne = (refl, λ is. cc)
+core_one core.NoBinary ne = (refl, λ is. cc)
+core_one (core.NoImage path) ne = (refl, λ is. cc)
+core_one (core.BadImage path) ne = (refl, λ is. cc)
+core_one (core.UnreadableVersion addr len) ne = (refl, λ is. cc)
+core_one core.NoVersion ne = (refl, λ is. cc)
+core_one (core.UnsupportedVersion version) ne = (refl, λ is. cc)
+core_one core.NoInterpreter ne = (refl, λ is. cc)
+core_one (core.Unreadable addr len) ne = (refl, λ is. cc)
+core_one core.NativeUnsupported ne = (refl, λ is. cc)
+core_one core.SubprocessesUnsupported ne = (refl, λ is. cc)
+core_one (core.BadValue frame) ne = (refl, λ is. cc)
+core_one (core.LocalsLimit count) ne = (refl, λ is. cc)
+core_one core.ThreadLimit ne = (refl, λ is. cc)
+core_one core.FrameLimit ne = (refl, λ is. cc)
+core_one core.ChainLimit ne = (refl, λ is. cc)
+core_one core.OutOfMemory ne = absurd (ne refl)
+
+-- a step whose causes are those of a core, and whose values exclude them
+core_exclude : {T : Type 0} (First : Result T CoreError → Type 0)
+    → ((x : T) (e : CoreError) → First (Ok x) → First (Err e) → e ≢ core.OutOfMemory → ⊥) → Excludes (λ error. Core error) First
+core_exclude First apart = record {
+  apart = λ x e one other ne. apart x e one other (core_one e ne).1;
+  alike = λ e f one other ne nf. (core_one e ne).0 ∙ sym (core_one f nf).0;
+}
+
+text_agree : (s t : List ℕ) (a b : Outcome) → a ≡ Ok s → b ≡ Ok t → outcome_status a ≡ outcome_status b
+text_agree s t a b one other = ap outcome_status one ∙ sym (ap outcome_status other)
+
+text_sound : (text : List ℕ) → NoCause (λ outcome. outcome ≡ Ok text)
+text_sound text cause ne is = cc is
+
+-- ---- walks
+
+walked_agree : (w : Walk) (bytes : List ℕ) (list : List Layout) → NoneClash list → Agree (IsWalkedBy w bytes list)
+walked_agree w bytes list apart = then_agree (λ error. Core error) (WalkAnswers w bytes list) (IsShown w)
+    (core_exclude (WalkAnswers w bytes list) (λ traces e one other ne. finds_means bytes list w.version w.addresses _ e apart one ne other))
+    (λ s t one other a b p q na nb. text_agree _ _ a b p q)
+
+walk_agree : (w : Walk) (contents : List (List ℕ)) → Agree (IsWalked w contents)
+walk_agree w [] a b one other na nb = absurd one
+walk_agree w (bytes ∷ rest) a b one other na nb =
+    layouts_agree (SourceSays w.layouts rest) (IsWalkedBy w bytes) (source_unique w.layouts rest)
+    (λ list says. walked_agree w bytes list (source_apart w.layouts rest list says)) a b one other na nb
+
+walked_sound : (w : Walk) (bytes : List ℕ) (list : List Layout) → NoneClash list
+    → IsWalkable bytes list w.version w.addresses → NoCause (IsWalkedBy w bytes list)
+walked_sound w bytes list apart good = then_sound (λ error. Core error) (WalkAnswers w bytes list) (IsShown w)
+    (λ e error ne. means_none bytes list w.version w.addresses e apart good (core_one e ne).1 error)
+    (λ traces found. text_sound (walk_text w.version traces.items))
+
+walk_sound : (w : Walk) (contents : List (List ℕ)) → IsFaultlessWalk w contents → NoCause (IsWalked w contents)
+walk_sound w [] good cause ne is = good
+walk_sound w (bytes ∷ rest) (list, says, good) cause ne is =
+    layouts_sound (SourceSays w.layouts rest) (IsWalkedBy w bytes) (source_unique w.layouts rest) list says
+    (walked_sound w bytes list (source_apart w.layouts rest list says) good) cause ne is
+
+-- ---- commands
+
+pub outcomes_agree : (command : Command) (contents : List (List ℕ)) → Agree (IsOutcome command contents)
+outcomes_agree (walk w) contents a b one other na nb = walk_agree w contents a b one other na nb
+
+pub no_cause : (command : Command) (contents : List (List ℕ)) → IsFaultless command contents → NoCause (IsOutcome command contents)
+no_cause (walk w) contents good = walk_sound w contents good
+
+-- ---- a cause has none of the statuses of the other ends
+
+pub record IsOwn (n : ℕ) : Type 0 where
+  pub not_0 : n ≢ 0
+  pub not_2 : n ≢ 2
+  pub not_3 : n ≢ 3
+  pub not_4 : n ≢ 4
+
+own : (n : ℕ) → (n ≡ 1) ⊎ (4 < n) → IsOwn n
+own n h = record {
+  not_0 = λ is. omega (arith, h, is);
+  not_2 = λ is. omega (arith, h, is);
+  not_3 = λ is. omega (arith, h, is);
+  not_4 = λ is. omega (arith, h, is);
+}
+
+pub cases_five : (n : ℕ) → (n ≡ 5) ⊎ (n ≢ 5)
+cases_five n = ⊎_elim (λ p. inl p.1) (λ p. inr p.1) (eqb_tells n 5)
+
+core_own : (e : CoreError) → IsOwn (core_status e)
+core_own e = own (core_status e)
+    (⊎_elim (λ five. inr (omega (arith, five))) (λ ne. inl (core_one e ne).0) (cases_five (core_status e)))
+
+layouts_own : (e : LayoutError) → IsOwn (layouts_status e)
+layouts_own e = own (layouts_status e) (inr
+    (⊎_elim (λ five. omega (arith, five)) (λ ne. omega (arith, (flaw_status e ne).0)) (cases_five (layouts_status e))))
+
+pub cause_own : (cause : Cause) → IsOwn (cause_status cause)
+cause_own (Core e) = core_own e
+cause_own (Layouts e) = layouts_own e
+cause_own OutOfMemory = own 5 (inr (omega arith))

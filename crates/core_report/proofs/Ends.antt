@@ -1,0 +1,124 @@
+-- What the end of a run tells of its status.
+use Rattle.std.proofs.Common.{◌≡◌, ◌≢◌, ◌⊎◌, ◌↔◌, ℕ, List, [], ◌∷◌, ◌++◌, length, Option, None, Ok, Err, refl, sym, ap, subst, ◌∙◌, arith, inl, inr, ⊎_elim, length-append}
+use Rattle.std.specs.Prelude.{IsSome}
+use Rattle.std.specs.List.{concat}
+use Rattle.std.specs.Io.KnownBytes.{Appends}
+use Rattle.std.proofs.lemmas.Option.{same_Some, none-some}
+use Rattle.outside.specs.Counts.{Rose}
+use Rattle.outside.specs.Files.{Told}
+use Rattle.outside.specs.Streams.{SinkSeen}
+use Rattle.core_words.specs.Words.{Command}
+use Rattle.core_texts.specs.Parts.{line}
+use Rattle.core_texts.specs.Says.{Says}
+use Rattle.core_report.specs.declared.cause.Cause.{Cause}
+use Rattle.core_report.specs.declared.trouble.Trouble.{Trouble}
+use Rattle.core_report.specs.declared.trouble.Trouble.TheVariants.{Cause as Caused, Words, File, Write}
+use Rattle.core_report.specs.Outcome.{IsFaultless, IsOutcome, Outcome, cause_status, outcome_status}
+use Rattle.core_report.specs.Run.{ComesTo, End, HasEnded, Ran, Reaches, SaysEnd, Tells, cut, end_at, end_parts, printed, refused, status_of, stopped, unread}
+use Rattle.core_report.proofs.Turns.{same_contents}
+use Rattle.core_report.proofs.Agreement.{cases_five, cause_own, no_cause, outcomes_agree}
+
+-- a run that gave up says one line
+pub says_end : (old new : SinkSeen) (t : Trouble) → Says old new (line (concat (end_parts (end_at t)))) → SaysEnd (end_at t) old new
+says_end old new (Caused cause) says = says
+says_end old new Words says = says
+says_end old new (File name why) says = says
+says_end old new Write says = says
+
+one_more : {X : Type 0} (xs : List X) (x : X) → xs ++ x ∷ [] ≡ xs → ⊥
+one_more xs x e = omega (arith, ap length e, length-append xs (x ∷ []))
+
+-- two outcomes that are reached have one status, where the files tell
+reached_agree : (asked : Option Command) (told : Told) (a b : Outcome) → IsSome told → Reaches asked told a → Reaches asked told b
+    → outcome_status a ≢ 5 → outcome_status b ≢ 5 → outcome_status a ≡ outcome_status b
+reached_agree asked told a b some one other na nb = by other.command (same_Some _ _ (sym other.is_asked ∙ one.is_asked)) other.comes
+  where
+    by : (command : Command) → command ≡ one.command → ComesTo told command b → outcome_status a ≡ outcome_status b
+    by command same comes =
+        let there : ComesTo told one.command b = subst (λ c. ComesTo told c b) same comes in
+        let contents : there.contents ≡ one.comes.contents =
+        same_contents told one.command there.contents one.comes.contents some there.read one.comes.read there.all one.comes.all in
+        outcomes_agree one.command one.comes.contents a b one.comes.is (subst (λ c. IsOutcome one.command c b) contents there.is) na nb
+
+pub silent_of : (old new : SinkSeen) (end : End) → SaysEnd end old new → status_of end ≡ 0 → new ≡ old
+silent_of old new printed said is = said
+silent_of old new (stopped cause) said is = absurd ((cause_own cause).not_0 is)
+silent_of old new refused said is = absurd (omega (arith, is))
+silent_of old new (unread name why) said is = absurd (omega (arith, is))
+silent_of old new cut said is = absurd (omega (arith, is))
+
+module _ (asked : Option Command) (r : Ran) where
+  pub printed_of : (end : End) → HasEnded asked r end → status_of end ≡ 0 → (text : List ℕ) × Reaches asked r.files.told (Ok text) × Appends r.out.written r.out_after.written text
+  printed_of printed ended is = (ended.text, ended.reached, ended.added.added)
+  printed_of (stopped cause) ended is = absurd ((cause_own cause).not_0 is)
+  printed_of refused ended is = absurd (omega (arith, is))
+  printed_of (unread name why) ended is = absurd (omega (arith, is))
+  printed_of cut ended is = absurd (omega (arith, is))
+
+  pub refused_of : (end : End) → HasEnded asked r end → (status_of end ≡ 2) ↔ (asked ≡ None)
+  refused_of printed ended = (λ is. absurd (omega (arith, is)), λ none. absurd (none-some _ (sym none ∙ ended.reached.is_asked)))
+  refused_of (stopped cause) ended = (λ is. absurd ((cause_own cause).not_2 is), λ none. absurd (none-some _ (sym none ∙ ended.is_asked)))
+  refused_of refused ended = (λ is. ended.0, λ none. refl)
+  refused_of (unread name why) ended = (λ is. absurd (omega (arith, is)), λ none. absurd (none-some _ (sym none ∙ ended.is_asked)))
+  refused_of cut ended = (λ is. absurd (omega (arith, is)), λ none. absurd (none-some _ (sym none ∙ ended.reached.is_asked)))
+
+  pub unread_of : (end : End) → HasEnded asked r end → (status_of end ≡ 3) ↔ (r.files_after.failed ≢ r.files.failed)
+  unread_of printed ended = (λ is. absurd (omega (arith, is)), λ more. absurd (more ended.failed))
+  unread_of (stopped cause) ended = (λ is. absurd ((cause_own cause).not_3 is), λ more. absurd (more ended.quiet.failed))
+  unread_of refused ended = (λ is. absurd (omega (arith, is)), λ more. absurd (more ended.1.failed))
+  unread_of (unread name why) ended = (λ is. λ same. one_more r.files.failed (name, why) (sym ended.unread.failed ∙ same), λ more. refl)
+  unread_of cut ended = (λ is. absurd (omega (arith, is)), λ more. absurd (more ended.failed))
+
+  pub all_read_of : (end : End) → HasEnded asked r end → status_of end ≢ 3 → r.files_after.failed ≡ r.files.failed
+  all_read_of printed ended ne = ended.failed
+  all_read_of (stopped cause) ended ne = ended.quiet.failed
+  all_read_of refused ended ne = ended.1.failed
+  all_read_of (unread name why) ended ne = absurd (ne refl)
+  all_read_of cut ended ne = ended.failed
+
+  pub nothing_out_of : (end : End) → HasEnded asked r end → status_of end ≢ 0 → status_of end ≢ 4 → r.out_after ≡ r.out
+  nothing_out_of printed ended n0 n4 = absurd (n0 refl)
+  nothing_out_of (stopped cause) ended n0 n4 = ended.quiet.written
+  nothing_out_of refused ended n0 n4 = ended.1.written
+  nothing_out_of (unread name why) ended n0 n4 = ended.written
+  nothing_out_of cut ended n0 n4 = absurd (n4 refl)
+
+  text_apart : (text : List ℕ) (cause : Cause) → IsSome r.files.told → cause_status cause ≢ 5 → Reaches asked r.files.told (Ok text) → Reaches asked r.files.told (Err cause) → ⊥
+  text_apart text cause some ne one other =
+      (cause_own cause).not_0 (sym (reached_agree asked r.files.told (Ok text) (Err cause) some one other (λ is. absurd (omega (arith, is))) ne))
+
+  only_reached : (end : End) → HasEnded asked r end → (cause : Cause) → IsSome r.files.told → cause_status cause ≢ 5 → Reaches asked r.files.told (Err cause)
+      → r.files_after.failed ≡ r.files.failed → (status_of end ≡ cause_status cause) ⊎ (status_of end ≡ 5)
+  only_reached printed ended cause some ne reached same = absurd (text_apart ended.text cause some ne ended.reached reached)
+  only_reached (stopped other) ended cause some ne reached same = by (cases_five (cause_status other))
+    where
+      by : (cause_status other ≡ 5) ⊎ (cause_status other ≢ 5) → (cause_status other ≡ cause_status cause) ⊎ (cause_status other ≡ 5)
+      by (inl five) = inr five
+      by (inr ne5) = inl (reached_agree asked r.files.told (Err other) (Err cause) some (ended.reached ne5) reached ne5 ne)
+  only_reached refused ended cause some ne reached same = absurd (none-some _ (sym ended.0 ∙ reached.is_asked))
+  only_reached (unread name why) ended cause some ne reached same = absurd (one_more r.files.failed (name, why) (sym ended.unread.failed ∙ same))
+  only_reached cut ended cause some ne reached same = absurd (text_apart ended.text cause some ne ended.reached reached)
+
+  pub only_of : (end : End) → HasEnded asked r end → (command : Command) (contents : List (List ℕ)) (cause : Cause) → Tells asked r.files.told command contents
+      → IsOutcome command contents (Err cause) → cause_status cause ≢ 5 → r.files_after.failed ≡ r.files.failed → (status_of end ≡ cause_status cause) ⊎ (status_of end ≡ 5)
+  only_of end ended command contents cause tells is ne same = only_reached end ended cause tells.tells ne
+      (record { command = command; is_asked = tells.is_asked; comes = record { contents = contents; read = tells.read; all = tells.all; is = is } }) same
+
+  -- a cause that is reached is one over the told contents
+  told_outcome : (command : Command) (contents : List (List ℕ)) (outcome : Outcome) → Tells asked r.files.told command contents
+      → Reaches asked r.files.told outcome → IsOutcome command contents outcome
+  told_outcome command contents outcome tells reached =
+      let comes : ComesTo r.files.told command outcome = subst (λ c. ComesTo r.files.told c outcome) (same_Some _ _ (sym reached.is_asked ∙ tells.is_asked)) reached.comes in
+      subst (λ c. IsOutcome command c outcome) (same_contents r.files.told command comes.contents contents tells.tells comes.read tells.read comes.all tells.all) comes.is
+
+  pub complete_of : (end : End) → HasEnded asked r end → (command : Command) (contents : List (List ℕ)) → Tells asked r.files.told command contents
+      → IsFaultless command contents → r.files_after.failed ≡ r.files.failed → (Rose r.out.faults r.out_after.faults → ⊥) → (status_of end ≡ 0) ⊎ (status_of end ≡ 5)
+  complete_of printed ended command contents tells good same quiet = inl refl
+  complete_of (stopped cause) ended command contents tells good same quiet = by (cases_five (cause_status cause))
+    where
+      by : (cause_status cause ≡ 5) ⊎ (cause_status cause ≢ 5) → (cause_status cause ≡ 0) ⊎ (cause_status cause ≡ 5)
+      by (inl five) = inr five
+      by (inr ne5) = absurd (no_cause command contents good cause ne5 (told_outcome command contents (Err cause) tells (ended.reached ne5)))
+  complete_of refused ended command contents tells good same quiet = absurd (none-some _ (sym ended.0 ∙ tells.is_asked))
+  complete_of (unread name why) ended command contents tells good same quiet = absurd (one_more r.files.failed (name, why) (sym ended.unread.failed ∙ same))
+  complete_of cut ended command contents tells good same quiet = absurd (quiet ended.cut.rose)

@@ -1,8 +1,0 @@
-use Rattle.std.proofs.Common.{◌≡◌, ◌++◌, map, string_bytes, reverse}
-use Rattle.std.specs.List.{concat}
-use Rattle.core_report.specs.Text.{thread_text}
-use Rattle.core_report.proofs.text.walk_text.Given as goal
-
-abbrev pub invariant-loop-trace : goal.invariant-loop-trace
-invariant-loop-trace l = string_bytes l.text ++ concat (map (λ t. thread_text t) (reverse l.trace-iterator.iter.rest.now))
-    ≡ string_bytes l.initial.text ++ concat (map (λ t. thread_text t) (reverse l.traces))

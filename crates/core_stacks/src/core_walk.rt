@@ -1,0 +1,48 @@
+//! The walk over a core's threads.
+ghost use Rattle.std.specs.Prelude.{◌≡◌, ◌≢◌, List, Result, Err};
+ghost use Rattle.image_memory.specs.Pieces.{memory_of};
+ghost use Rattle.py_stacks.specs.Threads.{Trace};
+ghost use Rattle.py_process.specs.declared.core_error.CoreError.{CoreError};
+ghost use Rattle.core_stacks.specs.Answer.{IsUnlessMemory, Means, traced};
+
+use image_memory::CoreDump;
+use py_layout::{Layouts, Version};
+use py_process::CoreError;
+use py_stacks::{Addresses, StackTrace, get_stack_traces};
+use std::alloc::Global;
+
+/// The traces of the threads of the interpreter at a handed-in address, in the order of their chain.
+///
+/// The bytes are those of a core's file, and the layout is the one that covers the version. The threads
+/// are the whole chain from the one that the interpreter names, to null, and the frames of each its whole
+/// chain, to null, less the members that are skipped (`py_stacks::get_stack_traces`). A thread holds the lock
+/// exactly where its id is the owner's (`py_stacks::get_gil_threadid`, by the handed-in address of the
+/// lock). Lines are 0, and there are no locals and no names of threads.
+///
+/// The error is the first of these: `NotElf64` and `BadHeader` (`image_memory::CoreDump::new`);
+/// `UnsupportedVersion` where no layout covers the version; `Unreadable`, `FrameLimit`, `ChainLimit` and
+/// `ThreadLimit`, as `py_stacks::get_stack_traces` orders them: the lock's owner comes before the threads. Else
+/// it is want of memory.
+pub fn walk(
+    alloc: Global,
+    bytes: Vec<u8>,
+    layouts: &Layouts,
+    version: &Version,
+    addresses: &Addresses,
+) -> Result<Vec<StackTrace>, CoreError>
+    ensures right { Means bytes.items layouts.now version.now addresses.now (traced result) }
+    // what is right is the answer, want of memory aside
+    ensures only { (answer : Result (List Trace) CoreError)
+        → Means bytes.items layouts.now version.now addresses.now answer → answer ≢ Err CoreError.OutOfMemory
+        → IsUnlessMemory answer (traced result) }
+{
+    let core = CoreDump::new(alloc, bytes)?;
+    let Some(layout) = layouts.choose(version) else {
+        let version = version.copy(alloc)?;
+        return Err(CoreError::UnsupportedVersion { version });
+    };
+    let mut view = core.view();
+    let (interpreter, lock) = (addresses.interpreter, addresses.lock);
+    let traces = get_stack_traces(alloc, interpreter, &mut view, layout, lock, None)?;
+    Ok(traces)
+}

@@ -1,0 +1,6 @@
+//! The stacks of a core, from its bytes.
+#![tactic(auto)]
+
+mod core_walk;
+
+pub use core_walk::walk;

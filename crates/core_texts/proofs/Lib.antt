@@ -1,0 +1,4 @@
+pub mod Hex
+pub mod Padding
+pub mod Pieces
+pub mod Texts

@@ -1,0 +1,1 @@
+//! Texts and lines that no clause spells out.

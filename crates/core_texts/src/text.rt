@@ -1,0 +1,98 @@
+//! The text of a walk.
+ghost use Rattle.std.specs.Prelude.{◌≡◌, ◌++◌, IfOk, OnOk, encode_utf8_all, string_bytes, unwrap_or};
+ghost use Rattle.core_texts.specs.Text.{frame_text, gil_text, id_text, line_text, name_text, thread_line, thread_text, walk_text};
+
+use elf64_core::Text;
+use py_version::Version;
+use py_stacks::{Frame, StackTrace};
+use std::alloc::{AllocError, Global};
+
+/// The version, and the threads from the last to the first. The one error is want of memory.
+pub fn walk_text(
+    alloc: Global,
+    version: &Version,
+    traces: &[StackTrace],
+) -> Result<String, AllocError>
+    ensures { IfOk result (λ text. string_bytes text ≡ walk_text version.now traces.now) }
+{
+    let mut text = format!(in alloc; "Python v{version}\n\n")?;
+    for trace in traces.iter().rev() {
+        push_thread(&mut text, trace)?;
+    }
+    Ok(text)
+}
+
+/// The line of a thread, and those of its frames.
+fn push_thread(text: &mut String, trace: &StackTrace) -> Result<(), AllocError>
+    ensures { OnOk result (string_bytes text.new ≡ string_bytes text.old ++ thread_text trace.now) }
+{
+    push_thread_line(text, trace)?;
+    for frame in &trace.frames {
+        push_frame(text, frame)?;
+    }
+    Ok(())
+}
+
+fn push_thread_line(text: &mut String, trace: &StackTrace) -> Result<(), AllocError>
+    ensures { OnOk result (string_bytes text.new ≡ string_bytes text.old ++ thread_line trace.now) }
+{
+    text.push_str("Thread ")?;
+    push_id(text, trace.os_thread_id, trace.thread_id)?;
+    if trace.owns_gil {
+        text.push_str(" (gil)")?;
+    }
+    push_name(text, &trace.thread_name)?;
+    text.push_str("\n")
+}
+
+/// The id that the system gave in decimal, where there is one, else the interpreter's in hexadecimal.
+fn push_id(text: &mut String, os: Option<u64>, id: u64) -> Result<(), AllocError>
+    ensures { OnOk result (string_bytes text.new ≡ string_bytes text.old ++ id_text os id) }
+{
+    match os {
+        Some(os) => write!(text, "{os}"),
+        None => write!(text, "0x{id:X}"),
+    }
+}
+
+fn push_name(text: &mut String, name: &Option<Text>) -> Result<(), AllocError>
+    ensures { OnOk result (string_bytes text.new ≡ string_bytes text.old ++ name_text name.now) }
+{
+    let Some(name) = name else {
+        return Ok(());
+    };
+    text.push_str(": \"")?;
+    text.push_str(name.as_str())?;
+    text.push_str("\"")
+}
+
+fn push_frame(text: &mut String, frame: &Frame) -> Result<(), AllocError>
+    ensures { OnOk result (string_bytes text.new ≡ string_bytes text.old ++ frame_text frame.now) }
+{
+    text.push_str("    ")?;
+    text.push_str(frame.name.as_str())?;
+    text.push_str(" (")?;
+    text.push_str(file_of(frame))?;
+    push_line(text, frame.line)?;
+    text.push_str(")\n")
+}
+
+/// The shorter name of a frame's file, where there is one.
+fn file_of(frame: &Frame) -> &str
+    ensures { result.now ≡ encode_utf8_all (unwrap_or frame.now.short_filename frame.now.filename) }
+{
+    match &frame.short_filename {
+        Some(file) => file.as_str(),
+        None => frame.filename.as_str(),
+    }
+}
+
+/// A line's number, where it is known.
+fn push_line(text: &mut String, line: i32) -> Result<(), AllocError>
+    ensures { OnOk result (string_bytes text.new ≡ string_bytes text.old ++ line_text line) }
+{
+    if line == 0 {
+        return Ok(());
+    }
+    write!(text, ":{line}")
+}

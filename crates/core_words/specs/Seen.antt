@@ -1,0 +1,28 @@
+-- What the program's own words stand for.
+use Rattle.py_version.specs.Version.{release}
+use Rattle.py_version.specs.declared.version.Version.{Version}
+use Rattle.core_words.specs.Words as words
+use Rattle.core_words.specs.declared.numbers.Release.{Release}
+use Rattle.core_words.specs.declared.walk.WalkWords.{WalkWords}
+use Rattle.core_words.specs.declared.walk.LayoutSource.{LayoutSource}
+use Rattle.core_words.specs.declared.walk.LayoutSource.TheVariants.{Sample, File}
+use Rattle.core_words.specs.declared.command.Command.{Command}
+use Rattle.core_words.specs.declared.command.Command.TheVariants.{Walk}
+
+abbrev pub asked_version : Release → Version
+asked_version r = release r.major r.minor r.patch
+
+abbrev pub asked_source : LayoutSource → words.LayoutSource
+asked_source Sample = words.sample
+asked_source (File name) = words.file name.now
+
+abbrev pub asked_walk : WalkWords → words.Walk
+asked_walk w = record {
+  core = w.core.now;
+  layouts = asked_source w.layouts;
+  version = asked_version w.version;
+  addresses = w.addresses;
+}
+
+abbrev pub asked_command : Command → words.Command
+asked_command (Walk w) = words.walk (asked_walk w)

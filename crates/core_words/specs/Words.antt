@@ -1,0 +1,101 @@
+-- The words of a command line, as lists of bytes, and what they ask for.
+use Rattle.std.specs.Prelude.{ℕ, ◌^◌, ◌==◌, ◌&&◌, Bool, nat_lt, nat_le, nat_eq, if◌then◌else◌, List, [], ◌∷◌, ◌++◌, length, drop, map, Option, Some, None, option_and_then, option_map, bytes_eq, codes, string_bytes, String}
+use Rattle.std.specs.List.{list_all, position_or_len, starts_with, before_first, after_first}
+use Rattle.std.specs.Char.{digit_value}
+use Rattle.std.specs.Str.Parse.{digits_value}
+use Rattle.std.specs.Global.{Global}
+use Rattle.py_version.specs.Version.{release}
+use Rattle.py_version.specs.declared.version.Version.{Version}
+use Rattle.py_stacks.specs.declared.trace.Addresses.{Addresses}
+
+-- one digit or more of the radix, at most so many, of a number below 2 ^ 64
+abbrev pub is_numeral : ℕ → ℕ → List ℕ → Bool
+is_numeral radix most ds = nat_lt 0 (length ds) && (nat_le (length ds) most
+    && (list_all (λ c. nat_lt (digit_value c) radix) ds && nat_lt (digits_value radix ds) (2 ^ 64)))
+
+abbrev pub digits_in : ℕ → ℕ → List ℕ → Option ℕ
+digits_in radix most ds = if is_numeral radix most ds then Some (digits_value radix ds) else None
+
+-- 1 to 20 decimal digits, or 0x and 1 to 16 hexadecimal digits of either case
+abbrev pub number_of : List ℕ → Option ℕ
+number_of word = if starts_with nat_eq word (codes "0x") then digits_in 16 16 (drop 2 word) else digits_in 10 20 word
+
+abbrev pub release_by : Option ℕ → Option ℕ → Option ℕ → Option Version
+release_by (Some major) (Some minor) (Some patch) = Some (release major minor patch)
+release_by _ _ _ = None
+
+abbrev pub is_dot : ℕ → Bool
+is_dot c = c == 46
+
+-- the parts round the first dot
+abbrev pub split_at_dot : List ℕ → Option (List ℕ × List ℕ)
+split_at_dot word = if nat_lt (position_or_len is_dot word) (length word)
+    then Some (before_first is_dot word, after_first is_dot word) else None
+
+-- three runs of 1 to 3 decimal digits joined by dots
+abbrev pub release_of : List ℕ → Option Version
+release_of word = option_and_then (λ front. option_and_then (λ back.
+    release_by (digits_in 10 3 front.0) (digits_in 10 3 back.0) (digits_in 10 3 back.1))
+    (split_at_dot front.1)) (split_at_dot word)
+
+-- where the layouts come from: the sample, or the file of this name
+pub data LayoutSource : Type 0 where
+  sample : LayoutSource
+  file : List ℕ → LayoutSource
+
+abbrev pub source_of : List ℕ → LayoutSource
+source_of word = if bytes_eq word (codes "sample") then sample else file word
+
+-- a walk over the core of this name, from these addresses of an interpreter and its lock
+pub record Walk : Type 0 where
+  pub core : List ℕ
+  pub layouts : LayoutSource
+  pub version : Version
+  pub addresses : Addresses
+
+-- what words ask for
+pub data Command : Type 0 where
+  walk : Walk → Command
+
+-- a walk of these parts, where all are there
+abbrev pub walk_by : List ℕ → LayoutSource → Option Version → Option ℕ → Option ℕ → Option Walk
+walk_by core layouts (Some version) (Some interp) (Some lock) =
+    Some (record {
+      core = core;
+      layouts = layouts;
+      version = version;
+      addresses = record { interpreter = interp; lock = lock };
+    })
+walk_by core layouts _ _ _ = None
+
+-- CORE LAYOUTS VERSION INTERP LOCK
+abbrev pub walk_words : List (List ℕ) → Option Walk
+walk_words (core ∷ layouts ∷ version ∷ interp ∷ lock ∷ []) =
+    walk_by core (source_of layouts) (release_of version) (number_of interp) (number_of lock)
+walk_words _ = None
+
+-- the command's name, and then its words
+abbrev pub command_of : List (List ℕ) → Option Command
+command_of [] = None
+command_of (name ∷ words) = if bytes_eq name (codes "walk") then option_map (λ w. walk w) (walk_words words) else None
+
+-- the files of a source of layouts
+abbrev pub source_files : LayoutSource → List (List ℕ)
+source_files sample = []
+source_files (file name) = name ∷ []
+
+-- the names of the files that are read before a command's work, in order
+abbrev pub kept_files : Command → List (List ℕ)
+kept_files (walk w) = w.core ∷ source_files w.layouts
+
+-- the names of those that are read in its work, one at a time
+abbrev pub later_files : Command → List (List ℕ)
+later_files (walk w) = []
+
+-- all the files that a command names, in the order in which they are read
+abbrev pub files_of : Command → List (List ℕ)
+files_of command = kept_files command ++ later_files command
+
+-- words as lists of bytes
+abbrev pub texts : List (String Global) → List (List ℕ)
+texts words = map (λ word. string_bytes word) words

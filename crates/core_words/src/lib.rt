@@ -1,0 +1,13 @@
+//! The words of a command line: which command they ask for, and which files it names.
+#![tactic(auto)]
+
+mod command;
+mod numbers;
+mod walk;
+
+pub use command::{Command, read_words};
+pub use numbers::Release;
+pub use walk::{LayoutSource, WalkWords};
+
+#[cfg(test)]
+mod tests;
