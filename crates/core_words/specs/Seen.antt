@@ -17,7 +17,12 @@ asked_source Sample = words.sample
 asked_source (File name) = words.file name.now
 
 abbrev pub asked_walk : WalkWords → words.Walk
-asked_walk w = record { core = w.core.now; layouts = asked_source w.layouts; version = asked_version w.version; addresses = w.addresses }
+asked_walk w = record {
+  core = w.core.now;
+  layouts = asked_source w.layouts;
+  version = asked_version w.version;
+  addresses = w.addresses;
+}
 
 abbrev pub asked_command : Command → words.Command
 asked_command (Walk w) = words.walk (asked_walk w)

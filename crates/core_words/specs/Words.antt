@@ -29,7 +29,8 @@ is_dot c = c == 46
 
 -- the parts round the first dot
 abbrev pub split_at_dot : List ℕ → Option (List ℕ × List ℕ)
-split_at_dot word = if nat_lt (position_or_len is_dot word) (length word) then Some (before_first is_dot word, after_first is_dot word) else None
+split_at_dot word = if nat_lt (position_or_len is_dot word) (length word)
+    then Some (before_first is_dot word, after_first is_dot word) else None
 
 -- three runs of 1 to 3 decimal digits joined by dots
 abbrev pub release_of : List ℕ → Option Version
@@ -58,8 +59,12 @@ pub data Command : Type 0 where
 
 -- a walk of these parts, where all are there
 abbrev pub walk_by : List ℕ → LayoutSource → Option Version → Option ℕ → Option ℕ → Option Walk
-walk_by core layouts (Some version) (Some interp) (Some lock) =
-    Some (record { core = core; layouts = layouts; version = version; addresses = record { interpreter = interp; lock = lock } })
+walk_by core layouts (Some version) (Some interp) (Some lock) = Some (record {
+  core = core;
+  layouts = layouts;
+  version = version;
+  addresses = record { interpreter = interp; lock = lock };
+})
 walk_by core layouts _ _ _ = None
 
 -- CORE LAYOUTS VERSION INTERP LOCK
