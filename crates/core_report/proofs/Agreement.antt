@@ -2,7 +2,6 @@
 -- which nothing is wrong no outcome is a cause.
 use Rattle.std.proofs.Common.{◌≡◌, ◌≢◌, ◌⊎◌, ℕ, List, [], ◌∷◌, Result, Ok, Err, refl, sym, ap, subst, ◌∙◌, ◌<◌, arith, inl, inr, ⊎_elim, rules}
 use Rattle.std.proofs.lemmas.Bool.Decides.{eqb_tells}
-
 use Rattle.py_fields.specs.declared.layout.Layout.{Layout}
 use Rattle.py_fields.specs.Samples.{sample_layout}
 use Rattle.py_fields.specs.Sound.{IsSound}

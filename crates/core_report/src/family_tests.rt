@@ -2,7 +2,6 @@
 use crate::layout_tests::{SAMPLE, with_part};
 use crate::tests::core_with;
 use crate::{CoreError, walk};
-use elf64_core::Text;
 use py_layout::{Layouts, Version};
 use py_stacks::{Addresses, StackTrace};
 use std::alloc::{AllocError, Global};
@@ -235,13 +234,7 @@ fn edited(alloc: Global, edits: &[&[Edit]]) -> Result<String, AllocError> {
 fn walked(alloc: Global, row: &Row) -> Result<Result<Vec<StackTrace>, CoreError>, Fail> {
     let text = edited(alloc, row.edits)?;
     let layouts = Layouts::from_toml(alloc, text.as_bytes()).map_err(|_| "bad layouts")?;
-    let version = Version {
-        major: 3,
-        minor: 9,
-        patch: 0,
-        release_flags: Text::of(alloc, "")?,
-        build_metadata: None,
-    };
+    let version = Version::of_numbers(alloc, 3, 9, 0)?;
     let addresses = Addresses {
         interpreter: 0x10000,
         lock: row.lock,

@@ -2,7 +2,7 @@
 use crate::run;
 use crate::tests::{core, words};
 use elf64_core::Name;
-use image_memory::{MemoryFiles, MemorySink};
+use outside::{MemoryFiles, MemorySink};
 use std::alloc::{AllocError, Global};
 use std::test::Fail;
 

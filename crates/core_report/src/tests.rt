@@ -1,11 +1,11 @@
 //! Whole runs over files and streams in memory, and the lines and texts that no clause spells out.
-use crate::lines::{say_core, say_layouts};
-use crate::text::walk_text;
+use crate::cause::Cause;
+use crate::lines::cause_parts;
 use crate::{CoreError, run};
+use core_texts::say_line;
 use elf64_core::{Name, Text};
-use image_memory::{MemoryFiles, MemorySink};
+use outside::{MemoryFiles, MemorySink};
 use py_layout::{LayoutError, Version};
-use py_stacks::{Frame, StackTrace};
 use std::alloc::{AllocError, Global};
 use std::test::Fail;
 
@@ -319,20 +319,6 @@ fn walk_errors(alloc: Global) -> Result<Vec<(CoreError, &'static [u8])>, AllocEr
     Ok(errors)
 }
 
-#[test]
-fn each_error_has_its_line(rt: HostRuntime) -> Result<(), Fail> {
-    let alloc = rt.alloc();
-    for errors in [file_errors(alloc)?, walk_errors(alloc)?] {
-        for (error, line) in errors {
-            let mut err = MemorySink::new(alloc, 100, Vec::new(alloc))?;
-            say_core(&mut err, &error);
-            let said = err.bytes().strip_prefix(b"pystacks: ");
-            assert_eq!(rt; said.and_then(|said| said.strip_suffix(b"\n")), Some(line));
-        }
-    }
-    Ok(())
-}
-
 /// Each error of layouts with its line, after `pystacks: `.
 fn layout_errors(alloc: Global) -> Result<Vec<(LayoutError, &'static [u8])>, AllocError> {
     let key = Text::of(alloc, "thread.size")?;
@@ -359,73 +345,23 @@ fn layout_errors(alloc: Global) -> Result<Vec<(LayoutError, &'static [u8])>, All
 }
 
 #[test]
-fn each_error_of_layouts_has_its_line(rt: HostRuntime) -> Result<(), Fail> {
+fn each_cause_has_its_line(rt: HostRuntime) -> Result<(), Fail> {
     let alloc = rt.alloc();
+    let mut causes = Vec::new(alloc);
+    for errors in [file_errors(alloc)?, walk_errors(alloc)?] {
+        for (error, line) in errors {
+            causes.push((Cause::Core(error), line))?;
+        }
+    }
     for (error, line) in layout_errors(alloc)? {
+        causes.push((Cause::Layouts(error), line))?;
+    }
+    causes.push((Cause::OutOfMemory, b"out of memory"))?;
+    for (cause, line) in causes {
         let mut err = MemorySink::new(alloc, 100, Vec::new(alloc))?;
-        say_layouts(&mut err, &error);
+        say_line(&mut err, &cause_parts(&cause));
         let said = err.bytes().strip_prefix(b"pystacks: ");
         assert_eq!(rt; said.and_then(|said| said.strip_suffix(b"\n")), Some(line));
     }
-    Ok(())
-}
-
-fn frame(alloc: Global, name: &str, short: Option<&str>, line: i32) -> Result<Frame, AllocError> {
-    let short_filename = match short {
-        Some(short) => Some(Text::of(alloc, short)?),
-        None => None,
-    };
-    Ok(Frame {
-        name: Text::of(alloc, name)?,
-        filename: Text::of(alloc, "/lib/a.py")?,
-        module: None,
-        short_filename,
-        line,
-        locals: None,
-        is_entry: false,
-        is_shim_entry: false,
-    })
-}
-
-fn traces(alloc: Global) -> Result<Vec<StackTrace>, AllocError> {
-    let mut frames = Vec::new(alloc);
-    frames.push(frame(alloc, "f", Some("a.py"), 12)?)?;
-    frames.push(frame(alloc, "<module>", None, 0)?)?;
-    let mut traces = Vec::new(alloc);
-    traces.push(StackTrace {
-        pid: 0,
-        thread_id: 0x7f00_abcd,
-        thread_name: None,
-        os_thread_id: None,
-        active: true,
-        owns_gil: true,
-        frames,
-    })?;
-    traces.push(StackTrace {
-        pid: 0,
-        thread_id: 1,
-        thread_name: Some(Text::of(alloc, "Wörker")?),
-        os_thread_id: Some(4242),
-        active: true,
-        owns_gil: false,
-        frames: Vec::new(alloc),
-    })?;
-    Ok(traces)
-}
-
-#[test]
-fn threads_are_printed_from_the_last(rt: HostRuntime) -> Result<(), Fail> {
-    let alloc = rt.alloc();
-    let version = Version {
-        major: 3,
-        minor: 9,
-        patch: 0,
-        release_flags: Text::of(alloc, "")?,
-        build_metadata: None,
-    };
-    let text = walk_text(alloc, &version, &traces(alloc)?)?;
-    let lines =
-        "Python v3.9.0\n\nThread 4242: \"Wörker\"\nThread 0x7F00ABCD (gil)\n    f (a.py:12)\n    <module> (/lib/a.py)\n";
-    assert_eq!(rt; text.as_str(), lines);
     Ok(())
 }

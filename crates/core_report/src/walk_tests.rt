@@ -1,7 +1,7 @@
 //! Walks over whole cores, written out by hand: limits, members that are skipped, and several threads.
 use crate::{CoreError, run, walk};
-use elf64_core::{Name, Text};
-use image_memory::{MemoryFiles, MemorySink};
+use elf64_core::Name;
+use outside::{MemoryFiles, MemorySink};
 use py_layout::{Layout, Layouts, Version};
 use py_stacks::{Addresses, StackTrace};
 use std::alloc::{AllocError, Global};
@@ -144,13 +144,7 @@ fn walked(alloc: Global, core: Vec<u8>) -> Result<Result<Vec<StackTrace>, CoreEr
     let Ok(layouts) = Layouts::of(alloc, list) else {
         return Err(AllocError);
     };
-    let version = Version {
-        major: 3,
-        minor: 9,
-        patch: 0,
-        release_flags: Text::of(alloc, "")?,
-        build_metadata: None,
-    };
+    let version = Version::of_numbers(alloc, 3, 9, 0)?;
     let addresses = Addresses {
         interpreter: INTERPRETER,
         lock: 0,

@@ -3,8 +3,8 @@ ghost use Rattle.std.specs.Prelude.{◌≡◌, ◌++◌, IfOk, OnOk, encode_utf8
 ghost use Rattle.core_texts.specs.Text.{frame_text, gil_text, id_text, line_text, name_text, thread_line, thread_text, walk_text};
 
 use elf64_core::Text;
-use py_version::Version;
 use py_stacks::{Frame, StackTrace};
+use py_version::Version;
 use std::alloc::{AllocError, Global};
 
 /// The version, and the threads from the last to the first. The one error is want of memory.

@@ -59,13 +59,12 @@ pub data Command : Type 0 where
 
 -- a walk of these parts, where all are there
 abbrev pub walk_by : List ℕ → LayoutSource → Option Version → Option ℕ → Option ℕ → Option Walk
-walk_by core layouts (Some version) (Some interp) (Some lock) =
-    Some (record {
-      core = core;
-      layouts = layouts;
-      version = version;
-      addresses = record { interpreter = interp; lock = lock };
-    })
+walk_by core layouts (Some version) (Some interp) (Some lock) = Some (record {
+  core = core;
+  layouts = layouts;
+  version = version;
+  addresses = record { interpreter = interp; lock = lock };
+})
 walk_by core layouts _ _ _ = None
 
 -- CORE LAYOUTS VERSION INTERP LOCK
