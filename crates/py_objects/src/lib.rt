@@ -8,8 +8,10 @@
 mod bytes;
 mod coding;
 mod error;
+mod integers;
 mod strings;
 
 pub use bytes::copy_bytes;
 pub use error::ObjectError;
+pub use integers::copy_int;
 pub use strings::copy_string;
