@@ -24,7 +24,8 @@ pub fn copy_int<P: ProcessMemory>(
     addr: u64,
 ) -> Result<i64, ObjectError>
     requires sound { IsSound layout.now }
-    ensures answer { Reads fault_of 1 (P.seen process.old) (P.seen process.new) (λ m. small_at layout.now m addr) result }
+    ensures answer { Reads fault_of 1 (P.seen process.old) (P.seen process.new) (λ m. small_at layout.now m addr)
+        result }
     ensures memory { IsErrOf result ObjectError.OutOfMemory → IsTrue (P.seen process.old).may_want_memory }
 {
     let mut record = [0; RECORD_LIMIT];
@@ -45,7 +46,8 @@ fn read_small<P: ProcessMemory>(
 ) -> Result<i64, ObjectError>
     requires sound { IsSound layout.now }
     requires object { length object.old ≡ layout.now.small.size }
-    ensures answer { Reads fault_of 1 (P.seen process.old) (P.seen process.new) (λ m. small_at layout.now m addr) result }
+    ensures answer { Reads fault_of 1 (P.seen process.old) (P.seen process.new) (λ m. small_at layout.now m addr)
+        result }
     ensures memory { IsErrOf result ObjectError.OutOfMemory → IsTrue (P.seen process.old).may_want_memory }
 {
     record_in(process, addr, object)?;
@@ -76,7 +78,8 @@ pub fn copy_long<P: ProcessMemory>(
     addr: u64,
 ) -> Result<(i64, bool), ObjectError>
     requires sound { IsSound layout.now }
-    ensures answer { Reads fault_of 2 (P.seen process.old) (P.seen process.new) (λ m. long_at layout.now m addr) result }
+    ensures answer { Reads fault_of 2 (P.seen process.old) (P.seen process.new) (λ m. long_at layout.now m addr)
+        result }
     ensures memory { IsErrOf result ObjectError.OutOfMemory → IsTrue (P.seen process.old).may_want_memory }
 {
     let mut record = [0; RECORD_LIMIT];
@@ -97,7 +100,8 @@ fn read_long<P: ProcessMemory>(
 ) -> Result<(i64, bool), ObjectError>
     requires sound { IsSound layout.now }
     requires object { length object.old ≡ layout.now.long.size }
-    ensures answer { Reads fault_of 2 (P.seen process.old) (P.seen process.new) (λ m. long_at layout.now m addr) result }
+    ensures answer { Reads fault_of 2 (P.seen process.old) (P.seen process.new) (λ m. long_at layout.now m addr)
+        result }
     ensures memory { IsErrOf result ObjectError.OutOfMemory → IsTrue (P.seen process.old).may_want_memory }
 {
     record_in(process, addr, object)?;
