@@ -1,27 +1,12 @@
 -- The steps of reading bytes.
-use Rattle.std.proofs.Common.{◌≡◌, ℕ, ◌+◌, ◌^◌, ◌<◌, ◌≤◌, leb, true, false, refl, arith}
+use Rattle.std.proofs.Common.{◌≡◌, ℕ, ◌+◌, ◌<◌, ◌≤◌, leb, true, false, refl, arith}
 use Rattle.std.specs.Prelude.{Err}
 use Rattle.std.specs.Int.{w64, cast_signed}
 use Rattle.std.proofs.lemmas.Bool.Decides.{nat_tests}
 use Rattle.process_memory.specs.Memory.{Memory, record_at}
 use Rattle.process_memory.specs.Memory.Fault.{TooLong}
 use Rattle.py_fields.specs.declared.layout.Layout.{Layout}
-use Rattle.py_fields.specs.declared.layout.BytesAt.{BytesAt}
-use Rattle.py_fields.specs.Places.{bytes_places}
-use Rattle.py_fields.specs.Sound.{IsSound}
 use Rattle.py_objects.specs.Bytes.{bytes_of_length}
-
--- what a sound layout says of the record
-pub record BytesFits (b : BytesAt) : Type 0 where
-  pub short : b.size < 2 ^ 16
-  pub length : b.length + 8 ≤ b.size
-  pub at : b.at < 2 ^ 20
-
-pub bytes_fits : {l : Layout} → IsSound l → BytesFits l.bytes
-unfolding bytes_places
-bytes_fits {l} s =
-    let fields = s.objects.bytes.fields in
-    record { short = fields.short; length = fields.group.inside.0; at = s.objects.bytes.at.plain }
 
 pub bytes_long : (l : Layout) (m : Memory) (a n : ℕ) → 65536 ≤ n → bytes_of_length l m a n ≡ Err (TooLong (cast_signed w64 n))
 unfolding bytes_of_length

@@ -1,4 +1,5 @@
 pub mod Bytes
+pub mod Integers
 pub mod ObjectError
 pub mod Refusals
 pub mod TextKind

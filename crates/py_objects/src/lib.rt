@@ -1,4 +1,4 @@
-//! Python objects: texts and bytes, read out of a process's memory by a layout.
+//! Python objects: texts, bytes and integers, read out of a process's memory by a layout.
 //!
 //! Each reader answers what the object means at this memory, or the first fault on the way, and says how
 //! many reads it made. The rules are CPython's where they say what an object means, and this project's
@@ -8,8 +8,10 @@
 mod bytes;
 mod coding;
 mod error;
+mod integers;
 mod strings;
 
 pub use bytes::copy_bytes;
 pub use error::ObjectError;
+pub use integers::{copy_int, copy_long};
 pub use strings::copy_string;

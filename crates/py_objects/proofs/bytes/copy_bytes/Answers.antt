@@ -5,12 +5,13 @@ use Rattle.elf64_core.specs.Fields.{u64_in}
 use Rattle.process_memory.specs.Memory.{Memory, Found, record_at}
 use Rattle.process_memory.specs.Memory.Fault.{TooLong}
 use Rattle.process_memory.proofs.Reading.{reading_gives, reads_halt, reads_next}
+use Rattle.py_fields.proofs.ObjectFields.{bytes_fits}
 use Rattle.py_objects.specs.Bytes.{bytes_object_at, bytes_of_length}
 use Rattle.process_memory.specs.declared.memory.ReadFault.{ReadFault}
 use Rattle.process_memory.specs.Seen.{Answers, fault_of as read_fault}
 use Rattle.py_objects.specs.declared.error.ObjectError.{ObjectError}
 use Rattle.py_objects.specs.ObjectError.{fault_of}
-use Rattle.py_objects.proofs.BytesRead.{bytes_fits, bytes_long, bytes_fine}
+use Rattle.py_objects.proofs.BytesRead.{bytes_long, bytes_fine}
 use Rattle.py_objects.proofs.bytes.copy_bytes.Goals as goal
 
 -- an error that names the same fault

@@ -25,11 +25,16 @@ returns-then-length-eq0-clause-answer g c =
     let length_is : c.u64_in-length.result ≡ u64_in c.in_ok-object.object.items c.args.layout.now.string.length = c.u64_in-length.ensures ∙ ap (λ b. u64_in b c.args.layout.now.string.length) c.deref.ensures.value in
     reads_next 2 _ c.in_ok-object.ensures.answer (reads_known 0 _ _ (λ m. record { is = length_zero c.args.layout.now m c.args.addr c.in_ok-object.object.items _ (omega arith) ∙ ap Ok (sym (empty_text _ _ c.from.ensures c.new.ensures.bytes)) })) (omega arith)
 
-pub returns-then-length-ge-LENGTH_LIMIT-clause-answer : goal.returns-then-length-ge-LENGTH_LIMIT-clause-answer
+pub returns-then-length-ge-LENGTH_LIMIT-clause-early : goal.returns-then-length-ge-LENGTH_LIMIT-clause-early
 unfolding text_at
-returns-then-length-ge-LENGTH_LIMIT-clause-answer g c =
+returns-then-length-ge-LENGTH_LIMIT-clause-early g c =
     let length_is : c.u64_in-length.result ≡ u64_in c.in_ok-object.object.items c.args.layout.now.string.length = c.u64_in-length.ensures ∙ ap (λ b. u64_in b c.args.layout.now.string.length) c.deref.ensures.value in
-    reads_next 2 _ c.in_ok-object.ensures.answer (reads_known 0 _ _ (λ m. record { is = length_long c.args.layout.now m c.args.addr c.in_ok-object.object.items _ (omega arith) ∙ ap (λ z. Err (TooLong z)) (search rules) })) (omega arith)
+    let object = c.in_ok-object.object.items in
+    let long : 4096 ≤ u64_in object c.args.layout.now.string.length = omega arith in
+    reading_gives 1 _ c.in_ok-object.ensures.answer (omega arith) (λ m h. rw h.is (length_long c.args.layout.now m c.args.addr object _ long ∙ ap (λ z. Err (TooLong z)) (search rules)))
+
+pub returns-then-length-ge-LENGTH_LIMIT-clause-answer : goal.returns-then-length-ge-LENGTH_LIMIT-clause-answer
+returns-then-length-ge-LENGTH_LIMIT-clause-answer g c = reading_gives 2 _ (returns-then-length-ge-LENGTH_LIMIT-clause-early g c) (omega arith) (λ m h. record { is = h })
 
 pub returns-in-Some-clause-answer : goal.returns-in-Some-clause-answer
 unfolding text_at
@@ -41,14 +46,6 @@ returns-in-Some-clause-answer g c =
     reads_next 2 _ c.in_ok-object.ensures.answer
     (reads_same _ (λ m. characters_at m c.u64_in-length.result (Some c.in-Some.characters)) (λ m. ap (text_of_length shown m c.args.addr object) (sym length_is) ∙ length_fine shown m c.args.addr object c.u64_in-length.result (omega arith) (omega arith) ∙ ap (characters_at m c.u64_in-length.result) kind) c.read_characters.ensures)
     (omega arith)
-
-pub returns-then-length-ge-LENGTH_LIMIT-clause-early : goal.returns-then-length-ge-LENGTH_LIMIT-clause-early
-unfolding text_at
-returns-then-length-ge-LENGTH_LIMIT-clause-early g c =
-    let length_is : c.u64_in-length.result ≡ u64_in c.in_ok-object.object.items c.args.layout.now.string.length = c.u64_in-length.ensures ∙ ap (λ b. u64_in b c.args.layout.now.string.length) c.deref.ensures.value in
-    let object = c.in_ok-object.object.items in
-    let long : 4096 ≤ u64_in object c.args.layout.now.string.length = omega arith in
-    reading_gives 1 _ c.in_ok-object.ensures.answer (omega arith) (λ m h. rw h.is (length_long c.args.layout.now m c.args.addr object _ long ∙ ap (λ z. Err (TooLong z)) (search rules)))
 
 pub returns-in-Some-clause-early : goal.returns-in-Some-clause-early
 returns-in-Some-clause-early g c =
