@@ -22,6 +22,8 @@ mod family_tests;
 #[cfg(test)]
 mod layout_tests;
 #[cfg(test)]
+mod member_tests;
+#[cfg(test)]
 mod tests;
 #[cfg(test)]
 mod walk_tests;

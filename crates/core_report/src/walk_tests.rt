@@ -8,16 +8,16 @@ use std::alloc::{AllocError, Global};
 use std::test::Fail;
 
 /// Where the interpreter stands; its first thread's address is at 8.
-const INTERPRETER: u64 = 0x10000;
+pub(crate) const INTERPRETER: u64 = 0x10000;
 
 /// Where the code records and the texts stand.
-const CODES: u64 = 0x20000;
+pub(crate) const CODES: u64 = 0x20000;
 
 /// Where the frame records stand, 64 bytes each.
-const FRAMES: u64 = 0x10_0000;
+pub(crate) const FRAMES: u64 = 0x10_0000;
 
 /// Where the thread records stand, 64 bytes each.
-const THREADS: u64 = 0x40_0000;
+pub(crate) const THREADS: u64 = 0x40_0000;
 
 fn push_words(bytes: &mut Vec<u8>, words: &[u64]) -> Result<(), AllocError> {
     for word in words {
@@ -27,7 +27,7 @@ fn push_words(bytes: &mut Vec<u8>, words: &[u64]) -> Result<(), AllocError> {
 }
 
 /// A core of these words at these addresses, a load segment each.
-fn core(alloc: Global, pieces: &[(u64, Vec<u64>)]) -> Result<Vec<u8>, AllocError> {
+pub(crate) fn core(alloc: Global, pieces: &[(u64, Vec<u64>)]) -> Result<Vec<u8>, AllocError> {
     let count = pieces.len() as u64;
     let mut bytes = Vec::new(alloc);
     push_words(
@@ -97,7 +97,12 @@ const CODE_WORDS: [u64; 43] = [
 
 /// Frame records that follow each other, each kept or skipped as told, so many times; the last leads to
 /// `back`.
-fn frames(alloc: Global, kept: &[bool], times: usize, back: u64) -> Result<Vec<u64>, AllocError> {
+pub(crate) fn frames(
+    alloc: Global,
+    kept: &[bool],
+    times: usize,
+    back: u64,
+) -> Result<Vec<u64>, AllocError> {
     let mut words = Vec::new(alloc);
     let mut at = FRAMES;
     for time in 0..times {
@@ -113,7 +118,7 @@ fn frames(alloc: Global, kept: &[bool], times: usize, back: u64) -> Result<Vec<u
 }
 
 /// Thread records of these ids that follow each other, each with the frames.
-fn threads(alloc: Global, ids: &[u64], first: u64) -> Result<Vec<u64>, AllocError> {
+pub(crate) fn threads(alloc: Global, ids: &[u64], first: u64) -> Result<Vec<u64>, AllocError> {
     let mut words = Vec::new(alloc);
     let mut at = THREADS;
     for (place, id) in ids.iter().enumerate() {
@@ -128,7 +133,11 @@ fn threads(alloc: Global, ids: &[u64], first: u64) -> Result<Vec<u64>, AllocErro
     Ok(words)
 }
 
-fn interpreted(alloc: Global, ids: &[u64], frames: Vec<u64>) -> Result<Vec<u8>, AllocError> {
+pub(crate) fn interpreted(
+    alloc: Global,
+    ids: &[u64],
+    frames: Vec<u64>,
+) -> Result<Vec<u8>, AllocError> {
     let first = if frames.is_empty() { 0 } else { FRAMES };
     let pieces = vec![in alloc;
         (INTERPRETER, [0, THREADS].to_vec(alloc)?),
@@ -139,7 +148,10 @@ fn interpreted(alloc: Global, ids: &[u64], frames: Vec<u64>) -> Result<Vec<u8>, 
     core(alloc, &pieces)
 }
 
-fn walked(alloc: Global, core: Vec<u8>) -> Result<Result<Vec<StackTrace>, CoreError>, AllocError> {
+pub(crate) fn walked(
+    alloc: Global,
+    core: Vec<u8>,
+) -> Result<Result<Vec<StackTrace>, CoreError>, AllocError> {
     let list = vec![in alloc; Layout::sample()]?;
     let Ok(layouts) = Layouts::of(alloc, list) else {
         return Err(AllocError);

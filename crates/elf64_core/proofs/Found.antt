@@ -1,14 +1,12 @@
 -- What is found of a build id is found once.
-use Rattle.std.proofs.Common.{◌≡◌, ◌≢◌, ◌⊎◌, ℕ, ◌≤◌, ◌<◌, Bool, true, false, List, [], ◌∷◌, ◌++◌, length, Option, Some, None, Result, Ok, Err, inl, inr, refl, sym, ap, subst, ◌∙◌, arith}
+use Rattle.std.proofs.Common.{◌≡◌, ◌≢◌, ℕ, ◌≤◌, Bool, true, false, List, [], ◌∷◌, ◌++◌, length, Option, Some, None, Ok, Err, inl, inr, refl, sym, ap, subst, ◌∙◌, arith}
 use Rattle.std.specs.Prelude.{All, MatchOption}
 use Rattle.std.specs.Bool.{MatchBool}
 use Rattle.std.proofs.lemmas.List.Elements.{All-push, All-head, All-tail}
-use Rattle.elf64_core.specs.Header.{IsElf64, HasSegments, IsAccepted}
-use Rattle.elf64_core.specs.Sections.{HasSections, sections_of, contents_of}
-use Rattle.elf64_core.specs.Notes.{Noted, IsNote, BeginsNoNote, NotesThen}
-use Rattle.elf64_core.specs.BuildIds.{Found, IsOther, Ends, NotesSay, SectionSays, SectionsSay, BuildIdIs, FileSays}
+use Rattle.elf64_core.specs.Sections.{sections_of, contents_of}
+use Rattle.elf64_core.specs.Notes.{Noted, IsNote, NotesThen}
+use Rattle.elf64_core.specs.BuildIds.{Found, IsOther, Ends, NotesSay, SectionSays, SectionsSay, BuildIdIs}
 use Rattle.elf64_core.specs.declared.section.Section.{Section}
-use Rattle.elf64_core.specs.declared.error.ElfError.{ElfError}
 use Rattle.elf64_core.specs.declared.error.ElfError.TheVariants.{NotElf64, BadHeader, BadNote, OutOfMemory}
 use Rattle.elf64_core.proofs.Notes.{IsPlaced-from_note, IsNote-once, NotesThen-more}
 

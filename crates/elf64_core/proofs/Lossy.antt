@@ -1,7 +1,6 @@
 -- What stands for bytes that need not be text is characters.
-use Rattle.std.proofs.Common.{◌≡◌, ℕ, zero, suc, true, List, [], ◌∷◌, drop, Option, Some, None, refl, sym, ap, ◌∙◌, arith, map}
+use Rattle.std.proofs.Common.{◌≡◌, ℕ, zero, suc, true, List, [], ◌∷◌, drop, Option, Some, None, refl, map}
 use Rattle.std.proofs.lemmas.Bool.{and_from}
-use Rattle.std.specs.Str.{all_scalars}
 use Rattle.bstr.specs.Utf8.{decoded, or_replacement, pieces_from, lossy_chars}
 use Rattle.bstr.proofs.lemmas.SoundLemmas.{SpellsChar-decoded}
 use lib.Utf8.{scalar, scalars}

@@ -1,13 +1,13 @@
 -- A note stands at fixed places of its bytes, so bytes are those of one list of notes at most.
-use Rattle.std.proofs.Common.{◌≡◌, ◌⊎◌, ℕ, ◌+◌, ◌-◌, ◌*◌, ◌/◌, ◌<◌, ◌≤◌, min, List, [], ◌∷◌, ◌++◌, length, take, drop, inl, inr, ⊎_elim, Result, Ok, Err, refl, sym, ap, subst, ◌∙◌, arith, append_assoc, length-append, length-drop}
-use Rattle.std.proofs.lemmas.List.{take_all, drop_all, length-take, drop-drop, take-append-drop, drop-append-le, take-append-le, length-take-le, append-nil}
+use Rattle.std.proofs.Common.{◌≡◌, ◌⊎◌, ℕ, ◌+◌, ◌-◌, ◌<◌, ◌≤◌, min, List, [], ◌∷◌, ◌++◌, length, take, drop, inl, inr, ⊎_elim, Result, Ok, Err, refl, sym, ap, subst, ◌∙◌, arith, append_assoc, length-append, length-drop}
+use Rattle.std.proofs.lemmas.List.{take_all, drop_all, length-take, drop-drop, take-append-drop, drop-append-le, take-append-le, length-take-le}
 use Rattle.std.proofs.lemmas.List.Folds.{drop_split}
 use Rattle.std.proofs.lemmas.Bool.{cases_lt}
 use Rattle.std.proofs.Math.Seq.{drop-append_seam, take-append_seam}
 use Rattle.std.specs.Prelude.{slice_range, IfOk, IsErr}
 use Rattle.std.specs.Int.{w32, from_le_bytes}
 use Rattle.elf64_core.specs.Fields.{u32_in}
-use Rattle.elf64_core.specs.Notes.{Noted, padded, IsDescPadding, IsNote, BeginsNoNote, NotesThen, AreNotes, AreNoNotes, AreNotesOnce}
+use Rattle.elf64_core.specs.Notes.{Noted, padded, IsNote, BeginsNoNote, NotesThen, AreNotes, AreNoNotes, AreNotesOnce}
 
 -- where the descriptor of the first note begins, and where its padding ends
 abbrev pub desc_start : List ℕ → ℕ

@@ -1,9 +1,9 @@
 -- Which files have symbols that can be read.
-use Rattle.std.proofs.Common.{◌≡◌, ℕ, List, [], Option, Some, None, refl, sym, ap, subst, ◌∙◌}
+use Rattle.std.proofs.Common.{◌≡◌, ℕ, List, [], Option, Some, None, sym, ap, subst, ◌∙◌}
 use Rattle.std.specs.Prelude.{MatchOption, ⊤}
 use Rattle.elf64_core.specs.Header.{IsInside}
 use Rattle.elf64_core.specs.Sections.{HasSections, contents_of, strings_of}
-use Rattle.elf64_core.specs.Symbols.{SymbolEntry, HasSymbols, entries_in, entries_or_none, section_entries, symbol_section, symbols_of}
+use Rattle.elf64_core.specs.Symbols.{HasSymbols, entries_in, entries_or_none, section_entries, symbol_section, symbols_of}
 use Rattle.elf64_core.specs.declared.section.Section.{Section}
 use Rattle.elf64_core.specs.declared.symbol.SymbolKind.{SymbolKind}
 

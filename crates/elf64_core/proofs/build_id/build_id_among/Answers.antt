@@ -1,4 +1,4 @@
-use Rattle.std.proofs.Common.{◌≡◌, ◌∷◌, None, Ok, ap, subst, ◌∙◌}
+use Rattle.std.proofs.Common.{Ok, subst}
 use Rattle.std.specs.Prelude.{option_copied}
 use Rattle.elf64_core.specs.BuildIds.{SectionSays}
 use Rattle.elf64_core.specs.Rest.{sections_left}

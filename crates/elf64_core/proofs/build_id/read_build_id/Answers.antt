@@ -1,4 +1,4 @@
-use Rattle.std.proofs.Common.{inr, subst, ap}
+use Rattle.std.proofs.Common.{inr, subst}
 use Rattle.elf64_core.specs.BuildIds.{BuildIdIs, SectionsSay, found}
 use Rattle.elf64_core.specs.Rest.{sections_left}
 use Rattle.elf64_core.proofs.Found.{BuildIdIs-once}

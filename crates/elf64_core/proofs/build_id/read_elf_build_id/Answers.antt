@@ -1,4 +1,4 @@
-use Rattle.std.proofs.Common.{◌≡◌, None, Ok, inr, subst, ap}
+use Rattle.std.proofs.Common.{None, Ok, inr, subst}
 use Rattle.std.specs.Prelude.{option_copied}
 use Rattle.elf64_core.specs.BuildIds.{BuildIdIs}
 use Rattle.elf64_core.proofs.build_id.read_elf_build_id.Goals as goal

@@ -1,4 +1,4 @@
-use Rattle.std.proofs.Common.{◌<◌, ◌≡◌, ◌∷◌, [], length, map, subst, sym, ap, ◌∙◌, arith, rules}
+use Rattle.std.proofs.Common.{◌<◌, ◌∷◌, [], length, map, subst, sym, ap, ◌∙◌, rules}
 use Rattle.std.proofs.lemmas.List.{map-append}
 use Rattle.elf64_core.specs.Notes.{noted, NotesThen}
 use Rattle.elf64_core.proofs.Notes.{NotesThen-more, AreNoNotes-from_rest}

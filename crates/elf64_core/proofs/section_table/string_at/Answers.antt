@@ -1,4 +1,4 @@
-use Rattle.std.proofs.Common.{◌≡◌, ap, sym, ◌∙◌, refl, arith, drop, List, ℕ, []}
+use Rattle.std.proofs.Common.{ap, sym, arith}
 use Rattle.std.proofs.lemmas.List.{drop_all}
 use Rattle.elf64_core.specs.Sections.{string_at, until_nul}
 use Rattle.elf64_core.proofs.section_table.string_at.Goals as goal

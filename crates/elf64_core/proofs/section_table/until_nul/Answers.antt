@@ -1,4 +1,4 @@
-use Rattle.std.proofs.Common.{◌≡◌, ℕ, take, nat_eq, cond, ltb, length, None, Some, Option, ap, sym, ◌∙◌, rules, tests}
+use Rattle.std.proofs.Common.{◌≡◌, take, nat_eq, ltb, length, None, Some, ap, sym, ◌∙◌, rules, tests}
 use Rattle.std.specs.Prelude.{option_map}
 use Rattle.std.proofs.lemmas.Iterator.{YieldsList-from_slice}
 use Rattle.std.proofs.lemmas.Iterator.Search.{position_from_yields_List}

@@ -1,4 +1,4 @@
-use Rattle.std.proofs.Common.{◌≡◌, Some, ap, sym, subst, ◌∙◌, rules, map, IfOk, refl}
+use Rattle.std.proofs.Common.{◌≡◌, Some, ap, sym, subst, ◌∙◌, map, IfOk, refl}
 use Rattle.elf64_core.specs.Header.{IsInside}
 use Rattle.elf64_core.specs.Sections.{range_at}
 use Rattle.elf64_core.specs.Notes.{AreNotes, AreNoNotes, bytes_of_range, noted}
