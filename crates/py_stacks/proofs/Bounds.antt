@@ -1,5 +1,5 @@
 -- The bound on the reads of a walk, in the numbers of threads and members that it meets; and on these numbers.
-use Rattle.std.proofs.Common.{◌≡◌, ℕ, zero, suc, ◌+◌, ◌*◌, ◌≤◌, refl, arith}
+use Rattle.std.proofs.Common.{ℕ, zero, suc, ◌+◌, ◌*◌, ◌≤◌, arith}
 use Rattle.std.specs.Prelude.{Ok, Err}
 use Rattle.process_memory.specs.Memory.{Memory, Found, ◌>>=◌, record_at, word_at}
 use Rattle.process_memory.specs.Walk.{Step, cost_next, walk_cost}

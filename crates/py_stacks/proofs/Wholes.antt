@@ -1,11 +1,11 @@
 -- A walk that has a whole chain within its limits, each of whose members can be read, answers it.
-use Rattle.std.proofs.Common.{◌≡◌, ◌≢◌, ℕ, zero, suc, ◌+◌, ◌<◌, ◌≤◌, Bool, true, ltb, List, [], ◌∷◌, length, map, refl, sym, ◌∙◌, ap, arith}
-use Rattle.std.specs.Prelude.{Option, Some, None, Result, Ok, Err, IsOkAnd, ⊤}
+use Rattle.std.proofs.Common.{◌≡◌, ℕ, ◌+◌, ◌<◌, ◌≤◌, Bool, true, ltb, List, [], ◌∷◌, length, map, refl, sym, ◌∙◌, ap, arith}
+use Rattle.std.specs.Prelude.{Option, Some, None, Result, Ok, ⊤}
 use Rattle.std.proofs.lemmas.Bool.Decides.{nat_tests}
 use Rattle.elf64_core.specs.Fields.{u64_in}
-use Rattle.process_memory.specs.Memory.{Memory, Found, Fault, ◌>>=◌, record_at, word_at}
+use Rattle.process_memory.specs.Memory.{Memory, Found, ◌>>=◌, record_at, word_at}
 use Rattle.process_memory.specs.Memory.Fault.{ChainLimit, ThreadLimit}
-use Rattle.process_memory.specs.Walk.{IsChain, Step, walk_at}
+use Rattle.process_memory.specs.Walk.{Step, walk_at}
 use Rattle.process_memory.proofs.Founds.{bound, ok_same}
 use Rattle.process_memory.proofs.WalkSums.{FitsAll, walk_whole}
 use Rattle.py_fields.specs.declared.layout.Layout.{Layout}

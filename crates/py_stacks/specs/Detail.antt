@@ -1,6 +1,6 @@
 -- The detail of a kept member: its line and its locals. What walks along frames knows of it these three words
 -- alone, and never opens them: what it is, how many reads it takes, and its faults in order.
-use Rattle.std.specs.Prelude.{ℕ, Option, Some, None, List, [], Result, Ok, Err, ℤ, pos, option_map, Vec}
+use Rattle.std.specs.Prelude.{ℕ, Option, None, List, [], Result, Ok, Err, ℤ, pos, option_map, Vec}
 use Rattle.std.specs.Global.{Global}
 use Rattle.process_memory.specs.Memory.{Memory, Found, Fault}
 use Rattle.py_fields.specs.declared.layout.Layout.{Layout}

@@ -1,5 +1,5 @@
 -- How a thread's state and its id are shown.
-use Rattle.std.specs.Prelude.{ℕ, ◌++◌, Bool, true, false, Option, Some, None, List, codes, decimal, if◌then◌else◌}
+use Rattle.std.specs.Prelude.{ℕ, ◌++◌, Bool, true, false, Option, Some, None, List, codes, decimal}
 use Rattle.std.specs.Fmt.{digits}
 
 -- a thread's state: whether it ran, and whether it held the interpreter lock

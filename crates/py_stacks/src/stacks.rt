@@ -99,7 +99,8 @@ pub fn get_stack_traces<P: ProcessMemory>(
     ensures bound { (P.seen process.new).reads ≤ (P.seen process.old).reads
         + stacks_bound (asked_by config.entry) layout.now (byte_at (P.seen process.old).pieces) interpreter }
     // no line and no local is read
-    ensures details { details_cost (asked_by config.entry) layout.now (byte_at (P.seen process.old).pieces) interpreter ≡ 0 }
+    ensures details { details_cost (asked_by config.entry) layout.now (byte_at (P.seen process.old).pieces) interpreter
+        ≡ 0 }
     // whatever the memory holds, as cyclic chains
     ensures most { (P.seen process.new).reads ≤ (P.seen process.old).reads + (3 + 4096 * (2 + 6 * 16384)) }
 {

@@ -120,7 +120,8 @@ pub(crate) fn read_traces<P: ProcessMemory>(
 ) -> Result<Vec<StackTrace>, StackError>
     requires sound { IsSound layout.now }
     ensures { ReadsBy fault_of (λ m. traces_cost asked layout.now m interpreter)
-        (P.seen process.old) (P.seen process.new) (λ m. traces_at asked layout.now m interpreter) (traces_of_result result) }
+        (P.seen process.old) (P.seen process.new)
+        (λ m. traces_at asked layout.now m interpreter) (traces_of_result result) }
 {
     let head = word_past(process, interpreter, layout.interpreter.threads as u64)?;
     walk_threads(alloc, process, layout, asked, head)
