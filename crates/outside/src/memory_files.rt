@@ -1,5 +1,5 @@
 //! Files in memory.
-ghost use Rattle.std.specs.Prelude.{◌≡◌, ◌≢◌, ◌++◌, ◌≤◌, ◌<◌, ◌^◌, ◌⊎◌, ℕ, length, option_map, MatchResult, IfOk, Some, IsErrOf, Ok, Err};
+ghost use Rattle.std.specs.Prelude.{◌≡◌, ◌≢◌, ◌++◌, ◌≤◌, ◌<◌, ◌⊎◌, length, option_map, MatchResult, IfOk, Some, IsErrOf, Ok, Err};
 ghost use Rattle.outside.specs.Files.{Gives, HasRead, HeldFiles, IsTooLong, bytes_of, entries, failed_name, file_answer, file_limit, gained, held_seen, is_listed, unread_files};
 
 use crate::files::FILE_LIMIT;

@@ -1,5 +1,5 @@
 //! A stream into memory.
-ghost use Rattle.std.specs.Prelude.{◌≡◌, ◌≤◌, ◌+◌, ◌++◌, ◌↔◌, ℕ, IsOk, IfOk, Some, OnOk, OnErr, length, vec_capacity, vec_len};
+ghost use Rattle.std.specs.Prelude.{◌≡◌, ◌≤◌, ◌+◌, ◌++◌, ◌↔◌, IsOk, IfOk, Some, OnOk, OnErr, vec_capacity, vec_len};
 ghost use Rattle.outside.specs.Counts.{Rose};
 ghost use Rattle.outside.specs.Streams.{AppendsFront, Fits, HasWritten, HeldStream, empty_stream, failing_at, stream_seen};
 

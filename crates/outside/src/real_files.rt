@@ -1,5 +1,5 @@
 //! The files of the system.
-ghost use Rattle.std.specs.Prelude.{◌≡◌, ◌≤◌, ◌<◌, ◌+◌, ◌^◌, ℕ, None, IfErr, IfOk, IfSome, IsErrOf, MatchResult, OnOk, drop, take, vec_len};
+ghost use Rattle.std.specs.Prelude.{◌≡◌, ◌≤◌, ◌<◌, ◌+◌, ◌^◌, None, IfErr, IfOk, IfSome, IsErrOf, MatchResult, OnOk, drop, take, vec_len};
 ghost use Rattle.std.specs.Io.KnownBytes.{Consumes, IsAtEnd, Keeps};
 ghost use Rattle.outside.specs.Files.{RoseByMore, file_limit, untouched_files};
 

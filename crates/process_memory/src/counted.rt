@@ -1,5 +1,5 @@
 //! A memory whose reads are counted.
-ghost use Rattle.std.specs.Prelude.{◌≡◌, ℕ, ◌+◌, ◌<◌, length, OnErr, IsErrOf, IsTrue};
+ghost use Rattle.std.specs.Prelude.{◌≡◌, ◌+◌, ◌<◌, length, OnErr, IsErrOf, IsTrue};
 ghost use Rattle.process_memory.specs.Seen.{OneRead, with_bytes, items_of};
 ghost use Rattle.process_memory.specs.Layers.{counted};
 

@@ -1,5 +1,5 @@
 //! Reads over pieces of memory, stretch by stretch.
-ghost use Rattle.std.specs.Prelude.{◌≡◌, ℕ, ◌+◌, ◌<◌, ◌≤◌, ◌^◌, List, length, slice_get, slice_index, EachIndex, IsSome, IfSome, option_map, Some, None, OnErr, IsErrOf};
+ghost use Rattle.std.specs.Prelude.{◌≡◌, ℕ, ◌+◌, ◌<◌, ◌≤◌, List, length, slice_get, slice_index, EachIndex, IsSome, IfSome, option_map, Some, None, OnErr, IsErrOf};
 ghost use Rattle.std.specs.Bool.{OnTrue, OnFalse};
 ghost use Rattle.process_memory.specs.Memory.{Region, byte_at, record_at};
 ghost use Rattle.process_memory.specs.Seen.{Answers, fault_of, with_bytes};

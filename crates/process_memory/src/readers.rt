@@ -1,5 +1,5 @@
 //! Readers of one record or one word.
-ghost use Rattle.std.specs.Prelude.{◌≡◌, ℕ, ◌+◌, ◌<◌, ◌≤◌, ◌^◌, length, OnErr, IfOk, IsErrOf, IsTrue, vec_len};
+ghost use Rattle.std.specs.Prelude.{◌≡◌, ◌+◌, ◌<◌, ◌^◌, length, OnErr, IfOk, IsErrOf, IsTrue, vec_len};
 ghost use Rattle.process_memory.specs.Memory.{record_at, word_at};
 ghost use Rattle.process_memory.specs.Seen.{with_bytes, items_of, Reads, fault_of};
 

@@ -1,5 +1,5 @@
 //! A memory that keeps the ranges that were read.
-ghost use Rattle.std.specs.Prelude.{◌≡◌, [], List, Some};
+ghost use Rattle.std.specs.Prelude.{◌≡◌, [], Some};
 ghost use Rattle.process_memory.specs.Layers.{recorded};
 
 use crate::{ProcessMemory, ReadFault, Span};
