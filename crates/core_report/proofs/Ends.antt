@@ -1,5 +1,5 @@
 -- What the end of a run tells of its status.
-use Rattle.std.proofs.Common.{◌≡◌, ◌≢◌, ◌⊎◌, ◌↔◌, ℕ, List, [], ◌∷◌, ◌++◌, length, Option, None, Ok, Err, refl, sym, ap, subst, ◌∙◌, arith, inl, inr, ⊎_elim, length-append}
+use Rattle.std.proofs.Common.{◌≡◌, ◌≢◌, ◌≤◌, ◌⊎◌, ◌↔◌, ℕ, List, [], ◌∷◌, ◌++◌, length, Option, None, Ok, Err, refl, sym, ap, subst, ◌∙◌, arith, inl, inr, ⊎_elim, length-append}
 use Rattle.std.specs.Prelude.{IsSome}
 use Rattle.std.specs.List.{concat}
 use Rattle.std.specs.Io.KnownBytes.{Appends}
@@ -10,10 +10,15 @@ use Rattle.outside.specs.Streams.{SinkSeen}
 use Rattle.core_words.specs.Words.{Command}
 use Rattle.core_texts.specs.Parts.{line}
 use Rattle.core_texts.specs.Says.{Says}
+use Rattle.py_layout.specs.declared.error.LayoutError.{LayoutError}
+use Rattle.py_layout.specs.declared.error.LayoutError.TheVariants as layout
+use Rattle.py_process.specs.declared.core_error.CoreError.{CoreError}
+use Rattle.py_process.specs.declared.core_error.CoreError.TheVariants as core
 use Rattle.core_report.specs.declared.cause.Cause.{Cause}
+use Rattle.core_report.specs.declared.cause.Cause.TheVariants.{Core, Layouts, OutOfMemory}
 use Rattle.core_report.specs.declared.trouble.Trouble.{Trouble}
 use Rattle.core_report.specs.declared.trouble.Trouble.TheVariants.{Cause as Caused, Words, File, Write}
-use Rattle.core_report.specs.Outcome.{IsFaultless, IsOutcome, Outcome, cause_status, outcome_status}
+use Rattle.core_report.specs.Outcome.{IsFaultless, IsOutcome, Outcome, cause_status, core_status, layouts_status, outcome_status}
 use Rattle.core_report.specs.Run.{ComesTo, End, HasEnded, Ran, Reaches, SaysEnd, Tells, cut, end_at, end_parts, printed, refused, status_of, stopped, unread}
 use Rattle.core_report.proofs.Turns.{same_contents}
 use Rattle.core_report.proofs.Agreement.{cases_five, cause_own, no_cause, outcomes_agree}
@@ -46,6 +51,26 @@ silent_of old new (stopped cause) said is = absurd ((cause_own cause).not_0 is)
 silent_of old new refused said is = absurd (omega (arith, is))
 silent_of old new (unread name why) said is = absurd (omega (arith, is))
 silent_of old new cut said is = absurd (omega (arith, is))
+
+core_within : (e : CoreError) → core_status e ≤ 6
+core_within core.OutOfMemory = omega arith
+core_within _ = omega arith
+
+layouts_within : (e : LayoutError) → layouts_status e ≤ 6
+layouts_within layout.OutOfMemory = omega arith
+layouts_within _ = omega arith
+
+cause_within : (c : Cause) → cause_status c ≤ 6
+cause_within (Core e) = core_within e
+cause_within (Layouts e) = layouts_within e
+cause_within OutOfMemory = omega arith
+
+pub status_within : (end : End) → status_of end ≤ 6
+status_within printed = omega arith
+status_within (stopped cause) = cause_within cause
+status_within refused = omega arith
+status_within (unread name why) = omega arith
+status_within cut = omega arith
 
 module _ (asked : Option Command) (r : Ran) where
   pub printed_of : (end : End) → HasEnded asked r end → status_of end ≡ 0 → (text : List ℕ) × Reaches asked r.files.told (Ok text) × Appends r.out.written r.out_after.written text

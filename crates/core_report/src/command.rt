@@ -1,5 +1,5 @@
 //! The top call.
-ghost use Rattle.std.specs.Prelude.{◌≡◌, ◌≢◌, ◌↔◌, ◌⊎◌, List, ℕ, None, Ok, Err};
+ghost use Rattle.std.specs.Prelude.{◌≡◌, ◌≢◌, ◌≤◌, ◌↔◌, ◌⊎◌, List, ℕ, None, Ok, Err};
 ghost use Rattle.std.specs.Io.KnownBytes.{Appends};
 ghost use Rattle.outside.specs.Counts.{Rose};
 ghost use Rattle.core_words.specs.Words.{Command as Asked, command_of, texts};
@@ -75,7 +75,7 @@ fn conclude<F: Files, S: Sink, E: Sink>(
 ///
 /// The words are those of `core_words::read_words`, with no program's name before them. They are judged,
 /// the files that they name are read in the order in which `core_words::Command` has them, the layouts are
-/// checked, the work is done, and its whole text is written to `out` by one call. Under each status but 0
+/// checked, the work is done, and its whole text is written to `out`. Under each status but 0
 /// one line, `pystacks: ` and the cause, is written to `err`, and a fault of `err` changes no status.
 ///
 /// - 0: the whole text was written.
@@ -97,6 +97,8 @@ pub fn run<F: Files, S: Sink, E: Sink>(
         (ran (F.seen files.old) (F.seen files.new) (S.seen out.old) (S.seen out.new))
         (E.seen err.old) (E.seen err.new) result }
 
+    ensures statuses { result ≤ 6 }
+
     // status 0 comes only after the whole text of what the command comes to was written
     ensures printed { result ≡ 0 → (text : List ℕ)
         × Reaches (command_of (texts words.now)) (F.seen files.old).told (Ok text)
@@ -106,6 +108,7 @@ pub fn run<F: Files, S: Sink, E: Sink>(
 
     ensures refused { (result ≡ 2) ↔ (command_of (texts words.now) ≡ None) }
     ensures unread { (result ≡ 3) ↔ ((F.seen files.new).failed ≢ (F.seen files.old).failed) }
+    ensures all_read { result ≢ 3 → (F.seen files.new).failed ≡ (F.seen files.old).failed }
     ensures told { (F.seen files.new).told ≡ (F.seen files.old).told }
 
     // where the files tell, each cause has its status, want of memory aside

@@ -1,9 +1,21 @@
-use Rattle.std.proofs.Common.{◌≡◌, ◌↔◌, ◌≢◌, ◌⊎◌, ◌∙◌, sym, subst, None}
+use Rattle.std.proofs.Common.{◌≡◌, ◌↔◌, ◌≢◌, ◌≤◌, ◌⊎◌, ◌∙◌, sym, subst, None}
 use Rattle.core_words.specs.Words.{command_of, texts}
 use Rattle.core_report.specs.Outcome.{cause_status}
 use Rattle.core_report.specs.Run.{ran}
-use Rattle.core_report.proofs.Ends.{complete_of, nothing_out_of, only_of, printed_of, refused_of, silent_of, unread_of}
+use Rattle.core_report.proofs.Ends.{all_read_of, complete_of, nothing_out_of, only_of, printed_of, refused_of, silent_of, status_within, unread_of}
 use Rattle.core_report.proofs.command.run.Goals as goal
+
+pub returns-clause-statuses : goal.returns-clause-statuses
+returns-clause-statuses g c =
+    let right = c.conclude.ensures.right in
+    subst (λ n. n ≤ 6) (sym right.is) (status_within right.end)
+
+pub returns-clause-all_read : goal.returns-clause-all_read
+returns-clause-all_read g c ne =
+    let asked = command_of (texts c.args.words.now) in
+    let r = ran (g.F.Files.seen c.args.files.now) (g.F.Files.seen c.conclude.new.files) (g.S.Sink.seen c.args.out.now) (g.S.Sink.seen c.conclude.new.out) in
+    let right = c.conclude.ensures.right in
+    all_read_of asked r right.end right.ended (λ is. ne (right.is ∙ is))
 
 pub returns-clause-printed : goal.returns-clause-printed
 returns-clause-printed g c is =
