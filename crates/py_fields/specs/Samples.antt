@@ -30,10 +30,28 @@ sample_layout = record {
   thread = record { size = 64; next = 8; interp = 16; id = 32; frame = 24; native_id = None };
   cframe = None;
   frame = record { size = 64; code = 16; back = 24; instr = 32; entry = None; locals = 56; code_tag_bits = 0 };
-  code = record { size = 64; argcount = 16; nlocals = 20; first_line = 24; filename = 32; name = 40; table = 48;
-      varnames = 56; start = None };
-  string = record { size = 72; length = 16; state = Some 32; pointer = Some 64; short_at = 48; long_at = Some 72;
-      kind_shift = Some 2; compact_bit = Some 5; ascii_bit = Some 6 };
+  code = record {
+    size = 64;
+    argcount = 16;
+    nlocals = 20;
+    first_line = 24;
+    filename = 32;
+    name = 40;
+    table = 48;
+    varnames = 56;
+    start = None;
+  };
+  string = record {
+    size = 72;
+    length = 16;
+    state = Some 32;
+    pointer = Some 64;
+    short_at = 48;
+    long_at = Some 72;
+    kind_shift = Some 2;
+    compact_bit = Some 5;
+    ascii_bit = Some 6;
+  };
   bytes = record { size = 32; length = 16; at = 32 };
   tuple = record { size = 24; count = 16; at = 24 };
   list = record { size = 40; count = 16; items = 24 };

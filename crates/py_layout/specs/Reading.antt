@@ -125,8 +125,10 @@ long_of ms = record {
 }
 
 abbrev pub value_of : Members → List ℕ → ValueAt
-value_of ms group = record { size = number_at ms (Some group) (codes "size");
-    value = number_at ms (Some group) (codes "value") }
+value_of ms group = record {
+  size = number_at ms (Some group) (codes "size");
+  value = number_at ms (Some group) (codes "value");
+}
 
 abbrev pub dict_of : Members → DictAt
 dict_of ms = record {

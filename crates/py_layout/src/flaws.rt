@@ -123,7 +123,7 @@ fn unknown_in<'a>(
 ) -> Option<Flaw<'a>>
     ensures { option_map flaw_path result
         ≡ option_map (path (option_copied group.entry))
-            (unknown_in families (map key_of keys.now) (option_copied group.entry) (table_view table.now)) }
+        (unknown_in families (map key_of keys.now) (option_copied group.entry) (table_view table.now)) }
 {
     match unknown_name(families, keys, group, table) {
         Some(name) => Some(Flaw {

@@ -96,7 +96,7 @@ abbrev pub metadata_front : List ℕ → Option (Option (List ℕ) × List ℕ)
 metadata_front [] = Some (None, [])
 metadata_front (plus ∷ rest) =
     if plus == 43 then runs_front (take (metadata_len rest) rest) (drop (metadata_len rest) rest)
-        else Some (None, plus ∷ rest)
+    else Some (None, plus ∷ rest)
 
 abbrev pub borrowed : Option (Bor (List ℕ)) → Option (List ℕ)
 borrowed None = None
@@ -117,8 +117,13 @@ has_end (space ∷ rest) = space == 32 && is_no_newline (decoded rest).char
 
 -- a version of these parts
 abbrev pub version_by : ℕ → ℕ → ℕ → List ℕ → Option (List ℕ) → Version
-version_by major minor patch flags metadata = record { major = major; minor = minor; patch = patch;
-    release_flags = flags; build_metadata = metadata }
+version_by major minor patch flags metadata = record {
+  major = major;
+  minor = minor;
+  patch = patch;
+  release_flags = flags;
+  build_metadata = metadata;
+}
 
 abbrev pub spelled_last : ℕ → ℕ → ℕ → List ℕ → Option (List ℕ) × List ℕ → Option Version
 spelled_last major minor patch flags end = if has_end end.1 then Some (version_by major minor patch flags end.0)
@@ -127,7 +132,7 @@ spelled_last major minor patch flags end = if has_end end.1 then Some (version_b
 unfoldable pub spelled_after : ℕ → ℕ → ℕ → List ℕ → Option Version
 spelled_after major minor patch rest =
     option_and_then (spelled_last major minor patch (take (flags_len rest) rest))
-        (metadata_front (drop (flags_len rest) rest))
+    (metadata_front (drop (flags_len rest) rest))
 
 -- the version that some bytes begin with
 unfoldable pub spelled : List ℕ → Option Version
