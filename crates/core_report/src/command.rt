@@ -76,7 +76,9 @@ fn conclude<F: Files, S: Sink, E: Sink>(
 /// The words are those of `core_words::read_words`, with no program's name before them. They are judged,
 /// the files that they name are read in the order in which `core_words::Command` has them, the layouts are
 /// checked, the work is done, and its whole text is written to `out`. Under each status but 0
-/// one line, `pystacks: ` and the cause, is written to `err`, and a fault of `err` changes no status.
+/// one line, `pystacks: ` and the cause, is written to `err`, and a fault of `err` changes no status. That
+/// no other file is asked for is proved of reads that fail, which leave their name; no clause says by how
+/// many calls `out` is written.
 ///
 /// - 0: the whole text was written.
 /// - 1: the core gives no stacks.
