@@ -8,11 +8,18 @@
 mod core_dump;
 mod dump_error;
 #[cfg(test)]
+mod image_tests;
+mod images;
+mod mmap;
+mod subrange;
+#[cfg(test)]
 mod tests;
 mod view;
 
 pub use core_dump::CoreDump;
 pub use dump_error::DumpError;
+pub use images::Images;
+pub use mmap::{Mmap, read_elf_build_id_from_mmap};
 pub use outside::{
     FileFault, Files, MemoryFiles, MemorySink, RealFiles, RealSink, Sink, SinkFault,
 };
@@ -20,4 +27,5 @@ pub use process_memory::{
     Counted, Part, Piece, ProcessMemory, ReadFault, Recorder, Span, record, record_in, record_wide,
     word, word_past, word_wide,
 };
+pub use subrange::is_subrange;
 pub use view::View;
