@@ -5,14 +5,20 @@
 //! are named on.
 #![tactic(auto)]
 
+mod contents;
 mod core_dump;
 mod dump_error;
+mod file_table;
+mod maps;
+mod notes;
+mod records;
 #[cfg(test)]
 mod tests;
 mod view;
 
 pub use core_dump::CoreDump;
 pub use dump_error::DumpError;
+pub use maps::{ContainsAddr, CoreMapRange};
 pub use outside::{
     FileFault, Files, MemoryFiles, MemorySink, RealFiles, RealSink, Sink, SinkFault,
 };
@@ -20,4 +26,5 @@ pub use process_memory::{
     Counted, Part, Piece, ProcessMemory, ReadFault, Recorder, Span, record, record_in, record_wide,
     word, word_past, word_wide,
 };
+pub use records::{elf_prpsinfo, elf_prstatus};
 pub use view::View;
