@@ -1,12 +1,21 @@
 //! A core dump: the file of a dead process's memory.
-ghost use Rattle.std.specs.Prelude.{◌≡◌, ◌≢◌, List, ℕ, IfOk, IfErr, Err};
-ghost use Rattle.image_memory.specs.Cores.{IsCore, Refuses};
+ghost use Rattle.std.specs.Prelude.{◌≡◌, ◌⊎◌, List, ℕ, IfOk, IfErr, Err, Option, option_copied};
+ghost use Rattle.elf64_core.specs.Header.{machine_of};
+ghost use Rattle.image_memory.specs.Contents.{AreContents};
+ghost use Rattle.image_memory.specs.Cores.{IsCore, IsEarly, Refuses};
+ghost use Rattle.image_memory.specs.Maps.{AreMaps, in_core};
+ghost use Rattle.image_memory.specs.Notes.{AreStatuses, IsProcess};
+ghost use Rattle.image_memory.specs.Pieces.{memory_of};
 ghost use Rattle.image_memory.specs.declared.dump_error.DumpError.{DumpError as Refusal};
-ghost use Rattle.image_memory.specs.Pieces.{loads_of, memory_of};
+ghost use Rattle.image_memory.specs.declared.maps.CoreMapRange.{CoreMapRange as Map};
+ghost use Rattle.image_memory.specs.declared.records.elf_prstatus.{elf_prstatus as Status};
+ghost use Rattle.image_memory.specs.declared.records.elf_prpsinfo.{elf_prpsinfo as Process};
 ghost use Rattle.process_memory.specs.Layers.{plain};
 
-use crate::{DumpError, View};
-use elf64_core::{Elf64, LOAD, Segment};
+use crate::contents::{Contents, read_core};
+use crate::maps::holds_addr;
+use crate::{ContainsAddr, CoreMapRange, DumpError, View, elf_prpsinfo, elf_prstatus};
+use elf64_core::Machine;
 use process_memory::ProcessMemory;
 use std::alloc::Global;
 use std::marker::Model;
@@ -17,7 +26,7 @@ use std::marker::Model;
 #[derive(Drop)]
 pub struct CoreDump {
     bytes: Vec<u8>,
-    loads: Vec<Segment>,
+    contents: Contents,
 }
 
 impl Model for CoreDump {
@@ -25,23 +34,7 @@ impl Model for CoreDump {
 
     ghost view = { λ c. c.bytes.items };
 
-    ghost invariant = { λ c. IsCore c.bytes.items × (c.loads.items ≡ loads_of c.bytes.items) };
-}
-
-/// The load segments of a core, in table order.
-fn load_segments(alloc: Global, bytes: &[u8]) -> Result<Vec<Segment>, DumpError>
-    ensures right { IfErr result (Refuses bytes.now) }
-    ensures only { (error : Refusal) → error ≢ DumpError.OutOfMemory → Refuses bytes.now error
-        → result ≡ Err error }
-    ensures core { IfOk result (λ loads. IsCore bytes.now) }
-    ensures loads { IfOk result (λ loads. loads.items ≡ loads_of bytes.now) }
-{
-    let elf = Elf64::parse(bytes)?;
-    let loads = elf
-        .segments()
-        .filter(|segment| segment.kind == LOAD)
-        .collect(alloc)?;
-    Ok(loads)
+    ghost invariant = { λ c. AreContents c.bytes.items c.contents };
 }
 
 impl CoreDump {
@@ -49,16 +42,53 @@ impl CoreDump {
     ///
     /// `NotElf64` comes exactly where there are no 64 bytes, or the first six are not 7f 45 4c 46 02 01.
     /// `BadHeader` comes exactly where the header is accepted and the program headers are not: see
-    /// `Elf64::parse`. Else the one error is want of memory.
+    /// `Elf64::parse`. `NoNotes` comes exactly where these are accepted and none is that of a note segment.
+    /// These come before any memory is taken. Else `BadNote` comes only where the bytes of a note segment
+    /// are no notes, a status record has less than 112 bytes or a process record less than 136, or a file
+    /// table is shorter, or has fewer names, than its count says; and there no other error comes but want of
+    /// memory. Else the one error is want of memory.
     pub fn new(alloc: Global, bytes: Vec<u8>) -> Result<CoreDump, DumpError>
         ensures right { IfErr result (Refuses bytes.items) }
-        ensures only { (error : Refusal) → error ≢ DumpError.OutOfMemory → Refuses bytes.items error
-            → result ≡ Err error }
+        ensures early { (error : Refusal) → IsEarly error → Refuses bytes.items error → result ≡ Err error }
+        ensures only { (error : Refusal) → Refuses bytes.items error
+            → (result ≡ Err error) ⊎ (result ≡ Err DumpError.OutOfMemory) ⊎ (error ≡ DumpError.OutOfMemory) }
         ensures same { IfOk result (λ core. core ≡ bytes.items) }
         ensures core { IfOk result (λ core. IsCore bytes.items) }
     {
-        let loads = load_segments(alloc, &bytes)?;
-        Ok(CoreDump { bytes, loads })
+        let contents = read_core(alloc, &bytes)?;
+        Ok(CoreDump { bytes, contents })
+    }
+
+    /// The maps: the load segments in table order, each with the name that the file tables give last for its
+    /// start, over all tables in order, if one does.
+    pub fn maps(&self) -> &Vec<CoreMapRange>
+        ensures are { AreMaps self.now result.now.items }
+        ensures only { (maps : List Map) → AreMaps self.now maps → maps ≡ result.now.items }
+    {
+        &self.contents.maps
+    }
+
+    /// The last process record, if there is one.
+    pub fn psinfo(&self) -> Option<&elf_prpsinfo>
+        ensures is { IsProcess self.now (option_copied result) }
+        ensures only { (process : Option Process) → IsProcess self.now process → process ≡ option_copied result }
+    {
+        self.contents.process.as_ref()
+    }
+
+    /// The status records, in order.
+    pub fn status(&self) -> &[elf_prstatus]
+        ensures are { AreStatuses self.now result.now }
+        ensures only { (statuses : List Status) → AreStatuses self.now statuses → statuses ≡ result.now }
+    {
+        &self.contents.statuses
+    }
+
+    /// The machine that the header names.
+    pub fn machine(&self) -> Machine
+        ensures { result ≡ machine_of self.now }
+    {
+        self.contents.machine
     }
 
     /// The memory of the core: one piece for each load segment, in table order, of the first bytes that
@@ -66,6 +96,18 @@ impl CoreDump {
     pub fn view<'a>(&'a self) -> View<'a>
         ensures { ⟦<View<'a> as ProcessMemory>⟧.seen result ≡ plain (memory_of self.now) }
     {
-        View::new(&self.bytes, &self.loads)
+        View::new(&self.bytes, &self.contents.loads)
+    }
+}
+
+/// The addresses that lie in a map, whether or not the core has their bytes.
+impl ContainsAddr for CoreDump {
+    ghost contains = { in_core };
+
+    fn contains_addr(&self, addr: u64) -> bool {
+        self.contents
+            .loads
+            .iter()
+            .any(|segment| holds_addr(segment, addr))
     }
 }

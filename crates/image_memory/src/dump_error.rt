@@ -4,7 +4,7 @@ ghost use Rattle.image_memory.specs.declared.dump_error.DumpError.TheVariants.{O
 ghost use Rattle.std.specs.Prelude.{◌≡◌};
 
 use elf64_core::ElfError;
-use std::alloc::AllocError;
+use std::alloc::{AllocError, AllocFailed};
 use thiserror::Error;
 
 /// Why a file is not read as a core dump, in the order in which the causes are looked for.
@@ -45,6 +45,14 @@ impl From<AllocError> for DumpError {
     ghost from_gives = { λ _ refusal. refusal ≡ OutOfMemory };
 
     fn from(_: AllocError) -> Self {
+        DumpError::OutOfMemory
+    }
+}
+
+impl<T: Drop> From<AllocFailed<T>> for DumpError {
+    ghost from_gives = { λ _ refusal. refusal ≡ OutOfMemory };
+
+    fn from(_: AllocFailed<T>) -> Self {
         DumpError::OutOfMemory
     }
 }

@@ -5,12 +5,17 @@
 //! are named on.
 #![tactic(auto)]
 
+mod contents;
 mod core_dump;
 mod dump_error;
+mod file_table;
 #[cfg(test)]
 mod image_tests;
 mod images;
+mod maps;
 mod mmap;
+mod notes;
+mod records;
 mod subrange;
 #[cfg(test)]
 mod tests;
@@ -19,6 +24,7 @@ mod view;
 pub use core_dump::CoreDump;
 pub use dump_error::DumpError;
 pub use images::Images;
+pub use maps::{ContainsAddr, CoreMapRange};
 pub use mmap::{Mmap, read_elf_build_id_from_mmap};
 pub use outside::{
     FileFault, Files, MemoryFiles, MemorySink, RealFiles, RealSink, Sink, SinkFault,
@@ -27,5 +33,6 @@ pub use process_memory::{
     Counted, Part, Piece, ProcessMemory, ReadFault, Recorder, Span, record, record_in, record_wide,
     word, word_past, word_wide,
 };
+pub use records::{elf_prpsinfo, elf_prstatus};
 pub use subrange::is_subrange;
 pub use view::View;

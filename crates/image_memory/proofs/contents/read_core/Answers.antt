@@ -1,0 +1,43 @@
+use Rattle.std.proofs.Common.{◌≡◌, ℕ, List, [], ◌∷◌, map, ap, sym, subst, ◌∙◌, refl}
+use Rattle.std.specs.Prelude.{option_map}
+use Rattle.std.specs.BTreeMap.{get}
+use Rattle.std.specs.Ordering.{nat_cmp}
+use Rattle.elf64_core.specs.Header.{machine_of}
+use Rattle.elf64_core.specs.declared.segment.Segment.{Segment}
+use Rattle.image_memory.specs.Contents.{NotesSay}
+use Rattle.image_memory.specs.FileTables.{entry_of}
+use Rattle.image_memory.specs.Maps.{entry_for, map_by, named_by, place_by, placed_by}
+use Rattle.image_memory.specs.Pieces.{loads_of}
+use Rattle.image_memory.proofs.Lists.{map-same}
+use Rattle.image_memory.proofs.contents.read_core.Goals as goal
+
+pub returns-clause-are : goal.returns-clause-are
+returns-clause-are c =
+    let bytes = c.args.bytes.now in
+    let said = c.in_ok-said.said in
+    let same : c.in_ok-elf.elf ≡ bytes = c.in_ok-elf.ensures.same in
+    let noted = c.in_ok-elf.ensures.noted in
+    let entries = map entry_of said.entries.items in
+    let says : NotesSay bytes said.statuses.items said.process entries = subst (λ bs. NotesSay bs said.statuses.items said.process entries) same c.in_ok-said.ensures.say in
+    let loads : c.in_ok-loads.loads.items ≡ loads_of bytes = c.in_ok-loads.ensures ∙ ap loads_of same in
+    let named = λ (s : Segment). ap (λ e. named_by e s) (c.in_ok-last.ensures s.addr) in
+    let placed = λ (s : Segment). ap placed_by (c.in_ok-last.ensures s.addr) in
+    record {
+      core = record { accepted = noted.accepted; noted = noted.noted; notes = says.notes; entries = entries; found = says.found };
+      machine_is = c.machine.ensures ∙ ap machine_of same;
+      loads_are = loads;
+      maps_are = record {
+        notes = says.notes;
+        entries = entries;
+        found = says.found;
+        says = c.in_ok-maps.ensures ∙ map-same _ (map_by entries) _ named ∙ ap (map (map_by entries)) (c.deref.ensures.value ∙ loads);
+      };
+      places_are = record {
+        notes = says.notes;
+        entries = entries;
+        found = says.found;
+        says = c.in_ok-places.ensures ∙ map-same _ (place_by entries) _ placed ∙ ap (map (place_by entries)) (c.deref-2.ensures.value ∙ loads);
+      };
+      statuses_are = record { notes = says.notes; entries = entries; found = says.found; says = says.statuses_are };
+      process_is = record { notes = says.notes; entries = entries; found = says.found; says = says.process_is };
+    }

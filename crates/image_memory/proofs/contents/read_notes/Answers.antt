@@ -1,0 +1,49 @@
+use Rattle.std.proofs.Common.{◌≡◌, ◌++◌, ℕ, List, Bool, true, false, reverse, ap, sym, subst, ◌∙◌, ⊎_elim, map, Err}
+use Rattle.std.specs.Prelude.{All, IsTrue, filter, filter_map, find, option_and_then}
+use Rattle.std.proofs.lemmas.List.Elements.{All-map}
+use Rattle.std.proofs.lemmas.Result.{err_from_is_err_and}
+use Rattle.elf64_core.specs.Notes.{Noted, noted}
+use Rattle.image_memory.specs.FileTables.{Entry, entry_of}
+use Rattle.image_memory.specs.Notes.{AreCoreNotes, IsWhole, NotesOf, TablesSay, is_of_kind, is_table, note_segments, process_kind, process_of, status_of}
+use Rattle.image_memory.specs.declared.dump_error.DumpError.TheVariants.{BadNote}
+use Rattle.image_memory.proofs.Lists.{All-unmap, filter_map-map, last-map}
+use Rattle.image_memory.proofs.Noted.{NotesOf-once}
+use Rattle.image_memory.proofs.Refusals.{error_is}
+use Rattle.image_memory.proofs.contents.read_notes.Goals as goal
+
+false_true : (b : Bool) → b ≡ false → IsTrue b → ⊥
+false_true b is h = absurd (cc)
+
+pub returns-then-not-are_whole-clause-bad : goal.returns-then-not-are_whole-clause-bad
+returns-then-not-are_whole-clause-bad c = λ _ notes entries h.
+    let items = c.in_ok-notes.notes.items in
+    let same = NotesOf-once c.args.elf.now (note_segments c.args.elf.now) notes (map noted items) h.together c.in_ok-notes.ensures.notes in
+    let whole : All IsWhole (map noted items) = subst (All IsWhole) same h.whole in
+    let each = subst (All (λ note. IsWhole (noted note))) (sym c.deref.ensures.value) (All-unmap IsWhole noted items whole) in
+    false_true c.are_whole.result c.if-not-are_whole.true (c.are_whole.ensures.1 each)
+
+pub returns-in_err-entries-clause-bad : goal.returns-in_err-entries-clause-bad
+returns-in_err-entries-clause-bad c = λ is notes entries h.
+    let items = c.in_ok-notes.notes.items in
+    let p = err_from_is_err_and c.from_residual-in_err-entries.result c.from_residual-in_err-entries.ensures.1 in
+    let same = NotesOf-once c.args.elf.now (note_segments c.args.elf.now) notes (map noted items) h.together c.in_ok-notes.ensures.notes in
+    c.in_err-entries.ensures.bad (ap (λ x. Err x) (sym p.2 ∙ error_is c.from_residual-in_err-entries.result p.0 BadNote p.1 is)) entries
+    (subst (λ ns. TablesSay (filter is_table ns) entries) same h.tables)
+
+pub returns-clause-say : goal.returns-clause-say
+returns-clause-say c =
+    let items = c.in_ok-notes.notes.items in
+    let each = subst (All (λ note. IsWhole (noted note))) c.deref.ensures.value (c.are_whole.ensures.0 c.if-not-are_whole.false) in
+    record {
+      notes = map noted items;
+      found = record {
+        together = c.in_ok-notes.ensures.notes;
+        whole = All-map IsWhole noted items each;
+        tables = c.in_ok-entries.ensures.entries;
+      };
+      statuses_are = c.in_ok-statuses.ensures ∙ ap (filter_map (λ note. status_of (noted note))) c.deref-2.ensures.value
+          ∙ sym (filter_map-map status_of noted items);
+      process_is = c.last_process-process.ensures
+          ∙ ap (λ ns. option_and_then (λ note. process_of (noted note)) (find (λ note. is_of_kind process_kind (noted note)) (reverse ns))) c.deref-3.ensures.value
+          ∙ last-map process_of (is_of_kind process_kind) noted items;
+    }

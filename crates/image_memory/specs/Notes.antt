@@ -1,0 +1,105 @@
+-- The notes of a core, and what they say of the process. The types of notes and the places in them are those
+-- that Linux writes on 64-bit machines (`NT_PRSTATUS`, `NT_PRPSINFO` and `NT_FILE` of `elf.h`, and the records
+-- `elf_prstatus` and `elf_prpsinfo`). Which sizes are too short is this project's own rule: a record has to have
+-- all that is read of it.
+use Rattle.std.specs.Prelude.{◌≡◌, ℕ, ◌≤◌, nat_eq, nat_le, ◌&&◌, Bool, List, [], ◌∷◌, ◌++◌, length, reverse, map, All, filter, filter_map, find, slice_range, Option, Some, None, option_and_then, if◌then◌else◌, ℤ}
+use Rattle.std.specs.Int.{w32, w16, cast_signed}
+use Rattle.elf64_core.specs.Fields.{u32_in, u16_in}
+use Rattle.elf64_core.specs.Header.{note_kind, segments_of}
+use Rattle.elf64_core.specs.Notes.{Noted, AreNotes, bytes_of_range}
+use Rattle.elf64_core.specs.declared.segment.Segment.{Segment}
+use Rattle.image_memory.specs.FileTables.{Entry, IsFileTable}
+use Rattle.image_memory.specs.declared.records.elf_prstatus.{elf_prstatus}
+use Rattle.image_memory.specs.declared.records.elf_prpsinfo.{elf_prpsinfo}
+
+abbrev pub is_note : Segment → Bool
+is_note s = nat_eq s.kind note_kind
+
+-- the note segments of a core, in table order
+abbrev pub note_segments : List ℕ → List Segment
+note_segments bytes = filter is_note (segments_of bytes)
+
+-- the notes of some segments, in order: the bytes of each are its notes together
+abbrev pub NotesOf : List ℕ → List Segment → List Noted → Type 0
+NotesOf bytes [] notes = notes ≡ []
+NotesOf bytes (s ∷ ss) notes =
+    (own others : List Noted) × AreNotes (bytes_of_range bytes s.offset s.file_size) own
+    × NotesOf bytes ss others × (notes ≡ own ++ others)
+
+abbrev pub is_of_kind : ℕ → Noted → Bool
+is_of_kind kind note = nat_eq note.kind kind
+
+-- the types of status records, process records and file tables
+abbrev pub status_kind : ℕ
+status_kind = 1
+
+abbrev pub process_kind : ℕ
+process_kind = 3
+
+abbrev pub table_kind : ℕ
+table_kind = 0x46494c45
+
+-- a status record has 112 bytes at least, a process record 136
+pub record IsWhole (note : Noted) : Type 0 where
+  pub status : note.kind ≡ status_kind → 112 ≤ length note.desc
+  pub process : note.kind ≡ process_kind → 136 ≤ length note.desc
+
+-- the file tables among some notes, in order, have these entries together
+abbrev pub TablesSay : List Noted → List Entry → Type 0
+TablesSay [] entries = entries ≡ []
+TablesSay (table ∷ tables) entries =
+    (own others : List Entry) × IsFileTable table.desc own × TablesSay tables others × (entries ≡ own ++ others)
+
+abbrev pub is_table : Noted → Bool
+is_table = is_of_kind table_kind
+
+-- the notes of a core, and the entries of its file tables
+pub record AreCoreNotes (bytes : List ℕ) (notes : List Noted) (entries : List Entry) : Type 0 where
+  pub together : NotesOf bytes (note_segments bytes) notes
+  pub whole : All IsWhole notes
+  pub tables : TablesSay (filter is_table notes) entries
+
+-- the signed numbers of 4 and of 2 bytes at an offset
+abbrev pub i32_in : List ℕ → ℕ → ℤ
+i32_in bytes at = cast_signed w32 (u32_in bytes at)
+
+abbrev pub i16_in : List ℕ → ℕ → ℤ
+i16_in bytes at = cast_signed w16 (u16_in bytes at)
+
+-- what a status record says
+unfoldable pub status_in : List ℕ → elf_prstatus
+status_in desc = record { pr_cursig = i16_in desc 12; pr_pid = i32_in desc 32 }
+
+-- what a process record says
+unfoldable pub process_in : List ℕ → elf_prpsinfo
+process_in desc = record {
+  pr_pid = i32_in desc 24;
+  pr_fname = slice_range desc 40 56;
+  pr_psargs = slice_range desc 56 136;
+}
+
+-- what a note says, if it is a status record
+abbrev pub status_of : Noted → Option elf_prstatus
+status_of note = if is_of_kind status_kind note && nat_le 112 (length note.desc) then Some (status_in note.desc) else None
+
+-- what a note says, if it is a process record
+abbrev pub process_of : Noted → Option elf_prpsinfo
+process_of note = if is_of_kind process_kind note && nat_le 136 (length note.desc) then Some (process_in note.desc) else None
+
+-- what the last process record says, if there is one
+abbrev pub last_process : List Noted → Option elf_prpsinfo
+last_process notes = option_and_then process_of (find (is_of_kind process_kind) (reverse notes))
+
+-- the status records of a core, in order
+pub record AreStatuses (bytes : List ℕ) (statuses : List elf_prstatus) : Type 0 where
+  pub notes : List Noted
+  pub entries : List Entry
+  pub found : AreCoreNotes bytes notes entries
+  pub says : statuses ≡ filter_map status_of notes
+
+-- the last process record of a core, if there is one
+pub record IsProcess (bytes : List ℕ) (process : Option elf_prpsinfo) : Type 0 where
+  pub notes : List Noted
+  pub entries : List Entry
+  pub found : AreCoreNotes bytes notes entries
+  pub says : process ≡ last_process notes

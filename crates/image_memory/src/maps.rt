@@ -1,0 +1,165 @@
+//! The maps of a core.
+ghost use Rattle.std.specs.Prelude.{◌≡◌, ◌↔◌, ◌+◌, ℕ, Bool, IsTrue, IsSome, IfOk, List, map, option_map, option_copied};
+ghost use Rattle.std.specs.Ordering.{nat_cmp};
+ghost use Rattle.std.specs.BTreeMap.{get};
+ghost use Rattle.std.specs.Int.{IsBitSet};
+ghost use Rattle.image_memory.specs.FileTables.{entry_of};
+ghost use Rattle.image_memory.specs.Maps.{entry_for, named_by, placed_by, holds_addr, in_maps};
+
+use crate::file_table::{FileEntry, FilePlace};
+use elf64_core::{Name, Segment};
+use std::alloc::{AllocError, Global};
+use std::collections::BTreeMap;
+
+/// A map of a core: a load segment, and the name of the file that was mapped there, if the core tells one.
+#[derive(Debug, Drop)]
+pub struct CoreMapRange {
+    pathname: Option<Name>,
+    segment: Segment,
+}
+
+impl CoreMapRange {
+    /// How many bytes it has in memory.
+    pub fn size(&self) -> u64
+        ensures { result ≡ self.now.segment.mem_size }
+    {
+        self.segment.mem_size
+    }
+
+    /// The address at which it starts.
+    pub fn start(&self) -> u64
+        ensures { result ≡ self.now.segment.addr }
+    {
+        self.segment.addr
+    }
+
+    /// The name of its file, if the core tells one. It may be empty.
+    pub fn filename(&self) -> Option<&Name>
+        ensures { option_copied result ≡ self.now.pathname }
+    {
+        self.pathname.as_ref()
+    }
+
+    /// Whether its segment is executable: bit 0 of the flags is set.
+    pub fn is_exec(&self) -> bool
+        ensures { IsTrue result ↔ IsBitSet self.now.segment.flags 0 }
+    {
+        self.segment.flags & 1 != 0
+    }
+
+    /// Whether its segment is writable: bit 1 of the flags is set.
+    pub fn is_write(&self) -> bool
+        ensures { IsTrue result ↔ IsBitSet self.now.segment.flags 1 }
+    {
+        self.segment.flags & 2 != 0
+    }
+
+    /// Whether its segment is readable: bit 2 of the flags is set.
+    pub fn is_read(&self) -> bool
+        ensures { IsTrue result ↔ IsBitSet self.now.segment.flags 2 }
+    {
+        self.segment.flags & 4 != 0
+    }
+}
+
+/// A test of addresses.
+pub trait ContainsAddr {
+    /// Which addresses pass.
+    ghost contains: { Self → ℕ → Bool };
+
+    /// Whether an address passes.
+    fn contains_addr(&self, addr: u64) -> bool
+        ensures { result ≡ contains self.now addr };
+}
+
+/// Whether an address lies in a segment's memory.
+pub(crate) fn holds_addr(segment: &Segment, addr: u64) -> bool
+    ensures { result ≡ holds_addr addr segment.now }
+{
+    segment.addr <= addr && addr - segment.addr < segment.mem_size
+}
+
+/// The addresses that lie in one of the maps, whether or not the core has their bytes.
+impl ContainsAddr for Vec<CoreMapRange> {
+    ghost contains = { λ maps. in_maps maps.items };
+
+    fn contains_addr(&self, addr: u64) -> bool {
+        self.iter().any(|map| holds_addr(&map.segment, addr))
+    }
+}
+
+/// The same.
+impl<'a> ContainsAddr for &'a Vec<CoreMapRange> {
+    ghost contains = { λ maps. in_maps maps.now.items };
+
+    fn contains_addr(&self, addr: u64) -> bool {
+        self.iter().any(|map| holds_addr(&map.segment, addr))
+    }
+}
+
+/// The last of some entries for each address at which one starts.
+pub(crate) fn last_entries<'a>(
+    alloc: Global,
+    entries: Vec<FileEntry<'a>>,
+) -> Result<BTreeMap<u64, FileEntry<'a>>, AllocError>
+    ensures { IfOk result (λ last. (addr : ℕ)
+        → option_map entry_of (get nat_cmp last addr) ≡ entry_for (map entry_of entries.entry.items) addr) }
+{
+    let mut last = BTreeMap::new(alloc);
+    for entry in entries {
+        last.insert(entry.start, entry)?;
+    }
+    Ok(last)
+}
+
+/// The map of a load segment, with the name that an entry gives it.
+fn map_with(
+    alloc: Global,
+    segment: Segment,
+    entry: Option<FileEntry<'_>>,
+) -> Result<CoreMapRange, AllocError>
+    ensures { IfOk result (λ map. map ≡ named_by (option_map entry_of entry.entry) segment) }
+{
+    let pathname = match entry {
+        Some(entry) => Some(Name::of(alloc, entry.name)?),
+        None => None,
+    };
+    Ok(CoreMapRange { pathname, segment })
+}
+
+/// The maps of some load segments, with the names that the last entries give them.
+pub(crate) fn maps_of(
+    alloc: Global,
+    loads: &[Segment],
+    last: &BTreeMap<u64, FileEntry<'_>>,
+) -> Result<Vec<CoreMapRange>, AllocError>
+    ensures { IfOk result (λ maps. maps.items
+        ≡ map (λ s. named_by (option_map entry_of (get nat_cmp last.now s.addr)) s) loads.now) }
+{
+    let mut maps = Vec::new(alloc);
+    for segment in loads.iter().copied() {
+        let entry = last.get(&segment.addr).copied();
+        maps.push(map_with(alloc, segment, entry)?)?;
+    }
+    Ok(maps)
+}
+
+/// Where the files of some load segments are mapped from, by the last entries.
+pub(crate) fn places_of(
+    alloc: Global,
+    loads: &[Segment],
+    last: &BTreeMap<u64, FileEntry<'_>>,
+) -> Result<Vec<Option<FilePlace>>, AllocError>
+    ensures { IfOk result (λ places. places.items
+        ≡ map (λ s. placed_by (option_map entry_of (get nat_cmp last.now s.addr))) loads.now) }
+{
+    let mut places = Vec::new(alloc);
+    for segment in loads.iter().copied() {
+        let place = match last.get(&segment.addr) {
+            Some(entry) => Some(entry.place),
+            None => None,
+        };
+        places.push(place)?;
+    }
+    Ok(places)
+}

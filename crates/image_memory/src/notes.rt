@@ -1,0 +1,101 @@
+//! The notes of a core.
+ghost use Rattle.std.specs.Prelude.{◌≡◌, ◌⊎◌, ◌↔◌, List, ℕ, IfOk, IfErr, IsErrOf, IsTrue, All, filter, filter_map, find, map, nat_eq, option_and_then, reverse};
+ghost use Rattle.elf64_core.specs.Header.{IsAccepted};
+ghost use Rattle.elf64_core.specs.Notes.{Noted, noted};
+ghost use Rattle.image_memory.specs.FileTables.{Entry, entry_of};
+ghost use Rattle.image_memory.specs.Notes.{NotesOf, TablesSay, IsWhole, note_segments, is_table, process_kind, process_of, status_of};
+
+use crate::file_table::{FileEntry, table_entries};
+use crate::records::{PROCESS, PROCESS_SIZE, STATUS, STATUS_SIZE, process_of, status_of};
+use crate::{DumpError, elf_prpsinfo, elf_prstatus};
+use elf64_core::{Elf64, NOTE, Note};
+use std::alloc::{AllocError, Global};
+
+/// The type of a file table.
+const FILE_TABLE: u32 = 0x46494c45;
+
+/// The notes of the note segments, in table order.
+///
+/// `BadNote` comes exactly where the bytes of one of these segments are no notes together. Else the one error
+/// is want of memory.
+pub(crate) fn core_notes<'a>(alloc: Global, elf: &Elf64<'a>) -> Result<Vec<Note<'a>>, DumpError>
+    requires { IsAccepted elf.now }
+    ensures bad { IsErrOf result DumpError.BadNote
+        → (notes : List Noted) → NotesOf elf.now (note_segments elf.now) notes → ⊥ }
+    ensures only { IfErr result (λ error. (error ≡ DumpError.BadNote) ⊎ (error ≡ DumpError.OutOfMemory)) }
+    ensures notes { IfOk result (λ notes. NotesOf elf.now (note_segments elf.now) (map noted notes.items)) }
+{
+    let mut all = Vec::new(alloc);
+    for segment in elf.segments() {
+        if segment.kind == NOTE {
+            let notes = elf.notes(alloc, segment.offset, segment.file_size)?;
+            all.extend_from_slice(&notes)?;
+        }
+    }
+    Ok(all)
+}
+
+/// Whether a note, if it is a status or a process record, is long enough.
+fn is_whole(note: &Note) -> bool
+    ensures { IsTrue result ↔ IsWhole (noted note.now) }
+{
+    match note.kind {
+        STATUS => note.desc.len() >= STATUS_SIZE,
+        PROCESS => note.desc.len() >= PROCESS_SIZE,
+        _ => true,
+    }
+}
+
+/// Whether all status and process records among some notes are long enough.
+pub(crate) fn are_whole(notes: &[Note]) -> bool
+    ensures { IsTrue result ↔ All (λ note. IsWhole (noted note)) notes.now }
+{
+    notes.iter().all(is_whole)
+}
+
+/// What the status records among some notes say, in order.
+pub(crate) fn statuses_of(alloc: Global, notes: &[Note]) -> Result<Vec<elf_prstatus>, AllocError>
+    ensures { IfOk result (λ statuses. statuses.items ≡ filter_map (λ note. status_of (noted note)) notes.now) }
+{
+    notes
+        .iter()
+        .filter_map(|note| status_of(note))
+        .collect(alloc)
+}
+
+/// What the last process record among some notes says, if there is one.
+pub(crate) fn last_process(notes: &[Note]) -> Option<elf_prpsinfo>
+    ensures { result ≡ option_and_then (λ note. process_of (noted note))
+        (find (λ note. nat_eq note.kind process_kind) (reverse notes.now)) }
+{
+    let mut last = None;
+    for note in notes.iter().copied() {
+        if note.kind == PROCESS {
+            last = process_of(&note);
+        }
+    }
+    last
+}
+
+/// The entries of the file tables among some notes, in order.
+///
+/// `BadNote` comes exactly where one of the tables is none. Else the one error is want of memory.
+pub(crate) fn file_entries<'a>(
+    alloc: Global,
+    notes: Vec<Note<'a>>,
+) -> Result<Vec<FileEntry<'a>>, DumpError>
+    ensures bad { IsErrOf result DumpError.BadNote
+        → (entries : List Entry) → TablesSay (filter is_table (map noted notes.entry.items)) entries → ⊥ }
+    ensures only { IfErr result (λ error. (error ≡ DumpError.BadNote) ⊎ (error ≡ DumpError.OutOfMemory)) }
+    ensures entries { IfOk result (λ entries.
+        TablesSay (filter is_table (map noted notes.entry.items)) (map entry_of entries.items)) }
+{
+    let mut entries = Vec::new(alloc);
+    for note in notes {
+        if note.kind == FILE_TABLE {
+            let own = table_entries(alloc, note.desc)?;
+            entries.extend_from_slice(&own)?;
+        }
+    }
+    Ok(entries)
+}
