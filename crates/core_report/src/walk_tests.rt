@@ -26,14 +26,15 @@ fn push_words(bytes: &mut Vec<u8>, words: &[u64]) -> Result<(), AllocError> {
     Ok(())
 }
 
-/// A core of these words at these addresses, a load segment each.
+/// A core of these words at these addresses, a load segment each, and of a note segment with no notes.
 pub(crate) fn core(alloc: Global, pieces: &[(u64, Vec<u64>)]) -> Result<Vec<u8>, AllocError> {
-    let count = pieces.len() as u64;
+    let count = (pieces.len() as u64).wrapping_add(1);
     let mut bytes = Vec::new(alloc);
     push_words(
         &mut bytes,
         &[0x0102_464c_457f, 0, 62 << 16, 0, 64, 0, 56 << 48, count],
     )?;
+    push_words(&mut bytes, &[4, 0, 0, 0, 0, 0, 0])?;
     let mut offset = count.wrapping_mul(56).wrapping_add(64);
     for (addr, words) in pieces {
         let size = (words.len() as u64).wrapping_mul(8);
