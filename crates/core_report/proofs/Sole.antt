@@ -4,6 +4,7 @@ use Rattle.std.specs.Prelude.{Option, Some, None, Result, Ok, Err}
 use Rattle.image_memory.specs.Cores.{IsCore, Refuses}
 use Rattle.image_memory.specs.declared.dump_error.DumpError.{DumpError}
 use Rattle.image_memory.specs.declared.dump_error.DumpError.TheVariants as dump
+use Rattle.image_memory.proofs.Refusals.{no_core, one_refusal}
 use Rattle.process_memory.specs.Memory.{Fault}
 use Rattle.process_memory.specs.Memory.Fault.{Missing, BadValue, LocalsLimit, ThreadLimit, FrameLimit, ChainLimit}
 use Rattle.process_memory.proofs.Founds.{ok_same}
@@ -96,30 +97,6 @@ module _ (bytes : List ℕ) (layouts : List Layout) (version : Version) (address
   cause (Err core.ChainLimit) h = met ChainLimit refl h
   cause (Err core.OutOfMemory) h = wants refl
 
-  -- bytes that are refused are no core's
-  no_core : (e : DumpError) → Refuses bytes e → e ≢ dump.OutOfMemory → IsCore bytes → ⊥
-  no_core dump.NotElf64 h ne is = h is.accepted.header
-  no_core dump.BadHeader h ne is = h.1 is.accepted.readable
-  no_core dump.NoNotes h ne is = h
-  no_core dump.BadNote h ne is = h
-  no_core dump.OutOfMemory h ne is = ne refl
-
-  one_refusal : (e f : DumpError) → Refuses bytes e → Refuses bytes f → e ≢ dump.OutOfMemory → f ≢ dump.OutOfMemory
-      → e ≡ f
-  one_refusal dump.NotElf64 dump.NotElf64 h g ne nf = refl
-  one_refusal dump.NotElf64 dump.BadHeader h g ne nf = absurd (h g.0)
-  one_refusal dump.NotElf64 dump.NoNotes h g ne nf = absurd g
-  one_refusal dump.NotElf64 dump.BadNote h g ne nf = absurd g
-  one_refusal dump.NotElf64 dump.OutOfMemory h g ne nf = absurd (nf refl)
-  one_refusal dump.BadHeader dump.NotElf64 h g ne nf = absurd (g h.0)
-  one_refusal dump.BadHeader dump.BadHeader h g ne nf = refl
-  one_refusal dump.BadHeader dump.NoNotes h g ne nf = absurd g
-  one_refusal dump.BadHeader dump.BadNote h g ne nf = absurd g
-  one_refusal dump.BadHeader dump.OutOfMemory h g ne nf = absurd (nf refl)
-  one_refusal dump.NoNotes f h g ne nf = absurd h
-  one_refusal dump.BadNote f h g ne nf = absurd h
-  one_refusal dump.OutOfMemory f h g ne nf = absurd (ne refl)
-
   -- an error of the dump is want of memory, or no error else is
   not_memory : (e : DumpError) (r : Answer) → r ≡ Err (cause_of_dump e) → r ≢ Err core.OutOfMemory
       → e ≢ dump.OutOfMemory
@@ -153,23 +130,23 @@ module _ (bytes : List ℕ) (layouts : List Layout) (version : Version) (address
   one_answer sole r s (wants a) d nr ns = absurd (nr a)
   one_answer sole r s (refused e a h) (wants b) nr ns = absurd (ns b)
   one_answer sole r s (refused e a h) (refused f b g) nr ns =
-      a ∙ ap (λ d. Err (cause_of_dump d)) (one_refusal e f h g (not_memory e r a nr) (not_memory f s b ns)) ∙ sym b
-  one_answer sole r s (refused e a h) (uncovered b g) nr ns = absurd (no_core e h (not_memory e r a nr) g.accepted)
-  one_answer sole r s (refused e a h) (met f b g) nr ns = absurd (no_core e h (not_memory e r a nr) g.0.accepted)
-  one_answer sole r s (refused e a h) (found t b g) nr ns = absurd (no_core e h (not_memory e r a nr) g.walked.accepted)
+      a ∙ ap (λ d. Err (cause_of_dump d)) (one_refusal bytes e f h g (not_memory e r a nr) (not_memory f s b ns)) ∙ sym b
+  one_answer sole r s (refused e a h) (uncovered b g) nr ns = absurd (no_core bytes e h (not_memory e r a nr) g.accepted)
+  one_answer sole r s (refused e a h) (met f b g) nr ns = absurd (no_core bytes e h (not_memory e r a nr) g.0.accepted)
+  one_answer sole r s (refused e a h) (found t b g) nr ns = absurd (no_core bytes e h (not_memory e r a nr) g.walked.accepted)
   one_answer sole r s (uncovered a h) (wants b) nr ns = absurd (ns b)
-  one_answer sole r s (uncovered a h) (refused f b g) nr ns = absurd (no_core f g (not_memory f s b ns) h.accepted)
+  one_answer sole r s (uncovered a h) (refused f b g) nr ns = absurd (no_core bytes f g (not_memory f s b ns) h.accepted)
   one_answer sole r s (uncovered a h) (uncovered b g) nr ns = a ∙ sym b
   one_answer sole r s (uncovered a h) (met f b g) nr ns = absurd (h.none g.0.layout g.0.chosen)
   one_answer sole r s (uncovered a h) (found t b g) nr ns = absurd (h.none g.walked.layout g.walked.chosen)
   one_answer sole r s (met e a h) (wants b) nr ns = absurd (ns b)
-  one_answer sole r s (met e a h) (refused f b g) nr ns = absurd (no_core f g (not_memory f s b ns) h.0.accepted)
+  one_answer sole r s (met e a h) (refused f b g) nr ns = absurd (no_core bytes f g (not_memory f s b ns) h.0.accepted)
   one_answer sole r s (met e a h) (uncovered b g) nr ns = absurd (g.none h.0.layout h.0.chosen)
   one_answer sole r s (met e a h) (met f b g) nr ns =
       a ∙ ap (λ d. Err (error_of d)) (same_fault e f (one_fault (sole h.0.accepted) h.0 g.0 (Some e) (Some f) h.1 g.1)) ∙ sym b
   one_answer sole r s (met e a h) (found t b g) nr ns = absurd (none_some e (one_fault (sole h.0.accepted) g.walked h.0 None (Some e) g.faultless h.1))
   one_answer sole r s (found t a h) (wants b) nr ns = absurd (ns b)
-  one_answer sole r s (found t a h) (refused f b g) nr ns = absurd (no_core f g (not_memory f s b ns) h.walked.accepted)
+  one_answer sole r s (found t a h) (refused f b g) nr ns = absurd (no_core bytes f g (not_memory f s b ns) h.walked.accepted)
   one_answer sole r s (found t a h) (uncovered b g) nr ns = absurd (g.none h.walked.layout h.walked.chosen)
   one_answer sole r s (found t a h) (met f b g) nr ns = absurd (none_some f (one_fault (sole h.walked.accepted) h.walked g.0 None (Some f) h.faultless g.1))
   one_answer sole r s (found t a h) (found u b g) nr ns = a ∙ ap (λ x. Ok x) (one_found (sole h.walked.accepted) t u h g) ∙ sym b
@@ -186,4 +163,4 @@ module _ (bytes : List ℕ) (layouts : List Layout) (version : Version) (address
   -- bytes that are refused are no core's, but for want of memory
   pub sole_refused : (e : DumpError) → Refuses bytes e
       → ◌≢◌ {A = Answer} (Err (cause_of_dump e)) (Err core.OutOfMemory) → IsCore bytes → IsSole layouts version
-  sole_refused e h ne is = absurd (no_core e h (λ same. ne (ap (λ d. Err (cause_of_dump d)) same)) is)
+  sole_refused e h ne is = absurd (no_core bytes e h (λ same. ne (ap (λ d. Err (cause_of_dump d)) same)) is)

@@ -17,9 +17,10 @@ same_some a b e = cc
 -- one first name at most, and one rest
 first_name_same : (bytes m n a b : List ℕ) → IsFirstName bytes m a → IsFirstName bytes n b → (m ≡ n) × (a ≡ b)
 first_name_same bytes m n a b h k =
-    let same : h.size ≡ k.size = same_some h.size k.size (sym h.ends ∙ k.ends) in
-    (h.name_is ∙ ap (λ size. take size bytes) same ∙ sym k.name_is,
-    h.rest_is ∙ ap (λ size. drop (size + 1) bytes) same ∙ sym k.rest_is)
+    let same : h.size ≡ k.size = same_some h.size k.size (sym h.ends ∙ k.ends) in (
+      h.name_is ∙ ap (λ size. take size bytes) same ∙ sym k.name_is,
+      h.rest_is ∙ ap (λ size. drop (size + 1) bytes) same ∙ sym k.rest_is,
+    )
 
 -- a name more
 pub NamesThen-more : (bytes : List ℕ) (names : List (List ℕ)) (rest name after : List ℕ) → NamesThen bytes names rest

@@ -11,6 +11,7 @@ mod dump_error;
 mod file_table;
 mod maps;
 mod notes;
+mod places;
 mod records;
 #[cfg(test)]
 mod tests;

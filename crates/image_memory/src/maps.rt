@@ -113,7 +113,11 @@ pub(crate) fn last_entries<'a>(
 }
 
 /// The map of a load segment, with the name that an entry gives it.
-fn map_with(alloc: Global, segment: Segment, entry: Option<FileEntry<'_>>) -> Result<CoreMapRange, AllocError>
+fn map_with(
+    alloc: Global,
+    segment: Segment,
+    entry: Option<FileEntry<'_>>,
+) -> Result<CoreMapRange, AllocError>
     ensures { IfOk result (λ map. map ≡ named_by (option_map entry_of entry.entry) segment) }
 {
     let pathname = match entry {

@@ -5,9 +5,9 @@ ghost use Rattle.elf64_core.specs.Notes.{Noted, noted};
 ghost use Rattle.image_memory.specs.FileTables.{Entry, entry_of};
 ghost use Rattle.image_memory.specs.Notes.{NotesOf, TablesSay, IsWhole, note_segments, is_table, process_kind, process_of, status_of};
 
-use crate::{DumpError, elf_prpsinfo, elf_prstatus};
 use crate::file_table::{FileEntry, table_entries};
 use crate::records::{PROCESS, PROCESS_SIZE, STATUS, STATUS_SIZE, process_of, status_of};
+use crate::{DumpError, elf_prpsinfo, elf_prstatus};
 use elf64_core::{Elf64, NOTE, Note};
 use std::alloc::{AllocError, Global};
 
@@ -57,7 +57,10 @@ pub(crate) fn are_whole(notes: &[Note]) -> bool
 pub(crate) fn statuses_of(alloc: Global, notes: &[Note]) -> Result<Vec<elf_prstatus>, AllocError>
     ensures { IfOk result (λ statuses. statuses.items ≡ filter_map (λ note. status_of (noted note)) notes.now) }
 {
-    notes.iter().filter_map(|note| status_of(note)).collect(alloc)
+    notes
+        .iter()
+        .filter_map(|note| status_of(note))
+        .collect(alloc)
 }
 
 /// What the last process record among some notes says, if there is one.
@@ -77,7 +80,10 @@ pub(crate) fn last_process(notes: &[Note]) -> Option<elf_prpsinfo>
 /// The entries of the file tables among some notes, in order.
 ///
 /// `BadNote` comes exactly where one of the tables is none. Else the one error is want of memory.
-pub(crate) fn file_entries<'a>(alloc: Global, notes: Vec<Note<'a>>) -> Result<Vec<FileEntry<'a>>, DumpError>
+pub(crate) fn file_entries<'a>(
+    alloc: Global,
+    notes: Vec<Note<'a>>,
+) -> Result<Vec<FileEntry<'a>>, DumpError>
     ensures bad { IsErrOf result DumpError.BadNote
         → (entries : List Entry) → TablesSay (filter is_table (map noted notes.entry.items)) entries → ⊥ }
     ensures only { IfErr result (λ error. (error ≡ DumpError.BadNote) ⊎ (error ≡ DumpError.OutOfMemory)) }

@@ -20,9 +20,10 @@ some_noted : (bytes : List ℕ) (b : Bool) → b ≡ true → MatchBool b (note_
 some_noted bytes b is h = subst (λ x. MatchBool x (note_segments bytes ≡ [] → ⊥) (note_segments bytes ≡ [])) is h
 
 pub returns-then-not-has_notes-clause-right : goal.returns-then-not-has_notes-clause-right
-returns-then-not-has_notes-clause-right c =
-    (c.in_ok-elf.ensures.accepted,
-    subst (λ bytes. note_segments bytes ≡ []) c.in_ok-elf.ensures.same (none_noted c.in_ok-elf.elf c.has_notes.result c.if-not-has_notes.true c.has_notes.ensures))
+returns-then-not-has_notes-clause-right c = (
+  c.in_ok-elf.ensures.accepted,
+  subst (λ bytes. note_segments bytes ≡ []) c.in_ok-elf.ensures.same (none_noted c.in_ok-elf.elf c.has_notes.result c.if-not-has_notes.true c.has_notes.ensures),
+)
 
 pub returns-clause-noted : goal.returns-clause-noted
 returns-clause-noted c = record {

@@ -26,10 +26,18 @@ returns-clause-are c =
       core = record { accepted = noted.accepted; noted = noted.noted; notes = says.notes; entries = entries; found = says.found };
       machine_is = c.machine.ensures ∙ ap machine_of same;
       loads_are = loads;
-      maps_are = record { notes = says.notes; entries = entries; found = says.found;
-        says = c.in_ok-maps.ensures ∙ map-same _ (map_by entries) _ named ∙ ap (map (map_by entries)) (c.deref.ensures.value ∙ loads) };
-      places_are = record { notes = says.notes; entries = entries; found = says.found;
-        says = c.in_ok-places.ensures ∙ map-same _ (place_by entries) _ placed ∙ ap (map (place_by entries)) (c.deref-2.ensures.value ∙ loads) };
+      maps_are = record {
+        notes = says.notes;
+        entries = entries;
+        found = says.found;
+        says = c.in_ok-maps.ensures ∙ map-same _ (map_by entries) _ named ∙ ap (map (map_by entries)) (c.deref.ensures.value ∙ loads);
+      };
+      places_are = record {
+        notes = says.notes;
+        entries = entries;
+        found = says.found;
+        says = c.in_ok-places.ensures ∙ map-same _ (place_by entries) _ placed ∙ ap (map (place_by entries)) (c.deref-2.ensures.value ∙ loads);
+      };
       statuses_are = record { notes = says.notes; entries = entries; found = says.found; says = says.statuses_are };
       process_is = record { notes = says.notes; entries = entries; found = says.found; says = says.process_is };
     }

@@ -22,7 +22,7 @@ returns-in_err-own-clause-bad c = λ is entries h.
     let all = turn_splits e xs c.loop-note.note-iterator c.loop-note.yielded_by c.next.result c.next.new.self note c.in-Some.is c.next.ensures.steps in
     let rest = drop (length xs + 1) items in
     let those = ap (λ ns. filter is_table (map noted ns)) all ∙ ap (filter is_table) (map-append noted xs (note ∷ rest))
-        ∙ filter_at is_table (map noted xs) (map noted rest) (noted note) (eq-eqb _ _ c.if-note-eq-FILE_TABLE.true) in
+    ∙ filter_at is_table (map noted xs) (map noted rest) (noted note) (eq-eqb _ _ c.if-note-eq-FILE_TABLE.true) in
     TablesSay-none (filter is_table (map noted xs)) (filter is_table (map noted rest)) (noted note) entries none
     (subst (λ ts. TablesSay ts entries) those h)
 
@@ -34,7 +34,7 @@ loop-note-preserved-then-note-eq-FILE_TABLE c =
     let own = c.in_ok-own.own.items in
     let entries : map entry_of c.extend_from_slice.new.self.items ≡ map entry_of all ++ map entry_of own = ap (map entry_of) (c.in_ok-extend_from_slice.ensures.items ∙ ap (λ es. all ++ es) c.deref.ensures.value) ∙ map-append entry_of all own in
     let those : filter is_table (map noted (xs ++ note ∷ [])) ≡ filter is_table (map noted xs) ++ noted note ∷ [] = ap (filter is_table) (map-append noted xs (note ∷ []))
-        ∙ filter_at is_table (map noted xs) [] (noted note) (eq-eqb _ _ c.if-note-eq-FILE_TABLE.true) in
+    ∙ filter_at is_table (map noted xs) [] (noted note) (eq-eqb _ _ c.if-note-eq-FILE_TABLE.true) in
     subst (λ ts. TablesSay ts (map entry_of c.extend_from_slice.new.self.items)) (sym those)
     (subst (TablesSay (filter is_table (map noted xs) ++ noted note ∷ [])) (sym entries)
     (TablesSay-more (filter is_table (map noted xs)) (map entry_of all) (noted note) (map entry_of own) c.loop-note.invariant c.in_ok-own.ensures.entries))
