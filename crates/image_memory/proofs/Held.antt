@@ -1,6 +1,6 @@
 -- The load segments of a core lie in its file.
 use Rattle.std.proofs.Common.{◌≡◌, ℕ, List, true, get_or}
-use Rattle.std.specs.Prelude.{All, filter}
+use Rattle.std.specs.Prelude.{All}
 use Rattle.std.proofs.lemmas.Bool.{eqb-true}
 use Rattle.std.proofs.lemmas.List.Elements.{All-filter, filter_passes}
 use Rattle.elf64_core.specs.Header.{FitsFile, HasSegments, load_kind, segments_of}

@@ -4,7 +4,6 @@
 use Rattle.std.specs.Prelude.{◌≡◌, ◌≢◌, ℕ, ◌+◌, ◌-◌, ◌^◌, ◌<◌, ◌≤◌, nat_le, nat_lt, ◌&&◌, true, min, Bool, List, length, find, Option, Some, option_map}
 use Rattle.elf64_core.specs.Header.{IsInside}
 use Rattle.elf64_core.specs.declared.segment.Segment.{Segment}
-use Rattle.image_memory.specs.Pieces.{loads_of}
 
 -- whether the core has the byte of a segment at an address
 abbrev pub holds_byte : ℕ → Segment → Bool
