@@ -19,8 +19,9 @@ use std::alloc::Global;
 /// exactly where its id is the owner's (`py_stacks::get_gil_threadid`, by the handed-in address of the
 /// lock). Lines are 0, and there are no locals and no names of threads.
 ///
-/// The error is the first of these: `NotElf64` and `BadHeader` (`image_memory::CoreDump::new`);
-/// `UnsupportedVersion` where no layout covers the version; `Unreadable`, `FrameLimit`, `ChainLimit` and
+/// The error is the first of these: `NotElf64`, `BadHeader`, `NoNotes` and `BadNote`
+/// (`image_memory::CoreDump::new`); `UnsupportedVersion` where no layout covers the version; `Unreadable`,
+/// `FrameLimit`, `ChainLimit` and
 /// `ThreadLimit`, as `py_stacks::get_stack_traces` orders them: the lock's owner comes before the threads. Else
 /// it is want of memory.
 pub fn walk(

@@ -1,9 +1,9 @@
 -- Which error a refusal is, and that the refusals shut each other out.
-use Rattle.std.proofs.Common.{◌≡◌, ◌≢◌, ◌⊎◌, ℕ, List, Result, Ok, Err, refl, sym, ap, subst, inl, inr, ◌∙◌}
+use Rattle.std.proofs.Common.{◌≡◌, ◌≢◌, ◌⊎◌, ℕ, List, Result, Ok, Err, refl, sym, ap, inl, inr, ◌∙◌}
 use Rattle.std.specs.Prelude.{IsErrOf, IfErr, IfOk}
 use Rattle.elf64_core.specs.declared.error.ElfError.{ElfError}
 use Rattle.elf64_core.specs.declared.error.ElfError.TheVariants as elf
-use Rattle.image_memory.specs.Cores.{IsCore, IsEarly, Refuses}
+use Rattle.image_memory.specs.Cores.{IsCore, Refuses}
 use Rattle.image_memory.specs.Dumps.{refusal_of}
 use Rattle.image_memory.specs.declared.dump_error.DumpError.{DumpError}
 use Rattle.image_memory.specs.declared.dump_error.DumpError.TheVariants.{NotElf64, BadHeader, NoNotes, BadNote, OutOfMemory}

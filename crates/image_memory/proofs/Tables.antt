@@ -1,5 +1,5 @@
 -- File tables: the names and entries so far, and that bytes are a table of one list of entries at most.
-use Rattle.std.proofs.Common.{◌≡◌, ℕ, ◌+◌, ◌<◌, List, [], ◌∷◌, ◌++◌, length, take, drop, map, Some, None, Option, refl, sym, ap, subst, ◌∙◌, arith, add-zero, append_assoc}
+use Rattle.std.proofs.Common.{◌≡◌, ℕ, ◌+◌, ◌<◌, List, [], ◌∷◌, ◌++◌, length, take, drop, Some, None, Option, refl, sym, ap, subst, ◌∙◌, arith, add-zero, append_assoc}
 use Rattle.std.specs.Prelude.{position}
 use Rattle.std.proofs.lemmas.List.{append-nil}
 use Rattle.elf64_core.specs.Fields.{u64_in}

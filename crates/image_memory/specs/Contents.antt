@@ -1,5 +1,5 @@
 -- What is read of a core: its maps, and what its notes say.
-use Rattle.std.specs.Prelude.{◌≡◌, ℕ, List, Option, reverse, find, filter_map}
+use Rattle.std.specs.Prelude.{◌≡◌, ℕ, List, Option, filter_map}
 use Rattle.elf64_core.specs.Header.{machine_of}
 use Rattle.elf64_core.specs.Notes.{Noted}
 use Rattle.image_memory.specs.Cores.{IsCore}

@@ -2,7 +2,7 @@
 -- many entries there are, the size of a page in bytes, three numbers of 8 bytes for each entry, where its
 -- mapping starts, where that ends, and where it begins in the file, in pages; then the files' names, each ended
 -- by a nul. What follows the names isn't looked at.
-use Rattle.std.specs.Prelude.{◌≡◌, ℕ, ◌+◌, ◌*◌, ◌≤◌, nat_eq, Bool, List, [], ◌∷◌, ◌++◌, length, take, drop, map, Option, Some, position}
+use Rattle.std.specs.Prelude.{◌≡◌, ℕ, ◌+◌, ◌*◌, ◌≤◌, nat_eq, Bool, List, [], ◌∷◌, length, take, drop, Some, position}
 use Rattle.elf64_core.specs.Fields.{u64_in}
 use Rattle.image_memory.specs.declared.file_table.FilePlace.{FilePlace}
 use Rattle.image_memory.specs.declared.file_table.FileEntry.{FileEntry}

@@ -1,11 +1,12 @@
 //! A core dump: the file of a dead process's memory.
-ghost use Rattle.std.specs.Prelude.{◌≡◌, ◌⊎◌, List, ℕ, IfOk, IfErr, Err, Option, option_copied};
+ghost use Rattle.std.specs.Prelude.{◌≡◌, ◌⊎◌, List, ℕ, IfOk, IfErr, Err, MatchOption, None, Option, ◌+◌, option_copied, slice_range};
 ghost use Rattle.elf64_core.specs.Header.{machine_of};
 ghost use Rattle.image_memory.specs.Contents.{AreContents};
 ghost use Rattle.image_memory.specs.Cores.{IsCore, IsEarly, Refuses};
 ghost use Rattle.image_memory.specs.Maps.{AreMaps, in_core};
 ghost use Rattle.image_memory.specs.Notes.{AreStatuses, IsProcess};
-ghost use Rattle.image_memory.specs.Pieces.{memory_of};
+ghost use Rattle.image_memory.specs.Pieces.{loads_of, memory_of};
+ghost use Rattle.image_memory.specs.Places.{IsRun, place_in};
 ghost use Rattle.image_memory.specs.declared.dump_error.DumpError.{DumpError as Refusal};
 ghost use Rattle.image_memory.specs.declared.maps.CoreMapRange.{CoreMapRange as Map};
 ghost use Rattle.image_memory.specs.declared.records.elf_prstatus.{elf_prstatus as Status};
@@ -14,6 +15,7 @@ ghost use Rattle.process_memory.specs.Layers.{plain};
 
 use crate::contents::{Contents, read_core};
 use crate::maps::holds_addr;
+use crate::places::longest_run;
 use crate::{ContainsAddr, CoreMapRange, DumpError, View, elf_prpsinfo, elf_prstatus};
 use elf64_core::Machine;
 use process_memory::ProcessMemory;
@@ -89,6 +91,18 @@ impl CoreDump {
         ensures { result ≡ machine_of self.now }
     {
         self.contents.machine
+    }
+
+    /// The bytes of the longest run of at most `len` addresses from `addr` on that are in memory and whose
+    /// bytes follow each other in the file; none exactly where `len` is 0 or the byte at `addr` is not in
+    /// memory. It takes no memory. Where the byte at an address stands is as `view` has it: in the first load
+    /// segment that holds it. For each run of one segment the segments are gone through from the first one on.
+    pub fn piece(&self, addr: u64, len: u64) -> Option<&[u8]>
+        ensures { MatchOption result ((len ≡ 0) ⊎ (place_in (loads_of self.now) addr ≡ None))
+            (λ piece. (start size : ℕ) × IsRun (loads_of self.now) addr len start size
+            × (piece.now ≡ slice_range self.now start (start + size))) }
+    {
+        longest_run(&self.bytes, &self.contents.loads, addr, len)
     }
 
     /// The memory of the core: one piece for each load segment, in table order, of the first bytes that

@@ -15,6 +15,7 @@ mod images;
 mod maps;
 mod mmap;
 mod notes;
+mod places;
 mod records;
 mod subrange;
 #[cfg(test)]

@@ -1,4 +1,4 @@
-use Rattle.std.proofs.Common.{ℕ, List, [], ap, sym, subst, ◌∙◌, ◌≡◌, Bool, true, false}
+use Rattle.std.proofs.Common.{ℕ, List, [], subst, ◌≡◌, Bool, true, false}
 use Rattle.std.specs.Bool.{MatchBool}
 use Rattle.image_memory.specs.Cores.{Refuses, IsEarly, HasNotes}
 use Rattle.image_memory.specs.Notes.{note_segments}

@@ -1,12 +1,9 @@
-use Rattle.std.proofs.Common.{◌≡◌, ℕ, List, [], ◌∷◌, map, ap, sym, subst, ◌∙◌, refl}
-use Rattle.std.specs.Prelude.{option_map}
-use Rattle.std.specs.BTreeMap.{get}
-use Rattle.std.specs.Ordering.{nat_cmp}
+use Rattle.std.proofs.Common.{◌≡◌, map, ap, subst, ◌∙◌}
 use Rattle.elf64_core.specs.Header.{machine_of}
 use Rattle.elf64_core.specs.declared.segment.Segment.{Segment}
 use Rattle.image_memory.specs.Contents.{NotesSay}
 use Rattle.image_memory.specs.FileTables.{entry_of}
-use Rattle.image_memory.specs.Maps.{entry_for, map_by, named_by, place_by, placed_by}
+use Rattle.image_memory.specs.Maps.{map_by, named_by, place_by, placed_by}
 use Rattle.image_memory.specs.Pieces.{loads_of}
 use Rattle.image_memory.proofs.Lists.{map-same}
 use Rattle.image_memory.proofs.contents.read_core.Goals as goal

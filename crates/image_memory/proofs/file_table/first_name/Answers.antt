@@ -1,4 +1,4 @@
-use Rattle.std.proofs.Common.{◌+◌, ◌∙◌, length, drop, sym, refl, arith, length-drop}
+use Rattle.std.proofs.Common.{◌+◌, ◌∙◌, drop, sym, refl, arith, length-drop}
 use Rattle.std.proofs.lemmas.List.{take_all}
 use Rattle.image_memory.proofs.file_table.first_name.Goals as goal
 

@@ -1,5 +1,4 @@
 use Rattle.std.proofs.Common.{Ok, subst}
-use Rattle.image_memory.specs.Cores.{IsCore}
 use Rattle.image_memory.specs.Contents.{AreContents}
 use Rattle.image_memory.proofs.Refusals.{only_refusal}
 use Rattle.image_memory.proofs.core_dump.CoreDump.new.Goals as goal
