@@ -1,10 +1,14 @@
 -- Which error of a lower crate is which cause.
+use Rattle.elf64_core.specs.declared.error.ElfError.{ElfError}
+use Rattle.elf64_core.specs.declared.error.ElfError.TheVariants as elf
 use Rattle.image_memory.specs.declared.dump_error.DumpError.{DumpError}
 use Rattle.image_memory.specs.declared.dump_error.DumpError.TheVariants as dump
 use Rattle.py_stacks.specs.declared.error.StackError.{StackError}
 use Rattle.py_stacks.specs.declared.error.StackError.TheVariants as stack
 use Rattle.py_process.specs.declared.core_error.CoreError.{CoreError}
 use Rattle.py_process.specs.declared.core_error.CoreError.TheVariants.{NotElf64, BadHeader, NoNotes, BadNote, Unreadable, BadValue, LocalsLimit, ThreadLimit, FrameLimit, ChainLimit, OutOfMemory}
+use Rattle.py_process.specs.declared.binary_error.BinaryError.{BinaryError}
+use Rattle.py_process.specs.declared.binary_error.BinaryError.TheVariants as binary
 
 abbrev pub cause_of_dump : DumpError → CoreError
 cause_of_dump dump.NotElf64 = NotElf64
@@ -21,3 +25,10 @@ cause_of_stacks stack.ThreadLimit = ThreadLimit
 cause_of_stacks stack.FrameLimit = FrameLimit
 cause_of_stacks stack.ChainLimit = ChainLimit
 cause_of_stacks stack.OutOfMemory = OutOfMemory
+
+-- notes of images aren't read
+abbrev pub refusal_of : ElfError → BinaryError
+refusal_of elf.NotElf64 = binary.NotElf64
+refusal_of elf.BadHeader = binary.BadHeader
+refusal_of elf.BadNote = binary.BadHeader
+refusal_of elf.OutOfMemory = binary.OutOfMemory

@@ -1,0 +1,57 @@
+-- What the image of a binary says of the process that mapped it.
+use Rattle.std.specs.Prelude.{◌≡◌, ℕ, List, Option, Some, None}
+use Rattle.std.specs.Option.{option_or}
+use Rattle.elf64_core.specs.Header.{IsAccepted}
+use Rattle.py_process.specs.declared.binary.BinaryInfo.{BinaryInfo}
+use Rattle.py_process.specs.declared.ranges.Ranges.{Ranges}
+use Rattle.py_process.specs.declared.symbols.Place.{Place}
+use Rattle.py_process.specs.Ranges.{AreRanges}
+use Rattle.py_process.specs.Refusals.{HasBoth, HasRanges}
+use Rattle.py_process.specs.SymbolMap.{HasAddresses, address_in}
+
+abbrev pub place_of : (addr size : ℕ) → Ranges → Place
+place_of addr size ranges = record {
+  addr = addr;
+  size = size;
+  offset = ranges.offset;
+  bss_end = ranges.bss.end;
+}
+
+-- this is what an image says that is mapped at an address with a size
+pub record IsInfo (bytes : List ℕ) (addr size : ℕ) (info : BinaryInfo) : Type 0 where
+  pub accepted : IsAccepted bytes
+  pub both : HasBoth bytes
+  pub ranges : Ranges
+  pub are_ranges : AreRanges bytes addr ranges
+  pub bss_addr : info.bss_addr ≡ ranges.bss.addr
+  pub bss_size : info.bss_size ≡ ranges.bss.size
+  pub pyruntime_addr : info.pyruntime_addr ≡ ranges.runtime_addr
+  pub pyruntime_size : info.pyruntime_size ≡ ranges.runtime_size
+  pub addr_is : info.addr ≡ addr
+  pub size_is : info.size ≡ size
+  pub symbols : HasAddresses bytes (place_of addr size ranges) info.symbols
+
+-- two say the same: the same numbers, and the same address for each name
+pub record SaySame (one other : BinaryInfo) : Type 0 where
+  pub bss_addr : one.bss_addr ≡ other.bss_addr
+  pub bss_size : one.bss_size ≡ other.bss_size
+  pub pyruntime_addr : one.pyruntime_addr ≡ other.pyruntime_addr
+  pub pyruntime_size : one.pyruntime_size ≡ other.pyruntime_size
+  pub addr : one.addr ≡ other.addr
+  pub size : one.size ≡ other.size
+  pub symbols : (name : List ℕ) → address_in one.symbols name ≡ address_in other.symbols name
+
+-- an image that says something
+pub record HasInfo (bytes : List ℕ) (addr : ℕ) : Type 0 where
+  pub accepted : IsAccepted bytes
+  pub ranges : HasRanges bytes addr
+  pub both : HasBoth bytes
+
+-- the address of a symbol of a binary, where there is one
+abbrev pub symbol_in : Option BinaryInfo → List ℕ → Option ℕ
+symbol_in None symbol = None
+symbol_in (Some binary) symbol = address_in binary.symbols symbol
+
+-- the program's, where it has one, else the library's
+abbrev pub symbol_at : Option BinaryInfo → Option BinaryInfo → List ℕ → Option ℕ
+symbol_at program library symbol = option_or (symbol_in program symbol) (symbol_in library symbol)
