@@ -1,0 +1,96 @@
+-- What a line says, or why it is refused.
+use Rattle.std.specs.Prelude.{◌≡◌, ◌⊎◌, ℕ, ◌&&◌, Bool, not, if◌then◌else◌, List, [], ◌∷◌, ◌++◌, Option, Some, None, Result, Ok, Err}
+use Rattle.std.specs.Str.Parse.{digits_value}
+use Rattle.std.specs.declared.ops.Range.{Range}
+use Rattle.maps_text.specs.declared.entry.MapsEntry.{MapsEntry}
+use Rattle.maps_text.specs.declared.error.MapsError.{MapsError}
+use Rattle.maps_text.specs.declared.error.MapsError.TheVariants.{NoRange, BadStart, BadEnd, NoMode, BadMode, NoOffset, BadOffset, NoDevice, OutOfMemory}
+use Rattle.maps_text.specs.declared.perm.Perm.{Perm}
+use Rattle.maps_text.specs.Fields.{field, behind, has_white, has_dash, before_dash, after_dash, is_number, trimmed}
+use Rattle.maps_text.specs.Paths.{path_name_of}
+use Rattle.maps_text.specs.Perms.{is_mode, perm_of}
+
+-- a line's parts: each field ends at the first white space
+abbrev pub after_range : List ℕ → List ℕ
+after_range line = behind line
+
+abbrev pub after_mode : List ℕ → List ℕ
+after_mode line = behind (after_range line)
+
+abbrev pub after_offset : List ℕ → List ℕ
+after_offset line = behind (after_mode line)
+
+abbrev pub after_device : List ℕ → List ℕ
+after_device line = behind (after_offset line)
+
+abbrev pub after_inode : List ℕ → List ℕ
+after_inode line = behind (after_device line)
+
+-- START-END
+abbrev pub range_of : List ℕ → Range ℕ
+range_of line = record {
+  start = digits_value 16 (before_dash (field line));
+  end = digits_value 16 (after_dash (field line));
+}
+
+abbrev pub perm_in_line : List ℕ → Perm
+perm_in_line line = perm_of (field (after_range line))
+
+abbrev pub offset_of : List ℕ → ℕ
+offset_of line = digits_value 16 (field (after_mode line))
+
+-- what stands behind the inode, without the white space at its ends; nothing where no white space follows it
+abbrev pub path_of : List ℕ → List ℕ
+path_of line = trimmed (after_inode line)
+
+-- the entry of a line without a fault
+abbrev pub entry_of : ℕ → List ℕ → MapsEntry
+entry_of pid line = record {
+  range = range_of line;
+  perm = perm_in_line line;
+  offset = offset_of line;
+  path_name = path_name_of pid (range_of line) (path_of line);
+  build_id = None;
+}
+
+-- what may be wrong with the range that a line begins with; each cause stands with whether it is so
+abbrev pub range_faults : List ℕ → List (Bool × MapsError)
+range_faults line =
+    (not (has_white line && has_dash (field line)), NoRange)
+    ∷ (not (is_number (before_dash (field line))), BadStart)
+    ∷ (not (is_number (after_dash (field line))), BadEnd) ∷ []
+
+-- with the mode that some bytes begin with
+abbrev pub mode_faults : List ℕ → List (Bool × MapsError)
+mode_faults rest = (not (has_white rest), NoMode) ∷ (not (is_mode (field rest)), BadMode) ∷ []
+
+-- with the offset
+abbrev pub offset_faults : List ℕ → List (Bool × MapsError)
+offset_faults rest = (not (has_white rest), NoOffset) ∷ (not (is_number (field rest)), BadOffset) ∷ []
+
+-- with the device
+abbrev pub device_faults : List ℕ → List (Bool × MapsError)
+device_faults rest = (not (has_white rest), NoDevice) ∷ []
+
+-- what may be wrong with a line, in the order in which it is looked for
+abbrev pub faults : List ℕ → List (Bool × MapsError)
+faults line = range_faults line ++ (mode_faults (after_range line)
+    ++ (offset_faults (after_mode line) ++ device_faults (after_offset line)))
+
+-- the first cause that is so
+abbrev pub first_fault : List (Bool × MapsError) → Option MapsError
+first_fault [] = None
+first_fault (fault ∷ others) = if fault.0 then Some fault.1 else first_fault others
+
+-- an entry, or the first fault
+abbrev pub entry_or : Option MapsError → MapsEntry → Result MapsEntry MapsError
+entry_or None entry = Ok entry
+entry_or (Some error) entry = Err error
+
+-- what a line says of a map of a process: its entry, or its first fault
+abbrev pub line_of : ℕ → List ℕ → Result MapsEntry MapsError
+line_of pid line = entry_or (first_fault (faults line)) (entry_of pid line)
+
+-- the right answer, or want of memory
+abbrev pub IsAnswer : Result MapsEntry MapsError → Result MapsEntry MapsError → Type 0
+IsAnswer right result = (result ≡ right) ⊎ (result ≡ Err OutOfMemory)
