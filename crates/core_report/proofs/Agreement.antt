@@ -7,11 +7,8 @@ use Rattle.py_fields.specs.Samples.{sample_layout}
 use Rattle.py_fields.specs.Sound.{IsSound}
 use Rattle.py_layout.specs.declared.error.LayoutError.{LayoutError}
 use Rattle.py_layout.specs.declared.error.LayoutError.TheVariants as layout
-use Rattle.py_layout.specs.File.{IsRightFor}
 use Rattle.py_layout.specs.Lists.{AreSound, Clash}
 use Rattle.py_layout.proofs.Answering.{right-unique}
-use Rattle.py_stacks.specs.Threads.{trace_of}
-use Rattle.py_stacks.specs.declared.trace.StackTrace.{StackTrace}
 use Rattle.py_process.specs.declared.core_error.CoreError.{CoreError}
 use Rattle.py_process.specs.declared.core_error.CoreError.TheVariants as core
 use Rattle.core_words.specs.Words.{Command, LayoutSource, Walk, walk, sample, file}

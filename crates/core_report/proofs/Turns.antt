@@ -5,7 +5,7 @@ use Rattle.std.specs.Global.{Global}
 use Rattle.std.specs.Borrow.{Bor}
 use Rattle.std.proofs.lemmas.Option.{same_Some, slice_get_within, slice_get-get_or, slice_get-map, none-some}
 use Rattle.std.proofs.lemmas.List.{append-nil, map-append, length-map, take_rest}
-use Rattle.outside.specs.Files.{FilesSeen, Told, FailedNames, Gives}
+use Rattle.outside.specs.Files.{FilesSeen, Told, Gives}
 use Rattle.core_report.specs.declared.cause.Cause.TheVariants.{OutOfMemory}
 use Rattle.core_report.specs.declared.trouble.Trouble.{Trouble}
 use Rattle.core_report.specs.declared.trouble.Trouble.TheVariants.{Cause as Caused, File}

@@ -1,5 +1,5 @@
 //! The parts of each line on the stream of errors, as tables, and the line with its status.
-ghost use Rattle.std.specs.Prelude.{◌≡◌, ◌++◌, ◌∷◌, [], codes};
+ghost use Rattle.std.specs.Prelude.{◌≡◌, ◌++◌, codes};
 ghost use Rattle.std.specs.List.{concat};
 ghost use Rattle.py_version.specs.Version.{version_text};
 ghost use Rattle.core_texts.specs.Parts.{said};

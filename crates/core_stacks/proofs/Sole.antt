@@ -12,7 +12,7 @@ use Rattle.py_fields.specs.declared.layout.Layout.{Layout}
 use Rattle.py_version.specs.declared.version.Version.{Version}
 use Rattle.py_stacks.specs.declared.trace.Addresses.{Addresses}
 use Rattle.py_stacks.specs.Asking.{nothing}
-use Rattle.py_stacks.specs.Stacks.{AreStacks, stacks_at}
+use Rattle.py_stacks.specs.Stacks.{stacks_at}
 use Rattle.py_stacks.specs.Threads.{Trace}
 use Rattle.py_stacks.proofs.Wholes.{stacks_whole}
 use Rattle.py_process.specs.declared.core_error.CoreError.{CoreError}

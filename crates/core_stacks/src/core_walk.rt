@@ -1,6 +1,5 @@
 //! The walk over a core's threads.
-ghost use Rattle.std.specs.Prelude.{◌≡◌, ◌≢◌, List, Result, Err};
-ghost use Rattle.image_memory.specs.Pieces.{memory_of};
+ghost use Rattle.std.specs.Prelude.{◌≢◌, List, Result, Err};
 ghost use Rattle.py_stacks.specs.Threads.{Trace};
 ghost use Rattle.py_process.specs.declared.core_error.CoreError.{CoreError};
 ghost use Rattle.core_stacks.specs.Answer.{IsUnlessMemory, Means, traced};

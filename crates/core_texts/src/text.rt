@@ -1,6 +1,6 @@
 //! The text of a walk.
 ghost use Rattle.std.specs.Prelude.{◌≡◌, ◌++◌, IfOk, OnOk, encode_utf8_all, string_bytes, unwrap_or};
-ghost use Rattle.core_texts.specs.Text.{frame_text, gil_text, id_text, line_text, name_text, thread_line, thread_text, walk_text};
+ghost use Rattle.core_texts.specs.Text.{frame_text, id_text, line_text, name_text, thread_line, thread_text, walk_text};
 
 use elf64_core::Text;
 use py_stacks::{Frame, StackTrace};

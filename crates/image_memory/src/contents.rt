@@ -1,5 +1,5 @@
 //! What is read of a core when it is taken.
-ghost use Rattle.std.specs.Prelude.{◌≡◌, ◌≢◌, ◌⊎◌, [], ℕ, IfOk, IfErr, IsErrOf, map};
+ghost use Rattle.std.specs.Prelude.{◌≡◌, ◌≢◌, ◌⊎◌, [], IfOk, IfErr, IsErrOf, map};
 ghost use Rattle.std.specs.Bool.{MatchBool};
 ghost use Rattle.elf64_core.specs.Header.{IsAccepted};
 ghost use Rattle.image_memory.specs.Notes.{note_segments};

@@ -1,5 +1,5 @@
 //! The notes of a core.
-ghost use Rattle.std.specs.Prelude.{◌≡◌, ◌⊎◌, ◌↔◌, List, ℕ, IfOk, IfErr, IsErrOf, IsTrue, All, filter, filter_map, find, map, nat_eq, option_and_then, reverse};
+ghost use Rattle.std.specs.Prelude.{◌≡◌, ◌⊎◌, ◌↔◌, List, IfOk, IfErr, IsErrOf, IsTrue, All, filter, filter_map, find, map, nat_eq, option_and_then, reverse};
 ghost use Rattle.elf64_core.specs.Header.{IsAccepted};
 ghost use Rattle.elf64_core.specs.Notes.{Noted, noted};
 ghost use Rattle.image_memory.specs.FileTables.{Entry, entry_of};

@@ -1,5 +1,5 @@
 //! Where the bytes of a core's memory stand in its file.
-ghost use Rattle.std.specs.Prelude.{◌≡◌, ◌≢◌, ◌+◌, ◌<◌, ◌≤◌, ◌⊎◌, ℕ, All, IfSome, MatchOption, false, length, None, Some, slice_range};
+ghost use Rattle.std.specs.Prelude.{◌≡◌, ◌≢◌, ◌+◌, ◌<◌, ◌≤◌, ◌⊎◌, ℕ, All, IfSome, MatchOption, false, None, Some, slice_range};
 ghost use Rattle.image_memory.specs.Places.{IsHeld, IsRun, IsSegmentRun, IsStretch, holds_byte, place_in};
 
 use elf64_core::Segment;

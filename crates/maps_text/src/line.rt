@@ -1,6 +1,6 @@
 //! One line.
 ghost use Rattle.std.specs.Prelude.{◌≡◌, Some, None, MatchResult};
-ghost use Rattle.maps_text.specs.Lines.{range_of, after_range, perm_in_line, offset_of, path_of, first_fault, range_faults, mode_faults, offset_faults, device_faults, faults, line_of, IsAnswer};
+ghost use Rattle.maps_text.specs.Lines.{range_of, perm_in_line, offset_of, path_of, first_fault, range_faults, mode_faults, offset_faults, device_faults, faults, line_of, IsAnswer};
 ghost use Rattle.maps_text.specs.Fields.{behind, field, trimmed};
 ghost use Rattle.maps_text.specs.Perms.{perm_of};
 ghost use Rattle.std.specs.Str.Parse.{digits_value};

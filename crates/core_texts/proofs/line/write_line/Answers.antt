@@ -1,7 +1,7 @@
 use Rattle.std.proofs.Common.{◌++◌, codes}
 use Rattle.std.proofs.lemmas.Result.{err_from_is_err_and}
 use Rattle.core_texts.specs.Parts.{said}
-use Rattle.core_texts.proofs.Pieces.{cut_off, then_added, then_cut, then_written}
+use Rattle.core_texts.proofs.Pieces.{cut_off, then_cut, then_written}
 use Rattle.core_texts.proofs.line.write_line.Goals as goal
 
 pub returns-in_err-write_piece : goal.returns-in_err-write_piece
