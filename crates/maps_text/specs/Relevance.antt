@@ -1,5 +1,5 @@
 -- The entries that matter for addresses.
-use Rattle.std.specs.Prelude.{◌≡◌, ◌⊎◌, ◌||◌, Bool, true, false, List, [], ◌∷◌, Option, None, Result, Ok, Err, IfSome, IsSomeAnd}
+use Rattle.std.specs.Prelude.{◌≡◌, ◌⊎◌, ◌||◌, Bool, true, false, List, [], ◌∷◌, Option, None, Result, Ok, Err, IsSomeAnd}
 use Rattle.maps_text.specs.declared.entry.MapsEntry.{MapsEntry}
 use Rattle.maps_text.specs.declared.error.MapsError.{MapsError}
 use Rattle.maps_text.specs.Lines.{IsAnswer}
