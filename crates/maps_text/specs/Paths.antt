@@ -23,7 +23,10 @@ maps_file_text pid start end = codes "/proc/" ++ (decimal pid ++ (codes "/map_fi
 
 -- a file's path
 abbrev pub file_of : ℕ → Range ℕ → List ℕ → PathName
-file_of pid range path = Path (record { maps_file = maps_file_text pid range.start range.end; symbolic_path = undeleted path })
+file_of pid range path = Path (record {
+  maps_file = maps_file_text pid range.start range.end;
+  symbolic_path = undeleted path;
+})
 
 -- none where there are no bytes, a file where they begin with `/`, and else the characters of what is no file
 abbrev pub path_name_of : ℕ → Range ℕ → List ℕ → Option PathName

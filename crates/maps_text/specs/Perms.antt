@@ -17,7 +17,8 @@ is_mode mode = nat_le 3 (length mode)
 -- what a mode allows: its first three bytes set 4, 2, 1 where they are r, w, x
 abbrev pub perm_of : List ℕ → Perm
 perm_of mode = record {
-  0 = bit_or (bit_or (bit_for 114 4 (slice_index mode 0)) (bit_for 119 2 (slice_index mode 1))) (bit_for 120 1 (slice_index mode 2));
+  0 = bit_or (bit_or (bit_for 114 4 (slice_index mode 0)) (bit_for 119 2 (slice_index mode 1)))
+      (bit_for 120 1 (slice_index mode 2));
 }
 
 -- a letter where the bit is set, and - where it is not

@@ -13,4 +13,5 @@ answers_left entries = answers_of entries.pid entries.rest.now
 -- the first line that was left was answered, or there was none
 abbrev pub AnswersFirst : MapsEntryIter → Option (Result MapsEntry MapsError) → MapsEntryIter → Type 0
 AnswersFirst old item new = MatchOption item ((answers_left old ≡ []) × (answers_left new ≡ []))
-    (λ result. (right : Result MapsEntry MapsError) × (answers_left old ≡ right ∷ answers_left new) × IsAnswer right result)
+    (λ result. (right : Result MapsEntry MapsError)
+    × (answers_left old ≡ right ∷ answers_left new) × IsAnswer right result)

@@ -107,11 +107,16 @@ fn fields_in(line: &[u8]) -> Result<Fields<'_>, MapsError>
 }
 
 /// What a line says of a map of a process, or why it is refused.
-pub(crate) fn parse_line(alloc: Global, line: &[u8], pid: u32) -> Result<MapsEntry, MapsError>
+pub(crate) fn parse_line(
+    alloc: Global,
+    text: &mut String,
+    line: &[u8],
+    pid: u32,
+) -> Result<MapsEntry, MapsError>
     ensures { IsAnswer (line_of pid line.now) result }
 {
     let fields = fields_in(line)?;
-    let path_name = path_name(alloc, pid, &fields.range, fields.path)?;
+    let path_name = path_name(alloc, text, pid, &fields.range, fields.path)?;
     Ok(MapsEntry {
         range: fields.range,
         perm: fields.perm,

@@ -33,6 +33,9 @@ fn first_line(text: &[u8]) -> (&[u8], &[u8])
 #[derive(Drop)]
 pub struct MapsEntryIter<'a> {
     alloc: Global,
+    /// Where the paths of files by range are put together, so that each takes one allocation.
+    text: String,
+    /// The text that is left.
     rest: &'a [u8],
     pid: u32,
 }
@@ -47,6 +50,7 @@ pub fn parse_file<'a>(alloc: Global, bytes: &'a [u8], pid: u32) -> MapsEntryIter
 {
     MapsEntryIter {
         alloc,
+        text: String::new(alloc),
         rest: bytes,
         pid,
     }
@@ -68,6 +72,6 @@ impl<'a> Iterator for MapsEntryIter<'a> {
         }
         let (line, rest) = first_line(self.rest);
         self.rest = rest;
-        Some(parse_line(self.alloc, line, self.pid))
+        Some(parse_line(self.alloc, &mut self.text, line, self.pid))
     }
 }

@@ -1,5 +1,5 @@
 //! The path that a line gives.
-ghost use Rattle.std.specs.Prelude.{◌≡◌, IfOk, string_bytes};
+ghost use Rattle.std.specs.Prelude.{◌≡◌, IfOk, OnOk, string_bytes};
 ghost use Rattle.bstr.specs.Utf8.{lossy_chars};
 ghost use Rattle.maps_text.specs.Paths.{maps_file_text, path_name_of, undeleted};
 
@@ -22,18 +22,24 @@ fn undeleted(path: &[u8]) -> &[u8]
     }
 }
 
-/// The path of the file of a map by its process and its range.
-fn maps_file_text(alloc: Global, pid: u32, start: u64, end: u64) -> Result<String, AllocError>
-    ensures { IfOk result (λ text. string_bytes text ≡ maps_file_text pid start end) }
+/// Writes the path of the file of a map by its process and its range, in place of what the text holds.
+fn write_maps_file(text: &mut String, pid: u32, start: u64, end: u64) -> Result<(), AllocError>
+    ensures { OnOk result (string_bytes text.new ≡ maps_file_text pid start end) }
 {
-    format!(in alloc; "/proc/{pid}/map_files/{start:x}-{end:x}")
+    text.clear();
+    write!(text, "/proc/{pid}/map_files/{start:x}-{end:x}")
 }
 
 /// The file of a map by its process and its range.
-fn maps_file(alloc: Global, pid: u32, range: &Range<u64>) -> Result<Name, AllocError>
+fn maps_file(
+    alloc: Global,
+    text: &mut String,
+    pid: u32,
+    range: &Range<u64>,
+) -> Result<Name, AllocError>
     ensures { IfOk result (λ name. name ≡ maps_file_text pid range.now.start range.now.end) }
 {
-    let text = maps_file_text(alloc, pid, range.start, range.end)?;
+    write_maps_file(text, pid, range.start, range.end)?;
     Name::of(alloc, text.as_bytes())
 }
 
@@ -49,6 +55,7 @@ fn component(alloc: Global, path: &[u8]) -> Result<Text, AllocError>
 /// What the bytes of a path are: nothing, a file where they begin with `/`, or something else.
 pub(crate) fn path_name(
     alloc: Global,
+    text: &mut String,
     pid: u32,
     range: &Range<u64>,
     path: &[u8],
@@ -58,7 +65,7 @@ pub(crate) fn path_name(
     match path {
         [] => Ok(None),
         [b'/', ..] => {
-            let maps_file = maps_file(alloc, pid, range)?;
+            let maps_file = maps_file(alloc, text, pid, range)?;
             let symbolic_path = Name::of(alloc, undeleted(path))?;
             Ok(Some(PathName::Path(EntryPath {
                 maps_file,

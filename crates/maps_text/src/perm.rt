@@ -27,7 +27,8 @@ impl Perm {
 
 /// What the first three bytes of a mode allow: R, W, X where they are `r`, `w`, `x`. None where it is shorter.
 pub(crate) fn perm_in(mode: &[u8]) -> Option<Perm>
-    ensures { MatchOption result (is_mode mode.now ≡ false) (λ perm. (is_mode mode.now ≡ true) × (perm ≡ perm_of mode.now)) }
+    ensures { MatchOption result (is_mode mode.now ≡ false) (λ perm.
+        (is_mode mode.now ≡ true) × (perm ≡ perm_of mode.now)) }
 {
     let [read, write, execute, ..] = mode else {
         return None;

@@ -97,21 +97,32 @@ const REFUSED: [(&[u8], MapsError); 23] = [
     (b"1-2 r--p 0 00:20\n", NoDevice),
 ];
 
+/// Why the first line of a text is refused.
+fn first_error(alloc: Global, text: &[u8]) -> Option<MapsError> {
+    let mut entries = parse_file(alloc, text, 7);
+    entries.next()?.err()
+}
+
+/// Why the first line that is kept of a text is refused.
+fn first_kept_error(alloc: Global, text: &[u8]) -> Option<MapsError> {
+    let mut kept = FilteredEntries::new(parse_file(alloc, text, 7));
+    kept.next()?.err()
+}
+
 #[test]
 fn lines_that_are_refused(rt: HostRuntime) -> Result<(), Fail> {
     let alloc = rt.alloc();
     for (line, want) in REFUSED {
-        let mut text = Vec::from_slice(alloc, line)?;
-        let mut entries = parse_file(alloc, text.as_slice(), 7);
-        assert!(rt; matches!(entries.next(), Some(Err(error)) if error == want));
-        assert!(rt; entries.next().is_none());
-        text.extend_from_slice(b"\n1-2 --- 0 0 0\n1-2 r-- 0 0 0\n")?;
-        let mut kept = FilteredEntries::new(parse_file(alloc, text.as_slice(), 7));
-        assert!(rt; matches!(kept.next(), Some(Err(error)) if error == want));
+        assert!(rt; first_error(alloc, line) == Some(want));
+        let mut text = Vec::from_slice(alloc, b"1-2 --- 0 0 0\n")?;
+        text.extend_from_slice(line)?;
+        text.extend_from_slice(b"\n1-2 r-- 0 0 0\n")?;
+        assert!(rt; first_kept_error(alloc, text.as_slice()) == Some(want));
     }
-    let mut kept = FilteredEntries::new(parse_file(alloc, b"1-2 --- 0 0 0\n\n1-2 --- 0 0 0\n", 7));
-    assert!(rt; matches!(kept.next(), Some(Err(NoRange))));
-    assert!(rt; kept.next().is_none());
+    let mut entries = parse_file(alloc, b"\n1-2 --- 0 0 0", 7);
+    assert!(rt; matches!(entries.next(), Some(Err(NoRange))));
+    assert!(rt; matches!(entries.next(), Some(Ok(_))));
+    assert!(rt; entries.next().is_none());
     Ok(())
 }
 
