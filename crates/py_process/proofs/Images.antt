@@ -1,12 +1,10 @@
 -- The refusals of an image shut each other out, and an image that says something has none.
-use Rattle.std.proofs.Common.{◌≡◌, ◌≢◌, ℕ, List, refl, sym, ap, subst, ◌∙◌, ◌++◌, inl, inr, ⊎_elim, Ok, Err}
-use Rattle.std.specs.Prelude.{◌⊎◌, Option, Some, None, Result, MatchResult, IfErr, IsErrOf}
-use Rattle.elf64_core.specs.Header.{HasSegments, IsAccepted, IsElf64}
+use Rattle.std.proofs.Common.{◌≡◌, ◌≢◌, ℕ, List, refl, sym, ap, ◌∙◌, ◌++◌, inl, inr, ⊎_elim, Ok, Err}
+use Rattle.std.specs.Prelude.{◌⊎◌, Some, Result, MatchResult, IfErr, IsErrOf}
+use Rattle.elf64_core.specs.Header.{IsAccepted, IsElf64}
 use Rattle.elf64_core.specs.Sections.{HasSections, sections_of}
 use Rattle.elf64_core.specs.Symbols.{symbols_of}
 use Rattle.elf64_core.specs.declared.symbol.SymbolKind.TheVariants.{Plain, Dynamic}
-use Rattle.elf64_core.specs.declared.segment.Segment.{Segment}
-use Rattle.elf64_core.specs.declared.section.Section.{Section}
 use Rattle.py_process.specs.declared.binary.BinaryInfo.{BinaryInfo}
 use Rattle.py_process.specs.declared.binary_error.BinaryError.{BinaryError}
 use Rattle.py_process.specs.declared.binary_error.BinaryError.TheVariants.{NotElf64, BadHeader, NoBss, NoExecutable, BadBss, OutOfMemory}
@@ -15,7 +13,7 @@ use Rattle.py_process.specs.declared.ranges.Ranges.{Ranges}
 use Rattle.py_process.specs.Binary.{HasInfo, IsInfo, SaySame}
 use Rattle.py_process.specs.Ranges.{AreRanges, bss_range, moved_by, runtime_range, runtime_section}
 use Rattle.py_process.specs.Refusals.{HasBadBss, HasBadHeader, HasNoBss, HasNoExecutable, HasRanges, Refuses}
-use Rattle.py_process.specs.SymbolMap.{address_in, address_of}
+use Rattle.py_process.specs.SymbolMap.{address_of}
 use Rattle.py_process.proofs.Bss.{no_bss, one_bss}
 
 same_some : {A : Type 0} (x y : A) → Some x ≡ Some y → x ≡ y

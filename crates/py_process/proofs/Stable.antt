@@ -1,9 +1,9 @@
 -- What isn't refuted of an image's tables holds, as it can be decided.
-use Rattle.std.proofs.Common.{◌≡◌, ◌≢◌, ℕ, ◌+◌, ◌≤◌, List, length, refl, sym, ap, subst, inl, inr, ⊎_elim, arith}
-use Rattle.std.specs.Prelude.{◌⊎◌, Option, Some, None, MatchOption, ⊤}
+use Rattle.std.proofs.Common.{◌≡◌, ℕ, ◌+◌, List, length, refl, subst, inl, inr, ⊎_elim, arith}
+use Rattle.std.specs.Prelude.{Option, Some, None, MatchOption, ⊤}
 use Rattle.std.proofs.lemmas.Bool.{cases_eq, cases_lt}
 use Rattle.elf64_core.specs.Header.{IsInside}
-use Rattle.elf64_core.specs.Sections.{HasSections, section_count, section_entry_size, section_table}
+use Rattle.elf64_core.specs.Sections.{HasSections, section_count, section_entry_size}
 use Rattle.elf64_core.specs.Symbols.{HasSymbols, symbol_section}
 use Rattle.elf64_core.specs.declared.section.Section.{Section}
 use Rattle.elf64_core.specs.declared.symbol.SymbolKind.{SymbolKind}

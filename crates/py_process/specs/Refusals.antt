@@ -1,5 +1,5 @@
 -- Why an image says nothing, in the order in which the causes are looked for.
-use Rattle.std.specs.Prelude.{◌≡◌, ◌≢◌, ◌⊎◌, ℕ, List, Option, Some, None, ⊤}
+use Rattle.std.specs.Prelude.{◌≡◌, ◌⊎◌, ℕ, List, Some, None, ⊤}
 use Rattle.elf64_core.specs.Header.{HasSegments, IsAccepted, IsElf64}
 use Rattle.elf64_core.specs.Sections.{HasSections, sections_of}
 use Rattle.elf64_core.specs.Symbols.{HasSymbols}

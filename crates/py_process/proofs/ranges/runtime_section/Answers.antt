@@ -1,4 +1,4 @@
-use Rattle.std.proofs.Common.{◌≡◌, ◌∙◌, sym, ap, arith, get_or}
+use Rattle.std.proofs.Common.{◌∙◌, sym, ap}
 use Rattle.std.specs.List.{find}
 use Rattle.elf64_core.specs.declared.section.Section.{Section}
 use Rattle.py_process.specs.Ranges.{is_runtime}

@@ -1,6 +1,6 @@
-use Rattle.std.proofs.Common.{◌≡◌, ℕ, ◌∙◌, Bool, true, false, List, [], ◌∷◌, ◌++◌, ap, sym, subst, take, map, get_or, refl}
-use Rattle.std.specs.Prelude.{Option, Some, None, option_copied, ◌&&◌}
-use Rattle.elf64_core.specs.Symbols.{SymbolEntry, entry_of}
+use Rattle.std.proofs.Common.{◌≡◌, ◌∙◌, Bool, true, false, [], ◌∷◌, ◌++◌, ap, sym, subst, take, map, get_or, refl}
+use Rattle.std.specs.Prelude.{None, option_copied, ◌&&◌}
+use Rattle.elf64_core.specs.Symbols.{entry_of}
 use Rattle.elf64_core.specs.declared.symbol.Symbol.{Symbol}
 use Rattle.py_process.specs.Ranges.{is_named}
 use Rattle.py_process.specs.SymbolMap.{is_kept}
