@@ -1,6 +1,6 @@
 -- What isn't refuted of an image's tables holds, as it can be decided.
 use Rattle.std.proofs.Common.{◌≡◌, ℕ, ◌+◌, List, length, refl, subst, inl, inr, ⊎_elim, arith}
-use Rattle.std.specs.Prelude.{◌⊎◌, Option, Some, None, MatchOption, ⊤}
+use Rattle.std.specs.Prelude.{Option, Some, None, MatchOption, ⊤}
 use Rattle.std.proofs.lemmas.Bool.{cases_eq, cases_lt}
 use Rattle.elf64_core.specs.Header.{IsInside}
 use Rattle.elf64_core.specs.Sections.{HasSections, section_count, section_entry_size}

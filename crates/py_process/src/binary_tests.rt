@@ -39,7 +39,7 @@ fn image(
     let table = 143u64.wrapping_add(symbols.len() as u64);
     bytes.extend_from_slice(&table.to_le_bytes())?;
     bytes.extend_from_slice(b"\0\0\0\0\0\0\x38\0\x01\0\x40\0")?;
-    let count = (sections.len() as u16).wrapping_add(1);
+    let count = u16::try_from(sections.len()).unwrap_or(0).wrapping_add(1);
     bytes.extend_from_slice(&count.to_le_bytes())?;
     bytes.extend_from_slice(b"\0\0\x01\0\0\0")?;
     bytes.extend_from_slice(&flags.to_le_bytes())?;
