@@ -14,8 +14,10 @@ use std::collections::BTreeMap;
 /// A map of a core: a load segment, and the name of the file that was mapped there, if the core tells one.
 #[derive(Debug, Drop)]
 pub struct CoreMapRange {
-    pathname: Option<Name>,
-    segment: Segment,
+    /// The name of its file, if the core tells one.
+    pub pathname: Option<Name>,
+    /// The load segment.
+    pub segment: Segment,
 }
 
 impl CoreMapRange {

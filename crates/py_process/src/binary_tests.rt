@@ -1,6 +1,7 @@
 //! Images, written out field by field, and what they say.
 use crate::{BinaryError, BinaryInfo, PythonProcessInfo, parse_binary};
 use elf64_core::Name;
+use image_memory::CoreMapRange;
 use std::alloc::{AllocError, Global};
 use std::test::Fail;
 
@@ -266,10 +267,11 @@ fn symbols_are_the_last_of_the_program(rt: HostRuntime) -> Result<(), Fail> {
     for (addr, want) in [(0, true), (0xfff, true), (0x1000, false)] {
         assert!(rt; plain.contains(addr) == want, "{addr:#x}");
     }
+    let no_maps: Vec<CoreMapRange> = Vec::new(alloc);
     let mut info = PythonProcessInfo {
         python_binary: Some(plain),
         libpython_binary: Some(both),
-        maps: (),
+        maps: no_maps,
         python_filename: Name::of(alloc, b"/usr/bin/python3.9")?,
     };
     assert_eq!(rt; info.get_symbol(b"f").copied(), Some(2));

@@ -4,10 +4,11 @@ ghost use Rattle.py_process.specs.Binary.{symbol_at, symbol_in};
 
 use crate::BinaryInfo;
 use elf64_core::Name;
+use image_memory::ContainsAddr;
 
 /// What is known of a Python process from its maps and images.
 #[derive(Debug, Drop)]
-pub struct PythonProcessInfo<M> {
+pub struct PythonProcessInfo<M: ContainsAddr> {
     /// What the image of the program says, where it is there.
     pub python_binary: Option<BinaryInfo>,
     /// What the image of Python's library says, where one is mapped and its image is there.
@@ -28,7 +29,7 @@ fn symbol_in<'a>(binary: &'a Option<BinaryInfo>, symbol: &[u8]) -> Option<&'a u6
     }
 }
 
-impl<M> PythonProcessInfo<M> {
+impl<M: ContainsAddr> PythonProcessInfo<M> {
     /// The address of a symbol: the program's where it has one, else the library's.
     ///
     /// None exactly where neither has the symbol.
