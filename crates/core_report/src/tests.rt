@@ -80,6 +80,9 @@ fn files(alloc: Global, failing: &[u64]) -> Result<MemoryFiles, AllocError> {
     let mut held = Vec::new(alloc);
     held.push((Name::of(alloc, b"core")?, core(alloc)?))?;
     held.push((Name::of(alloc, b"text")?, b"text".to_vec(alloc)?))?;
+    // the third program header is that of no note segment; the note segment has 8 bytes
+    held.push((Name::of(alloc, b"bare")?, core_with(alloc, &[(120, 0)])?))?;
+    held.push((Name::of(alloc, b"cut")?, core_with(alloc, &[(152, 8)])?))?;
     Ok(MemoryFiles::new(alloc, held, failing.to_vec(alloc)?))
 }
 
@@ -96,7 +99,7 @@ struct Row {
 
 const GOOD: [&str; 6] = ["walk", "core", "sample", "3.9.0", "0x10000", "0"];
 
-const ROWS: [Row; 14] = [
+const ROWS: [Row; 16] = [
     Row {
         words: &GOOD,
         failing_reads: &[1],
@@ -114,6 +117,24 @@ const ROWS: [Row; 14] = [
         status: 1,
         printed: b"",
         said: b"pystacks: not an ELF64 little-endian file\n",
+    },
+    Row {
+        words: &["walk", "bare", "sample", "3.9.0", "0x10000", "0"],
+        failing_reads: &[],
+        failing_writes: &[],
+        room_for_line: 100,
+        status: 1,
+        printed: b"",
+        said: b"pystacks: no note segment\n",
+    },
+    Row {
+        words: &["walk", "cut", "sample", "3.9.0", "0x10000", "0"],
+        failing_reads: &[],
+        failing_writes: &[],
+        room_for_line: 100,
+        status: 1,
+        printed: b"",
+        said: b"pystacks: bad note\n",
     },
     Row {
         words: &["walk", "core", "sample", "3.8.0", "0x10000", "0"],

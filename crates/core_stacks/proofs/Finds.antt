@@ -1,16 +1,14 @@
 -- Where the walk of a core has nothing to complain of, no error is right but want of memory; nor is one where
 -- traces are.
-use Rattle.std.proofs.Common.{◌≡◌, ◌≢◌, ◌<◌, ◌⊎◌, ℕ, List, length, get_or, refl, sym, ap, ◌∙◌, arith, ⊎_elim}
-use Rattle.std.proofs.lemmas.Bool.{cases_order}
-use Rattle.std.proofs.lemmas.List.{get_or_default}
-use Rattle.std.specs.Prelude.{Option, Some, None, Err, AllPairs, Contains}
+use Rattle.std.proofs.Common.{◌≡◌, ◌≢◌, ℕ, List, refl, sym, ap, ◌∙◌}
+use Rattle.std.specs.Prelude.{Option, Some, None, Err, AllPairs}
 use Rattle.image_memory.specs.declared.dump_error.DumpError.TheVariants as dump
 use Rattle.image_memory.proofs.Refusals.{no_core}
 use Rattle.process_memory.specs.Memory.{Fault}
 use Rattle.py_fields.specs.declared.layout.Layout.{Layout}
 use Rattle.py_version.specs.declared.version.Version.{Version}
-use Rattle.py_fields.specs.Sound.{Covers}
 use Rattle.py_layout.specs.Lists.{Clash}
+use Rattle.py_layout.proofs.Choosing.{covers_same}
 use Rattle.py_stacks.specs.Threads.{Trace}
 use Rattle.py_stacks.specs.declared.trace.Addresses.{Addresses}
 use Rattle.py_process.specs.declared.core_error.CoreError.{CoreError}
@@ -22,28 +20,9 @@ use Rattle.core_stacks.specs.Answer.{Finds, IsChosen, IsWalkable, Means, Meets, 
 abbrev pub NoneClash : List Layout → Type 0
 NoneClash layouts = AllPairs (λ a b. ¬ Clash a b) layouts
 
-covers_clash : (a b : Layout) (version : Version) → Covers a version → Covers b version → Clash a b
-covers_clash a b version ca cb = record {
-  major = sym ca.major ∙ cb.major;
-  first = omega (arith, ca.first, cb.last);
-  last = omega (arith, cb.first, ca.last);
-}
-
-not_before : (layouts : List Layout) (version : Version) (a b : Layout) (i j : ℕ) → NoneClash layouts → i < j → j < length layouts → get_or layouts i a ≡ a → get_or layouts j b ≡ b → Covers a version → Covers b version → ⊥
-not_before layouts version a b i j apart order within ia jb ca cb =
-    let ja : get_or layouts j a ≡ b = get_or_default layouts j a b within ∙ jb in
-    let clash : Clash (get_or layouts i a) (get_or layouts j a) = rw (ia, ja) (covers_clash a b version ca cb) in
-    apart i j a order within clash
-
 chosen_same : (layouts : List Layout) (version : Version) (a b : Layout) → NoneClash layouts → IsChosen layouts version a → IsChosen layouts version b → a ≡ b
-chosen_same layouts version a b apart one other = by one.listed other.listed
-  where
-    by : Contains layouts a → Contains layouts b → a ≡ b
-    by (i, within, ia) (j, below, jb) =
-        ⊎_elim (λ same. sym ia ∙ get_or_default layouts i a b within ∙ ap (λ k. get_or layouts k b) same ∙ jb)
-        (⊎_elim (λ lt. absurd (not_before layouts version a b i j apart lt below ia jb one.covers other.covers))
-        (λ lt. absurd (not_before layouts version b a j i apart lt within jb ia other.covers one.covers)))
-        (cases_order i j)
+chosen_same layouts version a b apart one other =
+    covers_same layouts version a b apart one.listed one.covers other.listed other.covers
 
 -- ---- a core without fault has no error
 
