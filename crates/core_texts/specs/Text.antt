@@ -1,4 +1,4 @@
--- The text of a walk.
+-- The texts of a walk and of a report.
 use Rattle.std.specs.Prelude.{ℕ, ℤ, pos, negsuc, ◌++◌, ◌==◌, Bool, true, false, if◌then◌else◌, List, [], map, reverse, Option, Some, None, unwrap_or, codes, decimal, encode_utf8_all}
 use Rattle.std.specs.Fmt.{digits, signed_decimal}
 use Rattle.std.specs.List.{concat}
@@ -44,3 +44,19 @@ thread_text t = thread_line t ++ concat (map (λ f. frame_text f) t.frames.items
 abbrev pub walk_text : Version → List StackTrace → List ℕ
 walk_text version traces = codes "Python v" ++ (version_text version ++ (codes "\n\n"
     ++ concat (map (λ t. thread_text t) (reverse traces))))
+
+-- the signal that a core tells, beside the core's name, where it tells one
+abbrev pub signal_text : List ℕ → Option ℤ → List ℕ
+signal_text core None = []
+signal_text core (Some signal) = codes "Signal " ++ (signed_decimal signal ++ (codes ": " ++ (core ++ codes "\n")))
+
+-- the process that a core tells, by its id and arguments, where it tells one
+abbrev pub process_text : Option (ℤ × List ℕ) → List ℕ
+process_text None = []
+process_text (Some process) = codes "Process " ++ (signed_decimal process.0 ++ (codes ": "
+    ++ (encode_utf8_all process.1 ++ codes "\n")))
+
+-- the signal, the process, and what a walk prints
+abbrev pub report_text : List ℕ → Option ℤ → Option (ℤ × List ℕ) → Version → List StackTrace → List ℕ
+report_text core signal process version traces =
+    signal_text core signal ++ (process_text process ++ walk_text version traces)

@@ -10,7 +10,7 @@ mod text;
 
 pub use line::{say_line, write_parts};
 pub use part::{Part, Parts, parts};
-pub use text::walk_text;
+pub use text::{report_text, walk_text};
 
 #[cfg(test)]
 mod tests;

@@ -1,6 +1,6 @@
-//! The text of a walk.
+//! The texts of a walk and of a report.
 ghost use Rattle.std.specs.Prelude.{◌≡◌, ◌++◌, IfOk, OnOk, encode_utf8_all, string_bytes, unwrap_or};
-ghost use Rattle.core_texts.specs.Text.{frame_text, id_text, line_text, name_text, thread_line, thread_text, walk_text};
+ghost use Rattle.core_texts.specs.Text.{frame_text, id_text, line_text, name_text, process_text, report_text, signal_text, thread_line, thread_text, walk_text};
 
 use elf64_core::Text;
 use py_stacks::{Frame, StackTrace};
@@ -15,11 +15,67 @@ pub fn walk_text(
 ) -> Result<String, AllocError>
     ensures { IfOk result (λ text. string_bytes text ≡ walk_text version.now traces.now) }
 {
-    let mut text = format!(in alloc; "Python v{version}\n\n")?;
-    for trace in traces.iter().rev() {
-        push_thread(&mut text, trace)?;
-    }
+    let mut text = String::new(alloc);
+    push_walk(&mut text, version, traces)?;
     Ok(text)
+}
+
+/// The signal that a core tells, beside the core's name, and the process, by its id and arguments, where it
+/// tells them; then what a walk prints. The one error is want of memory.
+pub fn report_text(
+    alloc: Global,
+    core: &str,
+    signal: Option<i16>,
+    process: &Option<(i32, Text)>,
+    version: &Version,
+    traces: &[StackTrace],
+) -> Result<String, AllocError>
+    ensures { IfOk result (λ text. string_bytes text
+        ≡ report_text core.now signal process.now version.now traces.now) }
+{
+    let mut text = String::new(alloc);
+    push_signal(&mut text, core, signal)?;
+    push_process(&mut text, process)?;
+    push_walk(&mut text, version, traces)?;
+    Ok(text)
+}
+
+/// The line of the signal, where there is one.
+fn push_signal(text: &mut String, core: &str, signal: Option<i16>) -> Result<(), AllocError>
+    ensures { OnOk result (string_bytes text.new ≡ string_bytes text.old ++ signal_text core.now signal) }
+{
+    let Some(signal) = signal else {
+        return Ok(());
+    };
+    write!(text, "Signal {signal}: {core}\n")
+}
+
+/// The line of the process, where there is one.
+fn push_process(text: &mut String, process: &Option<(i32, Text)>) -> Result<(), AllocError>
+    ensures { OnOk result (string_bytes text.new ≡ string_bytes text.old ++ process_text process.now) }
+{
+    let Some((pid, arguments)) = process else {
+        return Ok(());
+    };
+    let pid = *pid;
+    write!(text, "Process {pid}: ")?;
+    text.push_str(arguments.as_str())?;
+    text.push_str("\n")
+}
+
+/// The version, and the threads from the last to the first.
+fn push_walk(
+    text: &mut String,
+    version: &Version,
+    traces: &[StackTrace],
+) -> Result<(), AllocError>
+    ensures { OnOk result (string_bytes text.new ≡ string_bytes text.old ++ walk_text version.now traces.now) }
+{
+    write!(text, "Python v{version}\n\n")?;
+    for trace in traces.iter().rev() {
+        push_thread(text, trace)?;
+    }
+    Ok(())
 }
 
 /// The line of a thread, and those of its frames.

@@ -1,4 +1,5 @@
 -- What the program's own words stand for.
+use Rattle.std.specs.Prelude.{map}
 use Rattle.py_version.specs.Version.{release}
 use Rattle.py_version.specs.declared.version.Version.{Version}
 use Rattle.core_words.specs.Words as words
@@ -7,7 +8,8 @@ use Rattle.core_words.specs.declared.walk.WalkWords.{WalkWords}
 use Rattle.core_words.specs.declared.walk.LayoutSource.{LayoutSource}
 use Rattle.core_words.specs.declared.walk.LayoutSource.TheVariants.{Sample, File}
 use Rattle.core_words.specs.declared.command.Command.{Command}
-use Rattle.core_words.specs.declared.command.Command.TheVariants.{Walk}
+use Rattle.core_words.specs.declared.command.Command.TheVariants.{Walk, Dump}
+use Rattle.core_words.specs.declared.dump.DumpWords.{DumpWords}
 
 abbrev pub asked_version : Release → Version
 asked_version r = release r.major r.minor r.patch
@@ -24,5 +26,13 @@ asked_walk w = record {
   addresses = w.addresses;
 }
 
+abbrev pub asked_dump : DumpWords → words.Dump
+asked_dump d = record {
+  core = d.core.now;
+  layouts = d.layouts.now;
+  images = map words.image_of (words.texts d.images.now);
+}
+
 abbrev pub asked_command : Command → words.Command
 asked_command (Walk w) = words.walk (asked_walk w)
+asked_command (Dump d) = words.dump (asked_dump d)

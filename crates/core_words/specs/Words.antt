@@ -53,9 +53,16 @@ pub record Walk : Type 0 where
   pub version : Version
   pub addresses : Addresses
 
+-- the report of the core of this name, by a layout file, with files under the paths at which they were mapped
+pub record Dump : Type 0 where
+  pub core : List ℕ
+  pub layouts : List ℕ
+  pub images : List (List ℕ × List ℕ)
+
 -- what words ask for
 pub data Command : Type 0 where
   walk : Walk → Command
+  dump : Dump → Command
 
 -- a walk of these parts, where all are there
 abbrev pub walk_by : List ℕ → LayoutSource → Option Version → Option ℕ → Option ℕ → Option Walk
@@ -73,10 +80,29 @@ walk_words (core ∷ layouts ∷ version ∷ interp ∷ lock ∷ []) =
     walk_by core (source_of layouts) (release_of version) (number_of interp) (number_of lock)
 walk_words _ = None
 
+abbrev pub is_equals : ℕ → Bool
+is_equals c = c == 61
+
+-- a word of an image has an equals sign: the path stands before the first one, the file's name behind it
+abbrev pub is_image : List ℕ → Bool
+is_image word = nat_lt (position_or_len is_equals word) (length word)
+
+abbrev pub image_of : List ℕ → List ℕ × List ℕ
+image_of word = (before_first is_equals word, after_first is_equals word)
+
+-- -c CORE --layouts FILE PATH=FILE ..
+abbrev pub dump_words : List (List ℕ) → Option Dump
+dump_words (c ∷ core ∷ l ∷ layouts ∷ images) =
+    if bytes_eq c (codes "-c") && (bytes_eq l (codes "--layouts") && list_all is_image images)
+    then Some (record { core = core; layouts = layouts; images = map image_of images }) else None
+dump_words _ = None
+
 -- the command's name, and then its words
 abbrev pub command_of : List (List ℕ) → Option Command
 command_of [] = None
-command_of (name ∷ words) = if bytes_eq name (codes "walk") then option_map (λ w. walk w) (walk_words words) else None
+command_of (name ∷ words) =
+    if bytes_eq name (codes "walk") then option_map (λ w. walk w) (walk_words words)
+    else (if bytes_eq name (codes "dump") then option_map (λ d. dump d) (dump_words words) else None)
 
 -- the files of a source of layouts
 abbrev pub source_files : LayoutSource → List (List ℕ)
@@ -86,10 +112,12 @@ source_files (file name) = name ∷ []
 -- the names of the files that are read before a command's work, in order
 abbrev pub kept_files : Command → List (List ℕ)
 kept_files (walk w) = w.core ∷ source_files w.layouts
+kept_files (dump d) = d.core ∷ d.layouts ∷ map (λ image. image.1) d.images
 
 -- the names of those that are read in its work, one at a time
 abbrev pub later_files : Command → List (List ℕ)
 later_files (walk w) = []
+later_files (dump d) = []
 
 -- all the files that a command names, in the order in which they are read
 abbrev pub files_of : Command → List (List ℕ)

@@ -2,10 +2,12 @@
 #![tactic(auto)]
 
 mod command;
+mod dump;
 mod numbers;
 mod walk;
 
 pub use command::{Command, read_words};
+pub use dump::{DumpWords, image_of};
 pub use numbers::Release;
 pub use walk::{LayoutSource, WalkWords};
 

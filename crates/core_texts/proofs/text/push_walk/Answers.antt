@@ -2,7 +2,7 @@ use Rattle.std.proofs.Common.{◌∙◌, ◌++◌, map, sym, ap, append_assoc, s
 use Rattle.std.specs.List.{concat}
 use Rattle.core_texts.specs.Text.{thread_text}
 use Rattle.core_texts.proofs.Texts.{last_part}
-use Rattle.core_texts.proofs.text.walk_text.Goals as goal
+use Rattle.core_texts.proofs.text.push_walk.Goals as goal
 
 pub loop-trace-preserved : goal.loop-trace-preserved
 loop-trace-preserved c =
