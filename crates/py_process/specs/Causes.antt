@@ -6,9 +6,13 @@ use Rattle.image_memory.specs.declared.dump_error.DumpError.TheVariants as dump
 use Rattle.py_stacks.specs.declared.error.StackError.{StackError}
 use Rattle.py_stacks.specs.declared.error.StackError.TheVariants as stack
 use Rattle.py_process.specs.declared.core_error.CoreError.{CoreError}
-use Rattle.py_process.specs.declared.core_error.CoreError.TheVariants.{NotElf64, BadHeader, NoNotes, BadNote, Unreadable, BadValue, LocalsLimit, ThreadLimit, FrameLimit, ChainLimit, OutOfMemory}
+use Rattle.py_process.specs.declared.core_error.CoreError.TheVariants.{NotElf64, BadHeader, NoNotes, BadNote, UnreadableVersion, NoVersion, NoInterpreter, Unreadable, BadValue, LocalsLimit, ThreadLimit, FrameLimit, ChainLimit, OutOfMemory}
 use Rattle.py_process.specs.declared.binary_error.BinaryError.{BinaryError}
 use Rattle.py_process.specs.declared.binary_error.BinaryError.TheVariants as binary
+use Rattle.py_process.specs.declared.search_error.SearchError.{SearchError}
+use Rattle.py_process.specs.declared.search_error.SearchError.TheVariants as search
+use Rattle.py_process.specs.declared.version_error.VersionError.{VersionError}
+use Rattle.py_process.specs.declared.version_error.VersionError.TheVariants as version
 
 abbrev pub cause_of_dump : DumpError → CoreError
 cause_of_dump dump.NotElf64 = NotElf64
@@ -25,6 +29,15 @@ cause_of_stacks stack.ThreadLimit = ThreadLimit
 cause_of_stacks stack.FrameLimit = FrameLimit
 cause_of_stacks stack.ChainLimit = ChainLimit
 cause_of_stacks stack.OutOfMemory = OutOfMemory
+
+abbrev pub cause_of_version : VersionError → CoreError
+cause_of_version (version.Unreadable addr len) = UnreadableVersion addr len
+cause_of_version version.NotFound = NoVersion
+cause_of_version version.OutOfMemory = OutOfMemory
+
+abbrev pub cause_of_search : SearchError → CoreError
+cause_of_search search.NotFound = NoInterpreter
+cause_of_search search.OutOfMemory = OutOfMemory
 
 -- notes of images aren't read
 abbrev pub refusal_of : ElfError → BinaryError

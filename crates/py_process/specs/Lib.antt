@@ -1,7 +1,11 @@
 pub mod Binary
+pub mod Candidates
 pub mod Causes
+pub mod Facts
+pub mod FileVersions
 pub mod Library
 pub mod LibraryFronts
 pub mod Ranges
 pub mod Refusals
+pub mod Sources
 pub mod SymbolMap

@@ -2,6 +2,7 @@
 ghost use Rattle.std.specs.Prelude.{◌≡◌};
 ghost use Rattle.py_process.specs.declared.core_error.CoreError.TheVariants.{OutOfMemory};
 
+use crate::{SearchError, VersionError};
 use elf64_core::Name;
 use image_memory::DumpError;
 use py_stacks::StackError;
@@ -114,6 +115,33 @@ impl From<StackError> for CoreError {
             StackError::FrameLimit => CoreError::FrameLimit,
             StackError::ChainLimit => CoreError::ChainLimit,
             StackError::OutOfMemory => CoreError::OutOfMemory,
+        }
+    }
+}
+
+impl From<VersionError> for CoreError {
+    ghost use Rattle.py_process.specs.Causes.{cause_of_version};
+
+    ghost from_gives = { λ error cause. cause ≡ cause_of_version error };
+
+    fn from(error: VersionError) -> CoreError {
+        match error {
+            VersionError::Unreadable { addr, len } => CoreError::UnreadableVersion { addr, len },
+            VersionError::NotFound => CoreError::NoVersion,
+            VersionError::OutOfMemory => CoreError::OutOfMemory,
+        }
+    }
+}
+
+impl From<SearchError> for CoreError {
+    ghost use Rattle.py_process.specs.Causes.{cause_of_search};
+
+    ghost from_gives = { λ error cause. cause ≡ cause_of_search error };
+
+    fn from(error: SearchError) -> CoreError {
+        match error {
+            SearchError::NotFound => CoreError::NoInterpreter,
+            SearchError::OutOfMemory => CoreError::OutOfMemory,
         }
     }
 }

@@ -1,4 +1,5 @@
-//! A Python process: what its binaries say, and why a core of one gives no stacks.
+//! A Python process: what its binaries say, which version runs in it, where its interpreter is, and why a core of
+//! one gives no stacks.
 #![tactic(auto)]
 
 mod binary;
@@ -6,15 +7,23 @@ mod binary_error;
 #[cfg(test)]
 mod binary_tests;
 mod core_error;
+mod interpreter;
 mod library;
 #[cfg(test)]
 mod library_tests;
 mod process_info;
+mod python_version;
 mod ranges;
+mod search_error;
 mod symbols;
+mod version_error;
 
 pub use binary::{BinaryInfo, parse_binary};
 pub use binary_error::BinaryError;
 pub use core_error::CoreError;
+pub use interpreter::get_interpreter_address;
 pub use library::is_python_lib;
 pub use process_info::PythonProcessInfo;
+pub use python_version::get_python_version;
+pub use search_error::SearchError;
+pub use version_error::VersionError;

@@ -1,0 +1,154 @@
+-- The addresses that may be the interpreter's, in order, and the first that is one. Where the symbols stand is
+-- CPython's (`interp_head` up to 3.6, `_PyRuntime` from 3.7 on); that words of sections are tried is this
+-- project's own rule, after py-spy.
+use Rattle.std.specs.Prelude.{◌≡◌, ℕ, ◌+◌, ◌*◌, ◌^◌, nat_eq, ◌&&◌, Bool, true, false, if◌then◌else◌, IsTrue, All, List, [], ◌∷◌, ◌++◌, Option, Some, None, Result, Ok, Err, ⊤, codes, find}
+use Rattle.std.specs.Int.{w64, from_le_bytes}
+use Rattle.elf64_core.specs.Fields.{u64_in}
+use Rattle.process_memory.specs.Memory.{Found, Memory, ◌>>=◌, byte_at, record_at, word_at}
+use Rattle.process_memory.specs.Seen.{ReadingBelow, Seen}
+use Rattle.py_version.specs.Offsets.{interp_head_offset}
+use Rattle.py_version.specs.declared.version.Version.{Version}
+use Rattle.py_fields.specs.declared.layout.Head.{Head}
+use Rattle.py_fields.specs.declared.layout.Head.TheVariants.{Symbol, Runtime, Offsets}
+use Rattle.py_fields.specs.declared.layout.Layout.{Layout}
+use Rattle.py_fields.specs.declared.layout.OffsetsAt.{OffsetsAt}
+use Rattle.py_stacks.specs.Interpreter.{IsInterpreter, members_tested, passes, threads_tested}
+use Rattle.py_process.specs.Facts.{Facts, Known, symbol_known}
+use Rattle.py_process.specs.declared.search_error.SearchError.{SearchError}
+use Rattle.py_process.specs.declared.search_error.SearchError.TheVariants.{NotFound, OutOfMemory}
+
+-- ---- the head that symbols give
+
+-- one candidate, or none where something isn't in memory
+abbrev pub candidate_of : Found ℕ → List ℕ
+candidate_of (Ok addr) = addr ∷ []
+candidate_of (Err fault) = []
+
+-- none where there is no symbol
+abbrev pub at_symbol : Option ℕ → (ℕ → Found ℕ) → List ℕ
+at_symbol None read = []
+at_symbol (Some addr) read = candidate_of (read addr)
+
+-- the head that the runtime's own record of offsets says where to find
+unfoldable pub head_by_offsets : OffsetsAt → Memory → ℕ → Found ℕ
+head_by_offsets o m runtime = do
+  offsets ← record_at m runtime o.size
+  word_at m (runtime + u64_in offsets o.head)
+
+abbrev pub head_where : Option OffsetsAt → Option ℕ → Memory → List ℕ
+head_where None runtime m = []
+head_where (Some o) runtime m = at_symbol runtime (head_by_offsets o m)
+
+-- the word at `interp_head`; or in the record at `_PyRuntime`, at an offset that the version or the record gives
+abbrev pub head_by : Head → Known → Version → Layout → Memory → List ℕ
+head_by Symbol k v l m = at_symbol (symbol_known k (codes "interp_head")) (word_at m)
+head_by Runtime k v l m =
+    at_symbol (symbol_known k (codes "_PyRuntime")) (λ runtime. word_at m (runtime + interp_head_offset v))
+head_by Offsets k v l m = head_where l.offsets (symbol_known k (codes "_PyRuntime")) m
+
+-- ---- the words of sections
+
+-- the words of some bytes, of 8 bytes each; a tail of fewer is dropped
+unfoldable pub words_of : List ℕ → List ℕ
+words_of (a ∷ b ∷ c ∷ d ∷ e ∷ f ∷ g ∷ h ∷ rest) =
+    from_le_bytes w64 (a ∷ b ∷ c ∷ d ∷ e ∷ f ∷ g ∷ h ∷ []) ∷ words_of rest
+words_of _ = []
+
+abbrev pub words_in : Found (List ℕ) → List ℕ
+words_in (Ok bytes) = words_of bytes
+words_in (Err missing) = []
+
+-- the words of a section; none where it isn't wholly in memory
+abbrev pub section_words : Memory → (addr size : ℕ) → List ℕ
+section_words m addr size = words_in (record_at m addr size)
+
+-- those of the runtime section, where there is one
+abbrev pub runtime_words : Memory → (addr size : ℕ) → List ℕ
+runtime_words m addr size = if nat_eq addr 0 then [] else section_words m addr size
+
+-- those of an image: of its runtime section, then of its bss
+unfoldable pub words_of_image : Memory → Option Facts → List ℕ
+words_of_image m None = []
+words_of_image m (Some facts) = runtime_words m facts.pyruntime_addr facts.pyruntime_size
+    ++ section_words m facts.bss_addr facts.bss_size
+
+-- the candidates: the head that symbols give, the program's words, the library's
+unfoldable pub candidates_of : Known → Version → Layout → Memory → List ℕ
+candidates_of k v l m = head_by l.head k v l m ++ (words_of_image m k.program ++ words_of_image m k.library)
+
+-- ---- which of them is the interpreter
+
+-- the head of the threads of the interpreter at an address
+abbrev pub threads_head : Layout → Memory → ℕ → Found ℕ
+threads_head l m a = word_at m (a + l.interpreter.threads)
+
+-- an address is an interpreter's: a map holds it, a map holds its first thread, that one names it, and there is a
+-- list of traces of its whole chain of threads
+pub record IsInterpreterIn (contains : ℕ → Bool) (l : Layout) (m : Memory) (a : ℕ) : Type 0 where
+  pub lies : IsTrue (contains a)
+  pub head : ℕ
+  pub names : threads_head l m a ≡ Ok head
+  pub head_lies : IsTrue (contains head)
+  pub is : IsInterpreter l m a
+
+-- of some candidates this one is the first that is an interpreter's
+pub record IsFirstOf (contains : ℕ → Bool) (l : Layout) (m : Memory) (candidates : List ℕ) (a : ℕ) : Type 0 where
+  pub before : List ℕ
+  pub after : List ℕ
+  pub parts : candidates ≡ before ++ a ∷ after
+  pub is : IsInterpreterIn contains l m a
+  pub none_before : All (λ b. ¬ IsInterpreterIn contains l m b) before
+
+-- none of them is one
+abbrev pub IsNoneOf : (ℕ → Bool) → Layout → Memory → List ℕ → Type 0
+IsNoneOf contains l m candidates = All (λ a. ¬ IsInterpreterIn contains l m a) candidates
+
+-- ---- the same test, as it is made
+
+abbrev pub head_lies : (ℕ → Bool) → Found ℕ → Bool
+head_lies contains (Ok head) = contains head
+head_lies contains (Err fault) = false
+
+unfoldable pub passes_in : (ℕ → Bool) → Layout → Memory → ℕ → Bool
+passes_in contains l m a = contains a && (head_lies contains (threads_head l m a) && passes l m a)
+
+-- the first candidate that passes
+unfoldable pub interpreter_of : (ℕ → Bool) → Known → Version → Layout → Memory → Option ℕ
+interpreter_of contains k v l m = find (passes_in contains l m) (candidates_of k v l m)
+
+-- a result is the first candidate that passes; want of memory may always be answered
+abbrev pub FirstIs : Option ℕ → Result ℕ SearchError → Type 0
+FirstIs first (Ok addr) = first ≡ Some addr
+FirstIs first (Err NotFound) = first ≡ None
+FirstIs first (Err OutOfMemory) = ⊤
+
+-- `NotFound` comes exactly where no candidate passes, want of memory aside
+abbrev pub NotFoundWhere : Type 0 → Result ℕ SearchError → Type 0
+NotFoundWhere Nothing (Ok addr) = ¬ Nothing
+NotFoundWhere Nothing (Err NotFound) = Nothing
+NotFoundWhere Nothing (Err OutOfMemory) = ⊤
+
+-- ---- how many reads
+
+-- of one candidate: none where no map holds it; one where its head isn't in memory or in no map; else at most 3,
+-- 2 for each thread that its test meets, and 6 for each member
+unfoldable pub candidate_cost : (ℕ → Bool) → Layout → Memory → ℕ → ℕ
+candidate_cost contains l m a = if contains a then
+    (1 + (if head_lies contains (threads_head l m a) then 2 + 2 * threads_tested l m a + 6 * members_tested l m a else 0))
+    else 0
+
+-- of the candidates up to and with the first that passes
+unfoldable pub search_cost : (ℕ → Bool) → Layout → Memory → List ℕ → ℕ
+search_cost contains l m [] = 0
+search_cost contains l m (a ∷ rest) =
+    candidate_cost contains l m a + (if passes_in contains l m a then 0 else search_cost contains l m rest)
+
+-- of the whole search: at most 2 for the head that symbols give, one for each of four sections, and those of the
+-- candidates
+unfoldable pub search_bound : (ℕ → Bool) → Known → Version → Layout → Memory → ℕ
+search_bound contains k v l m = 6 + search_cost contains l m (candidates_of k v l m)
+
+-- what the search owes: it makes at most so many reads, of which a section's is one, and a fact holds over every memory
+-- that covers them
+abbrev pub Searching : (ℕ → Bool) → Known → Version → Layout → Seen → Seen → (Memory → Type 0) → Type 0
+Searching contains k v l old new Q = ReadingBelow (2 ^ 64) (search_bound contains k v l (byte_at old.pieces)) old new Q

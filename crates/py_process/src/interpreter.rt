@@ -1,0 +1,48 @@
+//! Where the interpreter of a process is.
+ghost use Rattle.std.specs.Prelude.{IfOk};
+ghost use Rattle.py_fields.specs.Sound.{IsSound};
+ghost use Rattle.py_process.specs.Candidates.{FirstIs, IsFirstOf, IsNoneOf, NotFoundWhere, Searching, candidates_of, interpreter_of};
+ghost use Rattle.py_process.specs.Facts.{known_of};
+
+use crate::{PythonProcessInfo, SearchError};
+use image_memory::ContainsAddr;
+use process_memory::ProcessMemory;
+use py_fields::Layout;
+use py_version::Version;
+use std::alloc::Global;
+
+/// The address of the interpreter of a process: the first candidate that is one.
+///
+/// The candidates are, in order: the head that symbols give, by the layout's family: the word at `interp_head`;
+/// or at `_PyRuntime` plus `get_interp_head_offset`; or at `_PyRuntime` plus the head that the record of offsets
+/// there says. Then the words of 8 bytes of the program's runtime section, where its address is not 0, and of
+/// its bss; then the library's. A range that is not wholly in memory gives none, and a tail of fewer than 8
+/// bytes is dropped.
+///
+/// A candidate is an interpreter where a map holds it, a map holds the head of its threads, the thread there
+/// names it, and its threads can be walked as `is_interpreter` walks them.
+///
+/// `NotFound` comes exactly where no candidate is one. Else the one error is want of memory, which is no failed
+/// test. At most 6 reads, and for each candidate up to and with the first that is one: none where no map holds
+/// it; one where its head is not in memory or in no map; else 3, 2 for each thread that its test meets, and 6
+/// for each frame. A section is read by one.
+pub fn get_interpreter_address<M: ContainsAddr, P: ProcessMemory>(
+    alloc: Global,
+    info: &PythonProcessInfo<M>,
+    process: &mut P,
+    version: &Version,
+    layout: &Layout,
+) -> Result<u64, SearchError>
+    requires sound { IsSound layout.now }
+    ensures answer { Searching (M.contains info.now.maps) (known_of info.now) version.now layout.now
+        (P.seen process.old) (P.seen process.new)
+        (λ m. FirstIs (interpreter_of (M.contains info.now.maps) (known_of info.now) version.now layout.now m) result) }
+    ensures first { Searching (M.contains info.now.maps) (known_of info.now) version.now layout.now
+        (P.seen process.old) (P.seen process.new) (λ m. IfOk result (IsFirstOf (M.contains info.now.maps) layout.now m
+        (candidates_of (known_of info.now) version.now layout.now m))) }
+    ensures none { Searching (M.contains info.now.maps) (known_of info.now) version.now layout.now
+        (P.seen process.old) (P.seen process.new) (λ m. NotFoundWhere (IsNoneOf (M.contains info.now.maps) layout.now m
+        (candidates_of (known_of info.now) version.now layout.now m)) result) }
+{
+    Err(SearchError::OutOfMemory)
+}

@@ -1,0 +1,29 @@
+//! Why no version is known.
+ghost use Rattle.std.specs.Prelude.{◌≡◌};
+ghost use Rattle.py_process.specs.declared.version_error.VersionError.TheVariants.{OutOfMemory};
+
+use std::alloc::AllocError;
+use thiserror::Error;
+
+/// Why the version of a process is not known.
+#[derive(Debug, Drop, Error, PartialEq, Eq)]
+pub enum VersionError {
+    /// A byte of the version's number, or of a section that is looked through, is not in memory. `addr` and
+    /// `len`, in bytes, are the range.
+    #[error("{len} bytes at {addr:#x} are not in memory")]
+    Unreadable { addr: u64, len: u64 },
+    /// Nothing tells a version.
+    #[error("no version")]
+    NotFound,
+    /// There was no memory left.
+    #[error("out of memory")]
+    OutOfMemory,
+}
+
+impl From<AllocError> for VersionError {
+    ghost from_gives = { λ _ error. error ≡ OutOfMemory };
+
+    fn from(_: AllocError) -> VersionError {
+        VersionError::OutOfMemory
+    }
+}
