@@ -2,5 +2,10 @@
 #![tactic(auto)]
 
 mod core_walk;
+mod finding;
+mod found;
+mod programs;
+mod python_core;
 
 pub use core_walk::walk;
+pub use python_core::PythonCoreDump;

@@ -3,9 +3,13 @@ pub mod Candidates
 pub mod Causes
 pub mod Facts
 pub mod FileVersions
+pub mod Findings
 pub mod Library
 pub mod LibraryFronts
+pub mod Programs
 pub mod Ranges
 pub mod Refusals
+pub mod Reports
 pub mod Sources
+pub mod Steps
 pub mod SymbolMap

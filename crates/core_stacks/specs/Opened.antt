@@ -1,0 +1,68 @@
+-- A core of a Python process, as it is opened to read its stacks.
+use Rattle.std.specs.Prelude.{◌≡◌, ◌⊎◌, ℕ, List, [], Result, Ok, Err, ⊤}
+use Rattle.image_memory.specs.Images.{Pushed}
+use Rattle.image_memory.specs.declared.maps.CoreMapRange.{CoreMapRange}
+use Rattle.process_memory.specs.Memory.{Memory, Region, byte_at}
+use Rattle.py_fields.specs.declared.layout.Layout.{Layout}
+use Rattle.py_version.specs.declared.version.Version.{Version}
+use Rattle.py_stacks.specs.declared.trace.Addresses.{Addresses}
+use Rattle.py_process.specs.Findings.{Finding, IsChosen, IsFound}
+use Rattle.py_process.specs.Reports.{pieces_with}
+use Rattle.py_process.specs.declared.core_error.CoreError.{CoreError}
+use Rattle.py_process.specs.declared.core_error.CoreError.TheVariants.{UnsupportedVersion, NativeUnsupported, SubprocessesUnsupported, OutOfMemory}
+use Rattle.core_stacks.specs.Seen.{FindsProcess}
+
+-- a core of a process: its bytes, the pieces of the process's memory, and what is found of it
+pub record Opened : Type 0 where
+  pub core : List ℕ
+  pub pieces : List Region
+  pub finding : Finding
+
+abbrev pub memory_in : Opened → Memory
+memory_in o = byte_at o.pieces
+
+-- it is of this core and these images, and what is found of it is right
+pub record IsOpened (bytes : List ℕ) (images : Pushed) (layouts : List Layout) (o : Opened) : Type 0 where
+  pub core_is : o.core ≡ bytes
+  pub pieces_are : o.pieces ≡ pieces_with bytes images
+  pub finds : FindsProcess bytes images layouts (Ok o.finding)
+
+-- that, or the first cause why nothing is found
+abbrev pub Opens : List ℕ → Pushed → List Layout → Result Opened CoreError → Type 0
+Opens bytes images layouts (Ok o) = IsOpened bytes images layouts o
+Opens bytes images layouts (Err error) = FindsProcess bytes images layouts (Err error)
+
+-- it is of this core alone, with the version and the addresses that were handed in
+pub record IsOpenedAt (bytes : List ℕ) (layouts : List Layout) (version : Version) (addresses : Addresses) (o : Opened) : Type 0 where
+  pub core_is : o.core ≡ bytes
+  pub pieces_are : o.pieces ≡ pieces_with bytes []
+  pub version_is : o.finding.version ≡ version
+  pub addresses_are : o.finding.addresses ≡ addresses
+  pub chosen : IsChosen layouts version o.finding.layout
+
+-- that, or that no layout covers the version
+abbrev pub OpensAt : List ℕ → List Layout → Version → Addresses → Result Opened CoreError → Type 0
+OpensAt bytes layouts version addresses (Ok o) = IsOpenedAt bytes layouts version addresses o
+OpensAt bytes layouts version addresses (Err (UnsupportedVersion named)) =
+    (named ≡ version) × ((layout : Layout) → ¬ IsChosen layouts version layout)
+OpensAt bytes layouts version addresses (Err OutOfMemory) = ⊤
+OpensAt bytes layouts version addresses (Err _) = ⊥
+
+-- a right answer is the answer, want of memory aside
+abbrev pub IsSole : {T : Type 0} → (Result T CoreError → Type 0) → Result T CoreError → Type 0
+IsSole Right result = (answer : _) → Right answer → ¬ (answer ≡ Err OutOfMemory)
+    → (result ≡ answer) ⊎ (result ≡ Err OutOfMemory)
+
+-- what was found of it is right for some maps, images and layouts
+pub record IsFoundIn (o : Opened) : Type 0 where
+  pub maps : List CoreMapRange
+  pub images : Pushed
+  pub layouts : List Layout
+  pub is : IsFound (memory_in o) maps images layouts o.finding
+
+-- the errors that stacks may have all the same
+abbrev pub IsLeft : CoreError → Type 0
+IsLeft NativeUnsupported = ⊤
+IsLeft SubprocessesUnsupported = ⊤
+IsLeft OutOfMemory = ⊤
+IsLeft _ = ⊥

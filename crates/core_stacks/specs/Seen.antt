@@ -1,0 +1,47 @@
+-- What the program's own values stand for.
+use Rattle.std.specs.Prelude.{◌≡◌, ℕ, List, Option, Some, None, Result, Ok, Err, option_copied}
+use Rattle.image_memory.specs.Images.{Pushed}
+use Rattle.image_memory.specs.declared.maps.CoreMapRange.{CoreMapRange}
+use Rattle.image_memory.specs.Maps.{AreMaps}
+use Rattle.py_fields.specs.declared.layout.Layout.{Layout}
+use Rattle.py_process.specs.Findings.{Finding, FindingIs}
+use Rattle.py_process.specs.Reports.{memory_with}
+use Rattle.py_process.specs.Facts.{Known, known_of}
+use Rattle.py_process.specs.Programs as maps
+use Rattle.py_process.specs.declared.process_info.PythonProcessInfo.{PythonProcessInfo}
+use Rattle.py_process.specs.declared.core_error.CoreError.{CoreError}
+use Rattle.core_stacks.specs.declared.found.Found.{Found}
+use Rattle.core_stacks.specs.declared.programs.Programs.{Programs}
+
+abbrev pub programs_now : Programs → maps.Programs
+programs_now p = record { program = p.program.now; library = option_copied p.library }
+
+abbrev pub programs_in : Result Programs CoreError → Result maps.Programs CoreError
+programs_in (Ok p) = Ok (programs_now p)
+programs_in (Err e) = Err e
+
+abbrev pub known_in : {M : Type 0} → Result (PythonProcessInfo M) CoreError → Result Known CoreError
+known_in (Ok info) = Ok (known_of info)
+known_in (Err e) = Err e
+
+-- what is wrong with the image of this map
+abbrev pub IsImageError : Pushed → CoreMapRange → CoreError → Type 0
+IsImageError images m error = maps.ImagesSay images (record { program = m; library = None }) (Err error)
+
+-- of what is so of the program and of the library, what is so of the one whose image is needed
+abbrev pub needed_by : {T : Type 0} → Option CoreMapRange → T → T → T
+needed_by None program library = program
+needed_by (Some m) program library = library
+
+abbrev pub finding_of : Found → Finding
+finding_of f = record { version = f.version; layout = f.layout; addresses = f.addresses }
+
+abbrev pub finding_in : Result Found CoreError → Result Finding CoreError
+finding_in (Ok f) = Ok (finding_of f)
+finding_in (Err e) = Err e
+
+-- what is found of the process of a core, or the first cause why nothing is
+pub record FindsProcess (bytes : List ℕ) (images : Pushed) (layouts : List Layout) (result : Result Finding CoreError) : Type 0 where
+  pub maps : List CoreMapRange
+  pub are_maps : AreMaps bytes maps
+  pub is : FindingIs (memory_with bytes images) maps images layouts result

@@ -1,0 +1,107 @@
+//! What is found of a Python process, by the memory, the maps and the images.
+ghost use Rattle.std.specs.Prelude.{IfOk};
+ghost use Rattle.process_memory.specs.Memory.{byte_at};
+ghost use Rattle.py_fields.specs.Sound.{IsSound};
+ghost use Rattle.py_process.specs.Facts.{known_of};
+ghost use Rattle.py_process.specs.Findings.{AfterImages, AfterLayout, AfterMaps, AfterVersion};
+ghost use Rattle.py_process.specs.Reports.{memory_with};
+ghost use Rattle.core_stacks.specs.Seen.{FindsProcess, finding_in, programs_now};
+
+use crate::found::Found;
+use crate::programs::{Programs, programs_of, read_images};
+use image_memory::{ContainsAddr, CoreDump, CoreMapRange, Images};
+use process_memory::ProcessMemory;
+use py_layout::{Layout, Layouts, Version};
+use py_process::{CoreError, PythonProcessInfo, get_interpreter_address, get_python_version};
+use py_stacks::Addresses;
+use std::alloc::Global;
+
+/// The interpreter, by a layout. The lock's place is not looked for yet.
+fn find_interpreter<M: ContainsAddr, P: ProcessMemory>(
+    alloc: Global,
+    info: &PythonProcessInfo<M>,
+    process: &mut P,
+    version: Version,
+    layout: &Layout,
+) -> Result<Found, CoreError>
+    requires { IsSound layout.now }
+    ensures right { AfterLayout (byte_at (P.seen process.old).pieces) (M.contains info.now.maps) (known_of info.now)
+        version layout.now (finding_in result) }
+    ensures sound { IfOk result (λ found. IsSound found.layout) }
+{
+    let interpreter = get_interpreter_address(alloc, info, process, &version, layout)?;
+    Ok(Found {
+        version,
+        layout: *layout,
+        addresses: Addresses {
+            interpreter,
+            lock: 0,
+        },
+    })
+}
+
+/// The layout that covers the version, and the interpreter by it.
+fn find_by_version<M: ContainsAddr, P: ProcessMemory>(
+    alloc: Global,
+    info: &PythonProcessInfo<M>,
+    process: &mut P,
+    layouts: &Layouts,
+    version: Version,
+) -> Result<Found, CoreError>
+    ensures right { AfterVersion (byte_at (P.seen process.old).pieces) (M.contains info.now.maps) layouts.now
+        (known_of info.now) version (finding_in result) }
+    ensures sound { IfOk result (λ found. IsSound found.layout) }
+{
+    match layouts.choose(&version) {
+        Some(layout) => find_interpreter(alloc, info, process, version, layout),
+        None => Err(CoreError::UnsupportedVersion { version }),
+    }
+}
+
+/// The version, and what is found by it.
+fn find_by_images<M: ContainsAddr, P: ProcessMemory>(
+    alloc: Global,
+    info: &PythonProcessInfo<M>,
+    process: &mut P,
+    layouts: &Layouts,
+) -> Result<Found, CoreError>
+    ensures right { AfterImages (byte_at (P.seen process.old).pieces) (M.contains info.now.maps) layouts.now
+        (known_of info.now) (finding_in result) }
+    ensures sound { IfOk result (λ found. IsSound found.layout) }
+{
+    let version = get_python_version(alloc, info, process)?;
+    find_by_version(alloc, info, process, layouts, version)
+}
+
+/// What the images say, and what is found by it.
+fn find_by_maps(
+    alloc: Global,
+    core: &CoreDump,
+    maps: &Vec<CoreMapRange>,
+    images: &Images,
+    layouts: &Layouts,
+    programs: &Programs<'_>,
+) -> Result<Found, CoreError>
+    ensures right { AfterMaps (memory_with core.now images.now) maps.now.items images.now layouts.now
+        (programs_now programs.now) (finding_in result) }
+    ensures sound { IfOk result (λ found. IsSound found.layout) }
+{
+    let info = read_images(alloc, images, maps, programs)?;
+    let mut view = core.view();
+    find_by_images(alloc, &info, &mut view, layouts)
+}
+
+/// What is found of the process of a core, or the first cause why nothing is.
+pub(crate) fn find_process(
+    alloc: Global,
+    core: &CoreDump,
+    images: &Images,
+    layouts: &Layouts,
+) -> Result<Found, CoreError>
+    ensures right { FindsProcess core.now images.now layouts.now (finding_in result) }
+    ensures sound { IfOk result (λ found. IsSound found.layout) }
+{
+    let maps = core.maps();
+    let programs = programs_of(maps)?;
+    find_by_maps(alloc, core, maps, images, layouts, &programs)
+}

@@ -1,0 +1,140 @@
+//! A core of a Python process.
+ghost use Rattle.std.specs.Prelude.{◌≡◌, ◌⊎◌, ℕ, Err, IfErr, Result};
+ghost use Rattle.image_memory.specs.Pieces.{memory_of};
+ghost use Rattle.py_fields.specs.Sound.{IsSound};
+ghost use Rattle.py_process.specs.Reports.{StacksSay, traces_in};
+ghost use Rattle.py_process.specs.declared.core_error.CoreError.{CoreError as Cause};
+ghost use Rattle.core_stacks.specs.Opened.{IsFoundIn, IsLeft, IsSole, Opened, Opens, OpensAt, memory_in};
+ghost use Rattle.core_stacks.specs.Seen.{finding_of};
+
+use crate::finding::find_process;
+use crate::found::Found;
+use image_memory::{CoreDump, Images};
+use py_layout::{Layouts, Version};
+use py_process::CoreError;
+use py_stacks::{Addresses, Config, StackTrace, get_stack_over};
+use std::alloc::Global;
+use std::marker::Model;
+
+/// A core of a Python process, with the version of Python that ran, the layout that covers it, and where its
+/// interpreter and the lock of that are.
+///
+/// Contracts see it as the core's bytes, the pieces of the process's memory, and what was found of it.
+#[derive(Drop)]
+pub struct PythonCoreDump {
+    alloc: Global,
+    core: CoreDump,
+    found: Found,
+}
+
+impl Model for PythonCoreDump {
+    ghost Value = { Opened };
+
+    ghost view = { λ p. record {
+        core = p.core;
+        pieces = memory_of p.core;
+        finding = finding_of p.found;
+    } };
+
+    ghost invariant = { λ p. IsSound p.found.layout };
+}
+
+impl PythonCoreDump {
+    /// A core of a Python process, in which the interpreter is looked for.
+    ///
+    /// The program is the first executable map whose file has a name, the library the first whose name is that of
+    /// Python's library (`py_process::is_python_lib`). Their images are handed in under the paths that the core
+    /// has; the library's is needed where one is mapped, else the program's, and the other one may be missing or
+    /// bad. The version is the first that `py_process::get_python_version` finds, and the interpreter the first
+    /// that `py_process::get_interpreter_address` finds, over the core's memory.
+    ///
+    /// The error is the first of these: `NoBinary`, where no executable map's file has a name; `NoImage` and
+    /// `BadImage` of the needed image; `UnreadableVersion` and `NoVersion`; `UnsupportedVersion`, where no layout
+    /// covers the version; `NoInterpreter`. Else it is want of memory.
+    pub fn new(
+        alloc: Global,
+        core: CoreDump,
+        images: &Images,
+        layouts: &Layouts,
+    ) -> Result<PythonCoreDump, CoreError>
+        ensures right { Opens core images.now layouts.now result }
+        // what is right is the answer, want of memory aside
+        ensures only { (answer : Result Opened Cause) → Opens core images.now layouts.now answer
+            → ¬ (answer ≡ Err CoreError.OutOfMemory) → (result ≡ answer) ⊎ (result ≡ Err CoreError.OutOfMemory) }
+    {
+        let found = find_process(alloc, &core, images, layouts)?;
+        Ok(PythonCoreDump { alloc, core, found })
+    }
+
+    /// A core of a Python process of this version, whose interpreter and lock are at these addresses. Nothing is
+    /// looked for in the core, and no image is read.
+    ///
+    /// `UnsupportedVersion` exactly where no layout covers the version. Else the one error is want of memory.
+    pub fn with_addresses(
+        alloc: Global,
+        core: CoreDump,
+        layouts: &Layouts,
+        version: Version,
+        addresses: Addresses,
+    ) -> Result<PythonCoreDump, CoreError>
+        ensures right { OpensAt core layouts.now version addresses result }
+    {
+        let Some(layout) = layouts.choose(&version) else {
+            return Err(CoreError::UnsupportedVersion { version });
+        };
+        let layout = *layout;
+        let found = Found {
+            version,
+            layout,
+            addresses,
+        };
+        Ok(PythonCoreDump { alloc, core, found })
+    }
+
+    /// Reads the traces.
+    fn read_stack(&self, config: &Config) -> Result<Vec<StackTrace>, CoreError>
+        requires locals { config.now.dump_locals ≡ 0 }
+        ensures { StacksSay (memory_in self.now) self.now.finding config.now (traces_in result) }
+    {
+        if config.native {
+            return Err(CoreError::NativeUnsupported);
+        }
+        if config.subprocesses {
+            return Err(CoreError::SubprocessesUnsupported);
+        }
+        let mut view = self.core.view();
+        let (layout, addresses) = (&self.found.layout, &self.found.addresses);
+        let traces = get_stack_over(self.alloc, &mut view, layout, addresses, config)?;
+        Ok(traces)
+    }
+
+    /// The traces of the interpreter's threads, in the order of their chain, with what a `Config` asks for
+    /// (`py_stacks::get_stack_over`).
+    ///
+    /// The error is the first of these: `NativeUnsupported` where native frames are asked for;
+    /// `SubprocessesUnsupported` where other processes are; and then those of `get_stack_over`. Else it is want of
+    /// memory.
+    pub fn get_stack(&self, config: &Config) -> Result<Vec<StackTrace>, CoreError>
+        // no locals are read yet
+        requires locals { config.now.dump_locals ≡ 0 }
+        ensures right { StacksSay (memory_in self.now) self.now.finding config.now (traces_in result) }
+        // what is right is the answer, want of memory aside
+        ensures only { IsSole (StacksSay (memory_in self.now) self.now.finding config.now) (traces_in result) }
+        // the answer is right for every core whose memory is the same
+        ensures equal { (other : Opened) → other.finding ≡ self.now.finding
+            → ((a : ℕ) → memory_in other a ≡ memory_in self.now a)
+            → StacksSay (memory_in other) other.finding config.now (traces_in result) }
+        // where the process was found, neither a limit nor a record of a thread or a frame is in the way
+        ensures found { IsFoundIn self.now → IfErr result IsLeft }
+    {
+        self.read_stack(config)
+    }
+
+    /// The version.
+    pub(crate) fn into_version(self) -> Version
+        ensures { result ≡ self.finding.version }
+    {
+        let PythonCoreDump { alloc: _, core: _, found } = self;
+        found.version
+    }
+}

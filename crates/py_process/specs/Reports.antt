@@ -1,0 +1,184 @@
+-- What a report says of a core and its images, and why there is none.
+use Rattle.std.specs.Prelude.{◌≡◌, ℕ, ◌==◌, ℤ, Bool, true, false, List, [], ◌∷◌, map, Option, Some, None, option_map, Result, Ok, Err, ⊤, Vec}
+use Rattle.std.specs.List.{before_first}
+use Rattle.std.specs.Global.{Global}
+use Rattle.bstr.specs.Utf8.{lossy_chars}
+use Rattle.image_memory.specs.Cores.{IsCore, Refuses}
+use Rattle.image_memory.specs.Images.{Pushed}
+use Rattle.image_memory.specs.Maps.{AreMaps, in_maps}
+use Rattle.image_memory.specs.Notes.{AreStatuses, IsProcess}
+use Rattle.image_memory.specs.Pieces.{memory_of}
+use Rattle.image_memory.specs.declared.dump_error.DumpError.TheVariants as dump
+use Rattle.image_memory.specs.declared.maps.CoreMapRange.{CoreMapRange}
+use Rattle.image_memory.specs.declared.records.elf_prstatus.{elf_prstatus}
+use Rattle.image_memory.specs.declared.records.elf_prpsinfo.{elf_prpsinfo}
+use Rattle.process_memory.specs.Memory.{Memory, Region, Fault, byte_at}
+use Rattle.process_memory.specs.Memory.Fault.{Missing, BadValue as IsBadValue, LocalsLimit as ManyLocals, ThreadLimit as ManyThreads, FrameLimit as ManyFrames, ChainLimit as ManyMembers}
+use Rattle.process_memory.specs.Walk.{first_fault}
+use Rattle.py_fields.specs.declared.layout.Layout.{Layout}
+use Rattle.py_version.specs.declared.version.Version.{Version}
+use Rattle.py_stacks.specs.Asking.{asked_of}
+use Rattle.py_stacks.specs.Stacks.{AreStacks, stacks_faults}
+use Rattle.py_stacks.specs.Threads.{Trace, trace_of}
+use Rattle.py_stacks.specs.declared.config.Config.{Config}
+use Rattle.py_stacks.specs.declared.trace.StackTrace.{StackTrace}
+use Rattle.py_process.specs.Candidates.{IsFirstOf, candidates_of}
+use Rattle.py_process.specs.Facts.{Known}
+use Rattle.py_process.specs.Findings.{Finding, FindingIs, IsChosen, IsFound}
+use Rattle.py_process.specs.Programs.{ArePrograms, IsKnown, Programs}
+use Rattle.py_process.specs.Sources.{FirstTells, sources_of}
+use Rattle.py_process.specs.Steps.{Then}
+use Rattle.py_process.specs.declared.report.Report.{Report}
+use Rattle.py_process.specs.declared.core_error.CoreError.{CoreError}
+use Rattle.py_process.specs.declared.core_error.CoreError.TheVariants.{NotElf64, BadHeader, NoNotes, BadNote, Unreadable, NativeUnsupported, SubprocessesUnsupported, BadValue, LocalsLimit, ThreadLimit, FrameLimit, ChainLimit, OutOfMemory}
+
+-- the pieces of memory of a core and its images. No byte comes from an image yet
+abbrev pub pieces_with : List ℕ → Pushed → List Region
+pieces_with bytes images = memory_of bytes
+
+abbrev pub memory_with : List ℕ → Pushed → Memory
+memory_with bytes images = byte_at (pieces_with bytes images)
+
+-- ---- the stacks
+
+-- neither native frames nor those of other processes are asked for
+pub record AsksNoOther (config : Config) : Type 0 where
+  pub native : config.native ≡ false
+  pub subprocesses : config.subprocesses ≡ false
+
+-- the first fault on the way to the lock's owner and along the threads
+abbrev pub fault_on : Memory → Finding → Config → Option Fault
+fault_on m f config =
+    first_fault (stacks_faults (asked_of config) f.layout m f.addresses.lock f.addresses.interpreter)
+
+pub record MeetsFault (m : Memory) (f : Finding) (config : Config) (fault : Fault) : Type 0 where
+  pub asks : AsksNoOther config
+  pub first : fault_on m f config ≡ Some fault
+
+-- no fault is met, and these are the traces
+pub record HasStacks (m : Memory) (f : Finding) (config : Config) (traces : List Trace) : Type 0 where
+  pub asks : AsksNoOther config
+  pub faultless : fault_on m f config ≡ None
+  pub are : AreStacks (asked_of config) f.layout m f.addresses.lock f.addresses.interpreter traces
+
+-- the traces, or the first cause why there are none
+abbrev pub StacksSay : Memory → Finding → Config → Result (List Trace) CoreError → Type 0
+StacksSay m f config (Ok traces) = HasStacks m f config traces
+StacksSay m f config (Err NativeUnsupported) = config.native ≡ true
+StacksSay m f config (Err SubprocessesUnsupported) = (config.native ≡ false) × (config.subprocesses ≡ true)
+StacksSay m f config (Err (Unreadable addr len)) = MeetsFault m f config (Missing addr len)
+StacksSay m f config (Err (BadValue frame)) = MeetsFault m f config (IsBadValue frame)
+StacksSay m f config (Err (LocalsLimit count)) = MeetsFault m f config (ManyLocals count)
+StacksSay m f config (Err ThreadLimit) = MeetsFault m f config ManyThreads
+StacksSay m f config (Err FrameLimit) = MeetsFault m f config ManyFrames
+StacksSay m f config (Err ChainLimit) = MeetsFault m f config ManyMembers
+StacksSay m f config (Err OutOfMemory) = ⊤
+StacksSay m f config (Err _) = ⊥
+
+abbrev pub traces_in : {E : Type 0} → Result (Vec StackTrace Global) E → Result (List Trace) E
+traces_in (Ok v) = Ok (map trace_of v.items)
+traces_in (Err e) = Err e
+
+-- ---- the process
+
+-- the signal of the first status record, if there is one
+abbrev pub first_signal : List elf_prstatus → Option ℤ
+first_signal [] = None
+first_signal (status ∷ rest) = Some status.pr_cursig
+
+abbrev pub is_nul : ℕ → Bool
+is_nul byte = byte == 0
+
+-- the process's id, and its arguments up to the first nul, as characters
+abbrev pub process_told : elf_prpsinfo → ℤ × List ℕ
+process_told p = (p.pr_pid, lossy_chars (before_first is_nul p.pr_psargs))
+
+-- what the notes of a core tell of the process
+pub record NotesTell (bytes : List ℕ) (signal : Option ℤ) (process : Option (ℤ × List ℕ)) : Type 0 where
+  pub statuses : List elf_prstatus
+  pub are_statuses : AreStatuses bytes statuses
+  pub signal_is : signal ≡ first_signal statuses
+  pub last : Option elf_prpsinfo
+  pub is_last : IsProcess bytes last
+  pub process_is : process ≡ option_map process_told last
+
+-- ---- the report
+
+-- what a report says
+pub record Reported : Type 0 where
+  pub signal : Option ℤ
+  pub process : Option (ℤ × List ℕ)
+  pub version : Version
+  pub traces : List Trace
+
+abbrev pub reported_of : Report → Reported
+reported_of r = record {
+  signal = r.signal;
+  process = r.process;
+  version = r.version;
+  traces = map trace_of r.traces.items;
+}
+
+abbrev pub reported : {E : Type 0} → Result Report E → Result Reported E
+reported (Ok r) = Ok (reported_of r)
+reported (Err e) = Err e
+
+-- the maps of a core, or why the bytes are none
+abbrev pub CoreSays : List ℕ → Result (List CoreMapRange) CoreError → Type 0
+CoreSays bytes (Ok maps) = IsCore bytes × AreMaps bytes maps
+CoreSays bytes (Err NotElf64) = Refuses bytes dump.NotElf64
+CoreSays bytes (Err BadHeader) = Refuses bytes dump.BadHeader
+CoreSays bytes (Err NoNotes) = Refuses bytes dump.NoNotes
+CoreSays bytes (Err BadNote) = Refuses bytes dump.BadNote
+CoreSays bytes (Err OutOfMemory) = ⊤
+CoreSays bytes (Err _) = ⊥
+
+-- a report of these traces
+pub record Tells (bytes : List ℕ) (f : Finding) (traces : List Trace) (r : Reported) : Type 0 where
+  pub version_is : r.version ≡ f.version
+  pub traces_are : r.traces ≡ traces
+  pub notes : NotesTell bytes r.signal r.process
+
+abbrev pub IsTold : List ℕ → Finding → List Trace → Result Reported CoreError → Type 0
+IsTold bytes f traces result = (r : Reported) × Tells bytes f traces r × (result ≡ Ok r)
+
+abbrev pub AfterFinding : List ℕ → Pushed → Config → Finding → Result Reported CoreError → Type 0
+AfterFinding bytes images config f = Then (StacksSay (memory_with bytes images) f config) (IsTold bytes f)
+
+abbrev pub AfterCore : List ℕ → Pushed → List Layout → Config → List CoreMapRange → Result Reported CoreError → Type 0
+AfterCore bytes images layouts config maps =
+    Then (FindingIs (memory_with bytes images) maps images layouts) (AfterFinding bytes images config)
+
+-- the report of a core and its images, or the first cause why there is none: of the core, of the search, of the
+-- stacks. The causes shut each other out, so that each comes exactly where it holds, want of memory aside
+abbrev pub ReportIs : List ℕ → Pushed → List Layout → Config → Result Reported CoreError → Type 0
+ReportIs bytes images layouts config = Then (CoreSays bytes) (AfterCore bytes images layouts config)
+
+-- ---- the same where there is a report, in one record: its threads are the whole chain, to null, of the first
+-- candidate that is an interpreter's, each with its whole chain of callers, to null, less the skipped members
+
+pub record IsRight (bytes : List ℕ) (images : Pushed) (layouts : List Layout) (config : Config) (r : Reported) : Type 0 where
+  pub core : IsCore bytes
+  pub maps : List CoreMapRange
+  pub are_maps : AreMaps bytes maps
+  pub programs : Programs
+  pub are_programs : ArePrograms maps programs
+  pub known : Known
+  pub is_known : IsKnown images programs known
+  pub told : FirstTells (memory_with bytes images) (sources_of known) (Ok (Some r.version))
+  pub layout : Layout
+  pub chosen : IsChosen layouts r.version layout
+  pub interpreter : ℕ
+  pub first : IsFirstOf (in_maps maps) layout (memory_with bytes images)
+      (candidates_of known r.version layout (memory_with bytes images)) interpreter
+  pub stacks : AreStacks (asked_of config) layout (memory_with bytes images) 0 interpreter r.traces
+  pub notes : NotesTell bytes r.signal r.process
+
+-- the input for which a report is owed
+pub record IsReadable (bytes : List ℕ) (images : Pushed) (layouts : List Layout) (config : Config) : Type 0 where
+  pub core : IsCore bytes
+  pub maps : List CoreMapRange
+  pub are_maps : AreMaps bytes maps
+  pub finding : Finding
+  pub found : IsFound (memory_with bytes images) maps images layouts finding
+  pub asks : AsksNoOther config
