@@ -9,7 +9,8 @@ use Rattle.process_memory.proofs.Founds.{bound, ok_same}
 use Rattle.process_memory.proofs.Walks.{walk_chain, walk_first_fault, then_same}
 use Rattle.py_fields.specs.declared.layout.Layout.{Layout}
 use Rattle.py_stacks.specs.declared.asked.Asked.{Asked}
-use Rattle.py_stacks.specs.Detail.{MemberAt, detail_at, detail_faults}
+use Rattle.py_stacks.specs.Detail.{detail_at, detail_faults}
+use Rattle.py_stacks.specs.Member.{MemberAt}
 use Rattle.py_stacks.specs.Frames.{AreFrames, Call, back_by, back_of, detailed, frame_faults, frame_limit, frame_next, frame_step, frames_at, frames_faults, kept_next, member_limit, members_at, part_by, part_faults, plain_by, records_at, shown, shown_at, shown_by, step_by, step_part, with_detail}
 use Rattle.py_stacks.proofs.Details.{detail_same}
 use Rattle.py_stacks.proofs.Gather.{step_parts}

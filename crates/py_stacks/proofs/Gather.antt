@@ -16,7 +16,8 @@ use Rattle.py_stacks.specs.declared.trace.Frame.{Frame}
 use Rattle.py_stacks.specs.declared.error.StackError.{StackError}
 use Rattle.py_stacks.specs.declared.error.StackError.TheVariants as stack
 use Rattle.py_stacks.specs.StackError.{fault_of}
-use Rattle.py_stacks.specs.Detail.{MemberAt, detail_at}
+use Rattle.py_stacks.specs.Detail.{detail_at}
+use Rattle.py_stacks.specs.Member.{MemberAt}
 use Rattle.py_stacks.specs.Frames.{Call, call_named, call_of, frame_limit, frame_step, frames_at, frames_cost, is_hidden, member_cost, member_limit, members_at, part_by, plain_at, plain_by, records_at, shown, shown_by, step_by, step_of_result, step_part, visible, with_detail, with_mark}
 use Rattle.py_stacks.specs.Gathering.{Adds, Gathering, mark_call, mark_last}
 use Rattle.py_stacks.proofs.Marking.{length-mark_last, map-mark_last, shown-kept, shown-last, shown-skipped}

@@ -1,6 +1,7 @@
 pub mod Owners
 pub mod Marking
 pub mod Details
+pub mod LineSteps
 pub mod Parts
 pub mod Gather
 pub mod FrameLaws
@@ -10,5 +11,6 @@ pub mod StackLaws
 pub mod Marks
 pub mod Bounds
 pub mod Unasked
+pub mod DetailBounds
 pub mod Candidates
 pub mod Wholes

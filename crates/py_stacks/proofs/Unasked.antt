@@ -6,13 +6,13 @@ use Rattle.process_memory.specs.Walk.{walk_cost}
 use Rattle.py_fields.specs.declared.layout.Layout.{Layout}
 use Rattle.py_stacks.specs.declared.asked.Asked.{Asked}
 use Rattle.py_stacks.specs.Asking.{nothing}
-use Rattle.py_stacks.specs.Detail.{MemberAt, detail_cost}
-use Rattle.py_stacks.specs.Frames.{Call, cost_after, extra_cost, frame_limit, frame_step, frames_cost, member_limit, part_cost, plain_by, records_at}
+use Rattle.py_stacks.specs.Detail.{detail_cost}
+use Rattle.py_stacks.specs.Member.{MemberAt}
+use Rattle.py_stacks.specs.Frames.{Call, cost_after, extra_cost, frame_limit, frame_step, member_limit, part_cost, plain_by, records_at}
 use Rattle.py_stacks.specs.Met.{details_cost, frames_extra, members_met, of_thread, threads_met}
-use Rattle.py_stacks.specs.Stacks.{stacks_cost}
-use Rattle.py_stacks.specs.Threads.{first_frame_at, thread_cost, thread_frames_cost, thread_limit, thread_step, traces_cost}
+use Rattle.py_stacks.specs.Threads.{first_frame_at, thread_limit, thread_step, traces_cost}
 use Rattle.py_stacks.proofs.Details.{nothing_costs}
-use Rattle.py_stacks.proofs.Bounds.{frames_bound, frames_met_most, members_met_most, stacks_within, threads_met_most, traces_bound}
+use Rattle.py_stacks.proofs.Bounds.{traces_bound}
 use Rattle.process_memory.proofs.WalkSums.{walk_none}
 
 module _ (q : Asked) (l : Layout) (m : Memory) (free : (r : MemberAt) → detail_cost q l m r ≡ 0) where
@@ -42,23 +42,6 @@ module _ (q : Asked) (l : Layout) (m : Memory) (free : (r : MemberAt) → detail
   details_free interpreter =
       elim (word_at m (interpreter + l.interpreter.threads)) as (λ v. cost_after v (λ head. walk_cost (thread_step q l m) (of_thread (frames_extra q l m) l m) thread_limit tt head) ≡ 0)
       [ Ok head ↦ walk_none (thread_step q l m) (of_thread (frames_extra q l m) l m) of_thread_free thread_limit tt head | Err e ↦ refl ]
-
-  -- a chain of members, cyclic or not, costs at most 6 * 16384 reads
-  chain_bound : (first : ℕ) → frames_cost q l m first ≤ 6 * member_limit
-  chain_bound first = omega (arith, frames_bound q l m first, frames_met_most q l m first, frames_free first)
-
-  -- a thread two more
-  pub thread_most : (a : ℕ) → thread_cost q l m tt a ≤ 2 + 6 * 16384
-  unfolding thread_cost thread_frames_cost
-  thread_most a =
-      let frames : cost_after (record_at m a l.thread.size >>= first_frame_at l m) (frames_cost q l m) ≤ 6 * member_limit =
-      elim (record_at m a l.thread.size >>= first_frame_at l m) as (λ v. cost_after v (frames_cost q l m) ≤ 6 * member_limit)
-      [ Ok first ↦ chain_bound first | Err e ↦ omega arith ] in
-      omega (arith, frames)
-
-  -- whatever the memory holds
-  pub stacks_most : (lock interpreter : ℕ) → stacks_cost q l m lock interpreter ≤ 3 + 4096 * (2 + 6 * 16384)
-  stacks_most lock interpreter = omega (arith, stacks_within q l m lock interpreter, details_free interpreter, threads_met_most q l m interpreter, members_met_most q l m interpreter)
 
 -- one read for an interpreter, two for each thread that is met, and six for each member
 pub plain_bound : (l : Layout) (m : Memory) (interpreter : ℕ)

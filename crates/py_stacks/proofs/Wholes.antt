@@ -10,7 +10,8 @@ use Rattle.process_memory.proofs.Founds.{bound, ok_same}
 use Rattle.process_memory.proofs.WalkSums.{FitsAll, walk_whole}
 use Rattle.py_fields.specs.declared.layout.Layout.{Layout}
 use Rattle.py_stacks.specs.declared.asked.Asked.{Asked}
-use Rattle.py_stacks.specs.Detail.{MemberAt, detail_at}
+use Rattle.py_stacks.specs.Detail.{detail_at}
+use Rattle.py_stacks.specs.Member.{MemberAt}
 use Rattle.py_stacks.specs.Frames.{AreFrames, Call, back_by, back_of, detailed, frame_limit, frame_step, frames_at, kept_next, member_limit, members_at, part_by, plain_at, plain_by, records_at, shown, shown_at, shown_by, step_by, step_part, with_detail}
 use Rattle.py_stacks.specs.Threads.{AreTraces, AreTracesOf, IsTraceOf, Trace, first_frame_at, thread_after, thread_limit, thread_step, threads_at, trace_at, trace_by, trace_of_result, traces_at, traces_of_result}
 use Rattle.std.specs.Global.{Vec}

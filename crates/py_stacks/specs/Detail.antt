@@ -1,29 +1,27 @@
 -- The detail of a kept member: its line and its locals. What walks along frames knows of it these three words
 -- alone, and never opens them: what it is, how many reads it takes, and its faults in order.
-use Rattle.std.specs.Prelude.{ℕ, Option, None, List, [], Result, Ok, Err, ℤ, pos, option_map, Vec}
+use Rattle.std.specs.Prelude.{ℕ, Option, None, List, [], Result, Ok, Err, ℤ, option_map, Vec}
 use Rattle.std.specs.Global.{Global}
-use Rattle.process_memory.specs.Memory.{Memory, Found, Fault}
+use Rattle.process_memory.specs.Memory.{Memory, Found, Fault, ◌>>=◌}
 use Rattle.py_fields.specs.declared.layout.Layout.{Layout}
 use Rattle.py_stacks.specs.declared.asked.Asked.{Asked}
 use Rattle.py_stacks.specs.declared.detail.Detail as read
 use Rattle.py_stacks.specs.declared.trace.LocalVariable.{LocalVariable}
-
--- the two records of a member, with their addresses
-pub record MemberAt : Type 0 where
-  pub frame_at : ℕ
-  pub frame : List ℕ
-  pub code_at : ℕ
-  pub code : List ℕ
+use Rattle.py_stacks.specs.Lines.{line_at, line_cost}
+use Rattle.py_stacks.specs.Member.{MemberAt}
 
 pub record Detail : Type 0 where
   pub line : ℤ
   pub locals : Option (List LocalVariable)
 
+abbrev pub detail_with : ℤ → Option (List LocalVariable) → Detail
+detail_with line locals = record { line = line; locals = locals }
+
 unfoldable pub detail_at : Asked → Layout → Memory → MemberAt → Found Detail
-detail_at q l m r = Ok (record { line = pos 0; locals = None })
+detail_at q l m r = line_at q.lineno l m r >>= (λ line. Ok (detail_with line None))
 
 unfoldable pub detail_cost : Asked → Layout → Memory → MemberAt → ℕ
-detail_cost q l m r = 0
+detail_cost q l m r = line_cost q.lineno
 
 -- the faults of a detail, in order
 unfoldable pub detail_faults : Asked → Layout → Memory → MemberAt → List Fault

@@ -13,7 +13,8 @@ use Rattle.py_objects.specs.Texts.{text_at}
 use Rattle.py_stacks.specs.declared.trace.Frame.{Frame}
 use Rattle.py_stacks.specs.declared.trace.LocalVariable.{LocalVariable}
 use Rattle.py_stacks.specs.declared.asked.Asked.{Asked}
-use Rattle.py_stacks.specs.Detail.{Detail, MemberAt, detail_at, detail_cost, detail_faults}
+use Rattle.py_stacks.specs.Detail.{Detail, detail_at, detail_cost, detail_faults}
+use Rattle.py_stacks.specs.Member.{MemberAt, readable}
 
 -- how many members of a thread's chain are met, and how many are kept, at most
 abbrev pub member_limit : ℕ
@@ -33,11 +34,6 @@ entered_at (Some at) frame = not (nat_eq (u8_in frame at) 0)
 
 unfoldable pub is_entered : FrameAt → List ℕ → Bool
 is_entered f frame = entered_at f.entry frame
-
--- a text, where there is one
-abbrev pub readable : Found (List ℕ) → Option (List ℕ)
-readable (Ok text) = Some text
-readable (Err f) = None
 
 -- the text at an address, where there is one. Nothing is missing then
 unfoldable pub name_at : Layout → Memory → ℕ → Found (Option (List ℕ))

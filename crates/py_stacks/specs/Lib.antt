@@ -5,6 +5,8 @@ pub mod Stacks
 pub mod StackError
 pub mod Shown
 pub mod Detail
+pub mod Member
+pub mod Lines
 pub mod Records
 pub mod Gathering
 pub mod Asking

@@ -6,6 +6,7 @@ ghost use Rattle.py_stacks.specs.Detail.{detail_at, detail_cost, detail_of_resul
 ghost use Rattle.py_stacks.specs.Records.{AreWhole, member_of};
 
 use crate::asked::Asked;
+use crate::lines::read_line;
 use crate::records::Records;
 use crate::{LocalVariable, StackError};
 use process_memory::ProcessMemory;
@@ -19,24 +20,21 @@ pub(crate) struct Detail {
     pub(crate) locals: Option<Vec<LocalVariable>>,
 }
 
-/// The detail of the member that has these records: the line 0 and no locals, whatever is asked for. Nothing
-/// is read.
-#[tactic(auto, unfolding(crate::specs::Detail::detail_at))]
+/// The detail of the member that has these records: its line, and no locals, whatever is asked for of them.
+#[tactic(auto, unfolding(crate::specs::Detail::detail_at, crate::specs::Detail::detail_cost))]
 pub(crate) fn read_detail<P: ProcessMemory>(
-    _alloc: Global,
-    _process: &mut P,
-    _layout: &Layout,
-    _asked: Asked,
-    _records: &Records,
+    alloc: Global,
+    process: &mut P,
+    layout: &Layout,
+    asked: Asked,
+    records: &Records,
 ) -> Result<Detail, StackError>
-    requires sound { IsSound _layout.now }
-    requires whole { AreWhole _layout.now _records.now }
-    ensures { ReadsBy fault_of (λ m. detail_cost _asked _layout.now m (member_of _records.now))
-        (P.seen _process.old) (P.seen _process.new)
-        (λ m. detail_at _asked _layout.now m (member_of _records.now)) (detail_of_result result) }
+    requires sound { IsSound layout.now }
+    requires whole { AreWhole layout.now records.now }
+    ensures { ReadsBy fault_of (λ m. detail_cost asked layout.now m (member_of records.now))
+        (P.seen process.old) (P.seen process.new)
+        (λ m. detail_at asked layout.now m (member_of records.now)) (detail_of_result result) }
 {
-    Ok(Detail {
-        line: 0,
-        locals: None,
-    })
+    let line = read_line(alloc, process, layout, asked.lineno, records)?;
+    Ok(Detail { line, locals: None })
 }

@@ -12,6 +12,7 @@ mod detail;
 mod error;
 mod frames;
 mod interpreter;
+mod lines;
 mod members;
 mod owner;
 mod records;
@@ -27,6 +28,8 @@ pub use owner::get_gil_threadid;
 pub use stacks::{get_stack_over, get_stack_trace, get_stack_traces};
 pub use trace::{Addresses, Frame, LocalVariable, StackTrace};
 
+#[cfg(test)]
+mod line_tests;
 #[cfg(test)]
 mod owner_tests;
 #[cfg(test)]

@@ -8,7 +8,7 @@ ghost use Rattle.process_memory.specs.Faults.{FaultsAre};
 ghost use Rattle.py_fields.specs.Sound.{IsSound};
 ghost use Rattle.py_stacks.specs.StackError.{fault_of};
 ghost use Rattle.py_stacks.specs.Asking.{asked_by, asked_of, asks};
-ghost use Rattle.py_stacks.specs.Met.{details_cost, stacks_bound};
+ghost use Rattle.py_stacks.specs.Met.{details_cost, members_met, stacks_bound};
 ghost use Rattle.py_stacks.specs.Threads.{IsTraceOf, Trace, thread_cost, thread_faults, trace_at};
 ghost use Rattle.py_stacks.specs.Threads.{trace_of, trace_of_result, traces_of_result};
 ghost use Rattle.py_stacks.specs.Stacks.{AreStacks, by_owner, stacks_at, stacks_cost, stacks_faults};
@@ -61,14 +61,18 @@ fn walk_stack_traces<P: ProcessMemory>(
 /// chain of callers, to null, less the members that are skipped: whose file or function name is no text or is
 /// not in memory, or whose file name is empty or `<shim>`. A frame is marked where the next member is skipped
 /// or there is none. A trace's process is 0, it counts as active, and it has no name; a frame has no module,
-/// no shorter file name and no locals, and its line is 0, whatever is asked for.
+/// no shorter file name and no locals. Its line is 0 where none is asked for or without a `Config`, the first
+/// line of its code under `First`, and under `LastInstruction` the line that the line table of its code gives at
+/// its last instruction (`py_lines::line_at`): 0 where it gives none there, or where the table is refused
+/// (`py_objects::copy_bytes`) or a part of it is not in memory.
 ///
 /// The error is the first of these, in order: those of the owner; `Unreadable` with the word that names the
 /// first thread; for each thread `Unreadable` with its record, then with the C frame's word, then for each
 /// member of its chain `Unreadable` with its frame record, then with its code record, then `FrameLimit` where
 /// it is not skipped and 4096 frames are kept, and `ChainLimit` where 16384 members were met and the next is
 /// not 0; last `ThreadLimit` where 4096 threads were walked and the next is not 0. Else it is want of memory.
-/// At most 3 reads, 2 for each thread that is met, and 6 for each member.
+/// At most 3 reads, 2 for each thread that is met, 6 for each member, and 2 for the line of each member that is
+/// kept; a table is read of no other member.
 pub fn get_stack_traces<P: ProcessMemory>(
     alloc: Global,
     interpreter: u64,
@@ -98,11 +102,10 @@ pub fn get_stack_traces<P: ProcessMemory>(
         (first_fault (stacks_faults (asked_by config.entry) layout.now m lock interpreter)) result) }
     ensures bound { (P.seen process.new).reads ≤ (P.seen process.old).reads
         + stacks_bound (asked_by config.entry) layout.now (byte_at (P.seen process.old).pieces) interpreter }
-    // no line and no local is read
     ensures details { details_cost (asked_by config.entry) layout.now (byte_at (P.seen process.old).pieces) interpreter
-        ≡ 0 }
+        ≤ 2 * members_met (asked_by config.entry) layout.now (byte_at (P.seen process.old).pieces) interpreter }
     // whatever the memory holds, as cyclic chains
-    ensures most { (P.seen process.new).reads ≤ (P.seen process.old).reads + (3 + 4096 * (2 + 6 * 16384)) }
+    ensures most { (P.seen process.new).reads ≤ (P.seen process.old).reads + (3 + 4096 * (2 + 8 * 16384)) }
 {
     let asked = asked_by(config);
     walk_stack_traces(alloc, process, layout, asked, lock, interpreter)
@@ -148,11 +151,12 @@ pub fn get_stack_over<P: ProcessMemory>(
     ensures bound { (P.seen process.new).reads ≤ (P.seen process.old).reads
         + stacks_bound (asked_of config.now) layout.now (byte_at (P.seen process.old).pieces)
         addresses.now.interpreter }
-    // no line and no local is read
     ensures details { details_cost (asked_of config.now) layout.now (byte_at (P.seen process.old).pieces)
-        addresses.now.interpreter ≡ 0 }
+        addresses.now.interpreter
+        ≤ 2 * members_met (asked_of config.now) layout.now (byte_at (P.seen process.old).pieces)
+        addresses.now.interpreter }
     // whatever the memory holds, as cyclic chains
-    ensures most { (P.seen process.new).reads ≤ (P.seen process.old).reads + (3 + 4096 * (2 + 6 * 16384)) }
+    ensures most { (P.seen process.new).reads ≤ (P.seen process.old).reads + (3 + 4096 * (2 + 8 * 16384)) }
 {
     let interpreter = addresses.interpreter;
     get_stack_traces(
@@ -182,12 +186,13 @@ fn walk_stack_trace<P: ProcessMemory>(
     Ok(trace)
 }
 
-/// The trace of the thread at an address, with the frames of its whole chain of callers: that which
-/// `get_stack_traces` has of this thread, but that it does not say who holds the lock (`owns_gil` is false).
+/// The trace of the thread at an address, with the frames of its whole chain of callers and their lines: that
+/// which `get_stack_traces` has of this thread, but that it does not say who holds the lock (`owns_gil` is
+/// false).
 ///
 /// The error is the first of these, in order: `Unreadable` with the thread's record, then with the C frame's
 /// word, and then those of its frames as `get_stack_traces` has them. Else it is want of memory. At most 2
-/// reads, and 6 for each member that is met.
+/// reads, 6 for each member that is met, and 2 for the line of each one that is kept.
 pub fn get_stack_trace<P: ProcessMemory>(
     alloc: Global,
     thread: u64,
@@ -215,7 +220,7 @@ pub fn get_stack_trace<P: ProcessMemory>(
         (λ m. FaultsAre fault_of
         (first_fault (thread_faults (asks lineno copy_locals) layout.now m tt thread)) result) }
     // whatever the memory holds, as a cyclic chain
-    ensures most { (P.seen process.new).reads ≤ (P.seen process.old).reads + (2 + 6 * 16384) }
+    ensures most { (P.seen process.new).reads ≤ (P.seen process.old).reads + (2 + 8 * 16384) }
 {
     let asked = Asked {
         lineno,

@@ -115,7 +115,7 @@ fn chain(
 }
 
 /// A piece of these words.
-fn piece(alloc: Global, start: u64, words: &[u64]) -> Result<Piece, AllocError> {
+pub(crate) fn piece(alloc: Global, start: u64, words: &[u64]) -> Result<Piece, AllocError> {
     let mut bytes = Vec::new(alloc);
     push_words(&mut bytes, words)?;
     Ok(Piece { start, bytes })

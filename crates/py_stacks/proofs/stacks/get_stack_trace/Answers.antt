@@ -3,9 +3,8 @@ use Rattle.std.proofs.Math.Nat.{le_refl}
 use Rattle.process_memory.specs.Memory.{byte_at}
 use Rattle.process_memory.proofs.Reading.{reading_gives}
 use Rattle.py_stacks.specs.Asking.{asks}
-use Rattle.py_stacks.proofs.Details.{detail_free}
 use Rattle.py_stacks.proofs.ThreadLaws.{trace_law, trace_faults_law}
-use Rattle.py_stacks.proofs.Unasked.{thread_most}
+use Rattle.py_stacks.proofs.DetailBounds.{thread_most}
 use Rattle.py_stacks.proofs.Wholes.{trace_only}
 use Rattle.py_stacks.proofs.stacks.get_stack_trace.Goals as goal
 
@@ -22,4 +21,4 @@ pub returns-clause-most : goal.returns-clause-most
 returns-clause-most g c =
     let m = byte_at (g.P.ProcessMemory.seen c.args.process.now).pieces in
     let q = asks c.args.lineno c.args.copy_locals in
-    omega (arith, c.walk_stack_trace.ensures.cost, thread_most q c.args.layout.now m (detail_free q c.args.layout.now m) c.args.thread)
+    omega (arith, c.walk_stack_trace.ensures.cost, thread_most q c.args.layout.now m c.args.thread)

@@ -4,9 +4,8 @@ use Rattle.process_memory.proofs.Reading.{reading_gives}
 use Rattle.py_stacks.specs.Asking.{asked_by}
 use Rattle.process_memory.specs.Memory.{byte_at}
 use Rattle.py_stacks.proofs.Bounds.{stacks_within}
-use Rattle.py_stacks.proofs.Details.{detail_free}
 use Rattle.py_stacks.proofs.StackLaws.{stacks_law, stacks_faults_law}
-use Rattle.py_stacks.proofs.Unasked.{details_free, stacks_most}
+use Rattle.py_stacks.proofs.DetailBounds.{details_most, stacks_most}
 use Rattle.py_stacks.proofs.Wholes.{stacks_only}
 use Rattle.py_stacks.proofs.stacks.get_stack_traces.Goals as goal
 
@@ -29,11 +28,11 @@ returns-clause-bound g c =
     omega (arith, cost, most)
 
 pub returns-clause-details : goal.returns-clause-details
-returns-clause-details g c = details_free (asked_by c.args.config) c.args.layout.now _ (detail_free (asked_by c.args.config) c.args.layout.now _) c.args.interpreter
+returns-clause-details g c = details_most (asked_by c.args.config) c.args.layout.now _ c.args.interpreter
 
 pub returns-clause-most : goal.returns-clause-most
 returns-clause-most g c =
     let m = byte_at (g.P.ProcessMemory.seen c.args.process.now).pieces in
     let cost = (rw c.asked_by-asked.ensures at c.walk_stack_traces.ensures).cost in
-    let most = stacks_most (asked_by c.args.config) c.args.layout.now m (detail_free (asked_by c.args.config) c.args.layout.now m) c.args.lock c.args.interpreter in
+    let most = stacks_most (asked_by c.args.config) c.args.layout.now m c.args.lock c.args.interpreter in
     omega (arith, cost, most)
