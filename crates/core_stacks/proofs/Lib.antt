@@ -1,7 +1,11 @@
+pub mod Agreement
+pub mod FindingLaws
 pub mod Finds
 pub mod FirstMaps
+pub mod Firsts
 pub mod Images
 pub mod Means
 pub mod Sole
 pub mod StackCauses
 pub mod Steps
+pub mod Unfaulted

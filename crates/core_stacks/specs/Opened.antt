@@ -5,9 +5,11 @@ use Rattle.image_memory.specs.declared.maps.CoreMapRange.{CoreMapRange}
 use Rattle.process_memory.specs.Memory.{Memory, Region, byte_at}
 use Rattle.py_fields.specs.declared.layout.Layout.{Layout}
 use Rattle.py_version.specs.declared.version.Version.{Version}
+use Rattle.py_stacks.specs.declared.config.Config.{Config}
 use Rattle.py_stacks.specs.declared.trace.Addresses.{Addresses}
 use Rattle.py_process.specs.Findings.{Finding, IsChosen, IsFound}
-use Rattle.py_process.specs.Reports.{pieces_with}
+use Rattle.py_process.specs.Reports.{IsTold, Reported, StacksSay, pieces_with}
+use Rattle.py_process.specs.Steps.{Then}
 use Rattle.py_process.specs.declared.core_error.CoreError.{CoreError}
 use Rattle.py_process.specs.declared.core_error.CoreError.TheVariants.{UnsupportedVersion, NativeUnsupported, SubprocessesUnsupported, OutOfMemory}
 use Rattle.core_stacks.specs.Seen.{FindsProcess}
@@ -66,3 +68,7 @@ IsLeft NativeUnsupported = ⊤
 IsLeft SubprocessesUnsupported = ⊤
 IsLeft OutOfMemory = ⊤
 IsLeft _ = ⊥
+
+-- the report of what was opened, or the first cause why there is none
+abbrev pub IsReportOf : Opened → Config → Result Reported CoreError → Type 0
+IsReportOf o config = Then (StacksSay (memory_in o) o.finding config) (IsTold o.core o.finding)

@@ -6,6 +6,8 @@ mod finding;
 mod found;
 mod programs;
 mod python_core;
+mod reporting;
 
 pub use core_walk::walk;
 pub use python_core::PythonCoreDump;
+pub use reporting::report;

@@ -1,19 +1,23 @@
 //! A core of a Python process.
-ghost use Rattle.std.specs.Prelude.{◌≡◌, ◌⊎◌, ℕ, Err, IfErr, Result};
+ghost use Rattle.std.specs.Prelude.{◌≡◌, ◌<◌, ◌⊎◌, ℕ, Err, IfErr, IfOk, IfSome, Result, length};
+ghost use Rattle.std.specs.List.{position};
+ghost use Rattle.bstr.specs.Utf8.{lossy_chars};
+ghost use Rattle.process_memory.specs.Memory.{byte_at};
 ghost use Rattle.image_memory.specs.Pieces.{memory_of};
 ghost use Rattle.py_fields.specs.Sound.{IsSound};
-ghost use Rattle.py_process.specs.Reports.{StacksSay, traces_in};
+ghost use Rattle.py_process.specs.Reports.{StacksSay, is_nul, traces_in, up_to_nul};
 ghost use Rattle.py_process.specs.declared.core_error.CoreError.{CoreError as Cause};
 ghost use Rattle.core_stacks.specs.Opened.{IsFoundIn, IsLeft, IsSole, Opened, Opens, OpensAt, memory_in};
-ghost use Rattle.core_stacks.specs.Seen.{finding_of};
+ghost use Rattle.core_stacks.specs.Seen.{IsProcessTold, IsSignal, finding_of};
 
 use crate::finding::find_process;
 use crate::found::Found;
-use image_memory::{CoreDump, Images};
+use elf64_core::{Name, Text};
+use image_memory::{CoreDump, Images, elf_prpsinfo};
 use py_layout::{Layouts, Version};
 use py_process::CoreError;
 use py_stacks::{Addresses, Config, StackTrace, get_stack_over};
-use std::alloc::Global;
+use std::alloc::{AllocError, Global};
 use std::marker::Model;
 
 /// A core of a Python process, with the version of Python that ran, the layout that covers it, and where its
@@ -37,6 +41,54 @@ impl Model for PythonCoreDump {
     } };
 
     ghost invariant = { λ p. IsSound p.found.layout };
+}
+
+/// Reads the traces of what was found in a core.
+fn read_stacks(
+    alloc: Global,
+    core: &CoreDump,
+    found: &Found,
+    config: &Config,
+) -> Result<Vec<StackTrace>, CoreError>
+    requires sound { IsSound found.now.layout }
+    requires locals { config.now.dump_locals ≡ 0 }
+    ensures { StacksSay (byte_at (memory_of core.now)) (finding_of found.now) config.now (traces_in result) }
+{
+    if config.native {
+        return Err(CoreError::NativeUnsupported);
+    }
+    if config.subprocesses {
+        return Err(CoreError::SubprocessesUnsupported);
+    }
+    let mut view = core.view();
+    let traces = get_stack_over(alloc, &mut view, &found.layout, &found.addresses, config)?;
+    Ok(traces)
+}
+
+/// Where the first nul is.
+fn first_nul(bytes: &[u8]) -> Option<usize>
+    ensures value { result ≡ position is_nul bytes.now }
+    ensures bound { IfSome result (λ size. size < length bytes.now) }
+{
+    bytes.iter().position(|byte| *byte == 0)
+}
+
+/// The bytes up to the first nul, or all of them.
+fn front(bytes: &[u8]) -> &[u8]
+    ensures { result.now ≡ up_to_nul bytes.now }
+{
+    match first_nul(bytes) {
+        Some(end) => &bytes[..end],
+        None => bytes,
+    }
+}
+
+/// The arguments of a process, up to the first nul; what is no UTF-8 is replaced.
+fn arguments_of(alloc: Global, process: &elf_prpsinfo) -> Result<Text, AllocError>
+    ensures { IfOk result (λ text. text ≡ lossy_chars (up_to_nul process.now.pr_psargs)) }
+{
+    let arguments = Name::of(alloc, front(&process.pr_psargs))?;
+    arguments.lossy(alloc)
 }
 
 impl PythonCoreDump {
@@ -91,23 +143,6 @@ impl PythonCoreDump {
         Ok(PythonCoreDump { alloc, core, found })
     }
 
-    /// Reads the traces.
-    fn read_stack(&self, config: &Config) -> Result<Vec<StackTrace>, CoreError>
-        requires locals { config.now.dump_locals ≡ 0 }
-        ensures { StacksSay (memory_in self.now) self.now.finding config.now (traces_in result) }
-    {
-        if config.native {
-            return Err(CoreError::NativeUnsupported);
-        }
-        if config.subprocesses {
-            return Err(CoreError::SubprocessesUnsupported);
-        }
-        let mut view = self.core.view();
-        let (layout, addresses) = (&self.found.layout, &self.found.addresses);
-        let traces = get_stack_over(self.alloc, &mut view, layout, addresses, config)?;
-        Ok(traces)
-    }
-
     /// The traces of the interpreter's threads, in the order of their chain, with what a `Config` asks for
     /// (`py_stacks::get_stack_over`).
     ///
@@ -127,7 +162,28 @@ impl PythonCoreDump {
         // where the process was found, neither a limit nor a record of a thread or a frame is in the way
         ensures found { IsFoundIn self.now → IfErr result IsLeft }
     {
-        self.read_stack(config)
+        read_stacks(self.alloc, &self.core, &self.found, config)
+    }
+
+    /// The signal of the first status record of the core, where it has one.
+    pub(crate) fn signal(&self) -> Option<i16>
+        ensures { IsSignal self.now.core result }
+    {
+        let status = self.core.status().first()?;
+        Some(status.pr_cursig)
+    }
+
+    /// The process's id and its arguments, of the last process record of the core, where it has one.
+    pub(crate) fn process(&self) -> Result<Option<(i32, Text)>, AllocError>
+        ensures { IfOk result (IsProcessTold self.now.core) }
+    {
+        match self.core.psinfo() {
+            Some(process) => {
+                let arguments = arguments_of(self.alloc, process)?;
+                Ok(Some((process.pr_pid, arguments)))
+            }
+            None => Ok(None),
+        }
     }
 
     /// The version.

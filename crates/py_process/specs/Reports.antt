@@ -1,6 +1,6 @@
 -- What a report says of a core and its images, and why there is none.
-use Rattle.std.specs.Prelude.{◌≡◌, ℕ, ◌==◌, ℤ, Bool, true, false, List, [], ◌∷◌, map, Option, Some, None, option_map, Result, Ok, Err, ⊤, Vec}
-use Rattle.std.specs.List.{before_first}
+use Rattle.std.specs.Prelude.{◌≡◌, ℕ, ◌==◌, ℤ, Bool, true, false, List, [], ◌∷◌, map, take, Option, Some, None, option_map, Result, Ok, Err, ⊤, Vec}
+use Rattle.std.specs.List.{position}
 use Rattle.std.specs.Global.{Global}
 use Rattle.bstr.specs.Utf8.{lossy_chars}
 use Rattle.image_memory.specs.Cores.{IsCore, Refuses}
@@ -89,9 +89,17 @@ first_signal (status ∷ rest) = Some status.pr_cursig
 abbrev pub is_nul : ℕ → Bool
 is_nul byte = byte == 0
 
+abbrev pub front_to : Option ℕ → List ℕ → List ℕ
+front_to None bytes = bytes
+front_to (Some n) bytes = take n bytes
+
+-- what stands before the first nul, or all
+abbrev pub up_to_nul : List ℕ → List ℕ
+up_to_nul bytes = front_to (position is_nul bytes) bytes
+
 -- the process's id, and its arguments up to the first nul, as characters
 abbrev pub process_told : elf_prpsinfo → ℤ × List ℕ
-process_told p = (p.pr_pid, lossy_chars (before_first is_nul p.pr_psargs))
+process_told p = (p.pr_pid, lossy_chars (up_to_nul p.pr_psargs))
 
 -- what the notes of a core tell of the process
 pub record NotesTell (bytes : List ℕ) (signal : Option ℤ) (process : Option (ℤ × List ℕ)) : Type 0 where

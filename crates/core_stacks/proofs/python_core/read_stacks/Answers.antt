@@ -5,7 +5,7 @@ use Rattle.process_memory.specs.Seen.{Seen}
 use Rattle.process_memory.proofs.Reading.{reading_here}
 use Rattle.py_process.specs.Reports.{traces_in}
 use Rattle.core_stacks.proofs.StackCauses.{stack_fails}
-use Rattle.core_stacks.proofs.python_core.PythonCoreDump.read_stack.Goals as goal
+use Rattle.core_stacks.proofs.python_core.read_stacks.Goals as goal
 
 pub returns-in_err-traces : goal.returns-in_err-traces
 returns-in_err-traces c =
