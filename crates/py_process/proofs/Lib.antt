@@ -1,7 +1,13 @@
 pub mod Bss
+pub mod Decimals
+pub mod Facts
 pub mod Finds
+pub mod Flags
 pub mod Images
 pub mod Libraries
 pub mod Marks
+pub mod Parts
 pub mod Stable
 pub mod SymbolMaps
+pub mod Telling
+pub mod Wider

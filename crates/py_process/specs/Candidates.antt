@@ -12,7 +12,7 @@ use Rattle.py_fields.specs.declared.layout.Head.{Head}
 use Rattle.py_fields.specs.declared.layout.Head.TheVariants.{Symbol, Runtime, Offsets}
 use Rattle.py_fields.specs.declared.layout.Layout.{Layout}
 use Rattle.py_fields.specs.declared.layout.OffsetsAt.{OffsetsAt}
-use Rattle.py_stacks.specs.Interpreter.{IsInterpreter, members_tested, passes, threads_tested}
+use Rattle.py_stacks.specs.Interpreter.{IsInterpreter, members_tested, passes, threads_head, threads_tested}
 use Rattle.py_process.specs.Facts.{Facts, Known, symbol_known}
 use Rattle.py_process.specs.declared.search_error.SearchError.{SearchError}
 use Rattle.py_process.specs.declared.search_error.SearchError.TheVariants.{NotFound, OutOfMemory}
@@ -77,10 +77,6 @@ unfoldable pub candidates_of : Known → Version → Layout → Memory → List 
 candidates_of k v l m = head_by l.head k v l m ++ (words_of_image m k.program ++ words_of_image m k.library)
 
 -- ---- which of them is the interpreter
-
--- the head of the threads of the interpreter at an address
-abbrev pub threads_head : Layout → Memory → ℕ → Found ℕ
-threads_head l m a = word_at m (a + l.interpreter.threads)
 
 -- an address is an interpreter's: a map holds it, a map holds its first thread, that one names it, and there is a
 -- list of traces of its whole chain of threads

@@ -3,6 +3,8 @@ use Rattle.elf64_core.specs.declared.error.ElfError.{ElfError}
 use Rattle.elf64_core.specs.declared.error.ElfError.TheVariants as elf
 use Rattle.image_memory.specs.declared.dump_error.DumpError.{DumpError}
 use Rattle.image_memory.specs.declared.dump_error.DumpError.TheVariants as dump
+use Rattle.process_memory.specs.declared.memory.ReadFault.{ReadFault}
+use Rattle.process_memory.specs.declared.memory.ReadFault.TheVariants as read
 use Rattle.py_stacks.specs.declared.error.StackError.{StackError}
 use Rattle.py_stacks.specs.declared.error.StackError.TheVariants as stack
 use Rattle.py_process.specs.declared.core_error.CoreError.{CoreError}
@@ -38,6 +40,11 @@ cause_of_version version.OutOfMemory = OutOfMemory
 abbrev pub cause_of_search : SearchError → CoreError
 cause_of_search search.NotFound = NoInterpreter
 cause_of_search search.OutOfMemory = OutOfMemory
+
+-- a range that isn't in memory, on the way to the version
+abbrev pub version_unread : ReadFault → VersionError
+version_unread (read.Unreadable addr len) = version.Unreadable addr len
+version_unread read.OutOfMemory = version.OutOfMemory
 
 -- notes of images aren't read
 abbrev pub refusal_of : ElfError → BinaryError

@@ -2,8 +2,8 @@
 -- number (PY_VERSION_HEX); the text is that of its `Py_GetVersion`. Which of them counts is this project's own
 -- rule, after py-spy.
 use Rattle.std.specs.Prelude.{◌≡◌, ℕ, ◌/◌, ◌%◌, ◌^◌, ◌==◌, if◌then◌else◌, List, [], ◌∷◌, ◌++◌, Option, Some, None, Result, Ok, Err, ⊤, codes, decimal}
+use Rattle.std.specs.Int.{w32, from_le_bytes}
 use Rattle.std.specs.Option.{option_or}
-use Rattle.elf64_core.specs.Fields.{u32_in}
 use Rattle.process_memory.specs.Memory.{Found, Memory, ◌>>=◌, record_at}
 use Rattle.process_memory.specs.Memory.Fault.{Missing}
 use Rattle.py_version.specs.Spelling.{IsLeftmost, SpellsNone}
@@ -46,7 +46,7 @@ version_of_number n = record {
 
 -- the number of the 4 bytes at an address tells its version
 abbrev pub number_at : Memory → ℕ → Found (Option Version)
-number_at m addr = record_at m addr 4 >>= (λ bytes. Ok (Some (version_of_number (u32_in bytes 0))))
+number_at m addr = record_at m addr 4 >>= (λ bytes. Ok (Some (version_of_number (from_le_bytes w32 bytes))))
 
 -- some bytes tell the version that is spelled leftmost in them, or none where none is spelled
 abbrev pub BytesTell : List ℕ → Option Version → Type 0
@@ -100,11 +100,19 @@ abbrev pub number_or : Option ℕ → List Source → List Source
 number_or None others = others
 number_or (Some addr) others = Number addr ∷ []
 
--- the text at `Py_GetVersion.version`, or at `version` where that one is no symbol; then the bss of the program, that
--- of the library, and the program's path
+-- the text is at `Py_GetVersion.version`, or at `version` where that one is no symbol
+abbrev pub text_symbol : Known → Option ℕ
+text_symbol k = option_or (symbol_known k (codes "Py_GetVersion.version")) (symbol_known k (codes "version"))
+
+-- that text; then the bss of the program; then that of the library, and the program's path
+abbrev pub library_sources : Known → List Source
+library_sources k = bss_of k.library ++ Path k.path ∷ []
+
+abbrev pub section_sources : Known → List Source
+section_sources k = bss_of k.program ++ library_sources k
+
 abbrev pub other_sources : Known → List Source
-other_sources k = text_at (option_or (symbol_known k (codes "Py_GetVersion.version")) (symbol_known k (codes "version")))
-    ++ (bss_of k.program ++ (bss_of k.library ++ Path k.path ∷ []))
+other_sources k = text_at (text_symbol k) ++ section_sources k
 
 -- `Py_Version` alone, where it is a symbol, and else those
 unfoldable pub sources_of : Known → List Source
@@ -123,3 +131,11 @@ IsTold told (Ok version) = told ≡ Ok (Some version)
 IsTold told (Err (Unreadable addr len)) = told ≡ Err (Missing addr len)
 IsTold told (Err NotFound) = told ≡ Ok None
 IsTold told (Err OutOfMemory) = ⊤
+
+-- a reader answers what its definition allows; it has nothing that is not found, and want of memory may always be
+-- answered
+abbrev pub ToldBy : (Found (Option Version) → Type 0) → Result (Option Version) VersionError → Type 0
+ToldBy Allows (Ok version) = Allows (Ok version)
+ToldBy Allows (Err (Unreadable addr len)) = Allows (Err (Missing addr len))
+ToldBy Allows (Err NotFound) = ⊥
+ToldBy Allows (Err OutOfMemory) = ⊤

@@ -7,6 +7,7 @@ mod binary_error;
 #[cfg(test)]
 mod binary_tests;
 mod core_error;
+mod file_version;
 mod interpreter;
 mod library;
 #[cfg(test)]

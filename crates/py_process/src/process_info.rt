@@ -1,6 +1,7 @@
 //! What is known of a Python process from its maps and images.
 ghost use Rattle.std.specs.Prelude.{◌≡◌, option_copied};
 ghost use Rattle.py_process.specs.Binary.{symbol_at, symbol_in};
+ghost use Rattle.py_process.specs.Facts.{known_of, symbol_known};
 
 use crate::BinaryInfo;
 use elf64_core::Name;
@@ -40,5 +41,12 @@ impl<M: ContainsAddr> PythonProcessInfo<M> {
             Some(addr) => Some(addr),
             None => symbol_in(&self.libpython_binary, symbol),
         }
+    }
+
+    /// The same, by value.
+    pub(crate) fn symbol(&self, symbol: &[u8]) -> Option<u64>
+        ensures { result ≡ symbol_known (known_of self.now) symbol.now }
+    {
+        self.get_symbol(symbol).copied()
     }
 }

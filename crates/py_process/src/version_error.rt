@@ -2,6 +2,7 @@
 ghost use Rattle.std.specs.Prelude.{◌≡◌};
 ghost use Rattle.py_process.specs.declared.version_error.VersionError.TheVariants.{OutOfMemory};
 
+use process_memory::ReadFault;
 use std::alloc::AllocError;
 use thiserror::Error;
 
@@ -25,5 +26,18 @@ impl From<AllocError> for VersionError {
 
     fn from(_: AllocError) -> VersionError {
         VersionError::OutOfMemory
+    }
+}
+
+impl From<ReadFault> for VersionError {
+    ghost use Rattle.py_process.specs.Causes.{version_unread};
+
+    ghost from_gives = { λ fault error. error ≡ version_unread fault };
+
+    fn from(fault: ReadFault) -> VersionError {
+        match fault {
+            ReadFault::Unreadable { addr, len } => VersionError::Unreadable { addr, len },
+            ReadFault::OutOfMemory => VersionError::OutOfMemory,
+        }
     }
 }

@@ -10,12 +10,21 @@ use Rattle.py_stacks.specs.Asking.{nothing}
 use Rattle.py_stacks.specs.Met.{members_met, threads_met}
 use Rattle.py_stacks.specs.Threads.{AreTraces, Trace, traces_at, traces_cost}
 
+-- the first thread of the interpreter at an address
+abbrev pub threads_head : Layout → Memory → ℕ → Found ℕ
+threads_head l m a = word_at m (a + l.interpreter.threads)
+
+-- the interpreter that the thread at an address names
+unfoldable pub named_by : Layout → Memory → ℕ → Found ℕ
+named_by l m head = do
+  thread ← record_at m head l.thread.size
+  Ok (u64_in thread l.thread.interp)
+
 -- the interpreter that an interpreter's first thread names
 unfoldable pub named_at : Layout → Memory → ℕ → Found ℕ
 named_at l m a = do
-  head ← word_at m (a + l.interpreter.threads)
-  thread ← record_at m head l.thread.size
-  Ok (u64_in thread l.thread.interp)
+  head ← threads_head l m a
+  named_by l m head
 
 abbrev pub was_found : {T : Type 0} → Found T → Bool
 was_found (Ok x) = true
@@ -27,6 +36,10 @@ passes_named l m a (Ok named) = if nat_eq named a then was_found (traces_at noth
 
 unfoldable pub passes : Layout → Memory → ℕ → Bool
 passes l m a = passes_named l m a (named_at l m a)
+
+-- the same, where the first thread is known
+unfoldable pub passes_from : Layout → Memory → ℕ → ℕ → Bool
+passes_from l m a head = passes_named l m a (named_by l m head)
 
 -- what is counted of the walk, where it is made
 abbrev pub where_named : ℕ → ℕ → Found ℕ → ℕ
@@ -46,6 +59,19 @@ members_tested l m a = where_named (members_met nothing l m a) a (named_at l m a
 abbrev pub test_bound : Layout → Memory → ℕ → ℕ
 test_bound l m a = 3 + 2 * threads_tested l m a + 6 * members_tested l m a
 
+-- the same, where the first thread is known: one read less
+unfoldable pub cost_from : Layout → Memory → ℕ → ℕ → ℕ
+cost_from l m a head = 1 + where_named (traces_cost nothing l m a) a (named_by l m head)
+
+unfoldable pub threads_from : Layout → Memory → ℕ → ℕ → ℕ
+threads_from l m a head = where_named (threads_met nothing l m a) a (named_by l m head)
+
+unfoldable pub members_from : Layout → Memory → ℕ → ℕ → ℕ
+members_from l m a head = where_named (members_met nothing l m a) a (named_by l m head)
+
+abbrev pub bound_from : Layout → Memory → ℕ → ℕ → ℕ
+bound_from l m a head = 2 + 2 * threads_from l m a head + 6 * members_from l m a head
+
 -- a fault refuses the address, and want of memory is handed on
 abbrev pub Refuses : StackError → Result Bool StackError → Type 0
 Refuses e result = MatchOption (fault_of e) (result ≡ Err OutOfMemory) (λ f. result ≡ Ok false)
@@ -55,5 +81,11 @@ Refuses e result = MatchOption (fault_of e) (result ≡ Err OutOfMemory) (λ f. 
 -- its first thread names it, and there is a list of traces of its whole chain of threads
 pub record IsInterpreter (l : Layout) (m : Memory) (a : ℕ) : Type 0 where
   pub named : named_at l m a ≡ Ok a
+  pub traces : List Trace
+  pub are : AreTraces nothing l m a traces
+
+-- the same of an address and the head of its threads: the thread there names it
+pub record IsInterpreterFrom (l : Layout) (m : Memory) (a head : ℕ) : Type 0 where
+  pub named : named_by l m head ≡ Ok a
   pub traces : List Trace
   pub are : AreTraces nothing l m a traces

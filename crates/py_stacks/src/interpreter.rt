@@ -1,9 +1,9 @@
-//! The test of an address that may be an interpreter's.
-ghost use Rattle.std.specs.Prelude.{◌≡◌, ◌+◌, ◌*◌, ◌↔◌, IfOk, IsTrue, Ok};
+//! The test of an address that may be an interpreter's, whole and in two steps.
+ghost use Rattle.std.specs.Prelude.{◌≡◌, ◌+◌, ◌*◌, ◌↔◌, IfOk, IsErrOf, IsTrue, Ok};
 ghost use Rattle.process_memory.specs.Seen.{Reads, ReadsBy, ReadingBy};
 ghost use Rattle.py_fields.specs.Sound.{IsSound};
 ghost use Rattle.py_stacks.specs.StackError.{fault_of};
-ghost use Rattle.py_stacks.specs.Interpreter.{IsInterpreter, Refuses, named_at, passes, test_bound, test_cost};
+ghost use Rattle.py_stacks.specs.Interpreter.{IsInterpreter, IsInterpreterFrom, Refuses, bound_from, cost_from, named_by, passes, passes_from, test_bound, test_cost, threads_head};
 
 use crate::StackError;
 use crate::asked::{Asked, LineNo};
@@ -25,35 +25,34 @@ fn refused(error: StackError) -> Result<bool, StackError>
     }
 }
 
-/// The interpreter that the first thread of the interpreter at an address names. At most 2 reads.
+/// The interpreter that the thread at an address names. One read.
 fn read_named<P: ProcessMemory>(
     alloc: Global,
     process: &mut P,
     layout: &Layout,
-    interpreter: u64,
+    head: u64,
 ) -> Result<u64, StackError>
     requires sound { IsSound layout.now }
-    ensures { Reads fault_of 2 (P.seen process.old) (P.seen process.new)
-        (λ m. named_at layout.now m interpreter) result }
+    ensures { Reads fault_of 1 (P.seen process.old) (P.seen process.new) (λ m. named_by layout.now m head) result }
 {
     let mut thread = Vec::new(alloc);
-    let head = word_past(process, interpreter, layout.interpreter.threads as u64)?;
     read_bytes(process, head, layout.thread.size, &mut thread)?;
     Ok(u64_in(&thread, layout.thread.interp as usize))
 }
 
-/// Tests the address: its first thread is looked at, and where it names the address its threads are walked.
-fn walk_interpreter<P: ProcessMemory>(
+/// Tests the address: the thread at `head` is looked at, and where it names the address its threads are walked.
+fn walk_from<P: ProcessMemory>(
     alloc: Global,
     process: &mut P,
     layout: &Layout,
     interpreter: u64,
+    head: u64,
 ) -> Result<bool, StackError>
     requires sound { IsSound layout.now }
-    ensures { ReadsBy fault_of (λ m. test_cost layout.now m interpreter) (P.seen process.old) (P.seen process.new)
-        (λ m. Ok (passes layout.now m interpreter)) result }
+    ensures { ReadsBy fault_of (λ m. cost_from layout.now m interpreter head) (P.seen process.old) (P.seen process.new)
+        (λ m. Ok (passes_from layout.now m interpreter head)) result }
 {
-    let named = match read_named(alloc, process, layout, interpreter) {
+    let named = match read_named(alloc, process, layout, head) {
         Ok(named) => named,
         Err(error) => return refused(error),
     };
@@ -69,6 +68,64 @@ fn walk_interpreter<P: ProcessMemory>(
         Err(error) => return refused(error),
     };
     Ok(true)
+}
+
+/// Tests the address, by its own first thread.
+fn walk_interpreter<P: ProcessMemory>(
+    alloc: Global,
+    process: &mut P,
+    layout: &Layout,
+    interpreter: u64,
+) -> Result<bool, StackError>
+    requires sound { IsSound layout.now }
+    ensures { ReadsBy fault_of (λ m. test_cost layout.now m interpreter) (P.seen process.old) (P.seen process.new)
+        (λ m. Ok (passes layout.now m interpreter)) result }
+{
+    let head = match get_first_thread(process, layout, interpreter) {
+        Ok(head) => head,
+        Err(error) => return refused(error),
+    };
+    walk_from(alloc, process, layout, interpreter, head)
+}
+
+/// The address of the first thread of the interpreter at an address; 0 where it has none.
+///
+/// `Unreadable` comes exactly where the word that names it is not in memory. It takes no memory: want of memory
+/// comes only where a read of the process may want it. At most one read.
+pub fn get_first_thread<P: ProcessMemory>(
+    process: &mut P,
+    layout: &Layout,
+    interpreter: u64,
+) -> Result<u64, StackError>
+    ensures answer { Reads fault_of 1 (P.seen process.old) (P.seen process.new)
+        (λ m. threads_head layout.now m interpreter) result }
+    ensures memory { IsErrOf result StackError.OutOfMemory → IsTrue (P.seen process.old).may_want_memory }
+{
+    let head = word_past(process, interpreter, layout.interpreter.threads as u64)?;
+    Ok(head)
+}
+
+/// Whether an address is an interpreter's, where `head` is what `get_first_thread` answered for it: the thread
+/// there names the address, and its threads can be walked. See `is_interpreter`, of which this is what is left
+/// after its first read.
+///
+/// The one error is want of memory. At most 2 reads, 2 for each thread that is met, and 6 for each member of its
+/// chain of frames.
+pub fn is_interpreter_from<P: ProcessMemory>(
+    alloc: Global,
+    process: &mut P,
+    layout: &Layout,
+    interpreter: u64,
+    head: u64,
+) -> Result<bool, StackError>
+    requires sound { IsSound layout.now }
+    ensures answer { ReadsBy fault_of (λ m. bound_from layout.now m interpreter head)
+        (P.seen process.old) (P.seen process.new) (λ m. Ok (passes_from layout.now m interpreter head)) result }
+    ensures exact { ReadingBy (λ m. bound_from layout.now m interpreter head)
+        (P.seen process.old) (P.seen process.new)
+        (λ m. IfOk result (λ is. IsTrue is ↔ IsInterpreterFrom layout.now m interpreter head)) }
+{
+    walk_from(alloc, process, layout, interpreter, head)
 }
 
 /// Whether an address is an interpreter's: its first thread names it, and its threads can be walked.

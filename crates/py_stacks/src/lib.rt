@@ -23,7 +23,7 @@ mod trace;
 pub use asked::LineNo;
 pub use config::Config;
 pub use error::StackError;
-pub use interpreter::is_interpreter;
+pub use interpreter::{get_first_thread, is_interpreter, is_interpreter_from};
 pub use owner::get_gil_threadid;
 pub use stacks::{get_stack_over, get_stack_trace, get_stack_traces};
 pub use trace::{Addresses, Frame, LocalVariable, StackTrace};

@@ -1,28 +1,14 @@
-use Rattle.std.proofs.Common.{refl, ap}
-use Rattle.std.proofs.Math.Nat.{le_refl}
-use Rattle.std.specs.Prelude.{Ok}
-use Rattle.process_memory.proofs.Reading.{reading_gives, reads_within}
-use Rattle.py_stacks.specs.Asking.{nothing}
-use Rattle.py_stacks.specs.Interpreter.{named_at, passes, passes_named, was_found}
-use Rattle.py_stacks.specs.Threads.{traces_at}
-use Rattle.py_stacks.proofs.Candidates.{passes_other, reads_refused, test_costs, test_then}
+use Rattle.std.proofs.Common.{ap}
+use Rattle.std.specs.Prelude.{false, Ok}
+use Rattle.process_memory.specs.Memory.{Memory}
+use Rattle.process_memory.proofs.Reading.{reads_within}
+use Rattle.py_stacks.specs.Interpreter.{passes, passes_named, threads_head}
+use Rattle.py_stacks.proofs.Candidates.{reads_headless, test_costs, test_then}
 use Rattle.py_stacks.proofs.interpreter.walk_interpreter.Goals as goal
 
 pub returns-in-Err : goal.returns-in-Err
-unfolding passes
 returns-in-Err g c =
-    reads_within _ (reads_refused (λ m. named_at c.args.layout.now m c.args.interpreter) (λ m. passes_named c.args.layout.now m c.args.interpreter) (λ m f. refl) c.in-Err.ensures c.refused.ensures) (test_costs _ _ _)
-
-pub returns-then-named-interpreter : goal.returns-then-named-interpreter
-returns-then-named-interpreter g c =
-    reading_gives _ _ c.in-Ok.ensures (test_costs _ _ _) (λ m a. record { is = ap Ok (passes_other c.args.layout.now m c.args.interpreter c.in-Ok.named c.if-named-interpreter.true a.is) })
-
-pub returns-in-Err-read_traces : goal.returns-in-Err-read_traces
-returns-in-Err-read_traces g c =
-    test_then c.args.layout.now c.args.interpreter c.in-Ok.named c.if-named-interpreter.false c.in-Ok.ensures
-    (reads_refused (λ m. traces_at nothing c.args.layout.now m c.args.interpreter) (λ m. was_found) (λ m f. refl) c.in-Err-read_traces.ensures c.refused-in-Err-read_traces.ensures)
+    reads_within _ (reads_headless c.args.layout.now c.args.interpreter c.in-Err.ensures.answer c.refused.ensures) (test_costs _ _ _)
 
 pub returns : goal.returns
-returns g c =
-    test_then c.args.layout.now c.args.interpreter c.in-Ok.named c.if-named-interpreter.false c.in-Ok.ensures
-    (reading_gives _ _ c.in-Ok-read_traces.ensures (le_refl _) (λ m a. record { is = ap (λ d. Ok (was_found d)) a.is }))
+returns g c = test_then c.args.layout.now c.args.interpreter c.in-Ok.head c.in-Ok.ensures.answer c.walk_from.ensures
