@@ -61,9 +61,9 @@ maps_cause maps (Err core.OutOfMemory) h kept = absurd (kept refl)
 maps_cause maps (Err _) h kept = absurd h
 
 maps_one : (maps : List CoreMapRange) (a b : Result Programs CoreError) → MapsCause maps a → MapsCause maps b → a ≡ b
-maps_one maps a b (none is no) (none is' no') = is ∙ sym is'
-maps_one maps a b (none is no) (some q is' are) = absurd (no_first_map (λ m. IsProgram m) maps q.program are.first_program no)
-maps_one maps a b (some p is are) (none is' no) = absurd (no_first_map (λ m. IsProgram m) maps p.program are.first_program no)
+maps_one maps a b (none is lack) (none is' lack') = is ∙ sym is'
+maps_one maps a b (none is lack) (some q is' are) = absurd (no_first_map (λ m. IsProgram m) maps q.program are.first_program lack)
+maps_one maps a b (some p is are) (none is' lack) = absurd (no_first_map (λ m. IsProgram m) maps p.program are.first_program lack)
 maps_one maps a b (some p is are) (some q is' are') = is ∙ ap (λ x. Ok x) (programs_same maps p q are are') ∙ sym is'
 
 pub maps_agree : (maps : List CoreMapRange) → Agree (MapsSay maps)
@@ -109,17 +109,17 @@ images_cause images p (Err core.OutOfMemory) h kept = absurd (kept refl)
 images_cause images p (Err _) h kept = absurd h
 
 images_one : (images : Pushed) (p : Programs) (a b : Result Known CoreError) → ImagesCause images p a → ImagesCause images p b → a ≡ b
-images_one images p a b (lacks is no) (lacks is' no') = is ∙ sym is'
-images_one images p a b (lacks is no) (bad is' x) = absurd (none-some _ (sym no ∙ x.held))
-images_one images p a b (lacks is no) (knows k is' x) = absurd (none-some _ (sym no ∙ x.needed_says.held))
-images_one images p a b (bad is x) (lacks is' no) = absurd (none-some _ (sym no ∙ x.held))
+images_one images p a b (lacks is lack) (lacks is' lack') = is ∙ sym is'
+images_one images p a b (lacks is lack) (bad is' x) = absurd (none-some _ (sym lack ∙ x.held))
+images_one images p a b (lacks is lack) (knows k is' x) = absurd (none-some _ (sym lack ∙ x.needed_says.held))
+images_one images p a b (bad is x) (lacks is' lack) = absurd (none-some _ (sym lack ∙ x.held))
 images_one images p a b (bad is x) (bad is' y) = is ∙ sym is'
 images_one images p a b (bad is x) (knows k is' y) = absurd (x.none y.facts y.needed_says)
-images_one images p a b (knows k is x) (lacks is' no) = absurd (none-some _ (sym no ∙ x.needed_says.held))
+images_one images p a b (knows k is x) (lacks is' lack) = absurd (none-some _ (sym lack ∙ x.needed_says.held))
 images_one images p a b (knows k is x) (bad is' y) = absurd (y.none x.facts x.needed_says)
 images_one images p a b (knows k is x) (knows j is' y) = is ∙ ap (λ z. Ok z) (known_same images p k j x y) ∙ sym is'
 
-images_agree : (images : Pushed) (p : Programs) → Agree (ImagesSay images p)
+pub images_agree : (images : Pushed) (p : Programs) → Agree (ImagesSay images p)
 images_agree images p a b one two na nb = images_one images p a b (images_cause images p a one na) (images_cause images p b two nb)
 
 -- ---- the version
@@ -166,7 +166,7 @@ version_one m k a b (told v is h) (lost y j is' g) = absurd (lost_told y j _ (to
 version_one m k a b (told v is h) (untold is' g) = absurd (untold_told v (told_once m (sources_of k) _ _ g h))
 version_one m k a b (told v is h) (told w is' g) = is ∙ ap (λ x. Ok x) (told_same v w (told_once m (sources_of k) _ _ h g)) ∙ sym is'
 
-version_agree : (m : Memory) (k : Known) → Agree (VersionSays m k)
+pub version_agree : (m : Memory) (k : Known) → Agree (VersionSays m k)
 version_agree m k a b one two na nb = version_one m k a b (version_cause m k a one na) (version_cause m k b two nb)
 
 -- ---- the layout
@@ -188,15 +188,19 @@ layout_cause layouts v (Err (core.UnsupportedVersion named)) h kept = uncovered 
 layout_cause layouts v (Err core.OutOfMemory) h kept = absurd (kept refl)
 layout_cause layouts v (Err _) h kept = absurd h
 
-layout_one : (layouts : List Layout) (v : Version) → NoneClash layouts → (a b : Result Layout CoreError) → LayoutCause layouts v a → LayoutCause layouts v b → a ≡ b
-layout_one layouts v apart a b (uncovered is no) (uncovered is' no') = is ∙ sym is'
-layout_one layouts v apart a b (uncovered is no) (covered l is' h) = absurd (no l h)
-layout_one layouts v apart a b (covered l is h) (uncovered is' no) = absurd (no l h)
-layout_one layouts v apart a b (covered l is h) (covered j is' g) = is ∙ ap (λ x. Ok x) (chosen_same layouts v l j apart h g) ∙ sym is'
+-- one layout at most covers the version
+abbrev pub CoversOnce : List Layout → Version → Type 0
+CoversOnce layouts v = (a b : Layout) → IsChosen layouts v a → IsChosen layouts v b → a ≡ b
 
-layout_agree : (layouts : List Layout) (v : Version) → NoneClash layouts → Agree (LayoutSays layouts v)
-layout_agree layouts v apart a b one two na nb =
-    layout_one layouts v apart a b (layout_cause layouts v a one na) (layout_cause layouts v b two nb)
+layout_one : (layouts : List Layout) (v : Version) → CoversOnce layouts v → (a b : Result Layout CoreError) → LayoutCause layouts v a → LayoutCause layouts v b → a ≡ b
+layout_one layouts v once a b (uncovered is lack) (uncovered is' lack') = is ∙ sym is'
+layout_one layouts v once a b (uncovered is lack) (covered l is' h) = absurd (lack l h)
+layout_one layouts v once a b (covered l is h) (uncovered is' lack) = absurd (lack l h)
+layout_one layouts v once a b (covered l is h) (covered j is' g) = is ∙ ap (λ x. Ok x) (once l j h g) ∙ sym is'
+
+pub layout_agree : (layouts : List Layout) (v : Version) → CoversOnce layouts v → Agree (LayoutSays layouts v)
+layout_agree layouts v once a b one two na nb =
+    layout_one layouts v once a b (layout_cause layouts v a one na) (layout_cause layouts v b two nb)
 
 -- ---- the interpreter
 
@@ -213,22 +217,22 @@ search_cause m contains k v l (Err _) h kept = absurd h
 
 search_one : (m : Memory) (contains : ℕ → Bool) (k : Known) (v : Version) (l : Layout) (a b : Result ℕ CoreError) → SearchCause m contains k v l a
     → SearchCause m contains k v l b → a ≡ b
-search_one m contains k v l a b (missed is no) (missed is' no') = is ∙ sym is'
-search_one m contains k v l a b (missed is no) (hit x is' h) =
-    absurd (none_first (λ x. IsInterpreterIn contains l m x) (candidates_of k v l m) h.before h.after x h.parts h.is no)
-search_one m contains k v l a b (hit x is h) (missed is' no) =
-    absurd (none_first (λ x. IsInterpreterIn contains l m x) (candidates_of k v l m) h.before h.after x h.parts h.is no)
+search_one m contains k v l a b (missed is lack) (missed is' lack') = is ∙ sym is'
+search_one m contains k v l a b (missed is lack) (hit x is' h) =
+    absurd (none_first (λ x. IsInterpreterIn contains l m x) (candidates_of k v l m) h.before h.after x h.parts h.is lack)
+search_one m contains k v l a b (hit x is h) (missed is' lack) =
+    absurd (none_first (λ x. IsInterpreterIn contains l m x) (candidates_of k v l m) h.before h.after x h.parts h.is lack)
 search_one m contains k v l a b (hit x is h) (hit y is' g) =
     is ∙ ap (λ z. Ok z) (first_same (λ x. IsInterpreterIn contains l m x) (candidates_of k v l m) h.before h.after g.before g.after x y
     h.parts g.parts h.is g.is h.none_before g.none_before) ∙ sym is'
 
-search_agree : (m : Memory) (contains : ℕ → Bool) (k : Known) (v : Version) (l : Layout) → Agree (SearchSays m contains k v l)
+pub search_agree : (m : Memory) (contains : ℕ → Bool) (k : Known) (v : Version) (l : Layout) → Agree (SearchSays m contains k v l)
 search_agree m contains k v l a b one two na nb =
     search_one m contains k v l a b (search_cause m contains k v l a one na) (search_cause m contains k v l b two nb)
 
 -- ---- all of it
 
-made_agree : (v : Version) (l : Layout) (x : ℕ) → Agree (IsMade v l x)
+pub made_agree : (v : Version) (l : Layout) (x : ℕ) → Agree (IsMade v l x)
 made_agree v l x a b one two na nb = one ∙ sym two
 
 after_layout : (m : Memory) (contains : ℕ → Bool) (k : Known) (v : Version) (l : Layout) → Agree (AfterLayout m contains k v l)
@@ -237,7 +241,7 @@ after_layout m contains k v l =
 
 after_version : (m : Memory) (contains : ℕ → Bool) (layouts : List Layout) (k : Known) (v : Version) → NoneClash layouts → Agree (AfterVersion m contains layouts k v)
 after_version m contains layouts k v apart =
-    then_agree (LayoutSays layouts v) (AfterLayout m contains k v) (layout_agree layouts v apart) (λ l h. after_layout m contains k v l)
+    then_agree (LayoutSays layouts v) (AfterLayout m contains k v) (layout_agree layouts v (λ a b x y. chosen_same layouts v a b apart x y)) (λ l h. after_layout m contains k v l)
 
 after_images : (m : Memory) (contains : ℕ → Bool) (layouts : List Layout) (k : Known) → NoneClash layouts → Agree (AfterImages m contains layouts k)
 after_images m contains layouts k apart =

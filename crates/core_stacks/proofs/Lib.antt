@@ -4,7 +4,10 @@ pub mod Finds
 pub mod FirstMaps
 pub mod Firsts
 pub mod Images
+pub mod Left
 pub mod Means
+pub mod OpenedLaws
+pub mod ReportLaws
 pub mod Sole
 pub mod StackCauses
 pub mod Steps

@@ -51,6 +51,9 @@ error_of FrameLimit = core.FrameLimit
 error_of ChainLimit = core.ChainLimit
 error_of f = core.OutOfMemory
 
+pub both : (b : Bool) → b ≡ true → b ≡ false → ⊥
+both b t e = cc
+
 module _ (m : Memory) (f : Finding) (config : Config) where
   data StackCause (r : Result (List Trace) CoreError) : Type 0 where
     native : r ≡ Err core.NativeUnsupported → config.native ≡ true → StackCause r
@@ -71,9 +74,6 @@ module _ (m : Memory) (f : Finding) (config : Config) where
   stack_cause (Err core.ChainLimit) h kept = meets ChainLimit refl h
   stack_cause (Err core.OutOfMemory) h kept = absurd (kept refl)
   stack_cause (Err _) h kept = absurd h
-
-  both : (b : Bool) → b ≡ true → b ≡ false → ⊥
-  both b t e = cc
 
   some_same : (x y : Fault) → ◌≡◌ {A = Option Fault} (Some x) (Some y) → x ≡ y
   some_same x y e = cc

@@ -1,3 +1,5 @@
 pub mod Answer
 pub mod Opened
 pub mod Seen
+pub mod Sole
+pub mod Notes

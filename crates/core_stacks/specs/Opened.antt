@@ -1,5 +1,5 @@
 -- A core of a Python process, as it is opened to read its stacks.
-use Rattle.std.specs.Prelude.{◌≡◌, ◌⊎◌, ℕ, List, [], Result, Ok, Err, ⊤}
+use Rattle.std.specs.Prelude.{◌≡◌, ℕ, List, [], Result, Ok, Err, ⊤}
 use Rattle.image_memory.specs.Images.{Pushed}
 use Rattle.image_memory.specs.declared.maps.CoreMapRange.{CoreMapRange}
 use Rattle.process_memory.specs.Memory.{Memory, Region, byte_at}
@@ -49,11 +49,6 @@ OpensAt bytes layouts version addresses (Err (UnsupportedVersion named)) =
     (named ≡ version) × ((layout : Layout) → ¬ IsChosen layouts version layout)
 OpensAt bytes layouts version addresses (Err OutOfMemory) = ⊤
 OpensAt bytes layouts version addresses (Err _) = ⊥
-
--- a right answer is the answer, want of memory aside
-abbrev pub IsSole : {T : Type 0} → (Result T CoreError → Type 0) → Result T CoreError → Type 0
-IsSole Right result = (answer : _) → Right answer → ¬ (answer ≡ Err OutOfMemory)
-    → (result ≡ answer) ⊎ (result ≡ Err OutOfMemory)
 
 -- what was found of it is right for some maps, images and layouts
 pub record IsFoundIn (o : Opened) : Type 0 where

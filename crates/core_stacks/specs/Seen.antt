@@ -1,14 +1,11 @@
 -- What the program's own values stand for.
-use Rattle.std.specs.Prelude.{◌≡◌, ℕ, List, Option, Some, None, Result, Ok, Err, option_copied, option_map, ℤ}
+use Rattle.std.specs.Prelude.{◌≡◌, ℕ, List, Option, Some, None, Result, Ok, Err, option_copied}
 use Rattle.image_memory.specs.Images.{Pushed}
 use Rattle.image_memory.specs.declared.maps.CoreMapRange.{CoreMapRange}
-use Rattle.image_memory.specs.Notes.{AreStatuses, IsProcess}
-use Rattle.image_memory.specs.declared.records.elf_prstatus.{elf_prstatus}
-use Rattle.image_memory.specs.declared.records.elf_prpsinfo.{elf_prpsinfo}
 use Rattle.image_memory.specs.Maps.{AreMaps}
 use Rattle.py_fields.specs.declared.layout.Layout.{Layout}
 use Rattle.py_process.specs.Findings.{Finding, FindingIs}
-use Rattle.py_process.specs.Reports.{first_signal, memory_with, process_told}
+use Rattle.py_process.specs.Reports.{memory_with}
 use Rattle.py_process.specs.Facts.{Known, known_of}
 use Rattle.py_process.specs.Programs as maps
 use Rattle.py_process.specs.declared.process_info.PythonProcessInfo.{PythonProcessInfo}
@@ -48,11 +45,3 @@ pub record FindsProcess (bytes : List ℕ) (images : Pushed) (layouts : List Lay
   pub maps : List CoreMapRange
   pub are_maps : AreMaps bytes maps
   pub is : FindingIs (memory_with bytes images) maps images layouts result
-
--- the signal that the status records of a core tell
-abbrev pub IsSignal : List ℕ → Option ℤ → Type 0
-IsSignal bytes signal = (statuses : List elf_prstatus) × AreStatuses bytes statuses × (signal ≡ first_signal statuses)
-
--- what the last process record of a core tells
-abbrev pub IsProcessTold : List ℕ → Option (ℤ × List ℕ) → Type 0
-IsProcessTold bytes process = (last : Option elf_prpsinfo) × IsProcess bytes last × (process ≡ option_map process_told last)

@@ -5,6 +5,7 @@ ghost use Rattle.py_fields.specs.Sound.{IsSound};
 ghost use Rattle.py_process.specs.Facts.{known_of};
 ghost use Rattle.py_process.specs.Findings.{AfterImages, AfterLayout, AfterMaps, AfterVersion};
 ghost use Rattle.py_process.specs.Reports.{memory_with};
+ghost use Rattle.core_stacks.specs.Sole.{Settles};
 ghost use Rattle.core_stacks.specs.Seen.{FindsProcess, finding_in, programs_now};
 
 use crate::found::Found;
@@ -25,8 +26,9 @@ fn find_interpreter<M: ContainsAddr, P: ProcessMemory>(
     layout: &Layout,
 ) -> Result<Found, CoreError>
     requires { IsSound layout.now }
-    ensures right { AfterLayout (byte_at (P.seen process.old).pieces) (M.contains info.now.maps) (known_of info.now)
-        version layout.now (finding_in result) }
+    ensures settles { Settles (AfterLayout (byte_at (P.seen process.old).pieces) (M.contains info.now.maps) (known_of info.now)
+        version layout.now)
+        (finding_in result) }
     ensures sound { IfOk result (λ found. IsSound found.layout) }
 {
     let interpreter = get_interpreter_address(alloc, info, process, &version, layout)?;
@@ -48,8 +50,9 @@ fn find_by_version<M: ContainsAddr, P: ProcessMemory>(
     layouts: &Layouts,
     version: Version,
 ) -> Result<Found, CoreError>
-    ensures right { AfterVersion (byte_at (P.seen process.old).pieces) (M.contains info.now.maps) layouts.now
-        (known_of info.now) version (finding_in result) }
+    ensures settles { Settles (AfterVersion (byte_at (P.seen process.old).pieces) (M.contains info.now.maps) layouts.now
+        (known_of info.now) version)
+        (finding_in result) }
     ensures sound { IfOk result (λ found. IsSound found.layout) }
 {
     match layouts.choose(&version) {
@@ -65,8 +68,9 @@ fn find_by_images<M: ContainsAddr, P: ProcessMemory>(
     process: &mut P,
     layouts: &Layouts,
 ) -> Result<Found, CoreError>
-    ensures right { AfterImages (byte_at (P.seen process.old).pieces) (M.contains info.now.maps) layouts.now
-        (known_of info.now) (finding_in result) }
+    ensures settles { Settles (AfterImages (byte_at (P.seen process.old).pieces) (M.contains info.now.maps) layouts.now
+        (known_of info.now))
+        (finding_in result) }
     ensures sound { IfOk result (λ found. IsSound found.layout) }
 {
     let version = get_python_version(alloc, info, process)?;
@@ -82,8 +86,9 @@ fn find_by_maps(
     layouts: &Layouts,
     programs: &Programs<'_>,
 ) -> Result<Found, CoreError>
-    ensures right { AfterMaps (memory_with core.now images.now) maps.now.items images.now layouts.now
-        (programs_now programs.now) (finding_in result) }
+    ensures settles { Settles (AfterMaps (memory_with core.now images.now) maps.now.items images.now layouts.now
+        (programs_now programs.now))
+        (finding_in result) }
     ensures sound { IfOk result (λ found. IsSound found.layout) }
 {
     let info = read_images(alloc, images, maps, programs)?;
@@ -98,7 +103,7 @@ pub(crate) fn find_process(
     images: &Images,
     layouts: &Layouts,
 ) -> Result<Found, CoreError>
-    ensures right { FindsProcess core.now images.now layouts.now (finding_in result) }
+    ensures settles { Settles (FindsProcess core.now images.now layouts.now) (finding_in result) }
     ensures sound { IfOk result (λ found. IsSound found.layout) }
 {
     let maps = core.maps();

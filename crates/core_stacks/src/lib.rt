@@ -4,6 +4,7 @@
 mod core_walk;
 mod finding;
 mod found;
+mod notes;
 mod programs;
 mod python_core;
 mod reporting;

@@ -1,23 +1,20 @@
 //! A core of a Python process.
-ghost use Rattle.std.specs.Prelude.{◌≡◌, ◌<◌, ◌⊎◌, ℕ, Err, IfErr, IfOk, IfSome, Result, length};
-ghost use Rattle.std.specs.List.{position};
-ghost use Rattle.bstr.specs.Utf8.{lossy_chars};
+ghost use Rattle.std.specs.Prelude.{◌≡◌, ℕ, IfErr};
 ghost use Rattle.process_memory.specs.Memory.{byte_at};
 ghost use Rattle.image_memory.specs.Pieces.{memory_of};
 ghost use Rattle.py_fields.specs.Sound.{IsSound};
-ghost use Rattle.py_process.specs.Reports.{StacksSay, is_nul, traces_in, up_to_nul};
-ghost use Rattle.py_process.specs.declared.core_error.CoreError.{CoreError as Cause};
-ghost use Rattle.core_stacks.specs.Opened.{IsFoundIn, IsLeft, IsSole, Opened, Opens, OpensAt, memory_in};
-ghost use Rattle.core_stacks.specs.Seen.{IsProcessTold, IsSignal, finding_of};
+ghost use Rattle.py_process.specs.Reports.{StacksSay, traces_in};
+ghost use Rattle.core_stacks.specs.Sole.{IsSole, Settles};
+ghost use Rattle.core_stacks.specs.Opened.{IsFoundIn, IsLeft, Opened, Opens, OpensAt, memory_in};
+ghost use Rattle.core_stacks.specs.Seen.{finding_of};
 
 use crate::finding::find_process;
 use crate::found::Found;
-use elf64_core::{Name, Text};
-use image_memory::{CoreDump, Images, elf_prpsinfo};
+use image_memory::{CoreDump, Images};
 use py_layout::{Layouts, Version};
 use py_process::CoreError;
 use py_stacks::{Addresses, Config, StackTrace, get_stack_over};
-use std::alloc::{AllocError, Global};
+use std::alloc::Global;
 use std::marker::Model;
 
 /// A core of a Python process, with the version of Python that ran, the layout that covers it, and where its
@@ -65,30 +62,17 @@ fn read_stacks(
     Ok(traces)
 }
 
-/// Where the first nul is.
-fn first_nul(bytes: &[u8]) -> Option<usize>
-    ensures value { result ≡ position is_nul bytes.now }
-    ensures bound { IfSome result (λ size. size < length bytes.now) }
+/// Looks for what there is to find in a core.
+fn open_core(
+    alloc: Global,
+    core: CoreDump,
+    images: &Images,
+    layouts: &Layouts,
+) -> Result<PythonCoreDump, CoreError>
+    ensures { Settles (Opens core images.now layouts.now) result }
 {
-    bytes.iter().position(|byte| *byte == 0)
-}
-
-/// The bytes up to the first nul, or all of them.
-fn front(bytes: &[u8]) -> &[u8]
-    ensures { result.now ≡ up_to_nul bytes.now }
-{
-    match first_nul(bytes) {
-        Some(end) => &bytes[..end],
-        None => bytes,
-    }
-}
-
-/// The arguments of a process, up to the first nul; what is no UTF-8 is replaced.
-fn arguments_of(alloc: Global, process: &elf_prpsinfo) -> Result<Text, AllocError>
-    ensures { IfOk result (λ text. text ≡ lossy_chars (up_to_nul process.now.pr_psargs)) }
-{
-    let arguments = Name::of(alloc, front(&process.pr_psargs))?;
-    arguments.lossy(alloc)
+    let found = find_process(alloc, &core, images, layouts)?;
+    Ok(PythonCoreDump { alloc, core, found })
 }
 
 impl PythonCoreDump {
@@ -111,11 +95,9 @@ impl PythonCoreDump {
     ) -> Result<PythonCoreDump, CoreError>
         ensures right { Opens core images.now layouts.now result }
         // what is right is the answer, want of memory aside
-        ensures only { (answer : Result Opened Cause) → Opens core images.now layouts.now answer
-            → ¬ (answer ≡ Err CoreError.OutOfMemory) → (result ≡ answer) ⊎ (result ≡ Err CoreError.OutOfMemory) }
+        ensures only { IsSole (Opens core images.now layouts.now) result }
     {
-        let found = find_process(alloc, &core, images, layouts)?;
-        Ok(PythonCoreDump { alloc, core, found })
+        open_core(alloc, core, images, layouts)
     }
 
     /// A core of a Python process of this version, whose interpreter and lock are at these addresses. Nothing is
@@ -163,27 +145,6 @@ impl PythonCoreDump {
         ensures found { IsFoundIn self.now → IfErr result IsLeft }
     {
         read_stacks(self.alloc, &self.core, &self.found, config)
-    }
-
-    /// The signal of the first status record of the core, where it has one.
-    pub(crate) fn signal(&self) -> Option<i16>
-        ensures { IsSignal self.now.core result }
-    {
-        let status = self.core.status().first()?;
-        Some(status.pr_cursig)
-    }
-
-    /// The process's id and its arguments, of the last process record of the core, where it has one.
-    pub(crate) fn process(&self) -> Result<Option<(i32, Text)>, AllocError>
-        ensures { IfOk result (IsProcessTold self.now.core) }
-    {
-        match self.core.psinfo() {
-            Some(process) => {
-                let arguments = arguments_of(self.alloc, process)?;
-                Ok(Some((process.pr_pid, arguments)))
-            }
-            None => Ok(None),
-        }
     }
 
     /// The version.

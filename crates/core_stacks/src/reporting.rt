@@ -1,31 +1,33 @@
 //! The report of a core.
 ghost use Rattle.std.specs.Prelude.{◌≡◌, IfErr, IfOk};
-ghost use Rattle.py_process.specs.Reports.{AfterFinding, IsReadable, IsRight, ReportIs, reported, reported_of};
-ghost use Rattle.py_process.specs.declared.core_error.CoreError.{CoreError as Cause};
-ghost use Rattle.core_stacks.specs.Opened.{IsReportOf, IsSole, memory_in};
+ghost use Rattle.py_process.specs.Reports.{AsksNoOther, IsReadable, IsRight, NotesTell, ReportIs, reported, reported_of};
+ghost use Rattle.core_stacks.specs.Sole.{IsSole, Settles};
+ghost use Rattle.core_stacks.specs.Opened.{IsFoundIn, IsReportOf};
 
 use crate::PythonCoreDump;
+use crate::notes::{Notes, notes_of};
 use image_memory::{CoreDump, Images};
 use py_layout::Layouts;
 use py_process::{CoreError, Report};
 use py_stacks::Config;
 use std::alloc::Global;
 
-/// The report of a core of a Python process that was opened.
+/// The report of a core of a Python process that was opened, and of what its notes tell.
 fn report_of(
     python: PythonCoreDump,
+    notes: Notes,
     config: &Config,
 ) -> Result<Report, CoreError>
     requires locals { config.now.dump_locals ≡ 0 }
-    ensures { IsReportOf python config.now (reported result) }
+    requires notes { NotesTell python.core notes.signal notes.process }
+    ensures settles { Settles (IsReportOf python config.now) (reported result) }
+    ensures complete { IsFoundIn python → AsksNoOther config.now → IfErr result (λ error. error ≡ CoreError.OutOfMemory) }
 {
     let traces = python.get_stack(config)?;
-    let signal = python.signal();
-    let process = python.process()?;
     let version = python.into_version();
     Ok(Report {
-        signal,
-        process,
+        signal: notes.signal,
+        process: notes.process,
         version,
         traces,
     })
@@ -40,11 +42,14 @@ fn make_report(
     config: &Config,
 ) -> Result<Report, CoreError>
     requires locals { config.now.dump_locals ≡ 0 }
-    ensures { ReportIs bytes.items images.now layouts.now config.now (reported result) }
+    ensures settles { Settles (ReportIs bytes.items images.now layouts.now config.now) (reported result) }
+    ensures complete { IsReadable bytes.items images.now layouts.now config.now
+        → IfErr result (λ error. error ≡ CoreError.OutOfMemory) }
 {
     let core = CoreDump::new(alloc, bytes)?;
+    let notes = notes_of(alloc, &core)?;
     let python = PythonCoreDump::new(alloc, core, images, layouts)?;
-    report_of(python, config)
+    report_of(python, notes, config)
 }
 
 /// What a core and the images that its process had mapped tell of the process: the signal of the first status
