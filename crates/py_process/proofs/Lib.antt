@@ -3,11 +3,15 @@ pub mod Decimals
 pub mod Facts
 pub mod Finds
 pub mod Flags
+pub mod Heads
 pub mod Images
 pub mod Libraries
 pub mod Marks
 pub mod Parts
+pub mod Searches
 pub mod Stable
 pub mod SymbolMaps
 pub mod Telling
+pub mod Tests
 pub mod Wider
+pub mod Words

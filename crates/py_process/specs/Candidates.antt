@@ -1,11 +1,13 @@
 -- The addresses that may be the interpreter's, in order, and the first that is one. Where the symbols stand is
 -- CPython's (`interp_head` up to 3.6, `_PyRuntime` from 3.7 on); that words of sections are tried is this
 -- project's own rule, after py-spy.
-use Rattle.std.specs.Prelude.{◌≡◌, ℕ, ◌+◌, ◌*◌, ◌^◌, nat_eq, ◌&&◌, Bool, true, false, if◌then◌else◌, IsTrue, All, List, [], ◌∷◌, ◌++◌, Option, Some, None, Result, Ok, Err, ⊤, codes, find}
+use Rattle.std.specs.Prelude.{◌≡◌, ℕ, ◌+◌, ◌*◌, ◌^◌, nat_eq, ◌&&◌, Bool, true, false, if◌then◌else◌, IsTrue, All, List, [], ◌∷◌, ◌++◌, Option, Some, None, Result, Ok, Err, ⊤, codes, find, option_to_list}
 use Rattle.std.specs.Int.{w64, from_le_bytes}
 use Rattle.elf64_core.specs.Fields.{u64_in}
 use Rattle.process_memory.specs.Memory.{Found, Memory, ◌>>=◌, byte_at, record_at, word_at}
 use Rattle.process_memory.specs.Seen.{ReadingBelow, Seen}
+use Rattle.process_memory.specs.declared.memory.ReadFault.{ReadFault}
+use Rattle.process_memory.specs.declared.memory.ReadFault.TheVariants as read
 use Rattle.py_version.specs.Offsets.{interp_head_offset}
 use Rattle.py_version.specs.declared.version.Version.{Version}
 use Rattle.py_fields.specs.declared.layout.Head.{Head}
@@ -67,14 +69,21 @@ abbrev pub runtime_words : Memory → (addr size : ℕ) → List ℕ
 runtime_words m addr size = if nat_eq addr 0 then [] else section_words m addr size
 
 -- those of an image: of its runtime section, then of its bss
-unfoldable pub words_of_image : Memory → Option Facts → List ℕ
-words_of_image m None = []
-words_of_image m (Some facts) = runtime_words m facts.pyruntime_addr facts.pyruntime_size
+abbrev pub words_of_facts : Memory → Facts → List ℕ
+words_of_facts m facts = runtime_words m facts.pyruntime_addr facts.pyruntime_size
     ++ section_words m facts.bss_addr facts.bss_size
 
--- the candidates: the head that symbols give, the program's words, the library's
+abbrev pub words_of_image : Memory → Option Facts → List ℕ
+words_of_image m None = []
+words_of_image m (Some facts) = words_of_facts m facts
+
+-- the program's, then the library's
+abbrev pub words_of_images : Memory → Known → List ℕ
+words_of_images m k = words_of_image m k.program ++ words_of_image m k.library
+
+-- the candidates: the head that symbols give, then those words
 unfoldable pub candidates_of : Known → Version → Layout → Memory → List ℕ
-candidates_of k v l m = head_by l.head k v l m ++ (words_of_image m k.program ++ words_of_image m k.library)
+candidates_of k v l m = head_by l.head k v l m ++ words_of_images m k
 
 -- ---- which of them is the interpreter
 
@@ -148,3 +157,29 @@ search_bound contains k v l m = 6 + search_cost contains l m (candidates_of k v 
 -- that covers them
 abbrev pub Searching : (ℕ → Bool) → Known → Version → Layout → Seen → Seen → (Memory → Type 0) → Type 0
 Searching contains k v l old new Q = ReadingBelow (2 ^ 64) (search_bound contains k v l (byte_at old.pieces)) old new Q
+
+-- ---- what the readers on the way answer
+
+-- a reader of the search answers a value; want of memory may always be answered
+abbrev pub SearchIs : {T : Type 0} → T → Result T SearchError → Type 0
+SearchIs value (Ok answer) = value ≡ answer
+SearchIs value (Err NotFound) = ⊥
+SearchIs value (Err OutOfMemory) = ⊤
+
+-- so does one of a list of at most one
+abbrev pub ListIs : List ℕ → Result (Option ℕ) SearchError → Type 0
+ListIs values (Ok answer) = values ≡ option_to_list answer
+ListIs values (Err NotFound) = ⊥
+ListIs values (Err OutOfMemory) = ⊤
+
+-- nothing, where something isn't in memory
+abbrev pub or_nothing : Result ℕ ReadFault → Result (Option ℕ) SearchError
+or_nothing (Ok addr) = Ok (Some addr)
+or_nothing (Err (read.Unreadable addr len)) = Ok None
+or_nothing (Err read.OutOfMemory) = Err OutOfMemory
+
+-- what a search in a list owes: it makes at most so many reads beside those of the candidates
+abbrev pub Seeking : (ℕ → Bool) → Layout → ℕ → (Memory → List ℕ) → Seen → Seen → Result (Option ℕ) SearchError → Type 0
+Seeking contains l n candidates old new result =
+    ReadingBelow (2 ^ 64) (n + search_cost contains l (byte_at old.pieces) (candidates (byte_at old.pieces))) old new
+    (λ m. SearchIs (find (passes_in contains l m) (candidates m)) result)

@@ -1,15 +1,73 @@
 //! Where the interpreter of a process is.
 ghost use Rattle.std.specs.Prelude.{IfOk};
 ghost use Rattle.py_fields.specs.Sound.{IsSound};
-ghost use Rattle.py_process.specs.Candidates.{FirstIs, IsFirstOf, IsNoneOf, NotFoundWhere, Searching, candidates_of, interpreter_of};
+ghost use Rattle.py_process.specs.Candidates.{FirstIs, IsFirstOf, IsNoneOf, NotFoundWhere, Searching, Seeking, candidates_of, interpreter_of, words_of_images};
 ghost use Rattle.py_process.specs.Facts.{known_of};
 
+use crate::candidates::first_in_image;
+use crate::head::first_of_head;
 use crate::{PythonProcessInfo, SearchError};
 use image_memory::ContainsAddr;
 use process_memory::ProcessMemory;
 use py_fields::Layout;
 use py_version::Version;
 use std::alloc::Global;
+
+/// The first word of the images' sections that is an interpreter. At most 4 reads beside those of the candidates.
+fn first_in_images<M: ContainsAddr, P: ProcessMemory>(
+    alloc: Global,
+    info: &PythonProcessInfo<M>,
+    process: &mut P,
+    layout: &Layout,
+) -> Result<Option<u64>, SearchError>
+    requires sound { IsSound layout.now }
+    ensures { Seeking (M.contains info.now.maps) layout.now 4 (λ m. words_of_images m (known_of info.now))
+        (P.seen process.old) (P.seen process.new) result }
+{
+    let maps = &info.maps;
+    if let Some(found) = first_in_image(alloc, maps, process, layout, &info.python_binary)? {
+        return Ok(Some(found));
+    }
+    first_in_image(alloc, maps, process, layout, &info.libpython_binary)
+}
+
+/// The first candidate that is an interpreter. At most 6 reads beside those of the candidates.
+fn first_candidate<M: ContainsAddr, P: ProcessMemory>(
+    alloc: Global,
+    info: &PythonProcessInfo<M>,
+    process: &mut P,
+    version: &Version,
+    layout: &Layout,
+) -> Result<Option<u64>, SearchError>
+    requires sound { IsSound layout.now }
+    ensures { Seeking (M.contains info.now.maps) layout.now 6
+        (λ m. candidates_of (known_of info.now) version.now layout.now m)
+        (P.seen process.old) (P.seen process.new) result }
+{
+    if let Some(found) = first_of_head(alloc, info, process, version, layout)? {
+        return Ok(Some(found));
+    }
+    first_in_images(alloc, info, process, layout)
+}
+
+/// See `get_interpreter_address`.
+fn find_interpreter<M: ContainsAddr, P: ProcessMemory>(
+    alloc: Global,
+    info: &PythonProcessInfo<M>,
+    process: &mut P,
+    version: &Version,
+    layout: &Layout,
+) -> Result<u64, SearchError>
+    requires sound { IsSound layout.now }
+    ensures { Searching (M.contains info.now.maps) (known_of info.now) version.now layout.now
+        (P.seen process.old) (P.seen process.new)
+        (λ m. FirstIs (interpreter_of (M.contains info.now.maps) (known_of info.now) version.now layout.now m) result) }
+{
+    match first_candidate(alloc, info, process, version, layout)? {
+        Some(addr) => Ok(addr),
+        None => Err(SearchError::NotFound),
+    }
+}
 
 /// The address of the interpreter of a process: the first candidate that is one.
 ///
@@ -44,5 +102,5 @@ pub fn get_interpreter_address<M: ContainsAddr, P: ProcessMemory>(
         (P.seen process.old) (P.seen process.new) (λ m. NotFoundWhere (IsNoneOf (M.contains info.now.maps) layout.now m
         (candidates_of (known_of info.now) version.now layout.now m)) result) }
 {
-    Err(SearchError::OutOfMemory)
+    find_interpreter(alloc, info, process, version, layout)
 }

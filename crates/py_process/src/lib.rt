@@ -6,8 +6,10 @@ mod binary;
 mod binary_error;
 #[cfg(test)]
 mod binary_tests;
+mod candidates;
 mod core_error;
 mod file_version;
+mod head;
 mod interpreter;
 mod library;
 #[cfg(test)]
