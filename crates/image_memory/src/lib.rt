@@ -15,6 +15,7 @@ mod images;
 mod maps;
 mod mmap;
 mod notes;
+mod overlay;
 mod places;
 mod records;
 mod subrange;
