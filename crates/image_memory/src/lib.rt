@@ -12,6 +12,7 @@ mod file_table;
 #[cfg(test)]
 mod image_tests;
 mod images;
+mod lookup;
 mod maps;
 mod mmap;
 mod notes;
