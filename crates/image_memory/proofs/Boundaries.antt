@@ -5,11 +5,11 @@ use Rattle.std.specs.List.{AllByRecursion, AllPairs, list_any}
 use Rattle.std.proofs.lemmas.Bool.{cases_lt, cases_eq, le-leb, lt-leb}
 use Rattle.std.proofs.lemmas.List.{length-map}
 use Rattle.std.proofs.lemmas.List.Sums.{fails_before_first}
-use Rattle.std.proofs.lemmas.List.Elements.{All-from_recursion, All-map}
+use Rattle.std.proofs.lemmas.List.Elements.{All-from_recursion, All-head, All-map, All-tail, All-weaker}
 use Rattle.elf64_core.specs.SpanTables.{AreSpans, IsSpan, StandsBefore}
 use Rattle.elf64_core.specs.declared.span_table.TableEntry.{TableEntry}
 use Rattle.image_memory.specs.declared.overlay.Owned.{Owned}
-use Rattle.image_memory.specs.Overlays.{ArePieces, IsPieceOf, IsRange, owner_of, spans}
+use Rattle.image_memory.specs.Overlays.{ArePieces, IsPiece, IsPieceOf, IsRange, owner_of, spans}
 use Rattle.image_memory.specs.Laid.{AnyHolds, AreLaid, HasRoom, HaveRoom, Holds, Rises, end_of, entry_of}
 use Rattle.image_memory.proofs.Overlays.{IsPieceAt, first_below, owner_spans, pieces_room, piece_within, spans_from, spans_within}
 
@@ -60,18 +60,33 @@ from_on-one_fewer low high x (y ∷ ys) le less is =
       ])
     is
 
--- pieces that ascend, each of which starts at one of some numbers
-fewer : (low : ℕ) (ps : List Owned) (xs : List ℕ) → Rises low ps → AllByRecursion (λ p. (0 < p.entry.len) × IsIn p.entry.start xs) ps
-    → length ps ≤ from_on low xs
-fewer low [] xs rise h = omega arith
-fewer low (p ∷ ps) xs rise h =
-    omega (arith, fewer (end_of p) ps xs rise.1 h.1, from_on-one_fewer low (end_of p) p.entry.start xs rise.0 (omega (arith, h.0.0)) h.0.1)
-
 abbrev start_of : TableEntry → ℕ
 start_of r = r.start
 
 abbrev end : TableEntry → ℕ
 end r = r.start + r.len
+
+abbrev StartsIn : List ℕ → TableEntry → Type 0
+StartsIn xs e = (0 < e.len) × IsIn e.start xs
+
+tail_ascends : (e : TableEntry) (es : List TableEntry) → AllPairs StandsBefore (e ∷ es) → AllPairs StandsBefore es
+tail_ascends e es h = λ i j d ij less. h (suc i) (suc j) d (omega arith) (omega arith)
+
+tail_after : (e : TableEntry) (es : List TableEntry) → AllPairs StandsBefore (e ∷ es) → All (λ next. end e ≤ next.start) es
+tail_after e es h = λ k d less. h 0 (suc k) d (omega arith) (omega arith)
+
+-- entries that ascend, each of which starts at one of some numbers
+fewer : (low : ℕ) (es : List TableEntry) (xs : List ℕ) → AllPairs StandsBefore es → All (λ e. low ≤ e.start) es → All (StartsIn xs) es
+    → length es ≤ from_on low xs
+fewer low [] xs ascend after h = omega arith
+fewer low (e ∷ es) xs ascend after h =
+    let here : StartsIn xs e = All-head (StartsIn xs) e es h in
+    let from : low ≤ e.start = All-head (λ x. low ≤ x.start) e es after in
+    omega (
+      arith,
+      fewer (end e) es xs (tail_ascends e es ascend) (tail_after e es ascend) (All-tail (StartsIn xs) e es h),
+      from_on-one_fewer low (end e) e.start xs from (omega (arith, here.0)) here.1,
+    )
 
 -- where ranges start and end
 abbrev boundaries : List TableEntry → List ℕ
@@ -127,17 +142,16 @@ piece_starts ranges owner piece h =
     differ : {b : Bool} → b ≡ false → b ≡ true → ⊥
     differ h k = absurd (cc)
 
-all_start : (ranges : List TableEntry) (ps : List Owned) → AllByRecursion (IsPieceAt ranges) ps
-    → AllByRecursion (λ p. (0 < p.entry.len) × IsIn p.entry.start (boundaries ranges)) ps
-all_start ranges [] h = tt
-all_start ranges (p ∷ ps) h = ((h.0.some, piece_starts ranges p.owner p.entry h.0), all_start ranges ps h.1)
+piece_starts_in : (ranges : List TableEntry) (piece : TableEntry) → IsPiece ranges piece → StartsIn (boundaries ranges) piece
+piece_starts_in ranges piece h = (h.1.some, piece_starts ranges h.0 piece h.1)
 
 -- ranges have at most twice as many pieces
-pub laid_few : (ranges : List TableEntry) (ps : List Owned) → AreLaid ranges ps → length ps ≤ 2 * length ranges
-laid_few ranges ps laid =
+pub pieces_few : (ranges pieces : List TableEntry) → ArePieces ranges pieces → length pieces ≤ 2 * length ranges
+pieces_few ranges pieces h =
     omega (
       arith,
-      fewer 0 ps (boundaries ranges) laid.rise (all_start ranges ps laid.each),
+      fewer 0 pieces (boundaries ranges) h.ascend (λ k d less. omega arith)
+      (All-weaker (IsPiece ranges) (StartsIn (boundaries ranges)) (piece_starts_in ranges) pieces h.each),
       from_on-all 0 (boundaries ranges),
       length-append (map start_of ranges) (map end ranges),
       length-map ranges start_of,
@@ -172,23 +186,23 @@ laid_spans ranges [] room h = tt
 laid_spans ranges (p ∷ ps) room h = (record { some = h.0.some; ends = room.0.ends }, laid_spans ranges ps room.1 h.1)
 
 laid_pieces : (ranges : List TableEntry) (ps : List Owned) → AllByRecursion (IsPieceAt ranges) ps
-    → AllByRecursion (λ p. (owner : ℕ) × IsPieceOf ranges owner (entry_of p)) ps
+    → AllByRecursion (λ p. IsPiece ranges (entry_of p)) ps
 laid_pieces ranges [] h = tt
 laid_pieces ranges (p ∷ ps) h = ((p.owner, h.0), laid_pieces ranges ps h.1)
 
-pub AreSpans-laid : (ranges : List TableEntry) (ps : List Owned) → All IsRange ranges → length ranges < 2 ^ 31 → AreLaid ranges ps
-    → AreSpans (map entry_of ps)
-AreSpans-laid ranges ps fits few laid = record {
+pub AreSpans-laid : (ranges : List TableEntry) (ps : List Owned) → All IsRange ranges → length ranges ≤ 2 ^ 64 → length ps < 2 ^ 32
+    → AreLaid ranges ps → AreSpans (map entry_of ps)
+AreSpans-laid ranges ps fits many few laid = record {
   each = All-map IsSpan entry_of ps (All-from_recursion (λ p. IsSpan (entry_of p)) ps
       (laid_spans ranges ps (pieces_room ranges 0 ps fits (omega arith) laid.each) laid.each));
   ascend = laid_ascend 0 ps laid.rise;
-  few = omega (arith, laid_few ranges ps laid, length-map ps entry_of);
+  few = omega (arith, length-map ps entry_of);
 }
 
 pub ArePieces-laid : (ranges : List TableEntry) (ps : List Owned) → AreLaid ranges ps → ArePieces ranges (map entry_of ps)
 ArePieces-laid ranges ps laid = record {
-  each = All-map (λ piece. (owner : ℕ) × IsPieceOf ranges owner piece) entry_of ps
-      (All-from_recursion (λ p. (owner : ℕ) × IsPieceOf ranges owner (entry_of p)) ps (laid_pieces ranges ps laid.each));
+  each = All-map (IsPiece ranges) entry_of ps
+      (All-from_recursion (λ p. IsPiece ranges (entry_of p)) ps (laid_pieces ranges ps laid.each));
   ascend = laid_ascend 0 ps laid.rise;
   whole = λ addr less. laid_any addr ps (laid.whole addr less);
 }

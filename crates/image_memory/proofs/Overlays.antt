@@ -88,7 +88,7 @@ find_owner : (ranges : List TableEntry) (addr owner : ℕ) (d : TableEntry) → 
 find_owner ranges addr owner d is less =
     find_at (spans addr) ranges ∙ ap (slice_get ranges) is ∙ slice_get-get_or ranges owner d less
 
-find_none : (ranges : List TableEntry) (addr : ℕ) → length ranges ≤ owner_of ranges addr → find (spans addr) ranges ≡ None
+pub find_none : (ranges : List TableEntry) (addr : ℕ) → length ranges ≤ owner_of ranges addr → find (spans addr) ranges ≡ None
 find_none ranges addr le = find_at (spans addr) ranges ∙ slice_get_past ranges (owner_of ranges addr) le
 
 pub piece_within : (ranges : List TableEntry) (owner : ℕ) (piece d : TableEntry) → IsPieceOf ranges owner piece
@@ -125,7 +125,11 @@ piece_room ranges shift p fits few h =
     let range = fits p.owner p.entry h.owned in
     record {
       ends = omega (arith, range.ends, within.ends);
-      found_ends = omega (arith, range.found_ends, within.ends, within.starts, within.found);
+      found_ends = ⊎_elim
+      (λ (empty : (get_or ranges p.owner p.entry).len ≡ 0). absurd (omega (arith, h.some, within.ends, within.starts)))
+      (λ (ends : (get_or ranges p.owner p.entry).offset + (get_or ranges p.owner p.entry).len ≤ 2 ^ 64 - 1).
+        omega (arith, within.ends, within.starts, within.found))
+      range.found_ends;
       owner_fits = omega (arith, h.owned);
     }
 

@@ -21,10 +21,10 @@ found_by addr range = range.offset + (addr - range.start)
 abbrev pub found_at : List TableEntry → ℕ → Option ℕ
 found_at ranges addr = option_map (found_by addr) (find (spans addr) ranges)
 
--- a range that no sum over passes 2^64 - 1
+-- a range that ends at 2^64 - 1 at most, as does where it is found, unless it is empty
 pub record IsRange (range : TableEntry) : Type 0 where
   pub ends : range.start + range.len ≤ 2 ^ 64 - 1
-  pub found_ends : range.offset + range.len ≤ 2 ^ 64 - 1
+  pub found_ends : (range.len ≡ 0) ⊎ (range.offset + range.len ≤ 2 ^ 64 - 1)
 
 -- a longest interval of addresses that are one range's, with where they are found
 pub record IsPieceOf (ranges : List TableEntry) (owner : ℕ) (piece : TableEntry) : Type 0 where
@@ -35,8 +35,11 @@ pub record IsPieceOf (ranges : List TableEntry) (owner : ℕ) (piece : TableEntr
   pub ends : owner_of ranges (piece.start + piece.len) ≢ owner
   pub found : found_at ranges piece.start ≡ Some piece.offset
 
+abbrev pub IsPiece : (ranges : List TableEntry) → TableEntry → Type 0
+IsPiece ranges piece = (owner : ℕ) × IsPieceOf ranges owner piece
+
 -- all of these intervals, in ascending order
 pub record ArePieces (ranges pieces : List TableEntry) : Type 0 where
-  pub each : All (λ piece. (owner : ℕ) × IsPieceOf ranges owner piece) pieces
+  pub each : All (IsPiece ranges) pieces
   pub ascend : AllPairs StandsBefore pieces
   pub whole : (addr : ℕ) → owner_of ranges addr < length ranges → list_any (spans addr) pieces ≡ true

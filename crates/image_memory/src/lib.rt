@@ -19,6 +19,7 @@ mod notes;
 mod overlay;
 mod places;
 mod records;
+mod runs;
 mod subrange;
 #[cfg(test)]
 mod tests;

@@ -1,11 +1,12 @@
 //! Looking an address up in a table.
-ghost use Rattle.std.specs.Prelude.{◌≡◌, false, IfSome, None, length};
+ghost use Rattle.std.specs.Prelude.{◌≡◌, ◌<◌, false, IfSome, None, length};
 ghost use Rattle.std.specs.List.{list_any};
 ghost use Rattle.image_memory.specs.Lookups.{HalvesIn, IsHit};
 ghost use Rattle.image_memory.specs.Overlays.{spans};
 
 use elf64_core::{SpanTable, Steps, TableEntry};
-use std::sync::ledger::Ledger;
+use std::marker::Brand;
+use std::sync::ledger::{Blank, Ledger};
 
 /// The entry of a table that holds an address.
 #[derive(Clone, Copy)]
@@ -35,4 +36,24 @@ pub(crate) fn lookup<L: Ledger>(table: &SpanTable, addr: u64, steps: &mut Steps<
         }
     }
     None
+}
+
+/// The same, with a counter of its own.
+fn lookup_with<L: Ledger>(table: &SpanTable, addr: u64, blank: Blank) -> Option<Hit>
+    requires name { blank.name ≡ L.name }
+    requires parts { blank.parts ≡ L.parts }
+    requires some { 0 < L.parts }
+    ensures hit { IfSome result (λ hit. IsHit table.now addr hit.number hit.entry) }
+    ensures none { result ≡ None → list_any (spans addr) table.now ≡ false }
+{
+    let mut steps = Steps::<L>::new(blank);
+    lookup(table, addr, &mut steps)
+}
+
+/// The same, where nothing is counted.
+pub(crate) fn look_up(table: &SpanTable, addr: u64) -> Option<Hit>
+    ensures hit { IfSome result (λ hit. IsHit table.now addr hit.number hit.entry) }
+    ensures none { result ≡ None → list_any (spans addr) table.now ≡ false }
+{
+    lookup_with::<Brand>(table, addr, Blank::new(1))
 }

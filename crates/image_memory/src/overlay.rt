@@ -117,8 +117,7 @@ fn lay_one(alloc: Global, range: TableEntry) -> Result<Vec<Owned>, AllocError>
 /// The pieces of ranges, each the longest interval of addresses of which its range is the first that holds
 /// them. Time goes by n log n: those of one half are laid over those of the other.
 pub(crate) fn lay(alloc: Global, ranges: &[TableEntry]) -> Result<Vec<Owned>, AllocError>
-    requires ranges { All IsRange ranges.now }
-    requires few { length ranges.now < 2 ^ 31 }
+    requires { All IsRange ranges.now }
     ensures { IfOk result (λ laid. AreLaid ranges.now laid.items) }
 {
     match ranges {
@@ -140,13 +139,15 @@ fn entries_of(alloc: Global, laid: &[Owned]) -> Result<Vec<TableEntry>, AllocErr
     laid.iter().map(|piece| piece.entry).collect(alloc)
 }
 
-/// The pieces of ranges as a table: see `lay`.
+/// The pieces of ranges as a table: see `lay`. More than 2^32 - 1 pieces are refused for want of memory.
 pub(crate) fn table_of(alloc: Global, ranges: &[TableEntry]) -> Result<SpanTable, AllocError>
-    requires ranges { All IsRange ranges.now }
-    requires few { length ranges.now < 2 ^ 31 }
+    requires { All IsRange ranges.now }
     ensures { IfOk result (λ table. ArePieces ranges.now table) }
 {
     let laid = lay(alloc, ranges)?;
+    if laid.len() > u32::MAX as usize {
+        return Err(AllocError);
+    }
     let entries = entries_of(alloc, &laid)?;
     Ok(SpanTable::of(alloc, entries))
 }

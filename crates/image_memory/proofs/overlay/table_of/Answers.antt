@@ -1,4 +1,4 @@
-use Rattle.std.proofs.Common.{sym, subst, ◌∙◌, ap, map}
+use Rattle.std.proofs.Common.{sym, subst, ◌∙◌, ap, arith, map}
 use Rattle.elf64_core.specs.SpanTables.{AreSpans}
 use Rattle.image_memory.specs.Laid.{AreLaid, entry_of}
 use Rattle.image_memory.specs.Overlays.{ArePieces}
@@ -8,7 +8,7 @@ use Rattle.image_memory.proofs.overlay.table_of.Goals as goal
 pub of-requires : goal.of-requires
 of-requires c =
     let is = c.in_ok-entries.ensures ∙ ap (map entry_of) c.deref.ensures.value in
-    subst AreSpans (sym is) (AreSpans-laid c.args.ranges.now c.in_ok-laid.laid.items c.requires.ranges c.requires.few c.in_ok-laid.ensures)
+    subst AreSpans (sym is) (AreSpans-laid c.args.ranges.now c.in_ok-laid.laid.items c.requires (omega arith) (omega arith) c.in_ok-laid.ensures)
 
 pub returns : goal.returns
 returns c =
