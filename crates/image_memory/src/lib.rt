@@ -13,6 +13,7 @@ mod file_table;
 mod image_tests;
 mod images;
 mod lookup;
+mod map_table;
 mod maps;
 mod mmap;
 mod notes;
@@ -28,6 +29,7 @@ mod view;
 pub use core_dump::CoreDump;
 pub use dump_error::DumpError;
 pub use images::Images;
+pub use map_table::MapTable;
 pub use maps::{ContainsAddr, CoreMapRange};
 pub use mmap::{Mmap, read_elf_build_id_from_mmap};
 pub use outside::{
