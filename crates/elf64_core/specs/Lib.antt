@@ -4,4 +4,5 @@ pub mod Header
 pub mod Notes
 pub mod Rest
 pub mod Sections
+pub mod SpanTables
 pub mod Symbols

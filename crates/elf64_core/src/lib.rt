@@ -16,6 +16,7 @@ mod section_table;
 #[cfg(test)]
 mod section_tests;
 mod segment;
+mod span_table;
 mod steps;
 mod symbol;
 #[cfg(test)]
@@ -30,6 +31,7 @@ pub use name::Name;
 pub use note::Note;
 pub use section::{Section, Sections};
 pub use segment::{LOAD, NOTE, Segment, Segments};
+pub use span_table::{SpanTable, TableEntry};
 pub use steps::Steps;
 pub use symbol::{Symbol, SymbolKind};
 pub use text::Text;

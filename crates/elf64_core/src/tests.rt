@@ -2,7 +2,8 @@
 ghost use Rattle.std.specs.Prelude.{◌≡◌, ◌<◌};
 
 use crate::{
-    Elf64, ElfError, LOAD, Machine, NOTE, Name, Segment, Steps, Text, u16_in, u32_in, u64_in,
+    Elf64, ElfError, LOAD, Machine, NOTE, Name, Segment, SpanTable, Steps, TableEntry, Text, u16_in,
+    u32_in, u64_in,
 };
 use std::alloc::{AllocError, Global};
 use std::cmp::Ordering;
@@ -300,4 +301,39 @@ fn take_steps<L: Ledger>(blank: Blank) -> usize
 #[test]
 fn steps_take_no_bytes(rt: HostRuntime) {
     assert_eq!(rt; take_steps::<Brand>(Blank::new(1)), 0);
+}
+
+/// The entry of a number of a table, if there is one; its step isn't counted.
+fn entry_at<L: Ledger>(table: &SpanTable, index: u32, blank: Blank) -> Option<TableEntry>
+    requires name { blank.name ≡ L.name }
+    requires parts { blank.parts ≡ L.parts }
+    requires some { 0 < L.parts }
+{
+    let mut steps = Steps::<L>::new(blank);
+    if index < table.len() {
+        Some(table.probe(index, &mut steps))
+    } else {
+        None
+    }
+}
+
+#[test]
+fn a_table_gives_its_entries(rt: HostRuntime) -> Result<(), Fail> {
+    let alloc = rt.alloc();
+    let first = TableEntry {
+        start: 0,
+        len: 8,
+        offset: 5,
+    };
+    let last = TableEntry {
+        start: 8,
+        len: u64::MAX - 8,
+        offset: 0,
+    };
+    let table = SpanTable::of(alloc, vec![in alloc; first, last]?);
+    for (index, want) in [(0, Some(first)), (1, Some(last)), (2, None)] {
+        assert_eq!(rt; entry_at::<Brand>(&table, index, Blank::new(1)), want);
+    }
+    assert_eq!(rt; SpanTable::of(alloc, Vec::new(alloc)).len(), 0);
+    Ok(())
 }

@@ -1,12 +1,13 @@
 -- What is read of a core: its maps, and what its notes say.
-use Rattle.std.specs.Prelude.{◌≡◌, ℕ, List, Option, filter_map}
+use Rattle.std.specs.Prelude.{◌≡◌, ◌≤◌, ◌-◌, ◌^◌, ℕ, List, length, Option, filter_map}
 use Rattle.elf64_core.specs.Header.{machine_of}
 use Rattle.elf64_core.specs.Notes.{Noted}
 use Rattle.image_memory.specs.Cores.{IsCore}
 use Rattle.image_memory.specs.FileTables.{Entry}
 use Rattle.image_memory.specs.Maps.{AreMaps, ArePlaces}
 use Rattle.image_memory.specs.Notes.{AreCoreNotes, AreStatuses, IsProcess, last_process, status_of}
-use Rattle.image_memory.specs.Pieces.{loads_of}
+use Rattle.image_memory.specs.Overlays.{ArePieces}
+use Rattle.image_memory.specs.Pieces.{loads_of, ranges_of}
 use Rattle.image_memory.specs.declared.records.elf_prstatus.{elf_prstatus}
 use Rattle.image_memory.specs.declared.records.elf_prpsinfo.{elf_prpsinfo}
 use Rattle.image_memory.specs.declared.contents.Contents.{Contents}
@@ -21,8 +22,10 @@ pub record NotesSay (bytes : List ℕ) (statuses : List elf_prstatus) (process :
 -- what is read of these bytes
 pub record AreContents (bytes : List ℕ) (contents : Contents) : Type 0 where
   pub core : IsCore bytes
+  pub fits : length bytes ≤ 2 ^ 64 - 1
   pub machine_is : contents.machine ≡ machine_of bytes
   pub loads_are : contents.loads.items ≡ loads_of bytes
+  pub pieces_are : ArePieces (ranges_of bytes) contents.table
   pub maps_are : AreMaps bytes contents.maps.items
   pub places_are : ArePlaces bytes contents.places.items
   pub statuses_are : AreStatuses bytes contents.statuses.items

@@ -1,9 +1,12 @@
 -- Where the bytes of a process's memory stand in its core: the byte at an address is that of the first load
 -- segment, in table order, whose first bytes hold the address, those that the file has of it, as far as the
 -- memory has room for them.
-use Rattle.std.specs.Prelude.{◌≡◌, ◌≢◌, ℕ, ◌+◌, ◌-◌, ◌^◌, ◌<◌, ◌≤◌, nat_le, nat_lt, ◌&&◌, true, min, Bool, List, length, find, Option, Some, option_map}
+use Rattle.std.specs.Prelude.{◌≡◌, ◌≢◌, ℕ, ◌+◌, ◌-◌, ◌^◌, ◌<◌, ◌≤◌, nat_le, nat_lt, ◌&&◌, true, min, Bool, List, length, find, Option, Some, map, option_map}
 use Rattle.elf64_core.specs.Header.{IsInside}
 use Rattle.elf64_core.specs.declared.segment.Segment.{Segment}
+use Rattle.elf64_core.specs.declared.span_table.TableEntry.{TableEntry}
+use Rattle.image_memory.specs.Overlays.{IsPiece, spans}
+use Rattle.image_memory.specs.Pieces.{range_of}
 
 -- whether the core has the byte of a segment at an address
 abbrev pub holds_byte : ℕ → Segment → Bool
@@ -30,11 +33,12 @@ pub record IsHeld (bytes : List ℕ) (s : Segment) : Type 0 where
   pub inside : IsInside bytes s.offset s.file_size
   pub ends : s.addr + s.mem_size ≤ 2 ^ 64 - 1
 
--- the bytes of a segment from an address on that it holds
-pub record IsSegmentRun (s : Segment) (addr start size : ℕ) : Type 0 where
-  pub holds : holds_byte addr s ≡ true
-  pub starts : start ≡ stands_at addr s
-  pub ends : size ≡ min s.file_size s.mem_size - (addr - s.addr)
+-- so many addresses from one on are the rest of the piece that holds it
+pub record IsRest (segments : List Segment) (addr size : ℕ) : Type 0 where
+  pub piece : TableEntry
+  pub longest : IsPiece (map range_of segments) piece
+  pub holds : spans addr piece ≡ true
+  pub ends : addr + size ≡ piece.start + piece.len
 
 -- some of the bytes from an address on, which follow each other in the file
 pub record IsStretch (bytes : List ℕ) (segments : List Segment) (addr most start size : ℕ) : Type 0 where

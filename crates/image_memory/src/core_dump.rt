@@ -1,26 +1,32 @@
 //! A core dump: the file of a dead process's memory.
-ghost use Rattle.std.specs.Prelude.{◌≡◌, ◌⊎◌, List, ℕ, IfOk, IfErr, Err, MatchOption, None, Option, ◌+◌, option_copied, slice_range};
+ghost use Rattle.std.specs.Prelude.{◌≡◌, ◌≢◌, ◌⊎◌, ◌↔◌, ◌<◌, ◌≤◌, ◌*◌, List, ℕ, IfOk, IfErr, IfSome, IsTrue, Err, MatchOption, None, Option, Some, ◌+◌, length, option_copied, slice_index, slice_range};
 ghost use Rattle.elf64_core.specs.Header.{machine_of};
 ghost use Rattle.image_memory.specs.Contents.{AreContents};
 ghost use Rattle.image_memory.specs.Cores.{IsCore, IsEarly, Refuses};
 ghost use Rattle.image_memory.specs.Maps.{AreMaps, in_core};
 ghost use Rattle.image_memory.specs.Notes.{AreStatuses, IsProcess};
-ghost use Rattle.image_memory.specs.Pieces.{loads_of, memory_of};
-ghost use Rattle.image_memory.specs.Places.{IsRun, place_in};
+ghost use Rattle.image_memory.specs.Lookups.{HalvesIn};
+ghost use Rattle.image_memory.specs.Overlays.{ArePieces, IsPiece, spans};
+ghost use Rattle.image_memory.specs.Pieces.{loads_of, memory_of, ranges_of};
+ghost use Rattle.image_memory.specs.Places.{IsRest, IsRun, IsStretch, place_in};
 ghost use Rattle.image_memory.specs.declared.dump_error.DumpError.{DumpError as Refusal};
 ghost use Rattle.image_memory.specs.declared.maps.CoreMapRange.{CoreMapRange as Map};
 ghost use Rattle.image_memory.specs.declared.records.elf_prstatus.{elf_prstatus as Status};
 ghost use Rattle.image_memory.specs.declared.records.elf_prpsinfo.{elf_prpsinfo as Process};
+ghost use Rattle.elf64_core.specs.declared.span_table.TableEntry.{TableEntry as Entry};
 ghost use Rattle.process_memory.specs.Layers.{plain};
+ghost use Rattle.process_memory.specs.Memory.{byte_at};
 
 use crate::contents::{Contents, read_core};
+use crate::lookup::{look_up, lookup};
 use crate::maps::holds_addr;
-use crate::places::longest_run;
+use crate::runs::Runs;
 use crate::{ContainsAddr, CoreMapRange, DumpError, View, elf_prpsinfo, elf_prstatus};
-use elf64_core::Machine;
+use elf64_core::{Machine, Steps, TableEntry};
 use process_memory::ProcessMemory;
 use std::alloc::Global;
 use std::marker::Model;
+use std::sync::ledger::Ledger;
 
 /// A core dump. Its bytes exist once; views share them.
 ///
@@ -31,12 +37,30 @@ pub struct CoreDump {
     contents: Contents,
 }
 
+/// Bytes that follow each other in the file.
+#[derive(Clone, Copy)]
+struct Run {
+    /// Where the first one stands.
+    start: u64,
+    /// How many there are.
+    size: u64,
+}
+
 impl Model for CoreDump {
     ghost Value = { List ℕ };
 
     ghost view = { λ c. c.bytes.items };
 
     ghost invariant = { λ c. AreContents c.bytes.items c.contents };
+}
+
+/// The bytes from a place on up to another.
+fn part(bytes: &[u8], start: u64, end: u64) -> &[u8]
+    requires ascends { start ≤ end }
+    requires inside { end ≤ length bytes.now }
+    ensures { result.now ≡ slice_range bytes.now start end }
+{
+    &bytes[start as usize..end as usize]
 }
 
 impl CoreDump {
@@ -93,16 +117,95 @@ impl CoreDump {
         self.contents.machine
     }
 
+    /// How many pieces of memory there are: a piece is a longest interval of addresses whose bytes are those
+    /// of one load segment. There are at most twice as many as load segments.
+    pub fn pieces(&self) -> u32
+        ensures are { (pieces : List Entry) × ArePieces (ranges_of self.now) pieces × (result ≡ length pieces) }
+        ensures few { result ≤ 2 * length (loads_of self.now) }
+    {
+        self.contents.table.len()
+    }
+
+    /// The bytes from an address of a piece up to the end of the piece.
+    fn rest(&self, piece: TableEntry, addr: u64) -> &[u8]
+        requires piece { IsPiece (ranges_of self.now) piece }
+        requires holds { IsTrue (spans addr piece) }
+        ensures some { 0 < length result.now }
+        ensures rest { IsRest (loads_of self.now) addr (length result.now) }
+        ensures bytes { (k : ℕ) → k < length result.now
+            → byte_at (memory_of self.now) (addr + k) ≡ Some (slice_index result.now k) }
+    {
+        let bytes: &[u8] = &self.bytes;
+        let start = piece.offset + (addr - piece.start);
+        let end = piece.offset + piece.len;
+        part(bytes, start, end)
+    }
+
+    /// The bytes from `addr` up to the end of the piece that holds it; none exactly where the address has no
+    /// byte. It adds as many steps as it takes to halve the pieces, and takes no memory.
+    pub fn find<L: Ledger>(&self, addr: u64, steps: &mut Steps<L>) -> Option<&[u8]>
+        ensures none { result ≡ None ↔ byte_at (memory_of self.now) addr ≡ None }
+        ensures rest { IfSome result (λ rest. IsRest (loads_of self.now) addr (length rest.now)) }
+        ensures bytes { IfSome result (λ rest. (k : ℕ) → k < length rest.now
+            → byte_at (memory_of self.now) (addr + k) ≡ Some (slice_index rest.now k)) }
+        ensures steps { (pieces : List Entry) × ArePieces (ranges_of self.now) pieces
+            × HalvesIn (length pieces) steps.old steps.new }
+    {
+        let hit = lookup(&self.contents.table, addr, steps)?;
+        Some(self.rest(hit.entry, addr))
+    }
+
+    /// Bytes from an address on, one or more and at most so many, of the piece that holds it; none where no
+    /// piece does.
+    fn stretch(&self, addr: u64, most: u64) -> Option<Run>
+        requires { 0 < most }
+        ensures none { result ≡ None → place_in (loads_of self.now) addr ≡ None }
+        ensures run { IfSome result (λ run. IsStretch self.now (loads_of self.now) addr most run.start run.size) }
+    {
+        let piece = look_up(&self.contents.table, addr)?.entry;
+        let past = addr - piece.start;
+        Some(Run {
+            start: piece.offset + past,
+            size: (piece.len - past).min(most),
+        })
+    }
+
+    /// How many of so many bytes from an address on follow each other in the file from a place on.
+    fn goes_on(&self, addr: u64, start: u64, most: u64) -> u64
+        requires { 0 < most }
+        ensures none { result ≡ 0 → place_in (loads_of self.now) addr ≢ Some start }
+        ensures run { 0 < result → IsStretch self.now (loads_of self.now) addr most start result }
+    {
+        match self.stretch(addr, most) {
+            Some(run) if run.start == start => run.size,
+            _ => 0,
+        }
+    }
+
     /// The bytes of the longest run of at most `len` addresses from `addr` on that are in memory and whose
     /// bytes follow each other in the file; none exactly where `len` is 0 or the byte at `addr` is not in
     /// memory. It takes no memory. Where the byte at an address stands is as `view` has it: in the first load
-    /// segment that holds it. For each run of one segment the segments are gone through from the first one on.
+    /// segment that holds it. For each run of one segment the pieces are halved once.
     pub fn piece(&self, addr: u64, len: u64) -> Option<&[u8]>
         ensures { MatchOption result ((len ≡ 0) ⊎ (place_in (loads_of self.now) addr ≡ None))
             (λ piece. (start size : ℕ) × IsRun (loads_of self.now) addr len start size
             × (piece.now ≡ slice_range self.now start (start + size))) }
     {
-        longest_run(&self.bytes, &self.contents.loads, addr, len)
+        if len == 0 {
+            return None;
+        }
+        let bytes: &[u8] = &self.bytes;
+        let first = self.stretch(addr, len)?;
+        let start = first.start;
+        let mut size = first.size;
+        while size < len {
+            let more = self.goes_on(addr + size, start + size, len - size);
+            if more == 0 {
+                break;
+            }
+            size += more;
+        }
+        Some(part(bytes, start, start + size))
     }
 
     /// The memory of the core: one piece for each load segment, in table order, of the first bytes that
@@ -110,7 +213,16 @@ impl CoreDump {
     pub fn view<'a>(&'a self) -> View<'a>
         ensures { ⟦<View<'a> as ProcessMemory>⟧.seen result ≡ plain (memory_of self.now) }
     {
-        View::new(&self.bytes, &self.contents.loads)
+        View::new(self)
+    }
+}
+
+impl Runs for CoreDump {
+    ghost regions = { memory_of };
+
+    fn run(&self, addr: u64) -> Option<&[u8]> {
+        let hit = look_up(&self.contents.table, addr)?;
+        Some(self.rest(hit.entry, addr))
     }
 }
 

@@ -12,11 +12,15 @@ mod file_table;
 #[cfg(test)]
 mod image_tests;
 mod images;
+mod lookup;
+mod map_table;
 mod maps;
 mod mmap;
 mod notes;
+mod overlay;
 mod places;
 mod records;
+mod runs;
 mod subrange;
 #[cfg(test)]
 mod tests;
@@ -25,6 +29,7 @@ mod view;
 pub use core_dump::CoreDump;
 pub use dump_error::DumpError;
 pub use images::Images;
+pub use map_table::MapTable;
 pub use maps::{ContainsAddr, CoreMapRange};
 pub use mmap::{Mmap, read_elf_build_id_from_mmap};
 pub use outside::{

@@ -1,11 +1,14 @@
-use Rattle.std.proofs.Common.{◌≡◌, map, ap, subst, ◌∙◌}
+use Rattle.std.proofs.Common.{◌≡◌, map, ap, subst, sym, arith, ◌∙◌}
 use Rattle.elf64_core.specs.Header.{machine_of}
 use Rattle.elf64_core.specs.declared.segment.Segment.{Segment}
 use Rattle.image_memory.specs.Contents.{NotesSay}
 use Rattle.image_memory.specs.FileTables.{entry_of}
 use Rattle.image_memory.specs.Maps.{map_by, named_by, place_by, placed_by}
-use Rattle.image_memory.specs.Pieces.{loads_of}
+use Rattle.image_memory.specs.Overlays.{ArePieces, IsRange}
+use Rattle.image_memory.specs.Pieces.{loads_of, range_of}
+use Rattle.std.specs.Prelude.{All}
 use Rattle.image_memory.proofs.Lists.{map-same}
+use Rattle.image_memory.proofs.Stretches.{ranges_held}
 use Rattle.image_memory.proofs.contents.read_core.Goals as goal
 
 pub returns-clause-are : goal.returns-clause-are
@@ -20,21 +23,30 @@ returns-clause-are c =
     let named = λ (s : Segment). ap (λ e. named_by e s) (c.in_ok-last.ensures s.addr) in
     let placed = λ (s : Segment). ap placed_by (c.in_ok-last.ensures s.addr) in
     record {
+      fits = omega arith;
       core = record { accepted = noted.accepted; noted = noted.noted; notes = says.notes; entries = entries; found = says.found };
       machine_is = c.machine.ensures ∙ ap machine_of same;
       loads_are = loads;
+      pieces_are = subst (λ ls. ArePieces (map range_of ls) c.in_ok-table.table) (c.deref.ensures.value ∙ loads) c.in_ok-table.ensures;
       maps_are = record {
         notes = says.notes;
         entries = entries;
         found = says.found;
-        says = c.in_ok-maps.ensures ∙ map-same _ (map_by entries) _ named ∙ ap (map (map_by entries)) (c.deref.ensures.value ∙ loads);
+        says = c.in_ok-maps.ensures ∙ map-same _ (map_by entries) _ named ∙ ap (map (map_by entries)) (c.deref-2.ensures.value ∙ loads);
       };
       places_are = record {
         notes = says.notes;
         entries = entries;
         found = says.found;
-        says = c.in_ok-places.ensures ∙ map-same _ (place_by entries) _ placed ∙ ap (map (place_by entries)) (c.deref-2.ensures.value ∙ loads);
+        says = c.in_ok-places.ensures ∙ map-same _ (place_by entries) _ placed ∙ ap (map (place_by entries)) (c.deref-3.ensures.value ∙ loads);
       };
       statuses_are = record { notes = says.notes; entries = entries; found = says.found; says = says.statuses_are };
       process_is = record { notes = says.notes; entries = entries; found = says.found; says = says.process_is };
     }
+
+pub pieces_of-requires : goal.pieces_of-requires
+pieces_of-requires c =
+    let bytes = c.args.bytes.now in
+    let same : c.in_ok-elf.elf ≡ bytes = c.in_ok-elf.ensures.same in
+    let loads = c.deref.ensures.value ∙ c.in_ok-loads.ensures ∙ ap loads_of same in
+    subst (λ ls. All IsRange (map range_of ls)) (sym loads) (ranges_held bytes (omega arith) c.in_ok-elf.ensures.noted.accepted.readable)
