@@ -8,16 +8,22 @@ use Rattle.py_fields.specs.Sound.{IsSound}
 use Rattle.py_layout.specs.declared.error.LayoutError.{LayoutError}
 use Rattle.py_layout.specs.declared.error.LayoutError.TheVariants as layout
 use Rattle.py_layout.specs.Lists.{AreSound, Clash}
+use Rattle.py_layout.specs.File.{IsRightFor}
+use Rattle.image_memory.specs.Images.{Pushed}
+use Rattle.py_stacks.specs.Asking.{default_config}
+use Rattle.py_process.specs.Reports.{IsReadable, Reported, reported_of}
+use Rattle.py_process.specs.declared.report.Report.{Report}
 use Rattle.py_layout.proofs.Answering.{right-unique}
 use Rattle.py_process.specs.declared.core_error.CoreError.{CoreError}
 use Rattle.py_process.specs.declared.core_error.CoreError.TheVariants as core
-use Rattle.core_words.specs.Words.{Command, LayoutSource, Walk, walk, sample, file}
-use Rattle.core_texts.specs.Text.{walk_text}
+use Rattle.core_words.specs.Words.{Command, Dump, LayoutSource, Walk, dump, walk, sample, file}
+use Rattle.core_texts.specs.Text.{report_text, walk_text}
 use Rattle.core_stacks.specs.Answer.{IsWalkable}
+use Rattle.core_stacks.proofs.ReportLaws.{report_agree, report_complete}
 use Rattle.core_stacks.proofs.Finds.{NoneClash, finds_means, means_none}
 use Rattle.core_report.specs.declared.cause.Cause.{Cause}
 use Rattle.core_report.specs.declared.cause.Cause.TheVariants.{Core, Layouts, OutOfMemory}
-use Rattle.core_report.specs.Outcome.{IsFaultless, IsFaultlessWalk, IsOutcome, IsShown, IsWalked, IsWalkedBy, Outcome, SourceSays, Then, WalkAnswers, cause_status, core_status, layouts_status, outcome_status}
+use Rattle.core_report.specs.Outcome.{IsDumped, IsDumpedBy, IsFaultless, IsFaultlessDump, IsFaultlessWalk, IsOutcome, IsReported, IsShown, IsWalked, IsWalkedBy, Outcome, ReportAnswers, SourceSays, Then, WalkAnswers, cause_status, core_status, images_of, layouts_status, outcome_status}
 
 -- one sound layout is a sound list
 pub one_sound : (l : Layout) → IsSound l → AreSound (l ∷ [])
@@ -199,13 +205,58 @@ walk_sound w (bytes ∷ rest) (list, says, good) cause ne is =
     layouts_sound (SourceSays w.layouts rest) (IsWalkedBy w bytes) (source_unique w.layouts rest) list says
     (walked_sound w bytes list (source_apart w.layouts rest list says) good) cause ne is
 
+-- ---- reports
+
+err_of : (r : Reported) (e : CoreError) → ◌≡◌ {A = Result Reported CoreError} (Ok r) (Err e) → ⊥
+err_of r e is = cc
+
+err_kept : (e : CoreError) → e ≢ core.OutOfMemory → ◌≡◌ {A = Result Reported CoreError} (Err e) (Err core.OutOfMemory) → ⊥
+err_kept e ne is = ne (cc)
+
+-- a report and a cause aren't both right
+report_apart : (bytes : List ℕ) (images : Pushed) (list : List Layout) → NoneClash list → (r : Report) (e : CoreError)
+    → ReportAnswers bytes images list (Ok r) → ReportAnswers bytes images list (Err e) → e ≢ core.OutOfMemory → ⊥
+report_apart bytes images list apart r e one other ne =
+    err_of (reported_of r) e (report_agree bytes images list default_config apart (Ok (reported_of r)) (Err e) one other
+    (err_of (reported_of r) core.OutOfMemory) (err_kept e ne))
+
+dumped_agree : (d : Dump) (bytes : List ℕ) (images : Pushed) (list : List Layout) → NoneClash list → Agree (IsDumpedBy d bytes images list)
+dumped_agree d bytes images list apart = then_agree (λ error. Core error) (ReportAnswers bytes images list) (IsReported d)
+    (core_exclude (ReportAnswers bytes images list) (report_apart bytes images list apart))
+    (λ s t one other a b p q na nb. text_agree _ _ a b p q)
+
+text_apart : (text : List ℕ) (list : List Layout) → IsRightFor text (Ok list) → NoneClash list
+text_apart text list says = says.sound.apart
+
+dump_agree : (d : Dump) (contents : List (List ℕ)) → Agree (IsDumped d contents)
+dump_agree d [] a b one other na nb = absurd one
+dump_agree d (bytes ∷ []) a b one other na nb = absurd one
+dump_agree d (bytes ∷ text ∷ images) a b one other na nb =
+    layouts_agree (IsRightFor text) (IsDumpedBy d bytes (images_of d.images images)) (right-unique text)
+    (λ list says. dumped_agree d bytes (images_of d.images images) list (text_apart text list says)) a b one other na nb
+
+dumped_sound : (d : Dump) (bytes : List ℕ) (images : Pushed) (list : List Layout) → NoneClash list
+    → IsReadable bytes images list default_config → NoCause (IsDumpedBy d bytes images list)
+dumped_sound d bytes images list apart good = then_sound (λ error. Core error) (ReportAnswers bytes images list) (IsReported d)
+    (λ e error ne. report_complete bytes images list default_config apart refl good e error (err_kept e (core_one e ne).1))
+    (λ r found. text_sound (report_text d.core r.signal r.process r.version r.traces.items))
+
+dump_sound : (d : Dump) (contents : List (List ℕ)) → IsFaultlessDump d contents → NoCause (IsDumped d contents)
+dump_sound d [] good cause ne is = good
+dump_sound d (bytes ∷ []) good cause ne is = good
+dump_sound d (bytes ∷ text ∷ images) (list, says, good) cause ne is =
+    layouts_sound (IsRightFor text) (IsDumpedBy d bytes (images_of d.images images)) (right-unique text) list says
+    (dumped_sound d bytes (images_of d.images images) list (text_apart text list says) good) cause ne is
+
 -- ---- commands
 
 pub outcomes_agree : (command : Command) (contents : List (List ℕ)) → Agree (IsOutcome command contents)
 outcomes_agree (walk w) contents a b one other na nb = walk_agree w contents a b one other na nb
+outcomes_agree (dump d) contents a b one other na nb = dump_agree d contents a b one other na nb
 
 pub no_cause : (command : Command) (contents : List (List ℕ)) → IsFaultless command contents → NoCause (IsOutcome command contents)
 no_cause (walk w) contents good = walk_sound w contents good
+no_cause (dump d) contents good = dump_sound d contents good
 
 -- ---- a cause has none of the statuses of the other ends
 

@@ -1,3 +1,5 @@
-pub mod Turns
 pub mod Agreement
 pub mod Ends
+pub mod Headline
+pub mod Turns
+pub mod Weaker

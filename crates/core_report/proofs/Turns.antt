@@ -10,7 +10,7 @@ use Rattle.core_report.specs.declared.cause.Cause.TheVariants.{OutOfMemory}
 use Rattle.core_report.specs.declared.trouble.Trouble.{Trouble}
 use Rattle.core_report.specs.declared.trouble.Trouble.TheVariants.{Cause as Caused, File}
 use Rattle.core_report.specs.Run.{IsReadTrouble, IsTroubled}
-use Rattle.core_words.specs.Words.{Command, walk, kept_files, later_files}
+use Rattle.core_words.specs.Words.{Command, dump, walk, kept_files, later_files}
 use Rattle.core_report.specs.Reading.{Stops, IsNext, IsAll, AreFiles, IsRead, contents}
 
 -- one file more
@@ -32,6 +32,7 @@ more told command read name bytes are next gives = more_after told command [] re
 -- while fewer are read than are kept, no command stops
 pub goes_on : (command : Command) (contents : List (List ℕ)) → length contents < length (kept_files command) → ¬ Stops command contents
 goes_on (walk w) contents lt stops = stops
+goes_on (dump d) contents lt stops = stops
 
 get-front : (xs ys : List (List ℕ)) (k : ℕ) (x : List ℕ) → slice_get xs k ≡ Some x → slice_get (xs ++ ys) k ≡ Some x
 get-front [] ys k x is = absurd (none-some x is)

@@ -9,8 +9,13 @@ use Rattle.py_layout.specs.declared.error.LayoutError.TheVariants as layout
 use Rattle.py_stacks.specs.declared.trace.StackTrace.{StackTrace}
 use Rattle.py_process.specs.declared.core_error.CoreError.{CoreError}
 use Rattle.py_process.specs.declared.core_error.CoreError.TheVariants as core
-use Rattle.core_words.specs.Words.{Command, LayoutSource, Walk, file, sample, walk}
-use Rattle.core_texts.specs.Text.{walk_text}
+use Rattle.core_words.specs.Words.{Command, Dump, LayoutSource, Walk, dump, file, sample, walk}
+use Rattle.core_texts.specs.Text.{report_text, walk_text}
+use Rattle.image_memory.specs.Images.{Pushed}
+use Rattle.image_memory.specs.Mmap.{whole_view}
+use Rattle.py_stacks.specs.Asking.{default_config}
+use Rattle.py_process.specs.Reports.{IsReadable, ReportIs, reported}
+use Rattle.py_process.specs.declared.report.Report.{Report}
 use Rattle.core_stacks.specs.Answer.{IsWalkable, Means, traced}
 use Rattle.core_report.specs.declared.cause.Cause.{Cause}
 use Rattle.core_report.specs.declared.cause.Cause.TheVariants.{Core, Layouts, OutOfMemory}
@@ -53,9 +58,38 @@ IsWalked w [] outcome = ⊥
 IsWalked w (bytes ∷ rest) outcome =
     Then (λ error. Layouts error) (SourceSays w.layouts rest) (IsWalkedBy w bytes) outcome
 
+-- the images of a report, each with the contents of its file under its path
+abbrev pub images_by : List (List ℕ) → List (List ℕ × List ℕ) → Pushed
+images_by [] images = []
+images_by (bytes ∷ rest) [] = []
+images_by (bytes ∷ rest) (image ∷ images) = (image.0, whole_view bytes) ∷ images_by rest images
+
+abbrev pub images_of : List (List ℕ × List ℕ) → List (List ℕ) → Pushed
+images_of images contents = images_by contents images
+
+-- the report of a core and its images, or the cause why there is none
+abbrev pub ReportAnswers : List ℕ → Pushed → List Layout → Result Report CoreError → Type 0
+ReportAnswers core images layouts answer = ReportIs core images layouts default_config (reported answer)
+
+-- the text of a report
+abbrev pub IsReported : Dump → Report → Outcome → Type 0
+IsReported d r outcome = outcome ≡ Ok (report_text d.core r.signal r.process r.version r.traces.items)
+
+-- a report of a core and its images by these layouts
+abbrev pub IsDumpedBy : Dump → List ℕ → Pushed → List Layout → Outcome → Type 0
+IsDumpedBy d core images layouts outcome =
+    Then (λ error. Core error) (ReportAnswers core images layouts) (IsReported d) outcome
+
+-- the layouts are judged first, and then the report is made
+abbrev pub IsDumped : Dump → List (List ℕ) → Outcome → Type 0
+IsDumped d (core ∷ text ∷ images) outcome =
+    Then (λ error. Layouts error) (IsRightFor text) (IsDumpedBy d core (images_of d.images images)) outcome
+IsDumped d _ outcome = ⊥
+
 -- what a command comes to over the contents of all that it asks for
 abbrev pub IsOutcome : Command → List (List ℕ) → Outcome → Type 0
 IsOutcome (walk w) contents outcome = IsWalked w contents outcome
+IsOutcome (dump d) contents outcome = IsDumped d contents outcome
 
 -- ---- contents with which nothing is wrong
 
@@ -64,8 +98,14 @@ IsFaultlessWalk w [] = ⊥
 IsFaultlessWalk w (bytes ∷ rest) =
     (layouts : List Layout) × SourceSays w.layouts rest (Ok layouts) × IsWalkable bytes layouts w.version w.addresses
 
+abbrev pub IsFaultlessDump : Dump → List (List ℕ) → Type 0
+IsFaultlessDump d (core ∷ text ∷ images) = (layouts : List Layout) × IsRightFor text (Ok layouts)
+    × IsReadable core (images_of d.images images) layouts default_config
+IsFaultlessDump d _ = ⊥
+
 abbrev pub IsFaultless : Command → List (List ℕ) → Type 0
 IsFaultless (walk w) contents = IsFaultlessWalk w contents
+IsFaultless (dump d) contents = IsFaultlessDump d contents
 
 -- ---- statuses
 

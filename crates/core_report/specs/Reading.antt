@@ -2,12 +2,13 @@
 use Rattle.std.specs.Prelude.{◌≡◌, ◌⊎◌, ⊤, ℕ, List, [], ◌∷◌, ◌++◌, length, map, slice_get, Some, None, Vec}
 use Rattle.std.specs.Global.{Global}
 use Rattle.outside.specs.Files.{Told, Gives}
-use Rattle.core_words.specs.Words.{Command, files_of, walk}
+use Rattle.core_words.specs.Words.{Command, dump, files_of, walk}
 
 -- The command asks for none of its later files: its layouts were judged after these contents, and are at fault. No
 -- command of today judges them before it has read all.
 abbrev pub Stops : Command → List (List ℕ) → Type 0
 Stops (walk w) contents = ⊥
+Stops (dump d) contents = ⊥
 
 -- this is the file that is asked for after these contents
 pub record IsNext (command : Command) (contents : List (List ℕ)) (name : List ℕ) : Type 0 where

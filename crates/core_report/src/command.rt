@@ -1,13 +1,15 @@
 //! The top call.
-ghost use Rattle.std.specs.Prelude.{◌≡◌, ◌≢◌, ◌≤◌, ◌↔◌, ◌⊎◌, List, ℕ, None, Ok, Err};
+ghost use Rattle.std.specs.Prelude.{◌≡◌, ◌≢◌, ◌≤◌, ◌↔◌, ◌⊎◌, List, ℕ, None, Some, Ok, Err};
 ghost use Rattle.std.specs.Io.KnownBytes.{Appends};
 ghost use Rattle.outside.specs.Counts.{Rose};
-ghost use Rattle.core_words.specs.Words.{Command as Asked, command_of, texts};
+ghost use Rattle.core_words.specs.Words.{Command as Asked, Dump, command_of, dump, texts};
 ghost use Rattle.core_words.specs.Seen.{asked_command};
 ghost use Rattle.core_report.specs.declared.cause.Cause.{Cause as Why};
+ghost use Rattle.core_report.specs.Headline.{HasReported};
 ghost use Rattle.core_report.specs.Outcome.{IsFaultless, IsOutcome, cause_status};
 ghost use Rattle.core_report.specs.Run.{Comes, HasEnded, IsRun, Reaches, Tells, end_of, ran};
 
+use crate::dump_command::dump_files;
 use crate::lines::tell;
 use crate::reading::read_kept;
 use crate::trouble::Trouble;
@@ -28,6 +30,7 @@ fn text_of<'a, F: Files>(
     let read = read_kept(alloc, command, files)?;
     match command {
         Command::Walk(words) => Ok(walk_files(alloc, words, read)?),
+        Command::Dump(words) => Ok(dump_files(alloc, words, read)?),
     }
 }
 
@@ -105,6 +108,13 @@ pub fn run<F: Files, S: Sink, E: Sink>(
     ensures printed { result ≡ 0 → (text : List ℕ)
         × Reaches (command_of (texts words.now)) (F.seen files.old).told (Ok text)
         × Appends (S.seen out.old).written (S.seen out.new).written text }
+
+    // a dump ends with status 0 only after writing the text of a report whose threads are the whole chain, to null,
+    // of the first candidate interpreter that passes the test over the core's memory, and in which each thread's
+    // frames are its whole chain of callers, to null, less the skipped members, with their file and function names
+    ensures headline { (d : Dump) → command_of (texts words.now) ≡ Some (dump d) → result ≡ 0
+        → HasReported d (F.seen files.old).told (S.seen out.old) (S.seen out.new) }
+
     ensures silent { result ≡ 0 → E.seen err.new ≡ E.seen err.old }
     ensures nothing_out { result ≢ 0 → result ≢ 4 → S.seen out.new ≡ S.seen out.old }
 

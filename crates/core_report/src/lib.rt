@@ -7,6 +7,7 @@
 
 mod cause;
 mod command;
+mod dump_command;
 mod layouts;
 mod lines;
 mod reading;
@@ -14,9 +15,11 @@ mod trouble;
 mod walk_command;
 
 pub use command::run;
-pub use core_stacks::walk;
-pub use py_process::CoreError;
+pub use core_stacks::{PythonCoreDump, report, walk};
+pub use py_process::{CoreError, Report};
 
+#[cfg(test)]
+mod dump_tests;
 #[cfg(test)]
 mod family_tests;
 #[cfg(test)]

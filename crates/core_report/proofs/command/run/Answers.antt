@@ -3,6 +3,7 @@ use Rattle.core_words.specs.Words.{command_of, texts}
 use Rattle.core_report.specs.Outcome.{cause_status}
 use Rattle.core_report.specs.Run.{ran}
 use Rattle.core_report.proofs.Ends.{all_read_of, complete_of, nothing_out_of, only_of, printed_of, refused_of, silent_of, status_within, unread_of}
+use Rattle.core_report.proofs.Headline.{reported_of_run}
 use Rattle.core_report.proofs.command.run.Goals as goal
 
 pub returns-clause-statuses : goal.returns-clause-statuses
@@ -23,6 +24,12 @@ returns-clause-printed g c is =
     let r = ran (g.F.Files.seen c.args.files.now) (g.F.Files.seen c.conclude.new.files) (g.S.Sink.seen c.args.out.now) (g.S.Sink.seen c.conclude.new.out) in
     let right = c.conclude.ensures.right in
     printed_of asked r right.end right.ended (sym right.is ∙ is)
+
+pub returns-clause-headline : goal.returns-clause-headline
+returns-clause-headline g c d asks is =
+    let printed = returns-clause-printed g c is in
+    reported_of_run d (g.F.Files.seen c.args.files.now).told (g.S.Sink.seen c.args.out.now) (g.S.Sink.seen c.conclude.new.out)
+    printed.0 printed.2 (command_of (texts c.args.words.now)) asks printed.1
 
 pub returns-clause-silent : goal.returns-clause-silent
 returns-clause-silent g c is =

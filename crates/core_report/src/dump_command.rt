@@ -1,0 +1,102 @@
+//! `dump -c CORE --layouts FILE [PATH=FILE]..`
+ghost use Rattle.std.specs.Prelude.{◌≡◌, ◌≤◌, ◌∷◌, IfOk, length};
+ghost use Rattle.core_words.specs.Words.{dump, kept_files};
+ghost use Rattle.core_words.specs.Seen.{asked_dump};
+ghost use Rattle.core_report.specs.Reading.{contents};
+ghost use Rattle.core_report.specs.Outcome.{IsAnswer, IsDumped, IsDumpedBy, IsOutcome, images_of};
+
+use crate::cause::Cause;
+use core_stacks::report;
+use core_texts::report_text;
+use core_words::{DumpWords, image_of};
+use elf64_core::Name;
+use image_memory::{Images, Mmap};
+use py_layout::Layouts;
+use py_stacks::Config;
+use std::alloc::{AllocError, Global};
+
+/// The images of a report: each file's bytes under the path of its word.
+fn dump_images(
+    alloc: Global,
+    words: &DumpWords<'_>,
+    files: Vec<Vec<u8>>,
+) -> Result<Images, AllocError>
+    ensures { IfOk result (λ images. images ≡ images_of (asked_dump words.now).images (contents files.items)) }
+{
+    let mut images = Images::new(alloc);
+    let mut names = words.images;
+    for bytes in files {
+        let [word, rest @ ..] = names else {
+            break;
+        };
+        let (path, _) = image_of(word.as_str());
+        images.push(Name::of(alloc, path.as_bytes())?, Mmap::of(alloc, bytes)?)?;
+        names = rest;
+    }
+    Ok(images)
+}
+
+/// The text of a report of a core and its images, by these layouts.
+fn text_by(
+    alloc: Global,
+    words: &DumpWords<'_>,
+    core: Vec<u8>,
+    images: &Images,
+    layouts: &Layouts,
+) -> Result<String, Cause>
+    ensures { IsAnswer (IsDumpedBy (asked_dump words.now) core.items images.now layouts.now) result }
+{
+    let config = Config::default();
+    let report = report(alloc, core, images, layouts, &config)?;
+    let text = report_text(
+        alloc,
+        words.core,
+        report.signal,
+        &report.process,
+        &report.version,
+        &report.traces,
+    )?;
+    Ok(text)
+}
+
+/// The text of a report over the contents of its files: of the core, of the layout file, and of the images.
+fn dump_parts(
+    alloc: Global,
+    words: &DumpWords<'_>,
+    core: Vec<u8>,
+    text: &[u8],
+    files: Vec<Vec<u8>>,
+) -> Result<String, Cause>
+    ensures { IsAnswer (IsDumped (asked_dump words.now) (core.items ∷ text.now ∷ contents files.items)) result }
+{
+    let layouts = Layouts::from_toml(alloc, text)?;
+    let images = dump_images(alloc, words, files)?;
+    text_by(alloc, words, core, &images, &layouts)
+}
+
+/// The same, where the core's bytes were taken out of the contents.
+fn dump_rest(
+    alloc: Global,
+    words: &DumpWords<'_>,
+    core: Vec<u8>,
+    mut rest: Vec<Vec<u8>>,
+) -> Result<String, Cause>
+    requires { 1 ≤ length rest.items }
+    ensures { IsAnswer (IsDumped (asked_dump words.now) (core.items ∷ contents rest.items)) result }
+{
+    let text = rest.remove(0);
+    dump_parts(alloc, words, core, &text, rest)
+}
+
+/// The text of a report over the contents of its files.
+pub(crate) fn dump_files(
+    alloc: Global,
+    words: &DumpWords<'_>,
+    mut read: Vec<Vec<u8>>,
+) -> Result<String, Cause>
+    requires kept { length read.items ≡ length (kept_files (dump (asked_dump words.now))) }
+    ensures { IsAnswer (IsOutcome (dump (asked_dump words.now)) (contents read.items)) result }
+{
+    let core = read.remove(0);
+    dump_rest(alloc, words, core, read)
+}
