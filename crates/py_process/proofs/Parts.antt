@@ -38,6 +38,6 @@ pub two_parts : (text : List ℕ) (place : ℕ) → place < length text → ((k 
     → slice_split is_dot text ≡ take place text ∷ slice_split is_dot (take (length text - (place + 1)) (drop (place + 1) text))
 two_parts text place lt before dot =
     let is = place_is text place (omega arith) before (λ h. dot) in
-    slice_split_first is_dot text 0 (omega (arith, is)) ∙ ap (λ n. take n text ∷ slice_split is_dot (after_first is_dot text)) is 
+    slice_split_first is_dot text 0 (omega (arith, is)) ∙ ap (λ n. take n text ∷ slice_split is_dot (after_first is_dot text)) is
     ∙ ap (λ n. take place text ∷ slice_split is_dot (drop (n + 1) text)) is
     ∙ ap (λ rest. take place text ∷ slice_split is_dot rest) (sym (rest_whole text (place + 1)))

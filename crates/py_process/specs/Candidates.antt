@@ -135,12 +135,14 @@ NotFoundWhere Nothing (Err OutOfMemory) = ⊤
 
 -- ---- how many reads
 
--- of one candidate: none where no map holds it; one where its head isn't in memory or in no map; else at most 3,
--- 2 for each thread that its test meets, and 6 for each member
+-- of a test behind its first read: at most 2, 2 for each thread that it meets, and 6 for each member
+abbrev pub walk_bound : Layout → Memory → ℕ → ℕ
+walk_bound l m a = 2 + 2 * threads_tested l m a + 6 * members_tested l m a
+
+-- of one candidate: none where no map holds it; one where its head isn't in memory or in no map; else those too
 unfoldable pub candidate_cost : (ℕ → Bool) → Layout → Memory → ℕ → ℕ
-candidate_cost contains l m a = if contains a then
-    (1 + (if head_lies contains (threads_head l m a) then 2 + 2 * threads_tested l m a + 6 * members_tested l m a else 0))
-    else 0
+candidate_cost contains l m a =
+    if contains a then (1 + (if head_lies contains (threads_head l m a) then walk_bound l m a else 0)) else 0
 
 -- of the candidates up to and with the first that passes
 unfoldable pub search_cost : (ℕ → Bool) → Layout → Memory → List ℕ → ℕ

@@ -51,8 +51,10 @@ pub(crate) fn is_interpreter_in<M: ContainsAddr, P: ProcessMemory>(
     addr: u64,
 ) -> Result<bool, SearchError>
     requires sound { IsSound layout.now }
-    ensures { ReadingBelow (2 ^ 64) (candidate_cost (M.contains maps.now) layout.now (byte_at (P.seen process.old).pieces) addr)
-        (P.seen process.old) (P.seen process.new) (λ m. SearchIs (passes_in (M.contains maps.now) layout.now m addr) result) }
+    ensures { ReadingBelow (2 ^ 64)
+        (candidate_cost (M.contains maps.now) layout.now (byte_at (P.seen process.old).pieces) addr)
+        (P.seen process.old) (P.seen process.new)
+        (λ m. SearchIs (passes_in (M.contains maps.now) layout.now m addr) result) }
 {
     if !maps.contains_addr(addr) {
         return Ok(false);
@@ -147,7 +149,14 @@ fn first_in_binary<M: ContainsAddr, P: ProcessMemory>(
     if let Some(found) = first_in_runtime(alloc, maps, process, layout, addr, size)? {
         return Ok(Some(found));
     }
-    first_in_section(alloc, maps, process, layout, binary.bss_addr, binary.bss_size)
+    first_in_section(
+        alloc,
+        maps,
+        process,
+        layout,
+        binary.bss_addr,
+        binary.bss_size,
+    )
 }
 
 /// The same, where the image is there.

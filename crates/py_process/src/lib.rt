@@ -11,6 +11,8 @@ mod core_error;
 mod file_version;
 mod head;
 mod interpreter;
+#[cfg(test)]
+mod interpreter_tests;
 mod library;
 #[cfg(test)]
 mod library_tests;
@@ -21,6 +23,8 @@ mod report;
 mod search_error;
 mod symbols;
 mod version_error;
+#[cfg(test)]
+mod version_tests;
 
 pub use binary::{BinaryInfo, parse_binary};
 pub use binary_error::BinaryError;

@@ -159,15 +159,17 @@ pub passes_law : (l : Layout) (m : Memory) (a : ℕ) (r : Result Bool StackError
 unfolding passes
 passes_law l m a (Err e) h = tt
 passes_law l m a (Ok b) h =
-    let same : passes_named l m a (named_at l m a) ≡ b = ok_same _ b h.is in
-    (λ is. let w = passed l m a (named_at l m a) (same ∙ is) in record { named = w.named; traces = w.traces; are = w.are },
-    λ is. sym same ∙ passing l m a (named_at l m a) (record { named = is.named; traces = is.traces; are = is.are }))
+    let same : passes_named l m a (named_at l m a) ≡ b = ok_same _ b h.is in (
+      λ is. let w = passed l m a (named_at l m a) (same ∙ is) in record { named = w.named; traces = w.traces; are = w.are },
+      λ is. sym same ∙ passing l m a (named_at l m a) (record { named = is.named; traces = is.traces; are = is.are }),
+    )
 
 pub from_law : (l : Layout) (m : Memory) (a head : ℕ) (r : Result Bool StackError)
     → Answers fault_of (Ok (passes_from l m a head)) r → IfOk r (λ b. IsTrue b ↔ IsInterpreterFrom l m a head)
 unfolding passes_from
 from_law l m a head (Err e) h = tt
 from_law l m a head (Ok b) h =
-    let same : passes_named l m a (named_by l m head) ≡ b = ok_same _ b h.is in
-    (λ is. let w = passed l m a (named_by l m head) (same ∙ is) in record { named = w.named; traces = w.traces; are = w.are },
-    λ is. sym same ∙ passing l m a (named_by l m head) (record { named = is.named; traces = is.traces; are = is.are }))
+    let same : passes_named l m a (named_by l m head) ≡ b = ok_same _ b h.is in (
+      λ is. let w = passed l m a (named_by l m head) (same ∙ is) in record { named = w.named; traces = w.traces; are = w.are },
+      λ is. sym same ∙ passing l m a (named_by l m head) (record { named = is.named; traces = is.traces; are = is.are }),
+    )

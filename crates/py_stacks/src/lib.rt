@@ -29,6 +29,8 @@ pub use stacks::{get_stack_over, get_stack_trace, get_stack_traces};
 pub use trace::{Addresses, Frame, LocalVariable, StackTrace};
 
 #[cfg(test)]
+mod interpreter_tests;
+#[cfg(test)]
 mod line_tests;
 #[cfg(test)]
 mod owner_tests;

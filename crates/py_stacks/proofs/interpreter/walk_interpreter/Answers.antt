@@ -1,8 +1,4 @@
-use Rattle.std.proofs.Common.{ap}
-use Rattle.std.specs.Prelude.{false, Ok}
-use Rattle.process_memory.specs.Memory.{Memory}
 use Rattle.process_memory.proofs.Reading.{reads_within}
-use Rattle.py_stacks.specs.Interpreter.{passes, passes_named, threads_head}
 use Rattle.py_stacks.proofs.Candidates.{reads_headless, test_costs, test_then}
 use Rattle.py_stacks.proofs.interpreter.walk_interpreter.Goals as goal
 
