@@ -2,6 +2,7 @@ pub mod Owners
 pub mod Marking
 pub mod Details
 pub mod LineSteps
+pub mod LocalSteps
 pub mod Parts
 pub mod Gather
 pub mod FrameLaws

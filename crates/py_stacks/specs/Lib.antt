@@ -7,6 +7,7 @@ pub mod Shown
 pub mod Detail
 pub mod Member
 pub mod Lines
+pub mod Locals
 pub mod Records
 pub mod Gathering
 pub mod Asking

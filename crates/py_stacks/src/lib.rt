@@ -13,6 +13,7 @@ mod error;
 mod frames;
 mod interpreter;
 mod lines;
+mod locals;
 mod members;
 mod owner;
 mod records;
@@ -30,6 +31,8 @@ pub use trace::{Addresses, Frame, LocalVariable, StackTrace};
 
 #[cfg(test)]
 mod line_tests;
+#[cfg(test)]
+mod local_tests;
 #[cfg(test)]
 mod owner_tests;
 #[cfg(test)]
