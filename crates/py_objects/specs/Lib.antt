@@ -1,4 +1,6 @@
 pub mod Bytes
+pub mod Dicts
+pub mod Entries
 pub mod Integers
 pub mod ObjectError
 pub mod Refusals
