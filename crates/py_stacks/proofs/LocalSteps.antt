@@ -25,11 +25,11 @@ locals_end : (l : Layout) (m : Memory) (r : MemberAt) (index left : ℕ) → lef
 unfolding locals_from
 locals_end l m r index left is = rw is refl
 
-after_all_twice : {T : Type 0} (xs ys : List T) (d : Found (List T)) → after_all xs (after_all ys d) ≡ after_all (xs ++ ys) d
+pub after_all_twice : {T : Type 0} (xs ys : List T) (d : Found (List T)) → after_all xs (after_all ys d) ≡ after_all (xs ++ ys) d
 after_all_twice xs ys (Ok zs) = ap Ok (sym (append_assoc xs ys zs))
 after_all_twice xs ys (Err f) = refl
 
-after_all_none : {T : Type 0} (d : Found (List T)) → d ≡ after_all [] d
+pub after_all_none : {T : Type 0} (d : Found (List T)) → d ≡ after_all [] d
 after_all_none (Ok zs) = refl
 after_all_none (Err f) = refl
 

@@ -6,7 +6,7 @@ ghost use Rattle.process_memory.specs.Walk.{first_fault};
 ghost use Rattle.process_memory.specs.Faults.{FaultsAre};
 ghost use Rattle.py_fields.specs.Sound.{IsSound};
 ghost use Rattle.py_stacks.specs.StackError.{fault_of};
-ghost use Rattle.py_stacks.specs.Asking.{asked_by, asked_of, asks};
+ghost use Rattle.py_stacks.specs.Asking.{asked_by, asks};
 ghost use Rattle.py_stacks.specs.Met.{details_cost, locals_met, locals_most, members_met, stacks_bound};
 ghost use Rattle.py_stacks.specs.Threads.{IsTraceOf, Trace, thread_cost, thread_faults, trace_at};
 ghost use Rattle.py_stacks.specs.Threads.{trace_of, trace_of_result, traces_of_result};
@@ -17,7 +17,7 @@ use crate::config::{Config, asked_by};
 use crate::owner::get_gil_threadid;
 use crate::records::Scratch;
 use crate::threads::{read_thread, read_traces};
-use crate::{Addresses, LineNo, StackError, StackTrace};
+use crate::{LineNo, StackError, StackTrace};
 use process_memory::ProcessMemory;
 use py_fields::Layout;
 use std::alloc::Global;
@@ -121,65 +121,6 @@ pub fn get_stack_traces<P: ProcessMemory>(
 {
     let asked = asked_by(config);
     walk_stack_traces(alloc, process, layout, asked, lock, interpreter)
-}
-
-/// The traces of the threads of the interpreter at these addresses, with what a `Config` asks for: those of
-/// `get_stack_traces`, by the same rules and with the same errors.
-///
-/// Names of threads are not set yet, and values of locals are not shown yet.
-pub fn get_stack_over<P: ProcessMemory>(
-    alloc: Global,
-    process: &mut P,
-    layout: &Layout,
-    addresses: &Addresses,
-    config: &Config,
-) -> Result<Vec<StackTrace>, StackError>
-    requires sound { IsSound layout.now }
-    ensures answer { ReadsBy fault_of
-        (λ m. stacks_cost (asked_of config.now) layout.now m addresses.now.lock addresses.now.interpreter)
-        (P.seen process.old) (P.seen process.new)
-        (λ m. stacks_at (asked_of config.now) layout.now m addresses.now.lock addresses.now.interpreter)
-        (traces_of_result result) }
-    ensures traces { ReadingBy
-        (λ m. stacks_cost (asked_of config.now) layout.now m addresses.now.lock addresses.now.interpreter)
-        (P.seen process.old) (P.seen process.new)
-        (λ m. IfOk result (λ traces.
-        AreStacks (asked_of config.now) layout.now m addresses.now.lock addresses.now.interpreter
-        (map trace_of traces.items))) }
-    // what is right is the answer, want of memory aside
-    ensures only { ReadingBy
-        (λ m. stacks_cost (asked_of config.now) layout.now m addresses.now.lock addresses.now.interpreter)
-        (P.seen process.old) (P.seen process.new)
-        (λ m. (traces : List Trace)
-        → AreStacks (asked_of config.now) layout.now m addresses.now.lock addresses.now.interpreter traces
-        → Answers fault_of (Ok traces) (traces_of_result result)) }
-    ensures faults { ReadingBy
-        (λ m. stacks_cost (asked_of config.now) layout.now m addresses.now.lock addresses.now.interpreter)
-        (P.seen process.old) (P.seen process.new)
-        (λ m. FaultsAre fault_of (first_fault
-        (stacks_faults (asked_of config.now) layout.now m addresses.now.lock addresses.now.interpreter)) result) }
-    ensures bound { (P.seen process.new).reads ≤ (P.seen process.old).reads
-        + stacks_bound (asked_of config.now) layout.now (byte_at (P.seen process.old).pieces)
-        addresses.now.interpreter }
-    ensures details { details_cost (asked_of config.now) layout.now (byte_at (P.seen process.old).pieces)
-        addresses.now.interpreter
-        ≤ 3 * members_met (asked_of config.now) layout.now (byte_at (P.seen process.old).pieces)
-        addresses.now.interpreter
-        + 4 * locals_met (asked_of config.now) layout.now (byte_at (P.seen process.old).pieces)
-        addresses.now.interpreter }
-    // whatever the memory holds, as cyclic chains
-    ensures most { (P.seen process.new).reads ≤ (P.seen process.old).reads
-        + (3 + 4096 * (2 + 16384 * (9 + locals_most (asked_of config.now).locals))) }
-{
-    let interpreter = addresses.interpreter;
-    get_stack_traces(
-        alloc,
-        interpreter,
-        process,
-        layout,
-        addresses.lock,
-        Some(config),
-    )
 }
 
 /// Reads the trace of one thread.
