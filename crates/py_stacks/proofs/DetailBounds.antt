@@ -1,8 +1,13 @@
--- The reads of details, in the number of members that are met; and how many reads a walk takes at most, whatever
--- the memory holds.
-use Rattle.std.proofs.Common.{ℕ, ◌+◌, ◌*◌, ◌≤◌, true, false, cond, ltb, refl, arith}
-use Rattle.std.specs.Prelude.{Option, Some, None, Ok, Err}
+-- The reads of details, in the numbers of members that are met and of variables that are read; and how many reads
+-- a walk takes at most, whatever the memory holds.
+use Rattle.std.proofs.Common.{◌≡◌, ℕ, ◌+◌, ◌*◌, ◌^◌, ◌≤◌, Bool, true, false, cond, ltb, leb, refl, arith}
+use Rattle.std.specs.Prelude.{Option, Some, None, Ok, Err, if◌then◌else◌}
+use Rattle.std.specs.Int.{w32, cast_signed}
+use Rattle.std.proofs.lemmas.Bool.Decides.{nat_tests}
+use Rattle.std.proofs.Math.Nat.{mul-le-mul_left}
+use Rattle.elf64_core.specs.Fields.{u32_in}
 use Rattle.process_memory.specs.Memory.{Memory, ◌>>=◌, record_at, word_at}
+use Rattle.process_memory.specs.Memory.Fault.{BadValue, LocalsLimit}
 use Rattle.process_memory.specs.Walk.{walk_cost}
 use Rattle.process_memory.proofs.WalkSums.{walk_none, walk_sum}
 use Rattle.py_fields.specs.declared.layout.Layout.{Layout}
@@ -11,9 +16,10 @@ use Rattle.py_stacks.specs.declared.asked.LineNo.{LineNo}
 use Rattle.py_stacks.specs.declared.asked.LineNo.TheVariants.{NoLine, First, LastInstruction}
 use Rattle.py_stacks.specs.Detail.{detail_cost}
 use Rattle.py_stacks.specs.Lines.{line_cost}
+use Rattle.py_stacks.specs.Locals.{count_of, count_or_zero, locals_cost, locals_read}
 use Rattle.py_stacks.specs.Member.{MemberAt}
 use Rattle.py_stacks.specs.Frames.{Call, cost_after, extra_cost, frame_limit, frame_step, frames_cost, member_limit, part_cost, plain_by, records_at}
-use Rattle.py_stacks.specs.Met.{details_cost, frames_extra, frames_met, members_met, of_thread}
+use Rattle.py_stacks.specs.Met.{details_cost, frames_extra, frames_locals, frames_met, locals_met, locals_most, member_locals, members_met, of_thread, part_locals}
 use Rattle.py_stacks.specs.Stacks.{stacks_cost}
 use Rattle.py_stacks.specs.Threads.{first_frame_at, thread_cost, thread_frames_cost, thread_limit, thread_step}
 use Rattle.py_stacks.proofs.Bounds.{frames_bound, frames_met_most, members_met_most, stacks_within, threads_met_most}
@@ -23,62 +29,148 @@ line_most NoLine = omega arith
 line_most First = omega arith
 line_most LastInstruction = omega arith
 
+locals_sum : (asked : Bool) (l : Layout) (r : MemberAt) → locals_cost asked l r ≤ 1 + 4 * locals_read asked l r
+unfolding locals_cost locals_read
+locals_sum false l r = omega arith
+locals_sum true l r = omega arith
+
+-- a count is at most 65535
+counted_most : (frame n : ℕ) (t : Bool) → leb n 65535 ≡ t
+    → count_or_zero (if t then Ok n else Err (LocalsLimit (cast_signed w32 n))) ≤ 65535
+counted_most frame n true e = let fine : n ≤ 65535 = grind (arith, nat_tests) in fine
+counted_most frame n false e = omega arith
+
+count_most : (l : Layout) (r : MemberAt) → count_or_zero (count_of l r) ≤ 65535
+unfolding count_of
+count_most l r =
+    let n = u32_in r.code l.code.nlocals in
+    elim (ltb n (2 ^ 31)) as (λ t. count_or_zero (if t then (if leb n 65535 then Ok n else Err (LocalsLimit (cast_signed w32 n))) else Err (BadValue r.frame_at)) ≤ 65535)
+    [ true ↦ counted_most r.frame_at n (leb n 65535) refl | false ↦ omega arith ]
+
+locals_few : (asked : Bool) (l : Layout) (r : MemberAt) → locals_cost asked l r ≤ 1 + locals_most asked
+unfolding locals_cost
+locals_few false l r = omega arith
+locals_few true l r = omega (arith, count_most l r)
+
+-- ---- in the numbers of members and variables
+
 module _ (q : Asked) (l : Layout) (m : Memory) where
-  -- a line takes two reads at most
-  detail_most : (r : MemberAt) → detail_cost q l m r ≤ 2 * 1 + 0
+  -- two reads for a line, one for the tuple of names, four for each variable
+  detail_sum : (r : MemberAt) → detail_cost q l m r ≤ 4 * locals_read q.locals l r + 3
   unfolding detail_cost
-  detail_most r = omega (arith, line_most q.lineno)
+  detail_sum r = omega (arith, line_most q.lineno, locals_sum q.locals l r)
 
-  part_most : (kept : ℕ) (r : MemberAt) (p : Option Call) → part_cost q l m kept r p ≤ 2 * 1 + 0
-  part_most kept r None = omega arith
-  part_most kept r (Some c) =
-      elim (ltb kept frame_limit) as (λ t. cond t (detail_cost q l m r) 0 ≤ 2 * 1 + 0)
-      [ true ↦ detail_most r | false ↦ omega arith ]
+  part_sum : (kept : ℕ) (r : MemberAt) (p : Option Call) → part_cost q l m kept r p ≤ 4 * part_locals q l kept r p + 3
+  part_sum kept r None = omega arith
+  part_sum kept r (Some c) =
+      elim (ltb kept frame_limit) as (λ t. cond t (detail_cost q l m r) 0 ≤ 4 * cond t (locals_read q.locals l r) 0 + 3)
+      [ true ↦ detail_sum r | false ↦ omega arith ]
 
-  extra_most : (kept a : ℕ) → extra_cost q l m kept a ≤ 2 * 1 + 0
-  unfolding extra_cost
-  extra_most kept a =
-      elim (records_at l m a) as (λ v. cost_after v (λ r. part_cost q l m kept r (plain_by l m r)) ≤ 2 * 1 + 0)
-      [ Ok r ↦ part_most kept r (plain_by l m r) | Err e ↦ omega arith ]
+  extra_sum : (kept a : ℕ) → extra_cost q l m kept a ≤ 4 * member_locals q l m kept a + 3
+  unfolding extra_cost member_locals
+  extra_sum kept a =
+      elim (records_at l m a) as (λ v. cost_after v (λ r. part_cost q l m kept r (plain_by l m r)) ≤ 4 * cost_after v (λ r. part_locals q l kept r (plain_by l m r)) + 3)
+      [ Ok r ↦ part_sum kept r (plain_by l m r) | Err e ↦ omega arith ]
 
-  frames_most : (first : ℕ) → frames_extra q l m first ≤ 2 * frames_met q l m first + 0
-  unfolding frames_extra frames_met
-  frames_most first =
+  -- three for each member
+  frames_threes : (first : ℕ) → walk_cost (frame_step q l m) (λ kept a. 3) member_limit 0 first ≤ 3 * frames_met q l m first
+  unfolding frames_met
+  frames_threes first =
       let none = walk_none (frame_step q l m) (λ kept a. 0) (λ kept a. refl) member_limit 0 first in
-      omega (arith, none, walk_sum (frame_step q l m) 2 (extra_cost q l m) (λ kept a. 1) (λ kept a. 0) extra_most member_limit 0 first)
+      omega (arith, none, walk_sum (frame_step q l m) 3 (λ kept a. 3) (λ kept a. 1) (λ kept a. 0) (λ kept a. omega arith) member_limit 0 first)
 
-  of_thread_most : (s : Unit {0}) (a : ℕ)
-      → of_thread (frames_extra q l m) l m s a ≤ 2 * of_thread (frames_met q l m) l m s a + 0
-  of_thread_most s a =
-      elim (record_at m a l.thread.size >>= first_frame_at l m) as (λ v. cost_after v (frames_extra q l m) ≤ 2 * cost_after v (frames_met q l m) + 0)
-      [ Ok first ↦ frames_most first | Err e ↦ omega arith ]
+  frames_sum : (first : ℕ) → frames_extra q l m first ≤ 4 * frames_locals q l m first + 3 * frames_met q l m first
+  unfolding frames_extra frames_locals
+  frames_sum first = omega (arith, frames_threes first, walk_sum (frame_step q l m) 4 (extra_cost q l m) (member_locals q l m) (λ kept a. 3) extra_sum member_limit 0 first)
+
+  thread_sum : (s : Unit {0}) (a : ℕ)
+      → of_thread (frames_extra q l m) l m s a ≤ 4 * of_thread (frames_locals q l m) l m s a + 3 * of_thread (frames_met q l m) l m s a
+  thread_sum s a =
+      elim (record_at m a l.thread.size >>= first_frame_at l m) as (λ v. cost_after v (frames_extra q l m) ≤ 4 * cost_after v (frames_locals q l m) + 3 * cost_after v (frames_met q l m))
+      [ Ok first ↦ frames_sum first | Err e ↦ omega arith ]
+
+  members_threes : (head : ℕ) → walk_cost (thread_step q l m) (λ s a. 3 * of_thread (frames_met q l m) l m s a) thread_limit tt head
+      ≤ 3 * walk_cost (thread_step q l m) (of_thread (frames_met q l m) l m) thread_limit tt head
+  members_threes head =
+      let none = walk_none (thread_step q l m) (λ s a. 0) (λ s a. refl) thread_limit tt head in
+      omega (arith, none, walk_sum (thread_step q l m) 3 (λ s a. 3 * of_thread (frames_met q l m) l m s a) (of_thread (frames_met q l m) l m) (λ s a. 0) (λ s a. omega arith) thread_limit tt head)
 
   along : (head : ℕ) → walk_cost (thread_step q l m) (of_thread (frames_extra q l m) l m) thread_limit tt head
-      ≤ 2 * walk_cost (thread_step q l m) (of_thread (frames_met q l m) l m) thread_limit tt head
-  along head =
-      let none = walk_none (thread_step q l m) (λ s a. 0) (λ s a. refl) thread_limit tt head in
-      omega (arith, none, walk_sum (thread_step q l m) 2 (of_thread (frames_extra q l m) l m) (of_thread (frames_met q l m) l m) (λ s a. 0) of_thread_most thread_limit tt head)
+      ≤ 3 * walk_cost (thread_step q l m) (of_thread (frames_met q l m) l m) thread_limit tt head + 4 * walk_cost (thread_step q l m) (of_thread (frames_locals q l m) l m) thread_limit tt head
+  along head = omega (arith, members_threes head, walk_sum (thread_step q l m) 4 (of_thread (frames_extra q l m) l m) (of_thread (frames_locals q l m) l m) (λ s a. 3 * of_thread (frames_met q l m) l m s a) thread_sum thread_limit tt head)
 
-  -- at most two reads for each member that is met
-  pub details_most : (interpreter : ℕ) → details_cost q l m interpreter ≤ 2 * members_met q l m interpreter
-  unfolding details_cost members_met
-  details_most interpreter =
-      elim (word_at m (interpreter + l.interpreter.threads)) as (λ v. cost_after v (λ head. walk_cost (thread_step q l m) (of_thread (frames_extra q l m) l m) thread_limit tt head) ≤ 2 * cost_after v (λ head. walk_cost (thread_step q l m) (of_thread (frames_met q l m) l m) thread_limit tt head))
+  -- at most three reads for each member that is met, and four for each variable that is read
+  pub details_sum : (interpreter : ℕ)
+      → details_cost q l m interpreter ≤ 3 * members_met q l m interpreter + 4 * locals_met q l m interpreter
+  unfolding details_cost members_met locals_met
+  details_sum interpreter =
+      elim (word_at m (interpreter + l.interpreter.threads)) as (λ v. cost_after v (λ head. walk_cost (thread_step q l m) (of_thread (frames_extra q l m) l m) thread_limit tt head) ≤ 3 * cost_after v (λ head. walk_cost (thread_step q l m) (of_thread (frames_met q l m) l m) thread_limit tt head) + 4 * cost_after v (λ head. walk_cost (thread_step q l m) (of_thread (frames_locals q l m) l m) thread_limit tt head))
       [ Ok head ↦ along head | Err e ↦ omega arith ]
 
-  -- a chain of members, cyclic or not, costs at most 8 * 16384 reads
-  chain_most : (first : ℕ) → frames_cost q l m first ≤ 8 * member_limit
-  chain_most first = omega (arith, frames_bound q l m first, frames_met_most q l m first, frames_most first)
+-- ---- whatever the memory holds
+
+module _ (q : Asked) (l : Layout) (m : Memory) where
+  detail_few : (r : MemberAt) → detail_cost q l m r ≤ 3 + locals_most q.locals
+  unfolding detail_cost
+  detail_few r = omega (arith, line_most q.lineno, locals_few q.locals l r)
+
+  part_few : (kept : ℕ) (r : MemberAt) (p : Option Call) → part_cost q l m kept r p ≤ 3 + locals_most q.locals
+  part_few kept r None = omega arith
+  part_few kept r (Some c) =
+      elim (ltb kept frame_limit) as (λ t. cond t (detail_cost q l m r) 0 ≤ 3 + locals_most q.locals)
+      [ true ↦ detail_few r | false ↦ omega arith ]
+
+  extra_few : (kept a : ℕ) → extra_cost q l m kept a ≤ (3 + locals_most q.locals) * 1 + 0
+  unfolding extra_cost
+  extra_few kept a =
+      let few : cost_after (records_at l m a) (λ r. part_cost q l m kept r (plain_by l m r)) ≤ 3 + locals_most q.locals =
+      elim (records_at l m a) as (λ v. cost_after v (λ r. part_cost q l m kept r (plain_by l m r)) ≤ 3 + locals_most q.locals)
+      [ Ok r ↦ part_few kept r (plain_by l m r) | Err e ↦ omega arith ] in
+      omega (arith, few)
+
+  frames_few : (first : ℕ) → frames_extra q l m first ≤ (3 + locals_most q.locals) * frames_met q l m first
+  unfolding frames_extra frames_met
+  frames_few first =
+      let none = walk_none (frame_step q l m) (λ kept a. 0) (λ kept a. refl) member_limit 0 first in
+      omega (arith, none, walk_sum (frame_step q l m) (3 + locals_most q.locals) (extra_cost q l m) (λ kept a. 1) (λ kept a. 0) extra_few member_limit 0 first)
+
+  -- a chain of members, cyclic or not
+  chain_most : (first : ℕ) → frames_cost q l m first ≤ 16384 * (9 + locals_most q.locals)
+  chain_most first =
+      let most = mul-le-mul_left (3 + locals_most q.locals) (frames_met_most q l m first) in
+      omega (arith, frames_bound q l m first, frames_met_most q l m first, frames_few first, most)
 
   -- a thread two more
-  pub thread_most : (a : ℕ) → thread_cost q l m tt a ≤ 2 + 8 * 16384
+  pub thread_most : (a : ℕ) → thread_cost q l m tt a ≤ 2 + 16384 * (9 + locals_most q.locals)
   unfolding thread_cost thread_frames_cost
   thread_most a =
-      let frames : cost_after (record_at m a l.thread.size >>= first_frame_at l m) (frames_cost q l m) ≤ 8 * member_limit =
-      elim (record_at m a l.thread.size >>= first_frame_at l m) as (λ v. cost_after v (frames_cost q l m) ≤ 8 * member_limit)
+      let frames : cost_after (record_at m a l.thread.size >>= first_frame_at l m) (frames_cost q l m) ≤ 16384 * (9 + locals_most q.locals) =
+      elim (record_at m a l.thread.size >>= first_frame_at l m) as (λ v. cost_after v (frames_cost q l m) ≤ 16384 * (9 + locals_most q.locals))
       [ Ok first ↦ chain_most first | Err e ↦ omega arith ] in
       omega (arith, frames)
 
-  -- whatever the memory holds
-  pub stacks_most : (lock interpreter : ℕ) → stacks_cost q l m lock interpreter ≤ 3 + 4096 * (2 + 8 * 16384)
-  stacks_most lock interpreter = omega (arith, stacks_within q l m lock interpreter, details_most interpreter, threads_met_most q l m interpreter, members_met_most q l m interpreter)
+  of_thread_few : (s : Unit {0}) (a : ℕ)
+      → of_thread (frames_extra q l m) l m s a ≤ (3 + locals_most q.locals) * of_thread (frames_met q l m) l m s a + 0
+  of_thread_few s a =
+      elim (record_at m a l.thread.size >>= first_frame_at l m) as (λ v. cost_after v (frames_extra q l m) ≤ (3 + locals_most q.locals) * cost_after v (frames_met q l m) + 0)
+      [ Ok first ↦ omega (arith, frames_few first) | Err e ↦ omega arith ]
+
+  all_few : (head : ℕ) → walk_cost (thread_step q l m) (of_thread (frames_extra q l m) l m) thread_limit tt head
+      ≤ (3 + locals_most q.locals) * walk_cost (thread_step q l m) (of_thread (frames_met q l m) l m) thread_limit tt head
+  all_few head =
+      let none = walk_none (thread_step q l m) (λ s a. 0) (λ s a. refl) thread_limit tt head in
+      omega (arith, none, walk_sum (thread_step q l m) (3 + locals_most q.locals) (of_thread (frames_extra q l m) l m) (of_thread (frames_met q l m) l m) (λ s a. 0) of_thread_few thread_limit tt head)
+
+  details_few : (interpreter : ℕ)
+      → details_cost q l m interpreter ≤ (3 + locals_most q.locals) * members_met q l m interpreter
+  unfolding details_cost members_met
+  details_few interpreter =
+      elim (word_at m (interpreter + l.interpreter.threads)) as (λ v. cost_after v (λ head. walk_cost (thread_step q l m) (of_thread (frames_extra q l m) l m) thread_limit tt head) ≤ (3 + locals_most q.locals) * cost_after v (λ head. walk_cost (thread_step q l m) (of_thread (frames_met q l m) l m) thread_limit tt head))
+      [ Ok head ↦ all_few head | Err e ↦ omega arith ]
+
+  -- an interpreter
+  pub stacks_most : (lock interpreter : ℕ)
+      → stacks_cost q l m lock interpreter ≤ 3 + 4096 * (2 + 16384 * (9 + locals_most q.locals))
+  stacks_most lock interpreter =
+      let most = mul-le-mul_left (3 + locals_most q.locals) (members_met_most q l m interpreter) in
+      omega (arith, stacks_within q l m lock interpreter, details_few interpreter, threads_met_most q l m interpreter, members_met_most q l m interpreter, most)

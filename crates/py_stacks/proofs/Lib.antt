@@ -2,6 +2,10 @@ pub mod Owners
 pub mod Marking
 pub mod Details
 pub mod LineSteps
+pub mod LocalSteps
+pub mod SearchSteps
+pub mod TypedSteps
+pub mod NameSteps
 pub mod Parts
 pub mod Gather
 pub mod FrameLaws
@@ -14,3 +18,4 @@ pub mod Unasked
 pub mod DetailBounds
 pub mod Candidates
 pub mod Wholes
+pub mod NamedLaws

@@ -33,7 +33,7 @@ stacks_budget q l lock interpreter owner r =
     let one = (reading_here r).is in
     rw (r.pieces, one) (omega arith)
 
-stacks_found : (q : Asked) (l : Layout) (m : Memory) (lock interpreter : ℕ) (traces : List Trace)
+pub stacks_found : (q : Asked) (l : Layout) (m : Memory) (lock interpreter : ℕ) (traces : List Trace)
     → stacks_at q l m lock interpreter ≡ Ok traces → AreStacks q l m lock interpreter traces
 unfolding stacks_at
 stacks_found q l m lock interpreter traces e =
@@ -48,11 +48,11 @@ pub stacks_law : (q : Asked) (l : Layout) (m : Memory) (lock interpreter : ℕ) 
 stacks_law q l m lock interpreter (Err e) a = tt
 stacks_law q l m lock interpreter (Ok v) a = stacks_found q l m lock interpreter (map trace_of v.items) a.is
 
-from_inner : {T U : Type 0} (d : Found T) (f : T → U) → fault_in d ≡ fault_in (d >>= (λ x. Ok (f x)))
+pub from_inner : {T U : Type 0} (d : Found T) (f : T → U) → fault_in d ≡ fault_in (d >>= (λ x. Ok (f x)))
 from_inner (Ok x) f = refl
 from_inner (Err e) f = refl
 
-stacks_same : (q : Asked) (l : Layout) (m : Memory) (lock interpreter : ℕ)
+pub stacks_same : (q : Asked) (l : Layout) (m : Memory) (lock interpreter : ℕ)
     → first_fault (stacks_faults q l m lock interpreter) ≡ fault_in (stacks_at q l m lock interpreter)
 unfolding stacks_faults stacks_at
 stacks_same q l m lock interpreter = then_same (owner_at l m lock) _ _ (λ owner. traces_same q l m interpreter ∙ from_inner (traces_at q l m interpreter) (map (by_owner owner)))

@@ -1,13 +1,13 @@
 -- The detail of a kept member: its line and its locals. What walks along frames knows of it these three words
 -- alone, and never opens them: what it is, how many reads it takes, and its faults in order.
-use Rattle.std.specs.Prelude.{ℕ, Option, None, List, [], Result, Ok, Err, ℤ, option_map, Vec}
-use Rattle.std.specs.Global.{Global}
+use Rattle.std.specs.Prelude.{ℕ, ◌+◌, Option, List, Result, Ok, Err, ℤ}
 use Rattle.process_memory.specs.Memory.{Memory, Found, Fault, ◌>>=◌}
 use Rattle.py_fields.specs.declared.layout.Layout.{Layout}
 use Rattle.py_stacks.specs.declared.asked.Asked.{Asked}
 use Rattle.py_stacks.specs.declared.detail.Detail as read
 use Rattle.py_stacks.specs.declared.trace.LocalVariable.{LocalVariable}
 use Rattle.py_stacks.specs.Lines.{line_at, line_cost}
+use Rattle.py_stacks.specs.Locals.{asked_faults, asked_locals, locals_cost, locals_of}
 use Rattle.py_stacks.specs.Member.{MemberAt}
 
 pub record Detail : Type 0 where
@@ -17,18 +17,22 @@ pub record Detail : Type 0 where
 abbrev pub detail_with : ℤ → Option (List LocalVariable) → Detail
 detail_with line locals = record { line = line; locals = locals }
 
+-- the line, and then the locals
 unfoldable pub detail_at : Asked → Layout → Memory → MemberAt → Found Detail
-detail_at q l m r = line_at q.lineno l m r >>= (λ line. Ok (detail_with line None))
+detail_at q l m r = do
+  line ← line_at q.lineno l m r
+  locals ← asked_locals q.locals l m r
+  Ok (detail_with line locals)
 
 unfoldable pub detail_cost : Asked → Layout → Memory → MemberAt → ℕ
-detail_cost q l m r = line_cost q.lineno
+detail_cost q l m r = line_cost q.lineno + locals_cost q.locals l r
 
--- the faults of a detail, in order
+-- the faults of a detail, in order; a line has none
 unfoldable pub detail_faults : Asked → Layout → Memory → MemberAt → List Fault
-detail_faults q l m r = []
+detail_faults q l m r = asked_faults q.locals l m r
 
 abbrev pub detail_of : read.Detail → Detail
-detail_of d = record { line = d.line; locals = option_map (λ (v : Vec LocalVariable Global). v.items) d.locals }
+detail_of d = record { line = d.line; locals = locals_of d.locals }
 
 abbrev pub detail_of_result : {E : Type 0} → Result read.Detail E → Result Detail E
 detail_of_result (Ok d) = Ok (detail_of d)

@@ -7,6 +7,12 @@ pub mod Shown
 pub mod Detail
 pub mod Member
 pub mod Lines
+pub mod Locals
+pub mod NamesError
+pub mod Typed
+pub mod Search
+pub mod Names
+pub mod NamedStacks
 pub mod Records
 pub mod Gathering
 pub mod Asking

@@ -1,10 +1,13 @@
--- How many threads and members a walk meets before it ends: what the bound on its reads counts.
-use Rattle.std.specs.Prelude.{ℕ, ◌+◌, ◌*◌}
+-- How many threads and members a walk meets before it ends, and how many variables it reads: what the bound on
+-- its reads counts.
+use Rattle.std.specs.Prelude.{ℕ, ◌+◌, ◌*◌, nat_lt, Bool, true, false, if◌then◌else◌, Option, Some, None}
 use Rattle.process_memory.specs.Memory.{Memory, ◌>>=◌, record_at, word_at}
 use Rattle.process_memory.specs.Walk.{walk_cost}
 use Rattle.py_fields.specs.declared.layout.Layout.{Layout}
 use Rattle.py_stacks.specs.declared.asked.Asked.{Asked}
-use Rattle.py_stacks.specs.Frames.{cost_after, extra_cost, frame_step, member_limit}
+use Rattle.py_stacks.specs.Frames.{Call, cost_after, extra_cost, frame_limit, frame_step, member_limit, plain_by, records_at}
+use Rattle.py_stacks.specs.Locals.{locals_read}
+use Rattle.py_stacks.specs.Member.{MemberAt}
 use Rattle.py_stacks.specs.Threads.{first_frame_at, thread_limit, thread_step}
 
 -- the members of a thread's chain that are met
@@ -14,6 +17,17 @@ frames_met q l m first = walk_cost (frame_step q l m) (λ kept a. 1) member_limi
 -- the reads of their details
 unfoldable pub frames_extra : Asked → Layout → Memory → ℕ → ℕ
 frames_extra q l m first = walk_cost (frame_step q l m) (extra_cost q l m) member_limit 0 first
+
+-- the variables that are read of a member, where it is kept
+abbrev pub part_locals : Asked → Layout → ℕ → MemberAt → Option Call → ℕ
+part_locals q l kept r None = 0
+part_locals q l kept r (Some c) = if nat_lt kept frame_limit then locals_read q.locals l r else 0
+
+unfoldable pub member_locals : Asked → Layout → Memory → ℕ → ℕ → ℕ
+member_locals q l m kept a = cost_after (records_at l m a) (λ r. part_locals q l kept r (plain_by l m r))
+
+unfoldable pub frames_locals : Asked → Layout → Memory → ℕ → ℕ
+frames_locals q l m first = walk_cost (frame_step q l m) (member_locals q l m) member_limit 0 first
 
 -- what one thread adds, by its first frame
 abbrev pub of_thread : (ℕ → ℕ) → Layout → Memory → Unit {0} → ℕ → ℕ
@@ -33,6 +47,16 @@ members_met q l m interpreter = over_threads q l m (of_thread (frames_met q l m)
 -- the reads of the details of all their members
 unfoldable pub details_cost : Asked → Layout → Memory → ℕ → ℕ
 details_cost q l m interpreter = over_threads q l m (of_thread (frames_extra q l m) l m) interpreter
+
+-- the variables that are read of all their members: the sum of the counts of those that are kept, where it is
+-- asked for locals and so many can be
+unfoldable pub locals_met : Asked → Layout → Memory → ℕ → ℕ
+locals_met q l m interpreter = over_threads q l m (of_thread (frames_locals q l m) l m) interpreter
+
+-- how many reads the variables of one member take at most
+abbrev pub locals_most : Bool → ℕ
+locals_most false = 0
+locals_most true = 4 * 65535
 
 -- at most 3 reads, 2 for each thread that is met, 6 for each member, and those of the details
 abbrev pub stacks_bound : Asked → Layout → Memory → ℕ → ℕ

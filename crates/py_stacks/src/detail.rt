@@ -7,6 +7,7 @@ ghost use Rattle.py_stacks.specs.Records.{AreWhole, member_of};
 
 use crate::asked::Asked;
 use crate::lines::read_line;
+use crate::locals::read_locals;
 use crate::records::Records;
 use crate::{LocalVariable, StackError};
 use process_memory::ProcessMemory;
@@ -20,7 +21,8 @@ pub(crate) struct Detail {
     pub(crate) locals: Option<Vec<LocalVariable>>,
 }
 
-/// The detail of the member that has these records: its line, and no locals, whatever is asked for of them.
+/// The detail of the member that has these records: its line, and its locals where they are asked for. The errors
+/// are those of its locals, and want of memory.
 #[tactic(auto, unfolding(crate::specs::Detail::detail_at, crate::specs::Detail::detail_cost))]
 pub(crate) fn read_detail<P: ProcessMemory>(
     alloc: Global,
@@ -36,5 +38,6 @@ pub(crate) fn read_detail<P: ProcessMemory>(
         (λ m. detail_at asked layout.now m (member_of records.now)) (detail_of_result result) }
 {
     let line = read_line(alloc, process, layout, asked.lineno, records)?;
-    Ok(Detail { line, locals: None })
+    let locals = read_locals(alloc, process, layout, asked.locals, records)?;
+    Ok(Detail { line, locals })
 }

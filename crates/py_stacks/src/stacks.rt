@@ -1,14 +1,13 @@
 //! The stacks of an interpreter, with the owner of its lock, and those of one thread.
-ghost use Rattle.std.specs.Prelude.{◌≡◌, ◌≤◌, ◌+◌, ◌*◌, IfOk, List, Ok, false, map};
-ghost use Rattle.std.specs.Option.{ForSome};
+ghost use Rattle.std.specs.Prelude.{◌≡◌, ◌≤◌, ◌+◌, ◌*◌, IfOk, List, Ok, map};
 ghost use Rattle.process_memory.specs.Memory.{byte_at};
 ghost use Rattle.process_memory.specs.Seen.{Answers, ReadsBy, ReadingBy};
 ghost use Rattle.process_memory.specs.Walk.{first_fault};
 ghost use Rattle.process_memory.specs.Faults.{FaultsAre};
 ghost use Rattle.py_fields.specs.Sound.{IsSound};
 ghost use Rattle.py_stacks.specs.StackError.{fault_of};
-ghost use Rattle.py_stacks.specs.Asking.{asked_by, asked_of, asks};
-ghost use Rattle.py_stacks.specs.Met.{details_cost, members_met, stacks_bound};
+ghost use Rattle.py_stacks.specs.Asking.{asked_by, asks};
+ghost use Rattle.py_stacks.specs.Met.{details_cost, locals_met, locals_most, members_met, stacks_bound};
 ghost use Rattle.py_stacks.specs.Threads.{IsTraceOf, Trace, thread_cost, thread_faults, trace_at};
 ghost use Rattle.py_stacks.specs.Threads.{trace_of, trace_of_result, traces_of_result};
 ghost use Rattle.py_stacks.specs.Stacks.{AreStacks, by_owner, stacks_at, stacks_cost, stacks_faults};
@@ -18,7 +17,7 @@ use crate::config::{Config, asked_by};
 use crate::owner::get_gil_threadid;
 use crate::records::Scratch;
 use crate::threads::{read_thread, read_traces};
-use crate::{Addresses, LineNo, StackError, StackTrace};
+use crate::{LineNo, StackError, StackTrace};
 use process_memory::ProcessMemory;
 use py_fields::Layout;
 use std::alloc::Global;
@@ -60,19 +59,32 @@ fn walk_stack_traces<P: ProcessMemory>(
 /// the whole chain from the thread that the interpreter names, to null, each with the frames of its whole
 /// chain of callers, to null, less the members that are skipped: whose file or function name is no text or is
 /// not in memory, or whose file name is empty or `<shim>`. A frame is marked where the next member is skipped
-/// or there is none. A trace's process is 0, it counts as active, and it has no name; a frame has no module,
-/// no shorter file name and no locals. Its line is 0 where none is asked for or without a `Config`, the first
-/// line of its code under `First`, and under `LastInstruction` the line that the line table of its code gives at
-/// its last instruction (`py_lines::line_at`): 0 where it gives none there, or where the table is refused
+/// or there is none. A trace's process is 0, it counts as active, and it has no name; a frame has no module and
+/// no shorter file name.
+///
+/// A frame's line is 0 where none is asked for or without a `Config`, the first line of its code under `First`,
+/// and under `LastInstruction` the line that the line table of its code gives at its last instruction
+/// (`py_lines::line_at`): 0 where it gives none there, or where the table is refused
 /// (`py_objects::copy_bytes`) or a part of it is not in memory.
+///
+/// Its locals are there where `dump_locals` is not 0: those of the variables of its code, in order, whose slot is
+/// neither 0 nor 1. A slot's lowest bit is no part of the address that it holds; a variable is an argument where
+/// there are more arguments than its index, or their count is negative; its name is that which the tuple of names
+/// has at its index, whatever length the tuple states (`py_objects::copy_string`). A value is not shown.
 ///
 /// The error is the first of these, in order: those of the owner; `Unreadable` with the word that names the
 /// first thread; for each thread `Unreadable` with its record, then with the C frame's word, then for each
-/// member of its chain `Unreadable` with its frame record, then with its code record, then `FrameLimit` where
-/// it is not skipped and 4096 frames are kept, and `ChainLimit` where 16384 members were met and the next is
-/// not 0; last `ThreadLimit` where 4096 threads were walked and the next is not 0. Else it is want of memory.
-/// At most 3 reads, 2 for each thread that is met, 6 for each member, and 2 for the line of each member that is
-/// kept; a table is read of no other member.
+/// member of its chain `Unreadable` with its frame record, then with its code record, then, where it is not
+/// skipped, `FrameLimit` where 4096 frames are kept, and else those of its locals, where they are asked for;
+/// `ChainLimit` where 16384 members were met and the next is not 0; last `ThreadLimit` where 4096 threads were
+/// walked and the next is not 0. Those of a frame's locals are, in order: `BadValue` with a negative count of
+/// variables, `LocalsLimit` with one above 65535; `Unreadable` with the record of the tuple of names, which is
+/// read also where there is no variable; for each variable `Unreadable` with the word that names it, then with
+/// its name, `BadValue` with a name that is no text, and `Unreadable` with its slot. Else it is want of memory.
+///
+/// At most 3 reads, 2 for each thread that is met, 6 for each member, 2 for the line of each member that is kept
+/// and 1 for its tuple of names, and 4 for each variable. Of a member that is not kept neither a table nor a
+/// variable is read, nor of any member what is not asked for.
 pub fn get_stack_traces<P: ProcessMemory>(
     alloc: Global,
     interpreter: u64,
@@ -82,8 +94,6 @@ pub fn get_stack_traces<P: ProcessMemory>(
     config: Option<&Config>,
 ) -> Result<Vec<StackTrace>, StackError>
     requires sound { IsSound layout.now }
-    // no locals are read yet
-    requires locals { ForSome config (λ config. config.now.dump_locals ≡ 0) }
     ensures answer { ReadsBy fault_of (λ m. stacks_cost (asked_by config.entry) layout.now m lock interpreter)
         (P.seen process.old) (P.seen process.new)
         (λ m. stacks_at (asked_by config.entry) layout.now m lock interpreter) (traces_of_result result) }
@@ -103,70 +113,14 @@ pub fn get_stack_traces<P: ProcessMemory>(
     ensures bound { (P.seen process.new).reads ≤ (P.seen process.old).reads
         + stacks_bound (asked_by config.entry) layout.now (byte_at (P.seen process.old).pieces) interpreter }
     ensures details { details_cost (asked_by config.entry) layout.now (byte_at (P.seen process.old).pieces) interpreter
-        ≤ 2 * members_met (asked_by config.entry) layout.now (byte_at (P.seen process.old).pieces) interpreter }
+        ≤ 3 * members_met (asked_by config.entry) layout.now (byte_at (P.seen process.old).pieces) interpreter
+        + 4 * locals_met (asked_by config.entry) layout.now (byte_at (P.seen process.old).pieces) interpreter }
     // whatever the memory holds, as cyclic chains
-    ensures most { (P.seen process.new).reads ≤ (P.seen process.old).reads + (3 + 4096 * (2 + 8 * 16384)) }
+    ensures most { (P.seen process.new).reads ≤ (P.seen process.old).reads
+        + (3 + 4096 * (2 + 16384 * (9 + locals_most (asked_by config.entry).locals))) }
 {
     let asked = asked_by(config);
     walk_stack_traces(alloc, process, layout, asked, lock, interpreter)
-}
-
-/// The traces of the threads of the interpreter at these addresses, with what a `Config` asks for: those of
-/// `get_stack_traces`, by the same rules and with the same errors.
-///
-/// Names and values of locals are not read yet.
-pub fn get_stack_over<P: ProcessMemory>(
-    alloc: Global,
-    process: &mut P,
-    layout: &Layout,
-    addresses: &Addresses,
-    config: &Config,
-) -> Result<Vec<StackTrace>, StackError>
-    requires sound { IsSound layout.now }
-    // no locals are read yet
-    requires locals { config.now.dump_locals ≡ 0 }
-    ensures answer { ReadsBy fault_of
-        (λ m. stacks_cost (asked_of config.now) layout.now m addresses.now.lock addresses.now.interpreter)
-        (P.seen process.old) (P.seen process.new)
-        (λ m. stacks_at (asked_of config.now) layout.now m addresses.now.lock addresses.now.interpreter)
-        (traces_of_result result) }
-    ensures traces { ReadingBy
-        (λ m. stacks_cost (asked_of config.now) layout.now m addresses.now.lock addresses.now.interpreter)
-        (P.seen process.old) (P.seen process.new)
-        (λ m. IfOk result (λ traces.
-        AreStacks (asked_of config.now) layout.now m addresses.now.lock addresses.now.interpreter
-        (map trace_of traces.items))) }
-    // what is right is the answer, want of memory aside
-    ensures only { ReadingBy
-        (λ m. stacks_cost (asked_of config.now) layout.now m addresses.now.lock addresses.now.interpreter)
-        (P.seen process.old) (P.seen process.new)
-        (λ m. (traces : List Trace)
-        → AreStacks (asked_of config.now) layout.now m addresses.now.lock addresses.now.interpreter traces
-        → Answers fault_of (Ok traces) (traces_of_result result)) }
-    ensures faults { ReadingBy
-        (λ m. stacks_cost (asked_of config.now) layout.now m addresses.now.lock addresses.now.interpreter)
-        (P.seen process.old) (P.seen process.new)
-        (λ m. FaultsAre fault_of (first_fault
-        (stacks_faults (asked_of config.now) layout.now m addresses.now.lock addresses.now.interpreter)) result) }
-    ensures bound { (P.seen process.new).reads ≤ (P.seen process.old).reads
-        + stacks_bound (asked_of config.now) layout.now (byte_at (P.seen process.old).pieces)
-        addresses.now.interpreter }
-    ensures details { details_cost (asked_of config.now) layout.now (byte_at (P.seen process.old).pieces)
-        addresses.now.interpreter
-        ≤ 2 * members_met (asked_of config.now) layout.now (byte_at (P.seen process.old).pieces)
-        addresses.now.interpreter }
-    // whatever the memory holds, as cyclic chains
-    ensures most { (P.seen process.new).reads ≤ (P.seen process.old).reads + (3 + 4096 * (2 + 8 * 16384)) }
-{
-    let interpreter = addresses.interpreter;
-    get_stack_traces(
-        alloc,
-        interpreter,
-        process,
-        layout,
-        addresses.lock,
-        Some(config),
-    )
 }
 
 /// Reads the trace of one thread.
@@ -186,13 +140,14 @@ fn walk_stack_trace<P: ProcessMemory>(
     Ok(trace)
 }
 
-/// The trace of the thread at an address, with the frames of its whole chain of callers and their lines: that
-/// which `get_stack_traces` has of this thread, but that it does not say who holds the lock (`owns_gil` is
-/// false).
+/// The trace of the thread at an address, with the frames of its whole chain of callers, their lines and, where
+/// `copy_locals` is true, their locals: that which `get_stack_traces` has of this thread, but that it does not
+/// say who holds the lock (`owns_gil` is false).
 ///
 /// The error is the first of these, in order: `Unreadable` with the thread's record, then with the C frame's
 /// word, and then those of its frames as `get_stack_traces` has them. Else it is want of memory. At most 2
-/// reads, 6 for each member that is met, and 2 for the line of each one that is kept.
+/// reads, 6 for each member that is met, 3 for the line and the tuple of names of each one that is kept, and 4
+/// for each variable.
 pub fn get_stack_trace<P: ProcessMemory>(
     alloc: Global,
     thread: u64,
@@ -202,8 +157,6 @@ pub fn get_stack_trace<P: ProcessMemory>(
     lineno: LineNo,
 ) -> Result<StackTrace, StackError>
     requires sound { IsSound layout.now }
-    // no locals are read yet
-    requires locals { copy_locals ≡ false }
     ensures answer { ReadsBy fault_of (λ m. thread_cost (asks lineno copy_locals) layout.now m tt thread)
         (P.seen process.old) (P.seen process.new)
         (λ m. trace_at (asks lineno copy_locals) layout.now m thread) (trace_of_result result) }
@@ -220,7 +173,7 @@ pub fn get_stack_trace<P: ProcessMemory>(
         (λ m. FaultsAre fault_of
         (first_fault (thread_faults (asks lineno copy_locals) layout.now m tt thread)) result) }
     // whatever the memory holds, as a cyclic chain
-    ensures most { (P.seen process.new).reads ≤ (P.seen process.old).reads + (2 + 8 * 16384) }
+    ensures most { (P.seen process.new).reads ≤ (P.seen process.old).reads + (2 + 16384 * (9 + locals_most copy_locals)) }
 {
     let asked = Asked {
         lineno,

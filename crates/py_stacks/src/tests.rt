@@ -60,7 +60,7 @@ fn code_at(member: Member) -> u64 {
     }
 }
 
-fn push_words(bytes: &mut Vec<u8>, words: &[u64]) -> Result<(), AllocError> {
+pub(crate) fn push_words(bytes: &mut Vec<u8>, words: &[u64]) -> Result<(), AllocError> {
     for word in words {
         bytes.extend_from_slice(&word.to_le_bytes())?;
     }

@@ -1,0 +1,154 @@
+//! The stacks of an interpreter, with the names of its threads.
+ghost use Rattle.std.specs.Prelude.{◌≡◌, ◌≤◌, ◌+◌, ◌*◌, IfOk, List, Ok, OnOk, map};
+ghost use Rattle.process_memory.specs.Memory.{byte_at};
+ghost use Rattle.process_memory.specs.Seen.{Answers, Reading, ReadsBy, ReadingBy};
+ghost use Rattle.process_memory.specs.Walk.{first_fault};
+ghost use Rattle.process_memory.specs.Faults.{FaultsAre};
+ghost use Rattle.py_fields.specs.Sound.{IsSound};
+ghost use Rattle.py_stacks.specs.Asking.{asked_of};
+ghost use Rattle.py_stacks.specs.Met.{details_cost, locals_met, locals_most, members_met, stacks_bound};
+ghost use Rattle.py_stacks.specs.Names.{names_at, names_cost};
+ghost use Rattle.py_stacks.specs.NamedStacks.{AreNamedStacks, GivesNames, by_name, name_in, named_cost, named_stacks_at};
+ghost use Rattle.py_stacks.specs.StackError.{fault_of};
+ghost use Rattle.py_stacks.specs.Stacks.{stacks_faults};
+ghost use Rattle.py_stacks.specs.Threads.{Trace, trace_of, traces_of_result};
+
+use crate::config::Config;
+use crate::names::thread_names_from_interpreter;
+use crate::stacks::get_stack_traces;
+use crate::{Addresses, NamesError, StackError, StackTrace};
+use elf64_core::Text;
+use process_memory::ProcessMemory;
+use py_fields::Layout;
+use py_objects::ObjectError;
+use std::alloc::{AllocError, Global};
+use std::collections::BTreeMap;
+
+/// The names of an interpreter's threads; none where there is a fault. The one error is want of memory.
+fn read_names<P: ProcessMemory>(
+    alloc: Global,
+    process: &mut P,
+    layout: &Layout,
+    interpreter: u64,
+) -> Result<Option<BTreeMap<u64, Text>>, StackError>
+    requires sound { IsSound layout.now }
+    ensures { Reading names_cost (P.seen process.old) (P.seen process.new)
+        (λ m. GivesNames (names_at layout.now m interpreter) result) }
+{
+    match thread_names_from_interpreter(alloc, interpreter, process, layout) {
+        Ok(names) => Ok(Some(names)),
+        Err(NamesError::OutOfMemory) => Err(StackError::OutOfMemory),
+        Err(NamesError::Object(ObjectError::OutOfMemory)) => Err(StackError::OutOfMemory),
+        Err(_) => Ok(None),
+    }
+}
+
+/// A copy of the name of an id, where there is one.
+fn name_in(
+    alloc: Global,
+    names: &Option<BTreeMap<u64, Text>>,
+    id: u64,
+) -> Result<Option<Text>, AllocError>
+    ensures { IfOk result (λ name. name ≡ name_in names.now id) }
+{
+    match names {
+        None => Ok(None),
+        Some(names) => match names.get(&id) {
+            None => Ok(None),
+            Some(name) => Ok(Some(name.copy(alloc)?)),
+        },
+    }
+}
+
+/// Gives each trace the name of its id.
+fn name_traces(
+    alloc: Global,
+    traces: &mut Vec<StackTrace>,
+    names: &Option<BTreeMap<u64, Text>>,
+) -> Result<(), AllocError>
+    ensures { OnOk result (map trace_of traces.new.items
+        ≡ map (by_name (name_in names.now)) (map trace_of traces.old.items)) }
+{
+    for trace in traces.iter_mut() {
+        trace.thread_name = name_in(alloc, names, trace.thread_id)?;
+    }
+    Ok(())
+}
+
+/// Reads the stacks, and then the names, and names the traces.
+fn read_named<P: ProcessMemory>(
+    alloc: Global,
+    process: &mut P,
+    layout: &Layout,
+    addresses: &Addresses,
+    config: &Config,
+) -> Result<Vec<StackTrace>, StackError>
+    requires sound { IsSound layout.now }
+    ensures { ReadsBy fault_of
+        (λ m. named_cost (asked_of config.now) layout.now m addresses.now.lock addresses.now.interpreter)
+        (P.seen process.old) (P.seen process.new)
+        (λ m. named_stacks_at (asked_of config.now) layout.now m addresses.now.lock addresses.now.interpreter)
+        (traces_of_result result) }
+{
+    let interpreter = addresses.interpreter;
+    let lock = addresses.lock;
+    let mut traces = get_stack_traces(alloc, interpreter, process, layout, lock, Some(config))?;
+    let names = read_names(alloc, process, layout, interpreter)?;
+    name_traces(alloc, &mut traces, &names)?;
+    Ok(traces)
+}
+
+/// The traces of the threads of the interpreter at these addresses, with what a `Config` asks for: those of
+/// `get_stack_traces`, by the same rules and with the same errors, each with the name of its thread.
+///
+/// The name is that which `thread_names_from_interpreter` has for the trace's id, if there is one; where that
+/// has a fault, no thread has a name, and that is no error. Want of memory is. Values of locals are not shown
+/// yet.
+///
+/// As many reads as `get_stack_traces` makes, and those of the names behind them.
+pub fn get_stack_over<P: ProcessMemory>(
+    alloc: Global,
+    process: &mut P,
+    layout: &Layout,
+    addresses: &Addresses,
+    config: &Config,
+) -> Result<Vec<StackTrace>, StackError>
+    requires sound { IsSound layout.now }
+    ensures answer { ReadsBy fault_of
+        (λ m. named_cost (asked_of config.now) layout.now m addresses.now.lock addresses.now.interpreter)
+        (P.seen process.old) (P.seen process.new)
+        (λ m. named_stacks_at (asked_of config.now) layout.now m addresses.now.lock addresses.now.interpreter)
+        (traces_of_result result) }
+    ensures traces { ReadingBy
+        (λ m. named_cost (asked_of config.now) layout.now m addresses.now.lock addresses.now.interpreter)
+        (P.seen process.old) (P.seen process.new)
+        (λ m. IfOk result (λ traces.
+        AreNamedStacks (asked_of config.now) layout.now m addresses.now.lock addresses.now.interpreter
+        (map trace_of traces.items))) }
+    // what is right is the answer, want of memory aside
+    ensures only { ReadingBy
+        (λ m. named_cost (asked_of config.now) layout.now m addresses.now.lock addresses.now.interpreter)
+        (P.seen process.old) (P.seen process.new)
+        (λ m. (traces : List Trace)
+        → AreNamedStacks (asked_of config.now) layout.now m addresses.now.lock addresses.now.interpreter traces
+        → Answers fault_of (Ok traces) (traces_of_result result)) }
+    ensures faults { ReadingBy
+        (λ m. named_cost (asked_of config.now) layout.now m addresses.now.lock addresses.now.interpreter)
+        (P.seen process.old) (P.seen process.new)
+        (λ m. FaultsAre fault_of (first_fault
+        (stacks_faults (asked_of config.now) layout.now m addresses.now.lock addresses.now.interpreter)) result) }
+    ensures bound { (P.seen process.new).reads ≤ (P.seen process.old).reads
+        + (stacks_bound (asked_of config.now) layout.now (byte_at (P.seen process.old).pieces)
+        addresses.now.interpreter + names_cost) }
+    ensures details { details_cost (asked_of config.now) layout.now (byte_at (P.seen process.old).pieces)
+        addresses.now.interpreter
+        ≤ 3 * members_met (asked_of config.now) layout.now (byte_at (P.seen process.old).pieces)
+        addresses.now.interpreter
+        + 4 * locals_met (asked_of config.now) layout.now (byte_at (P.seen process.old).pieces)
+        addresses.now.interpreter }
+    // whatever the memory holds, as cyclic chains
+    ensures most { (P.seen process.new).reads ≤ (P.seen process.old).reads
+        + (3 + 4096 * (2 + 16384 * (9 + locals_most (asked_of config.now).locals)) + names_cost) }
+{
+    read_named(alloc, process, layout, addresses, config)
+}
