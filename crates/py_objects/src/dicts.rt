@@ -122,6 +122,18 @@ impl DictCursor {
         Some(slot)
     }
 
+    /// The slot of a number, from 0 on, whether the cursor has passed it or not.
+    ///
+    /// A slot that is not in memory is `Unreadable`, with the range of its entry, or else of its value where
+    /// that stands apart. At most 2 reads; it takes no memory, as in `from`.
+    pub fn slot<P: ProcessMemory>(&self, process: &mut P, number: u64) -> Result<Slot, ObjectError>
+        ensures answer { Reads fault_of 2 (P.seen process.old) (P.seen process.new)
+            (λ m. slot_at m self.now.slots number) result }
+        ensures memory { IsErrOf result ObjectError.OutOfMemory → IsTrue (P.seen process.old).may_want_memory }
+    {
+        read_slot(process, &self.slots, number)
+    }
+
     /// How many slots have not yet been looked at.
     pub fn remaining(&self) -> u64
         ensures { result ≡ self.now.slots.count - self.now.passed }
@@ -131,7 +143,7 @@ impl DictCursor {
 }
 
 /// The slot of a number. At most 2 reads.
-pub fn read_slot<P: ProcessMemory>(
+fn read_slot<P: ProcessMemory>(
     process: &mut P,
     slots: &Slots,
     number: u64,
