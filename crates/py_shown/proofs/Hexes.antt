@@ -1,7 +1,7 @@
 -- Hexadecimal digits in a width.
-use Rattle.std.proofs.Common.{◌≡◌, ◌++◌, ◌-◌, ◌^◌, refl, false, [], append-nil, List, ℕ, length}
+use Rattle.std.proofs.Common.{◌≡◌, ◌-◌, ◌^◌, refl, false, [], append-nil, ℕ}
 use Rattle.std.proofs.Math.Nat.{sub-zero}
-use Rattle.std.specs.Fmt.{digits, padded_integral, format_spec, char_count, before_digits, number_padding, shown_prefix, fill_after_digits, padding_before, sign_text_with}
+use Rattle.std.specs.Fmt.{digits, padded_integral, format_spec, char_count}
 use Rattle.py_shown.specs.ShownTexts.{hex_of}
 
 pub eight_digits : (n : ℕ) → padded_integral (format_spec 32 0 4 8 (2 ^ 64 - 1)) false [] (digits 16 false n) ≡ hex_of 8 n

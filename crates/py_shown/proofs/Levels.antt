@@ -3,7 +3,6 @@ use Rattle.std.proofs.Common.{◌≡◌, ℕ, zero, suc, ◌<◌, ◌≤◌, ◌
 use Rattle.std.proofs.Math.Nat.{le_refl}
 use Rattle.std.specs.Prelude.{Option, Some, None, Result, Ok, Err, nat_le, codes}
 use Rattle.std.proofs.lemmas.Bool.Decides.{nat_tests}
-use Rattle.process_memory.specs.Memory.{Found, Fault}
 use Rattle.process_memory.specs.Memory.Fault.{Depth}
 use Rattle.process_memory.specs.Seen.{Answers}
 use Rattle.py_objects.specs.declared.error.ObjectError.{ObjectError}

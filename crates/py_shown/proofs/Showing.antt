@@ -1,12 +1,12 @@
 -- Parts that are shown one after another.
-use Rattle.std.proofs.Common.{◌≡◌, ◌≢◌, ℕ, zero, suc, ◌+◌, ◌-◌, ◌*◌, ◌<◌, ◌≤◌, Bool, true, false, cond, List, [], ◌∷◌, ◌++◌, length, refl, sym, ◌∙◌, ap, subst, rules, arith, append-nil, append_assoc, add-zero, max}
+use Rattle.std.proofs.Common.{◌≡◌, ℕ, suc, ◌+◌, ◌-◌, ◌*◌, ◌<◌, ◌≤◌, Bool, true, false, List, [], ◌∷◌, ◌++◌, length, refl, sym, ◌∙◌, ap, arith, append-nil, append_assoc, max}
 use Rattle.std.proofs.Math.Nat.{sub-zero, le_refl}
-use Rattle.std.specs.Prelude.{Option, Some, None, Result, Ok, Err, nat_le, nat_lt, if◌then◌else◌, codes}
+use Rattle.std.specs.Prelude.{Option, Some, None, Ok, Err, nat_le, codes}
 use Rattle.std.proofs.lemmas.Bool.Decides.{nat_tests}
 use Rattle.process_memory.specs.Memory.{Memory, Found, Fault}
 use Rattle.process_memory.specs.Seen.{Seen, Reading}
 use Rattle.process_memory.proofs.Reading.{reading_then, reading_gives, reading_none}
-use Rattle.py_shown.specs.Shown.{Shown, goes_on, ◌>>=◌, give, consult, Tells}
+use Rattle.py_shown.specs.Shown.{Shown, goes_on, ◌>>=◌, give, Tells}
 use Rattle.py_shown.specs.ShownTexts.{dots}
 use Rattle.py_shown.specs.Shows.{Brackets, part_then, parts_at, enclosed, joined, joined_after, separator, opening, closing}
 use Rattle.py_shown.proofs.Steps.{Rises, tells_ok, tells_is, tells_then, tells_stop, tells_lost, tells_err, bind_is, pair_is}

@@ -1,11 +1,12 @@
 -- How a value comes to be shown, step by step.
-use Rattle.std.proofs.Common.{◌≡◌, ℕ, zero, suc, ◌+◌, ◌-◌, ◌*◌, ◌<◌, ◌≤◌, refl, sym, ◌∙◌, ap, rules, arith}
+use Rattle.std.proofs.Common.{List, ◌≡◌, ℕ, ◌+◌, ◌≤◌, refl, sym, ◌∙◌, ap, arith}
 use Rattle.std.proofs.Math.Nat.{le_refl}
-use Rattle.std.specs.Prelude.{Option, Some, None, Result, Ok, Err, ⊤}
+use Rattle.std.specs.Prelude.{Option, Some, None, Result, Ok, Err}
 use Rattle.process_memory.specs.Memory.{Memory, Found, Fault}
-use Rattle.process_memory.specs.Seen.{Seen, Reading, Answers, AnswerIs, FaultIs}
+use Rattle.process_memory.specs.Seen.{Seen, Reading, Answers}
 use Rattle.process_memory.proofs.Reading.{reading_then, reading_gives, reading_none}
-use Rattle.py_shown.specs.Shown.{Shown, goes_on, ◌>>=◌, give, consult, Tells, CountIs, CountOf}
+use Rattle.py_shown.specs.Shown.{Shown, goes_on, ◌>>=◌, consult, Tells, CountOf}
+use Rattle.py_shown.specs.Shows.{Source, show_at, FaultShows, AnswerShows}
 
 -- visits only rise
 abbrev pub Rises : {T : Type 0} → Shown T → Type 0
@@ -92,3 +93,15 @@ reading_both t R p q f le = reading_gives t R (reading_then R p q f) le (λ m a.
 -- memory is wanting
 pub reads_lost : {T E : Type 0} {fault : E → Option Fault} {n : ℕ} (k : ℕ) {s0 s1 : Seen} {Q : Memory → Type 0} (d : Memory → Found T) (e : E) → Reading n s0 s1 Q → n ≤ k → fault e ≡ None → Reading k s0 s1 (λ m. Answers fault (d m) (Err e))
 reads_lost k d e p le none = reading_gives k _ p le (λ m a. record { is = rw none tt })
+
+-- what is told, in the words of the public clause
+module _ {V P E : Type 0} (fault : E → Option Fault) (s : Source V P) (a : V) (w v : ℕ) where
+  pub told_ok : (text : List ℕ) (n : ℕ) → Tells {E = E} fault (show_at s 256 w a v) (Ok text) n → AnswerShows {E = E} fault s a w v (Ok text) n
+  told_ok text n t = tells_ok t
+
+  pub told_err : (e : E) (n : ℕ) → Tells {T = List ℕ} fault (show_at s 256 w a v) (Err e) n → AnswerShows fault s a w v (Err e) n
+  told_err e n t =
+      elim (fault e) as (λ o. fault e ≡ o → FaultShows s a w v o n) [
+        | None ↦ λ is. let le : n ≤ (show_at s 256 w a v).1 = rw is at t.count in ((show_at s 256 w a v).0, (show_at s 256 w a v).1, refl, le)
+        | Some f ↦ λ is. let x : (show_at s 256 w a v).0 ≡ Err f = rw is at t.answer in let y : n ≡ (show_at s 256 w a v).1 = rw is at t.count in pair_is x (sym y)
+      ] refl

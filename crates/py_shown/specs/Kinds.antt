@@ -1,6 +1,6 @@
 -- Which case of shown values a type is. The flags are CPython's `Py_TPFLAGS_*_SUBCLASS`, and bit 23 Python 2's
 -- of its small integers; which names are looked for is py-spy's.
-use Rattle.std.specs.Prelude.{ℕ, Bool, true, false, Option, Some, None, List, if◌then◌else◌, ◌&&◌, codes, bytes_eq}
+use Rattle.std.specs.Prelude.{ℕ, Bool, Option, Some, None, List, if◌then◌else◌, ◌&&◌, codes, bytes_eq}
 use Rattle.py_objects.specs.Texts.{bit_is_set}
 use Rattle.py_shown.specs.declared.kinds.Scalar.{Scalar}
 use Rattle.py_shown.specs.declared.kinds.Scalar.TheVariants.{Truth, U8, U16, U32, U64, I8, I16, I32, I64, F32, F64}

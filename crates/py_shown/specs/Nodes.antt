@@ -1,10 +1,10 @@
 -- What the values of a process's memory are, and their parts. Which fields they have is CPython's to say, and
 -- where they are the layout's.
-use Rattle.std.specs.Prelude.{ℕ, ◌+◌, ◌*◌, ◌^◌, nat_lt, Option, Some, None, List, Result, Ok, Err, if◌then◌else◌, codes, string_bytes, String, encode_utf8_all}
+use Rattle.std.specs.Prelude.{ℕ, ◌+◌, ◌*◌, ◌^◌, nat_lt, List, Result, Ok, Err, if◌then◌else◌, codes, string_bytes, String, encode_utf8_all}
 use Rattle.std.specs.Global.{Global}
 use Rattle.std.specs.Int.{w64, cast_signed}
 use Rattle.elf64_core.specs.Fields.{u64_in}
-use Rattle.process_memory.specs.Memory.{Memory, Found, Fault, ◌>>=◌, record_at, word_at}
+use Rattle.process_memory.specs.Memory.{Memory, Found, ◌>>=◌, record_at, word_at}
 use Rattle.process_memory.specs.Memory.Fault.{BadType, BadCount}
 use Rattle.py_fields.specs.declared.layout.Dicts.{Dicts}
 use Rattle.py_fields.specs.declared.layout.Dicts.TheVariants.{Absent, General, Compact}
@@ -18,7 +18,6 @@ use Rattle.py_objects.specs.Texts.{text_at}
 use Rattle.py_shown.specs.declared.kinds.Scalar.{Scalar}
 use Rattle.py_shown.specs.declared.kinds.Kind.{Kind}
 use Rattle.py_shown.specs.declared.kinds.Kind.TheVariants.{Small, Long, Text, Dict, List as ListKind, Tuple, Float, Nothing, Number, Other}
-use Rattle.py_shown.specs.declared.nodes.Sequence.{Sequence}
 use Rattle.py_shown.specs.declared.nodes.Sequence.TheVariants.{List as ListItems, Tuple as TupleItems}
 use Rattle.py_shown.specs.declared.nodes.Parts.{Parts}
 use Rattle.py_shown.specs.declared.nodes.Parts.TheVariants.{Items as ItemParts, Slots as SlotParts}

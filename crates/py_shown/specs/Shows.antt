@@ -1,5 +1,5 @@
 -- How a value is shown: a rule over values and their parts, wherever these come from. It is this project's own.
-use Rattle.std.specs.Prelude.{◌≡◌, ℕ, zero, suc, ℤ, pos, negsuc, ◌+◌, ◌-◌, nat_le, Bool, true, false, Option, Some, None, List, [], ◌∷◌, ◌++◌, length, Result, Ok, Err, if◌then◌else◌, codes, string_bytes, String, encode_utf8_all}
+use Rattle.std.specs.Prelude.{◌≡◌, ◌≤◌, ℕ, zero, suc, ℤ, pos, negsuc, ◌+◌, ◌-◌, nat_le, Bool, true, false, Option, Some, None, List, [], ◌∷◌, ◌++◌, length, Result, Ok, Err, if◌then◌else◌, codes, string_bytes, String, encode_utf8_all}
 use Rattle.std.specs.Global.{Global}
 use Rattle.process_memory.specs.Memory.{Found, Fault}
 use Rattle.process_memory.specs.Memory.Fault.{Depth}
@@ -118,10 +118,21 @@ show_at s (suc levels) w a = if nat_le w 5 then give dots else do
   node ← consult (s.node a)
   node_shown s (λ w2 a2. show_at s levels w2 a2) w node
 
--- a value at a width, with so many visits counted before: its text or its fault, and the visits after it. It is
--- on the first of 256 levels
-abbrev pub value_shown : {V P : Type 0} → Source V P → V → ℕ → ℕ → Found (List ℕ) × ℕ
-value_shown s a w visits = show_at s 256 w a visits
+-- the value `a` at a width, on a level from 1 on, with `before` visits counted, shows as `out`, its text or its
+-- fault, and `after` visits are counted then
+abbrev pub Shows : {V P : Type 0} → Source V P → V → ℕ → ℕ → ℕ → Found (List ℕ) → ℕ → Type 0
+Shows s a width level before out after = show_at s (257 - level) width a before ≡ (out, after)
+
+abbrev pub FaultShows : {V P : Type 0} → Source V P → V → ℕ → ℕ → Option Fault → ℕ → Type 0
+FaultShows s a width before None visits =
+    (out : Found (List ℕ)) × (after : ℕ) × Shows s a width 1 before out after × (visits ≤ after)
+FaultShows s a width before (Some f) visits = Shows s a width 1 before (Err f) visits
+
+-- an answer and a count are what the value shows. Want of memory is free, and leaves a part of the visits
+abbrev pub AnswerShows : {V P E : Type 0} → (E → Option Fault) → Source V P → V → ℕ → ℕ → Result (List ℕ) E → ℕ
+    → Type 0
+AnswerShows fault s a width before (Ok text) visits = Shows s a width 1 before (Ok text) visits
+AnswerShows fault s a width before (Err e) visits = FaultShows s a width before (fault e) visits
 
 -- no width is below 0
 abbrev pub width_of : ℤ → ℕ

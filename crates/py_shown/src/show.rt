@@ -5,7 +5,7 @@ ghost use Rattle.py_fields.specs.Sound.{IsSound};
 ghost use Rattle.py_objects.specs.ObjectError.{fault_of};
 ghost use Rattle.py_shown.specs.Nodes.{brackets_of, node_of, part_read, place_of, slot_visits, texts_of, values_in};
 ghost use Rattle.py_shown.specs.Shown.{Tells, visit};
-ghost use Rattle.py_shown.specs.Shows.{bytes_of, child_shown, closing, looked_at, node_shown, opening, part_at, part_of, parts_shown, separator, show_at, text_of, value_shown, width_of};
+ghost use Rattle.py_shown.specs.Shows.{AnswerShows, bytes_of, child_shown, closing, looked_at, node_shown, opening, part_at, part_of, parts_shown, separator, show_at, text_of, width_of};
 
 use crate::nodes::{Child, Node, Parts, Sequence, read_child, read_node};
 use crate::texts;
@@ -59,8 +59,9 @@ pub fn format_variable<P: ProcessMemory>(
     requires sound { IsSound layout.now }
     ensures rises { visits.old ≤ visits.new }
     ensures few { visits.new ≤ max visits.old 4096 }
-    ensures shown { Reading (8 * (visits.new - visits.old)) (P.seen process.old) (P.seen process.new) (λ m. Tells fault_of
-        (value_shown (values_in layout.now m) addr (width_of max_length) visits.old) (bytes_of result) visits.new) }
+    ensures shown { Reading (8 * (visits.new - visits.old)) (P.seen process.old) (P.seen process.new)
+        (λ m. AnswerShows fault_of (values_in layout.now m) addr (width_of max_length) visits.old (bytes_of result)
+        visits.new) }
 {
     let width = width_of(max_length);
     let text = show_value(alloc, process, layout, addr, width, LEVELS, visits)?;
@@ -327,3 +328,6 @@ fn entry(mut key: String, value: &str) -> Result<String, AllocError>
     key.push_str(value)?;
     Ok(key)
 }
+
+#[cfg(test)]
+mod tests;

@@ -1,15 +1,9 @@
-use Rattle.std.proofs.Common.{◌≡◌, ◌∙◌, refl, sym, ap, arith, rules, string_bytes, to_z, of_z}
-use Rattle.std.specs.Prelude.{Ok, Err}
-use Rattle.std.specs.Int.{w64}
-use Rattle.std.proofs.lemmas.Int.{to_z-of_z}
+use Rattle.std.proofs.Common.{◌∙◌, sym, ap}
+use Rattle.std.specs.Prelude.{Ok}
 use Rattle.std.proofs.lemmas.Result.{err_from_is_err_and}
-use Rattle.elf64_core.specs.Fields.{u64_in}
-use Rattle.process_memory.proofs.Reading.{reading_gives, reads_end, reads_halt, reads_known, reads_next, reads_same}
-use Rattle.py_fields.proofs.ObjectFields.{list_fits, tuple_fits, float_fits, object_fits, klass_fits}
-use Rattle.py_objects.specs.ObjectError.{fault_of}
-use Rattle.py_shown.specs.ShownTexts.{number_text, long_text, float_text}
-use Rattle.py_shown.specs.Nodes.{type_at, small_node, long_node, text_node, list_node, tuple_node, slots_node, dict_node, float_node, scalar_node, kind_node, node_at, child_at}
-use Rattle.py_shown.specs.Shows.Node.{Whole, Quoted, Many}
+use Rattle.process_memory.proofs.Reading.{reads_known}
+use Rattle.py_shown.specs.Nodes.{kind_node}
+use Rattle.py_shown.specs.Shows.Node.{Whole}
 use Rattle.py_shown.proofs.nodes.read_kind.Goals as goal
 
 pub returns-in_err-from_str-in-Nothing : goal.returns-in_err-from_str-in-Nothing

@@ -1,12 +1,11 @@
-use Rattle.std.proofs.Common.{◌≡◌, ℕ, zero, suc, ◌+◌, ◌*◌, ◌-◌, ◌<◌, ◌≤◌, ◌++◌, List, arith, refl, ap, sym, ◌∙◌, string_bytes, max, codes}
-use Rattle.std.specs.Prelude.{Ok, Err, Some, None}
+use Rattle.std.proofs.Common.{◌-◌, ◌<◌, arith, refl, ap, sym, ◌∙◌, string_bytes}
+use Rattle.std.specs.Prelude.{Ok}
 use Rattle.std.proofs.lemmas.Result.{err_from_is_err_and}
 use Rattle.std.proofs.Math.Nat.{le_refl}
 use Rattle.process_memory.proofs.Reading.{reading_none, reading_gives}
 use Rattle.py_objects.specs.ObjectError.{fault_of}
 use Rattle.py_shown.specs.Nodes.{brackets_of, child_of, node_of, part_read, place_of, values_in}
-use Rattle.py_shown.specs.Shows.{show_at, child_shown, part_at, node_shown, parts_shown}
-use Rattle.py_shown.specs.Shows.Child.{Item, Empty, Entry}
+use Rattle.py_shown.specs.Shows.{show_at, node_shown, parts_shown}
 use Rattle.py_shown.proofs.Steps.{tells_is, tells_lost, reading_both}
 use Rattle.py_shown.proofs.Rising.{show_rises, part_rises, node_rises, parts_shown_rises}
 use Rattle.py_shown.proofs.Showing.{showing_init, showing_skip, showing_more, showing_stop, showing_lost, showing_cut, showing_done, showing_unclosed}

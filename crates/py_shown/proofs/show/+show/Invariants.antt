@@ -1,4 +1,4 @@
-use Rattle.std.proofs.Common.{◌≡◌, ℕ, ◌+◌, ◌*◌, ◌≤◌, string_bytes}
+use Rattle.std.proofs.Common.{◌+◌, ◌*◌, string_bytes}
 use Rattle.py_shown.specs.Nodes.{brackets_of, place_of, values_in}
 use Rattle.py_shown.specs.Shows.{show_at, part_at}
 use Rattle.py_shown.proofs.Showing.{Showing}

@@ -1,4 +1,3 @@
-use Rattle.std.proofs.Common.{◌≡◌, ◌++◌, codes, ap}
 use Rattle.py_shown.proofs.Hexes.{sixteen_digits}
 use Rattle.py_shown.proofs.texts.double.Goals as goal
 

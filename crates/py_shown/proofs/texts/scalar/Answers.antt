@@ -1,12 +1,12 @@
 use Rattle.std.proofs.Common.{◌≡◌, ◌∙◌, sym, ap, rules}
 use Rattle.std.specs.Prelude.{Ok}
 use Rattle.elf64_core.specs.Fields.{u8_in}
-use Rattle.std.specs.Prelude.{decimal, List, ℕ, ℤ, Result}
+use Rattle.std.specs.Prelude.{decimal, List, ℕ, ℤ}
 use Rattle.std.specs.Fmt.{signed_decimal}
 use Rattle.std.specs.Int.{Width, w8, w16, w32, w64, cast_signed}
 use Rattle.std.proofs.lemmas.Int.{to_z-of_z}
 use Rattle.process_memory.specs.Memory.{Found}
-use Rattle.py_shown.specs.ShownTexts.{scalar_text, float_text}
+use Rattle.py_shown.specs.ShownTexts.{float_text}
 use Rattle.py_shown.proofs.texts.scalar.Goals.{in-U8+in_ok-text-in-U8, in-U16+in_ok-text-in-U16, in-U32+in_ok-text-in-U32, in-U64+in_ok-text-in-U64, in-I8+in_ok-text-in-I8, in-I16+in_ok-text-in-I16, in-I32+in_ok-text-in-I32, in-I64+in_ok-text-in-I64, in-F32+in_ok-text-in-F32, in-F64+in_ok-text-in-F64}
 use Rattle.py_shown.proofs.texts.scalar.Goals as goal
 
