@@ -86,4 +86,5 @@ escaped text = flat_map escape (chars text)
 -- a text in quotes, cut to a number of characters
 unfoldable pub quoted : ℕ → List ℕ → List ℕ
 quoted n text =
-    codes "\"" ++ flat_map encode_utf8 (take n (escaped text)) ++ (if nat_lt n (length (escaped text)) then dots else []) ++ codes "\""
+    codes "\"" ++ flat_map encode_utf8 (take n (escaped text))
+        ++ (if nat_lt n (length (escaped text)) then dots else []) ++ codes "\""
