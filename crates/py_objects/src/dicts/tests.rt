@@ -87,6 +87,7 @@ fn general_dicts_have_their_slots_behind_the_index(rt: HostRuntime) -> Result<()
         assert!(rt; cursor.next(&mut part) == Some(Ok(want)), "{slots}");
         assert!(rt; cursor.remaining() == 0);
         assert!(rt; cursor.next(&mut part) == None);
+        assert!(rt; cursor.slot(&mut part, 0) == Ok(want));
     }
     Ok(())
 }

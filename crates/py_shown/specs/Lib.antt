@@ -1,0 +1,5 @@
+pub mod Kinds
+pub mod Nodes
+pub mod ShownTexts
+pub mod Shown
+pub mod Shows
