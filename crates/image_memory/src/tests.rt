@@ -7,7 +7,7 @@ use std::alloc::{AllocError, Global};
 use std::test::Fail;
 
 /// The kind, flags, offset, address and size in the file and in memory of a segment.
-type Row = (u32, u32, u64, u64, u64, u64);
+pub(crate) type Row = (u32, u32, u64, u64, u64, u64);
 
 /// Segments of a core: two that hold the same addresses, one of no memory, one with fewer bytes in memory
 /// than in the file, and one that ends at 2^64 - 1.
@@ -20,10 +20,10 @@ const SEGMENTS: [Row; 5] = [
 ];
 
 /// What the segments hold.
-const HELD: &[u8] = b"AAAAAAAAAAAAAAAABBBBBBBBBBBBBBBBCCCC";
+pub(crate) const HELD: &[u8] = b"AAAAAAAAAAAAAAAABBBBBBBBBBBBBBBBCCCC";
 
 /// The header, the program headers and what the segments hold.
-fn core_of(alloc: Global, segments: &[Row], held: &[u8]) -> Result<Vec<u8>, AllocError>
+pub(crate) fn core_of(alloc: Global, segments: &[Row], held: &[u8]) -> Result<Vec<u8>, AllocError>
     requires { length segments.now < 65535 }
 {
     let mut bytes = b"\x7fELF\x02\x01".to_vec(alloc)?;
