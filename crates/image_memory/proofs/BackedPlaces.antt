@@ -32,7 +32,7 @@ first_stands dump (f ∷ fs) addr held =
     ap (λ o. first_of o (first_byte (map (region_in dump) fs) addr)) (span_region (file_bytes dump f.file) f.range addr here.inside)
     ∙ ap (first_of (cond (spans_file addr f) (Some byte) None)) (first_stands dump fs addr (All-tail (IsInFile dump) f fs held))
     ∙ elim (spans_file addr f) as (λ b. first_of (cond b (Some byte) None) (option_map (byte_in dump) (option_map (place_by addr) (find (spans_file addr) fs)))
-        ≡ option_map (byte_in dump) (option_map (place_by addr) (cond b (Some f) (find (spans_file addr) fs)))) [ true ↦ refl | false ↦ refl ]
+    ≡ option_map (byte_in dump) (option_map (place_by addr) (cond b (Some f) (find (spans_file addr) fs)))) [ true ↦ refl | false ↦ refl ]
 
 pub ranges_fit : (dump : Backed) (fs : List FileRange) → All (IsInFile dump) fs → All IsRange (map range_of_file fs)
 ranges_fit dump fs held = All-map IsRange range_of_file fs (λ k d less. (held k d less).fits)
@@ -72,7 +72,7 @@ piece_stands dump file piece addr h le less =
     let inside : h.owner < length fs = omega (arith, h.is.owned, length-map fs range_of_file) in
     let f = get_or fs h.owner no_file in
     let found : find (spans_file addr) fs ≡ Some f =
-      find_at (spans_file addr) fs ∙ ap (slice_get fs) (sym (first-map (spans addr) range_of_file fs) ∙ whose) ∙ slice_get-get_or fs h.owner no_file inside in
+    find_at (spans_file addr) fs ∙ ap (slice_get fs) (sym (first-map (spans addr) range_of_file fs) ∙ whose) ∙ slice_get-get_or fs h.owner no_file inside in
     let same : get_or (all_ranges dump) h.owner piece ≡ f.range = get_or-map range_of_file fs h.owner no_file piece inside in
     let within = subst (IsWithin (all_ranges dump) h.owner piece) same (piece_within (all_ranges dump) h.owner piece piece h.is) in
     let at : found_by addr f.range ≡ found_by addr piece = omega (arith, within.starts, within.found) in
@@ -107,9 +107,9 @@ file_piece_inside dump file piece held h =
     let file_is : file ≡ f.file = h.file_is no_file in
     let some = h.is.some in
     let whole : f.range.offset + f.range.len ≤ length (file_bytes dump f.file) = ⊎_elim (λ (empty : f.range.len ≡ 0). absurd (omega (arith, within.ends, within.starts)))
-        (λ (inside : f.range.offset + f.range.len ≤ length (file_bytes dump f.file)). inside) here.inside in
+    (λ (inside : f.range.offset + f.range.len ≤ length (file_bytes dump f.file)). inside) here.inside in
     let few : f.range.offset + f.range.len ≤ 2 ^ 64 - 1 = ⊎_elim (λ (empty : f.range.len ≡ 0). absurd (omega (arith, within.ends, within.starts)))
-        (λ (fits : f.range.offset + f.range.len ≤ 2 ^ 64 - 1). fits) here.fits.found_ends in
+    (λ (fits : f.range.offset + f.range.len ≤ 2 ^ 64 - 1). fits) here.fits.found_ends in
     let part : piece.offset + piece.len ≤ length (file_bytes dump f.file) = omega (arith, within.starts, within.ends, within.found) in
     record {
       known = omega (arith, here.known, file_is);
@@ -161,8 +161,7 @@ stretch_bytes dump addr most file start size run held h is =
     let bytes = file_bytes dump file in
     let part = start + size - start in
     let inside = h.inside in
-    let count : length run ≡ size = ap length is ∙ omega (arith, length-take part (drop start bytes), length-drop start bytes) in
-    (
+    let count : length run ≡ size = ap length is ∙ omega (arith, length-take part (drop start bytes), length-drop start bytes) in (
       count,
       λ k less.
           byte_stands dump (addr + k) held ∙ ap (option_map (byte_in dump)) (h.each k (omega arith))

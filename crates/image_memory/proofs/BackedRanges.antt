@@ -120,7 +120,7 @@ numbered_region dump images s place number kept less =
     let size = length (slice_index_or (images_shown images) number []) in
     let size_is : size ≡ length shown = ap length named in
     let file : file_bytes dump (number + 1) ≡ shown =
-      ap (λ n. get_or (dump.core ∷ dump.images) n []) (add-one number) ∙ ap (λ is. get_or is number []) kept ∙ named in
+    ap (λ n. get_or (dump.core ∷ dump.images) n []) (add-one number) ∙ ap (λ is. get_or is number []) kept ∙ named in
     let at = byte_place place in
     let part = drop (min at (length shown)) shown in
     ap (λ n. (s.addr, take (min s.mem_size (n - min at n)) (drop (min at n) (file_bytes dump (number + 1))))) size_is
@@ -156,8 +156,9 @@ region_of_range dump images entries s kept =
     named None = elim (is_writable s) as (λ b. option_map (region_in dump) (cond b None None) ≡ cond b None None) [ true ↦ refl | false ↦ refl ]
     named (Some e) =
         elim (is_writable s) as (λ b. option_map (region_in dump) (cond b None (option_map (numbered_range images s e.place) (position (is_under e.name) images)))
-            ≡ cond b None (option_map (region_of_image s e.place) (first_under e.name images)))
+        ≡ cond b None (option_map (region_of_image s e.place) (first_under e.name images)))
         [ true ↦ refl | false ↦ region_found dump images s e.place e.name kept ]
+
     go : (o : Option Entry) → option_map (region_in dump) (range_by images s (option_map (λ e. e.name) o) (option_map (λ e. e.place) o))
         ≡ cond (is_writable s) None (option_and_then (region_by images s) o)
     go o = named o
@@ -190,7 +191,7 @@ image_held : (dump : Backed) (images : List (List ℕ)) (f : FileRange) → dump
 image_held dump images f kept h =
     let number : f.file ≡ suc h.number = h.file_is ∙ add-one h.number in
     let bytes : file_bytes dump f.file ≡ slice_index_or images h.number [] =
-      ap (λ n. get_or (dump.core ∷ dump.images) n []) number ∙ ap (λ is. get_or is h.number []) kept in
+    ap (λ n. get_or (dump.core ∷ dump.images) n []) number ∙ ap (λ is. get_or is h.number []) kept in
     record {
       known = omega (arith, h.known, number, ap length kept);
       inside = inr (omega (arith, h.inside, ap length bytes));
@@ -218,7 +219,7 @@ IsKept-of dump laid table files held are is of = record {
       let inside : k < length laid = omega (arith, slice_get_within table k piece get, ap length is, length-map laid entry_of) in
       let own = get_or laid k no_owned in
       let same : own.entry ≡ piece =
-        sym (get_or-map entry_of laid k no_owned piece inside) ∙ ap (λ es. get_or es k piece) (sym is) ∙ get_or_from_slice_get table k piece piece get in
+      sym (get_or-map entry_of laid k no_owned piece inside) ∙ ap (λ es. get_or es k piece) (sym is) ∙ get_or_from_slice_get table k piece piece get in
       let each = All-from_recursion (IsPieceAt (all_ranges dump)) laid are.each k no_owned inside in
       record {
         owner = own.owner;

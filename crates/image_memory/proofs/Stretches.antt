@@ -52,24 +52,24 @@ span_region bytes r addr held =
           let no : leb r.start addr ≡ false = lt-leb r.start addr before in
           rw no refl
       | inr from ↦ elim (cases_lt (addr - r.start) r.len) [
-          | inl within ↦
-              let yes : leb r.start addr ≡ true = le-leb r.start addr from in
-              let holds = spans_within addr r from (omega arith) in
-              let whole : r.offset + r.len ≤ length bytes = ⊎_elim (λ (empty : r.len ≡ 0). absurd (omega arith))
-                  (λ (inside : r.offset + r.len ≤ length bytes). inside) held in
-              let count : length (take r.len (drop r.offset bytes)) ≡ r.len = omega (arith, length-take r.len (drop r.offset bytes), length-drop r.offset bytes) in
-              let get : slice_get (take r.len (drop r.offset bytes)) (addr - r.start) ≡ Some (get_or bytes (found_by addr r) 0) =
-                slice_get-get_or (take r.len (drop r.offset bytes)) (addr - r.start) 0 (omega (arith, count))
-                ∙ ap (λ n. Some n) (get_or-take r.len (drop r.offset bytes) (addr - r.start) 0 within ∙ get_or-drop r.offset bytes (addr - r.start) 0) in
-              ap (λ b. cond b (slice_get (take r.len (drop r.offset bytes)) (addr - r.start)) None) yes ∙ get
-              ∙ ap (λ b. cond b (Some (get_or bytes (found_by addr r) 0)) None) (sym holds)
-          | inr past ↦
-              let none : slice_get (take r.len (drop r.offset bytes)) (addr - r.start) ≡ None =
-                slice_get_past (take r.len (drop r.offset bytes)) (addr - r.start) (omega (arith, length-take r.len (drop r.offset bytes))) in
-              let yes : leb r.start addr ≡ true = le-leb r.start addr from in
-              ap (λ b. cond b (slice_get (take r.len (drop r.offset bytes)) (addr - r.start)) None) yes ∙ none
-              ∙ ap (λ b. cond b (Some (get_or bytes (found_by addr r) 0)) None) (sym (beyond r past))
-        ]
+        | inl within ↦
+            let yes : leb r.start addr ≡ true = le-leb r.start addr from in
+            let holds = spans_within addr r from (omega arith) in
+            let whole : r.offset + r.len ≤ length bytes = ⊎_elim (λ (empty : r.len ≡ 0). absurd (omega arith))
+            (λ (inside : r.offset + r.len ≤ length bytes). inside) held in
+            let count : length (take r.len (drop r.offset bytes)) ≡ r.len = omega (arith, length-take r.len (drop r.offset bytes), length-drop r.offset bytes) in
+            let get : slice_get (take r.len (drop r.offset bytes)) (addr - r.start) ≡ Some (get_or bytes (found_by addr r) 0) =
+            slice_get-get_or (take r.len (drop r.offset bytes)) (addr - r.start) 0 (omega (arith, count))
+            ∙ ap (λ n. Some n) (get_or-take r.len (drop r.offset bytes) (addr - r.start) 0 within ∙ get_or-drop r.offset bytes (addr - r.start) 0) in
+            ap (λ b. cond b (slice_get (take r.len (drop r.offset bytes)) (addr - r.start)) None) yes ∙ get
+            ∙ ap (λ b. cond b (Some (get_or bytes (found_by addr r) 0)) None) (sym holds)
+        | inr past ↦
+            let none : slice_get (take r.len (drop r.offset bytes)) (addr - r.start) ≡ None =
+            slice_get_past (take r.len (drop r.offset bytes)) (addr - r.start) (omega (arith, length-take r.len (drop r.offset bytes))) in
+            let yes : leb r.start addr ≡ true = le-leb r.start addr from in
+            ap (λ b. cond b (slice_get (take r.len (drop r.offset bytes)) (addr - r.start)) None) yes ∙ none
+            ∙ ap (λ b. cond b (Some (get_or bytes (found_by addr r) 0)) None) (sym (beyond r past))
+      ]
     ]
   where
     beyond : (r : TableEntry) → r.len ≤ addr - r.start → spans addr r ≡ false

@@ -96,7 +96,7 @@ range_by images s name place = if is_writable s then None else range_named image
 
 abbrev pub image_range : Pushed → List Entry → Segment → Option FileRange
 image_range images entries s =
-  range_by images s (option_map (λ e. e.name) (entry_for entries s.addr)) (option_map (λ e. e.place) (entry_for entries s.addr))
+    range_by images s (option_map (λ e. e.name) (entry_for entries s.addr)) (option_map (λ e. e.place) (entry_for entries s.addr))
 
 -- which bytes of which images the segments of a core have, in table order
 pub record AreImageRanges (bytes : List ℕ) (images : Pushed) (ranges : List FileRange) : Type 0 where

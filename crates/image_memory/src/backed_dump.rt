@@ -54,15 +54,15 @@ impl Model for BackedDump {
     ghost Value = { Backed };
 
     ghost view = { λ d. record {
-        core = d.core;
-        images = map shown_bytes d.images.items;
-        ranges = d.ranges.items;
+      core = d.core;
+      images = map shown_bytes d.images.items;
+      ranges = d.ranges.items;
     } };
 
     ghost invariant = { λ d. IsKept (record {
-        core = d.core;
-        images = map shown_bytes d.images.items;
-        ranges = d.ranges.items;
+      core = d.core;
+      images = map shown_bytes d.images.items;
+      ranges = d.ranges.items;
     }) d.table d.files.items };
 }
 

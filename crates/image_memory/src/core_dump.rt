@@ -23,7 +23,7 @@ use crate::contents::{Contents, read_core};
 use crate::lookup::{look_up, lookup};
 use crate::maps::holds_addr;
 use crate::runs::{Runs, part};
-use crate::{ContainsAddr, CoreMapRange, FilePlace, DumpError, View, elf_prpsinfo, elf_prstatus};
+use crate::{ContainsAddr, CoreMapRange, DumpError, FilePlace, View, elf_prpsinfo, elf_prstatus};
 use elf64_core::{Machine, Segment, Steps, TableEntry};
 use process_memory::ProcessMemory;
 use std::alloc::Global;

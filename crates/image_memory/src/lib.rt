@@ -6,6 +6,8 @@
 #![tactic(auto)]
 
 mod backed_dump;
+#[cfg(test)]
+mod backed_tests;
 mod contents;
 mod core_dump;
 mod dump_error;

@@ -147,7 +147,7 @@ fn cores_that_are_cut_are_refused(rt: HostRuntime) -> Result<(), Fail> {
 }
 
 /// A note of a type.
-fn add_note(area: &mut Vec<u8>, kind: u32, desc: &[u8]) -> Result<(), AllocError>
+pub(crate) fn add_note(area: &mut Vec<u8>, kind: u32, desc: &[u8]) -> Result<(), AllocError>
     requires { length desc.now < 65536 }
 {
     area.extend_from_slice(&5u32.to_le_bytes())?;
@@ -174,7 +174,7 @@ fn table(alloc: Global, count: u64, starts: &[u64], names: &[u8]) -> Result<Vec<
 }
 
 /// The type of a file table.
-const FILES: u32 = 0x46494c45;
+pub(crate) const FILES: u32 = 0x46494c45;
 
 /// The core of three maps, at 0x10000, 0x400000, which is executable, and 0x500000, and of an area of notes.
 fn noted_core(alloc: Global, area: &[u8]) -> Result<Vec<u8>, AllocError> {

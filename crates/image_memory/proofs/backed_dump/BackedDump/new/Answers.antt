@@ -46,11 +46,11 @@ invariant_of-result-2 c =
     let before = (goal.at.invariant_of-result-2 c).After-deref-3 in
     let laid = c.in_ok-laid.laid.items in
     let shown : map shown_bytes c.in_ok-shares.field-0.items ≡ images_shown c.args.images.now =
-      ap (map shown_bytes) c.in_ok-shares.ensures ∙ map_twice shown_bytes (λ image. image.1) c.args.images.now in
+    ap (map shown_bytes) c.in_ok-shares.ensures ∙ map_twice shown_bytes (λ image. image.1) c.args.images.now in
     let is = c.in_ok-table.ensures ∙ ap (map entry_of) c.deref-4.ensures.value in
     let are = subst (λ rs. AreLaid rs laid) (addresses_are before) c.in_ok-laid.ensures in
     let of = subst (λ ps. AreFilesOf (file_ranges (so_far before)) ps c.in_ok-files.files.items) c.deref-5.ensures.value
-        (subst (λ fs. AreFilesOf fs c.deref-5.result.now c.in_ok-files.files.items) (c.deref-6.ensures.value ∙ all_is before) c.in_ok-files.ensures) in
+    (subst (λ fs. AreFilesOf fs c.deref-5.result.now c.in_ok-files.files.items) (c.deref-6.ensures.value ∙ all_is before) c.in_ok-files.ensures) in
     let kept = IsKept-of (so_far before) laid c.in_ok-table.table c.in_ok-files.files.items (held before) are is of in
     subst (λ is. IsKept (record { core = c.core.inside.bytes.items; images = is; ranges = c.in_ok-ranges.ranges.items }) c.in_ok-table.table c.in_ok-files.files.items)
     (sym shown) kept
@@ -58,7 +58,7 @@ invariant_of-result-2 c =
 pub returns-clause-kept : goal.returns-clause-kept
 returns-clause-kept c =
     let shown : map shown_bytes c.in_ok-shares.field-0.items ≡ images_shown c.args.images.now =
-      ap (map shown_bytes) c.in_ok-shares.ensures ∙ map_twice shown_bytes (λ image. image.1) c.args.images.now in
+    ap (map shown_bytes) c.in_ok-shares.ensures ∙ map_twice shown_bytes (λ image. image.1) c.args.images.now in
     record { core_is = c.core.view_is; images_are = shown; ranges_are = c.in_ok-ranges.ensures.are }
 
 pub returns-clause-memory : goal.returns-clause-memory

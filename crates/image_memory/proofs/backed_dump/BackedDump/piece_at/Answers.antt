@@ -22,5 +22,5 @@ returns-clause-piece c =
     let hit = c.in_ok-hit.hit in
     let piece = kept.files_are hit.number hit.entry c.in_ok-hit.ensures.hit.is in
     let less : hit.number < length c.self.inside.files.items =
-      omega (arith, kept.counted, slice_get_within c.self.inside.table hit.number hit.entry c.in_ok-hit.ensures.hit.is) in
+    omega (arith, kept.counted, slice_get_within c.self.inside.table hit.number hit.entry c.in_ok-hit.ensures.hit.is) in
     subst (λ f. IsFilePiece c.args.self.now f hit.entry) (sym (get_or_read c.self.inside.files.items hit.number c.index.result.now less c.index.ensures 0)) piece
