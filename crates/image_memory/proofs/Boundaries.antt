@@ -46,18 +46,18 @@ from_on-one_fewer low high x [] le less is = absurd is
 from_on-one_fewer low high x (y ∷ ys) le less is =
     ⊎_elim
     (λ (here : y ≡ x).
-      let no : leb high y ≡ false = lt-leb high y (omega arith) in
-      let yes : leb low y ≡ true = le-leb low y (omega arith) in
-      rw (no, yes) (omega (arith, from_on-fewer low high ys (omega arith))))
+    let no : leb high y ≡ false = lt-leb high y (omega arith) in
+    let yes : leb low y ≡ true = le-leb low y (omega arith) in
+    rw (no, yes) (omega (arith, from_on-fewer low high ys (omega arith))))
     (λ (further : IsIn x ys).
-      let rest = from_on-one_fewer low high x ys le less further in
-      elim (cases_lt y high) [
-        | inl below ↦ let no : leb high y ≡ false = lt-leb high y below in rw no (omega (arith, rest))
-        | inr over ↦
-            let yes : leb high y ≡ true = le-leb high y over in
-            let also : leb low y ≡ true = le-leb low y (omega arith) in
-            rw (yes, also) (omega (arith, rest))
-      ])
+    let rest = from_on-one_fewer low high x ys le less further in
+    elim (cases_lt y high) [
+      | inl below ↦ let no : leb high y ≡ false = lt-leb high y below in rw no (omega (arith, rest))
+      | inr over ↦
+          let yes : leb high y ≡ true = le-leb high y over in
+          let also : leb low y ≡ true = le-leb low y (omega arith) in
+          rw (yes, also) (omega (arith, rest))
+    ])
     is
 
 abbrev start_of : TableEntry → ℕ
@@ -119,24 +119,24 @@ piece_starts ranges owner piece h =
     ⊎_elim
     (λ (zero : piece.start ≡ 0). starts_at ranges piece.start owner piece h.owned (omega (arith, within.starts)))
     (λ (other : owner_of ranges (piece.start - 1) ≢ owner).
-      elim (cases_eq own.start piece.start) [
-        | inl same ↦ starts_at ranges piece.start owner piece h.owned same
-        | inr differs ↦
-            let some : own.start < piece.start = omega (arith, within.starts) in
-            let held : spans (piece.start - 1) own ≡ true = spans_within (piece.start - 1) own (omega arith) (omega (arith, within.ends, h.some)) in
-            let first : owner_of ranges (piece.start - 1) ≤ owner = first_below ranges (piece.start - 1) owner piece held h.owned in
-            let k = owner_of ranges (piece.start - 1) in
-            let before : k < owner = omega arith in
-            let inside : k < length ranges = omega (arith, h.owned) in
-            let last = spans_from (piece.start - 1) (get_or ranges k piece) (owner_spans ranges (piece.start - 1) k piece refl inside) in
-            let here = h.each piece.start (omega arith) (omega (arith, h.some)) in
-            let past : spans piece.start (get_or ranges k piece) ≡ false = fails_before_first (spans piece.start) ranges k piece (omega arith) in
-            ends_at ranges piece.start k piece inside
-                (elim (cases_lt piece.start (end (get_or ranges k piece))) [
-                  | inl less ↦ absurd (differ past (spans_within piece.start (get_or ranges k piece) (omega (arith, last.0)) less))
-                  | inr le ↦ omega (arith, last.1)
-                ])
-      ])
+    elim (cases_eq own.start piece.start) [
+      | inl same ↦ starts_at ranges piece.start owner piece h.owned same
+      | inr differs ↦
+          let some : own.start < piece.start = omega (arith, within.starts) in
+          let held : spans (piece.start - 1) own ≡ true = spans_within (piece.start - 1) own (omega arith) (omega (arith, within.ends, h.some)) in
+          let first : owner_of ranges (piece.start - 1) ≤ owner = first_below ranges (piece.start - 1) owner piece held h.owned in
+          let k = owner_of ranges (piece.start - 1) in
+          let before : k < owner = omega arith in
+          let inside : k < length ranges = omega (arith, h.owned) in
+          let last = spans_from (piece.start - 1) (get_or ranges k piece) (owner_spans ranges (piece.start - 1) k piece refl inside) in
+          let here = h.each piece.start (omega arith) (omega (arith, h.some)) in
+          let past : spans piece.start (get_or ranges k piece) ≡ false = fails_before_first (spans piece.start) ranges k piece (omega arith) in
+          ends_at ranges piece.start k piece inside
+          (elim (cases_lt piece.start (end (get_or ranges k piece))) [
+            | inl less ↦ absurd (differ past (spans_within piece.start (get_or ranges k piece) (omega (arith, last.0)) less))
+            | inr le ↦ omega (arith, last.1)
+          ])
+    ])
     h.begins
   where
     differ : {b : Bool} → b ≡ false → b ≡ true → ⊥
@@ -151,7 +151,7 @@ pieces_few ranges pieces h =
     omega (
       arith,
       fewer 0 pieces (boundaries ranges) h.ascend (λ k d less. omega arith)
-      (All-weaker (IsPiece ranges) (StartsIn (boundaries ranges)) (piece_starts_in ranges) pieces h.each),
+          (All-weaker (IsPiece ranges) (StartsIn (boundaries ranges)) (piece_starts_in ranges) pieces h.each),
       from_on-all 0 (boundaries ranges),
       length-append (map start_of ranges) (map end ranges),
       length-map ranges start_of,
@@ -176,8 +176,8 @@ laid_any addr (p ∷ ps) any =
     ⊎_elim
     (λ (here : Holds addr p). ap (λ b. b || list_any (spans addr) (map entry_of ps)) (spans_within addr p.entry here.0 here.1))
     (λ (further : AnyHolds addr ps).
-      let rest = laid_any addr ps further in
-      elim (spans addr p.entry) as (λ b. (b || list_any (spans addr) (map entry_of ps)) ≡ true) [ true ↦ refl | false ↦ rest ])
+    let rest = laid_any addr ps further in
+    elim (spans addr p.entry) as (λ b. (b || list_any (spans addr) (map entry_of ps)) ≡ true) [ true ↦ refl | false ↦ rest ])
     any
 
 laid_spans : (ranges : List TableEntry) (ps : List Owned) → HaveRoom 0 ps → AllByRecursion (IsPieceAt ranges) ps

@@ -87,5 +87,6 @@ spans_none table addr low high le under over =
   where
     before : (r : TableEntry) → r.start + r.len ≤ addr → spans addr r ≡ false
     before r h = grind (arith, nat_tests)
+
     after : (r : TableEntry) → addr < r.start → spans addr r ≡ false
     after r h = grind (arith, nat_tests)

@@ -26,6 +26,7 @@ pieces_any ranges pieces addr are =
     same true b f g = sym (f refl)
     same false true f g = g refl
     same false false f g = refl
+
     one : list_any (spans addr) pieces ≡ true → list_any (spans addr) ranges ≡ true
     one h =
         let any = Any-from_list_any (spans addr) pieces h in
@@ -34,6 +35,7 @@ pieces_any ranges pieces addr are =
         let from = spans_from addr piece any.4 in
         let owner = is.1.each addr from.0 from.1 in
         list_any_at (spans addr) ranges is.0 piece is.1.owned (owner_spans ranges addr is.0 piece owner is.1.owned)
+
     other : list_any (spans addr) ranges ≡ true → list_any (spans addr) pieces ≡ true
     other h =
         let any = Any-from_list_any (spans addr) ranges h in
@@ -79,8 +81,10 @@ past_more m addr past starts over =
   where
     inside : m.segment.addr ≤ addr → addr < m.segment.addr + m.segment.mem_size → holds_addr addr m.segment ≡ true
     inside from less = grind (arith, nat_tests)
+
     outside : m.segment.addr + m.segment.mem_size ≤ addr → holds_addr addr m.segment ≡ false
     outside le = grind (arith, nat_tests)
+
     held : past ≤ addr - last_addr → ltb (addr - last_addr) (max (past_of m) past) ≡ holds_addr addr m.segment
     held none = elim (cases_lt addr (m.segment.addr + m.segment.mem_size)) [
       | inl less ↦ lt-ltb _ _ (omega arith) ∙ sym (inside (omega arith) less)

@@ -1,14 +1,16 @@
 -- The notes of segments so far, and that a core has one list of notes at most.
 use Rattle.std.proofs.Common.{◌≡◌, ℕ, List, [], ◌∷◌, ◌++◌, refl, sym, ap, subst, ◌∙◌, append_assoc}
-use Rattle.std.specs.Prelude.{Option, filter, map, filter_map}
+use Rattle.std.specs.Prelude.{Option, Some, None, filter, filter_map, is_some, map, option_and_then, option_map, slice_get}
+use Rattle.std.proofs.lemmas.Option.{slice_get-map}
 use Rattle.std.proofs.lemmas.List.{append-nil}
 use Rattle.elf64_core.specs.Notes.{Noted, AreNotes, AreNoNotes, bytes_of_range}
 use Rattle.elf64_core.specs.declared.segment.Segment.{Segment}
 use Rattle.elf64_core.proofs.Notes.{AreNotes-once}
 use Rattle.image_memory.specs.FileTables.{Entry}
-use Rattle.image_memory.specs.Maps.{AreMaps, map_by}
+use Rattle.image_memory.specs.Maps.{AreMaps, ArePlaces, IsFilePlace, entry_for, is_named, map_by, place_by}
 use Rattle.image_memory.specs.Notes.{AreCoreNotes, AreStatuses, IsProcess, NotesOf, TablesSay, is_table, last_process, note_segments, status_of}
 use Rattle.image_memory.specs.Pieces.{loads_of}
+use Rattle.image_memory.specs.declared.file_table.FilePlace.{FilePlace}
 use Rattle.image_memory.specs.declared.maps.CoreMapRange.{CoreMapRange}
 use Rattle.image_memory.specs.declared.records.elf_prstatus.{elf_prstatus}
 use Rattle.image_memory.specs.declared.records.elf_prpsinfo.{elf_prpsinfo}
@@ -62,3 +64,45 @@ pub IsProcess-once : (bytes : List ℕ) (one other : Option elf_prpsinfo) → Is
     → one ≡ other
 IsProcess-once bytes one other h k =
     h.says ∙ ap last_process (notes_same bytes h.notes k.notes h.entries k.entries h.found k.found) ∙ sym k.says
+
+then-map : {A B C : Type 0} (h : B → Option C) (f : A → B) (o : Option A) → option_and_then h (option_map f o) ≡ option_and_then (λ x. h (f x)) o
+then-map h f None = refl
+then-map h f (Some x) = refl
+
+pub IsFilePlace-of : (bytes : List ℕ) (index : ℕ) (places : List (Option FilePlace)) → ArePlaces bytes places
+    → IsFilePlace bytes index (option_and_then (λ place. place) (slice_get places index))
+IsFilePlace-of bytes index places h = record {
+  notes = h.notes;
+  entries = h.entries;
+  found = h.found;
+  says = ap (λ ps. option_and_then (λ place. place) (slice_get ps index)) h.says
+      ∙ ap (option_and_then (λ place. place)) (slice_get-map (place_by h.entries) (loads_of bytes) index)
+      ∙ then-map (λ place. place) (place_by h.entries) (slice_get (loads_of bytes) index);
+}
+
+pub IsFilePlace-once : (bytes : List ℕ) (index : ℕ) (one other : Option FilePlace) → IsFilePlace bytes index one → IsFilePlace bytes index other
+    → one ≡ other
+IsFilePlace-once bytes index one other h k =
+    h.says ∙ ap (λ es. option_and_then (place_by es) (slice_get (loads_of bytes) index)) (entries_same bytes h.notes k.notes h.entries k.entries h.found k.found)
+    ∙ sym k.says
+
+-- a map has a place exactly where it has a name
+both_or_none : {A B C : Type 0} (f : A → B) (g : A → C) (o : Option A) → is_some (option_map f o) ≡ is_some (option_map g o)
+both_or_none f g None = refl
+both_or_none f g (Some x) = refl
+
+placed_named : (entries : List Entry) (o : Option Segment) → is_some (option_and_then (place_by entries) o)
+    ≡ is_some (option_and_then (λ s. (map_by entries s).pathname) o)
+placed_named entries None = refl
+placed_named entries (Some s) = both_or_none (λ e. e.place) (λ e. e.name) (entry_for entries s.addr)
+
+pub place_is_named : (bytes : List ℕ) (index : ℕ) (place : Option FilePlace) (maps : List CoreMapRange) → IsFilePlace bytes index place → AreMaps bytes maps
+    → is_some place ≡ is_named maps index
+place_is_named bytes index place maps h m =
+    let same = entries_same bytes h.notes m.notes h.entries m.entries h.found m.found in
+    let loads = loads_of bytes in
+    ap is_some (h.says ∙ ap (λ es. option_and_then (place_by es) (slice_get loads index)) same)
+    ∙ placed_named m.entries (slice_get loads index)
+    ∙ ap is_some (sym (ap (λ ms. option_and_then (λ n. n.pathname) (slice_get ms index)) m.says
+    ∙ ap (option_and_then (λ n. n.pathname)) (slice_get-map (map_by m.entries) loads index)
+    ∙ then-map (λ n. n.pathname) (map_by m.entries) (slice_get loads index)))

@@ -25,7 +25,7 @@ first-front : {X : Type 0} (p : X → Bool) (xs ys : List X) → position_or_len
 first-front p [] ys less = absurd (omega arith)
 first-front p (x ∷ xs) ys less =
     elim (p x) as (λ b. cond (not b) (1 + position_or_len p xs) 0 < suc (length xs)
-        → cond (not b) (1 + position_or_len p (xs ++ ys)) 0 ≡ cond (not b) (1 + position_or_len p xs) 0) [
+    → cond (not b) (1 + position_or_len p (xs ++ ys)) 0 ≡ cond (not b) (1 + position_or_len p xs) 0) [
       | true ↦ λ h. refl
       | false ↦ λ h. ap (λ n. 1 + n) (first-front p xs ys (omega arith))
     ] less
@@ -35,7 +35,7 @@ first-back : {X : Type 0} (p : X → Bool) (xs ys : List X) → length xs ≤ po
 first-back p [] ys le = omega arith
 first-back p (x ∷ xs) ys le =
     elim (p x) as (λ b. suc (length xs) ≤ cond (not b) (1 + position_or_len p xs) 0
-        → cond (not b) (1 + position_or_len p (xs ++ ys)) 0 ≡ suc (length xs) + position_or_len p ys) [
+    → cond (not b) (1 + position_or_len p (xs ++ ys)) 0 ≡ suc (length xs) + position_or_len p ys) [
       | true ↦ λ h. absurd (omega arith)
       | false ↦ λ h. omega (arith, first-back p xs ys (omega arith))
     ] le
@@ -126,10 +126,10 @@ piece_room ranges shift p fits few h =
     record {
       ends = omega (arith, range.ends, within.ends);
       found_ends = ⊎_elim
-      (λ (empty : (get_or ranges p.owner p.entry).len ≡ 0). absurd (omega (arith, h.some, within.ends, within.starts)))
-      (λ (ends : (get_or ranges p.owner p.entry).offset + (get_or ranges p.owner p.entry).len ≤ 2 ^ 64 - 1).
-        omega (arith, within.ends, within.starts, within.found))
-      range.found_ends;
+          (λ (empty : (get_or ranges p.owner p.entry).len ≡ 0). absurd (omega (arith, h.some, within.ends, within.starts)))
+          (λ (ends : (get_or ranges p.owner p.entry).offset + (get_or ranges p.owner p.entry).len ≤ 2 ^ 64 - 1).
+          omega (arith, within.ends, within.starts, within.found))
+          range.found_ends;
       owner_fits = omega (arith, h.owned);
     }
 
@@ -176,11 +176,13 @@ part_is low high shift p q is =
   where
     start : ℕ
     start = max p.entry.start low
+
     part : Owned
     part = record {
       entry = record { start = max p.entry.start low; len = min (end_of p) high - max p.entry.start low; offset = found_by (max p.entry.start low) p.entry };
       owner = p.owner + shift;
     }
+
     go : (b : Bool) → leb (min (end_of p) high) (max p.entry.start low) ≡ b → cond b None (Some part) ≡ Some q → IsPart low high shift p q
     go true e h = absurd (cc)
     go false e h =
@@ -205,10 +207,10 @@ part_piece xs ys low high p q gap ends h is =
     let n = length xs in
     let part = part_is low high n p q is in
     let whose = λ (addr : ℕ) (le : q.entry.start ≤ addr) (less : addr < end_of q).
-        let is : owner_of ys addr ≡ p.owner = h.each addr (omega (arith, part.starts)) (omega (arith, part.ends)) in
-        let free : n ≤ owner_of xs addr = gap.free addr (omega (arith, part.starts)) (omega (arith, part.ends)) in
-        let both : owner_of (xs ++ ys) addr ≡ q.owner = omega (arith, owner-back xs ys addr free, is, part.owner) in
-        both in
+    let is : owner_of ys addr ≡ p.owner = h.each addr (omega (arith, part.starts)) (omega (arith, part.ends)) in
+    let free : n ≤ owner_of xs addr = gap.free addr (omega (arith, part.starts)) (omega (arith, part.ends)) in
+    let both : owner_of (xs ++ ys) addr ≡ q.owner = omega (arith, owner-back xs ys addr free, is, part.owner) in
+    both in
     let only = λ (addr : ℕ) (is : owner_of (xs ++ ys) addr ≡ q.owner). owner-back_only xs ys addr p.owner (is ∙ part.owner) in
     let some : 0 < q.entry.len = omega (arith, part.some, part.starts, part.ends) in
     record {
@@ -220,9 +222,9 @@ part_piece xs ys low high p q gap ends h is =
             let at : q.entry.start ≡ low = omega (arith, part.starts) in
             ⊎_elim (λ (zero : low ≡ 0). absurd (omega arith))
             (λ (taken : owner_of xs (low - 1) < n). inr (λ is.
-                let free = (only (q.entry.start - 1) is).1 in
-                let taken' : owner_of xs (q.entry.start - 1) < n = subst (λ a. owner_of xs (a - 1) < n) (sym at) taken in
-                absurd (omega arith)))
+            let free = (only (q.entry.start - 1) is).1 in
+            let taken' : owner_of xs (q.entry.start - 1) < n = subst (λ a. owner_of xs (a - 1) < n) (sym at) taken in
+            absurd (omega arith)))
             gap.after
         | inr from ↦
             let at : q.entry.start ≡ p.entry.start = omega (arith, part.starts) in
@@ -235,9 +237,9 @@ part_piece xs ys low high p q gap ends h is =
             let at : end_of q ≡ high = omega (arith, part.ends) in
             ⊎_elim (λ (last : high ≡ 2 ^ 64 - 1). absurd (omega arith))
             (λ (taken : owner_of xs high < n).
-                let free = (only (end_of q) is).1 in
-                let taken' : owner_of xs (end_of q) < n = subst (λ a. owner_of xs a < n) (sym at) taken in
-                absurd (omega arith))
+            let free = (only (end_of q) is).1 in
+            let taken' : owner_of xs (end_of q) < n = subst (λ a. owner_of xs a < n) (sym at) taken in
+            absurd (omega arith))
             gap.before
         | inr within ↦
             let at : end_of q ≡ end_of p = omega (arith, part.ends) in
@@ -332,8 +334,7 @@ parts_rise low high shift from least (p ∷ ps) rise le =
         → part_between low high shift p ≡ o → Rises least (cons_option o (parts_between low high shift ps))
     go rest None e = rest least (⊎_elim (λ l. inl l) (λ l. inr (omega (arith, rise.0))) le)
     go rest (Some q) e =
-        let part = part_is low high shift p q e in
-        (
+        let part = part_is low high shift p q e in (
           ⊎_elim (λ l. omega (arith, part.starts)) (λ l. omega (arith, part.starts, rise.0)) le,
           rest (end_of q) (inr (omega (arith, part.ends))),
         )
@@ -389,8 +390,10 @@ overlaid_holds addr shift low (top ∷ over) under le rise room any =
   where
     parts : List Owned
     parts = parts_between low top.entry.start shift under
+
     rest : List Owned
     rest = top ∷ overlaid shift (end_of top) over under
+
     go : (end_of top ≤ addr → AnyHolds addr over ⊎ AnyHolds addr under → AnyHolds addr (overlaid shift (end_of top) over under))
         → (addr < top.entry.start) ⊎ (top.entry.start ≤ addr) → (addr < end_of top) ⊎ (end_of top ≤ addr)
         → AnyHolds addr (top ∷ over) ⊎ AnyHolds addr under → AnyHolds addr (parts ++ rest)

@@ -19,10 +19,10 @@ use Rattle.image_memory.specs.Pieces.{loads_of, memory_of, range_of, ranges_of, 
 use Rattle.image_memory.specs.Places.{IsHeld, IsStretch, holds_byte, place_in, stands_at}
 use Rattle.image_memory.proofs.Held.{held_loads}
 use Rattle.image_memory.proofs.Lists.{find-map}
-use Rattle.image_memory.proofs.Overlays.{IsWithin, find_none, piece_found, piece_within, spans_from}
+use Rattle.image_memory.proofs.Overlays.{IsWithin, find_none, piece_found, piece_within, spans_from, spans_within}
 
 -- the segments' ranges are in bounds
-held_range : (bytes : List ℕ) (s : Segment) → length bytes ≤ 2 ^ 64 - 1 → IsHeld bytes s → IsRange (range_of s)
+pub held_range : (bytes : List ℕ) (s : Segment) → length bytes ≤ 2 ^ 64 - 1 → IsHeld bytes s → IsRange (range_of s)
 held_range bytes s few h = record {
   ends = omega (arith, h.ends);
   found_ends = ⊎_elim (λ (empty : s.file_size ≡ 0). inl (omega arith))
@@ -43,37 +43,43 @@ place_found loads addr =
     option_map-map range_of (found_by addr) (find (holds_byte addr) loads)
     ∙ ap (option_map (found_by addr)) (sym (find-map (spans addr) range_of loads))
 
--- the byte that a segment has at an address
+-- the byte that a range of a file has at an address
+pub span_region : (bytes : List ℕ) (r : TableEntry) (addr : ℕ) → (r.len ≡ 0) ⊎ (r.offset + r.len ≤ length bytes)
+    → region_byte (r.start, take r.len (drop r.offset bytes)) addr ≡ cond (spans addr r) (Some (get_or bytes (found_by addr r) 0)) None
+span_region bytes r addr held =
+    elim (cases_lt addr r.start) [
+      | inl before ↦
+          let no : leb r.start addr ≡ false = lt-leb r.start addr before in
+          rw no refl
+      | inr from ↦ elim (cases_lt (addr - r.start) r.len) [
+        | inl within ↦
+            let yes : leb r.start addr ≡ true = le-leb r.start addr from in
+            let holds = spans_within addr r from (omega arith) in
+            let whole : r.offset + r.len ≤ length bytes = ⊎_elim (λ (empty : r.len ≡ 0). absurd (omega arith))
+            (λ (inside : r.offset + r.len ≤ length bytes). inside) held in
+            let count : length (take r.len (drop r.offset bytes)) ≡ r.len = omega (arith, length-take r.len (drop r.offset bytes), length-drop r.offset bytes) in
+            let get : slice_get (take r.len (drop r.offset bytes)) (addr - r.start) ≡ Some (get_or bytes (found_by addr r) 0) =
+            slice_get-get_or (take r.len (drop r.offset bytes)) (addr - r.start) 0 (omega (arith, count))
+            ∙ ap (λ n. Some n) (get_or-take r.len (drop r.offset bytes) (addr - r.start) 0 within ∙ get_or-drop r.offset bytes (addr - r.start) 0) in
+            ap (λ b. cond b (slice_get (take r.len (drop r.offset bytes)) (addr - r.start)) None) yes ∙ get
+            ∙ ap (λ b. cond b (Some (get_or bytes (found_by addr r) 0)) None) (sym holds)
+        | inr past ↦
+            let none : slice_get (take r.len (drop r.offset bytes)) (addr - r.start) ≡ None =
+            slice_get_past (take r.len (drop r.offset bytes)) (addr - r.start) (omega (arith, length-take r.len (drop r.offset bytes))) in
+            let yes : leb r.start addr ≡ true = le-leb r.start addr from in
+            ap (λ b. cond b (slice_get (take r.len (drop r.offset bytes)) (addr - r.start)) None) yes ∙ none
+            ∙ ap (λ b. cond b (Some (get_or bytes (found_by addr r) 0)) None) (sym (beyond r past))
+      ]
+    ]
+  where
+    beyond : (r : TableEntry) → r.len ≤ addr - r.start → spans addr r ≡ false
+    beyond r past = grind (arith, nat_tests)
+
 region_at : (bytes : List ℕ) (s : Segment) (addr : ℕ) → IsHeld bytes s
     → region_byte (segment_region bytes s) addr ≡ cond (holds_byte addr s) (Some (get_or bytes (stands_at addr s) 0)) None
 region_at bytes s addr held =
-    elim (cases_lt addr s.addr) [
-      | inl before ↦
-          let no : leb s.addr addr ≡ false = lt-leb s.addr addr before in
-          rw no refl
-      | inr from ↦ elim (cases_lt (addr - s.addr) (min s.file_size s.mem_size)) [
-          | inl within ↦
-              let yes : leb s.addr addr ≡ true = le-leb s.addr addr from in
-              let holds : holds_byte addr s ≡ true = grind (arith, nat_tests) in
-              let whole : s.offset + s.file_size ≤ length bytes = ⊎_elim (λ (empty : s.file_size ≡ 0). absurd (omega arith))
-                  (λ (inside : s.offset + s.file_size ≤ length bytes). inside) held.inside in
-              let part = min s.file_size s.mem_size in
-              let count : length (take part (drop s.offset bytes)) ≡ part = omega (arith, length-take part (drop s.offset bytes), length-drop s.offset bytes) in
-              let get : slice_get (take part (drop s.offset bytes)) (addr - s.addr) ≡ Some (get_or bytes (stands_at addr s) 0) =
-                slice_get-get_or (take part (drop s.offset bytes)) (addr - s.addr) 0 (omega (arith, count))
-                ∙ ap (λ n. Some n) (get_or-take part (drop s.offset bytes) (addr - s.addr) 0 within ∙ get_or-drop s.offset bytes (addr - s.addr) 0) in
-              ap (λ b. cond b (slice_get (take part (drop s.offset bytes)) (addr - s.addr)) None) yes ∙ get
-              ∙ ap (λ b. cond b (Some (get_or bytes (stands_at addr s) 0)) None) (sym holds)
-          | inr past ↦
-              let part = min s.file_size s.mem_size in
-              let none : slice_get (take part (drop s.offset bytes)) (addr - s.addr) ≡ None =
-                slice_get_past (take part (drop s.offset bytes)) (addr - s.addr) (omega (arith, length-take part (drop s.offset bytes))) in
-              let yes : leb s.addr addr ≡ true = le-leb s.addr addr from in
-              let no : holds_byte addr s ≡ false = grind (arith, nat_tests) in
-              ap (λ b. cond b (slice_get (take part (drop s.offset bytes)) (addr - s.addr)) None) yes ∙ none
-              ∙ ap (λ b. cond b (Some (get_or bytes (stands_at addr s) 0)) None) (sym no)
-        ]
-    ]
+    span_region bytes (range_of s) addr
+    (⊎_elim (λ (empty : s.file_size ≡ 0). inl (omega arith)) (λ (inside : s.offset + s.file_size ≤ length bytes). inr (omega arith)) held.inside)
 
 -- the byte at an address is the one that stands there
 abbrev byte_there : List ℕ → ℕ → ℕ
@@ -86,9 +92,9 @@ first_there bytes (s ∷ loads) addr held =
     ap (λ o. first_of o (first_byte (map (segment_region bytes) loads) addr)) (region_at bytes s addr (All-head (IsHeld bytes) s loads held))
     ∙ ap (first_of (cond (holds_byte addr s) (Some (get_or bytes (stands_at addr s) 0)) None)) (first_there bytes loads addr (All-tail (IsHeld bytes) s loads held))
     ∙ elim (holds_byte addr s) as (λ b. first_of (cond b (Some (get_or bytes (stands_at addr s) 0)) None) (option_map (byte_there bytes) (place_in loads addr))
-        ≡ option_map (byte_there bytes) (option_map (stands_at addr) (cond b (Some s) (find (holds_byte addr) loads)))) [ true ↦ refl | false ↦ refl ]
+    ≡ option_map (byte_there bytes) (option_map (stands_at addr) (cond b (Some s) (find (holds_byte addr) loads)))) [ true ↦ refl | false ↦ refl ]
 
-found_below : (ranges : List TableEntry) (addr : ℕ) → All IsRange ranges → 2 ^ 64 - 1 ≤ addr → find (spans addr) ranges ≡ None
+pub found_below : (ranges : List TableEntry) (addr : ℕ) → All IsRange ranges → 2 ^ 64 - 1 ≤ addr → find (spans addr) ranges ≡ None
 found_below [] addr fits high = refl
 found_below (r ∷ ranges) addr fits high =
     let here : IsRange r = All-head IsRange r ranges fits in
@@ -124,7 +130,7 @@ piece_inside bytes piece h is =
     let some = is.1.some in
     ⊎_elim (λ (empty : s.file_size ≡ 0). absurd (omega (arith, within.ends, within.starts)))
     (λ (inside : s.offset + s.file_size ≤ length bytes).
-      (omega (arith, within.ends, within.starts, within.found), omega (arith, held.ends, within.ends)))
+    (omega (arith, within.ends, within.starts, within.found), omega (arith, held.ends, within.ends)))
     held.inside
 
 -- where the bytes from an address of a piece on stand
@@ -203,8 +209,7 @@ rest_bytes bytes piece addr rest few h is holds rest_is =
     let inside = piece_inside bytes piece h is in
     let start = found_by addr piece in
     let size = piece.offset + piece.len - start in
-    let count : length rest ≡ size = ap length rest_is ∙ omega (arith, length-take size (drop start bytes), length-drop start bytes, inside.0) in
-    (
+    let count : length rest ≡ size = ap length rest_is ∙ omega (arith, length-take size (drop start bytes), length-drop start bytes, inside.0) in (
       omega (arith, from.0, from.1),
       λ k less.
           byte_found_at bytes (addr + k) few h

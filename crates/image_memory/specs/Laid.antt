@@ -16,14 +16,14 @@ end_of p = p.entry.start + p.entry.len
 -- the part of a piece from one address on up to another, if there is any; its owner's number is so much higher
 unfoldable pub part_between : (low high shift : ℕ) → Owned → Option Owned
 part_between low high shift p =
-  if nat_le (min (end_of p) high) (max p.entry.start low) then None else Some (record {
-    entry = record {
-      start = max p.entry.start low;
-      len = min (end_of p) high - max p.entry.start low;
-      offset = found_by (max p.entry.start low) p.entry;
-    };
-    owner = p.owner + shift;
-  })
+    if nat_le (min (end_of p) high) (max p.entry.start low) then None else Some (record {
+      entry = record {
+        start = max p.entry.start low;
+        len = min (end_of p) high - max p.entry.start low;
+        offset = found_by (max p.entry.start low) p.entry;
+      };
+      owner = p.owner + shift;
+    })
 
 -- the parts of pieces that lie there
 abbrev pub parts_between : (low high shift : ℕ) → List Owned → List Owned
@@ -33,7 +33,7 @@ parts_between low high shift pieces = filter_map (part_between low high shift) p
 abbrev pub overlaid : (shift low : ℕ) → List Owned → List Owned → List Owned
 overlaid shift low [] under = parts_between low (2 ^ 64 - 1) shift under
 overlaid shift low (top ∷ over) under =
-  parts_between low top.entry.start shift under ++ (top ∷ overlaid shift (end_of top) over under)
+    parts_between low top.entry.start shift under ++ (top ∷ overlaid shift (end_of top) over under)
 
 -- pieces that ascend from an address on
 abbrev pub Rises : ℕ → List Owned → Type 0

@@ -1,7 +1,7 @@
 -- The maps of a core: its load segments in table order, each with its file's name. The name and the place in the
 -- file are those of the entry that comes last of the entries, of all file tables in order, that start at the
 -- segment's address; that the last one counts is this project's own rule.
-use Rattle.std.specs.Prelude.{◌≡◌, ℕ, ◌+◌, nat_eq, nat_le, nat_lt, ◌&&◌, Bool, List, map, reverse, find, Option, option_map}
+use Rattle.std.specs.Prelude.{◌≡◌, ℕ, ◌+◌, nat_eq, nat_le, nat_lt, ◌&&◌, Bool, List, map, reverse, find, Option, is_some, option_and_then, option_map, slice_get}
 use Rattle.std.specs.List.{list_any}
 use Rattle.elf64_core.specs.Notes.{Noted}
 use Rattle.elf64_core.specs.declared.segment.Segment.{Segment}
@@ -46,6 +46,17 @@ pub record ArePlaces (bytes : List ℕ) (places : List (Option FilePlace)) : Typ
   pub entries : List Entry
   pub found : AreCoreNotes bytes notes entries
   pub says : places ≡ map (place_by entries) (loads_of bytes)
+
+-- where the file of the map of a number is mapped from, if there is such a map and it has a name
+pub record IsFilePlace (bytes : List ℕ) (index : ℕ) (place : Option FilePlace) : Type 0 where
+  pub notes : List Noted
+  pub entries : List Entry
+  pub found : AreCoreNotes bytes notes entries
+  pub says : place ≡ option_and_then (place_by entries) (slice_get (loads_of bytes) index)
+
+-- whether the map of a number has a name
+abbrev pub is_named : List CoreMapRange → ℕ → Bool
+is_named maps index = is_some (option_and_then (λ m. m.pathname) (slice_get maps index))
 
 -- whether an address lies in a segment's memory, whether or not the core has its byte
 abbrev pub holds_addr : ℕ → Segment → Bool

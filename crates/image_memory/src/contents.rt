@@ -11,8 +11,8 @@ ghost use Rattle.image_memory.specs.declared.dump_error.DumpError.{DumpError as 
 
 use crate::file_table::{FileEntry, FilePlace};
 use crate::maps::{last_entries, maps_of, places_of};
-use crate::places::pieces_of;
 use crate::notes::{are_whole, core_notes, file_entries, last_process, statuses_of};
+use crate::places::pieces_of;
 use crate::{CoreMapRange, DumpError, elf_prpsinfo, elf_prstatus};
 use elf64_core::{Elf64, LOAD, Machine, NOTE, Segment, SpanTable};
 use std::alloc::{AllocError, Global};

@@ -1,9 +1,11 @@
 //! A core dump: the file of a dead process's memory.
-ghost use Rattle.std.specs.Prelude.{◌≡◌, ◌≢◌, ◌⊎◌, ◌↔◌, ◌<◌, ◌≤◌, ◌*◌, List, ℕ, IfOk, IfErr, IfSome, IsTrue, Err, MatchOption, None, Option, Some, ◌+◌, length, option_copied, slice_index, slice_range};
+ghost use Rattle.std.specs.Prelude.{◌≡◌, ◌≢◌, ◌⊎◌, ◌↔◌, ◌<◌, ◌≤◌, ◌*◌, List, ℕ, IfOk, IfErr, IfSome, IsTrue, is_some, Err, MatchOption, None, Option, Some, ◌+◌, length, option_and_then, option_copied, slice_get, slice_index, slice_range};
 ghost use Rattle.elf64_core.specs.Header.{machine_of};
 ghost use Rattle.image_memory.specs.Contents.{AreContents};
 ghost use Rattle.image_memory.specs.Cores.{IsCore, IsEarly, Refuses};
-ghost use Rattle.image_memory.specs.Maps.{AreMaps, in_core};
+ghost use Rattle.elf64_core.specs.Header.{HasSegments};
+ghost use Rattle.image_memory.specs.Maps.{AreMaps, ArePlaces, IsFilePlace, in_core, is_named};
+ghost use Rattle.image_memory.specs.declared.file_table.FilePlace.{FilePlace as Place};
 ghost use Rattle.image_memory.specs.Notes.{AreStatuses, IsProcess};
 ghost use Rattle.image_memory.specs.Lookups.{HalvesIn};
 ghost use Rattle.image_memory.specs.Overlays.{ArePieces, IsPiece, spans};
@@ -20,9 +22,9 @@ ghost use Rattle.process_memory.specs.Memory.{byte_at};
 use crate::contents::{Contents, read_core};
 use crate::lookup::{look_up, lookup};
 use crate::maps::holds_addr;
-use crate::runs::Runs;
-use crate::{ContainsAddr, CoreMapRange, DumpError, View, elf_prpsinfo, elf_prstatus};
-use elf64_core::{Machine, Steps, TableEntry};
+use crate::runs::{Runs, part};
+use crate::{ContainsAddr, CoreMapRange, DumpError, FilePlace, View, elf_prpsinfo, elf_prstatus};
+use elf64_core::{Machine, Segment, Steps, TableEntry};
 use process_memory::ProcessMemory;
 use std::alloc::Global;
 use std::marker::Model;
@@ -54,13 +56,15 @@ impl Model for CoreDump {
     ghost invariant = { λ c. AreContents c.bytes.items c.contents };
 }
 
-/// The bytes from a place on up to another.
-fn part(bytes: &[u8], start: u64, end: u64) -> &[u8]
-    requires ascends { start ≤ end }
-    requires inside { end ≤ length bytes.now }
-    ensures { result.now ≡ slice_range bytes.now start end }
+/// The place of a number, if there is one.
+fn place_at(places: &[Option<FilePlace>], index: usize) -> Option<FilePlace>
+    ensures { result ≡ option_and_then (λ place. place) (slice_get places.now index) }
 {
-    &bytes[start as usize..end as usize]
+    if index < places.len() {
+        places[index]
+    } else {
+        None
+    }
 }
 
 impl CoreDump {
@@ -108,6 +112,38 @@ impl CoreDump {
         ensures only { (statuses : List Status) → AreStatuses self.now statuses → statuses ≡ result.now }
     {
         &self.contents.statuses
+    }
+
+    /// Where the file of the map of a number, from 0 on, is mapped from, by the entry that gives the map its
+    /// name: in pages, with the size of a page. None exactly where there is no such map, or it has no name.
+    pub fn file_place(&self, index: u32) -> Option<FilePlace>
+        ensures is { IsFilePlace self.now index result }
+        ensures only { (place : Option Place) → IsFilePlace self.now index place → place ≡ result }
+        ensures named { (maps : List Map) → AreMaps self.now maps → is_some result ≡ is_named maps index }
+    {
+        place_at(&self.contents.places, index as usize)
+    }
+
+    /// The same, of all maps in order.
+    pub(crate) fn places(&self) -> &[Option<FilePlace>]
+        ensures places { ArePlaces self.now result.now }
+        ensures held { HasSegments self.now }
+    {
+        &self.contents.places
+    }
+
+    /// The file's bytes.
+    pub(crate) fn bytes(&self) -> &[u8]
+        ensures { result.now ≡ self.now }
+    {
+        &self.bytes
+    }
+
+    /// The load segments, in table order.
+    pub(crate) fn loads(&self) -> &[Segment]
+        ensures { result.now ≡ loads_of self.now }
+    {
+        &self.contents.loads
     }
 
     /// The machine that the header names.

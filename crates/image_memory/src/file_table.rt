@@ -6,13 +6,13 @@ use crate::DumpError;
 use elf64_core::u64_in;
 use std::alloc::Global;
 
-/// Where a mapping begins in its file.
-#[derive(Clone, Copy, Debug)]
-pub(crate) struct FilePlace {
+/// Where a mapping begins in its file, as Linux's file tables tell it.
+#[derive(Clone, Copy, Debug, PartialEq, Eq)]
+pub struct FilePlace {
     /// In pages.
-    pub(crate) pages: u64,
+    pub pages: u64,
     /// The size of a page, in bytes.
-    pub(crate) page_size: u64,
+    pub page_size: u64,
 }
 
 /// An entry of a file table.

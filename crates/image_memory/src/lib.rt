@@ -5,6 +5,9 @@
 //! are named on.
 #![tactic(auto)]
 
+mod backed_dump;
+#[cfg(test)]
+mod backed_tests;
 mod contents;
 mod core_dump;
 mod dump_error;
@@ -18,6 +21,8 @@ mod maps;
 mod mmap;
 mod notes;
 mod overlay;
+#[cfg(test)]
+mod piece_tests;
 mod places;
 mod records;
 mod runs;
@@ -26,8 +31,10 @@ mod subrange;
 mod tests;
 mod view;
 
+pub use backed_dump::BackedDump;
 pub use core_dump::CoreDump;
 pub use dump_error::DumpError;
+pub use file_table::FilePlace;
 pub use images::Images;
 pub use map_table::MapTable;
 pub use maps::{ContainsAddr, CoreMapRange};
@@ -41,4 +48,4 @@ pub use process_memory::{
 };
 pub use records::{elf_prpsinfo, elf_prstatus};
 pub use subrange::is_subrange;
-pub use view::View;
+pub use view::{BackedView, View};

@@ -42,10 +42,7 @@ fn map_range_of(map: &CoreMapRange) -> TableEntry
 }
 
 /// Those of some maps, in order.
-fn map_ranges_of(
-    alloc: Global,
-    maps: &[CoreMapRange],
-) -> Result<Vec<TableEntry>, AllocError>
+fn map_ranges_of(alloc: Global, maps: &[CoreMapRange]) -> Result<Vec<TableEntry>, AllocError>
     ensures are { IfOk result (λ ranges. ranges.items ≡ map map_range_of maps.now) }
     ensures fit { IfOk result (λ ranges. All IsRange ranges.items) }
 {

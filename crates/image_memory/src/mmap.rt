@@ -50,6 +50,17 @@ impl Mmap {
             .unwrap_or(&[])
     }
 
+    /// The same view once more.
+    pub(crate) fn share(&self) -> Mmap
+        ensures { result ≡ self.now }
+    {
+        Mmap {
+            bytes: self.bytes,
+            start: self.start,
+            end: self.end,
+        }
+    }
+
     /// The view of the same bytes that is narrowed by a range, counted from this view's start.
     ///
     /// None exactly where this view's start and an end of the range add up to more than 2^64 - 1, or the

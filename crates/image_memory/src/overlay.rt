@@ -1,5 +1,6 @@
 //! Ranges of addresses laid over each other: the first that holds an address wins.
 ghost use Rattle.std.specs.Prelude.{◌≡◌, ◌+◌, ◌-◌, ◌<◌, ◌≤◌, ◌^◌, ◌++◌, ◌⊎◌, All, IfOk, List, [], ◌∷◌, length, drop, map};
+ghost use Rattle.elf64_core.specs.SpanTables.{AreSpans};
 ghost use Rattle.image_memory.specs.Laid.{AreBelow, AreLaid, HasRoom, HaveRoom, Rises, entry_of, overlaid, part_between, parts_between};
 ghost use Rattle.image_memory.specs.Overlays.{ArePieces, IsRange};
 
@@ -139,15 +140,23 @@ fn entries_of(alloc: Global, laid: &[Owned]) -> Result<Vec<TableEntry>, AllocErr
     laid.iter().map(|piece| piece.entry).collect(alloc)
 }
 
-/// The pieces of ranges as a table: see `lay`. More than 2^32 - 1 pieces are refused for want of memory.
+/// Pieces as a table. More than 2^32 - 1 are refused for want of memory.
+pub(crate) fn table_of_laid(alloc: Global, laid: &[Owned]) -> Result<SpanTable, AllocError>
+    requires { length laid.now < 2 ^ 32 → AreSpans (map entry_of laid.now) }
+    ensures { IfOk result (λ table. table ≡ map entry_of laid.now) }
+{
+    if laid.len() > u32::MAX as usize {
+        return Err(AllocError);
+    }
+    let entries = entries_of(alloc, laid)?;
+    Ok(SpanTable::of(alloc, entries))
+}
+
+/// The pieces of ranges as a table: see `lay`.
 pub(crate) fn table_of(alloc: Global, ranges: &[TableEntry]) -> Result<SpanTable, AllocError>
     requires { All IsRange ranges.now }
     ensures { IfOk result (λ table. ArePieces ranges.now table) }
 {
     let laid = lay(alloc, ranges)?;
-    if laid.len() > u32::MAX as usize {
-        return Err(AllocError);
-    }
-    let entries = entries_of(alloc, &laid)?;
-    Ok(SpanTable::of(alloc, entries))
+    table_of_laid(alloc, &laid)
 }

@@ -8,7 +8,7 @@ use elf64_core::{Segment, SpanTable, TableEntry};
 use std::alloc::{AllocError, Global};
 
 /// The addresses of a segment that have its bytes, and where these stand in the file.
-fn range_of(segment: &Segment) -> TableEntry
+pub(crate) fn range_of(segment: &Segment) -> TableEntry
     ensures { result ≡ range_of segment.now }
 {
     TableEntry {

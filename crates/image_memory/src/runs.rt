@@ -1,10 +1,19 @@
 //! Reads over memory whose bytes are had in runs.
-ghost use Rattle.std.specs.Prelude.{◌≡◌, ℕ, ◌+◌, ◌<◌, ◌≤◌, List, length, slice_index, EachIndex, IsSome, IfSome, Some, None, OnErr, IsErrOf};
+ghost use Rattle.std.specs.Prelude.{◌≡◌, ℕ, ◌+◌, ◌<◌, ◌≤◌, List, length, slice_index, slice_range, EachIndex, IsSome, IfSome, Some, None, OnErr, IsErrOf};
 ghost use Rattle.std.specs.Bool.{OnTrue, OnFalse};
 ghost use Rattle.process_memory.specs.Memory.{Region, byte_at, record_at};
 ghost use Rattle.process_memory.specs.Seen.{Answers, fault_of, with_bytes};
 
 use process_memory::ReadFault;
+
+/// The bytes from a place on up to another.
+pub(crate) fn part(bytes: &[u8], start: u64, end: u64) -> &[u8]
+    requires ascends { start ≤ end }
+    requires inside { end ≤ length bytes.now }
+    ensures { result.now ≡ slice_range bytes.now start end }
+{
+    &bytes[start as usize..end as usize]
+}
 
 /// Memory whose bytes are had in runs.
 ///

@@ -7,7 +7,7 @@ use std::alloc::{AllocError, Global};
 use std::test::Fail;
 
 /// The kind, flags, offset, address and size in the file and in memory of a segment.
-type Row = (u32, u32, u64, u64, u64, u64);
+pub(crate) type Row = (u32, u32, u64, u64, u64, u64);
 
 /// Segments of a core: two that hold the same addresses, one of no memory, one with fewer bytes in memory
 /// than in the file, and one that ends at 2^64 - 1.
@@ -20,10 +20,10 @@ const SEGMENTS: [Row; 5] = [
 ];
 
 /// What the segments hold.
-const HELD: &[u8] = b"AAAAAAAAAAAAAAAABBBBBBBBBBBBBBBBCCCC";
+pub(crate) const HELD: &[u8] = b"AAAAAAAAAAAAAAAABBBBBBBBBBBBBBBBCCCC";
 
 /// The header, the program headers and what the segments hold.
-fn core_of(alloc: Global, segments: &[Row], held: &[u8]) -> Result<Vec<u8>, AllocError>
+pub(crate) fn core_of(alloc: Global, segments: &[Row], held: &[u8]) -> Result<Vec<u8>, AllocError>
     requires { length segments.now < 65535 }
 {
     let mut bytes = b"\x7fELF\x02\x01".to_vec(alloc)?;
@@ -147,7 +147,7 @@ fn cores_that_are_cut_are_refused(rt: HostRuntime) -> Result<(), Fail> {
 }
 
 /// A note of a type.
-fn add_note(area: &mut Vec<u8>, kind: u32, desc: &[u8]) -> Result<(), AllocError>
+pub(crate) fn add_note(area: &mut Vec<u8>, kind: u32, desc: &[u8]) -> Result<(), AllocError>
     requires { length desc.now < 65536 }
 {
     area.extend_from_slice(&5u32.to_le_bytes())?;
@@ -174,7 +174,7 @@ fn table(alloc: Global, count: u64, starts: &[u64], names: &[u8]) -> Result<Vec<
 }
 
 /// The type of a file table.
-const FILES: u32 = 0x46494c45;
+pub(crate) const FILES: u32 = 0x46494c45;
 
 /// The core of three maps, at 0x10000, 0x400000, which is executable, and 0x500000, and of an area of notes.
 fn noted_core(alloc: Global, area: &[u8]) -> Result<Vec<u8>, AllocError> {

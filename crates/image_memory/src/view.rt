@@ -1,8 +1,8 @@
-//! The memory of a core, over its bytes.
+//! The memory of a core, over its bytes, and with the images that it mapped.
 ghost use Rattle.std.specs.Prelude.{◌≡◌};
 
-use crate::CoreDump;
 use crate::runs::read_runs;
+use crate::{BackedDump, CoreDump};
 use process_memory::{ProcessMemory, ReadFault};
 
 /// The memory of a core, over the core's own bytes: one piece for each load segment, in table order.
@@ -27,5 +27,30 @@ impl<'a> ProcessMemory for View<'a> {
 
     fn read(&mut self, addr: u64, buf: &mut [u8]) -> Result<(), ReadFault> {
         read_runs(self.core, addr, buf)
+    }
+}
+
+/// The memory of a core and its images: the core's own pieces, and then those that come from images.
+#[derive(Drop)]
+pub struct BackedView<'a> {
+    dump: &'a BackedDump,
+}
+
+impl<'a> BackedView<'a> {
+    pub(crate) fn new(dump: &'a BackedDump) -> BackedView<'a>
+        ensures { result.dump.now ≡ dump.now }
+    {
+        BackedView { dump }
+    }
+}
+
+impl<'a> ProcessMemory for BackedView<'a> {
+    ghost use Rattle.image_memory.specs.Backed.{regions_of};
+    ghost use Rattle.process_memory.specs.Layers.{plain};
+
+    ghost seen = { λ v. plain (regions_of v.dump.now) };
+
+    fn read(&mut self, addr: u64, buf: &mut [u8]) -> Result<(), ReadFault> {
+        read_runs(self.dump, addr, buf)
     }
 }

@@ -36,7 +36,7 @@ returns-in_ok-under-in_default t c =
     let laid = AreLaid-joined front back over under fits (omega (arith, count)) c.in_ok-over-in_default.ensures c.in_ok-under-in_default.ensures in
     let whole = split_whole _ c.args.ranges.now front back c.split_at.ensures.front c.split_at.ensures.back in
     let same = ap (λ ps. overlaid (length front) 0 ps c.deref-in_default.result.now) c.deref.ensures.value
-        ∙ ap (λ ps. overlaid (length front) 0 over ps) c.deref-in_default.ensures.value in
+    ∙ ap (λ ps. overlaid (length front) 0 over ps) c.deref-in_default.ensures.value in
     IfOk-weaker c.overlay.result (λ made. made.items ≡ overlaid (length front) 0 c.deref.result.now c.deref-in_default.result.now)
     (λ made. AreLaid c.args.ranges.now made.items)
     (λ made is. subst (λ rs. AreLaid rs made.items) whole (subst (AreLaid (front ++ back)) (sym (is ∙ same)) laid)) c.overlay.ensures

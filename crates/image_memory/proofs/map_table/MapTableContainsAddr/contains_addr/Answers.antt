@@ -12,6 +12,6 @@ returns-else-addr-eq18446744073709551615 c =
     let addr = c.args.addr in
     let below : addr < last_addr = omega arith in
     let at : tests (record { table = inside.table; past = inside.past }) addr ≡ list_any (spans addr) inside.table =
-      ap (λ b. cond b (list_any (spans addr) inside.table) (ltb (addr - last_addr) inside.past)) (lt-ltb addr last_addr below) in
+    ap (λ b. cond b (list_any (spans addr) inside.table) (ltb (addr - last_addr) inside.past)) (lt-ltb addr last_addr below) in
     c.is_some.ensures ∙ hit_any inside.table addr c.look_up.result c.look_up.ensures.hit c.look_up.ensures.none ∙ sym at
     ∙ ap (λ m. tests m addr) c.self.view_is
