@@ -2,7 +2,7 @@
 use Rattle.std.proofs.Common.{◌≡◌, ℕ, List, Option, Some, None, refl}
 use Rattle.std.specs.Prelude.{option_map}
 use Rattle.py_process.specs.Binary.{SaySame, symbol_at}
-use Rattle.py_process.specs.Facts.{Facts, facts_of, known_of, symbol_known}
+use Rattle.py_process.specs.Facts.{facts_of, known_of, symbol_known}
 use Rattle.py_process.specs.declared.binary.BinaryInfo.{BinaryInfo}
 use Rattle.py_process.specs.declared.process_info.PythonProcessInfo.{PythonProcessInfo}
 

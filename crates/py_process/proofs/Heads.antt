@@ -1,6 +1,6 @@
 -- Where symbols give no head.
-use Rattle.std.proofs.Common.{◌≡◌, ℕ, ◌+◌, ◌≤◌, List, [], refl, sym, ap, ◌∙◌}
-use Rattle.std.specs.Prelude.{Option, Some, None, codes}
+use Rattle.std.proofs.Common.{◌≡◌, ◌+◌, [], sym, ap, ◌∙◌}
+use Rattle.std.specs.Prelude.{Some, None, codes}
 use Rattle.process_memory.specs.Memory.{Memory, word_at}
 use Rattle.py_version.specs.Offsets.{interp_head_offset}
 use Rattle.py_version.specs.declared.version.Version.{Version}

@@ -3,18 +3,18 @@ use Rattle.std.proofs.Common.{◌≡◌, ℕ, ◌+◌, ◌<◌, ◌≤◌, List,
 use Rattle.std.specs.Prelude.{◌⊎◌, Option, Some, None, Result, Ok, Err, option_map}
 use Rattle.std.specs.Int.{w32, from_le_bytes}
 use Rattle.std.proofs.lemmas.Bool.{cases_lt}
-use Rattle.process_memory.specs.Memory.{Memory, Found, Fault, ◌>>=◌, record_at}
+use Rattle.process_memory.specs.Memory.{Memory, Found, Fault, record_at}
 use Rattle.process_memory.specs.Memory.Fault.{Missing}
 use Rattle.process_memory.specs.Seen.{Answers, ReadingBelow, Seen, fault_of}
 use Rattle.process_memory.specs.declared.memory.ReadFault.{ReadFault}
 use Rattle.process_memory.specs.declared.memory.ReadFault.TheVariants as read
 use Rattle.process_memory.proofs.Reading.{reading_gives, reading_then, reads_within}
-use Rattle.py_version.specs.Spelling.{IsLeftmost, SpellsAt, SpellsNone}
+use Rattle.py_version.specs.Spelling.{IsLeftmost, SpellsAt}
 use Rattle.py_version.specs.declared.version.Version.{Version}
 use Rattle.py_version.proofs.Scans.{not_none}
 use Rattle.py_version.proofs.Unique.{spells_once}
 use Rattle.py_process.specs.Causes.{version_unread}
-use Rattle.py_process.specs.Facts.{Facts, facts_of}
+use Rattle.py_process.specs.Facts.{facts_of}
 use Rattle.py_process.specs.Sources.{BytesTell, FirstTells, IsTold, SectionTells, Source, Tells, TellsBefore, TextTells, ToldBy, VersionIs, bss_of, number_at, text_at, version_of_number}
 use Rattle.py_process.specs.Sources.Source.{Number, Text, Section, Path}
 use Rattle.py_process.specs.declared.binary.BinaryInfo.{BinaryInfo}

@@ -1,6 +1,6 @@
 -- The test of one candidate, and what it costs.
-use Rattle.std.proofs.Common.{◌≡◌, ℕ, ◌+◌, ◌*◌, ◌<◌, ◌≤◌, ◌^◌, Bool, true, false, cond, List, [], ◌∷◌, refl, sym, ap, ◌∙◌, arith}
-use Rattle.std.specs.Prelude.{◌&&◌, ◌↔◌, Option, Some, None, Result, Ok, Err, IsTrue, MatchOption, option_to_list}
+use Rattle.std.proofs.Common.{◌≡◌, ℕ, ◌+◌, ◌≤◌, ◌^◌, Bool, true, false, List, [], ◌∷◌, refl, ap, ◌∙◌, arith}
+use Rattle.std.specs.Prelude.{◌&&◌, Option, Some, None, Result, Ok, Err, MatchOption, option_to_list}
 use Rattle.std.proofs.lemmas.Bool.{and_parts}
 use Rattle.process_memory.specs.Memory.{Memory, Found, Fault, byte_at}
 use Rattle.process_memory.specs.Seen.{Answers, FaultIs, ReadingBelow, Reading, Seen}
@@ -9,7 +9,7 @@ use Rattle.process_memory.proofs.Reading.{reading_here, reading_then, reads_with
 use Rattle.py_fields.specs.declared.layout.Layout.{Layout}
 use Rattle.py_stacks.specs.declared.error.StackError.{StackError}
 use Rattle.py_stacks.specs.StackError.{fault_of}
-use Rattle.py_stacks.specs.Interpreter.{IsInterpreter, bound_from, members_from, members_tested, passes, passes_from, threads_from, threads_head, threads_tested}
+use Rattle.py_stacks.specs.Interpreter.{IsInterpreter, bound_from, passes, passes_from, threads_head}
 use Rattle.py_stacks.proofs.Candidates.{members_split, passes_law, passes_split, threads_split}
 use Rattle.py_process.specs.Candidates.{IsInterpreterIn, ListIs, SearchIs, candidate_cost, candidate_of, head_lies, passes_in}
 use Rattle.py_process.specs.declared.search_error.SearchError.{SearchError}

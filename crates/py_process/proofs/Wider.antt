@@ -1,5 +1,5 @@
 -- What reads short ranges reads ranges below a larger limit.
-use Rattle.std.proofs.Common.{◌≡◌, ℕ, ◌<◌, ◌≤◌, List, arith}
+use Rattle.std.proofs.Common.{ℕ, ◌≤◌, List, arith}
 use Rattle.std.specs.Prelude.{Option, Some, None}
 use Rattle.process_memory.specs.declared.memory.Span.{Span}
 use Rattle.process_memory.specs.Memory.{Memory}

@@ -1,6 +1,5 @@
 use Rattle.std.proofs.Common.{arith}
 use Rattle.std.proofs.lemmas.Result.{err_from_is_err_and}
-use Rattle.process_memory.specs.Memory.{Memory}
 use Rattle.py_process.specs.Candidates.{runtime_words, section_words}
 use Rattle.py_process.proofs.Searches.{seek_found, seek_lost, seek_then}
 use Rattle.py_process.proofs.candidates.first_in_binary.Goals as goal

@@ -1,5 +1,4 @@
 use Rattle.std.proofs.Common.{arith, ap}
-use Rattle.std.specs.Prelude.{Ok}
 use Rattle.process_memory.proofs.Reading.{reading_gives}
 use Rattle.py_stacks.specs.Interpreter.{threads_head}
 use Rattle.py_process.specs.Candidates.{candidate_of}

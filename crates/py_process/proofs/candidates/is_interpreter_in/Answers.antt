@@ -1,9 +1,8 @@
-use Rattle.std.proofs.Common.{◌≡◌, sym, ◌∙◌, true, false, arith}
-use Rattle.std.proofs.Math.Nat.{le_refl}
+use Rattle.std.proofs.Common.{sym, ◌∙◌}
 use Rattle.std.proofs.lemmas.Result.{err_from_is_err_and}
 use Rattle.process_memory.proofs.Reading.{reading_gives, reading_none}
 use Rattle.py_stacks.specs.Interpreter.{threads_head}
-use Rattle.py_process.specs.Candidates.{SearchIs, candidate_of, passes_in}
+use Rattle.py_process.specs.Candidates.{candidate_of, passes_in}
 use Rattle.py_process.proofs.Tests.{answer_is, cost_inside, head_lost, head_outside, list_lost, outside_maps, tested}
 use Rattle.py_process.proofs.candidates.is_interpreter_in.Goals as goal
 

@@ -1,4 +1,4 @@
-use Rattle.std.proofs.Common.{◌≡◌, ◌<◌, ap, sym, ◌∙◌, arith, length}
+use Rattle.std.proofs.Common.{◌<◌, sym, ◌∙◌, arith, length}
 use Rattle.std.proofs.lemmas.Bool.Decides.{nat_tests}
 use Rattle.py_process.proofs.Decimals.{all_more, digit_more, is_decimal, too_large}
 use Rattle.py_process.proofs.file_version.decimal.Goals as goal

@@ -1,4 +1,4 @@
-use Rattle.std.proofs.Common.{ap, arith, refl, ◌∙◌, sym, ◌≡◌, length, take, drop}
+use Rattle.std.proofs.Common.{arith}
 use Rattle.py_process.proofs.Parts.{one_part, two_parts}
 use Rattle.py_process.proofs.file_version.split_at_dot.Goals as goal
 

@@ -1,7 +1,7 @@
-use Rattle.std.proofs.Common.{arith, ap, subst, ◌∙◌, sym, ◌+◌}
+use Rattle.std.proofs.Common.{arith, ap, ◌∙◌, sym, ◌+◌}
 use Rattle.std.proofs.lemmas.Result.{err_from_is_err_and}
 use Rattle.process_memory.specs.Memory.{word_at}
-use Rattle.process_memory.specs.Seen.{Reads, fault_of}
+use Rattle.process_memory.specs.Seen.{fault_of}
 use Rattle.process_memory.proofs.Reading.{reads_halt, reads_next, reads_same}
 use Rattle.elf64_core.specs.Fields.{u64_in}
 use Rattle.py_process.specs.Candidates.{head_by_offsets}

@@ -1,7 +1,7 @@
-use Rattle.std.proofs.Common.{◌≡◌, ◌∙◌, ◌++◌, ap, arith, refl, rules, codes, subst, sym}
-use Rattle.std.specs.Prelude.{decimal, string_bytes, IsAscii}
+use Rattle.std.proofs.Common.{◌∙◌, ap, arith, codes, sym}
+use Rattle.std.specs.Prelude.{string_bytes}
 use Rattle.std.specs.Str.{chars}
-use Rattle.std.proofs.lemmas.Str.{IsUtf8-from_ascii, chars-IsAscii}
+use Rattle.std.proofs.lemmas.Str.{chars-IsAscii}
 use Rattle.std.proofs.lemmas.Str.Ascii.{IsAscii-nil}
 use Rattle.py_process.specs.Sources.{flags_of}
 use Rattle.py_process.proofs.Flags.{a_ascii, b_ascii, other_level, rc_ascii, written}

@@ -1,11 +1,11 @@
 use Rattle.std.proofs.Common.{arith, ap, [], ◌∷◌, ◌∙◌}
 use Rattle.std.proofs.lemmas.Result.{err_from_is_err_and}
-use Rattle.std.specs.Prelude.{Ok, Err, Some, option_map}
+use Rattle.std.specs.Prelude.{Ok, Err, option_map}
 use Rattle.process_memory.proofs.Reading.{reading_none}
 use Rattle.py_process.specs.Sources.Source.{Path}
 use Rattle.py_process.specs.FileVersions.{file_version}
 use Rattle.py_process.specs.declared.version_error.VersionError.TheVariants.{OutOfMemory}
-use Rattle.py_process.specs.Facts.{facts_of, known_of}
+use Rattle.py_process.specs.Facts.{facts_of}
 use Rattle.py_process.specs.Sources.{bss_of}
 use Rattle.py_process.proofs.Telling.{reads_error, reads_on, reads_version, told_one}
 use Rattle.py_process.proofs.python_version.read_library.Goals as goal

@@ -1,7 +1,7 @@
 use Rattle.std.proofs.Common.{arith}
 use Rattle.std.proofs.lemmas.Result.{err_from_is_err_and}
-use Rattle.std.specs.Prelude.{Ok, Err, Some, option_map}
-use Rattle.py_process.specs.Facts.{facts_of, known_of}
+use Rattle.std.specs.Prelude.{Ok, Err}
+use Rattle.py_process.specs.Facts.{known_of}
 use Rattle.py_process.specs.Sources.{section_sources, text_at, text_symbol}
 use Rattle.py_process.proofs.Telling.{reads_along, reads_error, reads_on, reads_version}
 use Rattle.py_process.proofs.python_version.read_others.Goals as goal

@@ -1,4 +1,4 @@
-use Rattle.std.proofs.Common.{arith, ap, subst, ◌≡◌}
+use Rattle.std.proofs.Common.{arith, subst}
 use Rattle.std.proofs.lemmas.Result.{err_from_is_err_and}
 use Rattle.std.specs.Prelude.{Ok}
 use Rattle.process_memory.proofs.Reading.{reading_gives, reading_one}

@@ -1,6 +1,6 @@
 use Rattle.std.proofs.Common.{arith}
 use Rattle.std.proofs.lemmas.Result.{err_from_is_err_and}
-use Rattle.std.specs.Prelude.{Ok, Err, Some, option_map}
+use Rattle.std.specs.Prelude.{option_map}
 use Rattle.py_process.specs.Facts.{facts_of, known_of}
 use Rattle.py_process.specs.Sources.{bss_of, library_sources}
 use Rattle.py_process.proofs.Telling.{reads_error, reads_on, reads_version}

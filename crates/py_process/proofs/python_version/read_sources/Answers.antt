@@ -1,4 +1,4 @@
-use Rattle.std.proofs.Common.{arith, subst, sym, ◌∷◌, []}
+use Rattle.std.proofs.Common.{arith, subst}
 use Rattle.std.proofs.Math.Nat.{le_refl}
 use Rattle.process_memory.proofs.Reading.{reading_gives}
 use Rattle.py_process.specs.Facts.{known_of}
