@@ -238,7 +238,7 @@ dump_agree d (bytes ∷ text ∷ images) a b one other na nb =
 dumped_sound : (d : Dump) (bytes : List ℕ) (images : Pushed) (list : List Layout) → NoneClash list
     → IsReadable bytes images list default_config → NoCause (IsDumpedBy d bytes images list)
 dumped_sound d bytes images list apart good = then_sound (λ error. Core error) (ReportAnswers bytes images list) (IsReported d)
-    (λ e error ne. report_complete bytes images list default_config apart refl good e error (err_kept e (core_one e ne).1))
+    (λ e error ne. report_complete bytes images list default_config apart good e error (err_kept e (core_one e ne).1))
     (λ r found. text_sound (report_text d.core r.signal r.process r.version r.traces.items))
 
 dump_sound : (d : Dump) (contents : List (List ℕ)) → IsFaultlessDump d contents → NoCause (IsDumped d contents)

@@ -12,7 +12,7 @@ use Rattle.image_memory.proofs.Refusals.{no_core, one_refusal}
 use Rattle.process_memory.specs.Memory.{Memory, byte_at}
 use Rattle.py_fields.specs.declared.layout.Layout.{Layout}
 use Rattle.py_stacks.specs.Asking.{asked_of}
-use Rattle.py_stacks.specs.Stacks.{AreStacks}
+use Rattle.py_stacks.specs.NamedStacks.{AreNamedStacks}
 use Rattle.py_stacks.specs.Threads.{Trace}
 use Rattle.py_stacks.specs.declared.config.Config.{Config}
 use Rattle.py_process.specs.Causes.{cause_of_dump}
@@ -160,16 +160,16 @@ report_whole bytes images layouts config r h =
       chosen = subst (λ v. IsChosen layouts v two.0.layout) (sym tells.version_is) found.chosen;
       interpreter = two.0.addresses.interpreter;
       first = subst (λ v. IsFirstOf (in_maps one.0) two.0.layout m (candidates_of found.known v two.0.layout m) two.0.addresses.interpreter) (sym tells.version_is) found.first;
-      stacks = subst (λ ts. AreStacks (asked_of config) two.0.layout m 0 two.0.addresses.interpreter ts) (sym tells.traces_are)
-          (subst (λ n. AreStacks (asked_of config) two.0.layout m n two.0.addresses.interpreter three.0) found.lock three.1.are);
+      stacks = subst (λ ts. AreNamedStacks (asked_of config) two.0.layout m 0 two.0.addresses.interpreter ts) (sym tells.traces_are)
+          (subst (λ n. AreNamedStacks (asked_of config) two.0.layout m n two.0.addresses.interpreter three.0) found.lock three.1.are);
       notes = tells.notes;
     })
 
 -- where the input can be read, no cause is right
-pub report_complete : (bytes : List ℕ) (images : Pushed) (layouts : List Layout) (config : Config) → NoneClash layouts → config.dump_locals ≡ 0
+pub report_complete : (bytes : List ℕ) (images : Pushed) (layouts : List Layout) (config : Config) → NoneClash layouts
     → IsReadable bytes images layouts config → (e : CoreError) → ReportIs bytes images layouts config (Err e)
     → IsKept {T = Reported} (Err e) → ⊥
-report_complete bytes images layouts config apart none good e h kept =
+report_complete bytes images layouts config apart good e h kept =
     let m = memory_with bytes images in
     let one = then_value (CoreSays bytes) (AfterCore bytes images layouts config) (core_agree bytes) good.maps (good.core, good.are_maps) (Err e) kept h in
     let two = then_value (FindingIs m good.maps images layouts) (AfterFinding bytes images config) (finding_agree m good.maps images layouts apart)
@@ -178,7 +178,7 @@ report_complete bytes images layouts config apart none good e h kept =
   where
     by : AfterFinding bytes images config good.finding (Err e) → ⊥
     by (inl (d, says, is)) = stacks_only (memory_with bytes images) good.finding config good.asks
-        (unfaulted (memory_with bytes images) good.finding config none good.found.lock good.found.first.is.is) d says (err_kept (Err e) d is kept)
+        (unfaulted (memory_with bytes images) good.finding config good.no_locals good.found.lock good.found.first.is.is) d says (err_kept (Err e) d is kept)
     by (inr (traces, has, (r, tells, is))) = absurd (ok_not_err r e (sym is))
 
 -- ---- the report by what was opened

@@ -48,7 +48,6 @@ fn read_stacks(
     config: &Config,
 ) -> Result<Vec<StackTrace>, CoreError>
     requires sound { IsSound found.now.layout }
-    requires locals { config.now.dump_locals ≡ 0 }
     ensures { StacksSay (byte_at (memory_of core.now)) (finding_of found.now) config.now (traces_in result) }
 {
     if config.native {
@@ -132,8 +131,6 @@ impl PythonCoreDump {
     /// `SubprocessesUnsupported` where other processes are; and then those of `get_stack_over`. Else it is want of
     /// memory.
     pub fn get_stack(&self, config: &Config) -> Result<Vec<StackTrace>, CoreError>
-        // no locals are read yet
-        requires locals { config.now.dump_locals ≡ 0 }
         ensures right { StacksSay (memory_in self.now) self.now.finding config.now (traces_in result) }
         // what is right is the answer, want of memory aside
         ensures only { IsSole (StacksSay (memory_in self.now) self.now.finding config.now) (traces_in result) }
@@ -141,8 +138,9 @@ impl PythonCoreDump {
         ensures equal { (other : Opened) → other.finding ≡ self.now.finding
             → ((a : ℕ) → memory_in other a ≡ memory_in self.now a)
             → StacksSay (memory_in other) other.finding config.now (traces_in result) }
-        // where the process was found, neither a limit nor a record of a thread or a frame is in the way
-        ensures found { IsFoundIn self.now → IfErr result IsLeft }
+        // where the process was found and no locals are asked for, neither a limit nor a record of a thread or a
+        // frame is in the way
+        ensures found { IsFoundIn self.now → config.now.dump_locals ≡ 0 → IfErr result IsLeft }
     {
         read_stacks(self.alloc, &self.core, &self.found, config)
     }

@@ -18,10 +18,10 @@ fn report_of(
     notes: Notes,
     config: &Config,
 ) -> Result<Report, CoreError>
-    requires locals { config.now.dump_locals ≡ 0 }
     requires notes { NotesTell python.core notes.signal notes.process }
     ensures settles { Settles (IsReportOf python config.now) (reported result) }
-    ensures complete { IsFoundIn python → AsksNoOther config.now → IfErr result (λ error. error ≡ CoreError.OutOfMemory) }
+    ensures complete { IsFoundIn python → AsksNoOther config.now → config.now.dump_locals ≡ 0
+        → IfErr result (λ error. error ≡ CoreError.OutOfMemory) }
 {
     let traces = python.get_stack(config)?;
     let version = python.into_version();
@@ -41,7 +41,6 @@ fn make_report(
     layouts: &Layouts,
     config: &Config,
 ) -> Result<Report, CoreError>
-    requires locals { config.now.dump_locals ≡ 0 }
     ensures settles { Settles (ReportIs bytes.items images.now layouts.now config.now) (reported result) }
     ensures complete { IsReadable bytes.items images.now layouts.now config.now
         → IfErr result (λ error. error ≡ CoreError.OutOfMemory) }
@@ -70,8 +69,6 @@ pub fn report(
     layouts: &Layouts,
     config: &Config,
 ) -> Result<Report, CoreError>
-    // no locals are read yet
-    requires locals { config.now.dump_locals ≡ 0 }
     ensures right { ReportIs bytes.items images.now layouts.now config.now (reported result) }
     // what is right is the answer, want of memory aside
     ensures only { IsSole (ReportIs bytes.items images.now layouts.now config.now) (reported result) }

@@ -18,7 +18,8 @@ use Rattle.process_memory.specs.Walk.{first_fault}
 use Rattle.py_fields.specs.declared.layout.Layout.{Layout}
 use Rattle.py_version.specs.declared.version.Version.{Version}
 use Rattle.py_stacks.specs.Asking.{asked_of}
-use Rattle.py_stacks.specs.Stacks.{AreStacks, stacks_faults}
+use Rattle.py_stacks.specs.NamedStacks.{AreNamedStacks}
+use Rattle.py_stacks.specs.Stacks.{stacks_faults}
 use Rattle.py_stacks.specs.Threads.{Trace, trace_of}
 use Rattle.py_stacks.specs.declared.config.Config.{Config}
 use Rattle.py_stacks.specs.declared.trace.StackTrace.{StackTrace}
@@ -59,7 +60,7 @@ pub record MeetsFault (m : Memory) (f : Finding) (config : Config) (fault : Faul
 pub record HasStacks (m : Memory) (f : Finding) (config : Config) (traces : List Trace) : Type 0 where
   pub asks : AsksNoOther config
   pub faultless : fault_on m f config ≡ None
-  pub are : AreStacks (asked_of config) f.layout m f.addresses.lock f.addresses.interpreter traces
+  pub are : AreNamedStacks (asked_of config) f.layout m f.addresses.lock f.addresses.interpreter traces
 
 -- the traces, or the first cause why there are none
 abbrev pub StacksSay : Memory → Finding → Config → Result (List Trace) CoreError → Type 0
@@ -179,10 +180,10 @@ pub record IsRight (bytes : List ℕ) (images : Pushed) (layouts : List Layout) 
   pub interpreter : ℕ
   pub first : IsFirstOf (in_maps maps) layout (memory_with bytes images)
       (candidates_of known r.version layout (memory_with bytes images)) interpreter
-  pub stacks : AreStacks (asked_of config) layout (memory_with bytes images) 0 interpreter r.traces
+  pub stacks : AreNamedStacks (asked_of config) layout (memory_with bytes images) 0 interpreter r.traces
   pub notes : NotesTell bytes r.signal r.process
 
--- the input for which a report is owed
+-- the input for which a report is owed, where no locals are asked for
 pub record IsReadable (bytes : List ℕ) (images : Pushed) (layouts : List Layout) (config : Config) : Type 0 where
   pub core : IsCore bytes
   pub maps : List CoreMapRange
@@ -190,3 +191,4 @@ pub record IsReadable (bytes : List ℕ) (images : Pushed) (layouts : List Layou
   pub finding : Finding
   pub found : IsFound (memory_with bytes images) maps images layouts finding
   pub asks : AsksNoOther config
+  pub no_locals : config.dump_locals ≡ 0

@@ -42,7 +42,7 @@ module _ (q : Asked) (l : Layout) (m : Memory) (lock interpreter : ℕ) where
   named_law (Err e) a = tt
   named_law (Ok v) a = named_found (map trace_of v.items) a.is
 
-  named_whole : (traces : List Trace) → AreNamedStacks q l m lock interpreter traces → named_stacks_at q l m lock interpreter ≡ Ok traces
+  pub named_whole : (traces : List Trace) → AreNamedStacks q l m lock interpreter traces → named_stacks_at q l m lock interpreter ≡ Ok traces
   unfolding named_stacks_at
   named_whole traces h = rw (stacks_whole q l m lock interpreter h.unnamed h.stacks) (ap Ok (sym h.names))
 

@@ -38,4 +38,4 @@ returns-clause-complete c = λ good.
     let settled : Settles (Opens c.args.bytes.items c.args.images.now c.args.layouts.now) (Ok c.in_ok-python.python) =
     subst (λ bs. Settles (Opens bs c.args.images.now c.args.layouts.now) (Ok c.in_ok-python.python)) c.in_ok-core.ensures.same
     (record { right = c.in_ok-python.ensures.right; only = c.in_ok-python.ensures.only }) in
-    c.report_of.ensures.complete (opened_readable _ _ _ _ c.in_ok-python.python settled.right settled.only good) good.asks
+    c.report_of.ensures.complete (opened_readable _ _ _ _ c.in_ok-python.python settled.right settled.only good) good.asks good.no_locals
