@@ -118,7 +118,7 @@ const CORES: [(&[u8], (usize, u64)); 6] = [
     (b"bss cut", (208, 8)),
     (b"other name", (992, 0x392e_786e_6f68)),
     (b"not executable", (120, 0x4_0000_0001)),
-    (b"notes cut", (264, 0x4f)),
+    (b"notes cut", (264, 0x4e)),
 ];
 
 fn files(alloc: Global, failing: &[u64]) -> Result<MemoryFiles, AllocError> {
@@ -129,9 +129,17 @@ fn files(alloc: Global, failing: &[u64]) -> Result<MemoryFiles, AllocError> {
     }
     let image = with_words(alloc, 328, &[], &IMAGE_WORDS)?;
     held.push((Name::of(alloc, b"image")?, image))?;
-    let later = with_part(alloc, SAMPLE, "first_minor = 9\nlast_minor = 9", "first_minor = 10\nlast_minor = 10")?;
+    let later = with_part(
+        alloc,
+        SAMPLE,
+        "first_minor = 9\nlast_minor = 9",
+        "first_minor = 10\nlast_minor = 10",
+    )?;
     held.push((Name::of(alloc, b"later")?, later.as_bytes().to_vec(alloc)?))?;
-    held.push((Name::of(alloc, b"sample")?, SAMPLE.as_bytes().to_vec(alloc)?))?;
+    held.push((
+        Name::of(alloc, b"sample")?,
+        SAMPLE.as_bytes().to_vec(alloc)?,
+    ))?;
     Ok(MemoryFiles::new(alloc, held, failing.to_vec(alloc)?))
 }
 
@@ -148,21 +156,112 @@ struct Row {
 const IMAGE: &[&str] = &["/usr/bin/python3.9=image"];
 
 const ROWS: [Row; 13] = [
-    Row { core: "core", layouts: "sample", images: IMAGE, failing: &[], status: 0, said: b"" },
+    Row {
+        core: "core",
+        layouts: "sample",
+        images: IMAGE,
+        failing: &[],
+        status: 0,
+        said: b"",
+    },
     // the first image of a path counts
-    Row { core: "core", layouts: "sample", images: &["/usr/bin/python3.9=image", "/usr/bin/python3.9=core"], failing: &[], status: 0, said: b"" },
-    Row { core: "core", layouts: "sample", images: &["/usr/bin/python3.9=core", "/usr/bin/python3.9=image"], failing: &[], status: 1, said: b"pystacks: bad image: /usr/bin/python3.9\n" },
-    Row { core: "core", layouts: "sample", images: &["/lib/other=core", "/usr/bin/python3.9=image"], failing: &[], status: 0, said: b"" },
-    Row { core: "core", layouts: "sample", images: &[], failing: &[], status: 1, said: b"pystacks: image not given: /usr/bin/python3.9\n" },
-    Row { core: "no interpreter", layouts: "sample", images: IMAGE, failing: &[], status: 1, said: b"pystacks: no interpreter found\n" },
-    Row { core: "bss cut", layouts: "sample", images: IMAGE, failing: &[], status: 1, said: b"pystacks: version unreadable at 0x500000, 16 bytes\n" },
-    Row { core: "other name", layouts: "sample", images: &["/usr/bin/pythonx.9=image"], failing: &[], status: 1, said: b"pystacks: no Python version found\n" },
-    Row { core: "core", layouts: "later", images: IMAGE, failing: &[], status: 1, said: b"pystacks: no layout for Python 3.9.0\n" },
-    Row { core: "not executable", layouts: "sample", images: IMAGE, failing: &[], status: 1, said: b"pystacks: no named executable map\n" },
-    Row { core: "notes cut", layouts: "sample", images: IMAGE, failing: &[], status: 1, said: b"pystacks: bad note\n" },
+    Row {
+        core: "core",
+        layouts: "sample",
+        images: &["/usr/bin/python3.9=image", "/usr/bin/python3.9=core"],
+        failing: &[],
+        status: 0,
+        said: b"",
+    },
+    Row {
+        core: "core",
+        layouts: "sample",
+        images: &["/usr/bin/python3.9=core", "/usr/bin/python3.9=image"],
+        failing: &[],
+        status: 1,
+        said: b"pystacks: bad image: /usr/bin/python3.9\n",
+    },
+    Row {
+        core: "core",
+        layouts: "sample",
+        images: &["/lib/other=core", "/usr/bin/python3.9=image"],
+        failing: &[],
+        status: 0,
+        said: b"",
+    },
+    Row {
+        core: "core",
+        layouts: "sample",
+        images: &[],
+        failing: &[],
+        status: 1,
+        said: b"pystacks: image not given: /usr/bin/python3.9\n",
+    },
+    Row {
+        core: "no interpreter",
+        layouts: "sample",
+        images: IMAGE,
+        failing: &[],
+        status: 1,
+        said: b"pystacks: no interpreter found\n",
+    },
+    Row {
+        core: "bss cut",
+        layouts: "sample",
+        images: IMAGE,
+        failing: &[],
+        status: 1,
+        said: b"pystacks: version unreadable at 0x500000, 16 bytes\n",
+    },
+    Row {
+        core: "other name",
+        layouts: "sample",
+        images: &["/usr/bin/pythonx.9=image"],
+        failing: &[],
+        status: 1,
+        said: b"pystacks: no Python version found\n",
+    },
+    Row {
+        core: "core",
+        layouts: "later",
+        images: IMAGE,
+        failing: &[],
+        status: 1,
+        said: b"pystacks: no layout for Python 3.9.0\n",
+    },
+    Row {
+        core: "not executable",
+        layouts: "sample",
+        images: IMAGE,
+        failing: &[],
+        status: 1,
+        said: b"pystacks: no named executable map\n",
+    },
+    Row {
+        core: "notes cut",
+        layouts: "sample",
+        images: IMAGE,
+        failing: &[],
+        status: 1,
+        said: b"pystacks: bad note\n",
+    },
     // the layout file is read before the image, and judged before the core
-    Row { core: "core", layouts: "none", images: &["/usr/bin/python3.9=none"], failing: &[], status: 3, said: b"pystacks: cannot read none\n" },
-    Row { core: "notes cut", layouts: "image", images: IMAGE, failing: &[], status: 6, said: b"pystacks: layouts: not TOML\n" },
+    Row {
+        core: "core",
+        layouts: "none",
+        images: &["/usr/bin/python3.9=none"],
+        failing: &[],
+        status: 3,
+        said: b"pystacks: cannot read none\n",
+    },
+    Row {
+        core: "notes cut",
+        layouts: "image",
+        images: IMAGE,
+        failing: &[],
+        status: 6,
+        said: b"pystacks: layouts: not TOML\n",
+    },
 ];
 
 const TEXT: &[u8] = b"Python v3.9.0\n\nThread 0x7F00\n    f (a.py)\n    <module> (a.py)\n";
@@ -178,7 +277,10 @@ fn each_cause_of_a_report(rt: HostRuntime) -> Result<(), Fail> {
         for image in row.images {
             words.push(String::from_str(alloc, image)?)?;
         }
-        assert_eq!(rt; run(alloc, &words, &mut files, &mut out, &mut err), row.status);
+        assert_eq!(rt;
+            run(alloc, &words, &mut files, &mut out, &mut err),
+            row.status
+        );
         assert_eq!(rt; err.bytes(), row.said);
         assert_eq!(rt; out.bytes(), if row.status == 0 { TEXT } else { b"" });
     }

@@ -21,7 +21,7 @@ some_of (Some x) e = (x, refl)
 needed_facts : (images : Pushed) (program : CoreMapRange) (library : Option CoreMapRange) (p l : Option BinaryInfo)
     → FactsAre images program (option_map facts_of p) → FactsOf images library (option_map facts_of l)
     → FactsAre images (needed_map (record { program = program; library = library }))
-        (option_map facts_of (needed_by library p l))
+    (option_map facts_of (needed_by library p l))
 needed_facts images program None p l one other = one
 needed_facts images program (Some m) p l one other = other
 

@@ -74,9 +74,10 @@ core_says bytes dump.OutOfMemory h = tt
 -- ---- what is told
 
 notes_same : (bytes : List ℕ) (s t : Option ℤ) (p q : Option (ℤ × List ℕ)) → NotesTell bytes s p → NotesTell bytes t q → (s ≡ t) × (p ≡ q)
-notes_same bytes s t p q one two =
-    (one.signal_is ∙ ap first_signal (AreStatuses-once bytes one.statuses two.statuses one.are_statuses two.are_statuses) ∙ sym two.signal_is,
-     one.process_is ∙ ap (option_map process_told) (IsProcess-once bytes one.last two.last one.is_last two.is_last) ∙ sym two.process_is)
+notes_same bytes s t p q one two = (
+  one.signal_is ∙ ap first_signal (AreStatuses-once bytes one.statuses two.statuses one.are_statuses two.are_statuses) ∙ sym two.signal_is,
+  one.process_is ∙ ap (option_map process_told) (IsProcess-once bytes one.last two.last one.is_last two.is_last) ∙ sym two.process_is,
+)
 
 told_same : (bytes : List ℕ) (f : Finding) (traces : List Trace) (r q : Reported) → Tells bytes f traces r → Tells bytes f traces q → r ≡ q
 told_same bytes f traces r q one two = λ i. record {
@@ -127,11 +128,23 @@ found_by m maps images layouts f h =
 finds : (m : Memory) (maps : List CoreMapRange) (images : Pushed) (layouts : List Layout) (f : Finding)
     → IsFound m maps images layouts f → FindingIs m maps images layouts (Ok f)
 finds m maps images layouts f found =
-    inr (found.programs, found.are_programs,
-    inr (found.known, found.is_known,
-    inr (f.version, found.told,
-    inr (f.layout, found.chosen,
-    inr (f.addresses.interpreter, found.first, made)))))
+    inr (
+      found.programs,
+      found.are_programs,
+      inr (
+        found.known,
+        found.is_known,
+        inr (
+          f.version,
+          found.told,
+          inr (
+            f.layout,
+            found.chosen,
+            inr (f.addresses.interpreter, found.first, made),
+          ),
+        ),
+      ),
+    )
   where
     made : ◌≡◌ {A = Result Finding CoreError} (Ok f) (Ok (finding f.version f.layout f.addresses.interpreter))
     made = ap (λ n. Ok (record { version = f.version; layout = f.layout; addresses = record { interpreter = f.addresses.interpreter; lock = n } })) found.lock
@@ -173,7 +186,7 @@ report_complete bytes images layouts config apart good e h kept =
     let m = memory_with bytes images in
     let one = then_value (CoreSays bytes) (AfterCore bytes images layouts config) (core_agree bytes) good.maps (good.core, good.are_maps) (Err e) kept h in
     let two = then_value (FindingIs m good.maps images layouts) (AfterFinding bytes images config) (finding_agree m good.maps images layouts apart)
-        good.finding (finds m good.maps images layouts good.finding good.found) (Err e) kept one in
+    good.finding (finds m good.maps images layouts good.finding good.found) (Err e) kept one in
     by two
   where
     by : AfterFinding bytes images config good.finding (Err e) → ⊥

@@ -6,7 +6,9 @@ ghost use Rattle.core_stacks.specs.Seen.{IsImageError, known_in, needed_by, prog
 
 use elf64_core::Name;
 use image_memory::{CoreMapRange, Images};
-use py_process::{BinaryError, BinaryInfo, CoreError, PythonProcessInfo, is_python_lib, parse_binary};
+use py_process::{
+    BinaryError, BinaryInfo, CoreError, PythonProcessInfo, is_python_lib, parse_binary,
+};
 use std::alloc::{AllocError, Global};
 
 /// Whether a map is executable and its file has a name.

@@ -32,9 +32,9 @@ impl Model for PythonCoreDump {
     ghost Value = { Opened };
 
     ghost view = { λ p. record {
-        core = p.core;
-        pieces = memory_of p.core;
-        finding = finding_of p.found;
+      core = p.core;
+      pieces = memory_of p.core;
+      finding = finding_of p.found;
     } };
 
     ghost invariant = { λ p. IsSound p.found.layout };
@@ -149,7 +149,11 @@ impl PythonCoreDump {
     pub(crate) fn into_version(self) -> Version
         ensures { result ≡ self.finding.version }
     {
-        let PythonCoreDump { alloc: _, core: _, found } = self;
+        let PythonCoreDump {
+            alloc: _,
+            core: _,
+            found,
+        } = self;
         found.version
     }
 }

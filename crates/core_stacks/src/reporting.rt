@@ -13,11 +13,7 @@ use py_stacks::Config;
 use std::alloc::Global;
 
 /// The report of a core of a Python process that was opened, and of what its notes tell.
-fn report_of(
-    python: PythonCoreDump,
-    notes: Notes,
-    config: &Config,
-) -> Result<Report, CoreError>
+fn report_of(python: PythonCoreDump, notes: Notes, config: &Config) -> Result<Report, CoreError>
     requires notes { NotesTell python.core notes.signal notes.process }
     ensures settles { Settles (IsReportOf python config.now) (reported result) }
     ensures complete { IsFoundIn python → AsksNoOther config.now → config.now.dump_locals ≡ 0

@@ -64,11 +64,7 @@ fn push_process(text: &mut String, process: &Option<(i32, Text)>) -> Result<(), 
 }
 
 /// The version, and the threads from the last to the first.
-fn push_walk(
-    text: &mut String,
-    version: &Version,
-    traces: &[StackTrace],
-) -> Result<(), AllocError>
+fn push_walk(text: &mut String, version: &Version, traces: &[StackTrace]) -> Result<(), AllocError>
     ensures { OnOk result (string_bytes text.new ≡ string_bytes text.old ++ walk_text version.now traces.now) }
 {
     write!(text, "Python v{version}\n\n")?;

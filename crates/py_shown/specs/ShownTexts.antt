@@ -87,4 +87,4 @@ escaped text = flat_map escape (chars text)
 unfoldable pub quoted : ℕ → List ℕ → List ℕ
 quoted n text =
     codes "\"" ++ flat_map encode_utf8 (take n (escaped text))
-        ++ (if nat_lt n (length (escaped text)) then dots else []) ++ codes "\""
+    ++ (if nat_lt n (length (escaped text)) then dots else []) ++ codes "\""

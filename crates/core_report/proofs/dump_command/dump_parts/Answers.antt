@@ -10,6 +10,9 @@ returns c =
     let d = asked_dump c.args.words.now in
     answer_weaker (IsDumpedBy d c.args.core.items c.in_ok-images.images c.in_ok-layouts.layouts)
     (IsDumped d (c.args.core.items ∷ c.args.text.now ∷ contents c.args.files.items))
-    (λ o h. inr (c.in_ok-layouts.layouts, c.in_ok-layouts.ensures.right,
-    subst (λ images. IsDumpedBy d c.args.core.items images c.in_ok-layouts.layouts o) c.in_ok-images.ensures h))
+    (λ o h. inr (
+      c.in_ok-layouts.layouts,
+      c.in_ok-layouts.ensures.right,
+      subst (λ images. IsDumpedBy d c.args.core.items images c.in_ok-layouts.layouts o) c.in_ok-images.ensures h,
+    ))
     c.text_by.result c.text_by.ensures

@@ -25,5 +25,9 @@ returns c =
     let right = subst (λ config. ReportIs c.args.core.items c.args.images.now c.args.layouts.now config (reported (Ok c.in_ok-report.report))) c.default-config.ensures c.in_ok-report.ensures.right in
     let d = asked_dump c.args.words.now in
     let report = c.in_ok-report.report in
-    inr (report, right, ap (λ t. Ok t) (c.in_ok-text.ensures
-    ∙ ap (λ traces. report_text d.core report.signal report.process report.version traces) c.deref.ensures.value))
+    inr (
+      report,
+      right,
+      ap (λ t. Ok t) (c.in_ok-text.ensures
+          ∙ ap (λ traces. report_text d.core report.signal report.process report.version traces) c.deref.ensures.value),
+    )
