@@ -34,7 +34,8 @@ region_by images s entry = option_map (region_of_image s entry.place) (first_und
 -- the piece of a load segment that comes from an image: it isn't writable, and has a name under which one is
 -- handed in
 abbrev pub backed_region : Pushed → List Entry → Segment → Option Region
-backed_region images entries s = if is_writable s then None else option_and_then (region_by images s) (entry_for entries s.addr)
+backed_region images entries s =
+    if is_writable s then None else option_and_then (region_by images s) (entry_for entries s.addr)
 
 -- the memory of a core and its images: the core's own pieces, in table order, then those from images
 abbrev pub backed_memory_of : List ℕ → List Entry → Pushed → List Region
@@ -89,14 +90,16 @@ numbered_range images s place number = record {
 abbrev pub range_named : Pushed → Segment → Option (List ℕ) → Option FilePlace → Option FileRange
 range_named images s None place = None
 range_named images s (Some name) None = None
-range_named images s (Some name) (Some place) = option_map (numbered_range images s place) (position (is_under name) images)
+range_named images s (Some name) (Some place) =
+    option_map (numbered_range images s place) (position (is_under name) images)
 
 abbrev pub range_by : Pushed → Segment → Option (List ℕ) → Option FilePlace → Option FileRange
 range_by images s name place = if is_writable s then None else range_named images s name place
 
 abbrev pub image_range : Pushed → List Entry → Segment → Option FileRange
 image_range images entries s =
-    range_by images s (option_map (λ e. e.name) (entry_for entries s.addr)) (option_map (λ e. e.place) (entry_for entries s.addr))
+    range_by images s (option_map (λ e. e.name) (entry_for entries s.addr))
+    (option_map (λ e. e.place) (entry_for entries s.addr))
 
 -- which bytes of which images the segments of a core have, in table order
 pub record AreImageRanges (bytes : List ℕ) (images : Pushed) (ranges : List FileRange) : Type 0 where

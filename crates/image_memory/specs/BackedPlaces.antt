@@ -64,7 +64,8 @@ pub record IsKept (dump : Backed) (table : List TableEntry) (files : List ℕ) :
   pub held : All (IsInFile dump) (file_ranges dump)
   pub pieces : ArePieces (all_ranges dump) table
   pub counted : length files ≡ length table
-  pub files_are : (k : ℕ) (piece : TableEntry) → slice_get table k ≡ Some piece → IsFilePiece dump (slice_index files k) piece
+  pub files_are : (k : ℕ) (piece : TableEntry) → slice_get table k ≡ Some piece
+      → IsFilePiece dump (slice_index files k) piece
 
 -- the files of pieces, by the numbers of their ranges
 pub record AreFilesOf (all : List FileRange) (laid : List Owned) (files : List ℕ) : Type 0 where

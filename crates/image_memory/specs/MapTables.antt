@@ -12,7 +12,11 @@ last_addr = 2 ^ 64 - 1
 
 -- the addresses of a map below 2^64 - 1
 abbrev pub map_range_of : CoreMapRange → TableEntry
-map_range_of m = record { start = m.segment.addr; len = min m.segment.mem_size (last_addr - m.segment.addr); offset = 0 }
+map_range_of m = record {
+  start = m.segment.addr;
+  len = min m.segment.mem_size (last_addr - m.segment.addr);
+  offset = 0;
+}
 
 -- how many of those from there on lie in a map
 abbrev pub past_of : CoreMapRange → ℕ

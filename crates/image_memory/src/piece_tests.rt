@@ -1,11 +1,12 @@
 //! The pieces of cores that are written out, and the addresses of maps that overlap.
-ghost use Rattle.std.specs.Prelude.{◌≡◌, ◌<◌, ◌≤◌, length};
+ghost use Rattle.std.specs.Prelude.{◌≡◌, ◌<◌, ◌^◌};
 
 use crate::tests::{HELD, Row, core_of};
-use crate::{ContainsAddr, CoreDump, CoreMapRange, MapTable, ProcessMemory};
+use crate::{BackedDump, ContainsAddr, CoreDump, CoreMapRange, Images, MapTable, ProcessMemory};
 use elf64_core::{LOAD, NOTE, Segment, Steps};
 use std::alloc::{AllocError, Global};
 use std::marker::Brand;
+use std::process::Abort;
 use std::sync::ledger::{Blank, Ledger};
 use std::test::Fail;
 
@@ -95,6 +96,21 @@ fn pieces_are_the_longest(rt: HostRuntime) -> Result<(), Fail> {
     Ok(())
 }
 
+/// Reads the byte at each start, 100 times over.
+fn read_each<P: ProcessMemory + Drop>(rt: &impl Abort, memory: P, count: u64) -> Result<(), Fail>
+    requires { count < 2 ^ 32 }
+{
+    let mut memory = memory;
+    for _ in 0..100 {
+        for number in 0..count {
+            let mut byte = [0];
+            memory.read(0x1000 + 16 * number, &mut byte)?;
+            assert!(rt; u64::from(byte[0]) == number % 251, "{number}");
+        }
+    }
+    Ok(())
+}
+
 #[test]
 fn many_segments_are_read_at_once(rt: HostRuntime) -> Result<(), Fail> {
     let alloc = rt.alloc();
@@ -116,15 +132,9 @@ fn many_segments_are_read_at_once(rt: HostRuntime) -> Result<(), Fail> {
     assert!(rt; segments.len() < 65535);
     let core = CoreDump::new(alloc, core_of(alloc, &segments, &held)?)?;
     assert_eq!(rt; core.pieces(), 65533);
-    let mut view = core.view();
-    for _ in 0..100 {
-        for number in 0..count {
-            let mut byte = [0];
-            view.read(0x1000 + 16 * number, &mut byte)?;
-            assert!(rt; u64::from(byte[0]) == number % 251, "{number}");
-        }
-    }
-    Ok(())
+    read_each(&rt, core.view(), count)?;
+    let dump = BackedDump::new(alloc, core, &Images::new(alloc))?;
+    read_each(&rt, dump.view(), count)
 }
 
 /// The starts and sizes of maps that overlap, one of them past 2^64 - 1.
