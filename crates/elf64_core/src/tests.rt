@@ -2,8 +2,8 @@
 ghost use Rattle.std.specs.Prelude.{◌≡◌, ◌<◌};
 
 use crate::{
-    Elf64, ElfError, LOAD, Machine, NOTE, Name, Segment, SpanTable, Steps, TableEntry, Text, u16_in,
-    u32_in, u64_in,
+    Elf64, ElfError, LOAD, Machine, NOTE, Name, Segment, SpanTable, Steps, TableEntry, Text,
+    u16_in, u32_in, u64_in,
 };
 use std::alloc::{AllocError, Global};
 use std::cmp::Ordering;
