@@ -1,5 +1,5 @@
 -- Where the bytes of a core and its images stand, and that they are those of the memory.
-use Rattle.std.proofs.Common.{◌≡◌, ◌≢◌, ◌⊎◌, ℕ, ◌+◌, ◌-◌, ◌<◌, ◌≤◌, ◌^◌, min, Bool, true, false, not, cond, List, [], ◌∷◌, ◌++◌, length, take, drop, get_or, map, refl, sym, ap, subst, ◌∙◌, arith, inl, inr, ⊎_elim, length-drop, length-take, get_or-drop, get_or-take}
+use Rattle.std.proofs.Common.{◌≡◌, ◌⊎◌, ℕ, ◌+◌, ◌-◌, ◌<◌, ◌≤◌, ◌^◌, min, Bool, true, false, not, cond, List, [], ◌∷◌, length, drop, get_or, map, refl, sym, ap, subst, ◌∙◌, arith, inl, inr, ⊎_elim, length-drop, length-take, get_or-drop, get_or-take}
 use Rattle.std.specs.Prelude.{All, Option, Some, None, find, option_map, slice_get, slice_range}
 use Rattle.std.specs.List.{list_any, position_or_len}
 use Rattle.std.proofs.lemmas.Bool.{cases_lt}
@@ -8,7 +8,7 @@ use Rattle.std.proofs.lemmas.List.Elements.{All-head, All-map, All-tail}
 use Rattle.std.proofs.lemmas.List.Folds.{find_at}
 use Rattle.std.proofs.lemmas.Option.{slice_get-get_or}
 use Rattle.elf64_core.specs.declared.span_table.TableEntry.{TableEntry}
-use Rattle.process_memory.specs.Memory.{Region, byte_at, first_byte, first_of, region_byte}
+use Rattle.process_memory.specs.Memory.{byte_at, first_byte, first_of}
 use Rattle.process_memory.proofs.Stretch.{byte_below}
 use Rattle.process_memory.proofs.Records.{byte_at-above}
 use Rattle.image_memory.specs.declared.backed_dump.FileRange.{FileRange}

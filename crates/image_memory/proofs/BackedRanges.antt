@@ -1,6 +1,6 @@
 -- Which bytes of which images the maps of a core have.
-use Rattle.std.proofs.Common.{◌≡◌, ◌⊎◌, ℕ, zero, suc, ◌+◌, ◌-◌, ◌<◌, ◌≤◌, ◌^◌, min, ltb, Bool, true, false, cond, List, [], ◌∷◌, ◌++◌, length, take, drop, get_or, map, refl, sym, ap, subst, ◌∙◌, arith, inl, inr, ⊎_elim, add-one, length-drop}
-use Rattle.std.specs.Prelude.{All, Option, Some, None, find, filter_map, option_map, option_and_then, position, slice_get, slice_index_or}
+use Rattle.std.proofs.Common.{◌≡◌, ℕ, suc, ◌+◌, ◌-◌, ◌<◌, ◌≤◌, ◌^◌, min, true, false, cond, List, [], ◌∷◌, ◌++◌, length, take, drop, get_or, map, refl, sym, ap, subst, ◌∙◌, arith, inl, inr, ⊎_elim, add-one, length-drop}
+use Rattle.std.specs.Prelude.{All, Option, Some, None, filter_map, option_map, option_and_then, position, slice_index_or}
 use Rattle.std.specs.List.{cons_option, position_or_len}
 use Rattle.std.proofs.lemmas.Bool.{cases_lt, le-ltb, lt-ltb}
 use Rattle.std.proofs.lemmas.List.{append-nil, drop_all, drop_min, drop_more, get_or-map, length-map, map-append, take_min}
@@ -10,20 +10,19 @@ use Rattle.std.proofs.lemmas.Option.{get_or_from_slice_get, slice_get-get_or, sl
 use Rattle.elf64_core.specs.Header.{HasSegments}
 use Rattle.elf64_core.specs.declared.span_table.TableEntry.{TableEntry}
 use Rattle.elf64_core.specs.declared.segment.Segment.{Segment}
-use Rattle.process_memory.specs.Memory.{Region}
 use Rattle.image_memory.specs.declared.backed_dump.FileRange.{FileRange}
 use Rattle.image_memory.specs.declared.overlay.Owned.{Owned}
 use Rattle.image_memory.specs.declared.file_table.FilePlace.{FilePlace}
 use Rattle.image_memory.specs.declared.maps.CoreMapRange.{CoreMapRange}
-use Rattle.image_memory.specs.Backed.{AreImageRanges, Backed, IsBackedMemory, backed_memory_of, backed_region, byte_place, core_range, file_bytes, file_ranges, image_range, is_writable, numbered_range, range_by, range_in, region_by, region_in, region_of_image, regions_of}
-use Rattle.image_memory.specs.BackedPlaces.{AreFilesOf, IsInFile, IsInImage, IsKept, all_ranges, range_of_file}
+use Rattle.image_memory.specs.Backed.{AreImageRanges, Backed, IsBackedMemory, backed_region, byte_place, core_range, file_bytes, file_ranges, image_range, is_writable, numbered_range, range_by, region_by, region_in, region_of_image, regions_of}
+use Rattle.image_memory.specs.BackedPlaces.{AreFilesOf, IsInFile, IsInImage, IsKept, all_ranges}
 use Rattle.image_memory.specs.FileTables.{Entry}
 use Rattle.image_memory.specs.Images.{Pushed, first_under, images_shown, is_under}
 use Rattle.image_memory.specs.Maps.{AreMaps, ArePlaces, entry_for, map_by, place_by}
 use Rattle.image_memory.specs.Mmap.{Mapped, shown_bytes}
 use Rattle.image_memory.specs.Laid.{AreLaid, entry_of}
-use Rattle.image_memory.specs.Overlays.{ArePieces, IsPieceOf, IsRange}
-use Rattle.image_memory.specs.Pieces.{loads_of, memory_of, range_of, segment_region}
+use Rattle.image_memory.specs.Overlays.{ArePieces, IsPieceOf}
+use Rattle.image_memory.specs.Pieces.{loads_of, memory_of}
 use Rattle.image_memory.specs.Places.{IsHeld}
 use Rattle.image_memory.proofs.Boundaries.{ArePieces-laid}
 use Rattle.image_memory.proofs.Overlays.{IsPieceAt}

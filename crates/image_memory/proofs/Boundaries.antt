@@ -1,5 +1,5 @@
 -- How many pieces ranges have: each starts where a range starts or ends, so there are at most twice as many.
-use Rattle.std.proofs.Common.{◌≡◌, ◌≢◌, ◌⊎◌, ℕ, zero, suc, ◌+◌, ◌-◌, ◌*◌, ◌<◌, ◌≤◌, ◌^◌, leb, Bool, true, false, cond, List, [], ◌∷◌, ◌++◌, length, get_or, map, refl, sym, ap, subst, ◌∙◌, arith, inl, inr, ⊎_elim, length-append, ◌||◌}
+use Rattle.std.proofs.Common.{◌≡◌, ◌≢◌, ◌⊎◌, ℕ, zero, suc, ◌+◌, ◌-◌, ◌*◌, ◌<◌, ◌≤◌, ◌^◌, leb, Bool, true, false, cond, List, [], ◌∷◌, ◌++◌, length, get_or, map, refl, ap, subst, arith, inl, inr, ⊎_elim, length-append, ◌||◌}
 use Rattle.std.specs.Prelude.{All}
 use Rattle.std.specs.List.{AllByRecursion, AllPairs, list_any}
 use Rattle.std.proofs.lemmas.Bool.{cases_lt, cases_eq, le-leb, lt-leb}
@@ -10,7 +10,7 @@ use Rattle.elf64_core.specs.SpanTables.{AreSpans, IsSpan, StandsBefore}
 use Rattle.elf64_core.specs.declared.span_table.TableEntry.{TableEntry}
 use Rattle.image_memory.specs.declared.overlay.Owned.{Owned}
 use Rattle.image_memory.specs.Overlays.{ArePieces, IsPiece, IsPieceOf, IsRange, owner_of, spans}
-use Rattle.image_memory.specs.Laid.{AnyHolds, AreLaid, HasRoom, HaveRoom, Holds, Rises, end_of, entry_of}
+use Rattle.image_memory.specs.Laid.{AnyHolds, AreLaid, HaveRoom, Holds, Rises, end_of, entry_of}
 use Rattle.image_memory.proofs.Overlays.{IsPieceAt, first_below, owner_spans, pieces_room, piece_within, spans_from, spans_within}
 
 abbrev IsIn : ℕ → List ℕ → Type 0

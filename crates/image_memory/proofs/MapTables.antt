@@ -1,12 +1,12 @@
 -- A table of maps tests addresses as the maps do.
-use Rattle.std.proofs.Common.{◌≡◌, ◌⊎◌, ℕ, ◌+◌, ◌-◌, ◌<◌, ◌≤◌, ◌^◌, leb, ltb, min, max, Bool, true, false, cond, ◌||◌, List, [], ◌∷◌, length, get_or, map, fold, refl, sym, ap, subst, ◌∙◌, arith, inl, inr}
+use Rattle.std.proofs.Common.{◌≡◌, ℕ, ◌+◌, ◌-◌, ◌<◌, ◌≤◌, ltb, max, Bool, true, false, cond, ◌||◌, List, [], ◌∷◌, get_or, map, fold, refl, sym, ap, subst, ◌∙◌, arith, inl, inr}
 use Rattle.std.specs.Prelude.{All, IfSome, None, Option, Some}
 use Rattle.std.specs.Option.{is_some}
 use Rattle.std.proofs.lemmas.Option.{get_or_from_slice_get, slice_get_within}
 use Rattle.image_memory.specs.declared.lookup.Hit.{Hit}
 use Rattle.image_memory.specs.Lookups.{IsHit}
-use Rattle.std.specs.List.{Any, list_any}
-use Rattle.std.proofs.lemmas.Bool.{cases_Bool, cases_lt, le-ltb, lt-ltb}
+use Rattle.std.specs.List.{list_any}
+use Rattle.std.proofs.lemmas.Bool.{cases_lt, le-ltb, lt-ltb}
 use Rattle.std.proofs.lemmas.Bool.Decides.{nat_tests}
 use Rattle.std.proofs.lemmas.List.Elements.{All-head, All-tail}
 use Rattle.std.proofs.lemmas.List.Folds.{Any-from_list_any, list_any_at}
@@ -14,7 +14,7 @@ use Rattle.elf64_core.specs.declared.span_table.TableEntry.{TableEntry}
 use Rattle.image_memory.specs.declared.maps.CoreMapRange.{CoreMapRange}
 use Rattle.image_memory.specs.MapTables.{MapSpans, last_addr, map_range_of, past_last, past_of, tests}
 use Rattle.image_memory.specs.Maps.{holds_addr, in_maps}
-use Rattle.image_memory.specs.Overlays.{ArePieces, IsPiece, IsRange, owner_of, spans}
+use Rattle.image_memory.specs.Overlays.{ArePieces, IsPiece, IsRange, spans}
 use Rattle.image_memory.proofs.Overlays.{first_below, owner_spans, spans_from}
 
 -- the pieces of ranges hold the addresses that the ranges hold

@@ -1,6 +1,6 @@
 -- Where the bytes of a piece stand, and that they are those of the memory.
-use Rattle.std.proofs.Common.{◌≡◌, ◌⊎◌, ℕ, zero, suc, ◌+◌, ◌-◌, ◌<◌, ◌≤◌, ◌^◌, min, leb, Bool, true, false, cond, List, [], ◌∷◌, length, take, drop, get_or, map, refl, sym, ap, subst, ◌∙◌, arith, inl, inr, ⊎_elim, length-drop, length-take}
-use Rattle.std.specs.Prelude.{All, Option, Some, None, IsSome, find, option_map, slice_get, slice_range}
+use Rattle.std.proofs.Common.{◌≡◌, ◌⊎◌, ℕ, ◌+◌, ◌-◌, ◌<◌, ◌≤◌, ◌^◌, min, leb, true, false, cond, List, [], ◌∷◌, length, take, drop, get_or, map, refl, sym, ap, subst, ◌∙◌, arith, inl, inr, ⊎_elim, length-drop, length-take}
+use Rattle.std.specs.Prelude.{All, Option, Some, None, find, option_map, slice_get, slice_range}
 use Rattle.std.specs.List.{list_any}
 use Rattle.std.proofs.lemmas.Bool.{cases_lt, le-leb, lt-leb}
 use Rattle.std.proofs.lemmas.Bool.Decides.{nat_tests}
@@ -10,11 +10,11 @@ use Rattle.std.proofs.lemmas.Option.{get_or_from_slice_get, slice_get-get_or, sl
 use Rattle.elf64_core.specs.Header.{HasSegments}
 use Rattle.elf64_core.specs.declared.segment.Segment.{Segment}
 use Rattle.elf64_core.specs.declared.span_table.TableEntry.{TableEntry}
-use Rattle.process_memory.specs.Memory.{Region, byte_at, first_byte, first_of, region_byte}
+use Rattle.process_memory.specs.Memory.{byte_at, first_byte, first_of, region_byte}
 use Rattle.process_memory.proofs.Stretch.{byte_below}
 use Rattle.process_memory.proofs.Records.{byte_at-above}
 use Rattle.image_memory.specs.Lookups.{IsHit}
-use Rattle.image_memory.specs.Overlays.{ArePieces, IsPiece, IsPieceOf, IsRange, found_at, found_by, owner_of, spans}
+use Rattle.image_memory.specs.Overlays.{ArePieces, IsPiece, IsRange, found_at, found_by, owner_of, spans}
 use Rattle.image_memory.specs.Pieces.{loads_of, memory_of, range_of, ranges_of, segment_region}
 use Rattle.image_memory.specs.Places.{IsHeld, IsStretch, holds_byte, place_in, stands_at}
 use Rattle.image_memory.proofs.Held.{held_loads}

@@ -1,5 +1,5 @@
 -- Where the bytes of the memory of a core and its images stand: in which file, and where there.
-use Rattle.std.specs.Prelude.{◌≡◌, ◌≢◌, ◌⊎◌, ℕ, ◌+◌, ◌<◌, ◌≤◌, ◌-◌, ◌^◌, true, All, Bool, List, length, map, find, Option, Some, option_map, slice_get, slice_index, slice_index_or, []}
+use Rattle.std.specs.Prelude.{◌≡◌, ◌≢◌, ◌⊎◌, ℕ, ◌+◌, ◌<◌, ◌≤◌, ◌-◌, ◌^◌, All, Bool, List, length, map, find, Option, Some, option_map, slice_get, slice_index, slice_index_or, []}
 use Rattle.elf64_core.specs.declared.span_table.TableEntry.{TableEntry}
 use Rattle.image_memory.specs.Backed.{Backed, file_bytes, file_ranges}
 use Rattle.image_memory.specs.Overlays.{ArePieces, IsPieceOf, IsRange, found_by, spans}

@@ -1,8 +1,7 @@
 -- Tables of the addresses of maps. A table has the addresses below 2^64 - 1; of those from there on a map that
 -- has any has the first ones.
-use Rattle.std.specs.Prelude.{ℕ, ◌+◌, ◌-◌, ◌^◌, nat_lt, min, max, if◌then◌else◌, Bool, List, fold}
+use Rattle.std.specs.Prelude.{ℕ, ◌-◌, ◌^◌, nat_lt, min, max, if◌then◌else◌, Bool, List, fold}
 use Rattle.std.specs.List.{list_any}
-use Rattle.elf64_core.specs.declared.segment.Segment.{Segment}
 use Rattle.elf64_core.specs.declared.span_table.TableEntry.{TableEntry}
 use Rattle.image_memory.specs.Overlays.{spans}
 use Rattle.image_memory.specs.declared.maps.CoreMapRange.{CoreMapRange}

@@ -1,4 +1,4 @@
-use Rattle.std.proofs.Common.{◌≡◌, ◌≤◌, ◌+◌, ◌-◌, ◌^◌, sym, subst, ◌∙◌, ap, arith, length}
+use Rattle.std.proofs.Common.{◌≤◌, ◌+◌, ◌-◌, ◌^◌, sym, subst, arith}
 use Rattle.image_memory.specs.Maps.{AreMaps}
 use Rattle.image_memory.specs.declared.maps.CoreMapRange.{CoreMapRange}
 use Rattle.image_memory.proofs.BackedRanges.{AreImageRanges-from, maps_end, ranges_from-all}

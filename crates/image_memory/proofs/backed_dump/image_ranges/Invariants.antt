@@ -1,4 +1,4 @@
-use Rattle.std.proofs.Common.{◌≡◌, ◌++◌, drop, take}
+use Rattle.std.proofs.Common.{◌≡◌, ◌++◌, drop}
 use Rattle.std.specs.Prelude.{All}
 use Rattle.image_memory.specs.BackedPlaces.{IsInImage}
 use Rattle.image_memory.specs.Images.{images_shown}

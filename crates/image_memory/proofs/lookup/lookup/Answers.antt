@@ -1,5 +1,5 @@
-use Rattle.std.proofs.Common.{◌+◌, ◌-◌, ◌/◌, ◌≡◌, length, arith, subst, sym, ap}
-use Rattle.image_memory.proofs.Lookups.{Halving, Halving-more, Halving-none, HalvesIn-of, over_more, spans_none, under_more}
+use Rattle.std.proofs.Common.{◌+◌, ◌-◌, ◌/◌, length, arith}
+use Rattle.image_memory.proofs.Lookups.{Halving-more, Halving-none, HalvesIn-of, over_more, spans_none, under_more}
 use Rattle.image_memory.proofs.lookup.lookup.Goals as goal
 
 pub halves-init : goal.halves-init

@@ -1,6 +1,6 @@
-use Rattle.std.proofs.Common.{◌≡◌, ◌≤◌, ◌++◌, ◌∷◌, ◌+◌, ◌^◌, ◌-◌, [], drop, get_or, length, ap, sym, subst, ◌∙◌, arith}
+use Rattle.std.proofs.Common.{◌++◌, ◌∷◌, ◌+◌, ◌^◌, ◌-◌, [], drop, get_or, ap, sym, ◌∙◌, arith}
 use Rattle.image_memory.specs.declared.overlay.Owned.{Owned}
-use Rattle.image_memory.specs.Laid.{AreBelow, Rises, end_of, overlaid, parts_between}
+use Rattle.image_memory.specs.Laid.{end_of, overlaid}
 use Rattle.std.proofs.lemmas.List.{drop_all}
 use Rattle.image_memory.proofs.Laid.{AreBelow-wider, Rises-at, overlaid_more, parts_gone, room_at}
 use Rattle.image_memory.proofs.overlay.overlay.Goals as goal

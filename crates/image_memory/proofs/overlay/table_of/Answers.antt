@@ -1,4 +1,4 @@
-use Rattle.std.proofs.Common.{◌≡◌, sym, subst, ◌∙◌, ap, arith, length, map}
+use Rattle.std.proofs.Common.{sym, subst, ◌∙◌, ap, arith, length, map}
 use Rattle.std.proofs.lemmas.Result.{IfOk-weaker}
 use Rattle.elf64_core.specs.SpanTables.{AreSpans}
 use Rattle.image_memory.specs.Laid.{entry_of}

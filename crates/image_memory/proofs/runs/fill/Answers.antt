@@ -1,4 +1,4 @@
-use Rattle.std.proofs.Common.{◌≡◌, ◌≤◌, ℕ, ◌+◌, ◌-◌, ◌<◌, arith, length, get_or, take, sym, ap, ◌∙◌}
+use Rattle.std.proofs.Common.{◌+◌, ◌-◌, arith, take}
 use Rattle.process_memory.proofs.Stretch.{run_fits, put_long, copied_more}
 use Rattle.image_memory.proofs.RunParts.{part_bytes}
 use Rattle.image_memory.proofs.runs.fill.Goals as goal

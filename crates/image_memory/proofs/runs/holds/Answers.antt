@@ -1,5 +1,4 @@
-use Rattle.std.proofs.Common.{◌≡◌, ℕ, ◌+◌, ◌<◌, arith, length, get_or, take, length-take, get_or-take, sym, ap, ◌∙◌}
-use Rattle.std.specs.Prelude.{Some}
+use Rattle.std.proofs.Common.{◌+◌, arith, take}
 use Rattle.process_memory.proofs.Stretch.{run_fits, held_more}
 use Rattle.image_memory.proofs.RunParts.{part_bytes}
 use Rattle.image_memory.proofs.runs.holds.Goals as goal

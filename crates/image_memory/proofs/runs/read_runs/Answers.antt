@@ -1,8 +1,5 @@
-use Rattle.std.proofs.Common.{◌≡◌, ◌<◌, arith, rules, subst, sym, length, Ok, Err, ◌∙◌}
+use Rattle.std.proofs.Common.{arith, ◌∙◌}
 use Rattle.process_memory.proofs.Records.{record_each, record_lack}
-use Rattle.process_memory.specs.Memory.{byte_at, record_at}
-use Rattle.process_memory.specs.Seen.{Answers, fault_of}
-use Rattle.process_memory.specs.declared.memory.ReadFault.TheVariants.{Unreadable}
 use Rattle.image_memory.proofs.runs.read_runs.Goals as goal
 
 pub returns-then-read_whole-clause-gives : goal.returns-then-read_whole-clause-gives

@@ -1,9 +1,9 @@
-use Rattle.std.proofs.Common.{◌≡◌, ◌≤◌, ◌++◌, List, ℕ, refl, sym, subst, ◌∙◌, ap, arith, length, map}
+use Rattle.std.proofs.Common.{◌≡◌, ◌++◌, refl, sym, subst, ◌∙◌, ap, arith, length, map}
 use Rattle.std.specs.Prelude.{All}
 use Rattle.elf64_core.specs.SpanTables.{AreSpans}
-use Rattle.image_memory.specs.Backed.{AreImageRanges, Backed, IsBacked, IsBackedMemory, core_range, file_ranges, regions_of}
+use Rattle.image_memory.specs.Backed.{Backed, core_range, file_ranges}
 use Rattle.image_memory.specs.BackedPlaces.{AreFilesOf, IsInFile, IsKept, all_ranges, range_of_file}
-use Rattle.image_memory.specs.Images.{Pushed, images_shown}
+use Rattle.image_memory.specs.Images.{images_shown}
 use Rattle.image_memory.specs.Laid.{AreLaid, entry_of}
 use Rattle.image_memory.specs.Mmap.{shown_bytes}
 use Rattle.image_memory.specs.Overlays.{IsRange}

@@ -1,4 +1,4 @@
-use Rattle.std.proofs.Common.{◌≡◌, ◌<◌, sym, subst, ◌∙◌, ap, arith, length, get_or}
+use Rattle.std.proofs.Common.{◌<◌, sym, subst, arith, length}
 use Rattle.std.proofs.lemmas.List.{get_or_read}
 use Rattle.std.proofs.lemmas.Option.{slice_get_within}
 use Rattle.image_memory.specs.BackedPlaces.{IsFilePiece, IsKept}

@@ -1,4 +1,4 @@
-use Rattle.std.proofs.Common.{◌≡◌, ◌≤◌, sym, subst, ◌∙◌, ap, arith}
+use Rattle.std.proofs.Common.{arith}
 use Rattle.image_memory.proofs.BackedPlaces.{file_piece_inside, file_stretch}
 use Rattle.image_memory.proofs.Overlays.{spans_from}
 use Rattle.image_memory.proofs.backed_dump.BackedDump.stretch.Goals as goal

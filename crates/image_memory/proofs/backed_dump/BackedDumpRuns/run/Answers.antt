@@ -1,4 +1,4 @@
-use Rattle.std.proofs.Common.{◌≡◌, ◌+◌, sym, subst, ◌∙◌, ap, arith}
+use Rattle.std.proofs.Common.{◌+◌, ◌∙◌, ap}
 use Rattle.std.specs.Prelude.{option_map, slice_range}
 use Rattle.image_memory.proofs.BackedPlaces.{byte_in, byte_stands, stretch_bytes}
 use Rattle.image_memory.proofs.backed_dump.BackedDumpRuns.run.Goals as goal

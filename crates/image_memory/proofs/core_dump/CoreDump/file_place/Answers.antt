@@ -1,4 +1,4 @@
-use Rattle.std.proofs.Common.{◌≡◌, sym, subst, ◌∙◌, ap}
+use Rattle.std.proofs.Common.{sym, subst, ◌∙◌, ap}
 use Rattle.std.specs.Prelude.{option_and_then, slice_get}
 use Rattle.image_memory.specs.Contents.{AreContents}
 use Rattle.image_memory.specs.Maps.{IsFilePlace}

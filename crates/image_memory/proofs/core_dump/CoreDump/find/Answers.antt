@@ -1,4 +1,4 @@
-use Rattle.std.proofs.Common.{◌≡◌, ◌≤◌, ◌+◌, ◌-◌, sym, subst, ◌∙◌, arith, ap, length}
+use Rattle.std.proofs.Common.{subst}
 use Rattle.image_memory.specs.Contents.{AreContents}
 use Rattle.image_memory.proofs.Stretches.{byte_none, byte_some, hit_piece}
 use Rattle.image_memory.proofs.core_dump.CoreDump.find.Goals as goal

@@ -1,4 +1,4 @@
-use Rattle.std.proofs.Common.{◌≡◌, ◌≤◌, ◌+◌, sym, subst, ◌∙◌, arith, ap, length}
+use Rattle.std.proofs.Common.{subst, arith}
 use Rattle.image_memory.specs.Contents.{AreContents}
 use Rattle.image_memory.specs.Pieces.{loads_of}
 use Rattle.image_memory.proofs.Stretches.{stretch_joined}

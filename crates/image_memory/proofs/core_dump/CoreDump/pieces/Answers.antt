@@ -1,4 +1,4 @@
-use Rattle.std.proofs.Common.{◌≡◌, ◌≤◌, ◌*◌, sym, subst, ◌∙◌, arith, ap, length}
+use Rattle.std.proofs.Common.{subst, arith}
 use Rattle.std.proofs.lemmas.List.{length-map}
 use Rattle.image_memory.specs.Contents.{AreContents}
 use Rattle.image_memory.specs.Pieces.{loads_of, range_of, ranges_of}

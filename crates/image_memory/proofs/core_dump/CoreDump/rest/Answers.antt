@@ -1,4 +1,4 @@
-use Rattle.std.proofs.Common.{◌≡◌, ◌≤◌, ◌+◌, ◌-◌, sym, subst, ◌∙◌, arith, ap, length}
+use Rattle.std.proofs.Common.{◌+◌, subst, ◌∙◌, arith, ap, length}
 use Rattle.std.specs.Prelude.{slice_range}
 use Rattle.image_memory.specs.Contents.{AreContents}
 use Rattle.image_memory.specs.Overlays.{found_by}

@@ -1,4 +1,4 @@
-use Rattle.std.proofs.Common.{◌≡◌, ◌≤◌, ◌^◌, ◌-◌, sym, subst, ◌∙◌, arith, length}
+use Rattle.std.proofs.Common.{subst, arith}
 use Rattle.image_memory.specs.Contents.{AreContents}
 use Rattle.image_memory.proofs.Stretches.{hit_fits, hit_piece, piece_stretch, place_none}
 use Rattle.image_memory.proofs.core_dump.CoreDump.stretch.Goals as goal

@@ -1,6 +1,5 @@
-use Rattle.std.proofs.Common.{◌≡◌, sym, subst, ◌∙◌, ap, map}
+use Rattle.std.proofs.Common.{subst, ◌∙◌}
 use Rattle.std.specs.Prelude.{All}
-use Rattle.image_memory.specs.MapTables.{MapSpans, map_range_of, past_last}
 use Rattle.image_memory.specs.Overlays.{ArePieces, IsRange}
 use Rattle.image_memory.proofs.MapTables.{tests_are}
 use Rattle.image_memory.proofs.map_table.MapTable.of.Goals as goal

@@ -1,7 +1,7 @@
-use Rattle.std.proofs.Common.{◌≡◌, ◌<◌, ◌-◌, cond, ltb, sym, subst, ap, ◌∙◌, arith}
+use Rattle.std.proofs.Common.{◌≡◌, ◌<◌, ◌-◌, cond, ltb, sym, ap, ◌∙◌, arith}
 use Rattle.std.specs.List.{list_any}
 use Rattle.std.proofs.lemmas.Bool.{lt-ltb}
-use Rattle.image_memory.specs.MapTables.{MapSpans, last_addr, tests}
+use Rattle.image_memory.specs.MapTables.{last_addr, tests}
 use Rattle.image_memory.specs.Overlays.{spans}
 use Rattle.image_memory.proofs.MapTables.{hit_any}
 use Rattle.image_memory.proofs.map_table.MapTableContainsAddr.contains_addr.Goals as goal
