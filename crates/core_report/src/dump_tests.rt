@@ -12,7 +12,7 @@ use std::test::Fail;
 /// Three load segments: 616 bytes at 0x10000 with an interpreter, a thread at 0x10040, frames at 0x10080 and
 /// 0x100c0, and their code and texts; one of code at 0x400000, of which the core has no byte, that is mapped from
 /// `/usr/bin/python3.9` by the one note; and 16 bytes at 0x500000, the words 0x400000 and 0x10000.
-const CORE_WORDS: [(usize, u64); 55] = [
+pub(crate) const CORE_WORDS: [(usize, u64); 55] = [
     (0, 0x102_464c_457f),
     (16, 0x3e_0000),
     (32, 0x40),
@@ -72,7 +72,7 @@ const CORE_WORDS: [(usize, u64); 55] = [
 
 /// The words of the image of that program, of 328 bytes: a load segment of code at 0x400000, and a bss of 16 bytes
 /// at 0x500000.
-const IMAGE_WORDS: [(usize, u64); 17] = [
+pub(crate) const IMAGE_WORDS: [(usize, u64); 17] = [
     (0, 0x102_464c_457f),
     (16, 0x3e_0000),
     (32, 0x40),
@@ -93,7 +93,7 @@ const IMAGE_WORDS: [(usize, u64); 17] = [
 ];
 
 /// A file of so many bytes with these words, the first of which count.
-fn with_words(
+pub(crate) fn with_words(
     alloc: Global,
     size: usize,
     others: &[(usize, u64)],

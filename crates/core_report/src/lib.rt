@@ -27,6 +27,8 @@ mod layout_tests;
 #[cfg(test)]
 mod member_tests;
 #[cfg(test)]
+mod opened_tests;
+#[cfg(test)]
 mod tests;
 #[cfg(test)]
 mod walk_tests;
