@@ -1,0 +1,142 @@
+"""What a core tells of the files that its process had mapped, and of which build an ELF file is.
+
+The names are those that the program goes by: a load segment has the name that the last entry of the core's file
+tables gives to its start. What is no core tells no maps here; the program has a line for it.
+"""
+
+import re
+import struct
+from dataclasses import dataclass
+from typing import BinaryIO, Dict, Iterator, List, Optional, Tuple
+
+LOAD, NOTE = 1, 4
+EXECUTABLE = 1
+FILE_TABLE = 0x46494C45
+BUILD_ID = 3
+EXTENDED = 0xFFFF
+"""The count of program headers that stands for one kept elsewhere, which the program refuses."""
+
+HEAD = 1 << 16
+"""The most bytes that are read at the front of a file or a map."""
+
+LIBRARY = re.compile(r"/libpython[0-9].[0-9][0-9]?[mdu]?.so")
+"""The name of Python's library, as `is_python_lib` of the crate py_process has it."""
+
+
+@dataclass(frozen=True)
+class Segment:
+    """A program header."""
+
+    kind: int
+    flags: int
+    offset: int
+    start: int
+    size: int
+    """How many bytes the file has of it."""
+
+
+@dataclass(frozen=True)
+class Map:
+    """A load segment with its file's name."""
+
+    name: bytes
+    is_executable: bool
+    head: bytes
+    """The first bytes that the core has of it, where it shows its file from the start."""
+
+
+def read_at(file: BinaryIO, offset: int, size: int) -> bytes:
+    """The bytes of a range, as many as are there."""
+    length = file.seek(0, 2)
+    if offset >= length:
+        return b""
+    file.seek(offset)
+    return file.read(min(size, length - offset))
+
+
+def segments_of(file: BinaryIO) -> List[Segment]:
+    """The program headers of a 64-bit little-endian ELF file, and of another none."""
+    header = read_at(file, 0, 64)
+    if len(header) < 64 or header[:6] != b"\x7fELF\2\1":
+        return []
+    (table,), (count,) = struct.unpack_from("<Q", header, 32), struct.unpack_from("<H", header, 56)
+    if count == EXTENDED:
+        return []
+    rows = read_at(file, table, 56 * count)
+    return [
+        Segment(kind, flags, offset, start, size)
+        for kind, flags, offset, start, _, size, _, _ in struct.iter_unpack("<2I6Q", rows[: len(rows) // 56 * 56])
+    ]
+
+
+def notes_of(data: bytes) -> Iterator[Tuple[bytes, int, bytes]]:
+    """The notes at the front of some bytes: owner, type and descriptor."""
+    at = 0
+    while at + 12 <= len(data):
+        name_size, size, kind = struct.unpack_from("<3I", data, at)
+        start = at + 12 + (name_size + 3) // 4 * 4
+        if start + size > len(data):
+            return
+        yield data[at + 12 : at + 12 + name_size], kind, data[start : start + size]
+        at = start + (size + 3) // 4 * 4
+
+
+def table_entries(table: bytes) -> Dict[int, Tuple[int, bytes]]:
+    """The entries of a file table, by start: where each begins in its file, in pages, and the file's name."""
+    if len(table) < 16:
+        return {}
+    (count,) = struct.unpack_from("<Q", table)
+    if count > (len(table) - 16) // 24:
+        return {}
+    # (behind the last nul there is no name)
+    names = table[16 + 24 * count :].split(b"\0")[:-1]
+    numbers = struct.iter_unpack("<3Q", table[16 : 16 + 24 * count])
+    return {start: (pages, name) for (start, _, pages), name in zip(numbers, names)}
+
+
+def maps_of(file: BinaryIO) -> List[Map]:
+    """The maps of a core that have a name, in the order of its program headers."""
+    segments = segments_of(file)
+    named: Dict[int, Tuple[int, bytes]] = {}
+    for it in segments:
+        if it.kind == NOTE:
+            for _, kind, data in notes_of(read_at(file, it.offset, it.size)):
+                named.update(table_entries(data) if kind == FILE_TABLE else {})
+    maps = []
+    for it in segments:
+        if it.kind == LOAD and it.start in named:
+            pages, name = named[it.start]
+            head = read_at(file, it.offset, min(it.size, HEAD)) if pages == 0 else b""
+            maps.append(Map(name, bool(it.flags & EXECUTABLE), head))
+    return maps
+
+
+def is_text(name: bytes) -> bool:
+    """Whether a name is UTF-8."""
+    try:
+        name.decode("utf-8")
+    except UnicodeDecodeError:
+        return False
+    return True
+
+
+def is_library(name: bytes) -> bool:
+    """Whether a name is that of Python's library."""
+    return is_text(name) and bool(LIBRARY.search(name.decode("utf-8")))
+
+
+def wanted_names(maps: List[Map]) -> List[bytes]:
+    """The names of the files that the program looks into: the one that it needs first."""
+    names = [it.name for it in maps if it.is_executable]
+    libraries = [name for name in names if is_library(name)]
+    return list(dict.fromkeys(libraries[:1] + names[:1]))
+
+
+def build_id(file: BinaryIO) -> Optional[bytes]:
+    """The build id of an ELF file, or of its first bytes, where these have it."""
+    for it in segments_of(file):
+        if it.kind == NOTE:
+            for owner, kind, data in notes_of(read_at(file, it.offset, min(it.size, HEAD))):
+                if owner == b"GNU\0" and kind == BUILD_ID:
+                    return data
+    return None
