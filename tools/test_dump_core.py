@@ -163,6 +163,14 @@ class Words(Case):
             images, said = self.handed(core_of([Mapped(0x1000, name)]))
             self.assertEqual((images, said.count("\n")), ([], 1), said)
             self.assertIn("(needed; ", said)
+        for size, count in ((0, 0), (1 << 36, 1), ((1 << 36) + 1, 0)):
+            try:
+                os.truncate(self.python, size)
+            except OSError:
+                # (files here can't be so long)
+                continue
+            images, said = self.handed(core_of([Mapped(0x1000, self.python)]))
+            self.assertEqual((len(images), f"has {size} bytes" in said), (count, count == 0))
 
     def test_deleted(self):
         name = self.library + b" (deleted)"
