@@ -54,10 +54,22 @@ def read_at(file: BinaryIO, offset: int, size: int) -> bytes:
     return file.read(min(size, length - offset))
 
 
-def segments_of(file: BinaryIO) -> List[Segment]:
-    """The program headers of a 64-bit little-endian ELF file, and of another none."""
+def header_of(file: BinaryIO) -> bytes:
+    """The header of a 64-bit little-endian ELF file, and of another nothing."""
     header = read_at(file, 0, 64)
-    if len(header) < 64 or header[:6] != b"\x7fELF\2\1":
+    return header if len(header) == 64 and header.startswith(b"\x7fELF\2\1") else b""
+
+
+def machine_of(file: BinaryIO) -> Optional[int]:
+    """The number of the machine that such a file is for."""
+    header = header_of(file)
+    return struct.unpack_from("<H", header, 18)[0] if header else None
+
+
+def segments_of(file: BinaryIO) -> List[Segment]:
+    """The program headers of such a file, and of another none."""
+    header = header_of(file)
+    if not header:
         return []
     (table,), (count,) = struct.unpack_from("<Q", header, 32), struct.unpack_from("<H", header, 56)
     if count == EXTENDED:

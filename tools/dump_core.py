@@ -12,16 +12,21 @@ for it. One line on the standard error names those that are missing. Nothing is 
 import argparse
 import io
 import os
-import signal
 import sys
 from pathlib import Path
-from typing import Iterator, List
+from typing import Iterator, List, Optional, Tuple
 
-from core_maps import Map, build_id, is_text, maps_of, wanted_names
+# (what only looks at a core leaves nothing behind)
+sys.dont_write_bytecode = True
+
+from core_maps import Map, build_id, is_text, machine_of, maps_of, wanted_names
 
 ROOT = Path(__file__).resolve().parent.parent
 PROGRAM = ROOT / "crates" / "pystacks" / "out" / "pystacks"
 LAYOUTS = ROOT / "layouts" / "cpython-x86_64.toml"
+
+MACHINE = 62
+"""The number that ELF files have for x86-64, the machine of those layouts."""
 
 BUILD = "(cd crates/pystacks && rt run -- walk data/core sample 3.9.0 0x10000 0)"
 """What builds the program."""
@@ -117,13 +122,13 @@ def image_words(maps: List[Map], root: bytes) -> List[bytes]:
     return words
 
 
-def core_of(words: argparse.Namespace) -> List[Map]:
-    """The maps of the core. Where it can't be read there are none, and the program has a line for it."""
+def read_core(path: str) -> Tuple[Optional[int], List[Map]]:
+    """The machine and the maps of a core. Where it can't be read there are none, and the program has a line for it."""
     try:
-        with open(words.core, "rb") as file:
-            return maps_of(file)
+        with open(path, "rb") as file:
+            return machine_of(file), maps_of(file)
     except OSError:
-        return []
+        return None, []
 
 
 def run(words: argparse.Namespace) -> None:
@@ -133,13 +138,14 @@ def run(words: argparse.Namespace) -> None:
         raise Fault(f"there is no program {shown(os.fsencode(program))}: {BUILD} builds it", NO_PROGRAM)
     if words.root and not os.path.isdir(words.root):
         raise Fault(f"there is no folder {shown(os.fsencode(words.root))}", BAD_WORDS)
-    command = [os.fsencode(it) for it in (program, "dump", "-c", words.core, "--layouts", words.layouts)]
+    machine, maps = read_core(words.core)
+    if not words.layouts and machine not in (None, MACHINE):
+        raise Fault(f"layouts/ has none of the core's machine, {machine}: name a file by --layouts", BAD_WORDS)
+    command = [os.fsencode(it) for it in (program, "dump", "-c", words.core, "--layouts", words.layouts or LAYOUTS)]
     for word in command[1:]:
         if not is_text(word):
             raise Fault(f"a name that is not UTF-8 can't be handed over: {shown(word)}", BAD_WORDS)
-    command += image_words(core_of(words), os.fsencode(words.root))
-    # (Python ignores this signal, and a program that is run inherits that)
-    signal.signal(signal.SIGPIPE, signal.SIG_DFL)
+    command += image_words(maps, os.fsencode(words.root))
     try:
         os.execv(command[0], command)
     except OSError as error:
@@ -152,7 +158,7 @@ def main() -> int:
     parser.add_argument("core", metavar="CORE", help="the core's file")
     parser.add_argument("--root", metavar="DIR", default="", help="look for the mapped files below this folder")
     parser.add_argument("--program", metavar="P", help="the built program (default: the one in crates/pystacks/out)")
-    parser.add_argument("--layouts", metavar="FILE", default=LAYOUTS, help="the layout file (default: all of layouts/)")
+    parser.add_argument("--layouts", metavar="FILE", help=f"the layout file (default: layouts/{LAYOUTS.name})")
     try:
         run(parser.parse_args())
     except Fault as fault:

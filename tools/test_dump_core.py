@@ -281,6 +281,14 @@ class Faults(Case):
         _, out, _ = self.tool(core, "--layouts", "my.toml")
         self.assertEqual(out.split(b"\0")[3:], [b"--layouts", b"my.toml"])
 
+    def test_machine(self):
+        whole = core_of([])
+        core = self.put("core", whole[:18] + b"\xb7" + whole[19:])
+        status, out, said = self.tool(core)
+        self.assertEqual((status, out, said.count("\n")), (2, b"", 1))
+        self.assertTrue(said.startswith("dump_core: layouts/ has none of the core's machine, 183: "), said)
+        self.assertEqual(self.tool(core, "--layouts", LAYOUTS)[::2], (0, ""))
+
 
 class Layouts(unittest.TestCase):
     """The joined layout file."""
