@@ -4,10 +4,11 @@ The names are those that the program goes by: a load segment has the name that t
 tables gives to its start. What is no core tells no maps here; the program has a line for it.
 """
 
+import io
 import re
 import struct
 from dataclasses import dataclass
-from typing import BinaryIO, Dict, Iterator, List, Optional, Tuple
+from typing import BinaryIO, Dict, FrozenSet, Iterator, List, Optional, Tuple
 
 LOAD, NOTE = 1, 4
 EXECUTABLE = 1
@@ -39,10 +40,19 @@ class Segment:
 class Map:
     """A load segment with its file's name."""
 
+    segment: Segment
     name: bytes
-    is_executable: bool
-    head: bytes
-    """The first bytes that the core has of it, where it shows its file from the start."""
+    pages: int
+    """Where it begins in its file."""
+
+
+@dataclass(frozen=True)
+class Wanted:
+    """A file that the program looks into."""
+
+    name: bytes
+    builds: FrozenSet[bytes]
+    """The build ids that the core has of it."""
 
 
 def read_at(file: BinaryIO, offset: int, size: int) -> bytes:
@@ -114,13 +124,7 @@ def maps_of(file: BinaryIO) -> List[Map]:
         if it.kind == NOTE:
             for _, kind, data in notes_of(read_at(file, it.offset, it.size)):
                 named.update(table_entries(data) if kind == FILE_TABLE else {})
-    maps = []
-    for it in segments:
-        if it.kind == LOAD and it.start in named:
-            pages, name = named[it.start]
-            head = read_at(file, it.offset, min(it.size, HEAD)) if pages == 0 else b""
-            maps.append(Map(name, bool(it.flags & EXECUTABLE), head))
-    return maps
+    return [Map(it, named[it.start][1], named[it.start][0]) for it in segments if it.kind == LOAD and it.start in named]
 
 
 def is_text(name: bytes) -> bool:
@@ -137,13 +141,6 @@ def is_library(name: bytes) -> bool:
     return is_text(name) and bool(LIBRARY.search(name.decode("utf-8")))
 
 
-def wanted_names(maps: List[Map]) -> List[bytes]:
-    """The names of the files that the program looks into: the one that it needs first."""
-    names = [it.name for it in maps if it.is_executable]
-    libraries = [name for name in names if is_library(name)]
-    return list(dict.fromkeys(libraries[:1] + names[:1]))
-
-
 def build_id(file: BinaryIO) -> Optional[bytes]:
     """The build id of an ELF file, or of its first bytes, where these have it."""
     for it in segments_of(file):
@@ -152,3 +149,22 @@ def build_id(file: BinaryIO) -> Optional[bytes]:
                 if owner == b"GNU\0" and kind == BUILD_ID:
                     return data
     return None
+
+
+def builds_in(file: BinaryIO, maps: List[Map], name: bytes) -> Iterator[bytes]:
+    """The build ids that a core has of a file: in the maps that show it from its start."""
+    for it in maps:
+        if it.name == name and it.pages == 0:
+            head = read_at(file, it.segment.offset, min(it.segment.size, HEAD))
+            found = build_id(io.BytesIO(head))
+            if found:
+                yield found
+
+
+def wanted_files(file: BinaryIO) -> List[Wanted]:
+    """The files of a core that the program looks into, the one that it needs first."""
+    maps = maps_of(file)
+    names = [it.name for it in maps if it.segment.flags & EXECUTABLE]
+    libraries = [name for name in names if is_library(name)]
+    both = dict.fromkeys(libraries[:1] + names[:1])
+    return [Wanted(name, frozenset(builds_in(file, maps, name))) for name in both]

@@ -10,16 +10,15 @@ for it. One line on the standard error names those that are missing. Nothing is 
 """
 
 import argparse
-import io
 import os
 import sys
 from pathlib import Path
-from typing import Iterator, List, Optional, Tuple
+from typing import FrozenSet, List, Optional, Tuple
 
 # (what only looks at a core leaves nothing behind)
 sys.dont_write_bytecode = True
 
-from core_maps import Map, build_id, is_text, machine_of, maps_of, wanted_names
+from core_maps import Wanted, build_id, is_text, machine_of, wanted_files
 
 ROOT = Path(__file__).resolve().parent.parent
 PROGRAM = ROOT / "crates" / "pystacks" / "out" / "pystacks"
@@ -77,56 +76,48 @@ def path_below(root: bytes, name: bytes) -> bytes:
     return path
 
 
-def mapped_builds(name: bytes, maps: List[Map]) -> Iterator[bytes]:
-    """The build ids that the core has of a mapped file."""
-    for it in maps:
-        found = build_id(io.BytesIO(it.head)) if it.name == name else None
-        if found:
-            yield found
-
-
-def check_build(path: bytes, name: bytes, maps: List[Map]) -> None:
+def check_build(path: bytes, builds: FrozenSet[bytes]) -> None:
     """Refuses a file whose build id isn't the one that the core has of the mapped file, where both have one."""
     try:
         with open(path, "rb") as file:
             own = build_id(file)
     except OSError as error:
         raise Missing(f"cannot read {shown(path)}: {error.strerror}") from None
-    if own and any(mapped != own for mapped in mapped_builds(name, maps)):
+    if own and builds - {own}:
         raise Missing(f"{shown(path)} is of another build")
 
 
-def image_word(name: bytes, maps: List[Map], root: bytes) -> bytes:
+def image_word(wanted: Wanted, root: bytes) -> bytes:
     """The program's word for an image."""
-    if b"=" in name:
+    if b"=" in wanted.name:
         raise Missing("a path with an equals sign can't be handed over")
-    path = path_below(root, name)
-    word = name + b"=" + path
+    path = path_below(root, wanted.name)
+    word = wanted.name + b"=" + path
     if not is_text(word):
         raise Missing("a path that is not UTF-8 can't be handed over")
-    check_build(path, name, maps)
+    check_build(path, wanted.builds)
     return word
 
 
-def image_words(maps: List[Map], root: bytes) -> List[bytes]:
+def image_words(files: List[Wanted], root: bytes) -> List[bytes]:
     """The words for the images that are there, after the line that names the others."""
     words, missing = [], []
-    for number, name in enumerate(wanted_names(maps)):
+    for number, wanted in enumerate(files):
         try:
-            words.append(image_word(name, maps, root))
+            words.append(image_word(wanted, root))
         except Missing as reason:
             need = "needed" if number == 0 else "not needed"
-            missing.append(f"{shown(name)} ({need}; {reason})")
+            missing.append(f"{shown(wanted.name)} ({need}; {reason})")
     if missing:
         print(f"dump_core: no image of {', '.join(missing)}", file=sys.stderr, flush=True)
     return words
 
 
-def read_core(path: str) -> Tuple[Optional[int], List[Map]]:
-    """The machine and the maps of a core. Where it can't be read there are none, and the program has a line for it."""
+def read_core(path: str) -> Tuple[Optional[int], List[Wanted]]:
+    """The machine and the files of a core. Where it can't be read there are none; the program has a line for it."""
     try:
         with open(path, "rb") as file:
-            return machine_of(file), maps_of(file)
+            return machine_of(file), wanted_files(file)
     except OSError:
         return None, []
 
@@ -138,14 +129,14 @@ def run(words: argparse.Namespace) -> None:
         raise Fault(f"there is no program {shown(os.fsencode(program))}: {BUILD} builds it", NO_PROGRAM)
     if words.root and not os.path.isdir(words.root):
         raise Fault(f"there is no folder {shown(os.fsencode(words.root))}", BAD_WORDS)
-    machine, maps = read_core(words.core)
+    machine, files = read_core(words.core)
     if not words.layouts and machine not in (None, MACHINE):
         raise Fault(f"layouts/ has none of the core's machine, {machine}: name a file by --layouts", BAD_WORDS)
     command = [os.fsencode(it) for it in (program, "dump", "-c", words.core, "--layouts", words.layouts or LAYOUTS)]
     for word in command[1:]:
         if not is_text(word):
             raise Fault(f"a name that is not UTF-8 can't be handed over: {shown(word)}", BAD_WORDS)
-    command += image_words(maps, os.fsencode(words.root))
+    command += image_words(files, os.fsencode(words.root))
     try:
         os.execv(command[0], command)
     except OSError as error:

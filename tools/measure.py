@@ -162,7 +162,8 @@ def main() -> int:
     parser.add_argument("--program", required=True, help="the built program")
     parser.add_argument("--times", type=int, default=5, help="how often each command is run (default: 5)")
     words = parser.parse_args()
-    print(f"{machine()}; the fastest of {words.times} runs each.\n")
+    print(f"{machine()}; the fastest of {words.times} runs each. `cat` reads the same files once. Less than the memory")
+    print("of a bare Python, some 9 MiB, can't be told.\n")
     heads = ["core", "MiB", "cat, s", "cat, MiB", "walk, s", "walk, MiB", "dump, s", "dump, MiB"]
     print(row(heads) + "\n|" + "---|" * len(heads), flush=True)
     with tempfile.TemporaryDirectory(prefix="measure-") as folder:
