@@ -214,6 +214,7 @@ class Words(Case):
         word = self.library + b"=" + self.library
         for data, images in ((b"", [word]), (built(1), [word]), (built(1)[:130], [word]), (built(2), [])):
             maps = [Mapped(0x1000, self.library, 4, data), Mapped(0x2000, self.library, pages=1, data=built(3))]
+            maps.append(Mapped(0x3000, self.other, 4, built(4)))
             found, said = self.handed(core_of(maps))
             self.assertEqual(found, images)
             self.assertEqual("is of another build" in said, not images)
