@@ -27,6 +27,7 @@ from typing import List, Optional, Sequence, Tuple
 
 from derive_layout import Build, Derived, DeriveError, build_of, derive
 from find_pythons import pythons
+from join_layouts import single_files
 
 ROOT = Path(__file__).resolve().parent.parent
 
@@ -270,7 +271,7 @@ def as_stored(derived: Derived, layouts: Path) -> str:
     """Says which stored layout this one is. The stored layout of this very build must be it."""
     if not derived.with_dicts:
         return "without dicts"
-    texts = {path.name: path.read_text(encoding="utf-8") for path in sorted(layouts.glob("*.toml"))}
+    texts = {path.name: path.read_text(encoding="utf-8") for path in single_files(layouts)}
     same = [name for name, text in texts.items() if body_of(text) == body_of(derived.text)]
     for name, text in texts.items():
         if f"# build: {derived.build.build}" in text.splitlines() and name not in same:

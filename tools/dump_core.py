@@ -1,0 +1,162 @@
+#!/usr/bin/env python3
+"""Shows the stacks of a core: finds the files that its process had mapped, and runs `pystacks dump` over them.
+
+    tools/dump_core.py CORE
+    tools/dump_core.py CORE --root FOLDER    # where the core is that of a container, whose files are below FOLDER
+
+The text and the status are those of the program. Handed over are the layouts of all versions and the images that the
+program looks into: that of Python's library and that of the program that ran, each under the path that the core has
+for it. One line on the standard error names those that are missing. Nothing is written.
+"""
+
+import argparse
+import os
+import sys
+from pathlib import Path
+from typing import FrozenSet, List, Optional, Tuple
+
+# (what only looks at a core leaves nothing behind)
+sys.dont_write_bytecode = True
+
+from core_maps import Wanted, build_id, is_text, machine_of, wanted_files
+
+ROOT = Path(__file__).resolve().parent.parent
+PROGRAM = ROOT / "crates" / "pystacks" / "out" / "pystacks"
+LAYOUTS = ROOT / "layouts" / "cpython-x86_64.toml"
+
+MACHINE = 62
+"""The number that ELF files have for x86-64, the machine of those layouts."""
+
+BUILD = "(cd crates/pystacks && rt run -- walk data/core sample 3.9.0 0x10000 0)"
+"""What builds the program."""
+
+DELETED = b" (deleted)"
+"""How the kernel ends the name of a file that had been deleted, or replaced, while it was mapped."""
+
+LONGEST = 1 << 36
+"""The most bytes of a file that the program reads."""
+
+BAD_WORDS = 2
+NO_PROGRAM = 127
+
+
+class Missing(Exception):
+    """Why there is no image under a name."""
+
+
+class Fault(Exception):
+    """Why the program can't be run: the line, and the status."""
+
+    def __init__(self, line: str, status: int) -> None:
+        super().__init__(line)
+        self.status = status
+
+
+def shown(name: bytes) -> str:
+    """A name within a line."""
+    text = name.decode("utf-8", "backslashreplace")
+    return text if text.isprintable() else ascii(text)[1:-1]
+
+
+def path_below(root: bytes, name: bytes) -> bytes:
+    """The file of a name that a core has: below this folder, if one is given."""
+    path = name[: -len(DELETED)] if name.endswith(DELETED) else name
+    if not path.startswith(b"/"):
+        raise Missing("that is no path")
+    path = os.path.join(root, path[1:]) if root else path
+    if not os.path.isfile(path):
+        raise Missing(f"there is no file {shown(path)}")
+    size = os.path.getsize(path)
+    if not 0 < size <= LONGEST:
+        # (such are the files in which a system tells of itself; a hostile core can name any file)
+        raise Missing(f"{shown(path)} has {size} bytes")
+    # (a name or a link that leads out of the folder would be that of another system's file)
+    if root and not os.path.realpath(path).startswith(os.path.join(os.path.realpath(root), b"")):
+        raise Missing(f"{shown(path)} leads out of {shown(root)}")
+    return path
+
+
+def check_build(path: bytes, builds: FrozenSet[bytes]) -> None:
+    """Refuses a file whose build id isn't the one that the core has of the mapped file, where both have one."""
+    try:
+        with open(path, "rb") as file:
+            own = build_id(file)
+    except OSError as error:
+        raise Missing(f"cannot read {shown(path)}: {error.strerror}") from None
+    if own and builds - {own}:
+        raise Missing(f"{shown(path)} is of another build")
+
+
+def image_word(wanted: Wanted, root: bytes) -> bytes:
+    """The program's word for an image."""
+    if b"=" in wanted.name:
+        raise Missing("a path with an equals sign can't be handed over")
+    path = path_below(root, wanted.name)
+    word = wanted.name + b"=" + path
+    if not is_text(word):
+        raise Missing("a path that is not UTF-8 can't be handed over")
+    check_build(path, wanted.builds)
+    return word
+
+
+def image_words(files: List[Wanted], root: bytes) -> List[bytes]:
+    """The words for the images that are there, after the line that names the others."""
+    words, missing = [], []
+    for number, wanted in enumerate(files):
+        try:
+            words.append(image_word(wanted, root))
+        except Missing as reason:
+            need = "needed" if number == 0 else "not needed"
+            missing.append(f"{shown(wanted.name)} ({need}; {reason})")
+    if missing:
+        print(f"dump_core: no image of {', '.join(missing)}", file=sys.stderr, flush=True)
+    return words
+
+
+def read_core(path: str) -> Tuple[Optional[int], List[Wanted]]:
+    """The machine and the files of a core. Where it can't be read there are none; the program has a line for it."""
+    try:
+        with open(path, "rb") as file:
+            return machine_of(file), wanted_files(file)
+    except OSError:
+        return None, []
+
+
+def run(words: argparse.Namespace) -> None:
+    """Becomes the program."""
+    program = words.program or PROGRAM
+    if not os.path.isfile(program):
+        raise Fault(f"there is no program {shown(os.fsencode(program))}: {BUILD} builds it", NO_PROGRAM)
+    if words.root and not os.path.isdir(words.root):
+        raise Fault(f"there is no folder {shown(os.fsencode(words.root))}", BAD_WORDS)
+    machine, files = read_core(words.core)
+    if not words.layouts and machine not in (None, MACHINE):
+        raise Fault(f"layouts/ has none of the core's machine, {machine}: name a file by --layouts", BAD_WORDS)
+    command = [os.fsencode(it) for it in (program, "dump", "-c", words.core, "--layouts", words.layouts or LAYOUTS)]
+    for word in command[1:]:
+        if not is_text(word):
+            raise Fault(f"a name that is not UTF-8 can't be handed over: {shown(word)}", BAD_WORDS)
+    command += image_words(files, os.fsencode(words.root))
+    try:
+        os.execv(command[0], command)
+    except OSError as error:
+        raise Fault(f"cannot run {shown(command[0])}: {error.strerror}", NO_PROGRAM) from None
+
+
+def main() -> int:
+    """The command."""
+    parser = argparse.ArgumentParser(description=__doc__.splitlines()[0])
+    parser.add_argument("core", metavar="CORE", help="the core's file")
+    parser.add_argument("--root", metavar="DIR", default="", help="look for the mapped files below this folder")
+    parser.add_argument("--program", metavar="P", help="the built program (default: the one in crates/pystacks/out)")
+    parser.add_argument("--layouts", metavar="FILE", help=f"the layout file (default: layouts/{LAYOUTS.name})")
+    try:
+        run(parser.parse_args())
+    except Fault as fault:
+        print(f"dump_core: {fault}", file=sys.stderr)
+        return fault.status
+    return 0
+
+
+if __name__ == "__main__":
+    sys.exit(main())

@@ -1,0 +1,180 @@
+#!/usr/bin/env python3
+"""Measures seconds and memory of the program's commands over cores that it makes, beside reading their files once.
+
+    tools/measure.py --program crates/pystacks/out/pystacks
+
+The cores are laid out by the example of docs/LAYOUTS.md. Each command must answer with the stacks that the core was
+made of. Measure where nothing else runs.
+"""
+
+import argparse
+import os
+import platform
+import struct
+import subprocess
+import sys
+import tempfile
+from dataclasses import dataclass
+from datetime import date
+from pathlib import Path
+from typing import Dict, List, Sequence, Tuple
+
+from test_dump_core import IMAGE, Mapped, core_of, example_layout, with_words
+
+INTERPRETER = 0x10000
+CODE, FILE, NAME, FREE = 0x40, 0x80, 0xD0, 0x120
+"""Where the one code and its texts stand in the heap, and what follows them."""
+
+FILLER = 0x100000000
+"""Where the segments begin that hold nothing of Python."""
+
+MIB = 1 << 20
+
+
+@dataclass(frozen=True)
+class Shape:
+    """What a core is made of."""
+
+    what: str
+    threads: int = 1
+    frames: int = 2
+    """In each thread."""
+    is_shared: bool = False
+    """Whether all threads have the same frames, as only a hostile core has."""
+    segments: int = 3
+
+
+SHAPES = (
+    Shape("small"),
+    Shape("300 threads of 10 frames", threads=300, frames=10),
+    Shape("4000 threads of 10 frames", threads=4000, frames=10),
+    Shape("1 thread of 4000 frames", frames=4000),
+    Shape("300 threads of the same 4000 frames", threads=300, frames=4000, is_shared=True),
+    Shape("1000 segments", segments=1000),
+    Shape("10,000 segments", segments=10_000),
+    Shape("60,000 segments", segments=60_000),
+)
+
+
+class Failure(Exception):
+    """What went wrong in what was measured."""
+
+
+def put_text(words: Dict[int, int], at: int, text: bytes) -> None:
+    """Puts a text of at most 8 ASCII characters into the words of a heap; it takes 72 bytes."""
+    words.update({at + 16: len(text), at + 32: 0x64, at + 48: int.from_bytes(text, "little")})
+
+
+def put_frames(words: Dict[int, int], at: int, count: int) -> int:
+    """Puts a chain of frames, and returns where it ends."""
+    for number in range(count):
+        back = INTERPRETER + at + 64 if number + 1 < count else 0
+        words.update({at + 16: INTERPRETER + CODE, at + 24: back})
+        at += 64
+    return at
+
+
+def heap(shape: Shape) -> bytes:
+    """The heap of an interpreter: threads in a chain, each with its chain of frames, all of one code."""
+    words: Dict[int, int] = {CODE + 32: INTERPRETER + FILE, CODE + 40: INTERPRETER + NAME}
+    put_text(words, FILE, b"a.py")
+    put_text(words, NAME, b"f")
+    end = put_frames(words, FREE, shape.frames)
+    frames, link = FREE, 8
+    for thread in range(shape.threads):
+        if thread > 0 and not shape.is_shared:
+            frames, end = end, put_frames(words, end, shape.frames)
+        words[link] = INTERPRETER + end
+        words.update({end + 16: INTERPRETER, end + 24: INTERPRETER + frames, end + 32: 0x7F00 + thread})
+        link = end + 8
+        end += 64
+    return with_words(end, words)
+
+
+def core(shape: Shape) -> bytes:
+    """The core of a shape, with its heap in the middle of the segments."""
+    more = shape.segments - 3
+    filler = [Mapped(FILLER + 0x1000 * number, None, 6, bytes(16)) for number in range(more)]
+    maps = filler[: more // 2] + [
+        Mapped(INTERPRETER, None, 6, heap(shape)),
+        Mapped(0x400000, b"/usr/bin/python3.9", size=0x1000),
+        Mapped(0x500000, None, 6, struct.pack("<2Q", 0x400000, INTERPRETER)),
+    ]
+    return core_of(maps + filler[more // 2 :])
+
+
+def text_of(shape: Shape) -> bytes:
+    """The text that a command has to print: threads from the last of the chain on."""
+    lines = ["Python v3.9.0", ""]
+    for thread in reversed(range(shape.threads)):
+        lines += [f"Thread 0x{0x7F00 + thread:X}"] + ["    f (a.py)"] * shape.frames
+    return "".join(f"{line}\n" for line in lines).encode()
+
+
+def ran(command: Sequence[str], out: Path) -> Tuple[float, float]:
+    """Runs a command, and returns its seconds and MiB. (Less than those of a bare Python, some 9, can't be told.)"""
+    child = Path(__file__).resolve().with_name("measure_child.py")
+    with open(out, "wb") as file:
+        whole = [sys.executable, "-I", "-S", str(child), *command]
+        process = subprocess.run(whole, stdin=subprocess.DEVNULL, stdout=file, stderr=subprocess.PIPE, text=True)
+    numbers = process.stderr.split()
+    if process.returncode != 0 or numbers[:1] != ["0"]:
+        raise Failure(f"{command[0]} {command[1]}: {process.stderr.strip()}")
+    return float(numbers[1]), int(numbers[2]) / 1024
+
+
+def measured(program: str, shape: Shape, folder: Path, times: int) -> str:
+    """The row of a shape: for each command the fastest of some runs."""
+    files = {name: str(folder / name) for name in ("core", "layouts", "image", "out")}
+    Path(files["core"]).write_bytes(core(shape))
+    Path(files["layouts"]).write_text(example_layout(), encoding="utf-8")
+    Path(files["image"]).write_bytes(with_words(328, IMAGE))
+    image = f"/usr/bin/python3.9={files['image']}"
+    commands = (
+        ["cat", files["core"], files["layouts"], files["image"]],
+        [program, "walk", files["core"], files["layouts"], "3.9.0", hex(INTERPRETER), "0"],
+        [program, "dump", "-c", files["core"], "--layouts", files["layouts"], image],
+    )
+    cells: List[str] = [shape.what, f"{os.path.getsize(files['core']) / MIB:.2f}"]
+    for command in commands:
+        best = min(ran(command, Path(files["out"])) for _ in range(times))
+        if command[0] == program and Path(files["out"]).read_bytes() != text_of(shape):
+            raise Failure(f"{command[1]} of {shape.what} doesn't print the stacks that the core has")
+        cells += [f"{best[0]:.3f}", f"{best[1]:.1f}"]
+    return row(cells)
+
+
+def row(cells: Sequence[str]) -> str:
+    """A row of the table."""
+    return "| " + " | ".join(cells) + " |"
+
+
+def machine() -> str:
+    """The kind of the machine, and the date."""
+    models = [line for line in Path("/proc/cpuinfo").read_text().splitlines() if line.startswith("model name")]
+    model = models[0].split(":")[1].strip() if models else platform.machine()
+    return f"{os.cpu_count()} processors, {model}, {date.today().isoformat()}"
+
+
+def main() -> int:
+    """The command."""
+    parser = argparse.ArgumentParser(description=__doc__.splitlines()[0])
+    parser.add_argument("--program", required=True, help="the built program")
+    parser.add_argument("--times", type=int, default=5, help="how often each command is run (default: 5)")
+    words = parser.parse_args()
+    print(f"{machine()}; the fastest of {words.times} runs each. `cat` reads the same files once. Less than the memory")
+    print("of a bare Python, some 9 MiB, can't be told.\n")
+    heads = ["core", "MiB", "cat, s", "cat, MiB", "walk, s", "walk, MiB", "dump, s", "dump, MiB"]
+    print(row(heads) + "\n|" + "---|" * len(heads), flush=True)
+    with tempfile.TemporaryDirectory(prefix="measure-") as folder:
+        for shape in SHAPES:
+            try:
+                print(measured(words.program, shape, Path(folder), words.times), flush=True)
+            except Failure as reason:
+                print(f"measure: FAILED: {reason}", file=sys.stderr)
+                return 1
+    return 0
+
+
+if __name__ == "__main__":
+    sys.exit(main())

@@ -1,0 +1,427 @@
+#!/usr/bin/env python3
+"""That dump_core.py hands the right words to the program: over cores made by hand, and a program that prints its words.
+
+Where the real program is built, it is run over such a core too.
+"""
+
+import os
+import signal
+import struct
+import subprocess
+import sys
+import tempfile
+import unittest
+from dataclasses import dataclass
+from pathlib import Path
+from typing import Dict, List, Optional, Sequence, Tuple
+
+from core_maps import is_library
+from dump_core import LAYOUTS, PROGRAM, ROOT
+from join_layouts import joined, single_files
+
+TOOL = Path(__file__).resolve().with_name("dump_core.py")
+
+FAKE = """#!{python} -IS
+import os, sys
+sys.stdout.buffer.write(b"\\0".join(os.fsencode(it) for it in sys.argv[1:]))
+sys.stdout.flush()
+sys.stderr.write({line!r})
+{end}
+"""
+"""A program that prints its words, says a line, and ends."""
+
+
+@dataclass(frozen=True)
+class Mapped:
+    """A load segment of a core that is made."""
+
+    start: int
+    name: Optional[bytes] = None
+    flags: int = 5
+    data: bytes = b""
+    pages: int = 0
+    size: Optional[int] = None
+    """Its bytes in memory; the same as in the file, if not given."""
+
+
+def padded(data: bytes) -> bytes:
+    """Some bytes padded to 4."""
+    return data + bytes(-len(data) % 4)
+
+
+def note(owner: bytes, kind: int, data: bytes) -> bytes:
+    """A note."""
+    return struct.pack("<3I", len(owner), len(data), kind) + padded(owner) + padded(data)
+
+
+def file_table(entries: Sequence[Tuple[int, int, bytes]]) -> bytes:
+    """A file table of starts, first pages and names."""
+    numbers = b"".join(struct.pack("<3Q", start, start + 4096, pages) for start, pages, _ in entries)
+    names = b"".join(name + b"\0" for _, _, name in entries)
+    return note(b"CORE\0", 0x46494C45, struct.pack("<2Q", len(entries), 4096) + numbers + names)
+
+
+def elf(kind: int, segments: Sequence[Tuple[int, int, int, bytes, int]]) -> bytes:
+    """An ELF file of segments: kind, flags, address, bytes, and size in memory."""
+    at = 64 + 56 * len(segments)
+    header = b"\x7fELF\2\1\1".ljust(16, b"\0")
+    header += struct.pack("<2HI3QI6H", kind, 62, 1, 0, 64, 0, 0, 64, 56, len(segments), 64, 0, 0)
+    rows = b""
+    for segment, flags, start, data, size in segments:
+        rows += struct.pack("<2I6Q", segment, flags, at, start, 0, len(data), size, 0)
+        at += len(data)
+    return header + rows + b"".join(data for _, _, _, data, _ in segments)
+
+
+def core_of(maps: Sequence[Mapped], tables: Optional[Sequence[bytes]] = None) -> bytes:
+    """A core of these maps, with the file table that they have, or with these."""
+    table = file_table([(it.start, it.pages, it.name) for it in maps if it.name is not None])
+    loads = [(1, it.flags, it.start, it.data, len(it.data) if it.size is None else it.size) for it in maps]
+    return elf(4, loads + [(4, 0, 0, b"".join([table] if tables is None else tables), 0)])
+
+
+def built(number: int) -> bytes:
+    """The front of a library of this build."""
+    return elf(3, [(4, 4, 0, note(b"GNU\0", 3, bytes([number]) * 20), 0)])
+
+
+def with_words(size: int, words: Dict[int, int]) -> bytes:
+    """So many bytes with these words of 8 bytes."""
+    return b"".join(struct.pack("<Q", words.get(at, 0)) for at in range(0, size, 8))
+
+
+class Case(unittest.TestCase):
+    """A folder with a fake program."""
+
+    def setUp(self):
+        folder = tempfile.TemporaryDirectory(prefix="dump-core-")
+        self.addCleanup(folder.cleanup)
+        self.folder = Path(os.path.realpath(folder.name))
+        self.program = self.fake()
+
+    def fake(self, line="", end="sys.exit(0)") -> Path:
+        """A fake program."""
+        path = self.folder / "fake"
+        path.write_text(FAKE.format(python=sys.executable, line=line, end=end), encoding="utf-8")
+        path.chmod(0o700)
+        return path
+
+    def put(self, name: str, data: bytes) -> bytes:
+        """Writes a file below the folder, and returns its path."""
+        path = self.folder / name
+        path.parent.mkdir(parents=True, exist_ok=True)
+        path.write_bytes(data)
+        return os.fsencode(path)
+
+    def tool(self, *words, program=None) -> Tuple[int, bytes, str]:
+        """What the tool comes to: status, output, and what was said."""
+        command = [sys.executable, "-B", TOOL, "--program", program or self.program, *words]
+        streams = {"stdin": subprocess.DEVNULL, "stdout": subprocess.PIPE, "stderr": subprocess.PIPE}
+        ran = subprocess.run(command, timeout=60, **streams)
+        return ran.returncode, ran.stdout, ran.stderr.decode("utf-8", "replace")
+
+    def handed(self, core: bytes, *words) -> Tuple[List[bytes], str]:
+        """The words for images that a core comes to, and what was said."""
+        path = self.put("core", core)
+        status, out, said = self.tool(path, *words)
+        self.assertEqual(status, 0, said)
+        expected = [b"dump", b"-c", path, b"--layouts", os.fsencode(LAYOUTS)]
+        self.assertEqual(out.split(b"\0")[:5], expected)
+        return out.split(b"\0")[5:], said
+
+
+class Words(Case):
+    """Which images are handed over, and which line is said."""
+
+    def setUp(self):
+        super().setUp()
+        self.python = self.put("bin/python3.9", b"p")
+        self.library = self.put("lib/libpython3.9.so.1.0", b"l")
+        self.other = self.put("lib/libc.so.6", b"c")
+
+    def test_found(self):
+        maps = [Mapped(0x1000, self.other, 4), Mapped(0x2000, None), Mapped(0x3000, self.python)]
+        images, said = self.handed(core_of(maps))
+        self.assertEqual((images, said), ([self.python + b"=" + self.python], ""))
+        maps += [Mapped(0x4000, self.other), Mapped(0x5000, self.library, 4), Mapped(0x6000, self.library)]
+        images, said = self.handed(core_of(maps))
+        self.assertEqual((images, said), ([it + b"=" + it for it in (self.library, self.python)], ""))
+
+    def test_missing(self):
+        gone = os.fsencode(self.folder) + b"/gone/libpython3.9.so"
+        images, said = self.handed(core_of([Mapped(0x1000, self.python), Mapped(0x2000, gone)]))
+        self.assertEqual(images, [self.python + b"=" + self.python])
+        name = os.fsdecode(gone)
+        self.assertEqual(said, f"dump_core: no image of {name} (needed; there is no file {name})\n")
+        images, said = self.handed(core_of([Mapped(0x1000, gone[:-3]), Mapped(0x2000, self.library)]))
+        self.assertEqual(images, [self.library + b"=" + self.library])
+        self.assertIn("(not needed; there is no file", said)
+
+    def test_no_file(self):
+        system = (b"/memfd:it (deleted)", b"/dev/zero", b"/proc/self/maps")
+        for name in (b"", b"relative", os.fsencode(self.folder), *system):
+            images, said = self.handed(core_of([Mapped(0x1000, name)]))
+            self.assertEqual((images, said.count("\n")), ([], 1), said)
+            self.assertIn("(needed; ", said)
+        for size, count in ((0, 0), (1 << 36, 1), ((1 << 36) + 1, 0)):
+            try:
+                os.truncate(self.python, size)
+            except OSError:
+                # (files here can't be so long)
+                continue
+            images, said = self.handed(core_of([Mapped(0x1000, self.python)]))
+            self.assertEqual((len(images), f"has {size} bytes" in said), (count, count == 0))
+
+    def test_deleted(self):
+        name = self.library + b" (deleted)"
+        images, said = self.handed(core_of([Mapped(0x1000, self.python), Mapped(0x2000, name)]))
+        self.assertEqual(images, [name + b"=" + self.library, self.python + b"=" + self.python])
+        self.assertEqual(said, "")
+
+    def test_root(self):
+        root = self.folder / "container"
+        path = self.put("container/usr/bin/python3.9", b"p")
+        (root / "usr/bin/out").symlink_to(os.fsdecode(self.python))
+        core = core_of([Mapped(0x1000, b"/usr/bin/python3.9 (deleted)")])
+        for words in (["--root", root], ["--root", f"{root}/"]):
+            images, said = self.handed(core, *words)
+            self.assertEqual((images, said), ([b"/usr/bin/python3.9 (deleted)=" + path], ""))
+        for name in (b"/usr/bin/out", b"/../bin/python3.9"):
+            images, said = self.handed(core_of([Mapped(0x1000, name)]), "--root", root)
+            self.assertEqual(images, [])
+            self.assertIn("leads out of", said)
+        images, said = self.handed(core_of([Mapped(0x1000, self.python)]), "--root", root)
+        self.assertEqual(images, [])
+        self.assertIn("there is no file", said)
+
+    def test_odd_names(self):
+        for name, reason in ((b"a=b/python", "equals sign"), (b"\xff/python", "not UTF-8")):
+            path = os.fsencode(self.folder) + b"/" + name
+            os.makedirs(os.path.dirname(path))
+            with open(path, "wb") as file:
+                file.write(b"p")
+            images, said = self.handed(core_of([Mapped(0x1000, path)]))
+            self.assertEqual((images, said.count("\n")), ([], 1))
+            self.assertIn(reason, said)
+        path = self.put("new\nline\x1b", b"p")
+        images, said = self.handed(core_of([Mapped(0x1000, path)]))
+        self.assertEqual((images, said), ([path + b"=" + path], ""))
+        images, said = self.handed(core_of([Mapped(0x1000, path + b"?")]))
+        self.assertEqual((images, said.count("\n"), said.count("\x1b")), ([], 1, 0))
+
+    def test_build(self):
+        self.put("lib/libpython3.9.so.1.0", built(1) + bytes(100))
+        word = self.library + b"=" + self.library
+        for data, images in ((b"", [word]), (built(1), [word]), (built(1)[:130], [word]), (built(2), [])):
+            maps = [Mapped(0x1000, self.library, 4, data), Mapped(0x2000, self.library, pages=1, data=built(3))]
+            maps.append(Mapped(0x3000, self.other, 4, built(4)))
+            found, said = self.handed(core_of(maps))
+            self.assertEqual(found, images)
+            self.assertEqual("is of another build" in said, not images)
+        self.put("lib/libpython3.9.so.1.0", b"l")
+        self.assertEqual(self.handed(core_of([Mapped(0x1000, self.library, 5, built(2))])), ([word], ""))
+
+    def test_tables(self):
+        maps = [Mapped(0x1000), Mapped(0x2000)]
+        first = file_table([(0x1000, 0, self.other), (0x2000, 0, self.library), (0x1000, 0, self.library)])
+        notes = [note(b"CORE\0", 1, b"abc"), first, file_table([(0x1000, 0, self.python)])]
+        images, _ = self.handed(core_of(maps, notes))
+        self.assertEqual(images, [it + b"=" + it for it in (self.library, self.python)])
+
+    def test_libraries(self):
+        deleted = b"/a/libpython3.11.so.1.0 (deleted)"
+        for name in (b"/libpython3.9.so", deleted, b"/libpython3.7m.so", b"/libpython2.7-so"):
+            self.assertTrue(is_library(name), name)
+        no_flag, no_text = b"/libpython3.9t.so", b"/libpython3.9.so\xff"
+        for name in (b"libpython3.9.so", b"/libpython3.so", b"/libpython3.100.so", no_flag, no_text):
+            self.assertFalse(is_library(name), name)
+
+
+class Faults(Case):
+    """What is no core, and what the program says."""
+
+    def test_no_core(self):
+        whole = core_of([Mapped(0x1000, b"/bin/no")])
+        table = whole[whole.index(b"CORE") - 12 :]
+        wrong = [b"", b"text", whole[:63], whole[:100], whole[:-30], whole[:5] + b"\2" + whole[6:], table]
+        wrong += [whole[:56] + b"\xff\xff" + whole[58:], whole[:32] + b"\xff" * 8 + whole[40:]]
+        for data in wrong:
+            self.assertEqual(self.handed(data), ([], ""))
+
+    def test_no_file(self):
+        for core in ("none", "."):
+            status, out, said = self.tool(core, program=self.fake("pystacks: cannot read it\n", "sys.exit(3)"))
+            self.assertEqual((status, said), (3, "pystacks: cannot read it\n"))
+            self.assertEqual(out.split(b"\0"), [b"dump", b"-c", core.encode(), b"--layouts", os.fsencode(LAYOUTS)])
+
+    def test_status(self):
+        core = self.put("core", core_of([Mapped(0x1000, self.put("python3.14", b"p"))]))
+        line = "pystacks: no layout for Python 3.14.0\n"
+        status, _, said = self.tool(core, program=self.fake(line, "sys.exit(1)"))
+        self.assertEqual((status, said), (1, line))
+        status, _, _ = self.tool(core, program=self.fake(end="os.kill(os.getpid(), 9)"))
+        self.assertEqual(status, -signal.SIGKILL)
+
+    def test_own(self):
+        core = self.put("core", core_of([]))
+        cut = self.folder / "cut"
+        cut.write_bytes(b"\x7fELF")
+        for words, program, status, line in (
+            ([core], self.folder / "none", 127, "there is no program "),
+            ([core], cut, 127, "cannot run "),
+            ([core, "--root", self.folder / "none"], None, 2, "there is no folder "),
+            ([b"\xff"], None, 2, "a name that is not UTF-8 can't be handed over: "),
+        ):
+            got, out, said = self.tool(*words, program=program)
+            self.assertEqual((got, out, said.count("\n")), (status, b"", 1), said)
+            self.assertTrue(said.startswith("dump_core: " + line), said)
+        self.assertIn("rt run", self.tool(core, program=self.folder / "none")[2])
+
+    def test_layouts(self):
+        core = self.put("core", core_of([]))
+        _, out, _ = self.tool(core, "--layouts", "my.toml")
+        self.assertEqual(out.split(b"\0")[3:], [b"--layouts", b"my.toml"])
+
+    def test_machine(self):
+        whole = core_of([])
+        core = self.put("core", whole[:18] + b"\xb7" + whole[19:])
+        status, out, said = self.tool(core)
+        self.assertEqual((status, out, said.count("\n")), (2, b"", 1))
+        self.assertTrue(said.startswith("dump_core: layouts/ has none of the core's machine, 183: "), said)
+        self.assertEqual(self.tool(core, "--layouts", LAYOUTS)[::2], (0, ""))
+
+
+class Layouts(unittest.TestCase):
+    """The joined layout file."""
+
+    def test_joined(self):
+        files = single_files(LAYOUTS.parent, "x86_64")
+        text = LAYOUTS.read_text(encoding="utf-8")
+        self.assertEqual(text, joined(files, "x86_64"), "tools/join_layouts.py -o layouts/cpython-x86_64.toml")
+        self.assertNotIn(LAYOUTS, files)
+        self.assertEqual([path.name for path in files], [f"cpython-3.{minor}-x86_64.toml" for minor in range(7, 14)])
+
+    def test_tables(self):
+        try:
+            from tomllib import loads
+        except ImportError:
+            self.skipTest("there is no tomllib")
+        tables = [loads(path.read_text(encoding="utf-8")) for path in single_files(LAYOUTS.parent, "x86_64")]
+        whole = loads(LAYOUTS.read_text(encoding="utf-8"))
+        self.assertEqual(whole, {"layout": [table for it in tables for table in it["layout"]]})
+
+
+HEAP = {
+    0x8: 0x10040,
+    0x50: 0x10000,
+    0x58: 0x10080,
+    0x60: 0x7F00,
+    0x90: 0x10100,
+    0x98: 0x100C0,
+    0xD0: 0x10140,
+    0x118: 3,
+    0x120: 0x10180,
+    0x128: 0x101D0,
+    0x158: 1,
+    0x160: 0x10180,
+    0x168: 0x10220,
+    0x190: 4,
+    0x1A0: 0x64,
+    0x1B0: int.from_bytes(b"a.py", "little"),
+    0x1E0: 1,
+    0x1F0: 0x64,
+    0x200: ord("f"),
+    0x230: 8,
+    0x240: 0x64,
+    0x250: int.from_bytes(b"<module>", "little"),
+}
+"""An interpreter at 0x10000, a thread at 0x10040, frames at 0x10080 and 0x100c0, their code and texts, by the example
+of docs/LAYOUTS.md."""
+
+IMAGE = {
+    0: 0x102464C457F,
+    16: 0x3E0000,
+    32: 0x40,
+    40: 0x88,
+    48: 0x38000000000000,
+    56: 0x2000300400001,
+    64: 0x500000001,
+    80: 0x400000,
+    104: 0x1000,
+    120: 0x732E007373622E00,
+    128: 0x62617274747368,
+    200: 0x800000001,
+    216: 0x500000,
+    232: 0x10,
+    264: 0x300000006,
+    288: 0x78,
+    296: 0x10,
+}
+"""A program of code at 0x400000 and a bss of 16 bytes at 0x500000."""
+
+TEXT = b"""Python v3.9.0
+
+Thread 0x7F00
+    f (a.py)
+    <module> (a.py)
+"""
+
+
+def small_core(name: bytes) -> bytes:
+    """A core of that interpreter, in a program of this name."""
+    bss = struct.pack("<2Q", 0x400000, 0x10000)
+    return core_of(
+        [
+            Mapped(0x10000, None, 6, with_words(616, HEAP)),
+            Mapped(0x400000, name, size=0x1000),
+            Mapped(0x500000, None, 6, bss),
+        ]
+    )
+
+
+def example_layout() -> str:
+    """The example of docs/LAYOUTS.md."""
+    text = (ROOT / "docs" / "LAYOUTS.md").read_text(encoding="utf-8")
+    return text.split("```toml\n")[1].split("```")[0]
+
+
+@unittest.skipUnless(PROGRAM.is_file(), "the program isn't built")
+class Real(Case):
+    """The built program, over a small core below a folder."""
+
+    def ran(self, name: bytes, *words) -> Tuple[int, bytes, str]:
+        """What the tool comes to over the small core of this name."""
+        core = self.put("core", small_core(name))
+        return self.tool(core, "--root", self.folder / "container", *words, program=PROGRAM)
+
+    def setUp(self):
+        super().setUp()
+        for name in ("python3.9", "python3.14"):
+            self.put(f"container/usr/bin/{name}", with_words(328, IMAGE))
+        self.layout = self.folder / "example.toml"
+        self.layout.write_text(example_layout(), encoding="utf-8")
+
+    def test_stack(self):
+        self.assertEqual(self.ran(b"/usr/bin/python3.9", "--layouts", self.layout), (0, TEXT, ""))
+
+    def test_missing(self):
+        status, out, said = self.ran(b"/usr/bin/python3.8", "--layouts", self.layout)
+        self.assertEqual((status, out), (1, b""))
+        self.assertEqual(said.splitlines()[1:], ["pystacks: image not given: /usr/bin/python3.8"])
+
+    def test_no_layout(self):
+        status, out, said = self.ran(b"/usr/bin/python3.14")
+        self.assertEqual((status, out, said), (1, b"", "pystacks: no layout for Python 3.14.0\n"))
+
+    def test_no_core(self):
+        for name, status, line in (("none", 3, "cannot read"), ("text", 1, "not an ELF64 little-endian file")):
+            core = self.folder / name
+            if name == "text":
+                core.write_bytes(b"text")
+            got, out, said = self.tool(core, program=PROGRAM)
+            self.assertEqual((got, out), (status, b""))
+            self.assertTrue(said.startswith(f"pystacks: {line}"), said)
+
+
+if __name__ == "__main__":
+    unittest.main(verbosity=0)
