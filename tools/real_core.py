@@ -5,8 +5,10 @@
 
 For each installed CPython of 3.7 to 3.13 the layout is derived (derive_layout.py), real_core_child.py is started and
 leaves a core, and the program walks that. Threads, their order, functions and files must be those that the child
-printed; lines are not compared. What can't be tried here has one line that says why. The status is 0 exactly where
-nothing that was tried failed.
+printed. Then the program reports the core, with the images that it needs, and the whole text, byte by byte, must be
+the one that the child's own words give: signal, process, version, threads and their names, functions, files and
+lines. Names are left out where the layout that was derived has no dicts. What can't be tried here has one line that
+says why. The status is 0 exactly where nothing that was tried failed.
 """
 
 import argparse
@@ -20,16 +22,23 @@ import signal
 import subprocess
 import sys
 import tempfile
+import threading
 import time
 from dataclasses import dataclass
+from itertools import zip_longest
 from pathlib import Path
 from typing import List, Optional, Sequence, Tuple
 
+from core_maps import wanted_files
 from derive_layout import Build, Derived, DeriveError, build_of, derive
+from dump_core import image_words
 from find_pythons import pythons
 from join_layouts import single_files
 
 ROOT = Path(__file__).resolve().parent.parent
+
+SECONDS = 120
+"""How long the child and the program may take."""
 
 DICT_GROUPS = ("dict.", "keys.", "heap.")
 """The groups that a layout without dicts lacks."""
@@ -50,6 +59,9 @@ class Thread:
     label: str
     frames: Tuple[Tuple[str, str], ...]
     has_lock: bool = False
+    name: str = ""
+    lines: Tuple[int, ...] = ()
+    """Of each frame; empty where they aren't known."""
 
 
 @dataclass(frozen=True)
@@ -61,6 +73,8 @@ class Told:
     """The address that names the lock's holder, where it is known."""
     threads: List[Thread]
     """In the order in which they are printed; the one that aborted has the lock."""
+    head: str
+    """The lines of a report between that of the signal and the threads."""
 
 
 @dataclass(frozen=True)
@@ -125,13 +139,16 @@ def told_from(line: str, derived: Derived) -> Told:
     threads = []
     for it in told["threads"]:
         label = str(it["native"]) if has_native else f"0x{it['id']:X}"
-        frames = tuple((name, file) for name, file in it["frames"])
-        threads.append(Thread(label, frames, it["id"] == told["aborts"]))
+        frames = tuple((name, file) for name, file, _ in it["frames"])
+        lines = tuple(line for _, _, line in it["frames"])
+        threads.append(Thread(label, frames, it["id"] == told["aborts"], it["name"], lines))
     lock = told["gil"]
     if derived.lock == "runtime" and told["runtime"] and "runtime.current" in derived.numbers:
         lock = told["runtime"] + derived.numbers["runtime.current"]
     # (the child lists threads from the first of the chain on, and they are printed from the last)
-    return Told(told["interpreter"], lock, threads[::-1])
+    pid, arguments = told["process"]
+    head = f"Process {pid}: {arguments}\nPython v{told['version']}\n\n"
+    return Told(told["interpreter"], lock, threads[::-1], head)
 
 
 def leave_core(derived: Derived, names: str, folder: Path) -> Tuple[Told, Path]:
@@ -151,11 +168,11 @@ def leave_core(derived: Derived, names: str, folder: Path) -> Tuple[Told, Path]:
         preexec_fn=raise_core_limit,
     )
     try:
-        out, err = process.communicate(timeout=120)
+        out, err = process.communicate(timeout=SECONDS)
     except subprocess.TimeoutExpired:
         process.kill()
         process.communicate()
-        raise Failure("the child had not ended after 120 seconds") from None
+        raise Failure(f"the child had not ended after {SECONDS} seconds") from None
     last = (err.strip().splitlines() or ["it said nothing"])[-1]
     if "No module named '_ctypes'" in err:
         raise Skip("it has no ctypes")
@@ -168,14 +185,16 @@ def leave_core(derived: Derived, names: str, folder: Path) -> Tuple[Told, Path]:
     return told_from(out, derived), core
 
 
-def walk(program: Path, core: Path, layouts: Path, build: Build, interpreter: int, lock: int) -> Walk:
-    """Runs the program over a core, and measures it. (Linux counts the memory of this tool too, some 14 MiB, where
-    that is more than the program's.)"""
-    command = [program, "walk", core, layouts, build.dotted, hex(interpreter), hex(lock) if lock else "0"]
+def ran(command: Sequence[object]) -> Walk:
+    """Runs the program, and measures it. (Linux counts the memory of this tool too, some 14 MiB, where that is more
+    than the program's.)"""
     with tempfile.TemporaryFile() as out, tempfile.TemporaryFile() as err:
         begun = time.perf_counter()
         process = subprocess.Popen([str(it) for it in command], stdin=subprocess.DEVNULL, stdout=out, stderr=err)
+        timer = threading.Timer(SECONDS, process.kill)
+        timer.start()
         _, status, used = os.wait4(process.pid, 0)
+        timer.cancel()
         seconds = time.perf_counter() - begun
         # (it was waited for, and not by Popen)
         process.returncode = os.WEXITSTATUS(status) if os.WIFEXITED(status) else -os.WTERMSIG(status)
@@ -183,6 +202,41 @@ def walk(program: Path, core: Path, layouts: Path, build: Build, interpreter: in
         err.seek(0)
         texts = [it.read().decode("utf-8", "replace") for it in (out, err)]
     return Walk(process.returncode, texts[0], texts[1].strip(), seconds, used.ru_maxrss)
+
+
+def walk(program: Path, core: Path, layouts: Path, build: Build, interpreter: int, lock: int) -> Walk:
+    """Walks a core."""
+    return ran([program, "walk", core, layouts, build.dotted, hex(interpreter), hex(lock) if lock else "0"])
+
+
+def dump(program: Path, core: Path, layouts: Path) -> Walk:
+    """Reports a core, with the images that are needed."""
+    with open(core, "rb") as file:
+        words = [os.fsdecode(it) for it in image_words(wanted_files(file), b"")]
+    return ran([program, "dump", "-c", core, "--layouts", layouts, *words])
+
+
+def report_of(told: Told, core: str, with_names: bool) -> str:
+    """The text of the report that the child's words give. The lock's holder isn't looked for."""
+    text = f"Signal {int(signal.SIGABRT)}: {core}\n{told.head}"
+    for thread in told.threads:
+        name = f': "{thread.name}"' if with_names else ""
+        text += f"Thread {thread.label}{name}\n"
+        for (function, file), line in zip(thread.frames, thread.lines):
+            text += f"    {function} ({file}:{line})\n"
+    return text
+
+
+def check_report(run: Walk, wanted: str) -> None:
+    """Fails with the first line in which a report isn't the wanted one."""
+    if run.status != 0:
+        raise Failure(f"dump ended with status {run.status}: {run.err}")
+    if run.err:
+        raise Failure(f"dump said {run.err!r}")
+    if run.out != wanted:
+        pairs = zip_longest(wanted.splitlines(keepends=True), run.out.splitlines(keepends=True))
+        at, (one, other) = next((at, pair) for at, pair in enumerate(pairs, 1) if pair[0] != pair[1])
+        raise Failure(f"line {at} of the report is {one!r}, and printed is {other!r}")
 
 
 def printed(text: str, build: Build) -> List[Thread]:
@@ -295,10 +349,13 @@ def tried(program: Path, python: str, names: str) -> str:
             run = walked(program, core, layouts, build, told)
             holder = holder_of(program, core, layouts, derived, told)
             notice_wrong(program, core, folder, derived, told)
+            report = dump(program, core, layouts)
+            check_report(report, report_of(told, str(core), derived.with_dicts))
         finally:
             core.unlink()
     frames = sum(len(it.frames) for it in told.threads)
-    what = f"{len(told.threads)} threads, {frames} frames agree; {holder}; {stored}"
+    names = "with names" if derived.with_dicts else "without names"
+    what = f"{len(told.threads)} threads, {frames} frames agree; {holder}; report agrees {names}; {stored}"
     return row(build.dotted, f"{size / 2**20:.1f}", f"{run.seconds:.3f}", f"{run.kilobytes / 1024:.1f}", what)
 
 

@@ -5,11 +5,14 @@ names of one-byte, two-byte and four-byte characters, and goes through C (`map`,
 thread stands in an import, whose code is a part of the interpreter. It prints one line of JSON that tells all stacks,
 and aborts from the very function that has read them.
 
+Its core holds private mappings of files too, as no byte comes from an image yet.
+
 The one argument is where the interpreter's record has the pointer to that of its lock, or -1 where it has none.
 """
 
 import _thread
 import ctypes
+import dis
 import json
 import os
 import sys
@@ -68,12 +71,29 @@ def interpreter():
 
 
 def frames_from(frame):
-    """The names and files of a frame and its callers."""
+    """The names, files and lines of a frame and its callers."""
     found = []
     while frame is not None:
-        found.append([frame.f_code.co_name, frame.f_code.co_filename])
+        found.append([frame.f_code.co_name, frame.f_code.co_filename, frame.f_lineno])
         frame = frame.f_back
     return found
+
+
+def keep_mappings():
+    """Has the core hold all private mappings."""
+    with open("/proc/self/coredump_filter", "w") as file:
+        file.write("0x3f")
+
+
+def arguments():
+    """What a core keeps of the command line: its first 79 bytes, joined by spaces."""
+    with open("/proc/self/cmdline", "rb") as file:
+        return file.read()[:79].replace(b"\0", b" ").decode("utf-8", "replace")
+
+
+def names_of_threads():
+    """The name of each thread, by its id."""
+    return {it.ident: it.name for it in threading.enumerate()}
 
 
 def start(target, natives):
@@ -97,7 +117,7 @@ def native_id():
     return threading.get_native_id() if hasattr(threading, "get_native_id") else None
 
 
-def report(natives, gil):
+def report(natives, names, gil):
     """Prints what the core has to show, and leaves it: nothing is called between the two that has frames."""
     address = interpreter()
     told = {
@@ -105,13 +125,23 @@ def report(natives, gil):
         "runtime": address_of("_PyRuntime"),
         "gil": ctypes.c_uint64.from_address(address + gil).value if gil >= 0 else None,
         "aborts": threading.get_ident(),
+        "version": sys.version.split()[0],
+        "process": [os.getpid(), arguments()],
         "threads": [],
     }
     for ident, frame in sys._current_frames().items():
-        told["threads"].append({"id": ident, "native": natives[ident], "frames": frames_from(frame)})
+        frames = frames_from(frame)
+        told["threads"].append({"id": ident, "native": natives[ident], "name": names[ident], "frames": frames})
+    # (the line that is told of the newest frame is that of the call above; it aborts on another)
+    told["threads"][[it["id"] for it in told["threads"]].index(told["aborts"])]["frames"][0][2] = abort_line()
     sys.stdout.write(json.dumps(told) + "\n")
     sys.stdout.flush()
     os.abort()
+
+
+def abort_line():
+    """The line of `report` on which it aborts: the last one that its code has."""
+    return max(line for _, line in dis.findlinestarts(report.__code__) if line)
 
 
 class Importer:
@@ -135,12 +165,14 @@ class Importer:
 
 def main():
     """The whole program."""
+    keep_mappings()
     natives = {threading.get_ident(): native_id()}
     descend = module(ONE_BYTE, "récursion.py")["descend"]
     drain = module(FOUR_BYTES, "𝄞.py")["drain"]
     start(lambda bottom: descend(50, bottom), natives)
     start(drain, natives)
-    sys.meta_path.insert(0, Importer(lambda: report(natives, int(sys.argv[1]))))
+    names = names_of_threads()
+    sys.meta_path.insert(0, Importer(lambda: report(natives, names, int(sys.argv[1]))))
     __import__("last")
 
 

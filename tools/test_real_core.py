@@ -3,11 +3,12 @@
 
 import unittest
 from dataclasses import replace
+from unittest.mock import patch
 
 from derive_layout import Build, DeriveError, fault_of, settled, values_of
 from layout_plan import Field, Group, Plan
 from layout_sources import Answers, Place, faults_of
-from real_core import Failure, Skip, Thread, compare, names_by, printed
+from real_core import Failure, Skip, Thread, Told, Walk, check_report, compare, names_by, printed, ran, report_of
 
 BUILD = Build("/python", (3, 9, 1), "3.9.1 (main)", "/python", "x86_64", (), "", ())
 WANTED = [
@@ -70,6 +71,58 @@ class Stacks(unittest.TestCase):
         self.assertEqual(names_by("/c/%e[%%].%p", True), "/c/*[[]%].{pid}")
         with self.assertRaises(Skip):
             names_by("/c/%e", False)
+
+
+class Reports(unittest.TestCase):
+    """What is noticed of a whole text."""
+
+    TOLD = Told(
+        interpreter=0,
+        lock=None,
+        threads=[
+            Thread("0x7F00", (("f", "é.py"), ("g", "日本.py")), True, "MainThread", (3, 17)),
+            Thread("0x7E00", (("<lambda>", "a.py"),), False, "Thread-1 (run)", (9,)),
+        ],
+        head="Process 7: /python a.py \nPython v3.9.1\n\n",
+    )
+    TEXT = """Signal 6: core.7
+Process 7: /python a.py 
+Python v3.9.1
+
+Thread 0x7F00: "MainThread"
+    f (é.py:3)
+    g (日本.py:17)
+Thread 0x7E00: "Thread-1 (run)"
+    <lambda> (a.py:9)
+"""
+
+    def test_text(self):
+        self.assertEqual(report_of(self.TOLD, "core.7", with_names=True), self.TEXT)
+        nameless = report_of(self.TOLD, "core.7", with_names=False)
+        self.assertEqual(nameless, self.TEXT.replace(': "MainThread"', "").replace(': "Thread-1 (run)"', ""))
+
+    def test_differences(self):
+        check_report(Walk(0, self.TEXT, "", 0.0, 0), self.TEXT)
+        for old, new in (
+            (":17)", ")"),
+            (":17)", ":18)"),
+            ("MainThread", "Thread-9"),
+            (": \"MainThread\"", " (gil)"),
+            ("Signal 6: core.7\n", ""),
+            ("    <lambda> (a.py:9)\n", "    <lambda> (a.py:9)"),
+            ("    <lambda> (a.py:9)\n", ""),
+            ("    <lambda> (a.py:9)\n", "    <lambda> (a.py:9)\nThread 0x1\n"),
+        ):
+            with self.assertRaises(Failure):
+                check_report(Walk(0, self.TEXT.replace(old, new), "", 0.0, 0), self.TEXT)
+        with self.assertRaises(Failure):
+            check_report(Walk(0, self.TEXT, "junk", 0.0, 0), self.TEXT)
+        with self.assertRaises(Failure):
+            check_report(Walk(1, self.TEXT, "", 0.0, 0), self.TEXT)
+
+    def test_end(self):
+        with patch("real_core.SECONDS", 0.2):
+            self.assertEqual(ran(["sleep", "30"]).status, -9)
 
 
 class Sources(unittest.TestCase):
