@@ -226,23 +226,28 @@ def version_of(command: str) -> str:
     return (ran.stdout.splitlines() or ["unknown"])[0]
 
 
+def options_of(build: Build) -> List[str]:
+    """The options that the build was configured with and that may change records."""
+    names = {"--with-pydebug": "debug", "--enable-shared": "shared", "--disable-gil": "free threads"}
+    return [name for word, name in names.items() if f"{word}'" in f"{build.configured}'"]
+
+
 def comments(build: Build, plan: Plan, numbers: Dict[str, int], answers: Sequence[Answers], tools: Tools) -> List[str]:
     """The head of the file: which build it was read from, and how."""
     lines = [
         f"The layout of CPython {build.dotted} on {build.machine}, written by tools/derive_layout.py.",
         f"build: {build.build}",
-        f"executable: {build.executable}",
-        f"configured: {build.configured}",
+        f"options that change records: {', '.join(options_of(build)) or 'none'}",
     ]
     if answers[0].places:
-        lines.append(f"headers: {', '.join(build.includes)}, by {version_of(tools.cc)}")
+        lines.append(f"headers of the build, by {version_of(tools.cc)}")
     if answers[1].places:
-        lines.append(f"debug information: {build.binary}")
+        lines.append("debug information of the build")
     lines += told_by(plan, answers)
     if dict(plan.families)["dicts"] == "none":
         lines.append("without dicts, since that was asked for")
     lines.append("by neither: frame.code_tag_bits (no address of code has a tag), and small (there is no PyIntObject)")
-    for key, what in (("runtime.head", "the first interpreter's address"), ("runtime.current", "the current thread's")):
+    for key, what in (("runtime.head", "the newest interpreter's address"), ("runtime.current", "the current thread's")):
         if key in numbers:
             lines.append(f"_PyRuntime holds {what} at {numbers[key]}")
     return [f"# {' '.join(line.split())}" for line in lines]

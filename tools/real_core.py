@@ -151,10 +151,10 @@ def told_from(line: str, derived: Derived) -> Told:
     return Told(told["interpreter"], lock, threads[::-1], head)
 
 
-def leave_core(derived: Derived, names: str, folder: Path) -> Tuple[Told, Path]:
-    """Runs the child in this folder until it has left a core."""
+def leave_core(derived: Derived, names: str, folder: Path, who: str) -> Tuple[Told, Path]:
+    """Runs the child in this folder until it has left a core: its main thread aborts, or another one."""
     child = Path(__file__).resolve().with_name("real_core_child.py")
-    command = [derived.build.executable, "-I", str(child), str(derived.numbers.get("interpreter.gil", -1))]
+    command = [derived.build.executable, "-I", str(child), str(derived.numbers.get("interpreter.gil", -1)), who]
     since = time.time()
     process = subprocess.Popen(
         command,
@@ -333,30 +333,47 @@ def as_stored(derived: Derived, layouts: Path) -> str:
     return f"layouts/{same[0]}" if same else "no such layout in layouts/"
 
 
+@dataclass(frozen=True)
+class Try:
+    """What was tried on one core."""
+
+    size: int
+    threads: int
+    frames: int
+    run: Walk
+    holder: str
+
+
+def over_core(program: Path, derived: Derived, names: str, folder: Path, who: str) -> Try:
+    """Walks and reports a core of the child, by the layout in this folder."""
+    layouts, room = folder / "layout.toml", folder / who
+    room.mkdir()
+    told, core = leave_core(derived, names, room, who)
+    try:
+        size = core.stat().st_size
+        run = walked(program, core, layouts, derived.build, told)
+        holder = holder_of(program, core, layouts, derived, told)
+        notice_wrong(program, core, folder, derived, told)
+        check_report(dump(program, core, layouts), report_of(told, str(core), derived.with_dicts))
+    finally:
+        core.unlink()
+    return Try(size, len(told.threads), sum(len(it.frames) for it in told.threads), run, holder)
+
+
 def tried(program: Path, python: str, names: str) -> str:
-    """Derives the layout of one Python, and walks a core of it. Returns the line that tells of it."""
+    """Derives the layout of one Python, and tries it on two cores. Returns the line that tells of it."""
     build = build_of(python)
     derived = derived_for(build)
     stored = as_stored(derived, ROOT / "layouts")
     with tempfile.TemporaryDirectory(prefix="real-core-") as name:
-        folder, room = Path(name), Path(name) / "room"
-        room.mkdir()
-        layouts = folder / "layout.toml"
-        layouts.write_text(derived.text, encoding="utf-8")
-        told, core = leave_core(derived, names, room)
-        try:
-            size = core.stat().st_size
-            run = walked(program, core, layouts, build, told)
-            holder = holder_of(program, core, layouts, derived, told)
-            notice_wrong(program, core, folder, derived, told)
-            report = dump(program, core, layouts)
-            check_report(report, report_of(told, str(core), derived.with_dicts))
-        finally:
-            core.unlink()
-    frames = sum(len(it.frames) for it in told.threads)
-    names = "with names" if derived.with_dicts else "without names"
-    what = f"{len(told.threads)} threads, {frames} frames agree; {holder}; report agrees {names}; {stored}"
-    return row(build.dotted, f"{size / 2**20:.1f}", f"{run.seconds:.3f}", f"{run.kilobytes / 1024:.1f}", what)
+        folder = Path(name)
+        (folder / "layout.toml").write_text(derived.text, encoding="utf-8")
+        tries = [over_core(program, derived, names, folder, who) for who in ("main", "other")]
+    first = tries[0]
+    lists = "with names" if derived.with_dicts else "without names"
+    counts = " and ".join(f"{it.threads} threads, {it.frames} frames" for it in tries)
+    what = f"{counts} agree; {first.holder}; reports agree {lists}; {stored}"
+    return row(build.dotted, f"{first.size / 2**20:.1f}", f"{first.run.seconds:.3f}", f"{first.run.kilobytes / 1024:.1f}", what)
 
 
 def row(version: str, size: str, seconds: str, memory: str, what: str) -> str:

@@ -7,7 +7,8 @@ and aborts from the very function that has read them.
 
 Its core holds private mappings of files too, as no byte comes from an image yet.
 
-The one argument is where the interpreter's record has the pointer to that of its lock, or -1 where it has none.
+The first argument is where the interpreter's record has the pointer to that of its lock, or -1 where it has none. The
+second is `main`, or `other` where it is a fourth thread that imports and aborts, while the main one stands still.
 """
 
 import _thread
@@ -96,12 +97,17 @@ def names_of_threads():
     return {it.ident: it.name for it in threading.enumerate()}
 
 
-def start(target, natives):
-    """Starts a thread below `target`, and waits until it stands still."""
+def still():
+    """A lock, and what releases it and then stands still."""
     ready, gate = _thread.allocate_lock(), _thread.allocate_lock()
     ready.acquire()
     gate.acquire()
-    wait = module(TWO_BYTES, "日本.py")["Wait"](ready, gate)
+    return ready, module(TWO_BYTES, "日本.py")["Wait"](ready, gate)
+
+
+def start(target, natives):
+    """Starts a thread below `target`, and waits until it stands still."""
+    ready, wait = still()
 
     def run():
         natives[threading.get_ident()] = native_id()
@@ -163,6 +169,26 @@ class Importer:
         self.call()
 
 
+def die(natives):
+    """Aborts in an import."""
+    natives[threading.get_ident()] = native_id()
+    names = names_of_threads()
+    sys.meta_path.insert(0, Importer(lambda: report(natives, names, int(sys.argv[1]))))
+    __import__("last")
+
+
+def die_elsewhere(natives):
+    """Does so in another thread, once this one stands still."""
+    ready, wait = still()
+
+    def run():
+        ready.acquire()
+        die(natives)
+
+    threading.Thread(target=run, daemon=True).start()
+    wait.wait_für_immer()
+
+
 def main():
     """The whole program."""
     keep_mappings()
@@ -171,9 +197,7 @@ def main():
     drain = module(FOUR_BYTES, "𝄞.py")["drain"]
     start(lambda bottom: descend(50, bottom), natives)
     start(drain, natives)
-    names = names_of_threads()
-    sys.meta_path.insert(0, Importer(lambda: report(natives, names, int(sys.argv[1]))))
-    __import__("last")
+    (die_elsewhere if sys.argv[2] == "other" else die)(natives)
 
 
 main()

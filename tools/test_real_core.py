@@ -8,7 +8,7 @@ from unittest.mock import patch
 from derive_layout import Build, DeriveError, fault_of, settled, values_of
 from layout_plan import Field, Group, Plan
 from layout_sources import Answers, Place, faults_of
-from real_core import Failure, Skip, Thread, Told, Walk, check_report, compare, names_by, printed, ran, report_of
+from real_core import ROOT, Failure, Skip, Thread, Told, Walk, check_report, compare, names_by, printed, ran, report_of
 
 BUILD = Build("/python", (3, 9, 1), "3.9.1 (main)", "/python", "x86_64", (), "", ())
 WANTED = [
@@ -123,6 +123,17 @@ Thread 0x7E00: "Thread-1 (run)"
     def test_end(self):
         with patch("real_core.SECONDS", 0.2):
             self.assertEqual(ran(["sleep", "30"]).status, -9)
+
+
+class Stored(unittest.TestCase):
+    """The layouts that stand in the repository."""
+
+    def test_each_version(self):
+        for minor in range(7, 14):
+            lines = (ROOT / "layouts" / f"cpython-3.{minor}-x86_64.toml").read_text(encoding="utf-8").splitlines()
+            self.assertEqual(sum(line.startswith(f"# build: 3.{minor}.") for line in lines), 1)
+            self.assertIn(f"first_minor = {minor}", lines)
+            self.assertFalse([line for line in lines if line.startswith("#") and "/" in line.replace("tools/", "")])
 
 
 class Sources(unittest.TestCase):
