@@ -247,7 +247,8 @@ def comments(build: Build, plan: Plan, numbers: Dict[str, int], answers: Sequenc
     if dict(plan.families)["dicts"] == "none":
         lines.append("without dicts, since that was asked for")
     lines.append("by neither: frame.code_tag_bits (no address of code has a tag), and small (there is no PyIntObject)")
-    for key, what in (("runtime.head", "the newest interpreter's address"), ("runtime.current", "the current thread's")):
+    held = {"runtime.head": "the newest interpreter's address", "runtime.current": "the current thread's"}
+    for key, what in held.items():
         if key in numbers:
             lines.append(f"_PyRuntime holds {what} at {numbers[key]}")
     return [f"# {' '.join(line.split())}" for line in lines]

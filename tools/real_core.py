@@ -34,6 +34,7 @@ from derive_layout import Build, Derived, DeriveError, build_of, derive
 from dump_core import image_words
 from find_pythons import pythons
 from join_layouts import single_files
+from layout_plan import plan_of
 
 ROOT = Path(__file__).resolve().parent.parent
 
@@ -152,9 +153,10 @@ def told_from(line: str, derived: Derived) -> Told:
 
 
 def leave_core(derived: Derived, names: str, folder: Path, who: str) -> Tuple[Told, Path]:
-    """Runs the child in this folder until it has left a core: its main thread aborts, or another one."""
+    """Runs the child in this folder until it has left a core: its main thread aborts, or another one, or many stand still."""
     child = Path(__file__).resolve().with_name("real_core_child.py")
-    command = [derived.build.executable, "-I", str(child), str(derived.numbers.get("interpreter.gil", -1)), who]
+    lock = str(derived.numbers.get("interpreter.gil", -1))
+    command = [derived.build.executable, "-I", str(child), lock, who]
     since = time.time()
     process = subprocess.Popen(
         command,
@@ -306,7 +308,7 @@ def notice_wrong(program: Path, core: Path, folder: Path, derived: Derived, told
     raise Failure(f"a wrong layout ({count} line changed) isn't noticed")
 
 
-def derived_for(build: Build) -> Derived:
+def derived_so_far(build: Build) -> Derived:
     """The layout of a build: without dicts, which no walk reads, where nothing tells their fields alone."""
     try:
         return derive(build)
@@ -314,6 +316,17 @@ def derived_for(build: Build) -> Derived:
         if not error.keys or not all(key.startswith(DICT_GROUPS) for key in error.keys):
             raise
         return derive(build, with_dicts=False)
+
+
+def derived_for(build: Build) -> Derived:
+    """The same. A failure where some fields were told and others not: then the plan doesn't fit the build."""
+    try:
+        return derived_so_far(build)
+    except DeriveError as error:
+        fields = len(plan_of(build.version[1], False).wanted)
+        if error.keys and len(error.keys) < fields:
+            raise Failure(f"no layout could be derived: {error.brief}") from error
+        raise
 
 
 def body_of(text: str) -> List[str]:
@@ -361,19 +374,21 @@ def over_core(program: Path, derived: Derived, names: str, folder: Path, who: st
 
 
 def tried(program: Path, python: str, names: str) -> str:
-    """Derives the layout of one Python, and tries it on two cores. Returns the line that tells of it."""
+    """Derives the layout of one Python, and tries it on three cores. Returns the line that tells of it."""
     build = build_of(python)
     derived = derived_for(build)
     stored = as_stored(derived, ROOT / "layouts")
     with tempfile.TemporaryDirectory(prefix="real-core-") as name:
         folder = Path(name)
         (folder / "layout.toml").write_text(derived.text, encoding="utf-8")
-        tries = [over_core(program, derived, names, folder, who) for who in ("main", "other")]
+        tries = [over_core(program, derived, names, folder, who) for who in ("main", "other", "many")]
     first = tries[0]
     lists = "with names" if derived.with_dicts else "without names"
-    counts = " and ".join(f"{it.threads} threads, {it.frames} frames" for it in tries)
-    what = f"{counts} agree; {first.holder}; reports agree {lists}; {stored}"
-    return row(build.dotted, f"{first.size / 2**20:.1f}", f"{first.run.seconds:.3f}", f"{first.run.kilobytes / 1024:.1f}", what)
+    counts = " + ".join(str(it.threads) for it in tries)
+    frames = " + ".join(str(it.frames) for it in tries)
+    what = f"{counts} threads, {frames} frames agree; {first.holder}; reports agree {lists}; {stored}"
+    size, memory = f"{first.size / 2**20:.1f}", f"{first.run.kilobytes / 1024:.1f}"
+    return row(build.dotted, size, f"{first.run.seconds:.3f}", memory, what)
 
 
 def row(version: str, size: str, seconds: str, memory: str, what: str) -> str:

@@ -8,7 +8,9 @@ and aborts from the very function that has read them.
 Its core holds private mappings of files too, as no byte comes from an image yet.
 
 The first argument is where the interpreter's record has the pointer to that of its lock, or -1 where it has none. The
-second is `main`, or `other` where it is a fourth thread that imports and aborts, while the main one stands still.
+second is `main`, or `other` where it is a fourth thread that imports and aborts, while the main one stands still, or
+`many` where 13 more stand still: ten in a lock alone, one in the body of a class, one in a loop over a generator, and
+one in a coroutine.
 """
 
 import _thread
@@ -45,6 +47,40 @@ def generate(bottom):
 
 def drain(bottom):
     return max([generate(bottom)], key=next)
+"""
+
+
+CLASS_BODY = """
+def build(bottom):
+    class Körper:
+        value = 1
+        other = bottom()
+    return Körper
+"""
+
+LOOP = """
+def numbers(bottom):
+    yield 1
+    yield bottom()
+
+def total(bottom):
+    found = 0
+    for number in numbers(bottom):
+        found += number
+    return found
+"""
+
+COROUTINE = """
+import asyncio
+
+async def inner(bottom):
+    return bottom()
+
+async def outer(bottom):
+    return await inner(bottom)
+
+def run(bottom):
+    return asyncio.run(outer(bottom))
 """
 
 
@@ -169,6 +205,14 @@ class Importer:
         self.call()
 
 
+def start_many(natives):
+    """Starts 13 more threads."""
+    for source, name in ((CLASS_BODY, "build"), (LOOP, "total"), (COROUTINE, "run")):
+        start(module(source, "/ein Ordner/größer als \"das\".py")[name], natives)
+    for _ in range(10):
+        start(lambda bottom: bottom(), natives)
+
+
 def die(natives):
     """Aborts in an import."""
     natives[threading.get_ident()] = native_id()
@@ -197,6 +241,8 @@ def main():
     drain = module(FOUR_BYTES, "𝄞.py")["drain"]
     start(lambda bottom: descend(50, bottom), natives)
     start(drain, natives)
+    if sys.argv[2] == "many":
+        start_many(natives)
     (die_elsewhere if sys.argv[2] == "other" else die)(natives)
 
 

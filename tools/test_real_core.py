@@ -6,9 +6,23 @@ from dataclasses import replace
 from unittest.mock import patch
 
 from derive_layout import Build, DeriveError, fault_of, settled, values_of
-from layout_plan import Field, Group, Plan
+from layout_plan import Field, Group, Plan, plan_of
 from layout_sources import Answers, Place, faults_of
-from real_core import ROOT, Failure, Skip, Thread, Told, Walk, check_report, compare, names_by, printed, ran, report_of
+from real_core import (
+    ROOT,
+    Failure,
+    Skip,
+    Thread,
+    Told,
+    Walk,
+    check_report,
+    compare,
+    derived_for,
+    names_by,
+    printed,
+    ran,
+    report_of,
+)
 
 BUILD = Build("/python", (3, 9, 1), "3.9.1 (main)", "/python", "x86_64", (), "", ())
 WANTED = [
@@ -123,6 +137,27 @@ Thread 0x7E00: "Thread-1 (run)"
     def test_end(self):
         with patch("real_core.SECONDS", 0.2):
             self.assertEqual(ran(["sleep", "30"]).status, -9)
+
+
+class Derivations(unittest.TestCase):
+    """Which builds are passed over, and which fail."""
+
+    def tried(self, keys):
+        """What comes of a build of which these fields aren't told."""
+        with patch("real_core.derive", side_effect=DeriveError("why", keys)):
+            derived_for(BUILD)
+
+    def test_some_fields(self):
+        with self.assertRaises(Failure):
+            self.tried(["thread.next"])
+        with self.assertRaises(Failure):
+            self.tried(["dict.keys"])
+
+    def test_nothing_told(self):
+        with self.assertRaises(DeriveError):
+            self.tried([it.key for it in plan_of(9).wanted])
+        with self.assertRaises(DeriveError):
+            self.tried([])
 
 
 class Stored(unittest.TestCase):
