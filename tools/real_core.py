@@ -153,7 +153,7 @@ def told_from(line: str, derived: Derived) -> Told:
 
 
 def leave_core(derived: Derived, names: str, folder: Path, who: str) -> Tuple[Told, Path]:
-    """Runs the child in this folder until it has left a core: its main thread aborts, or another one, or many stand still."""
+    """Runs the child in this folder until it has left a core: its main thread aborts, another one, or one of many."""
     child = Path(__file__).resolve().with_name("real_core_child.py")
     lock = str(derived.numbers.get("interpreter.gil", -1))
     command = [derived.build.executable, "-I", str(child), lock, who]
