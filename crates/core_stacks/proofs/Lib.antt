@@ -1,4 +1,5 @@
 pub mod Agreement
+pub mod Dumped
 pub mod FindingLaws
 pub mod Finds
 pub mod FirstMaps

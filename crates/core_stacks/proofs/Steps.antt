@@ -2,8 +2,7 @@
 use Rattle.std.proofs.Common.{◌≡◌, ℕ, List, refl, subst, sym, ◌∙◌}
 use Rattle.std.specs.Prelude.{Bool, Option, Some, Result, Ok, Err}
 use Rattle.image_memory.specs.Images.{Pushed}
-use Rattle.image_memory.specs.Maps.{AreMaps, in_maps}
-use Rattle.image_memory.proofs.Noted.{AreMaps-once}
+use Rattle.image_memory.specs.Maps.{in_maps}
 use Rattle.image_memory.specs.declared.maps.CoreMapRange.{CoreMapRange}
 use Rattle.process_memory.specs.Memory.{Memory}
 use Rattle.py_fields.specs.declared.layout.Layout.{Layout}
@@ -13,13 +12,14 @@ use Rattle.py_process.specs.Causes.{cause_of_search, cause_of_version}
 use Rattle.py_process.specs.Facts.{Known}
 use Rattle.py_process.specs.Findings.{AfterImages, AfterLayout, AfterMaps, AfterVersion, Finding, FindingIs, IsChosen, IsMade, LayoutSays, SearchSays, VersionSays, finding}
 use Rattle.py_process.specs.Programs.{ArePrograms, ImagesSay, IsKnown, MapsSay, Programs}
-use Rattle.py_process.specs.Reports.{memory_with}
+use Rattle.py_process.specs.Reports.{Dumped, IsDumped, memory_in}
 use Rattle.py_process.specs.Sources.{FirstTells, VersionIs, sources_of}
 use Rattle.py_process.specs.declared.core_error.CoreError.{CoreError}
 use Rattle.py_process.specs.declared.core_error.CoreError.TheVariants as core
 use Rattle.core_stacks.specs.Seen.{FindsProcess}
 use Rattle.core_stacks.specs.Sole.{Settles}
 use Rattle.core_stacks.proofs.Agreement.{settles_agree, settles_err, settles_ok}
+use Rattle.core_stacks.proofs.Dumped.{dumped_once}
 use Rattle.core_stacks.proofs.FindingLaws.{images_agree, layout_agree, made_agree, maps_agree, search_agree, version_agree}
 use Rattle.py_process.specs.declared.search_error.SearchError.{SearchError}
 use Rattle.py_process.specs.declared.search_error.SearchError.TheVariants as search
@@ -38,13 +38,13 @@ version_says m k (version.Unreadable addr len) h = h
 version_says m k version.NotFound h = h
 version_says m k version.OutOfMemory h = tt
 
--- what is found by the maps of a core is found of the core
-in_core : (bytes : List ℕ) (maps : List CoreMapRange) (images : Pushed) (layouts : List Layout) (r : Result Finding CoreError) → AreMaps bytes maps
-    → Settles (FindingIs (memory_with bytes images) maps images layouts) r → Settles (FindsProcess bytes images layouts) r
-in_core bytes maps images layouts r are h = record {
-  right = record { maps = maps; are_maps = are; is = h.right };
+-- what is found by what is dumped is found of the core
+in_core : (bytes : List ℕ) (d : Dumped) (images : Pushed) (layouts : List Layout) (r : Result Finding CoreError) → IsDumped bytes images d
+    → Settles (FindingIs (memory_in d) d.maps images layouts) r → Settles (FindsProcess bytes images layouts) r
+in_core bytes d images layouts r is h = record {
+  right = record { dumped = d; is_dumped = is; is = h.right };
   only = λ answer other kept. h.only answer
-      (subst (λ ms. FindingIs (memory_with bytes images) ms images layouts answer) (AreMaps-once bytes other.maps maps other.are_maps are) other.is) kept;
+      (subst (λ x. FindingIs (memory_in x) x.maps images layouts answer) (dumped_once bytes images other.dumped d other.is_dumped is) other.is) kept;
 }
 
 -- a search that fails
@@ -101,13 +101,13 @@ pub images_fail : (m : Memory) (maps : List CoreMapRange) (images : Pushed) (lay
 images_fail m maps images layouts p e r h is = settles_err (ImagesSay images p) (AfterImages m (in_maps maps) layouts) (images_agree images p) e r h is
 
 -- the maps, and what comes of them; or that there is no program
-pub maps_then : (bytes : List ℕ) (maps : List CoreMapRange) (images : Pushed) (layouts : List Layout) (p : Programs) (r : Result Finding CoreError)
-    → AreMaps bytes maps → ArePrograms maps p → Settles (AfterMaps (memory_with bytes images) maps images layouts p) r
+pub maps_then : (bytes : List ℕ) (d : Dumped) (images : Pushed) (layouts : List Layout) (p : Programs) (r : Result Finding CoreError)
+    → IsDumped bytes images d → ArePrograms d.maps p → Settles (AfterMaps (memory_in d) d.maps images layouts p) r
     → Settles (FindsProcess bytes images layouts) r
-maps_then bytes maps images layouts p r are programs rest =
-    in_core bytes maps images layouts r are (settles_ok (MapsSay maps) (AfterMaps (memory_with bytes images) maps images layouts) (maps_agree maps) p r programs rest)
+maps_then bytes d images layouts p r is programs rest =
+    in_core bytes d images layouts r is (settles_ok (MapsSay d.maps) (AfterMaps (memory_in d) d.maps images layouts) (maps_agree d.maps) p r programs rest)
 
-pub maps_fail : (bytes : List ℕ) (maps : List CoreMapRange) (images : Pushed) (layouts : List Layout) (e : CoreError) (r : Result Finding CoreError)
-    → AreMaps bytes maps → MapsSay maps (Err e) → r ≡ Err e → Settles (FindsProcess bytes images layouts) r
-maps_fail bytes maps images layouts e r are h is =
-    in_core bytes maps images layouts r are (settles_err (MapsSay maps) (AfterMaps (memory_with bytes images) maps images layouts) (maps_agree maps) e r h is)
+pub maps_fail : (bytes : List ℕ) (d : Dumped) (images : Pushed) (layouts : List Layout) (e : CoreError) (r : Result Finding CoreError)
+    → IsDumped bytes images d → MapsSay d.maps (Err e) → r ≡ Err e → Settles (FindsProcess bytes images layouts) r
+maps_fail bytes d images layouts e r is h same =
+    in_core bytes d images layouts r is (settles_err (MapsSay d.maps) (AfterMaps (memory_in d) d.maps images layouts) (maps_agree d.maps) e r h same)

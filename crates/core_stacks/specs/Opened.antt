@@ -1,6 +1,8 @@
 -- A core of a Python process, as it is opened to read its stacks.
-use Rattle.std.specs.Prelude.{◌≡◌, ℕ, List, [], Result, Ok, Err, ⊤}
+use Rattle.std.specs.Prelude.{◌≡◌, ◌⊎◌, ℕ, List, Result, Ok, Err, ⊤}
+use Rattle.image_memory.specs.Backed.{IsBackedMemory}
 use Rattle.image_memory.specs.Images.{Pushed}
+use Rattle.image_memory.specs.Pieces.{memory_of}
 use Rattle.image_memory.specs.declared.maps.CoreMapRange.{CoreMapRange}
 use Rattle.process_memory.specs.Memory.{Memory, Region, byte_at}
 use Rattle.py_fields.specs.declared.layout.Layout.{Layout}
@@ -8,7 +10,7 @@ use Rattle.py_version.specs.declared.version.Version.{Version}
 use Rattle.py_stacks.specs.declared.config.Config.{Config}
 use Rattle.py_stacks.specs.declared.trace.Addresses.{Addresses}
 use Rattle.py_process.specs.Findings.{Finding, IsChosen, IsFound}
-use Rattle.py_process.specs.Reports.{IsTold, Reported, StacksSay, pieces_with}
+use Rattle.py_process.specs.Reports.{IsTold, Reported, StacksSay}
 use Rattle.py_process.specs.Steps.{Then}
 use Rattle.py_process.specs.declared.core_error.CoreError.{CoreError}
 use Rattle.py_process.specs.declared.core_error.CoreError.TheVariants.{UnsupportedVersion, NativeUnsupported, SubprocessesUnsupported, OutOfMemory}
@@ -26,18 +28,22 @@ memory_in o = byte_at o.pieces
 -- it is of this core and these images, and what is found of it is right
 pub record IsOpened (bytes : List ℕ) (images : Pushed) (layouts : List Layout) (o : Opened) : Type 0 where
   pub core_is : o.core ≡ bytes
-  pub pieces_are : o.pieces ≡ pieces_with bytes images
+  pub memory : IsBackedMemory bytes images o.pieces
   pub finds : FindsProcess bytes images layouts (Ok o.finding)
 
--- that, or the first cause why nothing is found
+-- the first cause why nothing is found; want of memory may always be answered
+abbrev pub IsUnopened : List ℕ → Pushed → List Layout → CoreError → Type 0
+IsUnopened bytes images layouts error = (error ≡ OutOfMemory) ⊎ FindsProcess bytes images layouts (Err error)
+
+-- that of a core, or such a cause
 abbrev pub Opens : List ℕ → Pushed → List Layout → Result Opened CoreError → Type 0
 Opens bytes images layouts (Ok o) = IsOpened bytes images layouts o
-Opens bytes images layouts (Err error) = FindsProcess bytes images layouts (Err error)
+Opens bytes images layouts (Err error) = IsUnopened bytes images layouts error
 
 -- it is of this core alone, with the version and the addresses that were handed in
 pub record IsOpenedAt (bytes : List ℕ) (layouts : List Layout) (version : Version) (addresses : Addresses) (o : Opened) : Type 0 where
   pub core_is : o.core ≡ bytes
-  pub pieces_are : o.pieces ≡ pieces_with bytes []
+  pub pieces_are : o.pieces ≡ memory_of bytes
   pub version_is : o.finding.version ≡ version
   pub addresses_are : o.finding.addresses ≡ addresses
   pub chosen : IsChosen layouts version o.finding.layout

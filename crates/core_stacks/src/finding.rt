@@ -1,16 +1,16 @@
 //! What is found of a Python process, by the memory, the maps and the images.
 ghost use Rattle.std.specs.Prelude.{IfOk};
+ghost use Rattle.image_memory.specs.Backed.{IsBackedMemory, regions_of};
 ghost use Rattle.process_memory.specs.Memory.{byte_at};
 ghost use Rattle.py_fields.specs.Sound.{IsSound};
 ghost use Rattle.py_process.specs.Facts.{known_of};
 ghost use Rattle.py_process.specs.Findings.{AfterImages, AfterLayout, AfterMaps, AfterVersion};
-ghost use Rattle.py_process.specs.Reports.{memory_with};
 ghost use Rattle.core_stacks.specs.Sole.{Settles};
 ghost use Rattle.core_stacks.specs.Seen.{FindsProcess, finding_in, programs_now};
 
 use crate::found::Found;
 use crate::programs::{Programs, programs_of, read_images};
-use image_memory::{ContainsAddr, CoreDump, CoreMapRange, Images};
+use image_memory::{BackedDump, ContainsAddr, CoreMapRange, Images};
 use process_memory::ProcessMemory;
 use py_layout::{Layout, Layouts, Version};
 use py_process::{CoreError, PythonProcessInfo, get_interpreter_address, get_python_version};
@@ -80,33 +80,34 @@ fn find_by_images<M: ContainsAddr, P: ProcessMemory>(
 /// What the images say, and what is found by it.
 fn find_by_maps(
     alloc: Global,
-    core: &CoreDump,
+    dump: &BackedDump,
     maps: &Vec<CoreMapRange>,
     images: &Images,
     layouts: &Layouts,
     programs: &Programs<'_>,
 ) -> Result<Found, CoreError>
-    ensures settles { Settles (AfterMaps (memory_with core.now images.now) maps.now.items images.now layouts.now
+    ensures settles { Settles (AfterMaps (byte_at (regions_of dump.now)) maps.now.items images.now layouts.now
         (programs_now programs.now))
         (finding_in result) }
     ensures sound { IfOk result (λ found. IsSound found.layout) }
 {
     let info = read_images(alloc, images, maps, programs)?;
-    let mut view = core.view();
+    let mut view = dump.view();
     find_by_images(alloc, &info, &mut view, layouts)
 }
 
-/// What is found of the process of a core, or the first cause why nothing is.
+/// What is found of the process of a core and its images, or the first cause why nothing is.
 pub(crate) fn find_process(
     alloc: Global,
-    core: &CoreDump,
+    dump: &BackedDump,
     images: &Images,
     layouts: &Layouts,
 ) -> Result<Found, CoreError>
-    ensures settles { Settles (FindsProcess core.now images.now layouts.now) (finding_in result) }
+    requires { IsBackedMemory dump.now.core images.now (regions_of dump.now) }
+    ensures settles { Settles (FindsProcess dump.now.core images.now layouts.now) (finding_in result) }
     ensures sound { IfOk result (λ found. IsSound found.layout) }
 {
-    let maps = core.maps();
+    let maps = dump.core().maps();
     let programs = programs_of(maps)?;
-    find_by_maps(alloc, core, maps, images, layouts, &programs)
+    find_by_maps(alloc, dump, maps, images, layouts, &programs)
 }
