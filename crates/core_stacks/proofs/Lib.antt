@@ -8,8 +8,10 @@ pub mod Images
 pub mod Left
 pub mod Means
 pub mod OpenedLaws
+pub mod PlainFaults
 pub mod ReportLaws
 pub mod Sole
 pub mod StackCauses
 pub mod Steps
 pub mod Unfaulted
+pub mod WalkFaults

@@ -1,6 +1,7 @@
 -- What is opened of a core is what is found of it.
 use Rattle.std.proofs.Common.{◌≡◌, ℕ, List, refl, sym, ap, subst, ◌∙◌, inl, inr, ⊎_elim}
 use Rattle.std.specs.Prelude.{Result, Ok, Err}
+use Rattle.elf64_core.specs.Header.{machine_of}
 use Rattle.image_memory.specs.Backed.{IsBackedMemory}
 use Rattle.image_memory.specs.Images.{Pushed}
 use Rattle.process_memory.specs.Memory.{Region}
@@ -97,7 +98,7 @@ module _ (bytes : List ℕ) (images : Pushed) (layouts : List Layout) where
 
   -- what is found by what is dumped is one, where what is opened is
   pub finding_sole : (r : Result Opened CoreError) → IsSole (Opens bytes images layouts) r → (d : Dumped) → IsDumped bytes images d
-      → IsSole (FindingIs (memory_in d) d.maps images layouts) (finding_by r)
+      → IsSole (FindingIs (memory_in d) (machine_of bytes) d.maps images layouts) (finding_by r)
   finding_sole r sole d is a h kept =
       ⊎_elim (λ e. inl (ap finding_by e ∙ back d.pieces a)) (λ e. inr (ap finding_by e))
       (sole (opened_by d.pieces a) (opens_by d.pieces is.memory a (record { dumped = d; is_dumped = is; is = h })) (kept_by d.pieces a kept))

@@ -1,6 +1,8 @@
 -- The report of a core is one, it is right, and it is owed where the input can be read.
-use Rattle.std.proofs.Common.{◌≡◌, ◌⊎◌, ℕ, List, refl, sym, ap, subst, ◌∙◌, inl, inr}
+use Rattle.std.proofs.Common.{◌≡◌, ◌⊎◌, ℕ, List, refl, sym, ap, subst, ◌∙◌, inl, inr, ⊎_elim}
 use Rattle.std.specs.Prelude.{ℤ, Option, Some, None, Result, Ok, Err, IfOk, option_map}
+use Rattle.elf64_core.specs.Header.{machine_of}
+use Rattle.elf64_core.specs.declared.header.Machine.{Machine}
 use Rattle.image_memory.specs.Cores.{IsCore, Refuses}
 use Rattle.image_memory.specs.Images.{Pushed}
 use Rattle.image_memory.specs.Maps.{in_maps}
@@ -16,24 +18,25 @@ use Rattle.py_stacks.specs.NamedStacks.{AreNamedStacks}
 use Rattle.py_stacks.specs.Threads.{Trace}
 use Rattle.py_stacks.specs.declared.config.Config.{Config}
 use Rattle.py_process.specs.Causes.{cause_of_dump}
-use Rattle.py_process.specs.Findings.{AfterImages, AfterLayout, AfterMaps, AfterVersion, Finding, FindingIs, IsChosen, IsFound, IsMade, LayoutSays, SearchSays, VersionSays, finding}
+use Rattle.py_process.specs.Findings.{AfterImages, AfterLayout, AfterMaps, AfterSearch, AfterVersion, Finding, FindingIs, IsChosen, IsFound, IsMade, LayoutSays, LockSays, SearchSays, VersionSays, finding}
+use Rattle.py_process.specs.Lock.{lock_address_of}
 use Rattle.py_process.specs.Programs.{ImagesSay, MapsSay}
 use Rattle.py_process.specs.Candidates.{IsFirstOf, candidates_of}
 use Rattle.py_process.specs.Sources.{FirstTells, sources_of}
 use Rattle.py_process.specs.Steps.{Then}
-use Rattle.py_process.specs.Reports.{AfterCore, AfterFinding, AsksNoOther, CoreSays, IsReadable, IsRight, IsTold, NotesTell, ReportIs, Reported, StacksSay, Tells, Dumped, IsDumped, first_signal, process_told, reported, reported_of}
+use Rattle.py_process.specs.Reports.{AfterCore, AfterFinding, AsksNoOther, CoreSays, IsReadable, IsRight, IsTold, NotesTell, ReportIs, Reported, StacksSay, Tells, Dumped, IsDumped, fault_on, first_signal, process_told, reported, reported_of}
 use Rattle.py_process.specs.Reports as reports
 use Rattle.py_process.specs.declared.report.Report.{Report}
 use Rattle.py_process.specs.declared.core_error.CoreError.{CoreError}
 use Rattle.py_process.specs.declared.core_error.CoreError.TheVariants as core
-use Rattle.core_stacks.specs.Opened.{IsFoundIn, IsLeft, IsOpened, IsReportOf, IsUnopened, Opened, Opens, memory_in}
+use Rattle.core_stacks.specs.Opened.{IsOpened, IsReportOf, IsUnopened, Opened, Opens, memory_in}
 use Rattle.core_stacks.specs.Seen.{FindsProcess}
 use Rattle.core_stacks.specs.Sole.{IsSole, Settles}
-use Rattle.core_stacks.proofs.Agreement.{Agree, IsKept, err_kept, ok_is, ok_not_err, settles_agree, settles_by_err, settles_by_ok, settles_err, settles_ok, then_agree, then_ok, then_value}
+use Rattle.core_stacks.proofs.Agreement.{Agree, IsKept, err_kept, kept_or, ok_is, ok_not_err, settles_agree, settles_by_err, settles_by_ok, settles_err, settles_ok, then_agree, then_ok, then_value}
 use Rattle.core_stacks.proofs.Dumped.{backed_once, dumped_once}
 use Rattle.core_stacks.proofs.FindingLaws.{NoneClash, finding_agree}
 use Rattle.core_stacks.proofs.OpenedLaws.{finding_sole, opened_is, unopened_is}
-use Rattle.core_stacks.proofs.StackCauses.{both, stacks_agree, stacks_only}
+use Rattle.core_stacks.proofs.StackCauses.{stacks_agree, stacks_only}
 use Rattle.core_stacks.proofs.Unfaulted.{unfaulted}
 
 -- ---- the core
@@ -101,23 +104,24 @@ module _ (bytes : List ℕ) (images : Pushed) (layouts : List Layout) (config : 
       (stacks_agree (reports.memory_in d) f config) (λ traces h. told_agree bytes f traces)
 
   after_core : (d : Dumped) → Agree (AfterCore bytes images layouts config d)
-  after_core d = then_agree (FindingIs (reports.memory_in d) d.maps images layouts) (AfterFinding bytes d config)
-      (finding_agree (reports.memory_in d) d.maps images layouts apart) (λ f h. after_finding d f)
+  after_core d = then_agree (FindingIs (reports.memory_in d) (machine_of bytes) d.maps images layouts) (AfterFinding bytes d config)
+      (finding_agree (reports.memory_in d) (machine_of bytes) d.maps images layouts apart) (λ f h. after_finding d f)
 
   pub report_agree : Agree (ReportIs bytes images layouts config)
   report_agree = then_agree (CoreSays bytes images) (AfterCore bytes images layouts config) (core_agree bytes images) (λ d h. after_core d)
 
 -- ---- what was found, in one record
 
-found_by : (m : Memory) (maps : List CoreMapRange) (images : Pushed) (layouts : List Layout) (f : Finding)
-    → FindingIs m maps images layouts (Ok f) → IsFound m maps images layouts f
-found_by m maps images layouts f h =
-    let one = then_ok (MapsSay maps) (AfterMaps m maps images layouts) f h in
-    let two = then_ok (ImagesSay images one.0) (AfterImages m (in_maps maps) layouts) f one.2 in
-    let three = then_ok (VersionSays m two.0) (AfterVersion m (in_maps maps) layouts two.0) f two.2 in
-    let four = then_ok (LayoutSays layouts three.0) (AfterLayout m (in_maps maps) two.0 three.0) f three.2 in
-    let five = then_ok (SearchSays m (in_maps maps) two.0 three.0 four.0) (IsMade three.0 four.0) f four.2 in
-    subst (λ x. IsFound m maps images layouts x) (sym (ok_is f (finding three.0 four.0 five.0) five.2)) (record {
+found_by : (m : Memory) (machine : Machine) (maps : List CoreMapRange) (images : Pushed) (layouts : List Layout) (f : Finding)
+    → FindingIs m machine maps images layouts (Ok f) → IsFound m machine maps images layouts f
+found_by m machine maps images layouts f h =
+    let one = then_ok (MapsSay maps) (AfterMaps m machine maps images layouts) f h in
+    let two = then_ok (ImagesSay images one.0) (AfterImages m machine (in_maps maps) layouts) f one.2 in
+    let three = then_ok (VersionSays m two.0) (AfterVersion m machine (in_maps maps) layouts two.0) f two.2 in
+    let four = then_ok (LayoutSays layouts three.0) (AfterLayout m machine (in_maps maps) two.0 three.0) f three.2 in
+    let five = then_ok (SearchSays m (in_maps maps) two.0 three.0 four.0) (AfterSearch m machine two.0 three.0 four.0) f four.2 in
+    let six = then_ok (LockSays m machine two.0 three.0 four.0 five.0) (IsMade three.0 four.0 five.0) f five.2 in
+    subst (λ x. IsFound m machine maps images layouts x) (sym (ok_is f (finding three.0 four.0 five.0 six.0) six.2)) (record {
       programs = one.0;
       are_programs = one.1;
       known = two.0;
@@ -125,12 +129,12 @@ found_by m maps images layouts f h =
       told = three.1;
       chosen = four.1;
       first = five.1;
-      lock = refl;
+      lock = six.1;
     })
 
-finds : (m : Memory) (maps : List CoreMapRange) (images : Pushed) (layouts : List Layout) (f : Finding)
-    → IsFound m maps images layouts f → FindingIs m maps images layouts (Ok f)
-finds m maps images layouts f found =
+finds : (m : Memory) (machine : Machine) (maps : List CoreMapRange) (images : Pushed) (layouts : List Layout) (f : Finding)
+    → IsFound m machine maps images layouts f → FindingIs m machine maps images layouts (Ok f)
+finds m machine maps images layouts f found =
     inr (
       found.programs,
       found.are_programs,
@@ -143,14 +147,11 @@ finds m maps images layouts f found =
           inr (
             f.layout,
             found.chosen,
-            inr (f.addresses.interpreter, found.first, made),
+            inr (f.addresses.interpreter, found.first, inr (f.addresses.lock, found.lock, refl)),
           ),
         ),
       ),
     )
-  where
-    made : ◌≡◌ {A = Result Finding CoreError} (Ok f) (Ok (finding f.version f.layout f.addresses.interpreter))
-    made = ap (λ n. Ok (record { version = f.version; layout = f.layout; addresses = record { interpreter = f.addresses.interpreter; lock = n } })) found.lock
 
 -- a report is right
 pub report_whole : (bytes : List ℕ) (images : Pushed) (layouts : List Layout) (config : Config) (r : Reported)
@@ -158,9 +159,9 @@ pub report_whole : (bytes : List ℕ) (images : Pushed) (layouts : List Layout) 
 report_whole bytes images layouts config r h =
     let one = then_ok (CoreSays bytes images) (AfterCore bytes images layouts config) r h in
     let m = reports.memory_in one.0 in
-    let two = then_ok (FindingIs m one.0.maps images layouts) (AfterFinding bytes one.0 config) r one.2 in
+    let two = then_ok (FindingIs m (machine_of bytes) one.0.maps images layouts) (AfterFinding bytes one.0 config) r one.2 in
     let three = then_ok (StacksSay m two.0 config) (IsTold bytes two.0) r two.2 in
-    let found = found_by m one.0.maps images layouts two.0 two.1 in
+    let found = found_by m (machine_of bytes) one.0.maps images layouts two.0 two.1 in
     let is : r ≡ three.2.0 = ok_is r three.2.0 three.2.2 in
     let tells = three.2.1 in
     subst (λ x. IsRight bytes images layouts config x) (sym is) (record {
@@ -176,8 +177,9 @@ report_whole bytes images layouts config r h =
       chosen = subst (λ v. IsChosen layouts v two.0.layout) (sym tells.version_is) found.chosen;
       interpreter = two.0.addresses.interpreter;
       first = subst (λ v. IsFirstOf (in_maps one.0.maps) two.0.layout m (candidates_of found.known v two.0.layout m) two.0.addresses.interpreter) (sym tells.version_is) found.first;
-      stacks = subst (λ ts. AreNamedStacks (asked_of config) two.0.layout m 0 two.0.addresses.interpreter ts) (sym tells.traces_are)
-          (subst (λ n. AreNamedStacks (asked_of config) two.0.layout m n two.0.addresses.interpreter three.0) found.lock three.1.are);
+      lock = two.0.addresses.lock;
+      is_lock = subst (λ v. lock_address_of (machine_of bytes) found.known v two.0.layout m two.0.addresses.interpreter ≡ Ok two.0.addresses.lock) (sym tells.version_is) found.lock;
+      stacks = subst (λ ts. AreNamedStacks (asked_of config) two.0.layout m two.0.addresses.lock two.0.addresses.interpreter ts) (sym tells.traces_are) three.1.are;
       notes = tells.notes;
     })
 
@@ -189,13 +191,13 @@ report_complete bytes images layouts config apart good e h kept =
     let m = reports.memory_in good.dumped in
     let maps = good.dumped.maps in
     let one = then_value (CoreSays bytes images) (AfterCore bytes images layouts config) (core_agree bytes images) good.dumped (good.core, good.is_dumped) (Err e) kept h in
-    let two = then_value (FindingIs m maps images layouts) (AfterFinding bytes good.dumped config) (finding_agree m maps images layouts apart)
-    good.finding (finds m maps images layouts good.finding good.found) (Err e) kept one in
+    let two = then_value (FindingIs m (machine_of bytes) maps images layouts) (AfterFinding bytes good.dumped config) (finding_agree m (machine_of bytes) maps images layouts apart)
+    good.finding (finds m (machine_of bytes) maps images layouts good.finding good.found) (Err e) kept one in
     by two
   where
     by : AfterFinding bytes good.dumped config good.finding (Err e) → ⊥
     by (inl (d, says, is)) = stacks_only (reports.memory_in good.dumped) good.finding config good.asks
-        (unfaulted (reports.memory_in good.dumped) good.finding config good.no_locals good.found.lock good.found.first.is.is) d says (err_kept (Err e) d is kept)
+        (unfaulted (reports.memory_in good.dumped) good.finding config good.found.first.is.is good.rest) d says (err_kept (Err e) d is kept)
     by (inr (traces, has, (r, tells, is))) = absurd (ok_not_err r e (sym is))
 
 -- ---- the report by what was opened
@@ -212,13 +214,15 @@ pub untold_settles : (o : Opened) (config : Config) (e : CoreError) (r : Result 
 untold_settles o config e r says is =
     settles_err (StacksSay (memory_in o) o.finding config) (IsTold o.core o.finding) (stacks_agree (memory_in o) o.finding config) e r says is
 
--- where the process was found and nothing else is asked for, what is left is want of memory
-pub left_memory : (o : Opened) (config : Config) → AsksNoOther config → (e : CoreError) → IsLeft e → StacksSay (memory_in o) o.finding config (Err e)
-    → e ≡ core.OutOfMemory
-left_memory o config asks core.NativeUnsupported left h = absurd (both config.native h asks.native)
-left_memory o config asks core.SubprocessesUnsupported left h = absurd (both config.subprocesses h.1 asks.subprocesses)
-left_memory o config asks core.OutOfMemory left h = refl
-left_memory o config asks _ left h = absurd left
+-- where the process was found, nothing else is asked for and no fault is met, what is left is want of memory
+pub left_memory : (o : Opened) (config : Config) → AsksNoOther config → fault_on (memory_in o) o.finding config ≡ None → (e : CoreError)
+    → StacksSay (memory_in o) o.finding config (Err e) → e ≡ core.OutOfMemory
+left_memory o config asks none e h =
+    ⊎_elim (λ same. of_err e core.OutOfMemory same)
+    (λ kept. absurd (stacks_only (memory_in o) o.finding config asks none e h kept)) (kept_or {T = List Trace} (Err e))
+  where
+    of_err : (e d : CoreError) → ◌≡◌ {A = Result (List Trace) CoreError} (Err e) (Err d) → e ≡ d
+    of_err e d same = cc
 
 module _ (bytes : List ℕ) (images : Pushed) (layouts : List Layout) (config : Config) where
   settled : (r : Result Dumped CoreError) → CoreSays bytes images r → Settles (CoreSays bytes images) r
@@ -240,7 +244,7 @@ module _ (bytes : List ℕ) (images : Pushed) (layouts : List Layout) (config : 
   unfound_reports e r accepted (inr h) sole is =
       let d = h.dumped in
       settles_by_ok (CoreSays bytes images) (AfterCore bytes images layouts config) d r (settled (Ok d) (accepted, h.is_dumped))
-      (settles_by_err (FindingIs (reports.memory_in d) d.maps images layouts) (AfterFinding bytes d config) e r
+      (settles_by_err (FindingIs (reports.memory_in d) (machine_of bytes) d.maps images layouts) (AfterFinding bytes d config) e r
       (record { right = h.is; only = finding_sole bytes images layouts (Err e) sole d h.is_dumped }) is)
 
   pub unopened_reports : (e : CoreError) (r : Result Reported CoreError) → IsCore bytes → Settles (Opens bytes images layouts) (Err e) → r ≡ Err e
@@ -254,7 +258,7 @@ module _ (bytes : List ℕ) (images : Pushed) (layouts : List Layout) (config : 
       let is_dumped = h.right.finds.is_dumped in
       let pieces : o.pieces ≡ d.pieces = backed_once bytes images o.pieces d.pieces h.right.memory is_dumped.memory in
       settles_by_ok (CoreSays bytes images) (AfterCore bytes images layouts config) d r (settled (Ok d) (accepted, is_dumped))
-      (settles_by_ok (FindingIs (reports.memory_in d) d.maps images layouts) (AfterFinding bytes d config) o.finding r
+      (settles_by_ok (FindingIs (reports.memory_in d) (machine_of bytes) d.maps images layouts) (AfterFinding bytes d config) o.finding r
       (record { right = h.right.finds.is; only = finding_sole bytes images layouts (Ok o) h.only d is_dumped })
       (subst (λ ps. Settles (Then (StacksSay (byte_at ps) o.finding config) (IsTold bytes o.finding)) r) pieces
       (subst (λ bs. Settles (Then (StacksSay (memory_in o) o.finding config) (IsTold bs o.finding)) r) h.right.core_is rest)))
@@ -265,7 +269,7 @@ module _ (bytes : List ℕ) (images : Pushed) (layouts : List Layout) (config : 
   finds_good good = record {
     dumped = good.dumped;
     is_dumped = good.is_dumped;
-    is = finds (reports.memory_in good.dumped) good.dumped.maps images layouts good.finding good.found;
+    is = finds (reports.memory_in good.dumped) (machine_of bytes) good.dumped.maps images layouts good.finding good.found;
   }
 
   pub refused_readable : (e : DumpError) → Refuses bytes e → IsReadable bytes images layouts config → cause_of_dump e ≡ core.OutOfMemory
@@ -281,17 +285,14 @@ module _ (bytes : List ℕ) (images : Pushed) (layouts : List Layout) (config : 
   pub unopened_readable : (e : CoreError) → IsSole (Opens bytes images layouts) (Err e) → IsReadable bytes images layouts config → e ≡ core.OutOfMemory
   unopened_readable e sole good = unopened_is bytes images layouts e sole good.finding (finds_good good)
 
-  pub opened_readable : (o : Opened) → IsOpened bytes images layouts o → IsSole (Opens bytes images layouts) (Ok o) → IsReadable bytes images layouts config
-      → IsFoundIn o
-  opened_readable o opened sole good = record {
-    maps = good.dumped.maps;
-    images = images;
-    layouts = layouts;
-    is = subst (λ ps. IsFound (byte_at ps) good.dumped.maps images layouts o.finding)
-        (backed_once bytes images good.dumped.pieces o.pieces good.is_dumped.memory opened.memory)
-        (subst (λ f. IsFound (reports.memory_in good.dumped) good.dumped.maps images layouts f)
-        (sym (opened_is bytes images layouts o sole good.finding (finds_good good))) good.found);
-  }
+  pub opened_faultless : (o : Opened) → IsOpened bytes images layouts o → IsSole (Opens bytes images layouts) (Ok o)
+      → IsReadable bytes images layouts config → fault_on (memory_in o) o.finding config ≡ None
+  opened_faultless o opened sole good =
+      let pieces : good.dumped.pieces ≡ o.pieces = backed_once bytes images good.dumped.pieces o.pieces good.is_dumped.memory opened.memory in
+      let finding : o.finding ≡ good.finding = opened_is bytes images layouts o sole good.finding (finds_good good) in
+      subst (λ ps. fault_on (byte_at ps) o.finding config ≡ None) pieces
+      (subst (λ f. fault_on (reports.memory_in good.dumped) f config ≡ None) (sym finding)
+      (unfaulted (reports.memory_in good.dumped) good.finding config good.found.first.is.is good.rest))
 
   -- the same by the bytes that a core was made of
   pub unopened_settled : (dump : List ℕ) (e : CoreError) (r : Result Reported CoreError) → dump ≡ bytes → IsCore bytes

@@ -1,5 +1,6 @@
 -- What the program's own values stand for.
 use Rattle.std.specs.Prelude.{◌≡◌, ℕ, List, Option, Some, None, Result, Ok, Err, option_copied}
+use Rattle.elf64_core.specs.Header.{machine_of}
 use Rattle.image_memory.specs.Images.{Pushed}
 use Rattle.image_memory.specs.declared.maps.CoreMapRange.{CoreMapRange}
 use Rattle.py_fields.specs.declared.layout.Layout.{Layout}
@@ -43,4 +44,4 @@ finding_in (Err e) = Err e
 pub record FindsProcess (bytes : List ℕ) (images : Pushed) (layouts : List Layout) (result : Result Finding CoreError) : Type 0 where
   pub dumped : Dumped
   pub is_dumped : IsDumped bytes images dumped
-  pub is : FindingIs (memory_in dumped) dumped.maps images layouts result
+  pub is : FindingIs (memory_in dumped) (machine_of bytes) dumped.maps images layouts result

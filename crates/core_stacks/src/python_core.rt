@@ -87,9 +87,12 @@ impl PythonCoreDump {
     /// (`image_memory::BackedDump`): the core's own bytes come first, and what it leaves out of a segment without the
     /// write flag comes from the image of its file.
     ///
+    /// The lock is that of `py_process::get_threadstate_address`, by the machine that the core's header names.
+    ///
     /// The error is the first of these: `NoBinary`, where no executable map's file has a name; `NoImage` and
     /// `BadImage` of the needed image; `UnreadableVersion` and `NoVersion`; `UnsupportedVersion`, where no layout
-    /// covers the version; `NoInterpreter`. Else it is want of memory.
+    /// covers the version; `NoInterpreter`; `Unreadable`, where the lock's address is not in memory. Else it is want
+    /// of memory.
     pub fn new(
         alloc: Global,
         core: CoreDump,
@@ -143,9 +146,9 @@ impl PythonCoreDump {
         ensures equal { (other : Opened) → other.finding ≡ self.now.finding
             → ((a : ℕ) → memory_in other a ≡ memory_in self.now a)
             → StacksSay (memory_in other) other.finding config.now (traces_in result) }
-        // where the process was found and no locals are asked for, neither a limit nor a record of a thread or a
-        // frame is in the way
-        ensures found { IsFoundIn self.now → config.now.dump_locals ≡ 0 → IfErr result IsLeft }
+        // where the process was found, neither a limit nor a record of a thread or a frame is in the way: the lock's
+        // owner may be, and the locals of a kept frame, where they are asked for
+        ensures found { IsFoundIn self.now → IfErr result (IsLeft self.now config.now) }
     {
         read_stacks(self.alloc, &self.dump, &self.found, config)
     }

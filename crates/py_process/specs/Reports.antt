@@ -3,6 +3,7 @@ use Rattle.std.specs.Prelude.{◌≡◌, ℕ, ◌==◌, ℤ, Bool, true, false, 
 use Rattle.std.specs.List.{position}
 use Rattle.std.specs.Global.{Global}
 use Rattle.bstr.specs.Utf8.{lossy_chars}
+use Rattle.elf64_core.specs.Header.{machine_of}
 use Rattle.image_memory.specs.Backed.{IsBackedMemory}
 use Rattle.image_memory.specs.Cores.{IsCore, Refuses}
 use Rattle.image_memory.specs.Images.{Pushed}
@@ -26,9 +27,11 @@ use Rattle.py_stacks.specs.declared.trace.StackTrace.{StackTrace}
 use Rattle.py_process.specs.Candidates.{IsFirstOf, candidates_of}
 use Rattle.py_process.specs.Facts.{Known}
 use Rattle.py_process.specs.Findings.{Finding, FindingIs, IsChosen, IsFound}
+use Rattle.py_process.specs.Lock.{lock_address_of}
 use Rattle.py_process.specs.Programs.{ArePrograms, IsKnown, Programs}
 use Rattle.py_process.specs.Sources.{FirstTells, sources_of}
 use Rattle.py_process.specs.Steps.{Then}
+use Rattle.py_process.specs.Variables.{HasRest}
 use Rattle.py_process.specs.declared.report.Report.{Report}
 use Rattle.py_process.specs.declared.core_error.CoreError.{CoreError}
 use Rattle.py_process.specs.declared.core_error.CoreError.TheVariants.{NotElf64, BadHeader, NoNotes, BadNote, Unreadable, NativeUnsupported, SubprocessesUnsupported, BadValue, LocalsLimit, ThreadLimit, FrameLimit, ChainLimit, OutOfMemory}
@@ -162,7 +165,7 @@ AfterFinding bytes d config f = Then (StacksSay (memory_in d) f config) (IsTold 
 
 abbrev pub AfterCore : List ℕ → Pushed → List Layout → Config → Dumped → Result Reported CoreError → Type 0
 AfterCore bytes images layouts config d =
-    Then (FindingIs (memory_in d) d.maps images layouts) (AfterFinding bytes d config)
+    Then (FindingIs (memory_in d) (machine_of bytes) d.maps images layouts) (AfterFinding bytes d config)
 
 -- the report of a core and its images, or the first cause why there is none: of the core, of the search, of the
 -- stacks. The causes shut each other out, so that each comes exactly where it holds, want of memory aside
@@ -186,15 +189,17 @@ pub record IsRight (bytes : List ℕ) (images : Pushed) (layouts : List Layout) 
   pub interpreter : ℕ
   pub first : IsFirstOf (in_maps dumped.maps) layout (memory_in dumped)
       (candidates_of known r.version layout (memory_in dumped)) interpreter
-  pub stacks : AreNamedStacks (asked_of config) layout (memory_in dumped) 0 interpreter r.traces
+  pub lock : ℕ
+  pub is_lock : lock_address_of (machine_of bytes) known r.version layout (memory_in dumped) interpreter ≡ Ok lock
+  pub stacks : AreNamedStacks (asked_of config) layout (memory_in dumped) lock interpreter r.traces
   pub notes : NotesTell bytes r.signal r.process
 
--- the input for which a report is owed, where no locals are asked for
+-- the input for which a report is owed
 pub record IsReadable (bytes : List ℕ) (images : Pushed) (layouts : List Layout) (config : Config) : Type 0 where
   pub core : IsCore bytes
   pub dumped : Dumped
   pub is_dumped : IsDumped bytes images dumped
   pub finding : Finding
-  pub found : IsFound (memory_in dumped) dumped.maps images layouts finding
+  pub found : IsFound (memory_in dumped) (machine_of bytes) dumped.maps images layouts finding
   pub asks : AsksNoOther config
-  pub no_locals : config.dump_locals ≡ 0
+  pub rest : HasRest (memory_in dumped) finding config
