@@ -105,14 +105,15 @@ version_fails m machine contains layouts k e error r cause h is =
     (subst (λ x. VersionSays m k (Err x)) (sym cause) (version_says m k e h)) is
 
 -- what the images say, and what comes of it over the same memory and maps; or why they say nothing
-pub images_then : (m n : Memory) (machine other : Machine) (maps others : List CoreMapRange) (images : Pushed) (layouts : List Layout)
-    (p : Programs) (k : Known) (r : Result Finding CoreError) → IsKnown images p k → n ≡ m → other ≡ machine → others ≡ maps
-    → Settles (AfterImages n other (in_maps others) layouts k) r → Settles (AfterMaps m machine maps images layouts p) r
-images_then m n machine other maps others images layouts p k r known same same_machine same_maps h =
+pub images_then : (m n : Memory) (machine other : Machine) (contains : ℕ → Bool) (maps : List CoreMapRange) (images : Pushed)
+    (layouts : List Layout) (p : Programs) (k : Known) (r : Result Finding CoreError) → IsKnown images p k → n ≡ m
+    → other ≡ machine → contains ≡ in_maps maps → Settles (AfterImages n other contains layouts k) r
+    → Settles (AfterMaps m machine maps images layouts p) r
+images_then m n machine other contains maps images layouts p k r known same same_machine same_maps h =
     settles_ok (ImagesSay images p) (AfterImages m machine (in_maps maps) layouts) (images_agree images p) k r known
     (subst (λ x. Settles (AfterImages x machine (in_maps maps) layouts k) r) same
     (subst (λ x. Settles (AfterImages n x (in_maps maps) layouts k) r) same_machine
-    (subst (λ ms. Settles (AfterImages n other (in_maps ms) layouts k) r) same_maps h)))
+    (subst (λ test. Settles (AfterImages n other test layouts k) r) same_maps h)))
 
 pub images_fail : (m : Memory) (machine : Machine) (maps : List CoreMapRange) (images : Pushed) (layouts : List Layout) (p : Programs) (e : CoreError) (r : Result Finding CoreError)
     → ImagesSay images p (Err e) → r ≡ Err e → Settles (AfterMaps m machine maps images layouts p) r

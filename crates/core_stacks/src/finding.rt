@@ -135,12 +135,12 @@ fn find_by_images<M: ContainsAddr, P: ProcessMemory>(
 fn find_by_maps(
     alloc: Global,
     dump: &BackedDump,
-    maps: &Vec<CoreMapRange>,
+    maps: &[CoreMapRange],
     images: &Images,
     layouts: &Layouts,
     programs: &Programs<'_>,
 ) -> Result<Found, CoreError>
-    ensures settles { Settles (AfterMaps (byte_at (regions_of dump.now)) (machine_of dump.now.core) maps.now.items images.now layouts.now
+    ensures settles { Settles (AfterMaps (byte_at (regions_of dump.now)) (machine_of dump.now.core) maps.now images.now layouts.now
         (programs_now programs.now))
         (finding_in result) }
     ensures sound { IfOk result (λ found. IsSound found.layout) }

@@ -16,4 +16,4 @@ returns-in_err-info-clause-settles c =
 pub returns-clause-settles : goal.returns-clause-settles
 returns-clause-settles c =
     images_then _ _ _ _ _ _ _ _ _ _ _ c.in_ok-info.ensures.known (ap (λ (s : Seen). byte_at s.pieces) c.view-view.ensures)
-    (c.machine.ensures ∙ ap machine_of c.core.ensures) (ap (λ v. v.items) c.in_ok-info.ensures.maps) c.find_by_images.ensures.settles
+    (c.machine.ensures ∙ ap machine_of c.core.ensures) c.in_ok-info.ensures.maps c.find_by_images.ensures.settles
