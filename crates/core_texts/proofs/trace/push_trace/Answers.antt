@@ -2,7 +2,7 @@ use Rattle.std.proofs.Common.{◌≡◌, ◌∙◌, ◌++◌, ◌<◌, arith, le
 use Rattle.std.specs.List.{concat}
 use Rattle.core_texts.specs.Text.{frame_text}
 use Rattle.core_texts.proofs.Texts.{more_parts}
-use Rattle.core_texts.proofs.text.push_thread.Goals as goal
+use Rattle.core_texts.proofs.trace.push_trace.Goals as goal
 
 pub loop-frame-preserved : goal.loop-frame-preserved
 loop-frame-preserved c =
