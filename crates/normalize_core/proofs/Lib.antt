@@ -1,0 +1,4 @@
+pub mod Orders
+pub mod Coverings
+pub mod Meeting
+pub mod Sole
