@@ -1,9 +1,10 @@
 -- The entry that covers an address, by where the entries that end no later stop.
-use Rattle.std.proofs.Common.{◌≡◌, ℕ, ◌+◌, ◌<◌, ◌≤◌, suc, zero, Bool, true, false, ◌&&◌, List, [], ◌∷◌, length, get_or, leb, ltb, refl, sym, ap, subst, ◌∙◌, arith, Option, Some, None}
-use Rattle.std.specs.Prelude.{cond, slice_get}
+use Rattle.std.proofs.Common.{◌≡◌, ℕ, ◌<◌, ◌≤◌, suc, zero, Bool, true, false, List, [], ◌∷◌, length, leb, ltb, refl, sym, subst, ◌∙◌, arith, Option, Some, None}
+use Rattle.std.specs.Prelude.{All, cond, slice_get}
 use Rattle.std.specs.List.{AllWithin, list_all}
 use Rattle.std.specs.List.Sorted.{IsNonDecreasingBy}
-use Rattle.std.proofs.lemmas.Bool.{and_parts, and_from, and_left, and_right, leb-true, leb-false, le-leb, lt-leb, lt-ltb, le-ltb, cond-true, cond-false}
+use Rattle.std.proofs.lemmas.Bool.{and_parts, and_from, and_left, and_right, leb-true, leb-false, le-leb, lt-leb, lt-ltb, le-ltb, ltb-true, cond-true, cond-false}
+use Rattle.std.proofs.lemmas.List.Elements.{All-nil, All-cons, All-weaker}
 use Rattle.std.proofs.lemmas.List.Sorted.{IsNonDecreasingBy-from_all_adjacent}
 use Rattle.maps_text.specs.declared.entry.MapsEntry.{MapsEntry}
 use Rattle.normalize_core.specs.Order.{adjacent, first_behind, is_forward, ends_before, in_order}
@@ -115,3 +116,50 @@ covering_covers (f ∷ fs) addr e h = by (covers addr f) refl (λ rest. covering
         let eq : f ≡ e = cc in
         subst (λ x. covers addr x ≡ true) eq is
     by false is go = go (sym (cond-false (covers addr f) (Some f) (covering fs addr) is) ∙ h)
+
+-- where no entry covers an address, each doesn't
+none-all : (addr : ℕ) (es : List MapsEntry) → covering es addr ≡ None → All (λ (e : MapsEntry). covers addr e ≡ false) es
+none-all addr [] h = All-nil (λ (e : MapsEntry). covers addr e ≡ false)
+none-all addr (e ∷ es) h = by (covers addr e) refl (λ rest. none-all addr es rest)
+  where
+    by : (b : Bool) → covers addr e ≡ b
+        → (covering es addr ≡ None → All (λ (f : MapsEntry). covers addr f ≡ false) es)
+        → All (λ (f : MapsEntry). covers addr f ≡ false) (e ∷ es)
+    by true is go =
+        let both : Some e ≡ None = sym (cond-true (covers addr e) (Some e) (covering es addr) is) ∙ h in cc
+    by false is go =
+        All-cons (λ (f : MapsEntry). covers addr f ≡ false) e es is
+        (go (sym (cond-false (covers addr e) (Some e) (covering es addr) is) ∙ h))
+
+-- behind an entry that covers an address no entry does
+none_behind : (e : MapsEntry) (es : List MapsEntry) (addr : ℕ) → Ordered (e ∷ es) → addr < e.range.end
+    → All (λ (f : MapsEntry). covers addr f ≡ false) es
+none_behind e [] addr h lt = All-nil (λ (f : MapsEntry). covers addr f ≡ false)
+none_behind e (f ∷ es) addr h lt =
+    let up = next_after e f es h in
+    none-all addr (f ∷ es) (none_past f es addr (ordered-tail e (f ∷ es) h) (omega (arith, up, lt)))
+
+abbrev IsFound : List MapsEntry → ℕ → MapsEntry → Type 0
+IsFound entries addr e = covers addr e ≡ true → covering entries addr ≡ Some e
+
+only_one : (entries : List MapsEntry) (addr : ℕ) → Ordered entries → All (IsFound entries addr) entries
+only_one [] addr h = All-nil (IsFound [] addr)
+only_one (e ∷ es) addr h = by (covers addr e) refl (only_one es addr (ordered-tail e es h))
+  where
+    by : (b : Bool) → covers addr e ≡ b → All (IsFound es addr) es → All (IsFound (e ∷ es) addr) (e ∷ es)
+    by true is go =
+        let first = cond-true (covers addr e) (Some e) (covering es addr) is in
+        let parts = and_parts (leb e.range.start addr) (ltb addr e.range.end) is in
+        let behind = none_behind e es addr h (ltb-true addr e.range.end parts.1) in
+        All-cons (IsFound (e ∷ es) addr) e es (λ k. first)
+        (All-weaker (λ (f : MapsEntry). covers addr f ≡ false) (IsFound (e ∷ es) addr)
+        (λ f apart k. let both : true ≡ false = sym k ∙ apart in cc) es behind)
+    by false is go =
+        let rest = cond-false (covers addr e) (Some e) (covering es addr) is in
+        All-cons (IsFound (e ∷ es) addr) e es (λ k. let both : true ≡ false = sym k ∙ is in cc)
+        (All-weaker (IsFound es addr) (IsFound (e ∷ es) addr) (λ f found k. rest ∙ found k) es go)
+
+-- of entries in order, the one that is found is the one that covers the address
+pub covering_only : (entries : List MapsEntry) (addr : ℕ) → in_order entries ≡ true
+    → All (λ (e : MapsEntry). covers addr e ≡ true → covering entries addr ≡ Some e) entries
+covering_only entries addr h = only_one entries addr (ordered entries h)

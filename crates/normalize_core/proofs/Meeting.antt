@@ -1,10 +1,8 @@
 -- What is met by one address more.
-use Rattle.std.proofs.Common.{◌≡◌, ℕ, ◌+◌, ◌<◌, ◌≤◌, suc, zero, Bool, true, false, not, ◌&&◌, ◌||◌, List, [], ◌∷◌, ◌++◌, length, get_or, eqb, ltb, refl, sym, ap, subst, ◌∙◌, arith, Option, Some, None, Ok, Err, add-zero, length-append}
+use Rattle.std.proofs.Common.{◌≡◌, ℕ, ◌+◌, ◌<◌, ◌≤◌, suc, Bool, true, false, not, ◌||◌, List, [], ◌∷◌, ◌++◌, length, get_or, eqb, ltb, refl, sym, ap, subst, ◌∙◌, arith, Option, Some, None, Ok, Err, add-zero, length-append}
 use Rattle.std.specs.Prelude.{All, cond, map, is_some, unwrap_or}
-use Rattle.std.specs.List.{AllZip, filter, list_any, position, position_or_len, prefix_len}
-use Rattle.std.specs.Str.{bytes_eq}
-use Rattle.std.proofs.lemmas.Bool.{or_cases, or_left, or_right, or_parts, cases_Bool, cond-true, cond-false, ltb-true, ltb-false, le-ltb, lt-ltb, eqb-true, eqb-false, eq-eqb, ne_eqb, not_from_true, not_from_false}
-use Rattle.std.proofs.lemmas.Bool.Decides.{nat_tests}
+use Rattle.std.specs.List.{AllZip, filter, list_any, position, position_or_len}
+use Rattle.std.proofs.lemmas.Bool.{cond-true, cond-false, le-ltb, lt-ltb, eq-eqb, ne_eqb}
 use Rattle.std.proofs.lemmas.List.Elements.{All-same, All-map}
 use Rattle.std.proofs.lemmas.List.Folds.{position_or_len_push, list_any_at}
 use Rattle.std.proofs.lemmas.List.Sorted.{list_any-IsPermutation}
@@ -13,7 +11,6 @@ use Rattle.normalize_core.specs.declared.meta.Reason.{Reason}
 use Rattle.normalize_core.specs.declared.meta.Reason.TheVariants.{Unmapped, MissingComponent, Unsupported}
 use Rattle.normalize_core.specs.declared.meta.UserMeta.{UserMeta}
 use Rattle.normalize_core.specs.declared.metas.Metas.{Metas}
-use Rattle.normalize_core.specs.Firsts.{firsts}
 use Rattle.normalize_core.specs.Met.{HasMet, has_target, number_of, output_by}
 use Rattle.normalize_core.specs.Normal.{Asked, Normal, IsMetaAt, IsNormal, first_addrs, number_at, output_at}
 use Rattle.normalize_core.specs.Numbered.{number_in}

@@ -2,7 +2,7 @@
 use Rattle.std.proofs.Common.{◌≡◌, ℕ, Bool, true, false, List, [], ◌∷◌, Option, Some, None, Result, Ok, Err, inl, inr, refl, sym, ap, subst, ◌∙◌}
 use Rattle.std.specs.Prelude.{map}
 use Rattle.std.specs.List.{AllZip}
-use Rattle.elf64_core.specs.BuildIds.{Found, FileSays, BuildIdIs}
+use Rattle.elf64_core.specs.BuildIds.{Found, FileSays}
 use Rattle.elf64_core.proofs.Found.{BuildIdIs-once}
 use Rattle.image_memory.specs.Images.{Pushed, first_under}
 use Rattle.image_memory.specs.Mmap.{Mapped, shown_bytes}
@@ -11,7 +11,7 @@ use Rattle.normalize_core.specs.declared.error.NormalizeError.{NormalizeError}
 use Rattle.normalize_core.specs.declared.meta.UserMeta.{UserMeta}
 use Rattle.normalize_core.specs.declared.meta.UserMeta.TheVariants as meta
 use Rattle.normalize_core.specs.BuildIds.{id_in, FileHasId, ImageHasId, SoughtId, IsBuildId, own_id}
-use Rattle.normalize_core.specs.Normal.{Asked, Normal, IsMetaOf, IsMetaAt, IsNormal, IsRight, first_addrs, output_at, first_fault, faults}
+use Rattle.normalize_core.specs.Normal.{Asked, Normal, IsMetaOf, IsMetaAt, IsNormal, IsRight, first_addrs, output_at}
 use Rattle.normalize_core.specs.Targets.{Target, covering, target_at}
 use Rattle.normalize_core.proofs.Orders.{ascending-once}
 

@@ -8,3 +8,7 @@ pub mod Firsts
 pub mod Normal
 pub mod Met
 pub mod Answers
+pub mod Tags
+pub mod Programs
+pub mod Btfs
+pub mod ReadTags

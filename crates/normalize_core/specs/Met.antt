@@ -1,5 +1,5 @@
 -- What has been met.
-use Rattle.std.specs.Prelude.{◌≡◌, ℕ, Bool, List, length, Option, unwrap_or}
+use Rattle.std.specs.Prelude.{◌≡◌, ℕ, Bool, List, length, unwrap_or}
 use Rattle.std.specs.List.{AllZip, position}
 use Rattle.normalize_core.specs.declared.metas.Metas.{Metas}
 use Rattle.normalize_core.specs.Normal.{Asked, IsMetaAt, first_addrs}

@@ -1,5 +1,5 @@
 -- What addresses are normalized to, or why they are refused.
-use Rattle.std.specs.Prelude.{◌≡◌, ◌⊎◌, ℕ, Bool, true, false, not, ◌&&◌, if◌then◌else◌, List, [], ◌∷◌, map, Option, Some, None, Result, Ok, Err}
+use Rattle.std.specs.Prelude.{◌≡◌, ℕ, Bool, true, false, not, ◌&&◌, if◌then◌else◌, List, [], ◌∷◌, map, Option, Some, None, Result, Ok, Err}
 use Rattle.std.specs.List.{AllZip, list_any, position_or_len}
 use Rattle.std.specs.List.Sorted.{IsPermutation}
 use Rattle.image_memory.specs.Images.{Pushed}
@@ -11,7 +11,7 @@ use Rattle.normalize_core.specs.declared.meta.UserMeta.TheVariants as meta
 use Rattle.normalize_core.specs.BuildIds.{IsBuildId, own_id}
 use Rattle.normalize_core.specs.Firsts.{firsts}
 use Rattle.normalize_core.specs.Order.{ascends, in_order}
-use Rattle.normalize_core.specs.Targets.{Target, covering, target_in, target_at, value_at, overflows, meets}
+use Rattle.normalize_core.specs.Targets.{Target, covering, target_at, value_at, overflows, meets}
 
 -- what a call is given besides the addresses: the entries, the images, and whether build ids are on and files
 -- are reported by their ranges

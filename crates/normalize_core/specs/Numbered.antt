@@ -1,9 +1,8 @@
 -- The numbers of metas.
-use Rattle.std.specs.Prelude.{ℕ, List, Option, Ok, Err}
+use Rattle.std.specs.Prelude.{ℕ, Option, Ok, Err}
 use Rattle.std.specs.Ordering.{nat_cmp}
 use Rattle.std.specs.Cmp.Lexicographic.{slice_cmp}
 use Rattle.std.specs.BTreeMap as tree
-use Rattle.normalize_core.specs.declared.meta.Reason.{Reason}
 use Rattle.normalize_core.specs.declared.meta.Reason.TheVariants.{Unmapped, MissingComponent, Unsupported}
 use Rattle.normalize_core.specs.declared.numbers.Numbers.{Numbers}
 use Rattle.normalize_core.specs.Targets.{Target}

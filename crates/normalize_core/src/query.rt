@@ -1,5 +1,6 @@
 //! What is asked of one address.
-ghost use Rattle.std.specs.Prelude.{◌≡◌, ◌≤◌, ◌<◌, ◌^◌, SomeIff, IfSome, option_copied, true};
+ghost use Rattle.std.specs.Prelude.{◌≡◌, ◌≤◌, ◌<◌, ◌^◌, All, Some, SomeIff, IfSome, nat_le, option_copied, true, false};
+ghost use Rattle.std.specs.List.Sorted.{IsPartitionPoint};
 ghost use Rattle.normalize_core.specs.Order.{in_order};
 ghost use Rattle.normalize_core.specs.Targets.{covers, covering, target_in, value_in};
 ghost use Rattle.normalize_core.specs.Shown.{target_shown};
@@ -34,13 +35,22 @@ impl<'a> Model for Query<'a> {
 /// The path of a file, or why an address lies in none.
 pub(crate) type Target<'a> = Result<&'a [u8], Reason>;
 
-/// The entry that covers an address; none exactly where no entry does. The entries are halved with each step.
+/// How many entries end by an address: those in front. The entries are halved with each step.
+fn ended_by(entries: &[MapsEntry], addr: u64) -> usize
+    requires { in_order entries.now ≡ true }
+    ensures { IsPartitionPoint (λ entry. nat_le entry.range.end addr ≡ true)
+        (λ entry. nat_le entry.range.end addr ≡ false) entries.now result }
+{
+    entries.partition_point(|entry| entry.range.end <= addr)
+}
+
+/// The entry that covers an address, of which there is one at most; none exactly where no entry does.
 pub(crate) fn covering(entries: &[MapsEntry], addr: u64) -> Option<&MapsEntry>
     requires { in_order entries.now ≡ true }
-    ensures { option_copied result ≡ covering entries.now addr }
+    ensures is { option_copied result ≡ covering entries.now addr }
+    ensures only { All (λ entry. covers addr entry ≡ true → covering entries.now addr ≡ Some entry) entries.now }
 {
-    let next = entries.partition_point(|entry| entry.range.end <= addr);
-    let entry = entries.get(next)?;
+    let entry = entries.get(ended_by(entries, addr))?;
     if entry.range.start <= addr {
         Some(entry)
     } else {

@@ -269,8 +269,14 @@ fn image(alloc: Global, kind: u8) -> Result<Vec<u8>, AllocError> {
 /// Files with a build id, without one, with a bad image and without one, and one with an id of its second entry.
 fn files(alloc: Global) -> Result<(Vec<MapsEntry>, Images), Fail> {
     let mut entries = Vec::new(alloc);
-    for (number, path) in (0u64..).zip([b"/a", b"/b", b"/c", b"/d", b"/e", b"/e"]) {
-        let start = 0x1000 * number;
+    for (start, path) in [
+        (0u64, b"/a"),
+        (0x1000, b"/b"),
+        (0x2000, b"/c"),
+        (0x3000, b"/d"),
+        (0x4000, b"/e"),
+        (0x5000, b"/e"),
+    ] {
         entries.push(entry(alloc, start, start + 0x1000, 0, path)?)?;
     }
     if let Some(last) = entries.last_mut() {

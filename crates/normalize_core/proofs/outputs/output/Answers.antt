@@ -14,4 +14,4 @@ starts_by entries addr (Some e) h =
     leb-true e.range.start addr p.0
 
 pub value-requires : goal.value-requires
-value-requires c = starts_by _ c.args.addr _ c.covering-entry.ensures
+value-requires c = starts_by _ c.args.addr _ c.covering-entry.ensures.is

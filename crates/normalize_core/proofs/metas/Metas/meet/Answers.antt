@@ -1,6 +1,5 @@
-use Rattle.std.proofs.Common.{◌≡◌, true, false, length, rules, sym, ap, ◌∙◌, subst}
+use Rattle.std.proofs.Common.{◌≡◌, true, false, length, rules, ap, ◌∙◌, subst}
 use Rattle.std.specs.Prelude.{Some, cond, is_some, option_copied}
-use Rattle.normalize_core.specs.Met.{HasMet}
 use Rattle.normalize_core.specs.Normal.{Asked, IsMetaOf}
 use Rattle.normalize_core.specs.Numbered.{number_in}
 use Rattle.normalize_core.specs.Shown.{target_shown}
@@ -12,9 +11,9 @@ pub returns-then-is_some : goal.returns-then-is_some
 returns-then-is_some c = λ met h.
     let q = c.args.query.now in
     let entry : option_copied c.covering-entry.result ≡ covering q.entries c.args.addr =
-    c.covering-entry.ensures ∙ ap (λ (a : Asked). covering a.entries c.args.addr) c.query.view_is in
+    c.covering-entry.ensures.is ∙ ap (λ (a : Asked). covering a.entries c.args.addr) c.query.view_is in
     let target : target_shown c.target-target.result ≡ target_at q.entries q.map_files c.args.addr =
-    c.target-target.ensures ∙ ap (λ e. target_in c.query.inside.map_files e) c.covering-entry.ensures
+    c.target-target.ensures ∙ ap (λ e. target_in c.query.inside.map_files e) c.covering-entry.ensures.is
     ∙ ap (λ (a : Asked). target_at a.entries a.map_files c.args.addr) c.query.view_is in
     let some : is_some (number_in c.args.self.now.numbers (target_at q.entries q.map_files c.args.addr)) ≡ true = cc in
     met-again q met c.args.addr c.args.self.now h some
@@ -23,9 +22,9 @@ pub returns : goal.returns
 returns c = λ met h.
     let q = c.args.query.now in
     let entry : option_copied c.covering-entry.result ≡ covering q.entries c.args.addr =
-    c.covering-entry.ensures ∙ ap (λ (a : Asked). covering a.entries c.args.addr) c.query.view_is in
+    c.covering-entry.ensures.is ∙ ap (λ (a : Asked). covering a.entries c.args.addr) c.query.view_is in
     let target : target_shown c.target-target.result ≡ target_at q.entries q.map_files c.args.addr =
-    c.target-target.ensures ∙ ap (λ e. target_in c.query.inside.map_files e) c.covering-entry.ensures
+    c.target-target.ensures ∙ ap (λ e. target_in c.query.inside.map_files e) c.covering-entry.ensures.is
     ∙ ap (λ (a : Asked). target_at a.entries a.map_files c.args.addr) c.query.view_is in
     let some : is_some (number_in c.args.self.now.numbers (target_at q.entries q.map_files c.args.addr)) ≡ false = cc in
     let is = subst (λ t. IsMetaOf q (covering q.entries c.args.addr) t c.in_ok-meta.meta) target

@@ -1,4 +1,4 @@
-use Rattle.std.proofs.Common.{take, sym, subst, arith, length}
+use Rattle.std.proofs.Common.{take, sym, subst}
 use Rattle.std.proofs.lemmas.List.{take_more, take_all}
 use Rattle.normalize_core.specs.Met.{HasMet}
 use Rattle.normalize_core.proofs.metas.Metas.of.Goals as goal
