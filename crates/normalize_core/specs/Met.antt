@@ -12,7 +12,8 @@ has_target asked target addr = same_target target (target_at asked.entries asked
 
 -- addresses have been met, in this order: each target that is met has its number, and its meta
 pub record HasMet (asked : Asked) (met : List ℕ) (metas : Metas) : Type 0 where
-  pub numbers : (target : Target) → number_in metas.numbers target ≡ position (has_target asked target) (first_addrs asked met)
+  pub numbers : (target : Target) → number_in metas.numbers target
+      ≡ position (has_target asked target) (first_addrs asked met)
   pub list : AllZip (IsMetaAt asked) (first_addrs asked met) metas.list.items
 
 -- the number of a target; that of the metas where it was not met

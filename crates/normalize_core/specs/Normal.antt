@@ -33,7 +33,8 @@ asked_by build_ids entries images map_files = record {
 abbrev pub IsMetaOf : Asked → Option MapsEntry → Target → UserMeta → Type 0
 IsMetaOf asked entry (Err reason) m = m ≡ meta.Unknown (record { reason = reason })
 IsMetaOf asked entry (Ok path) m = (id : Option (List ℕ))
-    × IsBuildId asked.build_ids asked.images path (own_id entry) id × (m ≡ meta.Elf (record { path = path; build_id = id }))
+    × IsBuildId asked.build_ids asked.images path (own_id entry) id
+    × (m ≡ meta.Elf (record { path = path; build_id = id }))
 
 -- the meta of a target that is first met at an address
 abbrev pub IsMetaAt : Asked → ℕ → UserMeta → Type 0

@@ -14,7 +14,8 @@ is_underscore byte = byte == 95
 -- the tag in a name: behind the prefix, up to the next `_` or the end
 abbrev pub named_tag : List ℕ → Option (List ℕ)
 named_tag name =
-    if bytes_eq (take (length prefix) name) prefix then tag_of (before_first is_underscore (drop (length prefix) name)) else None
+    if bytes_eq (take (length prefix) name) prefix
+    then tag_of (before_first is_underscore (drop (length prefix) name)) else None
 
 -- a program: its address, the bytes of its name, and those of its tag
 pub record Prog : Type 0 where

@@ -28,7 +28,8 @@ pub(crate) fn build_id(
     entry: Option<&MapsEntry>,
     path: &[u8],
 ) -> Result<Option<BuildId>, AllocError>
-    ensures { IfOk result (IsBuildId query.now.build_ids query.now.images path.now (own_id (option_copied entry.entry))) }
+    ensures { let own = own_id (option_copied entry.entry) in
+        IfOk result (IsBuildId query.now.build_ids query.now.images path.now own) }
 {
     if let Some(entry) = entry
         && let Some(own) = &entry.build_id

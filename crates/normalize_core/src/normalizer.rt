@@ -148,7 +148,8 @@ impl Normalizer {
         opts: &NormalizeOpts,
     ) -> Result<UserOutput, NormalizeError>
         ensures right { let asked : Asked = asked_by self.now.build_ids entries.now images.now opts.now.map_files in
-            IsErrOf result NormalizeError.OutOfMemory ⊎ IsRight asked opts.now.sorted_addrs addrs.now (answer_of result) }
+            IsErrOf result NormalizeError.OutOfMemory
+            ⊎ IsRight asked opts.now.sorted_addrs addrs.now (answer_of result) }
         ensures numbers { IfOk result (λ output. All (λ o. o.1 < length output.meta.items) output.outputs.items) }
         ensures only { let asked : Asked = asked_by self.now.build_ids entries.now images.now opts.now.map_files in
             (answer : Result Normal NormalizeError) → IsRight asked opts.now.sorted_addrs addrs.now answer

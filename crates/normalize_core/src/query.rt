@@ -77,7 +77,7 @@ pub(crate) fn target<'a>(entry: Option<&'a MapsEntry>, map_files: bool) -> Targe
 /// nothing where that place passes 2^64 - 1.
 pub(crate) fn value(entry: Option<&MapsEntry>, addr: u64) -> Option<u64>
     requires { IfSome (option_copied entry) (λ e. e.range.start ≤ addr) }
-    ensures { SomeIff result (value_in addr (option_copied entry.entry) < 2 ^ 64) (value_in addr (option_copied entry.entry)) }
+    ensures { let place = value_in addr (option_copied entry.entry) in SomeIff result (place < 2 ^ 64) place }
 {
     let Some(entry) = entry else {
         return Some(addr);

@@ -77,7 +77,8 @@ fn addresses_of_a_process(rt: HostRuntime) -> Result<(), Fail> {
     )?;
     assert_eq!(rt;
         shown(alloc, &output)?.as_str(),
-        "7fd5ba200000@2 7fd5ba1fe000@1 10@0 2004@0 7ffe103fa000@3 | /bin/cat | unmapped | missing component | unsupported "
+        "7fd5ba200000@2 7fd5ba1fe000@1 10@0 2004@0 7ffe103fa000@3 \
+         | /bin/cat | unmapped | missing component | unsupported "
     );
     let elf = output.meta.first().and_then(|meta| meta.as_elf());
     assert!(rt; elf.is_some_and(|elf| elf.path.as_bytes() == b"/bin/cat".as_slice()));
