@@ -24,6 +24,7 @@ import tempfile
 import threading
 import time
 from dataclasses import dataclass
+from functools import lru_cache
 from itertools import zip_longest
 from pathlib import Path
 from typing import Dict, Iterator, List, Sequence, Tuple
@@ -88,11 +89,16 @@ def walk(program: Path, core: Core, layouts: Path, build: Build, lock: int) -> W
     return ran([program, "walk", core.path, layouts, *words])
 
 
+@lru_cache(maxsize=16)
+def images_of(core: Path) -> Tuple[str, ...]:
+    """The words for the images of a core that are there."""
+    with open(core, "rb") as file:
+        return tuple(os.fsdecode(it) for it in image_words(wanted_files(file), b""))
+
+
 def dump(program: Path, core: Core, layouts: Path) -> Walk:
     """Reports a core, with the images that are there."""
-    with open(core.path, "rb") as file:
-        words = [os.fsdecode(it) for it in image_words(wanted_files(file), b"")]
-    return ran([program, "dump", "-c", core.path, "--layouts", layouts, *words])
+    return ran([program, "dump", "-c", core.path, "--layouts", layouts, *images_of(core.path)])
 
 
 def report_of(told: Told, core: str, with_names: bool, with_holder: bool) -> str:
@@ -312,8 +318,8 @@ def is_noticed(program: Path, derived: Derived, cores: Sequence[Core], wrong: Pa
     try:
         for core in cores:
             check_dump(program, core, wrong, derived)
-            if not core.case.is_usual:
-                walked(program, core, wrong, derived.build)
+        for core in cores:
+            if not HOLDER_IN_DUMP:
                 check_holder(program, core, wrong, derived.build)
     except Failure:
         return True
@@ -347,7 +353,9 @@ def swapped(program: Path, python: str, names: str) -> str:
         room = Path(name)
         wrong = room / "wrong.toml"
         wrong.write_text(derived.text, encoding="utf-8")
-        cores = [leave_core(derived, names, room / str(at), case) for at, case in enumerate(CASES)]
+        # (a usual core has the same records, and images in place of a part of them)
+        whole = [case for case in CASES if not case.is_usual]
+        cores = [leave_core(derived, names, room / str(at), case) for at, case in enumerate(whole)]
         if is_noticed(program, derived, cores, wrong):
             raise Failure("the right layout fails: try it without --swaps")
         for key, sides in swaps(derived.text, derived.build.minor):
