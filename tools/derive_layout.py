@@ -161,7 +161,7 @@ def build_of(python: str) -> Build:
 
 
 def macros_in(flags: str) -> Tuple[str, ...]:
-    """The -D and -U of a compiler's flags, but for FORTIFY, which wants an optimizing compiler and changes no struct."""
+    """The -D and -U of a compiler's flags, but for FORTIFY, which wants optimizing and changes no struct."""
     try:
         words = shlex.split(flags)
     except ValueError:

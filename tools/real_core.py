@@ -49,6 +49,10 @@ DICT_GROUPS = ("dict.", "keys.", "heap.")
 DICT_LINES = ("dicts = ", "managed = ", "dict = ", "keys = ", "heap = ")
 """The lines of a layout in which one without dicts differs."""
 
+WRONG = (("main", r"filename=(\d+), name=(\d+)", r"filename=\2, name=\1"), ("free", r"locked=\d+", "locked=0"))
+"""Changes of a layout that are to be noticed, and over which core. (At 0 a lock's record has how long its holder may
+keep it, which is never 0.)"""
+
 UNSOUND = 6
 """The program's status where a layout file has a fault."""
 
@@ -182,16 +186,20 @@ def check_dump(program: Path, core: Core, layouts: Path, derived: Derived) -> No
     check_report(dump(program, core, layouts), wanted)
 
 
-def notice_wrong(program: Path, core: Core, folder: Path, derived: Derived) -> None:
-    """Fails where a wrong layout, in which functions and files have changed places, isn't noticed."""
-    wrong = folder / "wrong.toml"
-    text, count = re.subn(r"filename=(\d+), name=(\d+)", r"filename=\2, name=\1", derived.text)
-    wrong.write_text(text, encoding="utf-8")
-    try:
-        walked(program, core, wrong, derived.build)
-    except Failure:
-        return
-    raise Failure(f"a wrong layout ({count} line changed) isn't noticed")
+def notice_wrong(program: Path, core: Core, room: Path, derived: Derived) -> None:
+    """Fails where a wrong layout isn't noticed: one in which functions and files have changed places, and, over a core
+    whose lock is free, one that takes another number for the mark of a lock that is held."""
+    wrong = room / "wrong.toml"
+    for who, pattern, other in WRONG:
+        text, count = re.subn(pattern, other, derived.text)
+        if who != core.case.who or core.case.is_usual or not count:
+            continue
+        wrong.write_text(text, encoding="utf-8")
+        try:
+            (check_holder if core.told.lock else walked)(program, core, wrong, derived.build)
+        except Failure:
+            continue
+        raise Failure(f"a wrong layout isn't noticed, with {re.search(pattern, derived.text).group()} changed")
 
 
 def derived_so_far(build: Build) -> Derived:
@@ -267,7 +275,6 @@ def over_core(program: Path, derived: Derived, core: Core, room: Path) -> Walk:
         run = walked(program, core, layouts, derived.build)
         if core.told.lock:
             check_holder(program, core, layouts, derived.build)
-    if core.case == CASES[0]:
         notice_wrong(program, core, room, derived)
     check_dump(program, core, layouts, derived)
     return run

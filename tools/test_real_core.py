@@ -1,6 +1,6 @@
 #!/usr/bin/env python3
-"""That the tools notice what is wrong: stacks that differ, programs that cheat or never end, layouts that are missing or
-were changed, and sources that don't tell a field or don't agree."""
+"""That the tools notice what is wrong: stacks that differ, programs that cheat or never end, layouts that are missing
+or were changed, and sources that don't tell a field or don't agree."""
 
 import argparse
 import json
@@ -148,9 +148,11 @@ core = sys.argv[2] if sys.argv[1] == "walk" else sys.argv[3]
 with open(core) as file:
     told = json.load(file)
 with open(sys.argv[3] if sys.argv[1] == "walk" else sys.argv[5]) as file:
-    is_wrong = "filename=16" in file.read() and HOW != "ignores layouts"
+    layout = file.read() if HOW != "ignores layouts" else ""
+is_wrong = "filename=16" in layout
 is_walk = sys.argv[1] == "walk"
 has_lock = sys.argv[6] != "0" if is_walk else MARKS
+is_always_held = HOW == "looks at no lock" or "locked=0" in layout and HOW != "asks nobody"
 if HOW == "never ends" or HOW == "never ends in dump" and not is_walk:
     time.sleep(60)
 text = "" if is_walk else "Signal 6: " + core + "\\n" + told["head"].partition("Python")[0]
@@ -158,7 +160,7 @@ text += "Python v3.9.1\\n\\n"
 for number, (label, name, holds, frames) in enumerate(told["threads"]):
     if has_lock and HOW == "marks the first":
         holds = number == 0
-    elif has_lock and HOW == "looks at no lock" and not any(it[2] for it in told["threads"]):
+    elif has_lock and is_always_held and not any(it[2] for it in told["threads"]):
         holds = number == 1
     elif not has_lock or HOW == "marks nobody":
         holds = HOW == "marks without a lock" and holds
@@ -183,7 +185,7 @@ class Programs(unittest.TestCase):
         Thread("0x7F00", (("f", "a.py"), ("g", "b.py")), True, "MainThread", (3, 17)),
         Thread("0x7E00", (("h", "a.py"),), False, "Thread-1", (9,)),
     ]
-    TEXT = "code = {filename=8, name=16}\n"
+    TEXT = "code = {filename=8, name=16}\ngil = {size=20, locked=16, holder=8}\n"
 
     def setUp(self):
         folder = tempfile.TemporaryDirectory(prefix="real-core-")
@@ -229,7 +231,8 @@ class Programs(unittest.TestCase):
             ("marks nobody", "without the lock"),
             ("looks at no lock", "with the lock"),
             ("marks without a lock", "with the lock"),
-            ("ignores layouts", "isn't noticed"),
+            ("ignores layouts", "isn't noticed, with filename=8"),
+            ("asks nobody", "isn't noticed, with locked=16"),
             ("invents lines", "of the report is"),
             ("drops the last newline", "of the report is"),
             ("says more", "dump said"),
