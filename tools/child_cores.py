@@ -66,6 +66,10 @@ class Thread:
     name: str = ""
     lines: Tuple[int, ...] = ()
     """Of each frame; empty where they aren't known."""
+    number: int = 0
+    """Its id."""
+    native: Optional[int] = None
+    """The system's number for it, where the layout has that."""
 
 
 @dataclass(frozen=True)
@@ -150,10 +154,12 @@ def told_from(line: str, derived: Derived) -> Told:
     has_native = "thread.native_id" in derived.numbers
     threads = []
     for it in told["threads"]:
-        label = str(it["native"]) if has_native else f"0x{it['id']:X}"
+        native = it["native"] if has_native else None
+        label = str(native) if has_native else f"0x{it['id']:X}"
         frames = tuple((name, file) for name, file, _ in it["frames"])
         lines = tuple(line for _, _, line in it["frames"])
-        threads.append(Thread(label, frames, it["id"] == told["holder"], it["name"], lines))
+        has_lock = it["id"] == told["holder"]
+        threads.append(Thread(label, frames, has_lock, it["name"], lines, it["id"], native))
     # (the child lists threads from the first of the chain on, and they are printed from the last)
     pid, arguments = told["process"]
     head = f"Process {pid}: {arguments}\nPython v{told['version']}\n\n"

@@ -14,6 +14,7 @@ was tried failed.
 """
 
 import argparse
+import json
 import os
 import re
 import shutil
@@ -42,6 +43,9 @@ ROOT = Path(__file__).resolve().parent.parent
 
 HOLDER_IN_DUMP = False
 """Whether a report marks the thread that holds the interpreter's lock."""
+
+JSON_IN_DUMP = False
+"""Whether the program can report as JSON."""
 
 DICT_GROUPS = ("dict.", "keys.", "heap.")
 """The groups that a layout without dicts lacks."""
@@ -100,9 +104,9 @@ def images_of(core: Path) -> Tuple[str, ...]:
         return tuple(os.fsdecode(it) for it in image_words(wanted_files(file), b""))
 
 
-def dump(program: Path, core: Core, layouts: Path) -> Walk:
+def dump(program: Path, core: Core, layouts: Path, *options: str) -> Walk:
     """Reports a core, with the images that are there."""
-    return ran([program, "dump", "-c", core.path, "--layouts", layouts, *images_of(core.path)])
+    return ran([program, "dump", "-c", core.path, "--layouts", layouts, *options, *images_of(core.path)])
 
 
 def report_of(told: Told, core: str, with_names: bool, with_holder: bool) -> str:
@@ -115,6 +119,40 @@ def report_of(told: Told, core: str, with_names: bool, with_holder: bool) -> str
         for (function, file), line in zip(thread.frames, thread.lines):
             text += f"    {function} ({file}:{line})\n"
     return text
+
+
+def tree_of(thread: Thread, with_names: bool) -> Dict[str, object]:
+    """A thread of a report as JSON, without what tells of calls from C."""
+    rows = zip(thread.frames, thread.lines)
+    frames = [{"name": name, "filename": file, "line": line} for (name, file), line in rows]
+    return {
+        "pid": 0,
+        "thread_id": thread.number,
+        "thread_name": thread.name if with_names else None,
+        "os_thread_id": thread.native,
+        "active": True,
+        "owns_gil": HOLDER_IN_DUMP and thread.has_lock,
+        "process_info": None,
+        "frames": [{**it, "module": None, "short_filename": None, "locals": None} for it in frames],
+    }
+
+
+def json_of(told: Told, derived: Derived, text: str) -> str:
+    """The report as JSON that the child's words give. Where C called into Python they don't tell, so that is taken from
+    the report itself, but for what each has: 3.12 and 3.13 say of no frame that it was entered, and mark borders; up to
+    3.10 each frame counts as entered, and up to 3.11 there are no borders but the last frame."""
+    tree = [tree_of(thread, derived.with_dicts) for thread in reversed(told.threads)]
+    try:
+        marks = [[(it["is_entry"], it["is_shim_entry"]) for it in thread["frames"]] for thread in json.loads(text)]
+    except (ValueError, TypeError, KeyError):
+        raise Failure(f"the report is no JSON of frames: {text[:200]!r}") from None
+    version = derived.build.minor
+    for thread, row in zip(tree, marks):
+        for at, (frame, (is_entry, is_border)) in enumerate(zip(thread["frames"], row), 1):
+            is_last = at == len(thread["frames"])
+            frame["is_entry"] = bool(is_entry) if version == (3, 11) else version <= (3, 10)
+            frame["is_shim_entry"] = is_last or version >= (3, 12) and bool(is_border)
+    return json.dumps(tree, indent=2, sort_keys=True, ensure_ascii=False) + "\n"
 
 
 def check_report(run: Walk, wanted: str) -> None:
@@ -184,6 +222,9 @@ def check_dump(program: Path, core: Core, layouts: Path, derived: Derived) -> No
     """Reports a core, and compares the whole text."""
     wanted = report_of(core.told, str(core.path), derived.with_dicts, HOLDER_IN_DUMP)
     check_report(dump(program, core, layouts), wanted)
+    if JSON_IN_DUMP:
+        run = dump(program, core, layouts, "-j")
+        check_report(run, json_of(core.told, derived, run.out))
 
 
 def notice_wrong(program: Path, core: Core, room: Path, derived: Derived) -> None:

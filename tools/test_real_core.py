@@ -136,6 +136,28 @@ Thread 0x7E00: "Thread-1 (run)"
         free = replace(self.TOLD, threads=[replace(it, has_lock=False) for it in self.TOLD.threads])
         self.assertEqual(report_of(free, "core.7", with_names=True, with_holder=True), self.TEXT)
 
+    def test_json(self):
+        derived = Derived(BUILD, "", {}, "runtime", True)
+        right = real_core.json_of(self.TOLD, derived, "[]")
+        tree = json.loads(right)
+        frames = [(it["name"], it["filename"], it["line"]) for thread in tree for it in thread["frames"]]
+        self.assertEqual(frames, [("<lambda>", "a.py", 9), ("f", "é.py", 3), ("g", "日本.py", 17)])
+        for thread in tree:
+            for it in thread["frames"]:
+                it["is_entry"], it["is_shim_entry"] = True, it is thread["frames"][-1]
+        whole = json.dumps(tree, indent=2, sort_keys=True, ensure_ascii=False) + "\n"
+        self.assertEqual(real_core.json_of(self.TOLD, derived, whole), whole)
+        self.assertIn('      {\n        "filename": "é.py",\n        "is_entry": true,\n', whole)
+        newer = replace(derived, build=replace(BUILD, version=(3, 13, 0)))
+        self.assertNotEqual(real_core.json_of(self.TOLD, newer, whole), whole)
+        entered = whole.replace('"is_entry": true', '"is_entry": false')
+        entered = entered.replace('"is_shim_entry": false', '"is_shim_entry": true')
+        self.assertEqual(real_core.json_of(self.TOLD, newer, entered), entered)
+        self.assertNotEqual(real_core.json_of(self.TOLD, derived, entered), entered)
+        for wrong in ("", "{", "3", "[1]", '[{"frames": [{}]}]'):
+            with self.assertRaises(Failure):
+                real_core.json_of(self.TOLD, derived, wrong)
+
     def test_end(self):
         with patch("child_cores.SECONDS", 0.2):
             self.assertEqual(ran(["sleep", "30"]).status, -9)
