@@ -41,7 +41,7 @@ from layout_swaps import swaps
 
 ROOT = Path(__file__).resolve().parent.parent
 
-HOLDER_IN_DUMP = False
+HOLDER_IN_DUMP = True
 """Whether a report marks the thread that holds the interpreter's lock."""
 
 JSON_IN_DUMP = False
@@ -300,7 +300,8 @@ def as_stored(derived: Derived, layouts: Path) -> str:
         return f"there is no layouts/{name}"
     text = (layouts / name).read_text(encoding="utf-8")
     head = head_of(text, name)
-    told = f"layouts/{name}" + ("" if derived.with_dicts or "dicts" not in text else " but for dicts")
+    is_whole = derived.with_dicts or 'dicts = "none"' in text
+    told = f"layouts/{name}" if is_whole else f"layouts/{name} but for dicts"
     if body_of(text, derived.with_dicts) == body_of(derived.text, derived.with_dicts):
         return told
     if head == (build.dotted, build.machine, ", ".join(build.options) or "none"):
