@@ -4,6 +4,7 @@ or were changed, and sources that don't tell a field or don't agree."""
 
 import argparse
 import json
+import re
 import sys
 import tempfile
 import unittest
@@ -326,7 +327,7 @@ class Stored(unittest.TestCase):
             self.assertEqual(real_core.head_of(text, name), (version, "x86_64", "shared"))
             self.assertEqual(sum(line.startswith("# tried on cores of this build: ") for line in lines), 1)
             self.assertIn(f"first_minor = {minor}", lines)
-            self.assertFalse([line for line in lines if line.startswith("#") and "/" in line.replace("tools/", "")])
+            self.assertFalse([line for line in lines if line.startswith("#") and "/" in re.sub("(tools|docs)/", "", line)])
         self.assertEqual(len(self.BUILDS), len(VERSIONS))
 
     def test_compared(self):
@@ -366,19 +367,20 @@ class Swaps(unittest.TestCase):
     TEXT = "# size=1\nmajor = 3\ngil = {size=20, locked=16, holder=8}\nframe = {entry=31, code_tag_bits=0}\n"
 
     def test_numbers(self):
-        keys = [(it.key, it.value) for it in numbers_in(self.TEXT)]
+        keys = [(it.name, it.value) for it in numbers_in(self.TEXT)]
         frame = [("frame.entry", 31), ("frame.code_tag_bits", 0)]
         self.assertEqual(keys, [("gil.size", 20), ("gil.locked", 16), ("gil.holder", 8), *frame])
 
     def test_swaps(self):
         found = dict(swaps(self.TEXT, (3, 12)))
         self.assertEqual(len(found), 5)
-        for key, above, below in (
-            ("gil.locked", "locked=20", "locked=12"),
-            ("gil.holder", "holder=16", "holder=0"),
-            ("frame.entry", "entry=32", "entry=30"),
+        gil = "gil = {size=20, locked=16, holder=8}"
+        for key, old, above, below in (
+            ("gil.locked", gil, "gil = {size=24, locked=20, holder=8}", "gil = {size=20, locked=12, holder=8}"),
+            ("gil.holder", gil, "gil = {size=24, locked=16, holder=16}", "gil = {size=20, locked=16, holder=0}"),
+            ("gil.size", gil, "gil = {size=28, locked=16, holder=8}", "gil = {size=12, locked=16, holder=8}"),
+            ("frame.entry", "entry=31", "entry=32", "entry=30"),
         ):
-            old = f"{key.partition('.')[2]}={dict((it.key, it.value) for it in numbers_in(self.TEXT))[key]}"
             self.assertEqual([side[0] for side in found[key]], [self.TEXT.replace(old, it) for it in (above, below)])
         self.assertEqual(found["frame.code_tag_bits"][1], [])
 
