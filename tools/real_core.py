@@ -24,9 +24,9 @@ import sys
 import tempfile
 import threading
 import time
-from dataclasses import dataclass
+from dataclasses import dataclass, replace
 from functools import lru_cache
-from itertools import zip_longest
+from itertools import takewhile, zip_longest
 from pathlib import Path
 from typing import Dict, Iterator, List, Sequence, Tuple
 
@@ -46,6 +46,28 @@ HOLDER_IN_DUMP = True
 
 JSON_IN_DUMP = False
 """Whether the program can report as JSON."""
+
+LOCALS_IN_DUMP = False
+"""Whether the program can report locals."""
+
+HELD = """\
+    hold (hält.py:10)
+        Arguments:
+            bottom: <{kind} at {held:#x}>
+            number: -12345678901
+            text: "größe \\"x\\"\\n"
+        Locals:
+            yes: True
+            no: False
+            nothing: None
+            ratio: float 0x3ff8000000000000
+            pair: (1, "a")
+            row: [1, [2, 3]]
+            table: {table}
+            big: -bigint
+            long: "{long}"
+"""
+"""How the frame of the child's function `hold` is printed with its locals."""
 
 DICT_GROUPS = ("dict.", "keys.", "heap.")
 """The groups that a layout without dicts lacks."""
@@ -119,6 +141,19 @@ def report_of(told: Told, core: str, with_names: bool, with_holder: bool) -> str
         for (function, file), line in zip(thread.frames, thread.lines):
             text += f"    {function} ({file}:{line})\n"
     return text
+
+
+def check_locals(run: Walk, without: str, held: int, derived: Derived) -> None:
+    """Fails where a report with locals isn't the one without them, or those of `hold` aren't what they are."""
+    kind = "instancemethod" if derived.build.minor == (2, 7) else "method"
+    table = '{"k": 1, 2: None}' if derived.with_dicts else "dict"
+    wanted = HELD.format(kind=kind, held=held, table=table, long="ü" * 123 + "...")
+    lines = run.out.splitlines(keepends=True)
+    if wanted.splitlines()[0] + "\n" in lines:
+        at = lines.index(wanted.splitlines()[0] + "\n")
+        got = [lines[at], *takewhile(lambda line: line.startswith(" " * 8), lines[at + 1 :])]
+        check_report(replace(run, out="".join(got)), wanted)
+    check_report(replace(run, out="".join(line for line in lines if not line.startswith(" " * 8))), without)
 
 
 def tree_of(thread: Thread, with_names: bool) -> Dict[str, object]:
@@ -222,6 +257,8 @@ def check_dump(program: Path, core: Core, layouts: Path, derived: Derived) -> No
     """Reports a core, and compares the whole text."""
     wanted = report_of(core.told, str(core.path), derived.with_dicts, HOLDER_IN_DUMP)
     check_report(dump(program, core, layouts), wanted)
+    if LOCALS_IN_DUMP and core.told.held:
+        check_locals(dump(program, core, layouts, "-l"), wanted, core.told.held, derived)
     if JSON_IN_DUMP:
         run = dump(program, core, layouts, "-j")
         check_report(run, json_of(core.told, derived, run.out))

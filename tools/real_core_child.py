@@ -11,8 +11,9 @@ second says who aborts:
 
 - `main`: the main thread.
 - `other`: a fourth thread, which imports, while the main one waits in a lock.
-- `many`: the same, and 13 more stand still: ten in a lock alone, one in the body of a class, one in a loop over a
-  generator, and one in a coroutine. Some have a file name whose characters stand apart from their object.
+- `many`: the same, and 14 more stand still: ten in a lock alone, one in the body of a class, one in a loop over a
+  generator, one in a coroutine, and one in a function of many locals. Some have a file name whose characters stand
+  apart from their object.
 - `free`: the main thread, which has let the interpreter's lock go.
 
 The third is what the core is to hold, as the system's coredump_filter has it.
@@ -101,6 +102,19 @@ async def outer(bottom):
 
 def run(bottom):
     return asyncio.new_event_loop().run_until_complete(outer(bottom))
+"""
+
+
+HOLD = """
+def hold(bottom, number=-12345678901, text="größe 'x'\\n"):
+    yes, no, nothing = True, False, None
+    ratio = 1.5
+    pair = (1, "a")
+    row = [1, [2, 3]]
+    table = {"k": 1, 2: None}
+    big = -2 ** 64
+    long = "ü" * 200
+    return bottom()
 """
 
 
@@ -193,6 +207,7 @@ def start(target, natives):
     started(run)
     # (no Python runs in that thread between the release of `ready` and the wait for `gate`)
     ready.acquire()
+    return id(wait)
 
 
 def stacks(natives):
@@ -201,6 +216,10 @@ def stacks(natives):
     # (before 3.6 a dict has an order of its own)
     order = list(frames) if sys.version_info >= (3, 6) else list(natives)[::-1]
     return [(ident, frames_from(frames[ident])) for ident in order]
+
+
+HELD = []
+"""The addresses of what was handed to `hold`."""
 
 
 def report(natives, names, gil, leave, is_free):
@@ -213,6 +232,7 @@ def report(natives, names, gil, leave, is_free):
         "current": address_of("_PyThreadState_Current"),
         "gil": ctypes.c_uint64.from_address(address + gil).value if gil >= 0 else None,
         "holder": None if is_free else own,
+        "held": HELD[0] if HELD else None,
         "version": sys.version.split()[0],
         "process": [os.getpid(), arguments()],
         "threads": [],
@@ -261,7 +281,8 @@ class Importer:
 
 
 def start_many(natives):
-    """Starts 13 more threads, or 12 where there are no coroutines."""
+    """Starts 14 more threads, or 13 where there are no coroutines."""
+    HELD.append(start(module(HOLD, "hält.py")["hold"], natives))
     for source, name in ((CLASS_BODY, "build"), (LOOP, "total"), (COROUTINE, "run")):
         if source is not COROUTINE or not IS_OLD:
             start(module(source, Apart("/ein Ordner/größer als \"das\".py"))[name], natives)

@@ -159,6 +159,32 @@ Thread 0x7E00: "Thread-1 (run)"
             with self.assertRaises(Failure):
                 real_core.json_of(self.TOLD, derived, wrong)
 
+    def test_locals(self):
+        derived = Derived(BUILD, "", {}, "runtime", True)
+        without = "Thread 0x1\n    hold (hält.py:10)\n    run (a.py:1)\n"
+        held = real_core.HELD.format(kind="method", held=16, table='{"k": 1, 2: None}', long="ü" * 123 + "...")
+        whole = f"Thread 0x1\n{held}    run (a.py:1)\n        Locals:\n            x: <a at 0x1>\n"
+        self.assertIn('        Arguments:\n            bottom: <method at 0x10>\n', whole)
+        self.assertIn('            text: "größe \\"x\\"\\n"\n        Locals:\n', whole)
+
+        def check(text):
+            real_core.check_locals(Walk(0, text, "", 0.0, 0), without, 16, derived)
+
+        check(whole)
+        for old, new in (
+            ("yes: True", "yes: 1"),
+            ("            no: False\n", ""),
+            ("        Locals:\n            yes", "            yes"),
+            ("...\"\n", "\"\n"),
+            ("at 0x10", "at 0x11"),
+            ("    hold (hält.py:10)\n", ""),
+            ("    run (a.py:1)\n", ""),
+            (held, "    hold (hält.py:10)\n"),
+        ):
+            self.assertNotEqual(whole.replace(old, new), whole)
+            with self.assertRaises(Failure, msg=old):
+                check(whole.replace(old, new))
+
     def test_end(self):
         with patch("child_cores.SECONDS", 0.2):
             self.assertEqual(ran(["sleep", "30"]).status, -9)
@@ -327,7 +353,8 @@ class Stored(unittest.TestCase):
             self.assertEqual(real_core.head_of(text, name), (version, "x86_64", "shared"))
             self.assertEqual(sum(line.startswith("# tried on cores of this build: ") for line in lines), 1)
             self.assertIn(f"first_minor = {minor}", lines)
-            self.assertFalse([line for line in lines if line.startswith("#") and "/" in re.sub("(tools|docs)/", "", line)])
+            heads = [re.sub("(tools|docs)/", "", line) for line in lines if line.startswith("#")]
+            self.assertFalse([line for line in heads if "/" in line])
         self.assertEqual(len(self.BUILDS), len(VERSIONS))
 
     def test_compared(self):
