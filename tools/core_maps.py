@@ -8,10 +8,11 @@ import io
 import re
 import struct
 from dataclasses import dataclass
+from enum import Enum
 from typing import BinaryIO, Dict, FrozenSet, Iterator, List, Optional, Tuple
 
 LOAD, NOTE = 1, 4
-EXECUTABLE = 1
+EXECUTABLE, WRITABLE = 1, 2
 FILE_TABLE = 0x46494C45
 BUILD_ID = 3
 EXTENDED = 0xFFFF
@@ -46,13 +47,25 @@ class Map:
     """Where it begins in its file."""
 
 
+class Use(Enum):
+    """What the program does with a file."""
+
+    NEEDED = "needed"
+    """It looks into it, and refuses the core without it."""
+    LOOKED_INTO = "not needed"
+    """It looks into it where it is there."""
+    MEMORY = "memory"
+    """It reads bytes there that the core leaves out."""
+
+
 @dataclass(frozen=True)
 class Wanted:
-    """A file that the program looks into."""
+    """A file that the program makes use of."""
 
     name: bytes
     builds: FrozenSet[bytes]
     """The build ids that the core has of it."""
+    use: Use
 
 
 def read_at(file: BinaryIO, offset: int, size: int) -> bytes:
@@ -151,20 +164,31 @@ def build_id(file: BinaryIO) -> Optional[bytes]:
     return None
 
 
-def builds_in(file: BinaryIO, maps: List[Map], name: bytes) -> Iterator[bytes]:
-    """The build ids that a core has of a file: in the maps that show it from its start."""
+def builds_in(file: BinaryIO, maps: List[Map]) -> Dict[bytes, List[bytes]]:
+    """The build ids that a core has of its files, by name: in the maps that show a file from its start."""
+    found: Dict[bytes, List[bytes]] = {}
     for it in maps:
-        if it.name == name and it.pages == 0:
+        if it.pages == 0:
             head = read_at(file, it.segment.offset, min(it.segment.size, HEAD))
-            found = build_id(io.BytesIO(head))
-            if found:
-                yield found
+            build = build_id(io.BytesIO(head))
+            if build:
+                found.setdefault(it.name, []).append(build)
+    return found
+
+
+def uses_of(maps: List[Map]) -> Dict[bytes, Use]:
+    """What the program does with the files of these maps, in the order of the maps. Bytes that a core leaves out are
+    read where a map is not writable: what was never written there is still as in the file."""
+    names = [it.name for it in maps if it.segment.flags & EXECUTABLE]
+    libraries = [name for name in names if is_library(name)]
+    first = dict.fromkeys(libraries[:1] + names[:1])
+    looked_into = dict(zip(first, (Use.NEEDED, Use.LOOKED_INTO)))
+    shown = [it.name for it in maps if it.name in looked_into or not it.segment.flags & WRITABLE]
+    return {name: looked_into.get(name, Use.MEMORY) for name in shown}
 
 
 def wanted_files(file: BinaryIO) -> List[Wanted]:
-    """The files of a core that the program looks into, the one that it needs first."""
+    """The files of a core that the program makes use of, each once, in the order of the maps."""
     maps = maps_of(file)
-    names = [it.name for it in maps if it.segment.flags & EXECUTABLE]
-    libraries = [name for name in names if is_library(name)]
-    both = dict.fromkeys(libraries[:1] + names[:1])
-    return [Wanted(name, frozenset(builds_in(file, maps, name))) for name in both]
+    builds = builds_in(file, maps)
+    return [Wanted(name, frozenset(builds.get(name, ())), use) for name, use in uses_of(maps).items()]

@@ -18,13 +18,13 @@ from dataclasses import dataclass
 from pathlib import Path
 from typing import Dict, List, Optional, Sequence, Tuple
 
-from layout_plan import MINORS, Field, Group, Plan, plan_of
+from layout_plan import VERSIONS, Field, Group, Plan, Version, plan_of
 from layout_sources import Answers, from_debug_information, from_headers
 
 ASK = """
 import json, os, platform, re, struct, sys, sysconfig
 with open("/proc/self/maps") as maps:
-    libraries = re.findall(r"(/.*/libpython3[.][0-9].*)", maps.read())
+    libraries = re.findall(r"(/.*/libpython[23][.][0-9].*)", maps.read())
 told = {
     "implementation": platform.python_implementation(),
     "version": list(sys.version_info[:3]),
@@ -35,14 +35,19 @@ told = {
     "machine": platform.machine(),
     "pointer": struct.calcsize("P"),
     "order": sys.byteorder,
-    "free_threaded": bool(sysconfig.get_config_var("Py_GIL_DISABLED")),
+    "options": [name for name in ("Py_DEBUG", "Py_TRACE_REFS", "Py_GIL_DISABLED") if sysconfig.get_config_var(name)],
     "includes": [sysconfig.get_paths()[name] for name in ("include", "platinclude")],
-    "configured": sysconfig.get_config_var("CONFIG_ARGS") or "",
     "flags": [sysconfig.get_config_var(name) or "" for name in ("CPPFLAGS", "CFLAGS")],
 }
 print(json.dumps(told))
 """
-"""What an interpreter is asked: a program for Python 3 that prints one line of JSON."""
+"""What an interpreter is asked: a program for Python 2 and 3 that prints one line of JSON."""
+
+ALONE = {2: ("-E", "-s"), 3: ("-I",)}
+"""The words that keep an interpreter from what the user has set and installed, by its major."""
+
+OPTIONS = {"Py_DEBUG": "debug", "Py_TRACE_REFS": "trace refs", "Py_GIL_DISABLED": "free threads"}
+"""The options of a build that change records, as the head of a file names them."""
 
 
 class DeriveError(Exception):
@@ -70,9 +75,20 @@ class Build:
     """The file that has the interpreter's code: its library, where it has one, else the executable."""
     machine: str
     includes: Tuple[str, ...]
-    configured: str
+    options: Tuple[str, ...]
+    """What was configured that may change records, and `shared` where its code is in a library."""
     flags: Tuple[str, ...]
     """What its C code was told by -D and -U."""
+
+    @property
+    def minor(self) -> Version:
+        """The version without its last number."""
+        return self.version[:2]
+
+    @property
+    def alone(self) -> Tuple[str, ...]:
+        """The words by which it runs a program, whatever the user has set."""
+        return ALONE[self.version[0]]
 
     @property
     def dotted(self) -> str:
@@ -87,39 +103,50 @@ class Derived:
     build: Build
     text: str
     numbers: Dict[str, int]
-    """The layout's numbers, by keys such as thread.next; also runtime.head and runtime.current, places in _PyRuntime,
-    where something tells them."""
+    """The layout's numbers, by keys such as thread.next; also interpreter.next, and runtime.head and runtime.current,
+    places in _PyRuntime, where something tells them."""
     lock: str
     with_dicts: bool
 
 
 @dataclass(frozen=True)
-class Tools:
-    """The commands that are used; an empty one is not."""
+class How:
+    """How a layout is derived: by which commands (an empty one is not used), and what its head says of it."""
 
     cc: str = "cc"
     gdb: str = "gdb"
+    with_dicts: bool = True
+    tried: str = ""
+
+
+def told_of(python: str) -> dict:
+    """What an interpreter tells of itself."""
+    # (Python 2 has no -I, and ends with status 2)
+    for words in (ALONE[3], ALONE[2]):
+        try:
+            how = {"stdin": subprocess.DEVNULL, "capture_output": True, "text": True, "timeout": 60}
+            ran = subprocess.run([python, *words, "-c", ASK], **how)
+        except (OSError, subprocess.TimeoutExpired) as error:
+            raise DeriveError(f"it can't be run ({error})") from error
+        if ran.returncode == 0:
+            break
+    try:
+        return json.loads(ran.stdout)
+    except ValueError as error:
+        last = (ran.stderr.strip().splitlines() or ["it told nothing of itself"])[-1]
+        raise DeriveError(f"it is no Python that runs ({last})") from error
 
 
 def build_of(python: str) -> Build:
     """Asks an interpreter which build it is. An error says why no layout can describe it."""
-    try:
-        ran = subprocess.run(
-            [python, "-I", "-c", ASK], stdin=subprocess.DEVNULL, capture_output=True, text=True, timeout=60
-        )
-        told = json.loads(ran.stdout)
-    except (OSError, subprocess.TimeoutExpired) as error:
-        raise DeriveError(f"it can't be run ({error})") from error
-    except ValueError as error:
-        last = (ran.stderr.strip().splitlines() or ["it told nothing of itself"])[-1]
-        raise DeriveError(f"it is no Python 3 that runs ({last})") from error
+    told = told_of(python)
     version = tuple(told["version"])
     name = f"{told['implementation']} {told['build']}"
-    if told["implementation"] != "CPython" or version[0] != 3 or version[1] not in MINORS or told["level"] != "final":
-        raise DeriveError(f"it is {name}, and layouts are derived for CPython 3.7 to 3.13")
+    if told["implementation"] != "CPython" or version[:2] not in VERSIONS or told["level"] != "final":
+        raise DeriveError(f"it is {name}, and layouts are derived for CPython 2.7 and 3.6 to 3.13")
     if told["pointer"] != 8 or told["order"] != "little":
         raise DeriveError("it isn't a 64-bit little-endian build")
-    if told["free_threaded"]:
+    if "Py_GIL_DISABLED" in told["options"]:
         raise DeriveError("it is a free-threaded build, for which there is no plan")
     return Build(
         executable=told["executable"],
@@ -128,13 +155,13 @@ def build_of(python: str) -> Build:
         binary=(told["libraries"] or [told["executable"]])[0],
         machine=told["machine"],
         includes=tuple(dict.fromkeys(told["includes"])),
-        configured=told["configured"],
+        options=tuple(OPTIONS[it] for it in told["options"]) + (("shared",) if told["libraries"] else ()),
         flags=macros_in(" ".join(told["flags"])),
     )
 
 
 def macros_in(flags: str) -> Tuple[str, ...]:
-    """The -D and -U of a compiler's flags, but for FORTIFY, which wants an optimizing compiler and changes no struct."""
+    """The -D and -U of a compiler's flags, but for FORTIFY, which wants optimizing and changes no struct."""
     try:
         words = shlex.split(flags)
     except ValueError:
@@ -154,20 +181,20 @@ def same_version(build: Build) -> Optional[str]:
     return None
 
 
-def asked(fields: Sequence[Field], build: Build, tools: Tools) -> List[Answers]:
+def asked(fields: Sequence[Field], build: Build, how: How) -> List[Answers]:
     """What the sources that are at hand tell."""
     headers, debug = Answers("headers"), Answers("debug information")
     other = same_version(build)
-    if not tools.cc:
+    if not how.cc:
         headers.none(fields, "not asked")
     elif other:
         headers.none(fields, other)
     else:
-        headers = from_headers(fields, build.includes, build.flags, tools.cc)
-    if not tools.gdb:
+        headers = from_headers(fields, build.includes, build.flags, how.cc)
+    if not how.gdb:
         debug.none(fields, "not asked")
     else:
-        debug = from_debug_information(fields, build.binary, tools.gdb)
+        debug = from_debug_information(fields, build.binary, how.gdb)
     return [headers, debug]
 
 
@@ -191,10 +218,11 @@ def settled(plan: Plan, answers: Sequence[Answers]) -> Dict[str, int]:
     faults = {key: why for key, why in faults.items() if why}
     if faults:
         raise DeriveError("\n".join(faults.values()), list(faults))
-    extra = [it for it in plan.runtime if fault_of(it, answers) is None]
+    extra = [it for it in plan.extra if fault_of(it, answers) is None]
     numbers = {}
     for it in [*plan.wanted, *extra]:
-        numbers[it.key] = next(source.places[it.key].number for source in answers if it.key in source.places)
+        place = next(source.places[it.key].number for source in answers if it.key in source.places)
+        numbers[it.key] = it.number_of(place)
     return numbers
 
 
@@ -202,7 +230,7 @@ def values_of(it: Group, numbers: Dict[str, int]) -> List[Tuple[str, int]]:
     """A group's keys and numbers, its size first: up to the end of its last field, unless a field says it."""
     values = [(field.key.partition(".")[2], numbers[field.key]) for field in it.fields]
     if it.has_size:
-        ends = [numbers[field.key] + field.width for field in it.fields if field.width and not field.is_bit]
+        ends = [numbers[field.key] + field.length for field in it.fields if field.length]
         values.insert(0, ("size", numbers[it.size.key] if it.size else max(ends)))
     return values + list(it.constants)
 
@@ -226,47 +254,61 @@ def version_of(command: str) -> str:
     return (ran.stdout.splitlines() or ["unknown"])[0]
 
 
-def options_of(build: Build) -> List[str]:
-    """The options that the build was configured with and that may change records."""
-    names = {"--with-pydebug": "debug", "--enable-shared": "shared", "--disable-gil": "free threads"}
-    return [name for word, name in names.items() if f"{word}'" in f"{build.configured}'"]
+def chain_told(plan: Plan, numbers: Dict[str, int]) -> List[str]:
+    """Lines that say where interpreters are found, and which one is."""
+    newest, current = "the newest interpreter's address", "that of the current thread"
+    if dict(plan.families)["head"] == "symbol":
+        lines = [f"the symbol interp_head names {newest}", f"the symbol _PyThreadState_Current names {current}"]
+    else:
+        held = {"runtime.head": newest, "runtime.current": current}
+        lines = [f"_PyRuntime holds {what} at {numbers[key]}" for key, what in held.items() if key in numbers]
+    if "interpreter.next" in numbers:
+        next_at = numbers["interpreter.next"]
+        lines.append(f"an interpreter has the address of the next at {next_at}: the last in that chain is the main one")
+    return lines
 
 
-def comments(build: Build, plan: Plan, numbers: Dict[str, int], answers: Sequence[Answers], tools: Tools) -> List[str]:
+def comments(build: Build, plan: Plan, numbers: Dict[str, int], answers: Sequence[Answers], how: How) -> List[str]:
     """The head of the file: which build it was read from, and how."""
     lines = [
         f"The layout of CPython {build.dotted} on {build.machine}, written by tools/derive_layout.py.",
         f"build: {build.build}",
-        f"options that change records: {', '.join(options_of(build)) or 'none'}",
+        f"options that change records: {', '.join(build.options) or 'none'}",
     ]
     if answers[0].places:
-        lines.append(f"headers of the build, by {version_of(tools.cc)}")
+        lines.append(f"headers of the build, by {version_of(how.cc)}")
     if answers[1].places:
         lines.append("debug information of the build")
     lines += told_by(plan, answers)
-    if dict(plan.families)["dicts"] == "none":
+    if not how.with_dicts:
         lines.append("without dicts, since that was asked for")
-    lines.append("by neither: frame.code_tag_bits (no address of code has a tag), and small (there is no PyIntObject)")
-    held = {"runtime.head": "the newest interpreter's address", "runtime.current": "the current thread's"}
-    for key, what in held.items():
-        if key in numbers:
-            lines.append(f"_PyRuntime holds {what} at {numbers[key]}")
+    small = "" if any(it.key == "small.value" for it in plan.wanted) else ", and small (there is no PyIntObject)"
+    lines.append(f"by neither: frame.code_tag_bits (no address of code has a tag){small}")
+    lines += [
+        f"{it.key} is {it.what}, a pointer: 0 always, as members that are not shown mark where C called"
+        for it in plan.wanted
+        if it.is_last
+    ]
+    lines += chain_told(plan, numbers)
+    lines.append(f"tried on cores of this build: {how.tried or 'nothing'}")
     return [f"# {' '.join(line.split())}" for line in lines]
 
 
-def derive(build: Build, with_dicts: bool = True, tools: Tools = Tools()) -> Derived:
+def derive(build: Build, how: How = How()) -> Derived:
     """Derives the layout of a build."""
-    plan = plan_of(build.version[1], with_dicts)
-    answers = asked([*plan.wanted, *plan.runtime], build, tools)
+    plan = plan_of(build.minor, how.with_dicts)
+    answers = asked([*plan.wanted, *plan.extra], build, how)
     numbers = settled(plan, answers)
-    lines = comments(build, plan, numbers, answers, tools)
-    major, minor, _ = build.version
+    lines = comments(build, plan, numbers, answers, how)
+    families = dict(plan.families)
+    major, minor = build.minor
     lines += ["", "[[layout]]", f"major = {major}", f"first_minor = {minor}", f"last_minor = {minor}"]
-    lines += ["bytes_text = false", *(f'{name} = "{word}"' for name, word in plan.families)]
+    lines.append(f"bytes_text = {'true' if major == 2 else 'false'}")
+    lines += [f'{name} = "{word}"' for name, word in families.items()]
     for it in plan.groups:
         inside = ", ".join(f"{key}={number}" for key, number in values_of(it, numbers))
         lines.append(f"{it.name} = {{{inside}}}")
-    return Derived(build, "\n".join(lines) + "\n", numbers, dict(plan.families)["lock"], with_dicts)
+    return Derived(build, "\n".join(lines) + "\n", numbers, families["lock"], families["dicts"] != "none")
 
 
 def main() -> int:
@@ -275,11 +317,13 @@ def main() -> int:
     parser.add_argument("python", nargs="?", default=sys.executable, help="the interpreter (default: this one)")
     parser.add_argument("-o", "--output", help="the file to write (default: the standard output)")
     parser.add_argument("--without-dicts", action="store_true", help='leave dicts out: dicts = "none"')
+    parser.add_argument("--tried", default="", help="what the head says was tried on cores (default: nothing)")
     parser.add_argument("--cc", default="cc", help="the C compiler, or '' to ask no headers (default: cc)")
     parser.add_argument("--gdb", default="gdb", help="the debugger, or '' to ask no debug information (default: gdb)")
     words = parser.parse_args()
     try:
-        derived = derive(build_of(words.python), not words.without_dicts, Tools(words.cc, words.gdb))
+        how = How(words.cc, words.gdb, not words.without_dicts, words.tried)
+        derived = derive(build_of(words.python), how)
     except DeriveError as error:
         for line in str(error).splitlines():
             print(f"derive_layout: {words.python}: {line}", file=sys.stderr)

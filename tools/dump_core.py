@@ -2,23 +2,25 @@
 """Shows the stacks of a core: finds the files that its process had mapped, and runs `pystacks dump` over them.
 
     tools/dump_core.py CORE
+    tools/dump_core.py CORE -l -j            # with locals, as JSON: words of the program
     tools/dump_core.py CORE --root FOLDER    # where the core is that of a container, whose files are below FOLDER
 
-The text and the status are those of the program. Handed over are the layouts of all versions and the images that the
-program looks into: that of Python's library and that of the program that ran, each under the path that the core has
-for it. One line on the standard error names those that are missing. Nothing is written.
+The text and the status are those of the program. Handed over are the layouts of all versions and the images of the
+files that the process had mapped: that of Python's library and that of the program that ran, into which the program
+looks, and those from which it reads bytes that the core leaves out; each under the path that the core has for it.
+One line on the standard error names those of the first two that are missing. Nothing is written.
 """
 
 import argparse
 import os
 import sys
 from pathlib import Path
-from typing import FrozenSet, List, Optional, Tuple
+from typing import Dict, List, Optional, Tuple
 
 # (what only looks at a core leaves nothing behind)
 sys.dont_write_bytecode = True
 
-from core_maps import Wanted, build_id, is_text, machine_of, wanted_files
+from core_maps import Use, Wanted, build_id, header_of, is_text, machine_of, wanted_files
 
 ROOT = Path(__file__).resolve().parent.parent
 PROGRAM = ROOT / "crates" / "pystacks" / "out" / "pystacks"
@@ -35,6 +37,9 @@ DELETED = b" (deleted)"
 
 LONGEST = 1 << 36
 """The most bytes of a file that the program reads."""
+
+MOST = 1000
+"""The most images that are handed over beside the two that the program looks into."""
 
 BAD_WORDS = 2
 NO_PROGRAM = 127
@@ -76,14 +81,17 @@ def path_below(root: bytes, name: bytes) -> bytes:
     return path
 
 
-def check_build(path: bytes, builds: FrozenSet[bytes]) -> None:
-    """Refuses a file whose build id isn't the one that the core has of the mapped file, where both have one."""
+def check_file(path: bytes, wanted: Wanted) -> None:
+    """Refuses a file whose build id isn't the one that the core has of the mapped file, where both have one. Where
+    only bytes of it are wanted, it has to be an ELF file: nothing of Python stands in others, which may be large."""
     try:
         with open(path, "rb") as file:
-            own = build_id(file)
+            is_elf, own = bool(header_of(file)), build_id(file)
     except OSError as error:
         raise Missing(f"cannot read {shown(path)}: {error.strerror}") from None
-    if own and builds - {own}:
+    if wanted.use is Use.MEMORY and not is_elf:
+        raise Missing(f"{shown(path)} is no ELF file")
+    if own and wanted.builds - {own}:
         raise Missing(f"{shown(path)} is of another build")
 
 
@@ -95,21 +103,27 @@ def image_word(wanted: Wanted, root: bytes) -> bytes:
     word = wanted.name + b"=" + path
     if not is_text(word):
         raise Missing("a path that is not UTF-8 can't be handed over")
-    check_build(path, wanted.builds)
+    check_file(path, wanted)
     return word
 
 
 def image_words(files: List[Wanted], root: bytes) -> List[bytes]:
-    """The words for the images that are there, after the line that names the others."""
-    words, missing = [], []
-    for number, wanted in enumerate(files):
+    """The words for the images that are there, in the order of the maps, after the line that names those that the
+    program looks into and that are not."""
+    words, left = [], MOST
+    missing: Dict[Use, str] = {}
+    for wanted in files:
+        left -= wanted.use is Use.MEMORY
+        if wanted.use is Use.MEMORY and left < 0:
+            continue
         try:
             words.append(image_word(wanted, root))
         except Missing as reason:
-            need = "needed" if number == 0 else "not needed"
-            missing.append(f"{shown(wanted.name)} ({need}; {reason})")
+            if wanted.use is not Use.MEMORY:
+                missing[wanted.use] = f"{shown(wanted.name)} ({wanted.use.value}; {reason})"
     if missing:
-        print(f"dump_core: no image of {', '.join(missing)}", file=sys.stderr, flush=True)
+        lines = [missing[use] for use in Use if use in missing]
+        print(f"dump_core: no image of {', '.join(lines)}", file=sys.stderr, flush=True)
     return words
 
 
@@ -133,6 +147,7 @@ def run(words: argparse.Namespace) -> None:
     if not words.layouts and machine not in (None, MACHINE):
         raise Fault(f"layouts/ has none of the core's machine, {machine}: name a file by --layouts", BAD_WORDS)
     command = [os.fsencode(it) for it in (program, "dump", "-c", words.core, "--layouts", words.layouts or LAYOUTS)]
+    command += [b"-l"] * words.locals + [b"-j"] * words.json
     for word in command[1:]:
         if not is_text(word):
             raise Fault(f"a name that is not UTF-8 can't be handed over: {shown(word)}", BAD_WORDS)
@@ -147,6 +162,8 @@ def main() -> int:
     """The command."""
     parser = argparse.ArgumentParser(description=__doc__.splitlines()[0])
     parser.add_argument("core", metavar="CORE", help="the core's file")
+    parser.add_argument("-l", "--locals", action="count", default=0, help="show locals; twice, longer ones")
+    parser.add_argument("-j", "--json", action="store_true", help="as JSON")
     parser.add_argument("--root", metavar="DIR", default="", help="look for the mapped files below this folder")
     parser.add_argument("--program", metavar="P", help="the built program (default: the one in crates/pystacks/out)")
     parser.add_argument("--layouts", metavar="FILE", help=f"the layout file (default: layouts/{LAYOUTS.name})")

@@ -56,10 +56,10 @@ def is_program(path: str) -> bool:
 
 
 def pythons() -> List[str]:
-    """The programs named python3 or python3.N, each once."""
+    """The programs named python2, python3, or so with a minor version, each once."""
     found = set()
     for folder in filter(None, folders()):
-        for path in glob.glob(f"{glob.escape(folder)}/python3*"):
-            if re.fullmatch(r"python3(\.\d+t?)?", Path(path).name) and is_program(path):
+        for path in glob.glob(f"{glob.escape(folder)}/python[23]*"):
+            if re.fullmatch(r"python[23](\.\d+t?)?", Path(path).name) and is_program(path):
                 found.add(os.path.realpath(path))
     return sorted(found, key=lambda path: (version_key(path), path))

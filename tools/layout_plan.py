@@ -1,4 +1,4 @@
-"""What a layout of CPython 3.7 to 3.13 has to say, and in which structs each number is to be looked up.
+"""What a layout of CPython 2.7 and 3.6 to 3.13 has to say, and in which structs each number is to be looked up.
 
 No number of a layout stands here: the plan names structs and fields, and layout_sources.py looks them up. The
 families, such as `lasti = "units"`, are the version's, as the comments and names of its headers tell them.
@@ -7,8 +7,11 @@ families, such as `lasti = "units"`, are the version's, as the comments and name
 from dataclasses import dataclass
 from typing import List, Optional, Tuple
 
-MINORS = range(7, 14)
-"""The minor versions of Python 3 that have a plan."""
+Version = Tuple[int, int]
+"""A version's major and minor."""
+
+VERSIONS: Tuple[Version, ...] = ((2, 7), *((3, minor) for minor in range(6, 14)))
+"""The versions that have a plan."""
 
 
 @dataclass(frozen=True)
@@ -24,12 +27,24 @@ class Field:
     """Whether the number is that of the member's lowest bit, in the member before the last dot."""
     after: str = ""
     """A struct that stands before this one, so that its length is added."""
+    is_last: bool = False
+    """Whether the number is that of the member's last byte."""
 
     @property
     def what(self) -> str:
         """The field as CPython spells it."""
         spelled = f"{self.struct}.{self.member}" if self.member else f"sizeof({self.struct})"
+        spelled = f"the last byte of {spelled}" if self.is_last else spelled
         return f"sizeof({self.after}) + {spelled}" if self.after else spelled
+
+    def number_of(self, place: int) -> int:
+        """The layout's number, where the member stands at this place."""
+        return place + self.width - 1 if self.is_last else place
+
+    @property
+    def length(self) -> int:
+        """How many bytes of the record it takes from its number on: 0 where they may be any, or are none."""
+        return 1 if self.is_last else 0 if self.is_bit else self.width
 
 
 @dataclass(frozen=True)
@@ -56,8 +71,8 @@ class Plan:
 
     families: Tuple[Tuple[str, str], ...]
     groups: Tuple[Group, ...]
-    runtime: Tuple[Field, ...]
-    """Places in _PyRuntime, which no layout has: they are told in comments."""
+    extra: Tuple[Field, ...]
+    """What no layout has: it is told in comments."""
 
     @property
     def wanted(self) -> List[Field]:
@@ -72,61 +87,74 @@ def group(name: str, struct: str, sized=(), plain=(), has_size=True, size=None, 
     return Group(name, tuple(fields), has_size, size, tuple(constants))
 
 
-def families_of(minor: int, with_dicts: bool) -> Tuple[Tuple[str, str], ...]:
-    """The families of 3.minor."""
+def families_of(version: Version, with_dicts: bool) -> Tuple[Tuple[str, str], ...]:
+    """The families of a version."""
     # (3.13 has values inside its objects: `split` reaches those of objects with a weak reference, `tagged` none)
-    managed = {11: "split", 12: "tagged", 13: "split"}.get(minor, "none")
+    managed = {(3, 11): "split", (3, 12): "tagged", (3, 13): "split"}.get(version, "none")
+    runtime = "runtime" if version >= (3, 7) else "symbol"
+    lines = "locations" if version >= (3, 11) else "ranges" if version == (3, 10) else "pairs"
     return (
-        ("head", "offsets" if minor >= 13 else "runtime"),
-        ("lock", "gil" if minor >= 12 else "runtime"),
-        ("frames", "cframe" if minor in (11, 12) else "direct"),
-        ("lasti", "pointer" if minor >= 11 else "units" if minor == 10 else "bytes"),
-        ("lines", "locations" if minor >= 11 else "ranges" if minor == 10 else "pairs"),
-        ("strings", "state"),
-        ("integers", "tagged" if minor >= 12 else "signed"),
-        ("dicts", "none" if not with_dicts else "compact" if minor >= 11 else "general"),
+        ("head", "offsets" if version >= (3, 13) else runtime),
+        ("lock", "gil" if version >= (3, 12) else runtime),
+        ("frames", "cframe" if version in ((3, 11), (3, 12)) else "direct"),
+        ("lasti", "pointer" if version >= (3, 11) else "units" if version == (3, 10) else "bytes"),
+        ("lines", lines),
+        ("strings", "state" if version >= (3, 0) else "bytes"),
+        ("integers", "tagged" if version >= (3, 12) else "signed"),
+        ("dicts", "none" if not with_dicts else "compact" if version >= (3, 11) else "general"),
         ("managed", managed if with_dicts else "none"),
     )
 
 
-def chain_groups(minor: int) -> List[Group]:
+def chain_groups(version: Version) -> List[Group]:
     """The groups of interpreters, threads and frames."""
     interpreter = [
-        ("threads", "threads.head" if minor >= 11 else "tstate_head"),
-        ("modules", "imports.modules" if minor >= 12 else "modules"),
+        ("threads", "threads.head" if version >= (3, 11) else "tstate_head"),
+        ("modules", "imports.modules" if version >= (3, 12) else "modules"),
     ]
-    if minor >= 12:
+    if version >= (3, 12):
         interpreter.append(("gil", "ceval.gil"))
-    newest = "current_frame" if minor >= 13 else "cframe" if minor >= 11 else "frame"
+    newest = "current_frame" if version >= (3, 13) else "cframe" if version >= (3, 11) else "frame"
     thread = [("next", "next", 8), ("interp", "interp", 8), ("id", "thread_id", 8), ("frame", newest, 8)]
-    if minor >= 11:
+    if version >= (3, 11):
         thread.append(("native_id", "native_thread_id", 8))
     groups = [
         group("interpreter", "PyInterpreterState", plain=interpreter, has_size=False),
         group("thread", "PyThreadState", sized=thread),
     ]
-    if minor in (11, 12):
+    if version in ((3, 11), (3, 12)):
         groups.append(group("cframe", "_PyCFrame", plain=[("current", "current_frame")], has_size=False))
-    return groups + [frame_group(minor)]
+    return groups + [frame_group(version)]
 
 
-def frame_group(minor: int) -> Group:
+def frame_group(version: Version) -> Group:
     """The group of a frame's record."""
     tag = [("code_tag_bits", 0)]
-    if minor <= 10:
+    if version <= (3, 10):
         sized = [("code", "f_code", 8), ("back", "f_back", 8), ("instr", "f_lasti", 4)]
         return group("frame", "PyFrameObject", sized, [("locals", "f_localsplus")], constants=tag)
-    sized = [
-        ("code", "f_executable" if minor >= 13 else "f_code", 8),
-        ("back", "previous", 8),
-        ("instr", "instr_ptr" if minor >= 13 else "prev_instr", 8),
+    struct = "struct _PyInterpreterFrame"
+    fields = [
+        Field("frame.code", struct, "f_executable" if version >= (3, 13) else "f_code", 8),
+        Field("frame.back", struct, "previous", 8),
+        Field("frame.instr", struct, "instr_ptr" if version >= (3, 13) else "prev_instr", 8),
+        Field("frame.entry", struct, "is_entry", 1) if version == (3, 11) else never_entry(struct),
+        Field("frame.locals", struct, "localsplus"),
     ]
-    if minor == 11:
-        sized.append(("entry", "is_entry", 1))
-    return group("frame", "struct _PyInterpreterFrame", sized, [("locals", "localsplus")], constants=tag)
+    return Group("frame", tuple(fields), constants=tuple(tag))
 
 
-def code_group(minor: int) -> Group:
+NEVER_ENTRY = "f_globals"
+"""A pointer of each frame that no key of a layout names."""
+
+
+def never_entry(struct: str) -> Field:
+    """The byte that says where C called into a frame, for versions that have members of their own there, which are not
+    shown: it is to be 0 always, as the top byte of a pointer is."""
+    return Field("frame.entry", struct, NEVER_ENTRY, 8, is_last=True)
+
+
+def code_group(version: Version) -> Group:
     """The group of a code object's record."""
     sized = [
         ("argcount", "co_argcount", 4),
@@ -134,15 +162,17 @@ def code_group(minor: int) -> Group:
         ("first_line", "co_firstlineno", 4),
         ("filename", "co_filename", 8),
         ("name", "co_name", 8),
-        ("table", "co_linetable" if minor >= 10 else "co_lnotab", 8),
-        ("varnames", "co_localsplusnames" if minor >= 11 else "co_varnames", 8),
+        ("table", "co_linetable" if version >= (3, 10) else "co_lnotab", 8),
+        ("varnames", "co_localsplusnames" if version >= (3, 11) else "co_varnames", 8),
     ]
-    plain = [("start", "co_code_adaptive")] if minor >= 11 else []
+    plain = [("start", "co_code_adaptive")] if version >= (3, 11) else []
     return group("code", "PyCodeObject", sized, plain)
 
 
-def string_group() -> Group:
-    """The group of a text, whose record is that of the longest of its three structs."""
+def string_group(version: Version) -> Group:
+    """The group of a text. From 3.3 on its record is that of the longest of its three structs."""
+    if version < (3, 0):
+        return group("string", "PyStringObject", [("length", "ob_size", 8)], [("short_at", "ob_sval")])
     short = "PyASCIIObject"
     bits = (("kind_shift", "kind", 3), ("compact_bit", "compact", 1), ("ascii_bit", "ascii", 1))
     fields = [
@@ -156,13 +186,21 @@ def string_group() -> Group:
     return Group("string", tuple(fields))
 
 
-def object_groups(minor: int) -> List[Group]:
+def small_group(version: Version) -> Group:
+    """The group of the integers that Python 2 has beside the long ones."""
+    if version < (3, 0):
+        return group("small", "PyIntObject", [("value", "ob_ival", 8)])
+    return Group("small", (), has_size=False, constants=(("size", 8), ("value", 0)))
+
+
+def object_groups(version: Version) -> List[Group]:
     """The groups of objects, dicts aside."""
-    long = ("long_value.lv_tag", "long_value.ob_digit") if minor >= 12 else ("ob_base.ob_size", "ob_digit")
-    count = "ob_base.ob_size"
+    count = "ob_base.ob_size" if version >= (3, 0) else "ob_size"
+    long = ("long_value.lv_tag", "long_value.ob_digit") if version >= (3, 12) else (count, "ob_digit")
+    of_bytes = "PyBytesObject" if version >= (3, 0) else "PyStringObject"
     return [
-        string_group(),
-        group("bytes", "PyBytesObject", [("length", count, 8)], [("at", "ob_sval")]),
+        string_group(version),
+        group("bytes", of_bytes, [("length", count, 8)], [("at", "ob_sval")]),
         group("tuple", "PyTupleObject", [("count", count, 8)], [("at", "ob_item")]),
         group("list", "PyListObject", [("count", count, 8), ("items", "ob_item", 8)]),
         group("object", "PyObject", [("klass", "ob_type", 8)], size=Field("object.size", "PyObject")),
@@ -178,21 +216,22 @@ def object_groups(minor: int) -> List[Group]:
                 Field("long.digits", "PyLongObject", f"{long[1]}[0]", 4),
             ),
         ),
-        Group("small", (), has_size=False, constants=(("size", 8), ("value", 0))),
+        small_group(version),
         group("float", "PyFloatObject", [("value", "ob_fval", 8)]),
     ]
 
 
-def dict_groups(minor: int) -> List[Group]:
+def dict_groups(version: Version) -> List[Group]:
     """The groups of dicts, and of the dicts that objects manage."""
+    has_log2 = version >= (3, 11)
     sized = [("used", "dk_nentries", 8)]
-    sized += [("log2", "dk_log2_index_bytes", 1), ("kind", "dk_kind", 1)] if minor >= 11 else [("slots", "dk_size", 8)]
+    sized += [("log2", "dk_log2_index_bytes", 1), ("kind", "dk_kind", 1)] if has_log2 else [("slots", "dk_size", 8)]
     keys = "struct _dictkeysobject"
     groups = [
         group("dict", "PyDictObject", [("keys", "ma_keys", 8), ("values", "ma_values", 8)]),
         group("keys", keys, sized, size=Field("keys.size", keys, "dk_indices")),
     ]
-    if minor >= 11:
+    if version >= (3, 11):
         # (from 3.13 on an object's values may stand behind its head, with a head of their own)
         cached = Field("heap.cached_keys", "PyHeapTypeObject", "ht_cached_keys", 8)
         inline = Field("heap.inline", "struct _dictvalues", "values", after="PyObject")
@@ -200,18 +239,26 @@ def dict_groups(minor: int) -> List[Group]:
     return groups
 
 
-def plan_of(minor: int, with_dicts: bool = True) -> Plan:
-    """The plan for 3.minor."""
-    groups = chain_groups(minor) + [code_group(minor)] + object_groups(minor)
+def extra_of(version: Version) -> Tuple[Field, ...]:
+    """What the head of a file tells beside the layout: how interpreters are chained, and places in _PyRuntime."""
+    extra = [Field("interpreter.next", "PyInterpreterState", "next", 8)]
+    if version >= (3, 7):
+        extra.append(Field("runtime.head", "_PyRuntimeState", "interpreters.head", 8))
+    if (3, 7) <= version <= (3, 11):
+        extra.append(Field("runtime.current", "_PyRuntimeState", "gilstate.tstate_current", 8))
+    return tuple(extra)
+
+
+def plan_of(version: Version, with_dicts: bool = True) -> Plan:
+    """The plan for a version. Dicts have been read by one rule since 3.6, and those of 2.7 are none of theirs."""
+    with_dicts = with_dicts and version >= (3, 6)
+    groups = chain_groups(version) + [code_group(version)] + object_groups(version)
     if with_dicts:
-        groups += dict_groups(minor)
-    if minor >= 12:
+        groups += dict_groups(version)
+    if version >= (3, 12):
         gil = [("locked", "locked", 4), ("holder", "last_holder", 8)]
         groups.append(group("gil", "struct _gil_runtime_state", gil))
-    if minor >= 13:
+    if version >= (3, 13):
         head = [("head", "runtime_state.interpreters_head", 8)]
         groups.append(group("offsets", "struct _Py_DebugOffsets", head))
-    runtime = [Field("runtime.head", "_PyRuntimeState", "interpreters.head", 8)]
-    if minor <= 11:
-        runtime.append(Field("runtime.current", "_PyRuntimeState", "gilstate.tstate_current", 8))
-    return Plan(families_of(minor, with_dicts), tuple(groups), tuple(runtime))
+    return Plan(families_of(version, with_dicts), tuple(groups), extra_of(version))

@@ -42,6 +42,13 @@ class Shape:
     is_shared: bool = False
     """Whether all threads have the same frames, as only a hostile core has."""
     segments: int = 3
+    images: int = 0
+    """How many files of IMAGE_SIZE it has mapped, of which it holds no byte, beside the program's."""
+
+
+IMAGE_SIZE = 4_500_000
+IMAGES = 0x200000000
+"""How long those files are, and where the first one's map begins."""
 
 
 SHAPES = (
@@ -53,6 +60,7 @@ SHAPES = (
     Shape("1000 segments", segments=1000),
     Shape("10,000 segments", segments=10_000),
     Shape("60,000 segments", segments=60_000),
+    Shape("small, with 8 images of 36 MB in all", images=8),
 )
 
 
@@ -91,6 +99,11 @@ def heap(shape: Shape) -> bytes:
     return with_words(end, words)
 
 
+def image_name(number: int) -> bytes:
+    """The path that a core has for its file of a number."""
+    return b"/usr/lib/lib%d.so" % number
+
+
 def core(shape: Shape) -> bytes:
     """The core of a shape, with its heap in the middle of the segments."""
     more = shape.segments - 3
@@ -100,7 +113,8 @@ def core(shape: Shape) -> bytes:
         Mapped(0x400000, b"/usr/bin/python3.9", size=0x1000),
         Mapped(0x500000, None, 6, struct.pack("<2Q", 0x400000, INTERPRETER)),
     ]
-    return core_of(maps + filler[more // 2 :])
+    images = [Mapped(IMAGES * (at + 1), image_name(at), 4, size=IMAGE_SIZE) for at in range(shape.images)]
+    return core_of(maps + images + filler[more // 2 :])
 
 
 def text_of(shape: Shape) -> bytes:
@@ -129,11 +143,15 @@ def measured(program: str, shape: Shape, folder: Path, times: int) -> str:
     Path(files["core"]).write_bytes(core(shape))
     Path(files["layouts"]).write_text(example_layout(), encoding="utf-8")
     Path(files["image"]).write_bytes(with_words(328, IMAGE))
-    image = f"/usr/bin/python3.9={files['image']}"
+    others = [folder / f"lib{number}.so" for number in range(shape.images)]
+    for path in others:
+        path.write_bytes(os.urandom(IMAGE_SIZE))
+    images = [f"/usr/bin/python3.9={files['image']}"]
+    images += [f"{image_name(number).decode()}={path}" for number, path in enumerate(others)]
     commands = (
-        ["cat", files["core"], files["layouts"], files["image"]],
+        ["cat", files["core"], files["layouts"], files["image"], *map(str, others)],
         [program, "walk", files["core"], files["layouts"], "3.9.0", hex(INTERPRETER), "0"],
-        [program, "dump", "-c", files["core"], "--layouts", files["layouts"], image],
+        [program, "dump", "-c", files["core"], "--layouts", files["layouts"], *images],
     )
     cells: List[str] = [shape.what, f"{os.path.getsize(files['core']) / MIB:.2f}"]
     for command in commands:

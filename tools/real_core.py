@@ -2,21 +2,21 @@
 """Walks cores of real Pythons, and compares the stacks with those that the Pythons told before they died.
 
     tools/real_core.py --program crates/pystacks/out/pystacks
+    tools/real_core.py --program crates/pystacks/out/pystacks --swaps    # slow: which wrong layouts are noticed
 
-For each installed CPython of 3.7 to 3.13 the layout is derived (derive_layout.py), real_core_child.py is started and
-leaves a core, and the program walks that. Threads, their order, functions and files must be those that the child
-printed. Then the program reports the core, with the images that it needs, and the whole text, byte by byte, must be
-the one that the child's own words give: signal, process, version, threads and their names, functions, files and
-lines. Names are left out where the layout that was derived has no dicts. What can't be tried here has one line that
-says why. The status is 0 exactly where nothing that was tried failed.
+For each installed CPython of 2.7 and 3.6 to 3.13 the layout is derived (derive_layout.py), real_core_child.py is
+started and leaves some cores, and the program walks those that have all private mappings. Threads, their order,
+functions and files must be those that the child printed. Then the program reports each core, usual ones too, with the
+images that it needs, and the whole text, byte by byte, must be the one that the child's own words give: signal,
+process, version, threads and their names, functions, files and lines. Names are left out where the layout that was
+derived has no dicts. What can't be tried here has one line that says why. The status is 0 exactly where nothing that
+was tried failed.
 """
 
 import argparse
-import glob
 import json
 import os
 import re
-import resource
 import shutil
 import signal
 import subprocess
@@ -24,58 +24,63 @@ import sys
 import tempfile
 import threading
 import time
-from dataclasses import dataclass
-from itertools import zip_longest
+from dataclasses import dataclass, replace
+from functools import lru_cache
+from itertools import takewhile, zip_longest
 from pathlib import Path
-from typing import List, Optional, Sequence, Tuple
+from typing import Dict, Iterator, List, Sequence, Tuple
 
+import child_cores
+from child_cores import CASES, Core, Failure, Skip, Thread, Told, core_names, leave_core
 from core_maps import wanted_files
-from derive_layout import Build, Derived, DeriveError, build_of, derive
+from derive_layout import Build, Derived, DeriveError, How, build_of, derive, same_version, told_of
 from dump_core import image_words
 from find_pythons import pythons
-from join_layouts import single_files
 from layout_plan import plan_of
+from layout_swaps import swaps
 
 ROOT = Path(__file__).resolve().parent.parent
 
-SECONDS = 120
-"""How long the child and the program may take."""
+HOLDER_IN_DUMP = True
+"""Whether a report marks the thread that holds the interpreter's lock."""
+
+JSON_IN_DUMP = False
+"""Whether the program can report as JSON."""
+
+LOCALS_IN_DUMP = False
+"""Whether the program can report locals."""
+
+HELD = """\
+    hold (hält.py:10)
+        Arguments:
+            bottom: <{kind} at {held:#x}>
+            number: -12345678901
+            text: "größe \\"x\\"\\n"
+        Locals:
+            yes: True
+            no: False
+            nothing: None
+            ratio: float 0x3ff8000000000000
+            pair: (1, "a")
+            row: [1, [2, 3]]
+            table: {table}
+            big: -bigint
+            long: "{long}"
+"""
+"""How the frame of the child's function `hold` is printed with its locals."""
 
 DICT_GROUPS = ("dict.", "keys.", "heap.")
 """The groups that a layout without dicts lacks."""
 
+DICT_LINES = ("dicts = ", "managed = ", "dict = ", "keys = ", "heap = ")
+"""The lines of a layout in which one without dicts differs."""
 
-class Skip(Exception):
-    """Why something can't be tried here."""
+WRONG = (("main", r"filename=(\d+), name=(\d+)", r"filename=\2, name=\1"), ("free", r"locked=\d+", "locked=0"))
+"""Changes of a layout that are to be noticed, and over which core. (At 0 a lock's record has how long its holder may
+keep it, which is never 0.)"""
 
-
-class Failure(Exception):
-    """What went wrong in what was tried."""
-
-
-@dataclass(frozen=True)
-class Thread:
-    """A thread's stack, the newest frame first: (function, file)."""
-
-    label: str
-    frames: Tuple[Tuple[str, str], ...]
-    has_lock: bool = False
-    name: str = ""
-    lines: Tuple[int, ...] = ()
-    """Of each frame; empty where they aren't known."""
-
-
-@dataclass(frozen=True)
-class Told:
-    """What the child told before it died."""
-
-    interpreter: int
-    lock: Optional[int]
-    """The address that names the lock's holder, where it is known."""
-    threads: List[Thread]
-    """In the order in which they are printed; the one that aborted has the lock."""
-    head: str
-    """The lines of a report between that of the signal and the threads."""
+UNSOUND = 6
+"""The program's status where a layout file has a fault."""
 
 
 @dataclass(frozen=True)
@@ -89,111 +94,13 @@ class Walk:
     kilobytes: int
 
 
-def core_names() -> str:
-    """The glob for names of cores, where {pid} stands for the process, once it is known that cores are written to
-    files, and to such as can be told from those of other processes."""
-    path = Path("/proc/sys/kernel/core_pattern")
-    if not path.is_file():
-        raise Skip(f"this system has no {path}")
-    pattern = path.read_text().strip()
-    if pattern.startswith(("|", "@")):
-        raise Skip(f"the kernel hands cores to a program, by the pattern {pattern}")
-    if not pattern:
-        raise Skip("the kernel writes no cores, since its pattern is empty")
-    if resource.getrlimit(resource.RLIMIT_CORE)[1] == 0:
-        raise Skip("the hard limit on the size of cores is 0")
-    return names_by(pattern, Path("/proc/sys/kernel/core_uses_pid").read_text().strip() != "0")
-
-
-def names_by(pattern: str, uses_pid: bool) -> str:
-    """The glob for a kernel's pattern: its %p is known, and its other words may be anything."""
-    words = {"%%": "%", "%p": "{pid}"}
-    parts = re.split(r"(%.?)", pattern)
-    name = "".join(words.get(it, "*") if it.startswith("%") else glob.escape(it) for it in parts)
-    if uses_pid and "%p" not in pattern:
-        name += ".{pid}"
-    if os.path.isabs(name) and "*" in name and "{pid}" not in name:
-        raise Skip(f"by the kernel's pattern {pattern} a core can't be told from others")
-    return name
-
-
-def find_core(names: str, pid: int, folder: Path, since: float) -> Path:
-    """The core that a process left, which ran in this folder, empty before."""
-    found = [Path(it) for it in glob.glob(os.path.join(glob.escape(str(folder)), names.replace("{pid}", str(pid))))]
-    # (a clock of files may be coarse)
-    new = [it for it in found if it.is_file() and it.stat().st_mtime >= since - 2]
-    if not new:
-        raise Skip(f"the kernel left no core named {names}")
-    return max(new, key=lambda it: it.stat().st_mtime)
-
-
-def raise_core_limit() -> None:
-    """Gives a process all of the core's size that it may have."""
-    hard = resource.getrlimit(resource.RLIMIT_CORE)[1]
-    resource.setrlimit(resource.RLIMIT_CORE, (hard, hard))
-
-
-def told_from(line: str, derived: Derived) -> Told:
-    """What the child's line tells; threads are labelled as the layout has it."""
-    told = json.loads(line)
-    has_native = "thread.native_id" in derived.numbers
-    threads = []
-    for it in told["threads"]:
-        label = str(it["native"]) if has_native else f"0x{it['id']:X}"
-        frames = tuple((name, file) for name, file, _ in it["frames"])
-        lines = tuple(line for _, _, line in it["frames"])
-        threads.append(Thread(label, frames, it["id"] == told["aborts"], it["name"], lines))
-    lock = told["gil"]
-    if derived.lock == "runtime" and told["runtime"] and "runtime.current" in derived.numbers:
-        lock = told["runtime"] + derived.numbers["runtime.current"]
-    # (the child lists threads from the first of the chain on, and they are printed from the last)
-    pid, arguments = told["process"]
-    head = f"Process {pid}: {arguments}\nPython v{told['version']}\n\n"
-    return Told(told["interpreter"], lock, threads[::-1], head)
-
-
-def leave_core(derived: Derived, names: str, folder: Path, who: str) -> Tuple[Told, Path]:
-    """Runs the child in this folder until it has left a core: its main thread aborts, another one, or one of many."""
-    child = Path(__file__).resolve().with_name("real_core_child.py")
-    lock = str(derived.numbers.get("interpreter.gil", -1))
-    command = [derived.build.executable, "-I", str(child), lock, who]
-    since = time.time()
-    process = subprocess.Popen(
-        command,
-        cwd=folder,
-        stdin=subprocess.DEVNULL,
-        stdout=subprocess.PIPE,
-        stderr=subprocess.PIPE,
-        text=True,
-        encoding="utf-8",
-        errors="replace",
-        preexec_fn=raise_core_limit,
-    )
-    try:
-        out, err = process.communicate(timeout=SECONDS)
-    except subprocess.TimeoutExpired:
-        process.kill()
-        process.communicate()
-        raise Failure(f"the child had not ended after {SECONDS} seconds") from None
-    last = (err.strip().splitlines() or ["it said nothing"])[-1]
-    if "No module named '_ctypes'" in err:
-        raise Skip("it has no ctypes")
-    if process.returncode != -signal.SIGABRT:
-        raise Failure(f"the child ended with status {process.returncode}, and not by an abort: {last}")
-    core = find_core(names, process.pid, folder, since)
-    hard = resource.getrlimit(resource.RLIMIT_CORE)[1]
-    if hard != resource.RLIM_INFINITY and core.stat().st_size >= hard:
-        raise Skip(f"the hard limit on the size of cores, {hard} bytes, cuts its core")
-    return told_from(out, derived), core
-
-
 def ran(command: Sequence[object]) -> Walk:
     """Runs the program, and measures it. (Linux counts the memory of this tool too, some 14 MiB, where that is more
     than the program's.)"""
     with tempfile.TemporaryFile() as out, tempfile.TemporaryFile() as err:
         begun = time.perf_counter()
         process = subprocess.Popen([str(it) for it in command], stdin=subprocess.DEVNULL, stdout=out, stderr=err)
-        timer = threading.Timer(SECONDS, process.kill)
+        timer = threading.Timer(child_cores.SECONDS, process.kill)
         timer.start()
         _, status, used = os.wait4(process.pid, 0)
         timer.cancel()
@@ -206,27 +113,81 @@ def ran(command: Sequence[object]) -> Walk:
     return Walk(process.returncode, texts[0], texts[1].strip(), seconds, used.ru_maxrss)
 
 
-def walk(program: Path, core: Path, layouts: Path, build: Build, interpreter: int, lock: int) -> Walk:
+def walk(program: Path, core: Core, layouts: Path, build: Build, lock: int) -> Walk:
     """Walks a core."""
-    return ran([program, "walk", core, layouts, build.dotted, hex(interpreter), hex(lock) if lock else "0"])
+    words = [build.dotted, hex(core.told.interpreter), hex(lock) if lock else "0"]
+    return ran([program, "walk", core.path, layouts, *words])
 
 
-def dump(program: Path, core: Path, layouts: Path) -> Walk:
-    """Reports a core, with the images that are needed."""
+@lru_cache(maxsize=16)
+def images_of(core: Path) -> Tuple[str, ...]:
+    """The words for the images of a core that are there."""
     with open(core, "rb") as file:
-        words = [os.fsdecode(it) for it in image_words(wanted_files(file), b"")]
-    return ran([program, "dump", "-c", core, "--layouts", layouts, *words])
+        return tuple(os.fsdecode(it) for it in image_words(wanted_files(file), b""))
 
 
-def report_of(told: Told, core: str, with_names: bool) -> str:
-    """The text of the report that the child's words give. The lock's holder isn't looked for."""
+def dump(program: Path, core: Core, layouts: Path, *options: str) -> Walk:
+    """Reports a core, with the images that are there."""
+    return ran([program, "dump", "-c", core.path, "--layouts", layouts, *options, *images_of(core.path)])
+
+
+def report_of(told: Told, core: str, with_names: bool, with_holder: bool) -> str:
+    """The text of the report that the child's words give."""
     text = f"Signal {int(signal.SIGABRT)}: {core}\n{told.head}"
     for thread in told.threads:
+        mark = " (gil)" if with_holder and thread.has_lock else ""
         name = f': "{thread.name}"' if with_names else ""
-        text += f"Thread {thread.label}{name}\n"
+        text += f"Thread {thread.label}{mark}{name}\n"
         for (function, file), line in zip(thread.frames, thread.lines):
             text += f"    {function} ({file}:{line})\n"
     return text
+
+
+def check_locals(run: Walk, without: str, held: int, derived: Derived) -> None:
+    """Fails where a report with locals isn't the one without them, or those of `hold` aren't what they are."""
+    kind = "instancemethod" if derived.build.minor == (2, 7) else "method"
+    table = '{"k": 1, 2: None}' if derived.with_dicts else "dict"
+    wanted = HELD.format(kind=kind, held=held, table=table, long="ü" * 123 + "...")
+    lines = run.out.splitlines(keepends=True)
+    if wanted.splitlines()[0] + "\n" in lines:
+        at = lines.index(wanted.splitlines()[0] + "\n")
+        got = [lines[at], *takewhile(lambda line: line.startswith(" " * 8), lines[at + 1 :])]
+        check_report(replace(run, out="".join(got)), wanted)
+    check_report(replace(run, out="".join(line for line in lines if not line.startswith(" " * 8))), without)
+
+
+def tree_of(thread: Thread, with_names: bool) -> Dict[str, object]:
+    """A thread of a report as JSON, without what tells of calls from C."""
+    rows = zip(thread.frames, thread.lines)
+    frames = [{"name": name, "filename": file, "line": line} for (name, file), line in rows]
+    return {
+        "pid": 0,
+        "thread_id": thread.number,
+        "thread_name": thread.name if with_names else None,
+        "os_thread_id": thread.native,
+        "active": True,
+        "owns_gil": HOLDER_IN_DUMP and thread.has_lock,
+        "process_info": None,
+        "frames": [{**it, "module": None, "short_filename": None, "locals": None} for it in frames],
+    }
+
+
+def json_of(told: Told, derived: Derived, text: str) -> str:
+    """The report as JSON that the child's words give. Where C called into Python they don't tell, so that is taken from
+    the report itself, but for what each has: 3.12 and 3.13 say of no frame that it was entered, and mark borders; up to
+    3.10 each frame counts as entered, and up to 3.11 there are no borders but the last frame."""
+    tree = [tree_of(thread, derived.with_dicts) for thread in reversed(told.threads)]
+    try:
+        marks = [[(it["is_entry"], it["is_shim_entry"]) for it in thread["frames"]] for thread in json.loads(text)]
+    except (ValueError, TypeError, KeyError):
+        raise Failure(f"the report is no JSON of frames: {text[:200]!r}") from None
+    version = derived.build.minor
+    for thread, row in zip(tree, marks):
+        for at, (frame, (is_entry, is_border)) in enumerate(zip(thread["frames"], row), 1):
+            is_last = at == len(thread["frames"])
+            frame["is_entry"] = bool(is_entry) if version == (3, 11) else version <= (3, 10)
+            frame["is_shim_entry"] = is_last or version >= (3, 12) and bool(is_border)
+    return json.dumps(tree, indent=2, sort_keys=True, ensure_ascii=False) + "\n"
 
 
 def check_report(run: Walk, wanted: str) -> None:
@@ -275,37 +236,48 @@ def compare(wanted: Sequence[Thread], got: Sequence[Thread], with_lock: bool) ->
             raise Failure(f"thread {one.label} is printed {'with' if other.has_lock else 'without'} the lock")
 
 
-def walked(program: Path, core: Path, layouts: Path, build: Build, told: Told) -> Walk:
+def walked(program: Path, core: Core, layouts: Path, build: Build) -> Walk:
     """Walks a core without the lock's address, and compares."""
-    run = walk(program, core, layouts, build, told.interpreter, 0)
+    run = walk(program, core, layouts, build, 0)
     if run.status != 0:
         raise Failure(f"walk ended with status {run.status}: {run.err}")
-    compare(told.threads, printed(run.out, build), with_lock=False)
+    compare(core.told.threads, printed(run.out, build), with_lock=False)
     return run
 
 
-def holder_of(program: Path, core: Path, layouts: Path, derived: Derived, told: Told) -> str:
-    """Walks a core once more, with the lock's address, and says what came of it."""
-    if not told.lock:
-        return "holder not tried, as nothing tells where the lock is"
-    run = walk(program, core, layouts, derived.build, told.interpreter, told.lock)
+def check_holder(program: Path, core: Core, layouts: Path, build: Build) -> None:
+    """Walks a core once more, with the lock's address: the holder alone is marked, and nobody where there is none."""
+    run = walk(program, core, layouts, build, core.told.lock)
     if run.status != 0:
-        raise Failure(f"walk with the lock at {told.lock:#x} ended with status {run.status}: {run.err}")
-    compare(told.threads, printed(run.out, derived.build), with_lock=True)
-    return "holder agrees"
+        raise Failure(f"walk with the lock at {core.told.lock:#x} ended with status {run.status}: {run.err}")
+    compare(core.told.threads, printed(run.out, build), with_lock=True)
 
 
-def notice_wrong(program: Path, core: Path, folder: Path, derived: Derived, told: Told) -> None:
-    """Fails where a wrong layout, in which functions and files have changed places, isn't noticed."""
-    wrong = folder / "wrong.toml"
-    text, count = re.subn(r"filename=(\d+), name=(\d+)", r"filename=\2, name=\1", derived.text)
-    wrong.write_text(text, encoding="utf-8")
-    run = walk(program, core, wrong, derived.build, told.interpreter, 0)
-    try:
-        compare(told.threads, printed(run.out, derived.build), with_lock=False)
-    except Failure:
-        return
-    raise Failure(f"a wrong layout ({count} line changed) isn't noticed")
+def check_dump(program: Path, core: Core, layouts: Path, derived: Derived) -> None:
+    """Reports a core, and compares the whole text."""
+    wanted = report_of(core.told, str(core.path), derived.with_dicts, HOLDER_IN_DUMP)
+    check_report(dump(program, core, layouts), wanted)
+    if LOCALS_IN_DUMP and core.told.held:
+        check_locals(dump(program, core, layouts, "-l"), wanted, core.told.held, derived)
+    if JSON_IN_DUMP:
+        run = dump(program, core, layouts, "-j")
+        check_report(run, json_of(core.told, derived, run.out))
+
+
+def notice_wrong(program: Path, core: Core, room: Path, derived: Derived) -> None:
+    """Fails where a wrong layout isn't noticed: one in which functions and files have changed places, and, over a core
+    whose lock is free, one that takes another number for the mark of a lock that is held."""
+    wrong = room / "wrong.toml"
+    for who, pattern, other in WRONG:
+        text, count = re.subn(pattern, other, derived.text)
+        if who != core.case.who or core.case.is_usual or not count:
+            continue
+        wrong.write_text(text, encoding="utf-8")
+        try:
+            (check_holder if core.told.lock else walked)(program, core, wrong, derived.build)
+        except Failure:
+            continue
+        raise Failure(f"a wrong layout isn't noticed, with {re.search(pattern, derived.text).group()} changed")
 
 
 def derived_so_far(build: Build) -> Derived:
@@ -315,80 +287,169 @@ def derived_so_far(build: Build) -> Derived:
     except DeriveError as error:
         if not error.keys or not all(key.startswith(DICT_GROUPS) for key in error.keys):
             raise
-        return derive(build, with_dicts=False)
+        return derive(build, How(with_dicts=False))
+
+
+def is_at_hand(build: Build) -> bool:
+    """Whether there is something that tells a build's fields, and what asks it."""
+    headers = any((Path(it) / "Python.h").is_file() for it in build.includes) and not same_version(build)
+    with open(build.binary, "rb") as file:
+        has_debug = b"\0.debug_info\0" in file.read()
+    return bool(headers and shutil.which("cc") or has_debug and shutil.which("gdb"))
 
 
 def derived_for(build: Build) -> Derived:
-    """The same. A failure where some fields were told and others not: then the plan doesn't fit the build."""
+    """The same. A failure where some fields were told and others not, or none were that could have been: then the plan
+    doesn't fit the build."""
     try:
         return derived_so_far(build)
     except DeriveError as error:
-        fields = len(plan_of(build.version[1], False).wanted)
-        if error.keys and len(error.keys) < fields:
+        fields = len(plan_of(build.minor, False).wanted)
+        if error.keys and (len(error.keys) < fields or is_at_hand(build)):
             raise Failure(f"no layout could be derived: {error.brief}") from error
         raise
 
 
-def body_of(text: str) -> List[str]:
-    """The lines of a layout file that aren't comments."""
-    return [line for line in text.splitlines() if not line.startswith("#")]
+def body_of(text: str, with_dicts: bool) -> List[str]:
+    """The lines of a layout file that aren't comments, without those of dicts where they aren't to be compared."""
+    lines = [line for line in text.splitlines() if not line.startswith("#")]
+    return [line for line in lines if with_dicts or not line.startswith(DICT_LINES)]
+
+
+def head_of(text: str, name: str) -> Tuple[str, str, str]:
+    """The version, the machine and the options of the build from which a stored layout was read, by its head."""
+    first = re.search(r"^# The layout of CPython (\S+) on (\S+), ", text)
+    build = re.search(r"^# build: (\S+) ", text, re.MULTILINE)
+    options = re.search(r"^# options that change records: (.+)$", text, re.MULTILINE)
+    if not first or not build or not options or build.group(1) != first.group(1):
+        raise Failure(f"the head of layouts/{name} doesn't say of which build it is")
+    return first.group(1), first.group(2), options.group(1)
 
 
 def as_stored(derived: Derived, layouts: Path) -> str:
-    """Says which stored layout this one is. The stored layout of this very build must be it."""
-    if not derived.with_dicts:
-        return "without dicts"
-    texts = {path.name: path.read_text(encoding="utf-8") for path in single_files(layouts)}
-    same = [name for name, text in texts.items() if body_of(text) == body_of(derived.text)]
-    for name, text in texts.items():
-        if f"# build: {derived.build.build}" in text.splitlines() and name not in same:
-            raise Failure(f"layouts/{name} was written for this very build, and isn't the layout that is derived now")
-    return f"layouts/{same[0]}" if same else "no such layout in layouts/"
+    """Says which stored layout this one is. There is one of each version, and that of the same build must be it: of the
+    same version, machine and options."""
+    build = derived.build
+    name = f"cpython-{'.'.join(map(str, build.minor))}-{build.machine}.toml"
+    if not (layouts / name).is_file():
+        if build.machine == "x86_64":
+            raise Failure(f"there is no layouts/{name}")
+        return f"there is no layouts/{name}"
+    text = (layouts / name).read_text(encoding="utf-8")
+    head = head_of(text, name)
+    is_whole = derived.with_dicts or 'dicts = "none"' in text
+    told = f"layouts/{name}" if is_whole else f"layouts/{name} but for dicts"
+    if body_of(text, derived.with_dicts) == body_of(derived.text, derived.with_dicts):
+        return told
+    if head == (build.dotted, build.machine, ", ".join(build.options) or "none"):
+        raise Failure(f"layouts/{name} was written for this very build, and isn't the layout that is derived now")
+    return f"not {told}, which is of {head[0]}"
 
 
-@dataclass(frozen=True)
-class Try:
-    """What was tried on one core."""
+def over_core(program: Path, derived: Derived, core: Core, room: Path) -> Walk:
+    """Walks and reports a core of the child. Usual cores are reported alone, since a walk is given no images."""
+    layouts = room / "layout.toml"
+    run = Walk(0, "", "", 0.0, 0)
+    if not core.case.is_usual:
+        run = walked(program, core, layouts, derived.build)
+        if core.told.lock:
+            check_holder(program, core, layouts, derived.build)
+        notice_wrong(program, core, room, derived)
+    check_dump(program, core, layouts, derived)
+    return run
 
-    size: int
-    threads: int
-    frames: int
-    run: Walk
-    holder: str
+
+def cores_of(derived: Derived, names: str, room: Path) -> Iterator[Core]:
+    """A core of each case, in a folder of its own, where the layout stands too. It is removed behind its use."""
+    (room / "layout.toml").write_text(derived.text, encoding="utf-8")
+    for number, case in enumerate(CASES):
+        core = leave_core(derived, names, room / str(number), case)
+        try:
+            yield core
+        finally:
+            core.path.unlink()
 
 
-def over_core(program: Path, derived: Derived, names: str, folder: Path, who: str) -> Try:
-    """Walks and reports a core of the child, by the layout in this folder."""
-    layouts, room = folder / "layout.toml", folder / who
-    room.mkdir()
-    told, core = leave_core(derived, names, room, who)
-    try:
-        size = core.stat().st_size
-        run = walked(program, core, layouts, derived.build, told)
-        holder = holder_of(program, core, layouts, derived, told)
-        notice_wrong(program, core, folder, derived, told)
-        check_report(dump(program, core, layouts), report_of(told, str(core), derived.with_dicts))
-    finally:
-        core.unlink()
-    return Try(size, len(told.threads), sum(len(it.frames) for it in told.threads), run, holder)
+def what_of(cores: Sequence[Core], derived: Derived, stored: str) -> str:
+    """Tells what was tried of a Python, where nothing failed."""
+    usual = sum(it.case.is_usual for it in cores)
+    threads = [thread for it in cores for thread in it.told.threads]
+    counts = f"{len(threads)} threads, {sum(len(it.frames) for it in threads)} frames agree"
+    holders = "holders agree" if all(it.told.lock for it in cores) else "holders not tried"
+    names = "with names" if derived.with_dicts else "without names"
+    return f"{len(cores)} cores ({usual} usual): {counts}; {holders}; reports agree {names}; {stored}"
 
 
 def tried(program: Path, python: str, names: str) -> str:
-    """Derives the layout of one Python, and tries it on three cores. Returns the line that tells of it."""
+    """Derives the layout of one Python, and tries it on some cores. Returns the line that tells of it."""
     build = build_of(python)
     derived = derived_for(build)
     stored = as_stored(derived, ROOT / "layouts")
+    cores, runs, sizes = [], [], []
     with tempfile.TemporaryDirectory(prefix="real-core-") as name:
-        folder = Path(name)
-        (folder / "layout.toml").write_text(derived.text, encoding="utf-8")
-        tries = [over_core(program, derived, names, folder, who) for who in ("main", "other", "many")]
-    first = tries[0]
-    lists = "with names" if derived.with_dicts else "without names"
-    counts = " + ".join(str(it.threads) for it in tries)
-    frames = " + ".join(str(it.frames) for it in tries)
-    what = f"{counts} threads, {frames} frames agree; {first.holder}; reports agree {lists}; {stored}"
-    size, memory = f"{first.size / 2**20:.1f}", f"{first.run.kilobytes / 1024:.1f}"
-    return row(build.dotted, size, f"{first.run.seconds:.3f}", memory, what)
+        for core in cores_of(derived, names, Path(name)):
+            cores.append(core)
+            sizes.append(core.path.stat().st_size)
+            try:
+                runs.append(over_core(program, derived, core, Path(name)))
+            except Failure as reason:
+                usual = " (usual)" if core.case.is_usual else ""
+                raise Failure(f"core '{core.case.who}'{usual}: {reason}") from reason
+    size, memory = f"{sizes[0] / 2**20:.1f}", f"{runs[0].kilobytes / 1024:.1f}"
+    return row(build.dotted, size, f"{runs[0].seconds:.3f}", memory, what_of(cores, derived, stored))
+
+
+def is_noticed(program: Path, derived: Derived, cores: Sequence[Core], wrong: Path) -> bool:
+    """Whether one of the comparisons that the gate makes fails by this layout."""
+    try:
+        for core in cores:
+            check_dump(program, core, wrong, derived)
+        for core in cores:
+            if not HOLDER_IN_DUMP:
+                check_holder(program, core, wrong, derived.build)
+    except Failure:
+        return True
+    return False
+
+
+def is_sound(program: Path, core: Core, layouts: Path) -> bool:
+    """Whether the program takes a layout file."""
+    return ran([program, "dump", "-c", core.path, "--layouts", layouts]).status != UNSOUND
+
+
+def directions(
+    program: Path, derived: Derived, cores: Sequence[Core], sides: Sequence[List[str]], wrong: Path
+) -> List[bool]:
+    """For each direction in which there is a sound wrong layout, whether the nearest one is noticed."""
+    seen = []
+    for texts in sides:
+        for text in texts:
+            wrong.write_text(text, encoding="utf-8")
+            if is_sound(program, cores[0], wrong):
+                seen.append(is_noticed(program, derived, cores, wrong))
+                break
+    return seen
+
+
+def swapped(program: Path, python: str, names: str) -> str:
+    """Changes each number of one Python's layout. Returns the lines that tell which changes are noticed."""
+    derived = derived_for(build_of(python))
+    lists: Dict[str, List[str]] = {it: [] for it in ("noticed", "in one direction", "not noticed", "never sound")}
+    with tempfile.TemporaryDirectory(prefix="real-core-") as name:
+        room = Path(name)
+        wrong = room / "wrong.toml"
+        wrong.write_text(derived.text, encoding="utf-8")
+        # (a usual core has the same records, and images in place of a part of them)
+        whole = [case for case in CASES if not case.is_usual]
+        cores = [leave_core(derived, names, room / str(at), case) for at, case in enumerate(whole)]
+        if is_noticed(program, derived, cores, wrong):
+            raise Failure("the right layout fails: try it without --swaps")
+        for key, sides in swaps(derived.text, derived.build.minor):
+            seen = directions(program, derived, cores, sides, wrong)
+            kind = "never sound" if not seen else "noticed" if all(seen) else "not noticed"
+            lists["in one direction" if any(seen) and not all(seen) else kind].append(key)
+    lines = [f"  {it}: {', '.join(keys) or 'none'}" for it, keys in lists.items()]
+    return "\n".join([f"{derived.build.dotted}:", *lines])
 
 
 def row(version: str, size: str, seconds: str, memory: str, what: str) -> str:
@@ -414,15 +475,20 @@ def try_all(words: argparse.Namespace) -> int:
     names = core_names()
     found = words.python or pythons()
     if not found:
-        raise Skip("there is no python3 here")
+        raise Skip("there is no Python here")
     program = Path(words.program).resolve() if words.program else built_program()
     if not program.is_file():
         raise Failure(f"there is no program {program}")
+    try:
+        told_of(sys.executable)
+    except DeriveError as error:
+        raise Failure(f"the Python that runs this tells nothing: {error.brief}") from error
     failed = 0
-    print(row("Python", "core, MiB", "walk, s", "walk, MiB", "result"), flush=True)
+    if not words.swaps:
+        print(row("Python", "core, MiB", "walk, s", "walk, MiB", "result"), flush=True)
     for python in found:
         try:
-            print(tried(program, python, names), flush=True)
+            print((swapped if words.swaps else tried)(program, python, names), flush=True)
         except (Skip, DeriveError) as reason:
             print(f"skipped: {python}: {getattr(reason, 'brief', reason)}", flush=True)
         except Failure as reason:
@@ -436,6 +502,7 @@ def main() -> int:
     parser = argparse.ArgumentParser(description=__doc__.splitlines()[0])
     parser.add_argument("python", nargs="*", help="the interpreters (default: all that are found)")
     parser.add_argument("--program", help="the built program (default: rt builds it)")
+    parser.add_argument("--swaps", action="store_true", help="tell which wrong numbers of a layout are noticed")
     words = parser.parse_args()
     try:
         failed = try_all(words)

@@ -1,26 +1,46 @@
-"""The program whose core is walked: for Python 3.7 to 3.13, started by real_core.py.
+# -*- coding: utf-8 -*-
+"""The program whose core is walked: for Python 2.7 and 3.6 to 3.13, started by child_cores.py.
 
 Three threads stand still: the main one, one below a recursion of 50, and one in a generator. Their code has file
 names of one-byte, two-byte and four-byte characters, and goes through C (`map`, `max`, `next`) on its way. The main
 thread stands in an import, whose code is a part of the interpreter. It prints one line of JSON that tells all stacks,
 and aborts from the very function that has read them.
 
-Its core holds private mappings of files too, as no byte comes from an image yet.
-
 The first argument is where the interpreter's record has the pointer to that of its lock, or -1 where it has none. The
-second is `main`, or `other` where it is a fourth thread that imports and aborts, while the main one stands still, or
-`many` where 13 more stand still: ten in a lock alone, one in the body of a class, one in a loop over a generator, and
-one in a coroutine.
+second says who aborts:
+
+- `main`: the main thread.
+- `other`: a fourth thread, which imports, while the main one waits in a lock.
+- `many`: the same, and 14 more stand still: ten in a lock alone, one in the body of a class, one in a loop over a
+  generator, one in a coroutine, and one in a function of many locals. Some have a file name whose characters stand
+  apart from their object.
+- `free`: the main thread, which has let the interpreter's lock go.
+
+The third is what the core is to hold, as the system's coredump_filter has it.
 """
 
-import _thread
 import ctypes
 import dis
 import json
 import os
 import sys
 import threading
-from importlib.machinery import ModuleSpec
+from collections import OrderedDict
+
+try:
+    from importlib.machinery import ModuleSpec
+except ImportError:
+    # (Python 2 has none, and asks for none)
+    ModuleSpec = None
+
+IS_OLD = sys.version_info < (3, 0)
+"""Whether texts are bytes, and names are ASCII."""
+
+
+def plain(text):
+    """A source text, in ASCII where names have to be."""
+    return text.replace("ü", "ue").replace("ö", "oe") if IS_OLD else text
+
 
 ONE_BYTE = """
 def descend(depth, bottom):
@@ -31,7 +51,7 @@ def descend(depth, bottom):
     return descend(depth - 1, bottom)
 """
 
-TWO_BYTES = """
+TWO_BYTES = plain("""
 class Wait:
     def __init__(self, ready, gate):
         self.ready, self.gate = ready, gate
@@ -39,7 +59,9 @@ class Wait:
     def wait_für_immer(self):
         self.ready.release()
         self.gate.acquire()
-"""
+""")
+
+WAIT = plain("wait_für_immer")
 
 FOUR_BYTES = """
 def generate(bottom):
@@ -49,14 +71,13 @@ def drain(bottom):
     return max([generate(bottom)], key=next)
 """
 
-
-CLASS_BODY = """
+CLASS_BODY = plain("""
 def build(bottom):
     class Körper:
         value = 1
         other = bottom()
     return Körper
-"""
+""")
 
 LOOP = """
 def numbers(bottom):
@@ -80,13 +101,30 @@ async def outer(bottom):
     return await inner(bottom)
 
 def run(bottom):
-    return asyncio.run(outer(bottom))
+    return asyncio.new_event_loop().run_until_complete(outer(bottom))
 """
+
+
+HOLD = """
+def hold(bottom, number=-12345678901, text="größe 'x'\\n"):
+    yes, no, nothing = True, False, None
+    ratio = 1.5
+    pair = (1, "a")
+    row = [1, [2, 3]]
+    table = {"k": 1, 2: None}
+    big = -2 ** 64
+    long = "ü" * 200
+    return bottom()
+"""
+
+
+class Apart(str):
+    """A text whose characters stand apart from its object, as those of each class derived from `str` do."""
 
 
 def module(source, name):
     """The names of a module whose code has this file name."""
-    names = {"__name__": name}
+    names = {"__name__": str(name)}
     exec(compile(source, name, "exec"), names)
     return names
 
@@ -101,7 +139,7 @@ def address_of(name):
 
 def interpreter():
     """The address of the interpreter's record."""
-    names = ("PyInterpreterState_Get", "_PyInterpreterState_Get", "PyInterpreterState_Main")
+    names = ("PyInterpreterState_Get", "_PyInterpreterState_Get", "PyInterpreterState_Main", "PyInterpreterState_Head")
     get = next(getattr(ctypes.pythonapi, name) for name in names if hasattr(ctypes.pythonapi, name))
     get.restype, get.argtypes = ctypes.c_void_p, ()
     return get()
@@ -116,10 +154,10 @@ def frames_from(frame):
     return found
 
 
-def keep_mappings():
-    """Has the core hold all private mappings."""
+def keep(what):
+    """Has the core hold what this filter says."""
     with open("/proc/self/coredump_filter", "w") as file:
-        file.write("0x3f")
+        file.write(what)
 
 
 def arguments():
@@ -133,25 +171,9 @@ def names_of_threads():
     return {it.ident: it.name for it in threading.enumerate()}
 
 
-def still():
-    """A lock, and what releases it and then stands still."""
-    ready, gate = _thread.allocate_lock(), _thread.allocate_lock()
-    ready.acquire()
-    gate.acquire()
-    return ready, module(TWO_BYTES, "日本.py")["Wait"](ready, gate)
-
-
-def start(target, natives):
-    """Starts a thread below `target`, and waits until it stands still."""
-    ready, wait = still()
-
-    def run():
-        natives[threading.get_ident()] = native_id()
-        target(wait.wait_für_immer)
-
-    threading.Thread(target=run, daemon=True).start()
-    # (no Python runs in that thread between the release of `ready` and the wait for `gate`)
-    ready.acquire()
+def own_id():
+    """This thread's id."""
+    return threading.current_thread().ident
 
 
 def native_id():
@@ -159,26 +181,71 @@ def native_id():
     return threading.get_native_id() if hasattr(threading, "get_native_id") else None
 
 
-def report(natives, names, gil):
+def started(run):
+    """Starts a thread that ends with the program."""
+    thread = threading.Thread(target=run)
+    thread.daemon = True
+    thread.start()
+
+
+def still():
+    """A lock, and what releases it and then stands still."""
+    ready, gate = threading.Lock(), threading.Lock()
+    ready.acquire()
+    gate.acquire()
+    return ready, getattr(module(TWO_BYTES, "日本.py")["Wait"](ready, gate), WAIT)
+
+
+def start(target, natives):
+    """Starts a thread below `target`, and waits until it stands still."""
+    ready, wait = still()
+
+    def run():
+        natives[own_id()] = native_id()
+        target(wait)
+
+    started(run)
+    # (no Python runs in that thread between the release of `ready` and the wait for `gate`)
+    ready.acquire()
+    return id(wait)
+
+
+def stacks(natives):
+    """The threads' ids and frames, from the first of the chain on, which began last."""
+    frames = sys._current_frames()
+    # (before 3.6 a dict has an order of its own)
+    order = list(frames) if sys.version_info >= (3, 6) else list(natives)[::-1]
+    return [(ident, frames_from(frames[ident])) for ident in order]
+
+
+HELD = []
+"""The addresses of what was handed to `hold`."""
+
+
+def report(natives, names, gil, leave, is_free):
     """Prints what the core has to show, and leaves it: nothing is called between the two that has frames."""
     address = interpreter()
+    own = own_id()
     told = {
         "interpreter": address,
         "runtime": address_of("_PyRuntime"),
+        "current": address_of("_PyThreadState_Current"),
         "gil": ctypes.c_uint64.from_address(address + gil).value if gil >= 0 else None,
-        "aborts": threading.get_ident(),
+        "holder": None if is_free else own,
+        "held": HELD[0] if HELD else None,
         "version": sys.version.split()[0],
         "process": [os.getpid(), arguments()],
         "threads": [],
     }
-    for ident, frame in sys._current_frames().items():
-        frames = frames_from(frame)
+    for ident, frames in stacks(natives):
+        if ident == own:
+            # (it is told of the function that asks, and aborts on another line of this one)
+            del frames[0]
+            frames[0][2] = abort_line()
         told["threads"].append({"id": ident, "native": natives[ident], "name": names[ident], "frames": frames})
-    # (the line that is told of the newest frame is that of the call above; it aborts on another)
-    told["threads"][[it["id"] for it in told["threads"]].index(told["aborts"])]["frames"][0][2] = abort_line()
     sys.stdout.write(json.dumps(told) + "\n")
     sys.stdout.flush()
-    os.abort()
+    leave()
 
 
 def abort_line():
@@ -204,20 +271,31 @@ class Importer:
         """Calls the function."""
         self.call()
 
+    def find_module(self, name, path=None):
+        """Finds it in Python 2."""
+        return self if name == "last" else None
+
+    def load_module(self, name):
+        """Calls the function in Python 2."""
+        self.call()
+
 
 def start_many(natives):
-    """Starts 13 more threads."""
+    """Starts 14 more threads, or 13 where there are no coroutines."""
+    HELD.append(start(module(HOLD, "hält.py")["hold"], natives))
     for source, name in ((CLASS_BODY, "build"), (LOOP, "total"), (COROUTINE, "run")):
-        start(module(source, "/ein Ordner/größer als \"das\".py")[name], natives)
+        if source is not COROUTINE or not IS_OLD:
+            start(module(source, Apart("/ein Ordner/größer als \"das\".py"))[name], natives)
     for _ in range(10):
         start(lambda bottom: bottom(), natives)
 
 
-def die(natives):
-    """Aborts in an import."""
-    natives[threading.get_ident()] = native_id()
+def die(natives, is_free=False):
+    """Aborts in an import. A call by `CDLL` lets the interpreter's lock go first."""
+    natives[own_id()] = native_id()
     names = names_of_threads()
-    sys.meta_path.insert(0, Importer(lambda: report(natives, names, int(sys.argv[1]))))
+    leave = ctypes.CDLL(None).abort if is_free else os.abort
+    sys.meta_path.insert(0, Importer(lambda: report(natives, names, int(sys.argv[1]), leave, is_free)))
     __import__("last")
 
 
@@ -227,23 +305,29 @@ def die_elsewhere(natives):
 
     def run():
         ready.acquire()
-        die(natives)
+        try:
+            die(natives)
+        finally:
+            os._exit(1)
 
-    threading.Thread(target=run, daemon=True).start()
-    wait.wait_für_immer()
+    started(run)
+    wait()
 
 
 def main():
     """The whole program."""
-    keep_mappings()
-    natives = {threading.get_ident(): native_id()}
+    who = sys.argv[2]
+    keep(sys.argv[3])
+    natives = OrderedDict([(own_id(), native_id())])
     descend = module(ONE_BYTE, "récursion.py")["descend"]
     drain = module(FOUR_BYTES, "𝄞.py")["drain"]
     start(lambda bottom: descend(50, bottom), natives)
     start(drain, natives)
-    if sys.argv[2] == "many":
+    if who == "many":
         start_many(natives)
-    (die_elsewhere if sys.argv[2] == "other" else die)(natives)
+    if who in ("other", "many"):
+        die_elsewhere(natives)
+    die(natives, who == "free")
 
 
 main()

@@ -18,6 +18,7 @@ from typing import Dict, List, Optional, Sequence, Tuple
 from core_maps import is_library
 from dump_core import LAYOUTS, PROGRAM, ROOT
 from join_layouts import joined, single_files
+from layout_plan import VERSIONS
 
 TOOL = Path(__file__).resolve().with_name("dump_core.py")
 
@@ -137,15 +138,37 @@ class Words(Case):
         super().setUp()
         self.python = self.put("bin/python3.9", b"p")
         self.library = self.put("lib/libpython3.9.so.1.0", b"l")
-        self.other = self.put("lib/libc.so.6", b"c")
+        self.other = self.put("lib/libc.so.6", elf(3, []))
+
+    def words(self, *paths):
+        """The words for these images."""
+        return [it + b"=" + it for it in paths]
 
     def test_found(self):
-        maps = [Mapped(0x1000, self.other, 4), Mapped(0x2000, None), Mapped(0x3000, self.python)]
+        maps = [Mapped(0x1000, self.other, 6), Mapped(0x2000, None), Mapped(0x3000, self.python)]
         images, said = self.handed(core_of(maps))
-        self.assertEqual((images, said), ([self.python + b"=" + self.python], ""))
-        maps += [Mapped(0x4000, self.other), Mapped(0x5000, self.library, 4), Mapped(0x6000, self.library)]
+        self.assertEqual((images, said), (self.words(self.python), ""))
+        maps += [Mapped(0x5000, self.library, 4), Mapped(0x6000, self.library), Mapped(0x7000, self.other)]
         images, said = self.handed(core_of(maps))
-        self.assertEqual((images, said), ([it + b"=" + it for it in (self.library, self.python)], ""))
+        self.assertEqual((images, said), (self.words(self.python, self.library, self.other), ""))
+
+    def test_all(self):
+        data = self.put("data", b"not of a program")
+        more = [self.put(f"lib/lib{number}.so", elf(3, [])) for number in range(30)]
+        maps = [Mapped(0x1000, self.python)]
+        maps += [Mapped(0x1000 * number, it, 4) for number, it in enumerate([data, *more, *more], 2)]
+        maps += [Mapped(0x100000, self.library), Mapped(0x101000, self.python), Mapped(0x102000, self.other, 7)]
+        maps += [Mapped(0x103000, b"/gone.so", 4), Mapped(0x104000, b"/dev/zero", 4)]
+        images, said = self.handed(core_of(maps))
+        self.assertEqual((images, said), (self.words(self.python, *more, self.library), ""))
+
+    def test_many(self):
+        # (a core may name any number of files that are there)
+        path = os.path.dirname(self.other)
+        names = [path + b"/." * number + b"/libc.so.6" for number in range(1100)]
+        maps = [Mapped(0x1000 * number, it, 4) for number, it in enumerate(names, 1)]
+        images, said = self.handed(core_of([*maps, Mapped(0x10000000, self.python)]))
+        self.assertEqual((len(images), images[-1:], said), (1001, self.words(self.python), ""))
 
     def test_missing(self):
         gone = os.fsencode(self.folder) + b"/gone/libpython3.9.so"
@@ -153,6 +176,9 @@ class Words(Case):
         self.assertEqual(images, [self.python + b"=" + self.python])
         name = os.fsdecode(gone)
         self.assertEqual(said, f"dump_core: no image of {name} (needed; there is no file {name})\n")
+        images, said = self.handed(core_of([Mapped(0x1000, gone[:-3]), Mapped(0x2000, gone)]))
+        self.assertEqual((images, said.count("\n")), ([], 1))
+        self.assertIn(f"no image of {name} (needed; there is no file {name}), {name[:-3]} (not needed; ", said)
         images, said = self.handed(core_of([Mapped(0x1000, gone[:-3]), Mapped(0x2000, self.library)]))
         self.assertEqual(images, [self.library + b"=" + self.library])
         self.assertIn("(not needed; there is no file", said)
@@ -175,7 +201,7 @@ class Words(Case):
     def test_deleted(self):
         name = self.library + b" (deleted)"
         images, said = self.handed(core_of([Mapped(0x1000, self.python), Mapped(0x2000, name)]))
-        self.assertEqual(images, [name + b"=" + self.library, self.python + b"=" + self.python])
+        self.assertEqual(images, [self.python + b"=" + self.python, name + b"=" + self.library])
         self.assertEqual(said, "")
 
     def test_root(self):
@@ -214,19 +240,24 @@ class Words(Case):
         word = self.library + b"=" + self.library
         for data, images in ((b"", [word]), (built(1), [word]), (built(1)[:130], [word]), (built(2), [])):
             maps = [Mapped(0x1000, self.library, 4, data), Mapped(0x2000, self.library, pages=1, data=built(3))]
-            maps.append(Mapped(0x3000, self.other, 4, built(4)))
+            maps.append(Mapped(0x3000, self.other, 6, built(4)))
             found, said = self.handed(core_of(maps))
             self.assertEqual(found, images)
             self.assertEqual("is of another build" in said, not images)
         self.put("lib/libpython3.9.so.1.0", b"l")
         self.assertEqual(self.handed(core_of([Mapped(0x1000, self.library, 5, built(2))])), ([word], ""))
+        self.put("lib/libc.so.6", built(4))
+        for data, count in ((built(4), 2), (built(5), 1)):
+            maps = [Mapped(0x1000, self.library), Mapped(0x2000, self.other, 4, data)]
+            images, said = self.handed(core_of(maps))
+            self.assertEqual((len(images), said), (count, ""))
 
     def test_tables(self):
         maps = [Mapped(0x1000), Mapped(0x2000)]
         first = file_table([(0x1000, 0, self.other), (0x2000, 0, self.library), (0x1000, 0, self.library)])
         notes = [note(b"CORE\0", 1, b"abc"), first, file_table([(0x1000, 0, self.python)])]
         images, _ = self.handed(core_of(maps, notes))
-        self.assertEqual(images, [it + b"=" + it for it in (self.library, self.python)])
+        self.assertEqual(images, self.words(self.python, self.library))
 
     def test_libraries(self):
         deleted = b"/a/libpython3.11.so.1.0 (deleted)"
@@ -282,6 +313,14 @@ class Faults(Case):
         _, out, _ = self.tool(core, "--layouts", "my.toml")
         self.assertEqual(out.split(b"\0")[3:], [b"--layouts", b"my.toml"])
 
+    def test_options(self):
+        core = self.put("core", core_of([]))
+        expected = [b"--layouts", os.fsencode(LAYOUTS)]
+        for words, added in ((["-l"], ["-l"]), (["-ll", "-j"], ["-l", "-l", "-j"]), (["-j", "--locals"], ["-l", "-j"])):
+            status, out, said = self.tool(core, *words)
+            self.assertEqual((status, said), (0, ""))
+            self.assertEqual(out.split(b"\0")[3:], expected + [os.fsencode(it) for it in added])
+
     def test_machine(self):
         whole = core_of([])
         core = self.put("core", whole[:18] + b"\xb7" + whole[19:])
@@ -299,7 +338,7 @@ class Layouts(unittest.TestCase):
         text = LAYOUTS.read_text(encoding="utf-8")
         self.assertEqual(text, joined(files, "x86_64"), "tools/join_layouts.py -o layouts/cpython-x86_64.toml")
         self.assertNotIn(LAYOUTS, files)
-        self.assertEqual([path.name for path in files], [f"cpython-3.{minor}-x86_64.toml" for minor in range(7, 14)])
+        self.assertEqual([path.name for path in files], [f"cpython-{a}.{b}-x86_64.toml" for a, b in VERSIONS])
 
     def test_tables(self):
         try:

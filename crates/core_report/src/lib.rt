@@ -23,6 +23,8 @@ mod dump_tests;
 #[cfg(test)]
 mod family_tests;
 #[cfg(test)]
+mod found_tests;
+#[cfg(test)]
 mod layout_tests;
 #[cfg(test)]
 mod member_tests;

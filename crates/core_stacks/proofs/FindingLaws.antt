@@ -2,6 +2,7 @@
 use Rattle.std.proofs.Common.{◌≡◌, ◌⊎◌, ℕ, List, refl, sym, ap, subst, ◌∙◌}
 use Rattle.std.specs.Prelude.{Bool, Option, Some, None, Result, Ok, Err, All, AllPairs}
 use Rattle.std.proofs.lemmas.Option.{same_Some, none-some}
+use Rattle.elf64_core.specs.declared.header.Machine.{Machine}
 use Rattle.image_memory.specs.Images.{Pushed, first_under}
 use Rattle.image_memory.specs.Maps.{in_maps}
 use Rattle.image_memory.specs.Mmap.{Mapped, shown_bytes}
@@ -15,7 +16,8 @@ use Rattle.py_layout.proofs.Choosing.{covers_same}
 use Rattle.py_process.specs.Binary.{IsInfo}
 use Rattle.py_process.specs.Candidates.{IsFirstOf, IsInterpreterIn, IsNoneOf, candidates_of}
 use Rattle.py_process.specs.Facts.{Facts, Known, facts_of}
-use Rattle.py_process.specs.Findings.{AfterImages, AfterLayout, AfterMaps, AfterVersion, Finding, FindingIs, IsChosen, IsMade, LayoutSays, SearchSays, VersionSays}
+use Rattle.py_process.specs.Findings.{AfterImages, AfterLayout, AfterMaps, AfterSearch, AfterVersion, Finding, FindingIs, IsChosen, IsMade, LayoutSays, LockSays, SearchSays, VersionSays}
+use Rattle.py_process.specs.Lock.{lock_address_of}
 use Rattle.py_process.specs.Programs.{ArePrograms, FactsAre, FactsOf, FirstMapIs, ImageSays, ImagesSay, IsBadImage, IsFirstMap, IsKnown, IsLibraryMap, IsProgram, MapsSay, Programs, needed_map, path_of}
 use Rattle.py_process.specs.Sources.{FirstTells, sources_of}
 use Rattle.py_process.specs.declared.core_error.CoreError.{CoreError}
@@ -142,6 +144,9 @@ version_cause m k (Err core.NoVersion) h kept = untold refl h
 version_cause m k (Err core.OutOfMemory) h kept = absurd (kept refl)
 version_cause m k (Err _) h kept = absurd h
 
+lost_held : (a n x : ℕ) → ◌≡◌ {A = Found ℕ} (Err (Missing a n)) (Ok x) → ⊥
+lost_held a n x e = cc
+
 lost_told : (a n : ℕ) (v : Option Version) → ◌≡◌ {A = Found (Option Version)} (Err (Missing a n)) (Ok v) → ⊥
 lost_told a n v e = cc
 
@@ -230,27 +235,58 @@ pub search_agree : (m : Memory) (contains : ℕ → Bool) (k : Known) (v : Versi
 search_agree m contains k v l a b one two na nb =
     search_one m contains k v l a b (search_cause m contains k v l a one na) (search_cause m contains k v l b two nb)
 
+-- ---- the lock
+
+data LockCause (found : Found ℕ) (r : Result ℕ CoreError) : Type 0 where
+  lost : (addr len : ℕ) → r ≡ Err (core.Unreadable addr len) → found ≡ Err (Missing addr len) → LockCause found r
+  held : (a : ℕ) → r ≡ Ok a → found ≡ Ok a → LockCause found r
+
+lock_cause : (m : Memory) (machine : Machine) (k : Known) (v : Version) (l : Layout) (a : ℕ) (r : Result ℕ CoreError)
+    → LockSays m machine k v l a r → IsKept r → LockCause (lock_address_of machine k v l m a) r
+lock_cause m machine k v l a (Ok lock) h kept = held lock refl h
+lock_cause m machine k v l a (Err (core.Unreadable addr len)) h kept = lost addr len refl h
+lock_cause m machine k v l a (Err core.OutOfMemory) h kept = absurd (kept refl)
+lock_cause m machine k v l a (Err _) h kept = absurd h
+
+lock_one : (found : Found ℕ) (a b : Result ℕ CoreError) → LockCause found a → LockCause found b → a ≡ b
+lock_one found a b (lost x n is h) (lost y j is' g) = is ∙ word_same x n y j (sym h ∙ g) ∙ sym is'
+  where
+    word_same : (x n y j : ℕ) → ◌≡◌ {A = Found ℕ} (Err (Missing x n)) (Err (Missing y j))
+        → ◌≡◌ {A = Result ℕ CoreError} (Err (core.Unreadable x n)) (Err (core.Unreadable y j))
+    word_same x n y j e = cc
+lock_one found a b (lost x n is h) (held y is' g) = absurd (lost_held x n y (sym h ∙ g))
+lock_one found a b (held x is h) (lost y j is' g) = absurd (lost_held y j x (sym g ∙ h))
+lock_one found a b (held x is h) (held y is' g) = is ∙ ap (λ z. Ok z) (held_same x y (sym h ∙ g)) ∙ sym is'
+  where
+    held_same : (x y : ℕ) → ◌≡◌ {A = Found ℕ} (Ok x) (Ok y) → x ≡ y
+    held_same x y e = cc
+
+pub lock_agree : (m : Memory) (machine : Machine) (k : Known) (v : Version) (l : Layout) (a : ℕ) → Agree (LockSays m machine k v l a)
+lock_agree m machine k v l a one other x y nx ny =
+    lock_one (lock_address_of machine k v l m a) one other (lock_cause m machine k v l a one x nx) (lock_cause m machine k v l a other y ny)
+
 -- ---- all of it
 
-pub made_agree : (v : Version) (l : Layout) (x : ℕ) → Agree (IsMade v l x)
-made_agree v l x a b one two na nb = one ∙ sym two
+pub made_agree : (v : Version) (l : Layout) (x lock : ℕ) → Agree (IsMade v l x lock)
+made_agree v l x lock a b one two na nb = one ∙ sym two
 
-after_layout : (m : Memory) (contains : ℕ → Bool) (k : Known) (v : Version) (l : Layout) → Agree (AfterLayout m contains k v l)
-after_layout m contains k v l =
-    then_agree (SearchSays m contains k v l) (IsMade v l) (search_agree m contains k v l) (λ x h. made_agree v l x)
+after_layout : (m : Memory) (machine : Machine) (contains : ℕ → Bool) (k : Known) (v : Version) (l : Layout) → Agree (AfterLayout m machine contains k v l)
+after_layout m machine contains k v l =
+    then_agree (SearchSays m contains k v l) (AfterSearch m machine k v l) (search_agree m contains k v l)
+    (λ a h. then_agree (LockSays m machine k v l a) (IsMade v l a) (lock_agree m machine k v l a) (λ lock g. made_agree v l a lock))
 
-after_version : (m : Memory) (contains : ℕ → Bool) (layouts : List Layout) (k : Known) (v : Version) → NoneClash layouts → Agree (AfterVersion m contains layouts k v)
-after_version m contains layouts k v apart =
-    then_agree (LayoutSays layouts v) (AfterLayout m contains k v) (layout_agree layouts v (λ a b x y. chosen_same layouts v a b apart x y)) (λ l h. after_layout m contains k v l)
+after_version : (m : Memory) (machine : Machine) (contains : ℕ → Bool) (layouts : List Layout) (k : Known) (v : Version) → NoneClash layouts → Agree (AfterVersion m machine contains layouts k v)
+after_version m machine contains layouts k v apart =
+    then_agree (LayoutSays layouts v) (AfterLayout m machine contains k v) (layout_agree layouts v (λ a b x y. chosen_same layouts v a b apart x y)) (λ l h. after_layout m machine contains k v l)
 
-after_images : (m : Memory) (contains : ℕ → Bool) (layouts : List Layout) (k : Known) → NoneClash layouts → Agree (AfterImages m contains layouts k)
-after_images m contains layouts k apart =
-    then_agree (VersionSays m k) (AfterVersion m contains layouts k) (version_agree m k) (λ v h. after_version m contains layouts k v apart)
+after_images : (m : Memory) (machine : Machine) (contains : ℕ → Bool) (layouts : List Layout) (k : Known) → NoneClash layouts → Agree (AfterImages m machine contains layouts k)
+after_images m machine contains layouts k apart =
+    then_agree (VersionSays m k) (AfterVersion m machine contains layouts k) (version_agree m k) (λ v h. after_version m machine contains layouts k v apart)
 
-after_maps : (m : Memory) (maps : List CoreMapRange) (images : Pushed) (layouts : List Layout) (p : Programs) → NoneClash layouts → Agree (AfterMaps m maps images layouts p)
-after_maps m maps images layouts p apart =
-    then_agree (ImagesSay images p) (AfterImages m (in_maps maps) layouts) (images_agree images p) (λ k h. after_images m (in_maps maps) layouts k apart)
+after_maps : (m : Memory) (machine : Machine) (maps : List CoreMapRange) (images : Pushed) (layouts : List Layout) (p : Programs) → NoneClash layouts → Agree (AfterMaps m machine maps images layouts p)
+after_maps m machine maps images layouts p apart =
+    then_agree (ImagesSay images p) (AfterImages m machine (in_maps maps) layouts) (images_agree images p) (λ k h. after_images m machine (in_maps maps) layouts k apart)
 
-pub finding_agree : (m : Memory) (maps : List CoreMapRange) (images : Pushed) (layouts : List Layout) → NoneClash layouts → Agree (FindingIs m maps images layouts)
-finding_agree m maps images layouts apart =
-    then_agree (MapsSay maps) (AfterMaps m maps images layouts) (maps_agree maps) (λ p h. after_maps m maps images layouts p apart)
+pub finding_agree : (m : Memory) (machine : Machine) (maps : List CoreMapRange) (images : Pushed) (layouts : List Layout) → NoneClash layouts → Agree (FindingIs m machine maps images layouts)
+finding_agree m machine maps images layouts apart =
+    then_agree (MapsSay maps) (AfterMaps m machine maps images layouts) (maps_agree maps) (λ p h. after_maps m machine maps images layouts p apart)

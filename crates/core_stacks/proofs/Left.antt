@@ -1,17 +1,20 @@
 -- What is left of the errors of stacks where the process was found, and stacks over an equal memory.
-use Rattle.std.proofs.Common.{◌≡◌, ℕ, List, sym, subst}
-use Rattle.std.specs.Prelude.{Result, Ok, Err, IfErr, Vec, Option, Some, None}
+use Rattle.std.proofs.Common.{◌≡◌, ℕ, List, sym, subst, inl, inr}
+use Rattle.std.specs.Prelude.{Result, Ok, Err, IfErr, Vec}
 use Rattle.std.specs.Global.{Global}
 use mathlib.Core.Path.{fun_ext}
-use Rattle.process_memory.specs.Memory.{Fault}
+use Rattle.process_memory.specs.Memory.{Fault, Memory}
 use Rattle.py_stacks.specs.Threads.{Trace}
 use Rattle.py_stacks.specs.declared.config.Config.{Config}
 use Rattle.py_stacks.specs.declared.trace.StackTrace.{StackTrace}
-use Rattle.py_process.specs.Reports.{StacksSay, fault_on, traces_in}
+use Rattle.py_process.specs.Findings.{Finding}
+use Rattle.py_process.specs.Reports.{MeetsFault, StacksSay, traces_in}
+use Rattle.py_process.specs.Variables.{IsRestFault}
 use Rattle.py_process.specs.declared.core_error.CoreError.{CoreError}
 use Rattle.py_process.specs.declared.core_error.CoreError.TheVariants as core
 use Rattle.core_stacks.specs.Opened.{IsFoundIn, IsLeft, Opened, memory_in}
-use Rattle.core_stacks.proofs.Unfaulted.{unfaulted}
+use Rattle.core_stacks.proofs.PlainFaults.{FailsPlainly, IsPlain, locals_plain, owner_plain}
+use Rattle.core_stacks.proofs.Unfaulted.{rest_fault}
 
 pub stacks_equal : (o other : Opened) (config : Config) (r : Result (List Trace) CoreError) → other.finding ≡ o.finding
     → ((a : ℕ) → memory_in other a ≡ memory_in o a) → StacksSay (memory_in o) o.finding config r → StacksSay (memory_in other) other.finding config r
@@ -19,26 +22,31 @@ stacks_equal o other config r same equal h =
     subst (λ f. StacksSay (memory_in other) f config r) (sym same)
     (subst (λ m. StacksSay m o.finding config r) (sym (fun_ext equal)) h)
 
-no_fault : (x : Fault) (first : Option Fault) → first ≡ Some x → first ≡ None → ⊥
-no_fault x first e none = cc
+-- a fault of the rest is no limit of threads or frames
+limit_none : (m : Memory) (f : Finding) (config : Config) (fault : Fault) → IsRestFault m f config fault → IsPlain fault
+limit_none m f config fault (inl e) = subst (λ x. FailsPlainly x) e (owner_plain f.layout m f.addresses.lock)
+limit_none m f config fault (inr (asked, h)) = locals_plain f.layout m h.member fault h.first
 
-unfaulted_in : (o : Opened) (config : Config) → IsFoundIn o → config.dump_locals ≡ 0 → fault_on (memory_in o) o.finding config ≡ None
-unfaulted_in o config found none = unfaulted (memory_in o) o.finding config none found.is.lock found.is.first.is.is
+module _ (o : Opened) (config : Config) (found : IsFoundIn o) where
+  rest : (fault : Fault) → MeetsFault (memory_in o) o.finding config fault → IsRestFault (memory_in o) o.finding config fault
+  rest fault h = rest_fault (memory_in o) o.finding config fault found.is.first.is.is h.first
 
-module _ (o : Opened) (config : Config) (none : fault_on (memory_in o) o.finding config ≡ None) where
-  left : (e : CoreError) → StacksSay (memory_in o) o.finding config (Err e) → IsLeft e
+  no_limit : (fault : Fault) → MeetsFault (memory_in o) o.finding config fault → IsPlain fault
+  no_limit fault h = limit_none (memory_in o) o.finding config fault (rest fault h)
+
+  left : (e : CoreError) → StacksSay (memory_in o) o.finding config (Err e) → IsLeft o config e
   left core.NativeUnsupported h = tt
   left core.SubprocessesUnsupported h = tt
   left core.OutOfMemory h = tt
-  left (core.Unreadable addr len) h = absurd (no_fault _ _ h.first none)
-  left (core.BadValue frame) h = absurd (no_fault _ _ h.first none)
-  left (core.LocalsLimit count) h = absurd (no_fault _ _ h.first none)
-  left core.ThreadLimit h = absurd (no_fault _ _ h.first none)
-  left core.FrameLimit h = absurd (no_fault _ _ h.first none)
-  left core.ChainLimit h = absurd (no_fault _ _ h.first none)
+  left (core.Unreadable addr len) h = rest _ h
+  left (core.BadValue frame) h = rest _ h
+  left (core.LocalsLimit count) h = rest _ h
+  left core.ThreadLimit h = no_limit _ h
+  left core.FrameLimit h = no_limit _ h
+  left core.ChainLimit h = no_limit _ h
   left _ h = absurd h
 
-pub found_left : (o : Opened) (config : Config) (r : Result (Vec StackTrace Global) CoreError) → IsFoundIn o → config.dump_locals ≡ 0
-    → StacksSay (memory_in o) o.finding config (traces_in r) → IfErr r IsLeft
-found_left o config (Ok v) found none h = tt
-found_left o config (Err e) found none h = left o config (unfaulted_in o config found none) e h
+pub found_left : (o : Opened) (config : Config) (r : Result (Vec StackTrace Global) CoreError) → IsFoundIn o
+    → StacksSay (memory_in o) o.finding config (traces_in r) → IfErr r (IsLeft o config)
+found_left o config (Ok v) found h = tt
+found_left o config (Err e) found h = left o config found e h

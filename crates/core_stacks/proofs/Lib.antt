@@ -1,4 +1,5 @@
 pub mod Agreement
+pub mod Dumped
 pub mod FindingLaws
 pub mod Finds
 pub mod FirstMaps
@@ -7,8 +8,10 @@ pub mod Images
 pub mod Left
 pub mod Means
 pub mod OpenedLaws
+pub mod PlainFaults
 pub mod ReportLaws
 pub mod Sole
 pub mod StackCauses
 pub mod Steps
 pub mod Unfaulted
+pub mod WalkFaults

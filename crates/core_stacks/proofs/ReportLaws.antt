@@ -1,75 +1,80 @@
 -- The report of a core is one, it is right, and it is owed where the input can be read.
-use Rattle.std.proofs.Common.{◌≡◌, ◌⊎◌, ℕ, List, refl, sym, ap, subst, ◌∙◌, inl, inr}
+use Rattle.std.proofs.Common.{◌≡◌, ◌⊎◌, ℕ, List, refl, sym, ap, subst, ◌∙◌, inl, inr, ⊎_elim}
 use Rattle.std.specs.Prelude.{ℤ, Option, Some, None, Result, Ok, Err, IfOk, option_map}
+use Rattle.elf64_core.specs.Header.{machine_of}
+use Rattle.elf64_core.specs.declared.header.Machine.{Machine}
 use Rattle.image_memory.specs.Cores.{IsCore, Refuses}
 use Rattle.image_memory.specs.Images.{Pushed}
-use Rattle.image_memory.specs.Maps.{AreMaps, in_maps}
+use Rattle.image_memory.specs.Maps.{in_maps}
 use Rattle.image_memory.specs.declared.dump_error.DumpError.{DumpError}
 use Rattle.image_memory.specs.declared.dump_error.DumpError.TheVariants as dump
 use Rattle.image_memory.specs.declared.maps.CoreMapRange.{CoreMapRange}
-use Rattle.image_memory.proofs.Noted.{AreMaps-once, AreStatuses-once, IsProcess-once}
+use Rattle.image_memory.proofs.Noted.{AreStatuses-once, IsProcess-once}
 use Rattle.image_memory.proofs.Refusals.{no_core, one_refusal}
 use Rattle.process_memory.specs.Memory.{Memory, byte_at}
 use Rattle.py_fields.specs.declared.layout.Layout.{Layout}
-use Rattle.py_stacks.specs.Asking.{asked_of}
-use Rattle.py_stacks.specs.NamedStacks.{AreNamedStacks}
+use Rattle.py_stacks.specs.StacksOver.{AreStacksOver}
 use Rattle.py_stacks.specs.Threads.{Trace}
 use Rattle.py_stacks.specs.declared.config.Config.{Config}
 use Rattle.py_process.specs.Causes.{cause_of_dump}
-use Rattle.py_process.specs.Findings.{AfterImages, AfterLayout, AfterMaps, AfterVersion, Finding, FindingIs, IsChosen, IsFound, IsMade, LayoutSays, SearchSays, VersionSays, finding}
+use Rattle.py_process.specs.Findings.{AfterImages, AfterLayout, AfterMaps, AfterSearch, AfterVersion, Finding, FindingIs, IsChosen, IsFound, IsMade, LayoutSays, LockSays, SearchSays, VersionSays, finding}
+use Rattle.py_process.specs.Lock.{lock_address_of}
 use Rattle.py_process.specs.Programs.{ImagesSay, MapsSay}
 use Rattle.py_process.specs.Candidates.{IsFirstOf, candidates_of}
 use Rattle.py_process.specs.Sources.{FirstTells, sources_of}
 use Rattle.py_process.specs.Steps.{Then}
-use Rattle.py_process.specs.Reports.{AfterCore, AfterFinding, AsksNoOther, CoreSays, IsReadable, IsRight, IsTold, NotesTell, ReportIs, Reported, StacksSay, Tells, first_signal, memory_with, process_told, reported, reported_of}
+use Rattle.py_process.specs.Reports.{AfterCore, AfterFinding, AsksNoOther, CoreSays, IsReadable, IsRight, IsTold, NotesTell, ReportIs, Reported, StacksSay, Tells, Dumped, IsDumped, fault_on, first_signal, process_told, reported, reported_of}
+use Rattle.py_process.specs.Reports as reports
 use Rattle.py_process.specs.declared.report.Report.{Report}
 use Rattle.py_process.specs.declared.core_error.CoreError.{CoreError}
 use Rattle.py_process.specs.declared.core_error.CoreError.TheVariants as core
-use Rattle.core_stacks.specs.Opened.{IsFoundIn, IsLeft, IsOpened, IsReportOf, Opened, Opens, memory_in}
+use Rattle.core_stacks.specs.Opened.{IsOpened, IsReportOf, IsUnopened, Opened, Opens, memory_in}
 use Rattle.core_stacks.specs.Seen.{FindsProcess}
 use Rattle.core_stacks.specs.Sole.{IsSole, Settles}
-use Rattle.core_stacks.proofs.Agreement.{Agree, IsKept, err_kept, ok_is, ok_not_err, settles_agree, settles_by_err, settles_by_ok, settles_err, settles_ok, then_agree, then_ok, then_value}
+use Rattle.core_stacks.proofs.Agreement.{Agree, IsKept, err_kept, kept_or, ok_is, ok_not_err, settles_agree, settles_by_err, settles_by_ok, settles_err, settles_ok, then_agree, then_ok, then_value}
+use Rattle.core_stacks.proofs.Dumped.{backed_once, dumped_once}
 use Rattle.core_stacks.proofs.FindingLaws.{NoneClash, finding_agree}
 use Rattle.core_stacks.proofs.OpenedLaws.{finding_sole, opened_is, unopened_is}
-use Rattle.core_stacks.proofs.StackCauses.{both, stacks_agree, stacks_only}
+use Rattle.core_stacks.proofs.StackCauses.{stacks_agree, stacks_only}
 use Rattle.core_stacks.proofs.Unfaulted.{unfaulted}
 
 -- ---- the core
 
-data CoreCause (bytes : List ℕ) (r : Result (List CoreMapRange) CoreError) : Type 0 where
-  refused : (e : DumpError) → r ≡ Err (cause_of_dump e) → Refuses bytes e → CoreCause bytes r
-  mapped : (maps : List CoreMapRange) → r ≡ Ok maps → IsCore bytes → AreMaps bytes maps → CoreCause bytes r
+module _ (bytes : List ℕ) (images : Pushed) where
+  data CoreCause (r : Result Dumped CoreError) : Type 0 where
+    refused : (e : DumpError) → r ≡ Err (cause_of_dump e) → Refuses bytes e → CoreCause r
+    dumped : (d : Dumped) → r ≡ Ok d → IsCore bytes → IsDumped bytes images d → CoreCause r
 
-core_cause : (bytes : List ℕ) (r : Result (List CoreMapRange) CoreError) → CoreSays bytes r → IsKept r → CoreCause bytes r
-core_cause bytes (Ok maps) h kept = mapped maps refl h.0 h.1
-core_cause bytes (Err core.NotElf64) h kept = refused dump.NotElf64 refl h
-core_cause bytes (Err core.BadHeader) h kept = refused dump.BadHeader refl h
-core_cause bytes (Err core.NoNotes) h kept = refused dump.NoNotes refl h
-core_cause bytes (Err core.BadNote) h kept = refused dump.BadNote refl h
-core_cause bytes (Err core.OutOfMemory) h kept = absurd (kept refl)
-core_cause bytes (Err _) h kept = absurd h
+  core_cause : (r : Result Dumped CoreError) → CoreSays bytes images r → IsKept r → CoreCause r
+  core_cause (Ok d) h kept = dumped d refl h.0 h.1
+  core_cause (Err core.NotElf64) h kept = refused dump.NotElf64 refl h
+  core_cause (Err core.BadHeader) h kept = refused dump.BadHeader refl h
+  core_cause (Err core.NoNotes) h kept = refused dump.NoNotes refl h
+  core_cause (Err core.BadNote) h kept = refused dump.BadNote refl h
+  core_cause (Err core.OutOfMemory) h kept = absurd (kept refl)
+  core_cause (Err _) h kept = absurd h
 
-not_memory : {T : Type 0} (e : DumpError) (r : Result T CoreError) → r ≡ Err (cause_of_dump e) → IsKept r → ¬ (e ≡ dump.OutOfMemory)
-not_memory e r is kept same = kept (is ∙ ap (λ d. Err (cause_of_dump d)) same)
+  not_memory : {T : Type 0} (e : DumpError) (r : Result T CoreError) → r ≡ Err (cause_of_dump e) → IsKept r → ¬ (e ≡ dump.OutOfMemory)
+  not_memory e r is kept same = kept (is ∙ ap (λ d. Err (cause_of_dump d)) same)
 
-core_one : (bytes : List ℕ) (a b : Result (List CoreMapRange) CoreError) → IsKept a → IsKept b → CoreCause bytes a → CoreCause bytes b → a ≡ b
-core_one bytes a b na nb (refused e is h) (refused f is' g) =
-    is ∙ ap (λ d. Err (cause_of_dump d)) (one_refusal bytes e f h g (not_memory e a is na) (not_memory f b is' nb)) ∙ sym is'
-core_one bytes a b na nb (refused e is h) (mapped maps is' c are) = absurd (no_core bytes e h (not_memory e a is na) c)
-core_one bytes a b na nb (mapped maps is c are) (refused e is' h) = absurd (no_core bytes e h (not_memory e b is' nb) c)
-core_one bytes a b na nb (mapped maps is c are) (mapped others is' c' are') =
-    is ∙ ap (λ x. Ok x) (AreMaps-once bytes maps others are are') ∙ sym is'
+  core_one : (a b : Result Dumped CoreError) → IsKept a → IsKept b → CoreCause a → CoreCause b → a ≡ b
+  core_one a b na nb (refused e is h) (refused f is' g) =
+      is ∙ ap (λ d. Err (cause_of_dump d)) (one_refusal bytes e f h g (not_memory e a is na) (not_memory f b is' nb)) ∙ sym is'
+  core_one a b na nb (refused e is h) (dumped d is' c are) = absurd (no_core bytes e h (not_memory e a is na) c)
+  core_one a b na nb (dumped d is c are) (refused e is' h) = absurd (no_core bytes e h (not_memory e b is' nb) c)
+  core_one a b na nb (dumped d is c are) (dumped other is' c' are') =
+      is ∙ ap (λ x. Ok x) (dumped_once bytes images d other are are') ∙ sym is'
 
-core_agree : (bytes : List ℕ) → Agree (CoreSays bytes)
-core_agree bytes a b one two na nb = core_one bytes a b na nb (core_cause bytes a one na) (core_cause bytes b two nb)
+  pub core_agree : Agree (CoreSays bytes images)
+  core_agree a b one two na nb = core_one a b na nb (core_cause a one na) (core_cause b two nb)
 
 -- a refusal of the core
-pub core_says : (bytes : List ℕ) (e : DumpError) → Refuses bytes e → CoreSays bytes (Err (cause_of_dump e))
-core_says bytes dump.NotElf64 h = h
-core_says bytes dump.BadHeader h = h
-core_says bytes dump.NoNotes h = h
-core_says bytes dump.BadNote h = h
-core_says bytes dump.OutOfMemory h = tt
+pub core_says : (bytes : List ℕ) (images : Pushed) (e : DumpError) → Refuses bytes e → CoreSays bytes images (Err (cause_of_dump e))
+core_says bytes images dump.NotElf64 h = h
+core_says bytes images dump.BadHeader h = h
+core_says bytes images dump.NoNotes h = h
+core_says bytes images dump.BadNote h = h
+core_says bytes images dump.OutOfMemory h = tt
 
 -- ---- what is told
 
@@ -93,28 +98,29 @@ told_agree bytes f traces a b (r, one, is) (q, two, is') na nb = is ∙ ap (λ x
 -- ---- one report
 
 module _ (bytes : List ℕ) (images : Pushed) (layouts : List Layout) (config : Config) (apart : NoneClash layouts) where
-  abbrev after_finding : (f : Finding) → Agree (AfterFinding bytes images config f)
-  after_finding f = then_agree (StacksSay (memory_with bytes images) f config) (IsTold bytes f)
-      (stacks_agree (memory_with bytes images) f config) (λ traces h. told_agree bytes f traces)
+  abbrev after_finding : (d : Dumped) (f : Finding) → Agree (AfterFinding bytes d config f)
+  after_finding d f = then_agree (StacksSay (reports.memory_in d) f config) (IsTold bytes f)
+      (stacks_agree (reports.memory_in d) f config) (λ traces h. told_agree bytes f traces)
 
-  after_core : (maps : List CoreMapRange) → Agree (AfterCore bytes images layouts config maps)
-  after_core maps = then_agree (FindingIs (memory_with bytes images) maps images layouts) (AfterFinding bytes images config)
-      (finding_agree (memory_with bytes images) maps images layouts apart) (λ f h. after_finding f)
+  after_core : (d : Dumped) → Agree (AfterCore bytes images layouts config d)
+  after_core d = then_agree (FindingIs (reports.memory_in d) (machine_of bytes) d.maps images layouts) (AfterFinding bytes d config)
+      (finding_agree (reports.memory_in d) (machine_of bytes) d.maps images layouts apart) (λ f h. after_finding d f)
 
   pub report_agree : Agree (ReportIs bytes images layouts config)
-  report_agree = then_agree (CoreSays bytes) (AfterCore bytes images layouts config) (core_agree bytes) (λ maps h. after_core maps)
+  report_agree = then_agree (CoreSays bytes images) (AfterCore bytes images layouts config) (core_agree bytes images) (λ d h. after_core d)
 
 -- ---- what was found, in one record
 
-found_by : (m : Memory) (maps : List CoreMapRange) (images : Pushed) (layouts : List Layout) (f : Finding)
-    → FindingIs m maps images layouts (Ok f) → IsFound m maps images layouts f
-found_by m maps images layouts f h =
-    let one = then_ok (MapsSay maps) (AfterMaps m maps images layouts) f h in
-    let two = then_ok (ImagesSay images one.0) (AfterImages m (in_maps maps) layouts) f one.2 in
-    let three = then_ok (VersionSays m two.0) (AfterVersion m (in_maps maps) layouts two.0) f two.2 in
-    let four = then_ok (LayoutSays layouts three.0) (AfterLayout m (in_maps maps) two.0 three.0) f three.2 in
-    let five = then_ok (SearchSays m (in_maps maps) two.0 three.0 four.0) (IsMade three.0 four.0) f four.2 in
-    subst (λ x. IsFound m maps images layouts x) (sym (ok_is f (finding three.0 four.0 five.0) five.2)) (record {
+found_by : (m : Memory) (machine : Machine) (maps : List CoreMapRange) (images : Pushed) (layouts : List Layout) (f : Finding)
+    → FindingIs m machine maps images layouts (Ok f) → IsFound m machine maps images layouts f
+found_by m machine maps images layouts f h =
+    let one = then_ok (MapsSay maps) (AfterMaps m machine maps images layouts) f h in
+    let two = then_ok (ImagesSay images one.0) (AfterImages m machine (in_maps maps) layouts) f one.2 in
+    let three = then_ok (VersionSays m two.0) (AfterVersion m machine (in_maps maps) layouts two.0) f two.2 in
+    let four = then_ok (LayoutSays layouts three.0) (AfterLayout m machine (in_maps maps) two.0 three.0) f three.2 in
+    let five = then_ok (SearchSays m (in_maps maps) two.0 three.0 four.0) (AfterSearch m machine two.0 three.0 four.0) f four.2 in
+    let six = then_ok (LockSays m machine two.0 three.0 four.0 five.0) (IsMade three.0 four.0 five.0) f five.2 in
+    subst (λ x. IsFound m machine maps images layouts x) (sym (ok_is f (finding three.0 four.0 five.0 six.0) six.2)) (record {
       programs = one.0;
       are_programs = one.1;
       known = two.0;
@@ -122,12 +128,12 @@ found_by m maps images layouts f h =
       told = three.1;
       chosen = four.1;
       first = five.1;
-      lock = refl;
+      lock = six.1;
     })
 
-finds : (m : Memory) (maps : List CoreMapRange) (images : Pushed) (layouts : List Layout) (f : Finding)
-    → IsFound m maps images layouts f → FindingIs m maps images layouts (Ok f)
-finds m maps images layouts f found =
+finds : (m : Memory) (machine : Machine) (maps : List CoreMapRange) (images : Pushed) (layouts : List Layout) (f : Finding)
+    → IsFound m machine maps images layouts f → FindingIs m machine maps images layouts (Ok f)
+finds m machine maps images layouts f found =
     inr (
       found.programs,
       found.are_programs,
@@ -140,30 +146,27 @@ finds m maps images layouts f found =
           inr (
             f.layout,
             found.chosen,
-            inr (f.addresses.interpreter, found.first, made),
+            inr (f.addresses.interpreter, found.first, inr (f.addresses.lock, found.lock, refl)),
           ),
         ),
       ),
     )
-  where
-    made : ◌≡◌ {A = Result Finding CoreError} (Ok f) (Ok (finding f.version f.layout f.addresses.interpreter))
-    made = ap (λ n. Ok (record { version = f.version; layout = f.layout; addresses = record { interpreter = f.addresses.interpreter; lock = n } })) found.lock
 
 -- a report is right
 pub report_whole : (bytes : List ℕ) (images : Pushed) (layouts : List Layout) (config : Config) (r : Reported)
     → ReportIs bytes images layouts config (Ok r) → IsRight bytes images layouts config r
 report_whole bytes images layouts config r h =
-    let m = memory_with bytes images in
-    let one = then_ok (CoreSays bytes) (AfterCore bytes images layouts config) r h in
-    let two = then_ok (FindingIs m one.0 images layouts) (AfterFinding bytes images config) r one.2 in
+    let one = then_ok (CoreSays bytes images) (AfterCore bytes images layouts config) r h in
+    let m = reports.memory_in one.0 in
+    let two = then_ok (FindingIs m (machine_of bytes) one.0.maps images layouts) (AfterFinding bytes one.0 config) r one.2 in
     let three = then_ok (StacksSay m two.0 config) (IsTold bytes two.0) r two.2 in
-    let found = found_by m one.0 images layouts two.0 two.1 in
+    let found = found_by m (machine_of bytes) one.0.maps images layouts two.0 two.1 in
     let is : r ≡ three.2.0 = ok_is r three.2.0 three.2.2 in
     let tells = three.2.1 in
     subst (λ x. IsRight bytes images layouts config x) (sym is) (record {
       core = one.1.0;
-      maps = one.0;
-      are_maps = one.1.1;
+      dumped = one.0;
+      is_dumped = one.1.1;
       programs = found.programs;
       are_programs = found.are_programs;
       known = found.known;
@@ -172,9 +175,10 @@ report_whole bytes images layouts config r h =
       layout = two.0.layout;
       chosen = subst (λ v. IsChosen layouts v two.0.layout) (sym tells.version_is) found.chosen;
       interpreter = two.0.addresses.interpreter;
-      first = subst (λ v. IsFirstOf (in_maps one.0) two.0.layout m (candidates_of found.known v two.0.layout m) two.0.addresses.interpreter) (sym tells.version_is) found.first;
-      stacks = subst (λ ts. AreNamedStacks (asked_of config) two.0.layout m 0 two.0.addresses.interpreter ts) (sym tells.traces_are)
-          (subst (λ n. AreNamedStacks (asked_of config) two.0.layout m n two.0.addresses.interpreter three.0) found.lock three.1.are);
+      first = subst (λ v. IsFirstOf (in_maps one.0.maps) two.0.layout m (candidates_of found.known v two.0.layout m) two.0.addresses.interpreter) (sym tells.version_is) found.first;
+      lock = two.0.addresses.lock;
+      is_lock = subst (λ v. lock_address_of (machine_of bytes) found.known v two.0.layout m two.0.addresses.interpreter ≡ Ok two.0.addresses.lock) (sym tells.version_is) found.lock;
+      stacks = subst (λ ts. AreStacksOver config two.0.layout m two.0.addresses.lock two.0.addresses.interpreter ts) (sym tells.traces_are) three.1.are;
       notes = tells.notes;
     })
 
@@ -183,15 +187,16 @@ pub report_complete : (bytes : List ℕ) (images : Pushed) (layouts : List Layou
     → IsReadable bytes images layouts config → (e : CoreError) → ReportIs bytes images layouts config (Err e)
     → IsKept {T = Reported} (Err e) → ⊥
 report_complete bytes images layouts config apart good e h kept =
-    let m = memory_with bytes images in
-    let one = then_value (CoreSays bytes) (AfterCore bytes images layouts config) (core_agree bytes) good.maps (good.core, good.are_maps) (Err e) kept h in
-    let two = then_value (FindingIs m good.maps images layouts) (AfterFinding bytes images config) (finding_agree m good.maps images layouts apart)
-    good.finding (finds m good.maps images layouts good.finding good.found) (Err e) kept one in
+    let m = reports.memory_in good.dumped in
+    let maps = good.dumped.maps in
+    let one = then_value (CoreSays bytes images) (AfterCore bytes images layouts config) (core_agree bytes images) good.dumped (good.core, good.is_dumped) (Err e) kept h in
+    let two = then_value (FindingIs m (machine_of bytes) maps images layouts) (AfterFinding bytes good.dumped config) (finding_agree m (machine_of bytes) maps images layouts apart)
+    good.finding (finds m (machine_of bytes) maps images layouts good.finding good.found) (Err e) kept one in
     by two
   where
-    by : AfterFinding bytes images config good.finding (Err e) → ⊥
-    by (inl (d, says, is)) = stacks_only (memory_with bytes images) good.finding config good.asks
-        (unfaulted (memory_with bytes images) good.finding config good.no_locals good.found.lock good.found.first.is.is) d says (err_kept (Err e) d is kept)
+    by : AfterFinding bytes good.dumped config good.finding (Err e) → ⊥
+    by (inl (d, says, is)) = stacks_only (reports.memory_in good.dumped) good.finding config good.asks
+        (unfaulted (reports.memory_in good.dumped) good.finding config good.found.first.is.is good.rest) d says (err_kept (Err e) d is kept)
     by (inr (traces, has, (r, tells, is))) = absurd (ok_not_err r e (sym is))
 
 -- ---- the report by what was opened
@@ -208,47 +213,62 @@ pub untold_settles : (o : Opened) (config : Config) (e : CoreError) (r : Result 
 untold_settles o config e r says is =
     settles_err (StacksSay (memory_in o) o.finding config) (IsTold o.core o.finding) (stacks_agree (memory_in o) o.finding config) e r says is
 
--- where the process was found and nothing else is asked for, what is left is want of memory
-pub left_memory : (o : Opened) (config : Config) → AsksNoOther config → (e : CoreError) → IsLeft e → StacksSay (memory_in o) o.finding config (Err e)
-    → e ≡ core.OutOfMemory
-left_memory o config asks core.NativeUnsupported left h = absurd (both config.native h asks.native)
-left_memory o config asks core.SubprocessesUnsupported left h = absurd (both config.subprocesses h.1 asks.subprocesses)
-left_memory o config asks core.OutOfMemory left h = refl
-left_memory o config asks _ left h = absurd left
+-- where the process was found, nothing else is asked for and no fault is met, what is left is want of memory
+pub left_memory : (o : Opened) (config : Config) → AsksNoOther config → fault_on (memory_in o) o.finding config ≡ None → (e : CoreError)
+    → StacksSay (memory_in o) o.finding config (Err e) → e ≡ core.OutOfMemory
+left_memory o config asks none e h =
+    ⊎_elim (λ same. of_err e core.OutOfMemory same)
+    (λ kept. absurd (stacks_only (memory_in o) o.finding config asks none e h kept)) (kept_or {T = List Trace} (Err e))
+  where
+    of_err : (e d : CoreError) → ◌≡◌ {A = Result (List Trace) CoreError} (Err e) (Err d) → e ≡ d
+    of_err e d same = cc
 
 module _ (bytes : List ℕ) (images : Pushed) (layouts : List Layout) (config : Config) where
-  settled : (r : Result (List CoreMapRange) CoreError) → CoreSays bytes r → Settles (CoreSays bytes) r
-  settled r h = settles_agree (CoreSays bytes) (core_agree bytes) r h
+  settled : (r : Result Dumped CoreError) → CoreSays bytes images r → Settles (CoreSays bytes images) r
+  settled r h = settles_agree (CoreSays bytes images) (core_agree bytes images) r h
 
   pub refused_settles : (e : DumpError) (error : CoreError) (r : Result Reported CoreError) → Refuses bytes e → error ≡ cause_of_dump e → r ≡ Err error
       → Settles (ReportIs bytes images layouts config) r
   refused_settles e error r h cause is =
-      settles_by_err (CoreSays bytes) (AfterCore bytes images layouts config) error r
-      (settled (Err error) (subst (λ x. CoreSays bytes (Err x)) (sym cause) (core_says bytes e h))) is
+      settles_by_err (CoreSays bytes images) (AfterCore bytes images layouts config) error r
+      (settled (Err error) (subst (λ x. CoreSays bytes images (Err x)) (sym cause) (core_says bytes images e h))) is
+
+  -- want of memory is always right
+  pub memory_reports : (r : Result Reported CoreError) → r ≡ Err core.OutOfMemory → Settles (ReportIs bytes images layouts config) r
+  memory_reports r is = record { right = inl (core.OutOfMemory, tt, is); only = λ answer h kept. inr is }
+
+  unfound_reports : (e : CoreError) (r : Result Reported CoreError) → IsCore bytes → IsUnopened bytes images layouts e
+      → IsSole (Opens bytes images layouts) (Err e) → r ≡ Err e → Settles (ReportIs bytes images layouts config) r
+  unfound_reports e r accepted (inl same) sole is = memory_reports r (is ∙ ap (λ x. Err x) same)
+  unfound_reports e r accepted (inr h) sole is =
+      let d = h.dumped in
+      settles_by_ok (CoreSays bytes images) (AfterCore bytes images layouts config) d r (settled (Ok d) (accepted, h.is_dumped))
+      (settles_by_err (FindingIs (reports.memory_in d) (machine_of bytes) d.maps images layouts) (AfterFinding bytes d config) e r
+      (record { right = h.is; only = finding_sole bytes images layouts (Err e) sole d h.is_dumped }) is)
 
   pub unopened_reports : (e : CoreError) (r : Result Reported CoreError) → IsCore bytes → Settles (Opens bytes images layouts) (Err e) → r ≡ Err e
       → Settles (ReportIs bytes images layouts config) r
-  unopened_reports e r accepted h is =
-      settles_by_ok (CoreSays bytes) (AfterCore bytes images layouts config) h.right.maps r (settled (Ok h.right.maps) (accepted, h.right.are_maps))
-      (settles_by_err (FindingIs (memory_with bytes images) h.right.maps images layouts) (AfterFinding bytes images config) e r
-      (record { right = h.right.is; only = finding_sole bytes images layouts (Err e) h.only h.right.maps h.right.are_maps }) is)
+  unopened_reports e r accepted h is = unfound_reports e r accepted h.right h.only is
 
   pub opened_reports : (o : Opened) (r : Result Reported CoreError) → IsCore bytes → Settles (Opens bytes images layouts) (Ok o)
       → Settles (IsReportOf o config) r → Settles (ReportIs bytes images layouts config) r
   opened_reports o r accepted h rest =
-      settles_by_ok (CoreSays bytes) (AfterCore bytes images layouts config) h.right.finds.maps r (settled (Ok h.right.finds.maps) (accepted, h.right.finds.are_maps))
-      (settles_by_ok (FindingIs (memory_with bytes images) h.right.finds.maps images layouts) (AfterFinding bytes images config) o.finding r
-      (record { right = h.right.finds.is; only = finding_sole bytes images layouts (Ok o) h.only h.right.finds.maps h.right.finds.are_maps })
-      (subst (λ ps. Settles (Then (StacksSay (byte_at ps) o.finding config) (IsTold bytes o.finding)) r) h.right.pieces_are
+      let d = h.right.finds.dumped in
+      let is_dumped = h.right.finds.is_dumped in
+      let pieces : o.pieces ≡ d.pieces = backed_once bytes images o.pieces d.pieces h.right.memory is_dumped.memory in
+      settles_by_ok (CoreSays bytes images) (AfterCore bytes images layouts config) d r (settled (Ok d) (accepted, is_dumped))
+      (settles_by_ok (FindingIs (reports.memory_in d) (machine_of bytes) d.maps images layouts) (AfterFinding bytes d config) o.finding r
+      (record { right = h.right.finds.is; only = finding_sole bytes images layouts (Ok o) h.only d is_dumped })
+      (subst (λ ps. Settles (Then (StacksSay (byte_at ps) o.finding config) (IsTold bytes o.finding)) r) pieces
       (subst (λ bs. Settles (Then (StacksSay (memory_in o) o.finding config) (IsTold bs o.finding)) r) h.right.core_is rest)))
 
   -- ---- input that can be read
 
   finds_good : (good : IsReadable bytes images layouts config) → FindsProcess bytes images layouts (Ok good.finding)
   finds_good good = record {
-    maps = good.maps;
-    are_maps = good.are_maps;
-    is = finds (memory_with bytes images) good.maps images layouts good.finding good.found;
+    dumped = good.dumped;
+    is_dumped = good.is_dumped;
+    is = finds (reports.memory_in good.dumped) (machine_of bytes) good.dumped.maps images layouts good.finding good.found;
   }
 
   pub refused_readable : (e : DumpError) → Refuses bytes e → IsReadable bytes images layouts config → cause_of_dump e ≡ core.OutOfMemory
@@ -264,20 +284,14 @@ module _ (bytes : List ℕ) (images : Pushed) (layouts : List Layout) (config : 
   pub unopened_readable : (e : CoreError) → IsSole (Opens bytes images layouts) (Err e) → IsReadable bytes images layouts config → e ≡ core.OutOfMemory
   unopened_readable e sole good = unopened_is bytes images layouts e sole good.finding (finds_good good)
 
-  pub opened_readable : (o : Opened) → IsOpened bytes images layouts o → IsSole (Opens bytes images layouts) (Ok o) → IsReadable bytes images layouts config
-      → IsFoundIn o
-  opened_readable o opened sole good = record {
-    maps = good.maps;
-    images = images;
-    layouts = layouts;
-    is = subst (λ ps. IsFound (byte_at ps) good.maps images layouts o.finding) (sym opened.pieces_are)
-        (subst (λ f. IsFound (memory_with bytes images) good.maps images layouts f)
-        (sym (opened_is bytes images layouts o sole good.finding (finds_good good))) good.found);
-  }
-
-  -- want of memory is always right
-  pub memory_reports : (r : Result Reported CoreError) → r ≡ Err core.OutOfMemory → Settles (ReportIs bytes images layouts config) r
-  memory_reports r is = record { right = inl (core.OutOfMemory, tt, is); only = λ answer h kept. inr is }
+  pub opened_faultless : (o : Opened) → IsOpened bytes images layouts o → IsSole (Opens bytes images layouts) (Ok o)
+      → IsReadable bytes images layouts config → fault_on (memory_in o) o.finding config ≡ None
+  opened_faultless o opened sole good =
+      let pieces : good.dumped.pieces ≡ o.pieces = backed_once bytes images good.dumped.pieces o.pieces good.is_dumped.memory opened.memory in
+      let finding : o.finding ≡ good.finding = opened_is bytes images layouts o sole good.finding (finds_good good) in
+      subst (λ ps. fault_on (byte_at ps) o.finding config ≡ None) pieces
+      (subst (λ f. fault_on (reports.memory_in good.dumped) f config ≡ None) (sym finding)
+      (unfaulted (reports.memory_in good.dumped) good.finding config good.found.first.is.is good.rest))
 
   -- the same by the bytes that a core was made of
   pub unopened_settled : (dump : List ℕ) (e : CoreError) (r : Result Reported CoreError) → dump ≡ bytes → IsCore bytes

@@ -1,11 +1,11 @@
 -- What the program's own values stand for.
 use Rattle.std.specs.Prelude.{◌≡◌, ℕ, List, Option, Some, None, Result, Ok, Err, option_copied}
+use Rattle.elf64_core.specs.Header.{machine_of}
 use Rattle.image_memory.specs.Images.{Pushed}
 use Rattle.image_memory.specs.declared.maps.CoreMapRange.{CoreMapRange}
-use Rattle.image_memory.specs.Maps.{AreMaps}
 use Rattle.py_fields.specs.declared.layout.Layout.{Layout}
 use Rattle.py_process.specs.Findings.{Finding, FindingIs}
-use Rattle.py_process.specs.Reports.{memory_with}
+use Rattle.py_process.specs.Reports.{Dumped, IsDumped, memory_in}
 use Rattle.py_process.specs.Facts.{Known, known_of}
 use Rattle.py_process.specs.Programs as maps
 use Rattle.py_process.specs.declared.process_info.PythonProcessInfo.{PythonProcessInfo}
@@ -40,8 +40,8 @@ abbrev pub finding_in : Result Found CoreError → Result Finding CoreError
 finding_in (Ok f) = Ok (finding_of f)
 finding_in (Err e) = Err e
 
--- what is found of the process of a core, or the first cause why nothing is
+-- what is found of the process of a core and its images, or the first cause why nothing is
 pub record FindsProcess (bytes : List ℕ) (images : Pushed) (layouts : List Layout) (result : Result Finding CoreError) : Type 0 where
-  pub maps : List CoreMapRange
-  pub are_maps : AreMaps bytes maps
-  pub is : FindingIs (memory_with bytes images) maps images layouts result
+  pub dumped : Dumped
+  pub is_dumped : IsDumped bytes images dumped
+  pub is : FindingIs (memory_in dumped) (machine_of bytes) dumped.maps images layouts result

@@ -1,11 +1,13 @@
 //! The program of a process and Python's library, by the maps, and what their images say.
 ghost use Rattle.std.specs.Prelude.{◌≡◌, ◌↔◌, IsTrue, IfOk, None, option_copied, option_map};
+ghost use Rattle.image_memory.specs.MapTables.{tests};
+ghost use Rattle.image_memory.specs.Maps.{in_maps};
 ghost use Rattle.py_process.specs.Facts.{facts_of};
 ghost use Rattle.py_process.specs.Programs.{FactsAre, FactsOf, FirstMapIs, ImagesSay, IsLibraryMap, IsProgram, MapsSay, needed_map, path_of};
 ghost use Rattle.core_stacks.specs.Seen.{IsImageError, known_in, needed_by, programs_in, programs_now};
 
 use elf64_core::Name;
-use image_memory::{CoreMapRange, Images};
+use image_memory::{CoreMapRange, Images, MapTable};
 use py_process::{
     BinaryError, BinaryInfo, CoreError, PythonProcessInfo, is_python_lib, parse_binary,
 };
@@ -151,18 +153,18 @@ fn image_error(alloc: Global, images: &Images, map: &CoreMapRange) -> CoreError
     }
 }
 
-/// What is known of a process by its images, and its maps as they are.
+/// What is known of a process by its images, with a table of its maps' addresses.
 ///
 /// `NoImage` where the needed image, the library's where one is mapped and else the program's, is not handed in;
 /// `BadImage` where it says nothing. Else the one error is want of memory.
-pub(crate) fn read_images<'a>(
+pub(crate) fn read_images(
     alloc: Global,
     images: &Images,
-    maps: &'a Vec<CoreMapRange>,
+    maps: &[CoreMapRange],
     programs: &Programs<'_>,
-) -> Result<PythonProcessInfo<&'a Vec<CoreMapRange>>, CoreError>
+) -> Result<PythonProcessInfo<MapTable>, CoreError>
     ensures known { ImagesSay images.now (programs_now programs.now) (known_in result) }
-    ensures maps { IfOk result (λ info. info.maps.now ≡ maps.now) }
+    ensures maps { IfOk result (λ info. tests info.maps ≡ in_maps maps.now) }
 {
     let program = info_of(alloc, images, programs.program)?;
     let library = library_info(alloc, images, programs.library)?;
@@ -170,10 +172,11 @@ pub(crate) fn read_images<'a>(
         return Err(image_error(alloc, images, needed_map(programs)));
     }
     let path = Name::of(alloc, path_of(programs.program))?;
+    let table = MapTable::of(alloc, maps)?;
     Ok(PythonProcessInfo {
         python_binary: program,
         libpython_binary: library,
-        maps,
+        maps: table,
         python_filename: path,
     })
 }

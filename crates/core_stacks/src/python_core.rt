@@ -1,16 +1,20 @@
 //! A core of a Python process.
 ghost use Rattle.std.specs.Prelude.{◌≡◌, ℕ, IfErr};
 ghost use Rattle.process_memory.specs.Memory.{byte_at};
-ghost use Rattle.image_memory.specs.Pieces.{memory_of};
+ghost use Rattle.image_memory.specs.Backed.{regions_of};
 ghost use Rattle.py_fields.specs.Sound.{IsSound};
 ghost use Rattle.py_process.specs.Reports.{StacksSay, traces_in};
 ghost use Rattle.core_stacks.specs.Sole.{IsSole, Settles};
 ghost use Rattle.core_stacks.specs.Opened.{IsFoundIn, IsLeft, Opened, Opens, OpensAt, memory_in};
+ghost use Rattle.core_stacks.specs.Printing.{IsPrintedBy, IsTextOf};
 ghost use Rattle.core_stacks.specs.Seen.{finding_of};
 
 use crate::finding::find_process;
 use crate::found::Found;
-use image_memory::{CoreDump, Images};
+use crate::printing::text_of;
+use core_texts::PrintError;
+use image_memory::{BackedDump, CoreDump, Images};
+use outside::Sink;
 use py_layout::{Layouts, Version};
 use py_process::CoreError;
 use py_stacks::{Addresses, Config, StackTrace, get_stack_over};
@@ -20,11 +24,12 @@ use std::marker::Model;
 /// A core of a Python process, with the version of Python that ran, the layout that covers it, and where its
 /// interpreter and the lock of that are.
 ///
-/// Contracts see it as the core's bytes, the pieces of the process's memory, and what was found of it.
+/// Contracts see it as the core's bytes, the pieces of the process's memory, which are the core's and those of its
+/// images, and what was found of it.
 #[derive(Drop)]
 pub struct PythonCoreDump {
     alloc: Global,
-    core: CoreDump,
+    dump: BackedDump,
     found: Found,
 }
 
@@ -32,8 +37,8 @@ impl Model for PythonCoreDump {
     ghost Value = { Opened };
 
     ghost view = { λ p. record {
-      core = p.core;
-      pieces = memory_of p.core;
+      core = p.dump.core;
+      pieces = regions_of p.dump;
       finding = finding_of p.found;
     } };
 
@@ -43,12 +48,12 @@ impl Model for PythonCoreDump {
 /// Reads the traces of what was found in a core.
 fn read_stacks(
     alloc: Global,
-    core: &CoreDump,
+    dump: &BackedDump,
     found: &Found,
     config: &Config,
 ) -> Result<Vec<StackTrace>, CoreError>
     requires sound { IsSound found.now.layout }
-    ensures { StacksSay (byte_at (memory_of core.now)) (finding_of found.now) config.now (traces_in result) }
+    ensures { StacksSay (byte_at (regions_of dump.now)) (finding_of found.now) config.now (traces_in result) }
 {
     if config.native {
         return Err(CoreError::NativeUnsupported);
@@ -56,7 +61,7 @@ fn read_stacks(
     if config.subprocesses {
         return Err(CoreError::SubprocessesUnsupported);
     }
-    let mut view = core.view();
+    let mut view = dump.view();
     let traces = get_stack_over(alloc, &mut view, &found.layout, &found.addresses, config)?;
     Ok(traces)
 }
@@ -70,8 +75,9 @@ fn open_core(
 ) -> Result<PythonCoreDump, CoreError>
     ensures { Settles (Opens core images.now layouts.now) result }
 {
-    let found = find_process(alloc, &core, images, layouts)?;
-    Ok(PythonCoreDump { alloc, core, found })
+    let dump = BackedDump::new(alloc, core, images)?;
+    let found = find_process(alloc, &dump, images, layouts)?;
+    Ok(PythonCoreDump { alloc, dump, found })
 }
 
 impl PythonCoreDump {
@@ -81,11 +87,16 @@ impl PythonCoreDump {
     /// Python's library (`py_process::is_python_lib`). Their images are handed in under the paths that the core
     /// has; the library's is needed where one is mapped, else the program's, and the other one may be missing or
     /// bad. The version is the first that `py_process::get_python_version` finds, and the interpreter the first
-    /// that `py_process::get_interpreter_address` finds, over the core's memory.
+    /// that `py_process::get_interpreter_address` finds, over the memory of the core and its images
+    /// (`image_memory::BackedDump`): the core's own bytes come first, and what it leaves out of a segment without the
+    /// write flag comes from the image of its file.
+    ///
+    /// The lock is that of `py_process::get_threadstate_address`, by the machine that the core's header names.
     ///
     /// The error is the first of these: `NoBinary`, where no executable map's file has a name; `NoImage` and
     /// `BadImage` of the needed image; `UnreadableVersion` and `NoVersion`; `UnsupportedVersion`, where no layout
-    /// covers the version; `NoInterpreter`. Else it is want of memory.
+    /// covers the version; `NoInterpreter`; `Unreadable`, where the lock's address is not in memory. Else it is want
+    /// of memory.
     pub fn new(
         alloc: Global,
         core: CoreDump,
@@ -121,7 +132,8 @@ impl PythonCoreDump {
             layout,
             addresses,
         };
-        Ok(PythonCoreDump { alloc, core, found })
+        let dump = BackedDump::new(alloc, core, &Images::new(alloc))?;
+        Ok(PythonCoreDump { alloc, dump, found })
     }
 
     /// The traces of the interpreter's threads, in the order of their chain, with what a `Config` asks for
@@ -138,11 +150,47 @@ impl PythonCoreDump {
         ensures equal { (other : Opened) → other.finding ≡ self.now.finding
             → ((a : ℕ) → memory_in other a ≡ memory_in self.now a)
             → StacksSay (memory_in other) other.finding config.now (traces_in result) }
-        // where the process was found and no locals are asked for, neither a limit nor a record of a thread or a
-        // frame is in the way
-        ensures found { IsFoundIn self.now → config.now.dump_locals ≡ 0 → IfErr result IsLeft }
+        // where the process was found, neither a limit nor a record of a thread or a frame is in the way: the lock's
+        // owner may be, and the locals of a kept frame, where they are asked for
+        ensures found { IsFoundIn self.now → IfErr result (IsLeft self.now config.now) }
     {
-        read_stacks(self.alloc, &self.core, &self.found, config)
+        read_stacks(self.alloc, &self.dump, &self.found, config)
+    }
+
+    /// Prints traces of this core, by one write of the whole text, under the name of the core's file: the signal that
+    /// the core tells and the process, where it tells them, the version, and the threads from the last to the first,
+    /// each with its frames and their locals (`core_texts::report_text`). Where the `Config` asks for JSON, the traces
+    /// alone, in order, as an array of objects (`core_texts::report_json`). Nothing else of the `Config` counts.
+    ///
+    /// The traces are those that are handed in; that they are this core's is not looked at.
+    ///
+    /// - `Sink` where the stream failed: its count of faults rose, and a front of the text was written.
+    /// - `OutOfMemory` where there was no memory left; nothing was written.
+    pub fn print_traces<S: Sink>(
+        &self,
+        out: &mut S,
+        core_name: &[u8],
+        traces: &[StackTrace],
+        config: &Config,
+    ) -> Result<(), PrintError>
+        ensures { IsPrintedBy
+            (IsTextOf config.now.dump_json self.now.core self.now.finding.version core_name.now traces.now)
+            (S.seen out.old) (S.seen out.new) result }
+    {
+        let version = &self.found.version;
+        let json = config.dump_json;
+        let text = text_of(
+            self.alloc,
+            self.dump.core(),
+            version,
+            core_name,
+            traces,
+            json,
+        )?;
+        match out.write(&text) {
+            Ok(()) => Ok(()),
+            Err(fault) => Err(PrintError::Sink(fault)),
+        }
     }
 
     /// The version.
@@ -151,7 +199,7 @@ impl PythonCoreDump {
     {
         let PythonCoreDump {
             alloc: _,
-            core: _,
+            dump: _,
             found,
         } = self;
         found.version

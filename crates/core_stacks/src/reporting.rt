@@ -1,8 +1,8 @@
 //! The report of a core.
-ghost use Rattle.std.specs.Prelude.{◌≡◌, IfErr, IfOk};
-ghost use Rattle.py_process.specs.Reports.{AsksNoOther, IsReadable, IsRight, NotesTell, ReportIs, reported, reported_of};
+ghost use Rattle.std.specs.Prelude.{◌≡◌, IfErr, IfOk, None};
+ghost use Rattle.py_process.specs.Reports.{AsksNoOther, IsReadable, IsRight, NotesTell, ReportIs, fault_on, reported, reported_of};
 ghost use Rattle.core_stacks.specs.Sole.{IsSole, Settles};
-ghost use Rattle.core_stacks.specs.Opened.{IsFoundIn, IsReportOf};
+ghost use Rattle.core_stacks.specs.Opened.{IsReportOf, memory_in};
 
 use crate::PythonCoreDump;
 use crate::notes::{Notes, notes_of};
@@ -16,7 +16,7 @@ use std::alloc::Global;
 fn report_of(python: PythonCoreDump, notes: Notes, config: &Config) -> Result<Report, CoreError>
     requires notes { NotesTell python.core notes.signal notes.process }
     ensures settles { Settles (IsReportOf python config.now) (reported result) }
-    ensures complete { IsFoundIn python → AsksNoOther config.now → config.now.dump_locals ≡ 0
+    ensures complete { AsksNoOther config.now → fault_on (memory_in python) python.finding config.now ≡ None
         → IfErr result (λ error. error ≡ CoreError.OutOfMemory) }
 {
     let traces = python.get_stack(config)?;

@@ -5,6 +5,7 @@ pub mod Finds
 pub mod Flags
 pub mod Heads
 pub mod Images
+pub mod Locks
 pub mod Libraries
 pub mod Marks
 pub mod Parts

@@ -1,5 +1,6 @@
 -- What is found of a Python process by its memory, its maps and its images, or the first cause why nothing is.
 use Rattle.std.specs.Prelude.{◌≡◌, ℕ, List, All, Contains, Bool, Option, Some, None, Result, Ok, Err, ⊤}
+use Rattle.elf64_core.specs.declared.header.Machine.{Machine}
 use Rattle.image_memory.specs.Images.{Pushed}
 use Rattle.image_memory.specs.Maps.{in_maps}
 use Rattle.image_memory.specs.declared.maps.CoreMapRange.{CoreMapRange}
@@ -11,11 +12,12 @@ use Rattle.py_version.specs.declared.version.Version.{Version}
 use Rattle.py_stacks.specs.declared.trace.Addresses.{Addresses}
 use Rattle.py_process.specs.Candidates.{IsFirstOf, IsNoneOf, candidates_of}
 use Rattle.py_process.specs.Facts.{Known}
+use Rattle.py_process.specs.Lock.{lock_address_of}
 use Rattle.py_process.specs.Programs.{ArePrograms, ImagesSay, IsKnown, MapsSay, Programs}
 use Rattle.py_process.specs.Sources.{FirstTells, sources_of}
 use Rattle.py_process.specs.Steps.{Then}
 use Rattle.py_process.specs.declared.core_error.CoreError.{CoreError}
-use Rattle.py_process.specs.declared.core_error.CoreError.TheVariants.{UnreadableVersion, NoVersion, UnsupportedVersion, NoInterpreter, OutOfMemory}
+use Rattle.py_process.specs.declared.core_error.CoreError.TheVariants.{UnreadableVersion, NoVersion, UnsupportedVersion, NoInterpreter, Unreadable, OutOfMemory}
 
 -- ---- the steps
 
@@ -56,34 +58,47 @@ pub record Finding : Type 0 where
   pub layout : Layout
   pub addresses : Addresses
 
--- the lock's place isn't looked for yet
-abbrev pub finding : Version → Layout → ℕ → Finding
-finding version layout a =
-    record { version = version; layout = layout; addresses = record { interpreter = a; lock = 0 } }
+abbrev pub finding : Version → Layout → (interpreter lock : ℕ) → Finding
+finding version layout interpreter lock =
+    record { version = version; layout = layout; addresses = record { interpreter = interpreter; lock = lock } }
 
-abbrev pub IsMade : Version → Layout → ℕ → Result Finding CoreError → Type 0
-IsMade version layout a result = result ≡ Ok (finding version layout a)
+-- the address of the interpreter's lock, or its missing word. The holder alone isn't asked for here
+abbrev pub LockSays : Memory → Machine → Known → Version → Layout → ℕ → Result ℕ CoreError → Type 0
+LockSays m machine k version layout a (Ok lock) = lock_address_of machine k version layout m a ≡ Ok lock
+LockSays m machine k version layout a (Err (Unreadable addr len)) =
+    lock_address_of machine k version layout m a ≡ Err (Missing addr len)
+LockSays m machine k version layout a (Err OutOfMemory) = ⊤
+LockSays m machine k version layout a (Err _) = ⊥
+
+abbrev pub IsMade : Version → Layout → (interpreter lock : ℕ) → Result Finding CoreError → Type 0
+IsMade version layout interpreter lock result = result ≡ Ok (finding version layout interpreter lock)
+
+abbrev pub AfterSearch : Memory → Machine → Known → Version → Layout → ℕ → Result Finding CoreError → Type 0
+AfterSearch m machine k version layout a = Then (LockSays m machine k version layout a) (IsMade version layout a)
 
 -- `contains` tests whether a map holds an address
-abbrev pub AfterLayout : Memory → (ℕ → Bool) → Known → Version → Layout → Result Finding CoreError → Type 0
-AfterLayout m contains k version layout = Then (SearchSays m contains k version layout) (IsMade version layout)
+abbrev pub AfterLayout : Memory → Machine → (ℕ → Bool) → Known → Version → Layout → Result Finding CoreError → Type 0
+AfterLayout m machine contains k version layout =
+    Then (SearchSays m contains k version layout) (AfterSearch m machine k version layout)
 
-abbrev pub AfterVersion : Memory → (ℕ → Bool) → List Layout → Known → Version → Result Finding CoreError → Type 0
-AfterVersion m contains layouts k version = Then (LayoutSays layouts version) (AfterLayout m contains k version)
+abbrev pub AfterVersion : Memory → Machine → (ℕ → Bool) → List Layout → Known → Version → Result Finding CoreError → Type 0
+AfterVersion m machine contains layouts k version =
+    Then (LayoutSays layouts version) (AfterLayout m machine contains k version)
 
-abbrev pub AfterImages : Memory → (ℕ → Bool) → List Layout → Known → Result Finding CoreError → Type 0
-AfterImages m contains layouts k = Then (VersionSays m k) (AfterVersion m contains layouts k)
+abbrev pub AfterImages : Memory → Machine → (ℕ → Bool) → List Layout → Known → Result Finding CoreError → Type 0
+AfterImages m machine contains layouts k = Then (VersionSays m k) (AfterVersion m machine contains layouts k)
 
-abbrev pub AfterMaps : Memory → List CoreMapRange → Pushed → List Layout → Programs → Result Finding CoreError → Type 0
-AfterMaps m maps images layouts p = Then (ImagesSay images p) (AfterImages m (in_maps maps) layouts)
+abbrev pub AfterMaps : Memory → Machine → List CoreMapRange → Pushed → List Layout → Programs → Result Finding CoreError → Type 0
+AfterMaps m machine maps images layouts p =
+    Then (ImagesSay images p) (AfterImages m machine (in_maps maps) layouts)
 
--- what is found, or the first cause: of the maps, the images, the version, the layouts, the search
-abbrev pub FindingIs : Memory → List CoreMapRange → Pushed → List Layout → Result Finding CoreError → Type 0
-FindingIs m maps images layouts = Then (MapsSay maps) (AfterMaps m maps images layouts)
+-- what is found, or the first cause: of the maps, the images, the version, the layouts, the search, the lock
+abbrev pub FindingIs : Memory → Machine → List CoreMapRange → Pushed → List Layout → Result Finding CoreError → Type 0
+FindingIs m machine maps images layouts = Then (MapsSay maps) (AfterMaps m machine maps images layouts)
 
 -- ---- the same where something is found, in one record
 
-pub record IsFound (m : Memory) (maps : List CoreMapRange) (images : Pushed) (layouts : List Layout) (f : Finding) : Type 0 where
+pub record IsFound (m : Memory) (machine : Machine) (maps : List CoreMapRange) (images : Pushed) (layouts : List Layout) (f : Finding) : Type 0 where
   pub programs : Programs
   pub are_programs : ArePrograms maps programs
   pub known : Known
@@ -93,4 +108,5 @@ pub record IsFound (m : Memory) (maps : List CoreMapRange) (images : Pushed) (la
   pub chosen : IsChosen layouts f.version f.layout
   -- the interpreter is the first candidate that is one
   pub first : IsFirstOf (in_maps maps) f.layout m (candidates_of known f.version f.layout m) f.addresses.interpreter
-  pub lock : f.addresses.lock ≡ 0
+  -- the lock is its lock
+  pub lock : lock_address_of machine known f.version f.layout m f.addresses.interpreter ≡ Ok f.addresses.lock

@@ -6,6 +6,7 @@ pub mod FileVersions
 pub mod Findings
 pub mod Library
 pub mod LibraryFronts
+pub mod Lock
 pub mod Programs
 pub mod Ranges
 pub mod Refusals
@@ -13,3 +14,4 @@ pub mod Reports
 pub mod Sources
 pub mod Steps
 pub mod SymbolMap
+pub mod Variables

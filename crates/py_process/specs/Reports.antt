@@ -3,11 +3,12 @@ use Rattle.std.specs.Prelude.{◌≡◌, ℕ, ◌==◌, ℤ, Bool, true, false, 
 use Rattle.std.specs.List.{position}
 use Rattle.std.specs.Global.{Global}
 use Rattle.bstr.specs.Utf8.{lossy_chars}
+use Rattle.elf64_core.specs.Header.{machine_of}
+use Rattle.image_memory.specs.Backed.{IsBackedMemory}
 use Rattle.image_memory.specs.Cores.{IsCore, Refuses}
 use Rattle.image_memory.specs.Images.{Pushed}
 use Rattle.image_memory.specs.Maps.{AreMaps, in_maps}
 use Rattle.image_memory.specs.Notes.{AreStatuses, IsProcess}
-use Rattle.image_memory.specs.Pieces.{memory_of}
 use Rattle.image_memory.specs.declared.dump_error.DumpError.TheVariants as dump
 use Rattle.image_memory.specs.declared.maps.CoreMapRange.{CoreMapRange}
 use Rattle.image_memory.specs.declared.records.elf_prstatus.{elf_prstatus}
@@ -18,27 +19,35 @@ use Rattle.process_memory.specs.Walk.{first_fault}
 use Rattle.py_fields.specs.declared.layout.Layout.{Layout}
 use Rattle.py_version.specs.declared.version.Version.{Version}
 use Rattle.py_stacks.specs.Asking.{asked_of}
-use Rattle.py_stacks.specs.NamedStacks.{AreNamedStacks}
 use Rattle.py_stacks.specs.Stacks.{stacks_faults}
+use Rattle.py_stacks.specs.StacksOver.{AreStacksOver}
 use Rattle.py_stacks.specs.Threads.{Trace, trace_of}
 use Rattle.py_stacks.specs.declared.config.Config.{Config}
 use Rattle.py_stacks.specs.declared.trace.StackTrace.{StackTrace}
 use Rattle.py_process.specs.Candidates.{IsFirstOf, candidates_of}
 use Rattle.py_process.specs.Facts.{Known}
 use Rattle.py_process.specs.Findings.{Finding, FindingIs, IsChosen, IsFound}
+use Rattle.py_process.specs.Lock.{lock_address_of}
 use Rattle.py_process.specs.Programs.{ArePrograms, IsKnown, Programs}
 use Rattle.py_process.specs.Sources.{FirstTells, sources_of}
 use Rattle.py_process.specs.Steps.{Then}
+use Rattle.py_process.specs.Variables.{HasRest}
 use Rattle.py_process.specs.declared.report.Report.{Report}
 use Rattle.py_process.specs.declared.core_error.CoreError.{CoreError}
 use Rattle.py_process.specs.declared.core_error.CoreError.TheVariants.{NotElf64, BadHeader, NoNotes, BadNote, Unreadable, NativeUnsupported, SubprocessesUnsupported, BadValue, LocalsLimit, ThreadLimit, FrameLimit, ChainLimit, OutOfMemory}
 
--- the pieces of memory of a core and its images. No byte comes from an image yet
-abbrev pub pieces_with : List ℕ → Pushed → List Region
-pieces_with bytes images = memory_of bytes
+-- what is dumped of a process: its maps, and the pieces of its memory
+pub record Dumped : Type 0 where
+  pub maps : List CoreMapRange
+  pub pieces : List Region
 
-abbrev pub memory_with : List ℕ → Pushed → Memory
-memory_with bytes images = byte_at (pieces_with bytes images)
+-- by its core and the images that it mapped: what the core leaves out comes from these
+pub record IsDumped (bytes : List ℕ) (images : Pushed) (d : Dumped) : Type 0 where
+  pub are_maps : AreMaps bytes d.maps
+  pub memory : IsBackedMemory bytes images d.pieces
+
+abbrev pub memory_in : Dumped → Memory
+memory_in d = byte_at d.pieces
 
 -- ---- the stacks
 
@@ -60,7 +69,7 @@ pub record MeetsFault (m : Memory) (f : Finding) (config : Config) (fault : Faul
 pub record HasStacks (m : Memory) (f : Finding) (config : Config) (traces : List Trace) : Type 0 where
   pub asks : AsksNoOther config
   pub faultless : fault_on m f config ≡ None
-  pub are : AreNamedStacks (asked_of config) f.layout m f.addresses.lock f.addresses.interpreter traces
+  pub are : AreStacksOver config f.layout m f.addresses.lock f.addresses.interpreter traces
 
 -- the traces, or the first cause why there are none
 abbrev pub StacksSay : Memory → Finding → Config → Result (List Trace) CoreError → Type 0
@@ -132,15 +141,15 @@ abbrev pub reported : {E : Type 0} → Result Report E → Result Reported E
 reported (Ok r) = Ok (reported_of r)
 reported (Err e) = Err e
 
--- the maps of a core, or why the bytes are none
-abbrev pub CoreSays : List ℕ → Result (List CoreMapRange) CoreError → Type 0
-CoreSays bytes (Ok maps) = IsCore bytes × AreMaps bytes maps
-CoreSays bytes (Err NotElf64) = Refuses bytes dump.NotElf64
-CoreSays bytes (Err BadHeader) = Refuses bytes dump.BadHeader
-CoreSays bytes (Err NoNotes) = Refuses bytes dump.NoNotes
-CoreSays bytes (Err BadNote) = Refuses bytes dump.BadNote
-CoreSays bytes (Err OutOfMemory) = ⊤
-CoreSays bytes (Err _) = ⊥
+-- what is dumped by a core and images, or why the bytes are no core's
+abbrev pub CoreSays : List ℕ → Pushed → Result Dumped CoreError → Type 0
+CoreSays bytes images (Ok d) = IsCore bytes × IsDumped bytes images d
+CoreSays bytes images (Err NotElf64) = Refuses bytes dump.NotElf64
+CoreSays bytes images (Err BadHeader) = Refuses bytes dump.BadHeader
+CoreSays bytes images (Err NoNotes) = Refuses bytes dump.NoNotes
+CoreSays bytes images (Err BadNote) = Refuses bytes dump.BadNote
+CoreSays bytes images (Err OutOfMemory) = ⊤
+CoreSays bytes images (Err _) = ⊥
 
 -- a report of these traces
 pub record Tells (bytes : List ℕ) (f : Finding) (traces : List Trace) (r : Reported) : Type 0 where
@@ -151,44 +160,46 @@ pub record Tells (bytes : List ℕ) (f : Finding) (traces : List Trace) (r : Rep
 abbrev pub IsTold : List ℕ → Finding → List Trace → Result Reported CoreError → Type 0
 IsTold bytes f traces result = (r : Reported) × Tells bytes f traces r × (result ≡ Ok r)
 
-abbrev pub AfterFinding : List ℕ → Pushed → Config → Finding → Result Reported CoreError → Type 0
-AfterFinding bytes images config f = Then (StacksSay (memory_with bytes images) f config) (IsTold bytes f)
+abbrev pub AfterFinding : List ℕ → Dumped → Config → Finding → Result Reported CoreError → Type 0
+AfterFinding bytes d config f = Then (StacksSay (memory_in d) f config) (IsTold bytes f)
 
-abbrev pub AfterCore : List ℕ → Pushed → List Layout → Config → List CoreMapRange → Result Reported CoreError → Type 0
-AfterCore bytes images layouts config maps =
-    Then (FindingIs (memory_with bytes images) maps images layouts) (AfterFinding bytes images config)
+abbrev pub AfterCore : List ℕ → Pushed → List Layout → Config → Dumped → Result Reported CoreError → Type 0
+AfterCore bytes images layouts config d =
+    Then (FindingIs (memory_in d) (machine_of bytes) d.maps images layouts) (AfterFinding bytes d config)
 
 -- the report of a core and its images, or the first cause why there is none: of the core, of the search, of the
 -- stacks. The causes shut each other out, so that each comes exactly where it holds, want of memory aside
 abbrev pub ReportIs : List ℕ → Pushed → List Layout → Config → Result Reported CoreError → Type 0
-ReportIs bytes images layouts config = Then (CoreSays bytes) (AfterCore bytes images layouts config)
+ReportIs bytes images layouts config = Then (CoreSays bytes images) (AfterCore bytes images layouts config)
 
 -- ---- the same where there is a report, in one record: its threads are the whole chain, to null, of the first
 -- candidate that is an interpreter's, each with its whole chain of callers, to null, less the skipped members
 
 pub record IsRight (bytes : List ℕ) (images : Pushed) (layouts : List Layout) (config : Config) (r : Reported) : Type 0 where
   pub core : IsCore bytes
-  pub maps : List CoreMapRange
-  pub are_maps : AreMaps bytes maps
+  pub dumped : Dumped
+  pub is_dumped : IsDumped bytes images dumped
   pub programs : Programs
-  pub are_programs : ArePrograms maps programs
+  pub are_programs : ArePrograms dumped.maps programs
   pub known : Known
   pub is_known : IsKnown images programs known
-  pub told : FirstTells (memory_with bytes images) (sources_of known) (Ok (Some r.version))
+  pub told : FirstTells (memory_in dumped) (sources_of known) (Ok (Some r.version))
   pub layout : Layout
   pub chosen : IsChosen layouts r.version layout
   pub interpreter : ℕ
-  pub first : IsFirstOf (in_maps maps) layout (memory_with bytes images)
-      (candidates_of known r.version layout (memory_with bytes images)) interpreter
-  pub stacks : AreNamedStacks (asked_of config) layout (memory_with bytes images) 0 interpreter r.traces
+  pub first : IsFirstOf (in_maps dumped.maps) layout (memory_in dumped)
+      (candidates_of known r.version layout (memory_in dumped)) interpreter
+  pub lock : ℕ
+  pub is_lock : lock_address_of (machine_of bytes) known r.version layout (memory_in dumped) interpreter ≡ Ok lock
+  pub stacks : AreStacksOver config layout (memory_in dumped) lock interpreter r.traces
   pub notes : NotesTell bytes r.signal r.process
 
--- the input for which a report is owed, where no locals are asked for
+-- the input for which a report is owed
 pub record IsReadable (bytes : List ℕ) (images : Pushed) (layouts : List Layout) (config : Config) : Type 0 where
   pub core : IsCore bytes
-  pub maps : List CoreMapRange
-  pub are_maps : AreMaps bytes maps
+  pub dumped : Dumped
+  pub is_dumped : IsDumped bytes images dumped
   pub finding : Finding
-  pub found : IsFound (memory_with bytes images) maps images layouts finding
+  pub found : IsFound (memory_in dumped) (machine_of bytes) dumped.maps images layouts finding
   pub asks : AsksNoOther config
-  pub no_locals : config.dump_locals ≡ 0
+  pub rest : HasRest (memory_in dumped) finding config

@@ -56,7 +56,7 @@ fn push_words(bytes: &mut Vec<u8>, words: &[u64]) -> Result<(), AllocError> {
     Ok(())
 }
 
-fn piece(alloc: Global, start: u64, words: &[u64]) -> Result<Piece, AllocError> {
+pub(crate) fn piece(alloc: Global, start: u64, words: &[u64]) -> Result<Piece, AllocError> {
     let mut bytes = Vec::new(alloc);
     push_words(&mut bytes, words)?;
     Ok(Piece { start, bytes })
@@ -173,7 +173,7 @@ fn map(addr: u64, mem_size: u64) -> CoreMapRange {
 }
 
 /// An image with these symbols, and with these sections of so many bytes.
-fn image(
+pub(crate) fn image(
     alloc: Global,
     symbols: &[(&[u8], u64)],
     runtime: (u64, u64),

@@ -16,6 +16,10 @@ mod interpreter_tests;
 mod library;
 #[cfg(test)]
 mod library_tests;
+mod lock;
+mod lock_error;
+#[cfg(test)]
+mod lock_tests;
 mod process_info;
 mod python_version;
 mod ranges;
@@ -31,6 +35,8 @@ pub use binary_error::BinaryError;
 pub use core_error::CoreError;
 pub use interpreter::get_interpreter_address;
 pub use library::is_python_lib;
+pub use lock::get_threadstate_address;
+pub use lock_error::LockError;
 pub use process_info::PythonProcessInfo;
 pub use python_version::get_python_version;
 pub use report::Report;

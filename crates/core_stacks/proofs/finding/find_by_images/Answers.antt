@@ -6,5 +6,5 @@ use Rattle.core_stacks.proofs.finding.find_by_images.Goals as goal
 
 pub returns-clause-settles : goal.returns-clause-settles
 returns-clause-settles g c =
-    version_then _ _ _ _ _ c.in_ok-version.version _ (reading_here c.in_ok-version.ensures.right)
+    version_then _ _ _ _ _ _ c.in_ok-version.version _ (reading_here c.in_ok-version.ensures.right)
     (ap byte_at c.in_ok-version.ensures.right.pieces) c.find_by_version.ensures.settles

@@ -1,13 +1,31 @@
-use Rattle.std.proofs.Common.{refl, ap, ◌∙◌, subst, sym}
-use Rattle.std.specs.Prelude.{Err}
+use Rattle.std.proofs.Common.{ap, ◌∙◌, subst, sym}
+use Rattle.std.specs.Prelude.{Err, Ok}
 use Rattle.std.proofs.lemmas.Result.{err_from_is_err_and}
-use Rattle.core_stacks.proofs.OpenedLaws.{opened_settles, unopened_settles}
+use Rattle.image_memory.specs.Backed.{IsBackedMemory, regions_of}
+use Rattle.core_stacks.specs.Seen.{FindsProcess, finding_in}
+use Rattle.core_stacks.specs.Sole.{Settles}
+use Rattle.core_stacks.proofs.OpenedLaws.{memory_opens, opened_settles, unopened_settles}
 use Rattle.core_stacks.proofs.python_core.open_core.Goals as goal
+
+pub returns-in_err-dump : goal.returns-in_err-dump
+returns-in_err-dump c =
+    let p = err_from_is_err_and c.from_residual.result c.from_residual.ensures.1 in
+    memory_opens _ _ _ _ (p.1 ∙ ap (λ e. Err e) p.2)
+
+pub find_process-requires : goal.find_process-requires
+find_process-requires c =
+    subst (λ bs. IsBackedMemory bs c.args.images.now (regions_of c.in_ok-dump.dump)) (sym c.in_ok-dump.ensures.kept.core_is)
+    c.in_ok-dump.ensures.memory
 
 pub returns-in_err-found : goal.returns-in_err-found
 returns-in_err-found c =
-    let p = err_from_is_err_and c.from_residual.result c.from_residual.ensures.1 in
-    unopened_settles _ _ _ c.in_err-found.field-0.0 _ c.in_err-found.ensures.settles (p.1 ∙ ap (λ e. Err e) p.2)
+    let p = err_from_is_err_and c.from_residual-in_err-found.result c.from_residual-in_err-found.ensures.1 in
+    unopened_settles _ _ _ c.in_err-found.field-0.0 _
+    (subst (λ bs. Settles (FindsProcess bs c.args.images.now c.args.layouts.now) (Err c.in_err-found.field-0.0))
+    c.in_ok-dump.ensures.kept.core_is c.in_err-found.ensures.settles) (p.1 ∙ ap (λ e. Err e) p.2)
 
 pub returns : goal.returns
-returns c = opened_settles _ _ _ _ refl refl c.in_ok-found.ensures.settles
+returns c =
+    opened_settles _ _ _ _ c.in_ok-dump.ensures.kept.core_is c.in_ok-dump.ensures.memory
+    (subst (λ bs. Settles (FindsProcess bs c.args.images.now c.args.layouts.now) (finding_in (Ok c.in_ok-found.found)))
+    c.in_ok-dump.ensures.kept.core_is c.in_ok-found.ensures.settles)

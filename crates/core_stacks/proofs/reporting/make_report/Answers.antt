@@ -5,7 +5,7 @@ use Rattle.py_process.specs.Reports.{reported}
 use Rattle.py_process.specs.declared.core_error.CoreError.TheVariants.{OutOfMemory}
 use Rattle.core_stacks.specs.Opened.{Opens}
 use Rattle.core_stacks.specs.Sole.{Settles}
-use Rattle.core_stacks.proofs.ReportLaws.{memory_reports, opened_readable, opened_settled, unopened_readable, unopened_settled}
+use Rattle.core_stacks.proofs.ReportLaws.{memory_reports, opened_faultless, opened_settled, unopened_readable, unopened_settled}
 use Rattle.core_stacks.proofs.reporting.make_report.Goals as goal
 
 pub returns-in_err-notes-clause-settles : goal.returns-in_err-notes-clause-settles
@@ -38,4 +38,4 @@ returns-clause-complete c = λ good.
     let settled : Settles (Opens c.args.bytes.items c.args.images.now c.args.layouts.now) (Ok c.in_ok-python.python) =
     subst (λ bs. Settles (Opens bs c.args.images.now c.args.layouts.now) (Ok c.in_ok-python.python)) c.in_ok-core.ensures.same
     (record { right = c.in_ok-python.ensures.right; only = c.in_ok-python.ensures.only }) in
-    c.report_of.ensures.complete (opened_readable _ _ _ _ c.in_ok-python.python settled.right settled.only good) good.asks good.no_locals
+    c.report_of.ensures.complete good.asks (opened_faultless _ _ _ _ c.in_ok-python.python settled.right settled.only good)

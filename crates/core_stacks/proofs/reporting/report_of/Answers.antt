@@ -12,10 +12,10 @@ returns-in_err-traces-clause-settles c =
     untold_settles _ _ c.in_err-traces.field-0.0 _ c.in_err-traces.ensures.right (ap reported (p.1 ∙ ap (λ e. Err e) p.2))
 
 pub returns-in_err-traces-clause-complete : goal.returns-in_err-traces-clause-complete
-returns-in_err-traces-clause-complete c = λ found asks none.
+returns-in_err-traces-clause-complete c = λ asks none.
     let p = err_from_is_err_and c.from_residual.result c.from_residual.ensures.1 in
     subst (λ r. IfErr r (λ error. error ≡ OutOfMemory)) (sym (p.1 ∙ ap (λ e. Err e) p.2))
-    (left_memory c.args.python c.args.config.now asks c.in_err-traces.field-0.0 (c.in_err-traces.ensures.found found none) c.in_err-traces.ensures.right)
+    (left_memory c.args.python c.args.config.now asks none c.in_err-traces.field-0.0 c.in_err-traces.ensures.right)
 
 pub returns-clause-settles : goal.returns-clause-settles
 returns-clause-settles c =

@@ -21,4 +21,4 @@ returns-clause-equal c = λ other same equal.
     stacks_equal c.args.self.now other c.args.config.now (traces_in c.read_stacks.result) same equal (returns-clause-right c)
 
 pub returns-clause-found : goal.returns-clause-found
-returns-clause-found c = λ found none. found_left c.args.self.now c.args.config.now c.read_stacks.result found none (returns-clause-right c)
+returns-clause-found c = λ found. found_left c.args.self.now c.args.config.now c.read_stacks.result found (returns-clause-right c)
