@@ -10,20 +10,21 @@ use Rattle.py_layout.specs.declared.error.LayoutError.TheVariants as layout
 use Rattle.py_layout.specs.Lists.{AreSound, Clash}
 use Rattle.py_layout.specs.File.{IsRightFor}
 use Rattle.image_memory.specs.Images.{Pushed}
-use Rattle.py_stacks.specs.Asking.{default_config}
+use Rattle.py_stacks.specs.declared.config.Config.{Config}
 use Rattle.py_process.specs.Reports.{IsReadable, Reported, reported_of}
 use Rattle.py_process.specs.declared.report.Report.{Report}
 use Rattle.py_layout.proofs.Answering.{right-unique}
 use Rattle.py_process.specs.declared.core_error.CoreError.{CoreError}
 use Rattle.py_process.specs.declared.core_error.CoreError.TheVariants as core
-use Rattle.core_words.specs.Words.{Command, Dump, LayoutSource, Walk, dump, walk, sample, file}
-use Rattle.core_texts.specs.Text.{report_text, walk_text}
+use Rattle.core_words.specs.Dump.{Dump}
+use Rattle.core_words.specs.Words.{Command, LayoutSource, Walk, dump, walk, sample, file}
+use Rattle.core_texts.specs.Text.{walk_text}
 use Rattle.core_stacks.specs.Answer.{IsWalkable}
 use Rattle.core_stacks.proofs.ReportLaws.{report_agree, report_complete}
 use Rattle.core_stacks.proofs.Finds.{NoneClash, finds_means, means_none}
 use Rattle.core_report.specs.declared.cause.Cause.{Cause}
 use Rattle.core_report.specs.declared.cause.Cause.TheVariants.{Core, Layouts, OutOfMemory}
-use Rattle.core_report.specs.Outcome.{IsDumped, IsDumpedBy, IsFaultless, IsFaultlessDump, IsFaultlessWalk, IsOutcome, IsReported, IsShown, IsWalked, IsWalkedBy, Outcome, ReportAnswers, SourceSays, Then, WalkAnswers, cause_status, core_status, images_of, layouts_status, outcome_status}
+use Rattle.core_report.specs.Outcome.{IsDumped, IsDumpedBy, IsFaultless, IsFaultlessDump, IsFaultlessWalk, IsOutcome, IsReported, IsShown, IsWalked, IsWalkedBy, Outcome, ReportAnswers, SourceSays, Then, WalkAnswers, cause_status, core_status, images_of, layouts_status, outcome_status, shown_report}
 
 -- one sound layout is a sound list
 pub one_sound : (l : Layout) → IsSound l → AreSound (l ∷ [])
@@ -214,15 +215,15 @@ err_kept : (e : CoreError) → e ≢ core.OutOfMemory → ◌≡◌ {A = Result 
 err_kept e ne is = ne (cc)
 
 -- a report and a cause aren't both right
-report_apart : (bytes : List ℕ) (images : Pushed) (list : List Layout) → NoneClash list → (r : Report) (e : CoreError)
-    → ReportAnswers bytes images list (Ok r) → ReportAnswers bytes images list (Err e) → e ≢ core.OutOfMemory → ⊥
-report_apart bytes images list apart r e one other ne =
-    err_of (reported_of r) e (report_agree bytes images list default_config apart (Ok (reported_of r)) (Err e) one other
+report_apart : (config : Config) (bytes : List ℕ) (images : Pushed) (list : List Layout) → NoneClash list → (r : Report) (e : CoreError)
+    → ReportAnswers config bytes images list (Ok r) → ReportAnswers config bytes images list (Err e) → e ≢ core.OutOfMemory → ⊥
+report_apart config bytes images list apart r e one other ne =
+    err_of (reported_of r) e (report_agree bytes images list config apart (Ok (reported_of r)) (Err e) one other
     (err_of (reported_of r) core.OutOfMemory) (err_kept e ne))
 
 dumped_agree : (d : Dump) (bytes : List ℕ) (images : Pushed) (list : List Layout) → NoneClash list → Agree (IsDumpedBy d bytes images list)
-dumped_agree d bytes images list apart = then_agree (λ error. Core error) (ReportAnswers bytes images list) (IsReported d)
-    (core_exclude (ReportAnswers bytes images list) (report_apart bytes images list apart))
+dumped_agree d bytes images list apart = then_agree (λ error. Core error) (ReportAnswers d.config bytes images list) (IsReported d)
+    (core_exclude (ReportAnswers d.config bytes images list) (report_apart d.config bytes images list apart))
     (λ s t one other a b p q na nb. text_agree _ _ a b p q)
 
 text_apart : (text : List ℕ) (list : List Layout) → IsRightFor text (Ok list) → NoneClash list
@@ -236,10 +237,10 @@ dump_agree d (bytes ∷ text ∷ images) a b one other na nb =
     (λ list says. dumped_agree d bytes (images_of d.images images) list (text_apart text list says)) a b one other na nb
 
 dumped_sound : (d : Dump) (bytes : List ℕ) (images : Pushed) (list : List Layout) → NoneClash list
-    → IsReadable bytes images list default_config → NoCause (IsDumpedBy d bytes images list)
-dumped_sound d bytes images list apart good = then_sound (λ error. Core error) (ReportAnswers bytes images list) (IsReported d)
-    (λ e error ne. report_complete bytes images list default_config apart good e error (err_kept e (core_one e ne).1))
-    (λ r found. text_sound (report_text d.core r.signal r.process r.version r.traces.items))
+    → IsReadable bytes images list d.config → NoCause (IsDumpedBy d bytes images list)
+dumped_sound d bytes images list apart good = then_sound (λ error. Core error) (ReportAnswers d.config bytes images list) (IsReported d)
+    (λ e error ne. report_complete bytes images list d.config apart good e error (err_kept e (core_one e ne).1))
+    (λ r found. text_sound (shown_report d r))
 
 dump_sound : (d : Dump) (contents : List (List ℕ)) → IsFaultlessDump d contents → NoCause (IsDumped d contents)
 dump_sound d [] good cause ne is = good

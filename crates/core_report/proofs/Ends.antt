@@ -80,12 +80,23 @@ module _ (asked : Option Command) (r : Ran) where
   printed_of (unread name why) ended is = absurd (omega (arith, is))
   printed_of cut ended is = absurd (omega (arith, is))
 
-  pub refused_of : (end : End) → HasEnded asked r end → (status_of end ≡ 2) ↔ (asked ≡ None)
-  refused_of printed ended = (λ is. absurd (omega (arith, is)), λ none. absurd (none-some _ (sym none ∙ ended.reached.is_asked)))
-  refused_of (stopped cause) ended = (λ is. absurd ((cause_own cause).not_2 is), λ none. absurd (none-some _ (sym none ∙ ended.is_asked)))
-  refused_of refused ended = (λ is. ended.0, λ none. refl)
-  refused_of (unread name why) ended = (λ is. absurd (omega (arith, is)), λ none. absurd (none-some _ (sym none ∙ ended.is_asked)))
-  refused_of cut ended = (λ is. absurd (omega (arith, is)), λ none. absurd (none-some _ (sym none ∙ ended.reached.is_asked)))
+  pub refused_of : (end : End) → HasEnded asked r end → status_of end ≡ 2 → asked ≡ None
+  refused_of printed ended is = absurd (omega (arith, is))
+  refused_of (stopped cause) ended is = absurd ((cause_own cause).not_2 is)
+  refused_of refused ended is = ended.0
+  refused_of (unread name why) ended is = absurd (omega (arith, is))
+  refused_of cut ended is = absurd (omega (arith, is))
+
+  pub asked_of : (end : End) → HasEnded asked r end → asked ≡ None → (status_of end ≡ 2) ⊎ (status_of end ≡ 5)
+  asked_of printed ended none = absurd (none-some _ (sym none ∙ ended.reached.is_asked))
+  asked_of (stopped cause) ended none = by (cases_five (cause_status cause))
+    where
+      by : (cause_status cause ≡ 5) ⊎ (cause_status cause ≢ 5) → (cause_status cause ≡ 2) ⊎ (cause_status cause ≡ 5)
+      by (inl five) = inr five
+      by (inr ne5) = absurd (none-some _ (sym none ∙ (ended.reached ne5).is_asked))
+  asked_of refused ended none = inl refl
+  asked_of (unread name why) ended none = absurd (none-some _ (sym none ∙ ended.is_asked))
+  asked_of cut ended none = absurd (none-some _ (sym none ∙ ended.reached.is_asked))
 
   pub unread_of : (end : End) → HasEnded asked r end → (status_of end ≡ 3) ↔ (r.files_after.failed ≢ r.files.failed)
   unread_of printed ended = (λ is. absurd (omega (arith, is)), λ more. absurd (more ended.failed))

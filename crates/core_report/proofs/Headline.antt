@@ -8,11 +8,10 @@ use Rattle.outside.specs.Files.{Told}
 use Rattle.outside.specs.Streams.{SinkSeen}
 use Rattle.py_fields.specs.declared.layout.Layout.{Layout}
 use Rattle.py_layout.specs.File.{IsRightFor}
-use Rattle.py_stacks.specs.Asking.{default_config}
 use Rattle.py_process.specs.Reports.{reported_of}
 use Rattle.py_process.specs.declared.report.Report.{Report}
-use Rattle.core_words.specs.Words.{Command, Dump, dump}
-use Rattle.core_texts.specs.Text.{report_text}
+use Rattle.core_words.specs.Dump.{Dump}
+use Rattle.core_words.specs.Words.{Command, dump}
 use Rattle.core_stacks.proofs.ReportLaws.{report_whole}
 use Rattle.core_report.specs.Headline.{HasReported}
 use Rattle.core_report.specs.Outcome.{IsDumped, IsDumpedBy, IsOutcome, Outcome, images_of}
@@ -38,7 +37,7 @@ module _ (d : Dump) (told : Told) (old new : SinkSeen) (written : List ℕ) (add
     layouts = layouts;
     says = says;
     report = report;
-    right = report_whole bytes (images_of d.images images) layouts default_config (reported_of report) h;
+    right = report_whole bytes (images_of d.images images) layouts d.config (reported_of report) h;
     written = subst (λ t. Appends old.written new.written t) (text_same written _ is) added;
   }
 

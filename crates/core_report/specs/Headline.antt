@@ -5,18 +5,18 @@ use Rattle.outside.specs.Files.{Told}
 use Rattle.outside.specs.Streams.{SinkSeen}
 use Rattle.py_fields.specs.declared.layout.Layout.{Layout}
 use Rattle.py_layout.specs.File.{IsRightFor}
-use Rattle.py_stacks.specs.Asking.{default_config}
 use Rattle.py_process.specs.Reports.{IsRight, reported_of}
 use Rattle.py_process.specs.declared.report.Report.{Report}
-use Rattle.core_words.specs.Words.{Dump, dump}
-use Rattle.core_texts.specs.Text.{report_text}
-use Rattle.core_report.specs.Outcome.{images_of}
+use Rattle.core_words.specs.Dump.{Dump}
+use Rattle.core_words.specs.Words.{dump}
+use Rattle.core_report.specs.Outcome.{images_of, shown_report}
 use Rattle.core_report.specs.Reading.{IsRead}
 
--- The text of a report was written. The report's threads are the whole chain of threads, to null, of the first
--- candidate interpreter that passes the test over the core's memory, and the frames of each are its whole chain of
--- callers, to null, less the skipped members, with their code records' file and function names (`IsRight`): by the
--- bytes that the files gave for the core, by the layouts that they gave, and by the images, each under its path.
+-- The text of a report was written, or its threads as JSON where the words ask for that. The report's threads are the
+-- whole chain of threads, to null, of the first candidate interpreter that passes the test over the core's memory, and
+-- the frames of each are its whole chain of callers, to null, less the skipped members, with their code records' file
+-- and function names (`IsRight`): by the bytes that the files gave for the core, by the layouts that they gave, and by
+-- the images, each under its path; and with what else the words ask for.
 pub record HasReported (d : Dump) (told : Told) (old new : SinkSeen) : Type 0 where
   pub core : List ℕ
   pub text : List ℕ
@@ -25,6 +25,5 @@ pub record HasReported (d : Dump) (told : Told) (old new : SinkSeen) : Type 0 wh
   pub layouts : List Layout
   pub says : IsRightFor text (Ok layouts)
   pub report : Report
-  pub right : IsRight core (images_of d.images images) layouts default_config (reported_of report)
-  pub written : Appends old.written new.written
-      (report_text d.core report.signal report.process report.version report.traces.items)
+  pub right : IsRight core (images_of d.images images) layouts d.config (reported_of report)
+  pub written : Appends old.written new.written (shown_report d report)

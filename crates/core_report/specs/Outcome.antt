@@ -1,5 +1,5 @@
 -- What a command comes to over the contents of its files.
-use Rattle.std.specs.Prelude.{◌≡◌, ◌≢◌, ◌⊎◌, ℕ, List, [], ◌∷◌, Result, Ok, Err, Vec, string_bytes, String}
+use Rattle.std.specs.Prelude.{◌≡◌, ◌≢◌, ◌⊎◌, ℕ, List, [], ◌∷◌, Result, Ok, Err, Vec, if◌then◌else◌}
 use Rattle.std.specs.Global.{Global}
 use Rattle.py_fields.specs.declared.layout.Layout.{Layout}
 use Rattle.py_fields.specs.Samples.{sample_layout}
@@ -9,11 +9,13 @@ use Rattle.py_layout.specs.declared.error.LayoutError.TheVariants as layout
 use Rattle.py_stacks.specs.declared.trace.StackTrace.{StackTrace}
 use Rattle.py_process.specs.declared.core_error.CoreError.{CoreError}
 use Rattle.py_process.specs.declared.core_error.CoreError.TheVariants as core
-use Rattle.core_words.specs.Words.{Command, Dump, LayoutSource, Walk, dump, file, sample, walk}
+use Rattle.core_words.specs.Dump.{Dump}
+use Rattle.core_words.specs.Words.{Command, LayoutSource, Walk, dump, file, sample, walk}
 use Rattle.core_texts.specs.Text.{report_text, walk_text}
+use Rattle.core_texts.specs.Tree.{report_json}
 use Rattle.image_memory.specs.Images.{Pushed}
 use Rattle.image_memory.specs.Mmap.{whole_view}
-use Rattle.py_stacks.specs.Asking.{default_config}
+use Rattle.py_stacks.specs.declared.config.Config.{Config}
 use Rattle.py_process.specs.Reports.{IsReadable, ReportIs, reported}
 use Rattle.py_process.specs.declared.report.Report.{Report}
 use Rattle.core_stacks.specs.Answer.{IsWalkable, Means, traced}
@@ -67,18 +69,22 @@ images_by (bytes ∷ rest) (image ∷ images) = (image.0, whole_view bytes) ∷ 
 abbrev pub images_of : List (List ℕ × List ℕ) → List (List ℕ) → Pushed
 images_of images contents = images_by contents images
 
--- the report of a core and its images, or the cause why there is none
-abbrev pub ReportAnswers : List ℕ → Pushed → List Layout → Result Report CoreError → Type 0
-ReportAnswers core images layouts answer = ReportIs core images layouts default_config (reported answer)
+-- the report of a core and its images, as the words ask for it, or the cause why there is none
+abbrev pub ReportAnswers : Config → List ℕ → Pushed → List Layout → Result Report CoreError → Type 0
+ReportAnswers config core images layouts answer = ReportIs core images layouts config (reported answer)
 
--- the text of a report
+-- the text of a report, or its threads as JSON, as the words ask
+abbrev pub shown_report : Dump → Report → List ℕ
+shown_report d r = if d.config.dump_json then report_json r.traces.items
+    else report_text d.core r.signal r.process r.version r.traces.items
+
 abbrev pub IsReported : Dump → Report → Outcome → Type 0
-IsReported d r outcome = outcome ≡ Ok (report_text d.core r.signal r.process r.version r.traces.items)
+IsReported d r outcome = outcome ≡ Ok (shown_report d r)
 
 -- a report of a core and its images by these layouts
 abbrev pub IsDumpedBy : Dump → List ℕ → Pushed → List Layout → Outcome → Type 0
 IsDumpedBy d core images layouts outcome =
-    Then (λ error. Core error) (ReportAnswers core images layouts) (IsReported d) outcome
+    Then (λ error. Core error) (ReportAnswers d.config core images layouts) (IsReported d) outcome
 
 -- the layouts are judged first, and then the report is made
 abbrev pub IsDumped : Dump → List (List ℕ) → Outcome → Type 0
@@ -100,7 +106,7 @@ IsFaultlessWalk w (bytes ∷ rest) =
 
 abbrev pub IsFaultlessDump : Dump → List (List ℕ) → Type 0
 IsFaultlessDump d (core ∷ text ∷ images) = (layouts : List Layout) × IsRightFor text (Ok layouts)
-    × IsReadable core (images_of d.images images) layouts default_config
+    × IsReadable core (images_of d.images images) layouts d.config
 IsFaultlessDump d _ = ⊥
 
 abbrev pub IsFaultless : Command → List (List ℕ) → Type 0
@@ -128,8 +134,8 @@ outcome_status (Ok _) = 0
 outcome_status (Err cause) = cause_status cause
 
 -- the answer of some work is right, unless memory ran out
-abbrev pub IsAnswer : (Outcome → Type 0) → Result (String Global) Cause → Type 0
-IsAnswer Right (Ok text) = Right (Ok (string_bytes text))
+abbrev pub IsAnswer : (Outcome → Type 0) → Result (Vec ℕ Global) Cause → Type 0
+IsAnswer Right (Ok text) = Right (Ok text.items)
 IsAnswer Right (Err cause) = cause_status cause ≢ 5 → Right (Err cause)
 
 -- the layouts, or their error, are what is said, unless memory ran out

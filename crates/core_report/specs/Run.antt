@@ -1,5 +1,5 @@
 -- What a run of the top call means.
-use Rattle.std.specs.Prelude.{◌≡◌, ◌≢◌, ◌++◌, ℕ, List, [], ◌∷◌, Option, Some, None, IsSome, Result, Ok, Err, codes, string_bytes, String}
+use Rattle.std.specs.Prelude.{◌≡◌, ◌≢◌, ◌++◌, ℕ, List, [], ◌∷◌, Option, Some, None, IsSome, Result, Ok, Err, codes, Vec}
 use Rattle.std.specs.Global.{Global}
 use Rattle.std.specs.List.{concat}
 use Rattle.outside.specs.Files.{FailedNames, FilesSeen, Told}
@@ -106,8 +106,6 @@ pub record IsStuck (asked : Option Command) (r : Ran) (name : List ℕ) (why : F
 
 -- the words ask for a command that comes to this cause, unless memory ran out, and nothing was written
 pub record IsStopped (asked : Option Command) (r : Ran) (cause : Cause) : Type 0 where
-  pub command : Command
-  pub is_asked : asked ≡ Some command
   pub reached : cause_status cause ≢ 5 → Reaches asked r.files.told (Err cause)
   pub quiet : IsQuiet r
 
@@ -142,8 +140,8 @@ IsTroubled old new command (Caused cause) =
 IsTroubled old new command (File name why) = IsUnread old new command name.now why
 IsTroubled old new command _ = ⊥
 
-abbrev pub Comes : FilesSeen → FilesSeen → Command → Result (String Global) Trouble → Type 0
-Comes old new command (Ok text) = ComesTo old.told command (Ok (string_bytes text)) × (new.failed ≡ old.failed)
+abbrev pub Comes : FilesSeen → FilesSeen → Command → Result (Vec ℕ Global) Trouble → Type 0
+Comes old new command (Ok text) = ComesTo old.told command (Ok text.items) × (new.failed ≡ old.failed)
 Comes old new command (Err trouble) = IsTroubled old new command trouble
 
 -- what the reading of one file may leave

@@ -2,28 +2,30 @@
 ghost use Rattle.std.specs.Prelude.{◌≡◌, ◌≢◌, ◌≤◌, ◌↔◌, ◌⊎◌, List, ℕ, None, Some, Ok, Err};
 ghost use Rattle.std.specs.Io.KnownBytes.{Appends};
 ghost use Rattle.outside.specs.Counts.{Rose};
-ghost use Rattle.core_words.specs.Words.{Command as Asked, Dump, command_of, dump, texts};
+ghost use Rattle.core_words.specs.Dump.{Dump};
+ghost use Rattle.core_words.specs.Words.{Command as Asked, command_of, dump, texts};
 ghost use Rattle.core_words.specs.Seen.{asked_command};
 ghost use Rattle.core_report.specs.declared.cause.Cause.{Cause as Why};
 ghost use Rattle.core_report.specs.Headline.{HasReported};
 ghost use Rattle.core_report.specs.Outcome.{IsFaultless, IsOutcome, cause_status};
 ghost use Rattle.core_report.specs.Run.{Comes, HasEnded, IsRun, Reaches, Tells, end_of, ran};
 
+use crate::cause::Cause;
 use crate::dump_command::dump_files;
 use crate::lines::tell;
 use crate::reading::read_kept;
 use crate::trouble::Trouble;
 use crate::walk_command::walk_files;
-use core_words::{Command, read_words};
+use core_words::{ArgsError, Command, read_words};
 use outside::{Files, Sink};
 use std::alloc::Global;
 
 /// The text of a command.
 fn text_of<'a, F: Files>(
     alloc: Global,
-    command: &Command<'a>,
+    command: &'a Command<'_>,
     files: &mut F,
-) -> Result<String, Trouble<'a>>
+) -> Result<Vec<u8>, Trouble<'a>>
     ensures told { (F.seen files.new).told ≡ (F.seen files.old).told }
     ensures comes { Comes (F.seen files.old) (F.seen files.new) (asked_command command.now) result }
 {
@@ -34,29 +36,45 @@ fn text_of<'a, F: Files>(
     }
 }
 
-/// Does what the words ask for.
+/// Does what is asked for.
 fn execute<'a, F: Files, S: Sink>(
     alloc: Global,
-    words: &'a [String],
+    command: &'a Command<'_>,
     files: &mut F,
     out: &mut S,
 ) -> Result<(), Trouble<'a>>
-    ensures ends { HasEnded (command_of (texts words.now))
+    ensures ends { HasEnded (Some (asked_command command.now))
         (ran (F.seen files.old) (F.seen files.new) (S.seen out.old) (S.seen out.new)) (end_of result) }
     ensures told { (F.seen files.new).told ≡ (F.seen files.old).told }
 {
-    let Some(command) = read_words(words) else {
-        return Err(Trouble::Words);
-    };
-    let text = text_of(alloc, &command, files)?;
-    match out.write(text.as_bytes()) {
+    let text = text_of(alloc, command, files)?;
+    match out.write(&text) {
         Ok(()) => Ok(()),
         Err(_) => Err(Trouble::Write),
     }
 }
 
-/// Does what the words ask for, and says what was wrong.
+/// Does what is asked for, and says what was wrong.
 fn conclude<F: Files, S: Sink, E: Sink>(
+    alloc: Global,
+    command: &Command<'_>,
+    files: &mut F,
+    out: &mut S,
+    err: &mut E,
+) -> u8
+    ensures right { IsRun (Some (asked_command command.now))
+        (ran (F.seen files.old) (F.seen files.new) (S.seen out.old) (S.seen out.new))
+        (E.seen err.old) (E.seen err.new) result }
+    ensures told { (F.seen files.new).told ≡ (F.seen files.old).told }
+{
+    match execute(alloc, command, files, out) {
+        Ok(()) => 0,
+        Err(trouble) => tell(err, &trouble),
+    }
+}
+
+/// Does what the words ask for, and says what was wrong.
+fn obey<F: Files, S: Sink, E: Sink>(
     alloc: Global,
     words: &[String],
     files: &mut F,
@@ -68,9 +86,10 @@ fn conclude<F: Files, S: Sink, E: Sink>(
         (E.seen err.old) (E.seen err.new) result }
     ensures told { (F.seen files.new).told ≡ (F.seen files.old).told }
 {
-    match execute(alloc, words, files, out) {
-        Ok(()) => 0,
-        Err(trouble) => tell(err, &trouble),
+    match read_words(alloc, words) {
+        Ok(command) => conclude(alloc, &command, files, out, err),
+        Err(ArgsError::Refused) => tell(err, &Trouble::Words),
+        Err(ArgsError::OutOfMemory) => tell(err, &Trouble::Cause(Cause::OutOfMemory)),
     }
 }
 
@@ -118,7 +137,10 @@ pub fn run<F: Files, S: Sink, E: Sink>(
     ensures silent { result ≡ 0 → E.seen err.new ≡ E.seen err.old }
     ensures nothing_out { result ≢ 0 → result ≢ 4 → S.seen out.new ≡ S.seen out.old }
 
-    ensures refused { (result ≡ 2) ↔ (command_of (texts words.now) ≡ None) }
+    // the words are refused exactly where they ask for nothing, want of memory aside
+    ensures refused { result ≡ 2 → command_of (texts words.now) ≡ None }
+    ensures asked { command_of (texts words.now) ≡ None → (result ≡ 2) ⊎ (result ≡ 5) }
+
     ensures unread { (result ≡ 3) ↔ ((F.seen files.new).failed ≢ (F.seen files.old).failed) }
     ensures all_read { result ≢ 3 → (F.seen files.new).failed ≡ (F.seen files.old).failed }
     ensures told { (F.seen files.new).told ≡ (F.seen files.old).told }
@@ -138,5 +160,5 @@ pub fn run<F: Files, S: Sink, E: Sink>(
         → ¬ Rose (S.seen out.old).faults (S.seen out.new).faults
         → (result ≡ 0) ⊎ (result ≡ 5) }
 {
-    conclude(alloc, words, files, out, err)
+    obey(alloc, words, files, out, err)
 }

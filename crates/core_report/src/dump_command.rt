@@ -1,72 +1,76 @@
-//! `dump -c CORE --layouts FILE [PATH=FILE]..`
+//! `dump -c CORE --layouts FILE [OPTION].. [PATH=FILE]..`
 ghost use Rattle.std.specs.Prelude.{◌≡◌, ◌≤◌, ◌∷◌, IfOk, length};
 ghost use Rattle.core_words.specs.Words.{dump, kept_files};
 ghost use Rattle.core_words.specs.Seen.{asked_dump};
 ghost use Rattle.core_report.specs.Reading.{contents};
-ghost use Rattle.core_report.specs.Outcome.{IsAnswer, IsDumped, IsDumpedBy, IsOutcome, images_of};
+ghost use Rattle.core_report.specs.Outcome.{IsAnswer, IsDumped, IsDumpedBy, IsOutcome, images_of, shown_report};
 
 use crate::cause::Cause;
 use core_stacks::report;
-use core_texts::report_text;
-use core_words::{DumpWords, image_of};
+use core_texts::{report_json, report_text};
+use core_words::DumpWords;
 use elf64_core::Name;
 use image_memory::{Images, Mmap};
 use py_layout::Layouts;
-use py_stacks::Config;
+use py_process::Report;
 use std::alloc::{AllocError, Global};
 
 /// The images of a report: each file's bytes under the path of its word.
-fn dump_images(
-    alloc: Global,
-    words: &DumpWords<'_>,
-    files: Vec<Vec<u8>>,
-) -> Result<Images, AllocError>
+fn dump_images(alloc: Global, words: &DumpWords, files: Vec<Vec<u8>>) -> Result<Images, AllocError>
     ensures { IfOk result (λ images. images ≡ images_of (asked_dump words.now).images (contents files.items)) }
 {
     let mut images = Images::new(alloc);
-    let mut names = words.images;
+    let mut names = words.images.as_slice();
     for bytes in files {
-        let [word, rest @ ..] = names else {
+        let [(path, _), rest @ ..] = names else {
             break;
         };
-        let (path, _) = image_of(word.as_str());
         images.push(Name::of(alloc, path.as_bytes())?, Mmap::of(alloc, bytes)?)?;
         names = rest;
     }
     Ok(images)
 }
 
-/// The text of a report of a core and its images, by these layouts.
-fn text_by(
-    alloc: Global,
-    words: &DumpWords<'_>,
-    core: Vec<u8>,
-    images: &Images,
-    layouts: &Layouts,
-) -> Result<String, Cause>
-    ensures { IsAnswer (IsDumpedBy (asked_dump words.now) core.items images.now layouts.now) result }
+/// The text of a report, or its threads as JSON, as the words ask.
+fn shown(alloc: Global, words: &DumpWords, report: &Report) -> Result<Vec<u8>, AllocError>
+    ensures { IfOk result (λ text. text.items ≡ shown_report (asked_dump words.now) report.now) }
 {
-    let config = Config::default();
-    let report = report(alloc, core, images, layouts, &config)?;
-    let text = report_text(
+    if words.config.dump_json {
+        return Ok(report_json(alloc, &report.traces)?.into_bytes());
+    }
+    report_text(
         alloc,
-        words.core,
+        words.core.as_bytes(),
         report.signal,
         &report.process,
         &report.version,
         &report.traces,
-    )?;
+    )
+}
+
+/// The text of a report of a core and its images, by these layouts.
+fn text_by(
+    alloc: Global,
+    words: &DumpWords,
+    core: Vec<u8>,
+    images: &Images,
+    layouts: &Layouts,
+) -> Result<Vec<u8>, Cause>
+    ensures { IsAnswer (IsDumpedBy (asked_dump words.now) core.items images.now layouts.now) result }
+{
+    let report = report(alloc, core, images, layouts, &words.config)?;
+    let text = shown(alloc, words, &report)?;
     Ok(text)
 }
 
 /// The text of a report over the contents of its files: of the core, of the layout file, and of the images.
 fn dump_parts(
     alloc: Global,
-    words: &DumpWords<'_>,
+    words: &DumpWords,
     core: Vec<u8>,
     text: &[u8],
     files: Vec<Vec<u8>>,
-) -> Result<String, Cause>
+) -> Result<Vec<u8>, Cause>
     ensures { IsAnswer (IsDumped (asked_dump words.now) (core.items ∷ text.now ∷ contents files.items)) result }
 {
     let layouts = Layouts::from_toml(alloc, text)?;
@@ -77,10 +81,10 @@ fn dump_parts(
 /// The same, where the core's bytes were taken out of the contents.
 fn dump_rest(
     alloc: Global,
-    words: &DumpWords<'_>,
+    words: &DumpWords,
     core: Vec<u8>,
     mut rest: Vec<Vec<u8>>,
-) -> Result<String, Cause>
+) -> Result<Vec<u8>, Cause>
     requires { 1 ≤ length rest.items }
     ensures { IsAnswer (IsDumped (asked_dump words.now) (core.items ∷ contents rest.items)) result }
 {
@@ -91,9 +95,9 @@ fn dump_rest(
 /// The text of a report over the contents of its files.
 pub(crate) fn dump_files(
     alloc: Global,
-    words: &DumpWords<'_>,
+    words: &DumpWords,
     mut read: Vec<Vec<u8>>,
-) -> Result<String, Cause>
+) -> Result<Vec<u8>, Cause>
     requires kept { length read.items ≡ length (kept_files (dump (asked_dump words.now))) }
     ensures { IsAnswer (IsOutcome (dump (asked_dump words.now)) (contents read.items)) result }
 {

@@ -1,7 +1,6 @@
 //! Reports of whole cores with an image, written out by hand.
 use crate::layout_tests::{SAMPLE, with_part};
 use crate::run;
-use crate::tests::words;
 use elf64_core::Name;
 use outside::{MemoryFiles, MemorySink};
 use std::alloc::{AllocError, Global};
@@ -114,11 +113,11 @@ pub(crate) fn with_words(
 /// A core with one of its words changed, and the name of its file.
 const CORES: [(&[u8], (usize, u64)); 6] = [
     (b"core", (0, 0x0102_464c_457f)),
-    (b"no interpreter", (912, 0x10040)),
-    (b"bss cut", (208, 8)),
-    (b"other name", (992, 0x392e_786e_6f68)),
-    (b"not executable", (120, 0x4_0000_0001)),
-    (b"notes cut", (264, 0x4e)),
+    (b"no-interpreter", (912, 0x10040)),
+    (b"bss-cut", (208, 8)),
+    (b"other-name", (992, 0x392e_786e_6f68)),
+    (b"not-executable", (120, 0x4_0000_0001)),
+    (b"notes-cut", (264, 0x4e)),
 ];
 
 fn files(alloc: Global, failing: &[u64]) -> Result<MemoryFiles, AllocError> {
@@ -127,6 +126,9 @@ fn files(alloc: Global, failing: &[u64]) -> Result<MemoryFiles, AllocError> {
         let bytes = with_words(alloc, 1000, &[*edit], &CORE_WORDS)?;
         held.push((Name::of(alloc, name)?, bytes))?;
     }
+    // the names of variables of both codes are at 0x10000
+    let named = with_words(alloc, 1000, &[(600, 0x10000), (664, 0x10000)], &CORE_WORDS)?;
+    held.push((Name::of(alloc, b"named")?, named))?;
     let image = with_words(alloc, 328, &[], &IMAGE_WORDS)?;
     held.push((Name::of(alloc, b"image")?, image))?;
     let later = with_part(
@@ -140,149 +142,262 @@ fn files(alloc: Global, failing: &[u64]) -> Result<MemoryFiles, AllocError> {
         Name::of(alloc, b"sample")?,
         SAMPLE.as_bytes().to_vec(alloc)?,
     ))?;
+    held.push((Name::of(alloc, b"empty")?, Vec::new(alloc)))?;
     Ok(MemoryFiles::new(alloc, held, failing.to_vec(alloc)?))
 }
 
-/// A run: the core, the layout file, the images, the reads that fail, and what comes of it.
-struct Row {
-    core: &'static str,
-    layouts: &'static str,
-    images: &'static [&'static str],
-    failing: &'static [u64],
-    status: u8,
-    said: &'static [u8],
-}
+const TEXT: &str = "Python v3.9.0\n\nThread 0x7F00\n    f (a.py)\n    <module> (a.py)\n";
 
-const IMAGE: &[&str] = &["/usr/bin/python3.9=image"];
+const JSON: &str = r#"[
+  {
+    "active": true,
+    "frames": [
+      {
+        "filename": "a.py",
+        "is_entry": true,
+        "is_shim_entry": false,
+        "line": 0,
+        "locals": null,
+        "module": null,
+        "name": "f",
+        "short_filename": null
+      },
+      {
+        "filename": "a.py",
+        "is_entry": true,
+        "is_shim_entry": true,
+        "line": 0,
+        "locals": null,
+        "module": null,
+        "name": "<module>",
+        "short_filename": null
+      }
+    ],
+    "os_thread_id": null,
+    "owns_gil": false,
+    "pid": 0,
+    "process_info": null,
+    "thread_id": 32512,
+    "thread_name": null
+  }
+]
+"#;
 
-const ROWS: [Row; 13] = [
-    Row {
-        core: "core",
-        layouts: "sample",
-        images: IMAGE,
-        failing: &[],
-        status: 0,
-        said: b"",
-    },
+/// The words, with blanks between them, the status, what is printed, and the line why there is none, behind
+/// `pystacks: `.
+type Row = (&'static str, u8, &'static str, &'static str);
+
+const ROWS: [Row; 28] = [
+    (
+        "dump -c core --layouts sample /usr/bin/python3.9=image",
+        0,
+        TEXT,
+        "",
+    ),
+    (
+        "d --full-filenames /usr/bin/python3.9=image --layouts=sample -ccore",
+        0,
+        TEXT,
+        "",
+    ),
+    (
+        "dump -jc core --layouts sample /usr/bin/python3.9=image",
+        0,
+        JSON,
+        "",
+    ),
     // the first image of a path counts
-    Row {
-        core: "core",
-        layouts: "sample",
-        images: &["/usr/bin/python3.9=image", "/usr/bin/python3.9=core"],
-        failing: &[],
-        status: 0,
-        said: b"",
-    },
-    Row {
-        core: "core",
-        layouts: "sample",
-        images: &["/usr/bin/python3.9=core", "/usr/bin/python3.9=image"],
-        failing: &[],
-        status: 1,
-        said: b"pystacks: bad image: /usr/bin/python3.9\n",
-    },
-    Row {
-        core: "core",
-        layouts: "sample",
-        images: &["/lib/other=core", "/usr/bin/python3.9=image"],
-        failing: &[],
-        status: 0,
-        said: b"",
-    },
-    Row {
-        core: "core",
-        layouts: "sample",
-        images: &[],
-        failing: &[],
-        status: 1,
-        said: b"pystacks: image not given: /usr/bin/python3.9\n",
-    },
-    Row {
-        core: "no interpreter",
-        layouts: "sample",
-        images: IMAGE,
-        failing: &[],
-        status: 1,
-        said: b"pystacks: no interpreter found\n",
-    },
-    Row {
-        core: "bss cut",
-        layouts: "sample",
-        images: IMAGE,
-        failing: &[],
-        status: 1,
-        said: b"pystacks: version unreadable at 0x500000, 16 bytes\n",
-    },
-    Row {
-        core: "other name",
-        layouts: "sample",
-        images: &["/usr/bin/pythonx.9=image"],
-        failing: &[],
-        status: 1,
-        said: b"pystacks: no Python version found\n",
-    },
-    Row {
-        core: "core",
-        layouts: "later",
-        images: IMAGE,
-        failing: &[],
-        status: 1,
-        said: b"pystacks: no layout for Python 3.9.0\n",
-    },
-    Row {
-        core: "not executable",
-        layouts: "sample",
-        images: IMAGE,
-        failing: &[],
-        status: 1,
-        said: b"pystacks: no named executable map\n",
-    },
-    Row {
-        core: "notes cut",
-        layouts: "sample",
-        images: IMAGE,
-        failing: &[],
-        status: 1,
-        said: b"pystacks: bad note\n",
-    },
+    (
+        "dump -c core --layouts sample /usr/bin/python3.9=image /usr/bin/python3.9=core",
+        0,
+        TEXT,
+        "",
+    ),
+    (
+        "dump -c core --layouts sample /usr/bin/python3.9=core /usr/bin/python3.9=image",
+        1,
+        "",
+        "bad image: /usr/bin/python3.9",
+    ),
+    (
+        "dump -c core --layouts sample /lib/other=core /usr/bin/python3.9=image",
+        0,
+        TEXT,
+        "",
+    ),
+    (
+        "dump -c core --layouts sample",
+        1,
+        "",
+        "image not given: /usr/bin/python3.9",
+    ),
+    (
+        "dump -c no-interpreter --layouts sample /usr/bin/python3.9=image",
+        1,
+        "",
+        "no interpreter found",
+    ),
+    (
+        "dump -c bss-cut --layouts sample /usr/bin/python3.9=image",
+        1,
+        "",
+        "version unreadable at 0x500000, 16 bytes",
+    ),
+    (
+        "dump -c other-name --layouts sample /usr/bin/pythonx.9=image",
+        1,
+        "",
+        "no Python version found",
+    ),
+    (
+        "dump -c core --layouts later /usr/bin/python3.9=image",
+        1,
+        "",
+        "no layout for Python 3.9.0",
+    ),
+    (
+        "dump -c not-executable --layouts sample /usr/bin/python3.9=image",
+        1,
+        "",
+        "no named executable map",
+    ),
+    (
+        "dump -c notes-cut --layouts sample /usr/bin/python3.9=image",
+        1,
+        "",
+        "bad note",
+    ),
+    // native frames before other processes, and both after the search
+    (
+        "dump -snjl -c core --layouts sample /usr/bin/python3.9=image",
+        1,
+        "",
+        "native frames are not read from a core",
+    ),
+    (
+        "dump -s -c core --layouts sample /usr/bin/python3.9=image",
+        1,
+        "",
+        "subprocesses are not read from a core",
+    ),
+    (
+        "dump -n -c no-interpreter --layouts sample /usr/bin/python3.9=image",
+        1,
+        "",
+        "no interpreter found",
+    ),
+    // a code without variables, and one whose names of variables are at 0
+    (
+        "dump -ll -c named --layouts sample /usr/bin/python3.9=image",
+        0,
+        TEXT,
+        "",
+    ),
+    (
+        "dump -l -c core --layouts sample /usr/bin/python3.9=image",
+        1,
+        "",
+        "unreadable at 0x0, 24 bytes",
+    ),
+    (
+        "dump --layouts sample /usr/bin/python3.9=image",
+        2,
+        "",
+        "bad words",
+    ),
+    (
+        "dude -c core --layouts sample /usr/bin/python3.9=image",
+        2,
+        "",
+        "bad words",
+    ),
+    ("", 2, "", "bad words"),
+    ("dump -c core --layouts sample x", 2, "", "bad words"),
+    ("dump -h", 2, "", "bad words"),
+    ("dump --version", 2, "", "bad words"),
     // the layout file is read before the image, and judged before the core
-    Row {
-        core: "core",
-        layouts: "none",
-        images: &["/usr/bin/python3.9=none"],
-        failing: &[],
-        status: 3,
-        said: b"pystacks: cannot read none\n",
-    },
-    Row {
-        core: "notes cut",
-        layouts: "image",
-        images: IMAGE,
-        failing: &[],
-        status: 6,
-        said: b"pystacks: layouts: not TOML\n",
-    },
+    (
+        "dump -c core --layouts none /usr/bin/python3.9=none",
+        3,
+        "",
+        "cannot read none",
+    ),
+    (
+        "dump -c core --layouts sample a=\"\nb",
+        3,
+        "",
+        "cannot read \"\nb",
+    ),
+    (
+        "dump -c notes-cut --layouts image /usr/bin/python3.9=image",
+        6,
+        "",
+        "layouts: not TOML",
+    ),
+    (
+        "dump -c core --layouts empty /usr/bin/python3.9=image",
+        6,
+        "",
+        "layouts: table 0, key layout",
+    ),
 ];
 
-const TEXT: &[u8] = b"Python v3.9.0\n\nThread 0x7F00\n    f (a.py)\n    <module> (a.py)\n";
+fn split_words(alloc: Global, text: &str) -> Result<Vec<String>, AllocError> {
+    let mut words = Vec::new(alloc);
+    for word in text.split(' ') {
+        words.push(String::from_str(alloc, word)?)?;
+    }
+    Ok(words)
+}
+
+/// What a run answers, prints and says, where these reads fail, and the stream of its text at some write.
+fn ran(
+    alloc: Global,
+    words: &str,
+    reads: &[u64],
+    writes: &[(u64, u64)],
+) -> Result<(u8, Vec<u8>, Vec<u8>), AllocError> {
+    let mut files = files(alloc, reads)?;
+    let mut out = MemorySink::new(alloc, 2000, writes.to_vec(alloc)?)?;
+    let mut err = MemorySink::new(alloc, 1000, Vec::new(alloc))?;
+    let words = split_words(alloc, words)?;
+    let status = run(alloc, &words, &mut files, &mut out, &mut err);
+    Ok((
+        status,
+        out.bytes().to_vec(alloc)?,
+        err.bytes().to_vec(alloc)?,
+    ))
+}
 
 #[test]
 fn each_cause_of_a_report(rt: HostRuntime) -> Result<(), Fail> {
     let alloc = rt.alloc();
-    for row in &ROWS {
-        let mut files = files(alloc, row.failing)?;
-        let mut out = MemorySink::new(alloc, 1000, Vec::new(alloc))?;
-        let mut err = MemorySink::new(alloc, 1000, Vec::new(alloc))?;
-        let mut words = words(alloc, &["dump", "-c", row.core, "--layouts", row.layouts])?;
-        for image in row.images {
-            words.push(String::from_str(alloc, image)?)?;
-        }
-        assert_eq!(rt;
-            run(alloc, &words, &mut files, &mut out, &mut err),
-            row.status
-        );
-        assert_eq!(rt; err.bytes(), row.said);
-        assert_eq!(rt; out.bytes(), if row.status == 0 { TEXT } else { b"" });
+    for (words, status, printed, line) in &ROWS {
+        let (answer, out, err) = ran(alloc, words, &[], &[])?;
+        assert_eq!(rt; answer, *status, "{words}");
+        assert_eq!(rt; out.as_slice(), printed.as_bytes());
+        let said = err
+            .strip_prefix(b"pystacks: ")
+            .and_then(|said| said.strip_suffix(b"\n"));
+        assert_eq!(rt; said.unwrap_or(b""), line.as_bytes());
     }
+    Ok(())
+}
+
+#[test]
+fn a_report_of_which_a_read_or_the_write_fails(rt: HostRuntime) -> Result<(), Fail> {
+    let alloc = rt.alloc();
+    let words = "dump -c core --layouts sample /usr/bin/python3.9=image";
+    let (status, out, err) = ran(alloc, words, &[1], &[])?;
+    assert_eq!(rt; status, 3);
+    assert_eq!(rt; out.as_slice(), b"".as_slice());
+    assert_eq!(rt;
+        err.as_slice(),
+        b"pystacks: cannot read sample\n".as_slice()
+    );
+    let (status, out, err) = ran(alloc, words, &[], &[(0, 10)])?;
+    assert_eq!(rt; status, 4);
+    assert_eq!(rt; out.as_slice(), b"Python v3.".as_slice());
+    assert_eq!(rt; err.as_slice(), b"pystacks: cannot write\n".as_slice());
     Ok(())
 }

@@ -2,11 +2,12 @@
 use crate::CoreError;
 use crate::dump_tests::{CORE_WORDS, with_words};
 use crate::layout_tests::SAMPLE;
-use core_stacks::report;
+use core_stacks::{PythonCoreDump, report};
 use elf64_core::Name;
-use image_memory::{Images, Mmap};
-use py_layout::Layouts;
-use py_stacks::Config;
+use image_memory::{CoreDump, Images, Mmap};
+use outside::MemorySink;
+use py_layout::{Layouts, Version};
+use py_stacks::{Addresses, Config};
 use std::alloc::Global;
 use std::test::Fail;
 
@@ -74,6 +75,44 @@ fn held(alloc: Global, edit: (usize, u64)) -> Result<Result<Vec<(u64, bool)>, Co
         held.push((trace.thread_id, trace.owns_gil))?;
     }
     Ok(Ok(held))
+}
+
+/// The traces of a core as it is printed by the call: as JSON or not, with room for so many bytes.
+fn printed(alloc: Global, json: bool, room: u32) -> Result<(Vec<u8>, bool), Fail> {
+    let layouts = Layouts::from_toml(alloc, SAMPLE.as_bytes())?;
+    let core = CoreDump::new(alloc, with_words(alloc, 1000, &[], &CORE_WORDS)?)?;
+    let version = Version::of_numbers(alloc, 3, 9, 0)?;
+    let addresses = Addresses {
+        interpreter: 0x1_0000,
+        lock: 0,
+    };
+    let python = PythonCoreDump::with_addresses(alloc, core, &layouts, version, addresses)?;
+    let config = Config {
+        dump_json: json,
+        ..Config::default()
+    };
+    let mut out = MemorySink::new(alloc, room, Vec::new(alloc))?;
+    let traces = python.get_stack(&config)?;
+    let whole = python
+        .print_traces(&mut out, b"core", &traces, &config)
+        .is_ok();
+    Ok((out.bytes().to_vec(alloc)?, whole))
+}
+
+const TEXT: &[u8] = b"Python v3.9.0\n\nThread 0x7F00\n    f (a.py)\n    <module> (a.py)\n";
+
+#[test]
+fn traces_are_printed_by_the_core(rt: HostRuntime) -> Result<(), Fail> {
+    let alloc = rt.alloc();
+    let (text, whole) = printed(alloc, false, 100)?;
+    assert!(rt; whole);
+    assert_eq!(rt; text.as_slice(), TEXT);
+    let (front, whole) = printed(alloc, false, 10)?;
+    assert!(rt; !whole);
+    assert_eq!(rt; front.as_slice(), b"Python v3.".as_slice());
+    let (json, whole) = printed(alloc, true, 1000)?;
+    assert!(rt; whole && json.starts_with(b"[\n  {\n    \"active\": true,"));
+    Ok(())
 }
 
 #[test]

@@ -137,12 +137,12 @@ pub(crate) fn cause_parts<'a>(cause: &'a Cause) -> Parts<'a>
 }
 
 /// Why a file could not be read.
-fn file_parts<'a>(name: &'a str, fault: FileFault) -> Parts<'a>
+fn file_parts<'a>(name: &'a [u8], fault: FileFault) -> Parts<'a>
     ensures { said result ≡ concat (file_parts name.now fault) }
 {
     match fault {
-        FileFault::Failed => named_parts("cannot read ", name.as_bytes()),
-        FileFault::TooLong => named_parts("file too long: ", name.as_bytes()),
+        FileFault::Failed => named_parts("cannot read ", name),
+        FileFault::TooLong => named_parts("file too long: ", name),
         FileFault::OutOfMemory => text_part("out of memory"),
     }
 }

@@ -15,7 +15,7 @@ use std::alloc::Global;
 /// The bytes of one file.
 fn read_file<'a, F: Files>(
     alloc: Global,
-    name: &'a str,
+    name: &'a [u8],
     files: &mut F,
 ) -> Result<Vec<u8>, Trouble<'a>>
     ensures told { (F.seen files.new).told ≡ (F.seen files.old).told }
@@ -23,7 +23,7 @@ fn read_file<'a, F: Files>(
         × ((F.seen files.new).failed ≡ (F.seen files.old).failed)) }
     ensures trouble { IfErr result (IsReadTrouble (F.seen files.old).failed (F.seen files.new).failed name.now) }
 {
-    match files.read(alloc, name.as_bytes()) {
+    match files.read(alloc, name) {
         Ok(bytes) => Ok(bytes),
         Err(FileFault::OutOfMemory) => Err(Trouble::Cause(Cause::OutOfMemory)),
         Err(fault) => Err(Trouble::File { name, fault }),
@@ -33,7 +33,7 @@ fn read_file<'a, F: Files>(
 /// The contents of the files that a command reads before its work, in order.
 pub(crate) fn read_kept<'a, F: Files>(
     alloc: Global,
-    command: &Command<'a>,
+    command: &'a Command<'_>,
     files: &mut F,
 ) -> Result<Vec<Vec<u8>>, Trouble<'a>>
     ensures told { (F.seen files.new).told ≡ (F.seen files.old).told }

@@ -13,7 +13,7 @@ pub(crate) enum Trouble<'a> {
     /// The words ask for nothing.
     Words,
     /// A file that they name could not be read.
-    File { name: &'a str, fault: FileFault },
+    File { name: &'a [u8], fault: FileFault },
     /// The text could not be written.
     Write,
 }

@@ -19,14 +19,14 @@ fn text_by(
     words: &WalkWords<'_>,
     core: Vec<u8>,
     layouts: &Layouts,
-) -> Result<String, Cause>
+) -> Result<Vec<u8>, Cause>
     ensures { IsAnswer (IsWalkedBy (asked_walk words.now) core.items layouts.now) result }
 {
     let release = words.version;
     let version = Version::of_numbers(alloc, release.major, release.minor, release.patch)?;
     let traces = walk(alloc, core, layouts, &version, &words.addresses)?;
     let text = walk_text(alloc, &version, &traces)?;
-    Ok(text)
+    Ok(text.into_bytes())
 }
 
 /// The text of a walk over the contents of its files.
@@ -34,7 +34,7 @@ pub(crate) fn walk_files(
     alloc: Global,
     words: &WalkWords<'_>,
     mut read: Vec<Vec<u8>>,
-) -> Result<String, Cause>
+) -> Result<Vec<u8>, Cause>
     requires kept { length read.items ≡ length (kept_files (walk (asked_walk words.now))) }
     ensures { IsAnswer (IsOutcome (walk (asked_walk words.now)) (contents read.items)) result }
 {

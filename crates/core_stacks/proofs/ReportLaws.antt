@@ -13,8 +13,7 @@ use Rattle.image_memory.proofs.Noted.{AreStatuses-once, IsProcess-once}
 use Rattle.image_memory.proofs.Refusals.{no_core, one_refusal}
 use Rattle.process_memory.specs.Memory.{Memory, byte_at}
 use Rattle.py_fields.specs.declared.layout.Layout.{Layout}
-use Rattle.py_stacks.specs.Asking.{asked_of}
-use Rattle.py_stacks.specs.NamedStacks.{AreNamedStacks}
+use Rattle.py_stacks.specs.StacksOver.{AreStacksOver}
 use Rattle.py_stacks.specs.Threads.{Trace}
 use Rattle.py_stacks.specs.declared.config.Config.{Config}
 use Rattle.py_process.specs.Causes.{cause_of_dump}
@@ -179,7 +178,7 @@ report_whole bytes images layouts config r h =
       first = subst (λ v. IsFirstOf (in_maps one.0.maps) two.0.layout m (candidates_of found.known v two.0.layout m) two.0.addresses.interpreter) (sym tells.version_is) found.first;
       lock = two.0.addresses.lock;
       is_lock = subst (λ v. lock_address_of (machine_of bytes) found.known v two.0.layout m two.0.addresses.interpreter ≡ Ok two.0.addresses.lock) (sym tells.version_is) found.lock;
-      stacks = subst (λ ts. AreNamedStacks (asked_of config) two.0.layout m two.0.addresses.lock two.0.addresses.interpreter ts) (sym tells.traces_are) three.1.are;
+      stacks = subst (λ ts. AreStacksOver config two.0.layout m two.0.addresses.lock two.0.addresses.interpreter ts) (sym tells.traces_are) three.1.are;
       notes = tells.notes;
     })
 

@@ -5,13 +5,12 @@ use Rattle.process_memory.specs.Memory.{Memory, Fault}
 use Rattle.process_memory.specs.Memory.Fault.{Missing, BadValue, LocalsLimit, ThreadLimit, FrameLimit, ChainLimit}
 use Rattle.process_memory.specs.Faults.{IsFirst}
 use Rattle.process_memory.proofs.Founds.{ok_same}
-use Rattle.py_stacks.specs.Asking.{asked_of}
 use Rattle.py_stacks.specs.StackError.{fault_of}
 use Rattle.py_stacks.specs.Threads.{Trace}
 use Rattle.py_stacks.specs.declared.config.Config.{Config}
 use Rattle.py_stacks.specs.declared.error.StackError.{StackError}
 use Rattle.py_stacks.specs.declared.error.StackError.TheVariants as stack
-use Rattle.py_stacks.proofs.NamedLaws.{named_whole}
+use Rattle.py_stacks.proofs.OverLaws.{over_whole}
 use Rattle.py_process.specs.Causes.{cause_of_stacks}
 use Rattle.py_process.specs.Findings.{Finding}
 use Rattle.py_process.specs.Reports.{AsksNoOther, HasStacks, MeetsFault, StacksSay, fault_on}
@@ -82,8 +81,8 @@ module _ (m : Memory) (f : Finding) (config : Config) where
 
   one_stacks : (t u : List Trace) → HasStacks m f config t → HasStacks m f config u → t ≡ u
   one_stacks t u h g =
-      ok_same t u (sym (named_whole (asked_of config) f.layout m f.addresses.lock f.addresses.interpreter t h.are)
-      ∙ named_whole (asked_of config) f.layout m f.addresses.lock f.addresses.interpreter u g.are)
+      ok_same t u (sym (over_whole config f.layout m f.addresses.lock f.addresses.interpreter t h.are)
+      ∙ over_whole config f.layout m f.addresses.lock f.addresses.interpreter u g.are)
 
   stack_one : (a b : Result (List Trace) CoreError) → StackCause a → StackCause b → a ≡ b
   stack_one a b (native is n) (native is' n') = is ∙ sym is'

@@ -1,5 +1,6 @@
 pub mod Answer
 pub mod Opened
+pub mod Printing
 pub mod Seen
 pub mod Sole
 pub mod Notes

@@ -5,6 +5,7 @@ mod core_walk;
 mod finding;
 mod found;
 mod notes;
+mod printing;
 mod programs;
 mod python_core;
 mod reporting;

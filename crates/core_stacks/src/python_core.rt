@@ -6,11 +6,15 @@ ghost use Rattle.py_fields.specs.Sound.{IsSound};
 ghost use Rattle.py_process.specs.Reports.{StacksSay, traces_in};
 ghost use Rattle.core_stacks.specs.Sole.{IsSole, Settles};
 ghost use Rattle.core_stacks.specs.Opened.{IsFoundIn, IsLeft, Opened, Opens, OpensAt, memory_in};
+ghost use Rattle.core_stacks.specs.Printing.{IsPrintedBy, IsTextOf};
 ghost use Rattle.core_stacks.specs.Seen.{finding_of};
 
 use crate::finding::find_process;
 use crate::found::Found;
+use crate::printing::text_of;
+use core_texts::PrintError;
 use image_memory::{BackedDump, CoreDump, Images};
+use outside::Sink;
 use py_layout::{Layouts, Version};
 use py_process::CoreError;
 use py_stacks::{Addresses, Config, StackTrace, get_stack_over};
@@ -151,6 +155,42 @@ impl PythonCoreDump {
         ensures found { IsFoundIn self.now → IfErr result (IsLeft self.now config.now) }
     {
         read_stacks(self.alloc, &self.dump, &self.found, config)
+    }
+
+    /// Prints traces of this core, by one write of the whole text, under the name of the core's file: the signal that
+    /// the core tells and the process, where it tells them, the version, and the threads from the last to the first,
+    /// each with its frames and their locals (`core_texts::report_text`). Where the `Config` asks for JSON, the traces
+    /// alone, in order, as an array of objects (`core_texts::report_json`). Nothing else of the `Config` counts.
+    ///
+    /// The traces are those that are handed in; that they are this core's is not looked at.
+    ///
+    /// - `Sink` where the stream failed: its count of faults rose, and a front of the text was written.
+    /// - `OutOfMemory` where there was no memory left; nothing was written.
+    pub fn print_traces<S: Sink>(
+        &self,
+        out: &mut S,
+        core_name: &[u8],
+        traces: &[StackTrace],
+        config: &Config,
+    ) -> Result<(), PrintError>
+        ensures { IsPrintedBy
+            (IsTextOf config.now.dump_json self.now.core self.now.finding.version core_name.now traces.now)
+            (S.seen out.old) (S.seen out.new) result }
+    {
+        let version = &self.found.version;
+        let json = config.dump_json;
+        let text = text_of(
+            self.alloc,
+            self.dump.core(),
+            version,
+            core_name,
+            traces,
+            json,
+        )?;
+        match out.write(&text) {
+            Ok(()) => Ok(()),
+            Err(fault) => Err(PrintError::Sink(fault)),
+        }
     }
 
     /// The version.

@@ -4,13 +4,20 @@
 //! part by part, so that it takes no memory.
 #![tactic(auto)]
 
+mod as_json;
+mod frame;
 mod line;
 mod part;
+mod print_error;
 mod text;
+mod trace;
 
+pub use as_json::report_json;
 pub use line::{say_line, write_parts};
 pub use part::{Part, Parts, parts};
+pub use print_error::PrintError;
 pub use text::{report_text, walk_text};
+pub use trace::write_trace;
 
 #[cfg(test)]
 mod tests;

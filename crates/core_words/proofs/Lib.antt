@@ -1,2 +1,4 @@
+pub mod Accepted
 pub mod Digits
 pub mod Five
+pub mod Images

@@ -1,2 +1,4 @@
+pub mod Dump
 pub mod Words
 pub mod Seen
+pub mod Answers

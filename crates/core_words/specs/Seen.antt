@@ -1,14 +1,14 @@
 -- What the program's own words stand for.
-use Rattle.std.specs.Prelude.{map}
 use Rattle.py_version.specs.Version.{release}
 use Rattle.py_version.specs.declared.version.Version.{Version}
+use Rattle.core_words.specs.Dump.{Dump}
 use Rattle.core_words.specs.Words as words
 use Rattle.core_words.specs.declared.numbers.Release.{Release}
 use Rattle.core_words.specs.declared.walk.WalkWords.{WalkWords}
 use Rattle.core_words.specs.declared.walk.LayoutSource.{LayoutSource}
 use Rattle.core_words.specs.declared.walk.LayoutSource.TheVariants.{Sample, File}
 use Rattle.core_words.specs.declared.command.Command.{Command}
-use Rattle.core_words.specs.declared.command.Command.TheVariants.{Walk, Dump}
+use Rattle.core_words.specs.declared.command.Command.TheVariants.{Walk, Dump as Dumped}
 use Rattle.core_words.specs.declared.dump.DumpWords.{DumpWords}
 
 abbrev pub asked_version : Release → Version
@@ -26,13 +26,9 @@ asked_walk w = record {
   addresses = w.addresses;
 }
 
-abbrev pub asked_dump : DumpWords → words.Dump
-asked_dump d = record {
-  core = d.core.now;
-  layouts = d.layouts.now;
-  images = map words.image_of (words.texts d.images.now);
-}
+abbrev pub asked_dump : DumpWords → Dump
+asked_dump d = record { config = d.config; core = d.core; layouts = d.layouts; images = d.images.items }
 
 abbrev pub asked_command : Command → words.Command
 asked_command (Walk w) = words.walk (asked_walk w)
-asked_command (Dump d) = words.dump (asked_dump d)
+asked_command (Dumped d) = words.dump (asked_dump d)

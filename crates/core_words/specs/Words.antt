@@ -7,6 +7,7 @@ use Rattle.std.specs.Global.{Global}
 use Rattle.py_version.specs.Version.{release}
 use Rattle.py_version.specs.declared.version.Version.{Version}
 use Rattle.py_stacks.specs.declared.trace.Addresses.{Addresses}
+use Rattle.core_words.specs.Dump.{Dump, dump_words}
 
 -- one digit or more of the radix, at most so many, of a number below 2 ^ 64
 abbrev pub is_numeral : ℕ → ℕ → List ℕ → Bool
@@ -53,12 +54,6 @@ pub record Walk : Type 0 where
   pub version : Version
   pub addresses : Addresses
 
--- the report of the core of this name, by a layout file, with files under the paths at which they were mapped
-pub record Dump : Type 0 where
-  pub core : List ℕ
-  pub layouts : List ℕ
-  pub images : List (List ℕ × List ℕ)
-
 -- what words ask for
 pub data Command : Type 0 where
   walk : Walk → Command
@@ -80,29 +75,11 @@ walk_words (core ∷ layouts ∷ version ∷ interp ∷ lock ∷ []) =
     walk_by core (source_of layouts) (release_of version) (number_of interp) (number_of lock)
 walk_words _ = None
 
-abbrev pub is_equals : ℕ → Bool
-is_equals c = c == 61
-
--- a word of an image has an equals sign: the path stands before the first one, the file's name behind it
-abbrev pub is_image : List ℕ → Bool
-is_image word = nat_lt (position_or_len is_equals word) (length word)
-
-abbrev pub image_of : List ℕ → List ℕ × List ℕ
-image_of word = (before_first is_equals word, after_first is_equals word)
-
--- -c CORE --layouts FILE PATH=FILE ..
-abbrev pub dump_words : List (List ℕ) → Option Dump
-dump_words (c ∷ core ∷ l ∷ layouts ∷ images) =
-    if bytes_eq c (codes "-c") && (bytes_eq l (codes "--layouts") && list_all is_image images)
-    then Some (record { core = core; layouts = layouts; images = map image_of images }) else None
-dump_words _ = None
-
 -- the command's name, and then its words
 abbrev pub command_of : List (List ℕ) → Option Command
 command_of [] = None
-command_of (name ∷ words) =
-    if bytes_eq name (codes "walk") then option_map (λ w. walk w) (walk_words words)
-    else (if bytes_eq name (codes "dump") then option_map (λ d. dump d) (dump_words words) else None)
+command_of (name ∷ words) = if bytes_eq name (codes "walk") then option_map (λ w. walk w) (walk_words words)
+    else option_map (λ d. dump d) (dump_words (name ∷ words))
 
 -- the files of a source of layouts
 abbrev pub source_files : LayoutSource → List (List ℕ)

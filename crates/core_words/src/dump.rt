@@ -1,67 +1,157 @@
-//! The words of a report: `dump -c CORE --layouts FILE [PATH=FILE]..`.
-ghost use Rattle.std.specs.Prelude.{◌≡◌, ◌≤◌, length, option_map};
-ghost use Rattle.std.specs.List.{list_all};
-ghost use Rattle.core_words.specs.Words.{dump_words, image_of, is_image, texts};
+//! The words of a report: `dump -c CORE --layouts FILE [OPTION].. [PATH=FILE]..`.
+ghost use Rattle.std.specs.Prelude.{◌≡◌, map, option_map, Some};
+ghost use Rattle.clap.specs.Words.{found_of, rows_of};
+ghost use Rattle.core_words.specs.Answers.{Answers};
+ghost use Rattle.core_words.specs.Dump.{config_of, dump_found, dump_words, image_words, images_of, is_dump, is_dump_name, is_set, split_image, value_of};
 ghost use Rattle.core_words.specs.Seen.{asked_dump};
+ghost use Rattle.core_words.specs.Words.{texts};
+
+use crate::args_error::ArgsError;
+use crate::taken::dump_matches;
+use clap::ArgMatches;
+use elf64_core::Name;
+use py_stacks::Config;
+use std::alloc::Global;
 
 /// The words of a report.
-#[derive(Clone, Copy)]
-pub struct DumpWords<'a> {
+#[derive(Debug, Drop)]
+pub struct DumpWords {
+    /// What is asked for of the stacks: `native` by `-n`, `subprocesses` by `-s`, `dump_json` by `-j`,
+    /// `full_filenames` by `--full-filenames`, and by `-l` as many times as it stands there, at most 255,
+    /// `dump_locals`. The rest is as in the default.
+    pub config: Config,
     /// The core's file.
-    pub core: &'a str,
+    pub core: Name,
     /// The layout file.
-    pub layouts: &'a str,
-    /// `PATH=FILE` each: a file, under the path at which the process had it mapped.
-    pub images: &'a [String],
+    pub layouts: Name,
+    /// The path at which the process had a file mapped, and the name of such a file, by each image's word, in
+    /// order.
+    pub images: Vec<(Name, Name)>,
 }
 
-/// Whether a word is an image's: it has an equals sign.
-fn is_image(word: &str) -> bool
-    ensures { result ≡ is_image word.now }
+/// The words of a report, the first of which is `dump` or a front of it, of a character or more.
+///
+/// Clap takes the others, in any order that it knows: `-c` or `--core` and `--layouts`, each with a value and
+/// once; the flags `-j` or `--json`, `--full-filenames`, `-n` or `--native`, `-s` or `--subprocesses`, each at
+/// most once; `-l` or `--locals`, any number of times; and the images, none or more, each with a path, the first
+/// equals sign, and the name of a file. A bundle as `-lj`, `-cCORE` and `--core=CORE` are taken, and behind
+/// `--` each word is an image's.
+///
+/// - `Refused` exactly where clap does not take the words for that command, or a word of an image has no equals
+///   sign. So are the words `-h` and `--help`.
+/// - `OutOfMemory` where there was no memory left.
+pub fn config_from_args(alloc: Global, words: &[String]) -> Result<DumpWords, ArgsError>
+    ensures { Answers asked_dump (dump_words (texts words.now)) result }
 {
-    match word.split_once('=') {
-        Some(_) => true,
+    if !is_dump(words) {
+        return Err(ArgsError::Refused);
+    }
+    let matches = dump_matches(alloc, words)?;
+    dump_by(alloc, &matches)
+}
+
+/// Whether the first word is `dump`, or a front of it.
+fn is_dump(words: &[String]) -> bool
+    ensures { result ≡ is_dump (texts words.now) }
+{
+    match words {
+        [name, ..] => is_dump_name(name.as_str()),
+        [] => false,
+    }
+}
+
+fn is_dump_name(name: &str) -> bool
+    ensures { result ≡ is_dump_name name.now }
+{
+    !name.is_empty() && "dump".starts_with(name)
+}
+
+/// What is asked for by what clap found.
+fn dump_by(alloc: Global, matches: &ArgMatches<'_>) -> Result<DumpWords, ArgsError>
+    ensures { Answers asked_dump (dump_found (rows_of (found_of matches.now))) result }
+{
+    let config = config_of(matches);
+    let core = value_of(alloc, matches, "core")?;
+    let layouts = value_of(alloc, matches, "layouts")?;
+    let images = images_of(alloc, image_words(matches))?;
+    Ok(DumpWords {
+        config,
+        core,
+        layouts,
+        images,
+    })
+}
+
+fn config_of(matches: &ArgMatches<'_>) -> Config
+    ensures { result ≡ config_of (rows_of (found_of matches.now)) }
+{
+    Config {
+        native: is_set(matches, "native"),
+        subprocesses: is_set(matches, "subprocesses"),
+        dump_json: is_set(matches, "json"),
+        dump_locals: u64::from(matches.get_count("locals")),
+        full_filenames: is_set(matches, "full-filenames"),
+        ..Config::default()
+    }
+}
+
+/// Whether a flag was given.
+fn is_set(matches: &ArgMatches<'_>, name: &str) -> bool
+    ensures { result ≡ is_set name.now (rows_of (found_of matches.now)) }
+{
+    match matches.get_str(name) {
+        Some(value) => value == "true",
         None => false,
     }
 }
 
-/// The path and the file's name of an image's word, round the first equals sign. All of a word that has none
-/// is its path.
-pub fn image_of(word: &str) -> (&str, &str)
-    ensures path { result.0.now ≡ (image_of word.now).0 }
-    ensures file { result.1.now ≡ (image_of word.now).1 }
+/// The value of an option.
+fn value_of(alloc: Global, matches: &ArgMatches<'_>, name: &str) -> Result<Name, ArgsError>
+    ensures { Answers (λ value. value) (Some (value_of name.now (rows_of (found_of matches.now)))) result }
 {
-    match word.split_once('=') {
-        Some(parts) => parts,
-        None => (word, ""),
+    let value = text_of(matches, name);
+    Ok(Name::of(alloc, value.as_bytes())?)
+}
+
+/// The same, as text.
+fn text_of<'a>(matches: &ArgMatches<'a>, name: &str) -> &'a str
+    ensures { result.now ≡ value_of name.now (rows_of (found_of matches.now)) }
+{
+    match matches.get_str(name) {
+        Some(value) => value,
+        None => "",
     }
 }
 
-/// Whether all the words are images'.
-fn are_images(words: &[String]) -> bool
-    ensures { result ≡ list_all is_image (texts words.now) }
+/// The words of images.
+fn image_words<'m>(matches: &'m ArgMatches<'_>) -> &'m [&'m str]
+    ensures { map (λ word. word.now) result.now ≡ image_words (rows_of (found_of matches.now)) }
 {
-    for word in words {
-        if !is_image(word.as_str()) {
-            return false;
-        }
-    }
-    true
-}
-
-/// `-c CORE --layouts FILE [PATH=FILE]..`
-pub(crate) fn dump_words(words: &[String]) -> Option<DumpWords<'_>>
-    ensures { option_map asked_dump result ≡ dump_words (texts words.now) }
-{
-    let [dash_c, core, dash_layouts, layouts, images @ ..] = words else {
-        return None;
+    let Some(words) = matches.get_strs("images") else {
+        return &[];
     };
-    if dash_c.as_str() != "-c" || dash_layouts.as_str() != "--layouts" || !are_images(images) {
-        return None;
+    words
+}
+
+/// The images of some words; `Refused` where one of them has no equals sign.
+fn images_of(alloc: Global, words: &[&str]) -> Result<Vec<(Name, Name)>, ArgsError>
+    ensures { Answers (λ images. images.items) (images_of (map (λ word. word.now) words.now)) result }
+{
+    let mut images = Vec::new(alloc);
+    for word in words {
+        let Some((path, file)) = split_image(word) else {
+            return Err(ArgsError::Refused);
+        };
+        let path = Name::of(alloc, path.as_bytes())?;
+        let file = Name::of(alloc, file.as_bytes())?;
+        images.push((path, file))?;
     }
-    Some(DumpWords {
-        core: core.as_str(),
-        layouts: layouts.as_str(),
-        images,
-    })
+    Ok(images)
+}
+
+/// The path and the file's name, round the first equals sign.
+fn split_image(word: &str) -> Option<(&str, &str)>
+    ensures { option_map (λ parts. (parts.0.now, parts.1.now)) result ≡ split_image word.now }
+{
+    word.split_once('=')
 }

@@ -1,13 +1,16 @@
 //! The words of a command line: which command they ask for, and which files it names.
 #![tactic(auto)]
 
+mod args_error;
 mod command;
 mod dump;
 mod numbers;
+mod taken;
 mod walk;
 
+pub use args_error::ArgsError;
 pub use command::{Command, read_words};
-pub use dump::{DumpWords, image_of};
+pub use dump::{DumpWords, config_from_args};
 pub use numbers::Release;
 pub use walk::{LayoutSource, WalkWords};
 

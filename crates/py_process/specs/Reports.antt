@@ -19,8 +19,8 @@ use Rattle.process_memory.specs.Walk.{first_fault}
 use Rattle.py_fields.specs.declared.layout.Layout.{Layout}
 use Rattle.py_version.specs.declared.version.Version.{Version}
 use Rattle.py_stacks.specs.Asking.{asked_of}
-use Rattle.py_stacks.specs.NamedStacks.{AreNamedStacks}
 use Rattle.py_stacks.specs.Stacks.{stacks_faults}
+use Rattle.py_stacks.specs.StacksOver.{AreStacksOver}
 use Rattle.py_stacks.specs.Threads.{Trace, trace_of}
 use Rattle.py_stacks.specs.declared.config.Config.{Config}
 use Rattle.py_stacks.specs.declared.trace.StackTrace.{StackTrace}
@@ -69,7 +69,7 @@ pub record MeetsFault (m : Memory) (f : Finding) (config : Config) (fault : Faul
 pub record HasStacks (m : Memory) (f : Finding) (config : Config) (traces : List Trace) : Type 0 where
   pub asks : AsksNoOther config
   pub faultless : fault_on m f config ≡ None
-  pub are : AreNamedStacks (asked_of config) f.layout m f.addresses.lock f.addresses.interpreter traces
+  pub are : AreStacksOver config f.layout m f.addresses.lock f.addresses.interpreter traces
 
 -- the traces, or the first cause why there are none
 abbrev pub StacksSay : Memory → Finding → Config → Result (List Trace) CoreError → Type 0
@@ -191,7 +191,7 @@ pub record IsRight (bytes : List ℕ) (images : Pushed) (layouts : List Layout) 
       (candidates_of known r.version layout (memory_in dumped)) interpreter
   pub lock : ℕ
   pub is_lock : lock_address_of (machine_of bytes) known r.version layout (memory_in dumped) interpreter ≡ Ok lock
-  pub stacks : AreNamedStacks (asked_of config) layout (memory_in dumped) lock interpreter r.traces
+  pub stacks : AreStacksOver config layout (memory_in dumped) lock interpreter r.traces
   pub notes : NotesTell bytes r.signal r.process
 
 -- the input for which a report is owed

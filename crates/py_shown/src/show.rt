@@ -1,5 +1,6 @@
 //! Values and their parts, as text.
-ghost use Rattle.std.specs.Prelude.{◌≡◌, ◌+◌, ◌-◌, ◌*◌, ◌<◌, ◌≤◌, ◌++◌, OnOk, IfOk, max, string_bytes, codes, length, None};
+ghost use Rattle.std.specs.Prelude.{◌≡◌, ◌+◌, ◌-◌, ◌*◌, ◌<◌, ◌≤◌, ◌++◌, OnOk, IfOk, max, string_bytes, encode_utf8_all, codes, length, None};
+ghost use Rattle.std.specs.Str.{chars};
 ghost use Rattle.process_memory.specs.Seen.{Reading};
 ghost use Rattle.py_fields.specs.Sound.{IsSound};
 ghost use Rattle.py_objects.specs.ObjectError.{fault_of};
@@ -59,6 +60,7 @@ pub fn format_variable<P: ProcessMemory>(
     requires sound { IsSound layout.now }
     ensures rises { visits.old ≤ visits.new }
     ensures few { visits.new ≤ max visits.old 4096 }
+    ensures characters { IfOk result (λ text. text ≡ chars (encode_utf8_all text)) }
     ensures shown { Reading (8 * (visits.new - visits.old)) (P.seen process.old) (P.seen process.new)
         (λ m. AnswerShows fault_of (values_in layout.now m) addr (width_of max_length) visits.old (bytes_of result)
         visits.new) }

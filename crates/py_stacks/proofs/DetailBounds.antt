@@ -40,7 +40,7 @@ counted_most : (frame n : ℕ) (t : Bool) → leb n 65535 ≡ t
 counted_most frame n true e = let fine : n ≤ 65535 = grind (arith, nat_tests) in fine
 counted_most frame n false e = omega arith
 
-count_most : (l : Layout) (r : MemberAt) → count_or_zero (count_of l r) ≤ 65535
+pub count_most : (l : Layout) (r : MemberAt) → count_or_zero (count_of l r) ≤ 65535
 unfolding count_of
 count_most l r =
     let n = u32_in r.code l.code.nlocals in

@@ -3,9 +3,6 @@ pub mod Marking
 pub mod Details
 pub mod LineSteps
 pub mod LocalSteps
-pub mod SearchSteps
-pub mod TypedSteps
-pub mod NameSteps
 pub mod Parts
 pub mod Gather
 pub mod FrameLaws
@@ -19,3 +16,7 @@ pub mod DetailBounds
 pub mod Candidates
 pub mod Wholes
 pub mod NamedLaws
+pub mod Passes
+pub mod ValueSteps
+pub mod OverLaws
+pub mod ValueBounds

@@ -1,12 +1,13 @@
 -- The locals of a frame, variable by variable.
-use Rattle.std.proofs.Common.{◌≡◌, ℕ, suc, ◌+◌, ◌*◌, ◌-◌, ◌<◌, ◌≤◌, List, [], ◌++◌, refl, sym, ◌∙◌, ap, arith, append-nil, append_assoc}
+use Rattle.std.proofs.Common.{◌≡◌, ℕ, suc, ◌+◌, ◌*◌, ◌-◌, ◌<◌, ◌≤◌, List, [], ◌++◌, refl, ◌∙◌, ap, arith, append-nil}
 use Rattle.std.proofs.Math.Nat.{sub-zero}
 use Rattle.std.specs.Prelude.{true, Option, Some, None, Ok, Err, ⊤}
-use Rattle.process_memory.specs.Memory.{Memory, Found, Fault, ◌>>=◌}
+use Rattle.process_memory.specs.Memory.{Memory, Fault, ◌>>=◌}
 use Rattle.process_memory.specs.Seen.{Seen, Reading, Reads, FaultIs}
 use Rattle.process_memory.specs.Walk.{after_all}
 use Rattle.process_memory.proofs.Reading.{reading_then, reading_gives, reading_none}
 use Rattle.py_fields.specs.declared.layout.Layout.{Layout}
+use Rattle.py_names.proofs.Afters.{after_all_none, after_all_twice}
 use Rattle.py_stacks.specs.declared.trace.LocalVariable.{LocalVariable}
 use Rattle.py_stacks.specs.Locals.{count_of, kept_local, local_at, locals_cost, locals_from}
 use Rattle.py_stacks.specs.Member.{MemberAt}
@@ -24,14 +25,6 @@ module _ (l : Layout) (m : Memory) (r : MemberAt) (index k left : ℕ) (is : lef
 locals_end : (l : Layout) (m : Memory) (r : MemberAt) (index left : ℕ) → left ≡ 0 → locals_from l m r index left ≡ Ok []
 unfolding locals_from
 locals_end l m r index left is = rw is refl
-
-pub after_all_twice : {T : Type 0} (xs ys : List T) (d : Found (List T)) → after_all xs (after_all ys d) ≡ after_all (xs ++ ys) d
-after_all_twice xs ys (Ok zs) = ap Ok (sym (append_assoc xs ys zs))
-after_all_twice xs ys (Err f) = refl
-
-pub after_all_none : {T : Type 0} (d : Found (List T)) → d ≡ after_all [] d
-after_all_none (Ok zs) = refl
-after_all_none (Err f) = refl
 
 -- these locals were read of the variables before an index
 pub record Taking (l : Layout) (r : MemberAt) (s0 s1 : Seen) (count index : ℕ) (locals : List LocalVariable) : Type 0 where

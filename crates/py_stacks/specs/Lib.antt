@@ -8,11 +8,9 @@ pub mod Detail
 pub mod Member
 pub mod Lines
 pub mod Locals
-pub mod NamesError
-pub mod Typed
-pub mod Search
-pub mod Names
 pub mod NamedStacks
+pub mod Values
+pub mod StacksOver
 pub mod Records
 pub mod Gathering
 pub mod Asking

@@ -7,9 +7,9 @@ use Rattle.py_fields.specs.declared.layout.Layout.{Layout}
 use Rattle.py_stacks.specs.declared.asked.Asked.{Asked}
 use Rattle.py_stacks.specs.declared.error.StackError.{StackError}
 use Rattle.py_stacks.specs.declared.error.StackError.TheVariants.{OutOfMemory}
-use Rattle.py_stacks.specs.declared.names.Named.{Named}
-use Rattle.py_stacks.specs.Names.{name_under, names_at, names_cost}
-use Rattle.py_stacks.specs.Stacks.{AreStacks, stacks_at, stacks_cost}
+use Rattle.py_names.specs.declared.names.Named.{Named}
+use Rattle.py_names.specs.Names.{name_under, names_at, names_cost}
+use Rattle.py_stacks.specs.Stacks.{stacks_at, stacks_cost}
 use Rattle.py_stacks.specs.Threads.{Trace}
 
 -- the name of a thread, by what was found; where there is a fault, no thread has one
@@ -29,14 +29,6 @@ named_stacks_at q l m lock interpreter = do
 
 unfoldable pub named_cost : Asked → Layout → Memory → ℕ → ℕ → ℕ
 named_cost q l m lock interpreter = stacks_cost q l m lock interpreter + names_cost
-
--- ---- in the subject's own words
-
--- the traces are the interpreter's stacks, each with the name that the map of names has for its id, if there is one
-pub record AreNamedStacks (q : Asked) (l : Layout) (m : Memory) (lock interpreter : ℕ) (traces : List Trace) : Type 0 where
-  pub unnamed : List Trace
-  pub stacks : AreStacks q l m lock interpreter unnamed
-  pub names : traces ≡ map (by_name (name_by (names_at l m interpreter))) unnamed
 
 -- ---- a map, if there is one
 

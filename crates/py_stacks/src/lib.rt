@@ -16,25 +16,22 @@ mod lines;
 mod locals;
 mod members;
 mod named_stacks;
-mod names;
-mod names_error;
 mod owner;
 mod records;
-mod search;
 mod stacks;
+mod stacks_over;
 mod threads;
 mod trace;
-mod typed;
+mod values;
 
 pub use asked::LineNo;
 pub use config::Config;
 pub use error::StackError;
 pub use interpreter::{get_first_thread, is_interpreter, is_interpreter_from};
-pub use named_stacks::get_stack_over;
-pub use names::thread_names_from_interpreter;
-pub use names_error::NamesError;
 pub use owner::get_gil_threadid;
+pub use py_names::{NamesError, thread_names_from_interpreter};
 pub use stacks::{get_stack_trace, get_stack_traces};
+pub use stacks_over::get_stack_over;
 pub use trace::{Addresses, Frame, LocalVariable, StackTrace};
 
 #[cfg(test)]
@@ -44,8 +41,8 @@ mod line_tests;
 #[cfg(test)]
 mod local_tests;
 #[cfg(test)]
-mod names_tests;
-#[cfg(test)]
 mod owner_tests;
+#[cfg(test)]
+mod shown_tests;
 #[cfg(test)]
 mod tests;

@@ -1,9 +1,6 @@
 //! Locals of a frame over pieces of memory, written out by hand.
 use crate::tests::{piece, push_words};
-use crate::{
-    Addresses, Config, LineNo, LocalVariable, StackError, StackTrace, get_stack_over,
-    get_stack_trace,
-};
+use crate::{LineNo, LocalVariable, StackError, StackTrace, get_stack_trace};
 use process_memory::{Part, Piece};
 use py_fields::Layout;
 use std::alloc::{AllocError, Global};
@@ -374,25 +371,5 @@ fn locals_are_read_of_kept_frames_where_they_are_asked_for(rt: HostRuntime) -> R
         let limited = trace(alloc, row, 4096, TEXTS, true)?;
         assert!(rt; matches!(limited, Err(StackError::FrameLimit)));
     }
-    Ok(())
-}
-
-#[test]
-fn a_width_asks_for_locals(rt: HostRuntime) -> Result<(), Fail> {
-    let alloc = rt.alloc();
-    let mut part = memory(alloc, &ROWS[0], 1, TEXTS)?;
-    let layout = Layout::sample();
-    let addresses = Addresses {
-        interpreter: INTERPRETER,
-        lock: 0,
-    };
-    let config = Config {
-        dump_locals: 1,
-        ..Config::default()
-    };
-    let found = get_stack_over(alloc, &mut part, &layout, &addresses, &config);
-    let traces = found.map_err(|_| "no traces")?;
-    assert_eq!(rt; traces.len(), 1);
-    check(&rt, &traces[0], &[("c", 0x9000, false)])?;
     Ok(())
 }

@@ -1,25 +1,20 @@
 //! The stacks of an interpreter, with the names of its threads.
-ghost use Rattle.std.specs.Prelude.{◌≡◌, ◌≤◌, ◌+◌, ◌*◌, IfOk, List, Ok, OnOk, map};
-ghost use Rattle.process_memory.specs.Memory.{byte_at};
-ghost use Rattle.process_memory.specs.Seen.{Answers, Reading, ReadsBy, ReadingBy};
-ghost use Rattle.process_memory.specs.Walk.{first_fault};
-ghost use Rattle.process_memory.specs.Faults.{FaultsAre};
+ghost use Rattle.std.specs.Prelude.{◌≡◌, IfOk, OnOk, map};
+ghost use Rattle.process_memory.specs.Seen.{Reading, ReadsBy};
 ghost use Rattle.py_fields.specs.Sound.{IsSound};
 ghost use Rattle.py_stacks.specs.Asking.{asked_of};
-ghost use Rattle.py_stacks.specs.Met.{details_cost, locals_met, locals_most, members_met, stacks_bound};
-ghost use Rattle.py_stacks.specs.Names.{names_at, names_cost};
-ghost use Rattle.py_stacks.specs.NamedStacks.{AreNamedStacks, GivesNames, by_name, name_in, named_cost, named_stacks_at};
+ghost use Rattle.py_names.specs.Names.{names_at, names_cost};
+ghost use Rattle.py_stacks.specs.NamedStacks.{GivesNames, by_name, name_in, named_cost, named_stacks_at};
 ghost use Rattle.py_stacks.specs.StackError.{fault_of};
-ghost use Rattle.py_stacks.specs.Stacks.{stacks_faults};
-ghost use Rattle.py_stacks.specs.Threads.{Trace, trace_of, traces_of_result};
+ghost use Rattle.py_stacks.specs.Threads.{trace_of, traces_of_result};
 
 use crate::config::Config;
-use crate::names::thread_names_from_interpreter;
 use crate::stacks::get_stack_traces;
-use crate::{Addresses, NamesError, StackError, StackTrace};
+use crate::{Addresses, StackError, StackTrace};
 use elf64_core::Text;
 use process_memory::ProcessMemory;
 use py_fields::Layout;
+use py_names::{NamesError, thread_names_from_interpreter};
 use py_objects::ObjectError;
 use std::alloc::{AllocError, Global};
 use std::collections::BTreeMap;
@@ -76,7 +71,7 @@ fn name_traces(
 }
 
 /// Reads the stacks, and then the names, and names the traces.
-fn read_named<P: ProcessMemory>(
+pub(crate) fn read_named<P: ProcessMemory>(
     alloc: Global,
     process: &mut P,
     layout: &Layout,
@@ -96,59 +91,4 @@ fn read_named<P: ProcessMemory>(
     let names = read_names(alloc, process, layout, interpreter)?;
     name_traces(alloc, &mut traces, &names)?;
     Ok(traces)
-}
-
-/// The traces of the threads of the interpreter at these addresses, with what a `Config` asks for: those of
-/// `get_stack_traces`, by the same rules and with the same errors, each with the name of its thread.
-///
-/// The name is that which `thread_names_from_interpreter` has for the trace's id, if there is one; where that
-/// has a fault, no thread has a name, and that is no error. Want of memory is. Values of locals are not shown
-/// yet.
-///
-/// As many reads as `get_stack_traces` makes, and those of the names behind them.
-pub fn get_stack_over<P: ProcessMemory>(
-    alloc: Global,
-    process: &mut P,
-    layout: &Layout,
-    addresses: &Addresses,
-    config: &Config,
-) -> Result<Vec<StackTrace>, StackError>
-    requires sound { IsSound layout.now }
-    ensures answer { ReadsBy fault_of
-        (λ m. named_cost (asked_of config.now) layout.now m addresses.now.lock addresses.now.interpreter)
-        (P.seen process.old) (P.seen process.new)
-        (λ m. named_stacks_at (asked_of config.now) layout.now m addresses.now.lock addresses.now.interpreter)
-        (traces_of_result result) }
-    ensures traces { ReadingBy
-        (λ m. named_cost (asked_of config.now) layout.now m addresses.now.lock addresses.now.interpreter)
-        (P.seen process.old) (P.seen process.new)
-        (λ m. IfOk result (λ traces.
-        AreNamedStacks (asked_of config.now) layout.now m addresses.now.lock addresses.now.interpreter
-        (map trace_of traces.items))) }
-    // what is right is the answer, want of memory aside
-    ensures only { ReadingBy
-        (λ m. named_cost (asked_of config.now) layout.now m addresses.now.lock addresses.now.interpreter)
-        (P.seen process.old) (P.seen process.new)
-        (λ m. (traces : List Trace)
-        → AreNamedStacks (asked_of config.now) layout.now m addresses.now.lock addresses.now.interpreter traces
-        → Answers fault_of (Ok traces) (traces_of_result result)) }
-    ensures faults { ReadingBy
-        (λ m. named_cost (asked_of config.now) layout.now m addresses.now.lock addresses.now.interpreter)
-        (P.seen process.old) (P.seen process.new)
-        (λ m. FaultsAre fault_of (first_fault
-        (stacks_faults (asked_of config.now) layout.now m addresses.now.lock addresses.now.interpreter)) result) }
-    ensures bound { (P.seen process.new).reads ≤ (P.seen process.old).reads
-        + (stacks_bound (asked_of config.now) layout.now (byte_at (P.seen process.old).pieces)
-        addresses.now.interpreter + names_cost) }
-    ensures details { details_cost (asked_of config.now) layout.now (byte_at (P.seen process.old).pieces)
-        addresses.now.interpreter
-        ≤ 3 * members_met (asked_of config.now) layout.now (byte_at (P.seen process.old).pieces)
-        addresses.now.interpreter
-        + 4 * locals_met (asked_of config.now) layout.now (byte_at (P.seen process.old).pieces)
-        addresses.now.interpreter }
-    // whatever the memory holds, as cyclic chains
-    ensures most { (P.seen process.new).reads ≤ (P.seen process.old).reads
-        + (3 + 4096 * (2 + 16384 * (9 + locals_most (asked_of config.now).locals)) + names_cost) }
-{
-    read_named(alloc, process, layout, addresses, config)
 }

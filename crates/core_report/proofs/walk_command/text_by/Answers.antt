@@ -9,5 +9,5 @@ returns c =
     let w = asked_walk c.args.words.now in
     let traces = c.in_ok-traces.traces in
     let found = subst (λ v. Means c.args.core.items c.args.layouts.now v w.addresses (traced (Ok traces))) c.in_ok-version.ensures c.in_ok-traces.ensures.right in
-    let text = c.in_ok-text.ensures ∙ ap (λ v. walk_text v c.deref.result.now) c.in_ok-version.ensures ∙ ap (λ ts. walk_text w.version ts) c.deref.ensures.value in
+    let text = ap (λ bytes. bytes.items) c.into_bytes.ensures.value ∙ c.in_ok-text.ensures ∙ ap (λ v. walk_text v c.deref.result.now) c.in_ok-version.ensures ∙ ap (λ ts. walk_text w.version ts) c.deref.ensures.value in
     inr (traces, found, ap Ok text)

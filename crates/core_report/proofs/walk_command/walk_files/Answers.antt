@@ -1,4 +1,4 @@
-use Rattle.std.proofs.Common.{◌≤◌, Ok, Err, string_bytes, arith, length, inr, subst, sym}
+use Rattle.std.proofs.Common.{◌≤◌, Ok, Err, arith, length, inr, subst, sym}
 use Rattle.std.proofs.lemmas.Result.{err_from_is_err_and}
 use Rattle.core_words.specs.Seen.{asked_walk}
 use Rattle.core_report.specs.Outcome.{IsAnswer, IsWalked}
@@ -20,4 +20,4 @@ returns c =
     let some : 1 ≤ length c.args.read.items = omega (arith, c.requires.kept) in
     let first = first_out c.args.read.items c.remove-core.new.self.items c.remove-core.result some c.remove-core.ensures.value c.remove-core.ensures.by_index.2 in
     let says = rw c.deref.ensures.value at c.in_ok-layouts.ensures in
-    subst (λ k. IsWalked w k (Ok (string_bytes c.in_ok-text.text))) (sym first) (inr (c.in_ok-layouts.layouts, says, c.in_ok-text.ensures))
+    subst (λ k. IsWalked w k (Ok c.in_ok-text.text.items)) (sym first) (inr (c.in_ok-layouts.layouts, says, c.in_ok-text.ensures))

@@ -1,5 +1,6 @@
 use Rattle.std.proofs.Common.{◌≡◌, ◌∙◌, ap, sym, arith, rules, string_bytes, encode_utf8_all}
 use Rattle.std.specs.Int.{w64}
+use Rattle.std.specs.Str.{chars}
 use Rattle.std.proofs.lemmas.Int.{to_z-of_z}
 use Rattle.std.proofs.lemmas.Result.{err_from_is_err_and}
 use Rattle.std.proofs.lemmas.Str.{encodes-chars, IsUtf8-string_bytes}
@@ -16,6 +17,10 @@ returns-in_err-text-clause-few g c = told_within _ _ _ _ _ _ (reading_here c.in_
 
 pub returns-clause-few : goal.returns-clause-few
 returns-clause-few g c = told_within _ _ _ _ _ _ (reading_here c.in_ok-text.ensures.shown)
+
+pub returns-clause-characters : goal.returns-clause-characters
+returns-clause-characters g c =
+    c.from.ensures ∙ ap chars (sym (ap encode_utf8_all c.from.ensures ∙ encodes-chars (string_bytes c.in_ok-text.text) (IsUtf8-string_bytes c.in_ok-text.text)))
 
 pub returns-clause-shown : goal.returns-clause-shown
 returns-clause-shown g c =

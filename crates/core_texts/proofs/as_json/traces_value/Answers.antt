@@ -1,0 +1,13 @@
+use Rattle.std.proofs.Common.{◌≡◌, ◌∙◌, ap, map}
+use Rattle.std.proofs.lemmas.List.{take_all}
+use Rattle.serde_json.specs.Data.{array}
+use Rattle.serde_json.specs.View.{items_of}
+use Rattle.serde_json.proofs.Views.{view-Array}
+use Rattle.core_texts.specs.Tree.{trace_tree}
+use Rattle.core_texts.proofs.as_json.traces_value.Goals as goal
+
+pub returns : goal.returns
+returns c =
+    view-Array c.loop-trace.values
+    ∙ ap (λ ds. array (items_of ds)) (c.loop-trace.invariant
+    ∙ ap (λ xs. map (λ x. trace_tree x) xs) (take_all c.loop-trace.trace-index c.args.traces.now c.loop-trace-test.false))

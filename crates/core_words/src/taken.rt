@@ -1,0 +1,110 @@
+//! The words of a report, as clap takes them.
+ghost use Rattle.std.specs.Prelude.{◌≡◌, ◌↔◌, false, None, Some, IfOk};
+ghost use Rattle.clap.specs.Words.{app_of, found_of, rows_of, rule_of};
+ghost use Rattle.core_words.specs.Answers.{Answers};
+ghost use Rattle.core_words.specs.Dump.{core_rule, dump_app, flag_rule, images_rule, layouts_rule, locals_rule, taken_rows};
+ghost use Rattle.core_words.specs.Words.{texts};
+
+use crate::args_error::ArgsError;
+use clap::error::ErrorKind;
+use clap::{Arg, ArgAction, ArgMatches, Command};
+use std::alloc::{AllocError, Global};
+
+/// A flag.
+fn flag<'a>(alloc: Global, name: &'a str) -> Arg<'a>
+    ensures rule { rule_of result ≡ flag_rule name.entry.now None }
+    ensures local { result.global ≡ false }
+{
+    Arg::new(alloc, name).long(name).action(ArgAction::SetTrue)
+}
+
+/// A flag of one letter too.
+fn short_flag<'a>(alloc: Global, name: &'a str, short: char) -> Arg<'a>
+    ensures rule { rule_of result ≡ flag_rule name.entry.now (Some short) }
+    ensures local { result.global ≡ false }
+{
+    Arg::new(alloc, name)
+        .short(short)
+        .long(name)
+        .action(ArgAction::SetTrue)
+}
+
+fn core_arg<'a>(alloc: Global) -> Arg<'a>
+    ensures rule { rule_of result ≡ core_rule }
+    ensures local { result.global ≡ false }
+{
+    Arg::new(alloc, "core")
+        .short('c')
+        .long("core")
+        .required(true)
+        .action(ArgAction::Set)
+}
+
+fn layouts_arg<'a>(alloc: Global) -> Arg<'a>
+    ensures rule { rule_of result ≡ layouts_rule }
+    ensures local { result.global ≡ false }
+{
+    Arg::new(alloc, "layouts")
+        .long("layouts")
+        .required(true)
+        .action(ArgAction::Set)
+}
+
+fn locals_arg<'a>(alloc: Global) -> Arg<'a>
+    ensures rule { rule_of result ≡ locals_rule }
+    ensures local { result.global ≡ false }
+{
+    Arg::new(alloc, "locals")
+        .short('l')
+        .long("locals")
+        .action(ArgAction::Count)
+}
+
+fn images_arg<'a>(alloc: Global) -> Arg<'a>
+    ensures rule { rule_of result ≡ images_rule }
+    ensures local { result.global ≡ false }
+{
+    Arg::new(alloc, "images")
+        .num_args(0..)
+        .action(ArgAction::Append)
+}
+
+/// The command, as clap is told of it.
+fn dump_command<'a>(alloc: Global) -> Result<Command<'a>, AllocError>
+    ensures { IfOk result (λ command. app_of command ≡ dump_app) }
+{
+    Command::new(alloc, "dump")
+        .arg(core_arg(alloc))?
+        .arg(layouts_arg(alloc))?
+        .arg(locals_arg(alloc))?
+        .arg(short_flag(alloc, "json", 'j'))?
+        .arg(flag(alloc, "full-filenames"))?
+        .arg(short_flag(alloc, "native", 'n'))?
+        .arg(short_flag(alloc, "subprocesses", 's'))?
+        .arg(images_arg(alloc))
+}
+
+/// What clap finds in the words, of which it reads none of the first; `Refused` exactly where it does not take
+/// them, unless memory runs out.
+pub(crate) fn dump_matches<'a>(
+    alloc: Global,
+    words: &'a [String],
+) -> Result<ArgMatches<'a>, ArgsError>
+    ensures { Answers (λ matches. rows_of (found_of matches)) (taken_rows (texts words.now)) result }
+{
+    let command = dump_command(alloc)?;
+    match command.try_get_matches_from(words) {
+        Ok(matches) => Ok(matches),
+        Err(error) => Err(refusal(error.kind())),
+    }
+}
+
+/// Why clap took no words.
+fn refusal(kind: ErrorKind) -> ArgsError
+    ensures memory { (result ≡ ArgsError.OutOfMemory) ↔ (kind ≡ ErrorKind.OutOfMemory) }
+{
+    match kind {
+        ErrorKind::OutOfMemory => ArgsError::OutOfMemory,
+        _ => ArgsError::Refused,
+    }
+}

@@ -1,0 +1,6 @@
+pub mod Orders
+pub mod Coverings
+pub mod Meeting
+pub mod Sole
+pub mod TagTexts
+pub mod TagReading

@@ -1,0 +1,14 @@
+pub mod Metas
+pub mod Order
+pub mod Targets
+pub mod Shown
+pub mod Numbered
+pub mod BuildIds
+pub mod Firsts
+pub mod Normal
+pub mod Met
+pub mod Answers
+pub mod Tags
+pub mod Programs
+pub mod Btfs
+pub mod ReadTags

@@ -1,0 +1,28 @@
+//! Addresses of a process, as places in the files that it had mapped; and the names of BPF programs.
+#![tactic(auto)]
+
+mod bpf_prog;
+mod bpf_tag;
+#[cfg(test)]
+mod bpf_tests;
+mod btf;
+mod build_ids;
+mod error;
+mod meta;
+mod metas;
+mod normalizer;
+mod numbers;
+mod options;
+mod order;
+mod outputs;
+mod query;
+#[cfg(test)]
+mod tests;
+
+pub use bpf_prog::BpfProg;
+pub use bpf_tag::BpfTag;
+pub use btf::{Btf, bpf_line_info, btf_header};
+pub use error::NormalizeError;
+pub use meta::{Elf, Reason, Unknown, UserMeta};
+pub use normalizer::{Builder, Normalizer};
+pub use options::{NormalizeOpts, Output, UserOutput};

@@ -1,0 +1,4 @@
+pub mod Afters
+pub mod SearchSteps
+pub mod TypedSteps
+pub mod NameSteps

@@ -1,0 +1,62 @@
+-- The steps to the dict of an object.
+use Rattle.std.proofs.Common.{◌≡◌, ◌≢◌, ℕ, ◌+◌, ◌-◌, ◌^◌, ◌<◌, ◌≤◌, true, false, cond, ltb, leb, nat_eq, refl, sym, ◌∙◌, ap, arith}
+use Rattle.std.specs.Int.{bit_at}
+use Rattle.std.specs.Int.Bits.{bit_and}
+use Rattle.std.proofs.lemmas.Nat.Bits.{and_pow, bit_at-lt}
+use Rattle.std.proofs.lemmas.Bool.Decides.{nat_tests}
+use Rattle.std.specs.Prelude.{Option, Ok, Err}
+use Rattle.process_memory.specs.Memory.{Memory, Found, Fault, address_before}
+use Rattle.process_memory.specs.Seen.{Seen, Reads}
+use Rattle.process_memory.proofs.Reading.{reading_gives}
+use Rattle.py_fields.specs.declared.layout.Layout.{Layout}
+use Rattle.py_objects.specs.Dicts.{managed_slots}
+use Rattle.py_names.specs.Typed.{TypeAt, beside, flagged_slots, plain_slots, typed_slots}
+use Rattle.elf64_core.specs.Fields.{u64_in}
+
+pub beside_on : (a distance : ℕ) → distance < 2 ^ 63 → beside a distance ≡ a + distance
+unfolding beside
+beside_on a distance lt = let on : ltb distance (2 ^ 63) ≡ true = grind (arith, nat_tests) in rw on refl
+
+pub beside_back : (a distance : ℕ) → 2 ^ 63 ≤ distance → 2 ^ 64 - distance ≤ a → beside a distance ≡ a - (2 ^ 64 - distance)
+unfolding beside address_before
+beside_back a distance le fits =
+    let back : ltb distance (2 ^ 63) ≡ false = grind (arith, nat_tests) in
+    let within : leb (2 ^ 64 - distance) a ≡ true = grind (arith, nat_tests) in
+    rw (back, within) refl
+
+pub beside_out : (a distance : ℕ) → 2 ^ 63 ≤ distance → a < 2 ^ 64 - distance → beside a distance ≡ 2 ^ 64
+unfolding beside address_before
+beside_out a distance le past =
+    let back : ltb distance (2 ^ 63) ≡ false = grind (arith, nat_tests) in
+    let out : leb (2 ^ 64 - distance) a ≡ false = grind (arith, nat_tests) in
+    rw (back, out) refl
+
+module _ (l : Layout) (m : Memory) (a : ℕ) (t : TypeAt) (flags : ℕ) where
+  flagged_managed : bit_and flags 16 ≢ 0 → flagged_slots l m a t flags ≡ managed_slots l m a t.at flags
+  flagged_managed some =
+      let bit : bit_at flags 4 ≡ 1 = omega (arith, and_pow flags 4, bit_at-lt flags 4, some) in
+      let is : nat_eq (bit_at flags 4) 1 ≡ true = grind (arith, nat_tests) in
+      ap (λ b. cond b (managed_slots l m a t.at flags) (plain_slots l m a t)) is
+
+  flagged_plain : bit_and flags 16 ≡ 0 → flagged_slots l m a t flags ≡ plain_slots l m a t
+  flagged_plain none =
+      let bit : bit_at flags 4 ≡ 0 = omega (arith, and_pow flags 4, none) in
+      let is : nat_eq (bit_at flags 4) 1 ≡ false = grind (arith, nat_tests) in
+      ap (λ b. cond b (managed_slots l m a t.at flags) (plain_slots l m a t)) is
+
+  pub typed_managed : flags ≡ u64_in t.klass l.klass.flags → bit_and flags 16 ≢ 0 → typed_slots l m a t ≡ managed_slots l m a t.at flags
+  unfolding typed_slots
+  typed_managed is some = ap (flagged_slots l m a t) (sym is) ∙ flagged_managed some
+
+  pub typed_plain : flags ≡ u64_in t.klass l.klass.flags → bit_and flags 16 ≡ 0 → typed_slots l m a t ≡ plain_slots l m a t
+  unfolding typed_slots
+  typed_plain is none = ap (flagged_slots l m a t) (sym is) ∙ flagged_plain none
+
+module _ {T E E' : Type 0} {fault : E → Option Fault} {fault' : E' → Option Fault} {n : ℕ} {s0 s1 : Seen} {d : Memory → Found T} where
+  -- the same fault, by another error
+  pub reads_fail : {e : E} (e' : E') → Reads {T = T} fault n s0 s1 d (Err e) → fault' e' ≡ fault e → Reads {T = T} fault' n s0 s1 d (Err e')
+  reads_fail e' p same = reading_gives _ _ p (omega arith) (λ m a. record { is = rw same a.is })
+
+  -- the same value, beside other errors
+  pub reads_pass : {x : T} → Reads {T = T} fault n s0 s1 d (Ok x) → Reads {T = T} fault' n s0 s1 d (Ok x)
+  reads_pass p = reading_gives _ _ p (omega arith) (λ m a. record { is = a.is })

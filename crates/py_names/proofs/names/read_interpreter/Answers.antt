@@ -1,0 +1,30 @@
+use Rattle.std.proofs.Common.{◌+◌, ◌*◌, arith, ap}
+use Rattle.std.proofs.Math.Nat.{le_refl}
+use Rattle.std.proofs.lemmas.Result.{err_from_is_err_and}
+use Rattle.process_memory.proofs.Reading.{reads_next, reads_halt}
+use Rattle.py_names.specs.NamesError.{names_fault}
+use Rattle.py_names.specs.Names.{interpreter_names_at}
+use Rattle.py_names.proofs.names.read_interpreter.Goals as goal
+
+pub returns-in_err-modules : goal.returns-in_err-modules
+unfolding interpreter_names_at
+returns-in_err-modules g c =
+    let p = err_from_is_err_and c.from_residual.result c.from_residual.ensures.1 in
+    rw p.1 (reads_halt _ p.0 _ c.in_err-modules.ensures.answer p.2 (omega arith))
+
+pub returns-in_err-dict : goal.returns-in_err-dict
+unfolding interpreter_names_at
+returns-in_err-dict g c =
+    let p = err_from_is_err_and c.from_residual-in_err-dict.result c.from_residual-in_err-dict.ensures.1 in
+    rw p.1 (reads_next _ _ c.in_ok-modules.ensures.answer (reads_halt 2 p.0 _ c.in_err-dict.ensures.answer p.2 (le_refl 2)) (omega arith))
+
+pub returns-in_err-search : goal.returns-in_err-search
+unfolding interpreter_names_at
+returns-in_err-search g c =
+    let p = err_from_is_err_and c.from_residual-in_err-search.result c.from_residual-in_err-search.ensures.1 in
+    rw p.1 (reads_next _ _ c.in_ok-modules.ensures.answer (reads_next (2 + 4 * 65536) _ c.in_ok-dict.ensures.answer (reads_halt (4 * 65536) p.0 _ c.in_err-search.ensures.answer (ap names_fault p.2) (le_refl _)) (le_refl _)) (omega arith))
+
+pub returns : goal.returns
+unfolding interpreter_names_at
+returns g c =
+    reads_next _ _ c.in_ok-modules.ensures.answer (reads_next (9 + 12 * 65536) _ c.in_ok-dict.ensures.answer (reads_next (7 + 12 * 65536) _ c.in_ok-search.ensures.answer c.read_module.ensures (omega (arith, c.in_ok-search.ensures.fewer))) (omega arith)) (omega arith)

@@ -1,0 +1,13 @@
+use Rattle.std.proofs.Common.{sym}
+use Rattle.std.proofs.Math.Nat.{le_refl}
+use Rattle.process_memory.proofs.Reading.{reads_next, reads_end}
+use Rattle.py_names.specs.Names.{threads_at}
+use Rattle.py_names.proofs.names.read_threads.Goals as goal
+
+pub returns-in-None : goal.returns-in-None
+unfolding threads_at
+returns-in-None g c = rw c.in-None.is (reads_end _ (sym c.new.ensures.items))
+
+pub returns-in_ok-dict-in-Some : goal.returns-in_ok-dict-in-Some
+unfolding threads_at
+returns-in_ok-dict-in-Some g c = rw c.in-Some.is (reads_next _ _ c.in_ok-dict-in-Some.ensures.answer c.read_each.ensures (le_refl _))

@@ -1,0 +1,4 @@
+pub mod NamesError
+pub mod Typed
+pub mod Search
+pub mod Names

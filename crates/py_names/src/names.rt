@@ -1,0 +1,277 @@
+//! The names of an interpreter's threads.
+ghost use Rattle.std.specs.Prelude.{◌≡◌, ◌+◌, ◌*◌, ◌-◌, ◌≤◌, ◌++◌, ℕ, IfOk, OnOk};
+ghost use Rattle.process_memory.specs.Seen.{Reading, Reads, items_of};
+ghost use Rattle.py_fields.specs.Sound.{IsSound};
+ghost use Rattle.py_names.specs.NamesError.{names_fault};
+ghost use Rattle.py_names.specs.Names.{AnswersNames, HasNames, names_cost, entry_in, interpreter_names_at, kept_name, module_names_at, name_at, names_at, names_from, spent, thread_at, thread_in, threads_at};
+
+use crate::NamesError;
+use crate::search::find_in;
+use crate::typed::{read_plain_dict, read_type, read_typed_dict};
+use elf64_core::Text;
+use process_memory::{ProcessMemory, word_past};
+use py_fields::{Dicts, Layout};
+use py_objects::{DictCursor, Slot, copy_long, copy_string};
+use std::alloc::{AllocFailed, Global};
+use std::collections::BTreeMap;
+
+/// How many slots are looked at, at most.
+const SLOT_LIMIT: u64 = 65536;
+
+/// The name of a thread, by the thread's id.
+#[derive(Drop)]
+pub struct Named {
+    pub id: u64,
+    pub name: Text,
+}
+
+/// What a slot gives, and how many slots may be looked at then.
+#[derive(Drop)]
+struct Given {
+    named: Option<Named>,
+    left: u64,
+}
+
+/// The name at an address, under an id; none where there is none. At most 2 reads.
+#[tactic(auto, unfolding(crate::specs::Names::name_at))]
+fn read_name<P: ProcessMemory>(
+    alloc: Global,
+    process: &mut P,
+    layout: &Layout,
+    id: u64,
+    found: Option<u64>,
+) -> Result<Option<Named>, NamesError>
+    requires sound { IsSound layout.now }
+    ensures { Reads names_fault 2 (P.seen process.old) (P.seen process.new) (λ m. name_at layout.now m id found) result }
+{
+    match found {
+        None => Ok(None),
+        Some(addr) => {
+            let name = copy_string(alloc, process, layout, addr)?;
+            Ok(Some(Named { id, name }))
+        }
+    }
+}
+
+/// The id and the name of a thread that an entry of the dict of threads holds. At most 10 reads, and 4 for each
+/// slot that is looked at.
+fn read_entry<P: ProcessMemory>(
+    alloc: Global,
+    process: &mut P,
+    layout: &Layout,
+    key: u64,
+    value: u64,
+    left: u64,
+) -> Result<Given, NamesError>
+    requires sound { IsSound layout.now }
+    ensures answer { Reads names_fault (10 + 4 * spent left result) (P.seen process.old) (P.seen process.new)
+        (λ m. entry_in layout.now m key value left) result }
+    ensures fewer { IfOk result (λ given. given.left ≤ left) }
+{
+    let (number, _) = copy_long(process, layout, key)?;
+    let typed = read_type(alloc, process, layout, value)?;
+    let dict = read_typed_dict(process, layout, value, &typed)?;
+    let search = find_in(alloc, process, layout, "_name", &dict, left)?;
+    let named = read_name(alloc, process, layout, number.cast_unsigned(), search.found)?;
+    Ok(Given {
+        named,
+        left: search.left,
+    })
+}
+
+/// What a slot of the dict of threads gives. At most 10 reads, and 4 for each slot that is looked at.
+fn read_given<P: ProcessMemory>(
+    alloc: Global,
+    process: &mut P,
+    layout: &Layout,
+    slot: Slot,
+    left: u64,
+) -> Result<Given, NamesError>
+    requires sound { IsSound layout.now }
+    ensures answer { Reads names_fault (10 + 4 * spent left result) (P.seen process.old) (P.seen process.new)
+        (λ m. thread_in layout.now m left slot) result }
+    ensures fewer { IfOk result (λ given. given.left ≤ left) }
+{
+    match slot {
+        Slot::Empty => Ok(Given { named: None, left }),
+        Slot::Entry(key, value) => read_entry(alloc, process, layout, key, value, left),
+    }
+}
+
+/// What the slot of a number gives. At most 12 reads, and 4 for each slot that is looked at beside it.
+fn read_thread<P: ProcessMemory>(
+    alloc: Global,
+    process: &mut P,
+    layout: &Layout,
+    dict: &DictCursor,
+    number: u64,
+    left: u64,
+) -> Result<Given, NamesError>
+    requires sound { IsSound layout.now }
+    ensures answer { Reads names_fault (12 + 4 * spent left result) (P.seen process.old) (P.seen process.new)
+        (λ m. thread_at layout.now m dict.now.slots number left) result }
+    ensures fewer { IfOk result (λ given. given.left ≤ left) }
+{
+    let slot = dict.slot(process, number)?;
+    read_given(alloc, process, layout, slot, left)
+}
+
+/// Adds a name, where there is one.
+fn add_name(names: &mut Vec<Named>, named: Option<Named>) -> Result<(), AllocFailed<Named>>
+    ensures { OnOk result (names.new.items ≡ names.old.items ++ kept_name named) }
+{
+    match named {
+        None => Ok(()),
+        Some(named) => names.push(named),
+    }
+}
+
+/// The names of a dict's entries, where so many slots may be looked at. At most 12 reads for each of them.
+fn read_each<P: ProcessMemory>(
+    alloc: Global,
+    process: &mut P,
+    layout: &Layout,
+    dict: &DictCursor,
+    limit: u64,
+) -> Result<Vec<Named>, NamesError>
+    requires sound { IsSound layout.now }
+    requires start { dict.now.passed ≡ 0 }
+    ensures { Reads names_fault (12 * limit) (P.seen process.old) (P.seen process.new)
+        (λ m. names_from layout.now m dict.now.slots dict.now.slots.count 0 limit) (items_of result) }
+{
+    let mut names = Vec::new(alloc);
+    let mut left = limit;
+    for number in 0..dict.remaining() {
+        if left == 0 {
+            return Err(NamesError::Entries);
+        }
+        let given = read_thread(alloc, process, layout, dict, number, left - 1)?;
+        left = given.left;
+        add_name(&mut names, given.named)?;
+    }
+    Ok(names)
+}
+
+/// The names of the threads that a dict has, where there is one. At most 2 reads, and 12 for each slot that may be
+/// looked at.
+#[tactic(auto, unfolding(crate::specs::Names::threads_at))]
+fn read_threads<P: ProcessMemory>(
+    alloc: Global,
+    process: &mut P,
+    layout: &Layout,
+    found: Option<u64>,
+    left: u64,
+) -> Result<Vec<Named>, NamesError>
+    requires sound { IsSound layout.now }
+    ensures { Reads names_fault (2 + 12 * left) (P.seen process.old) (P.seen process.new)
+        (λ m. threads_at layout.now m found left) (items_of result) }
+{
+    match found {
+        None => Ok(Vec::new(alloc)),
+        Some(addr) => {
+            let dict = DictCursor::from(process, layout, addr)?;
+            read_each(alloc, process, layout, &dict, left)
+        }
+    }
+}
+
+/// The names that a module keeps, where there is one. At most 7 reads, and 12 for each slot that may be looked at.
+#[tactic(auto, unfolding(crate::specs::Names::module_names_at))]
+fn read_module<P: ProcessMemory>(
+    alloc: Global,
+    process: &mut P,
+    layout: &Layout,
+    found: Option<u64>,
+    left: u64,
+) -> Result<Vec<Named>, NamesError>
+    requires sound { IsSound layout.now }
+    ensures { Reads names_fault (7 + 12 * left) (P.seen process.old) (P.seen process.new)
+        (λ m. module_names_at layout.now m found left) (items_of result) }
+{
+    match found {
+        None => Ok(Vec::new(alloc)),
+        Some(addr) => {
+            let typed = read_type(alloc, process, layout, addr)?;
+            let dict = read_plain_dict(process, layout, addr, &typed)?;
+            let search = find_in(alloc, process, layout, "_active", &dict, left)?;
+            read_threads(alloc, process, layout, search.found, search.left)
+        }
+    }
+}
+
+/// The names of an interpreter's threads, in the order of their dict. At most 10 reads, and 12 for each slot that may be looked at.
+fn read_interpreter<P: ProcessMemory>(
+    alloc: Global,
+    process: &mut P,
+    layout: &Layout,
+    interpreter: u64,
+) -> Result<Vec<Named>, NamesError>
+    requires sound { IsSound layout.now }
+    ensures { Reads names_fault (10 + 12 * 65536) (P.seen process.old) (P.seen process.new)
+        (λ m. interpreter_names_at layout.now m interpreter) (items_of result) }
+{
+    let modules = word_past(process, interpreter, layout.interpreter.modules as u64)?;
+    let dict = DictCursor::from(process, layout, modules)?;
+    let search = find_in(alloc, process, layout, "threading", &dict, SLOT_LIMIT)?;
+    read_module(alloc, process, layout, search.found, search.left)
+}
+
+/// The same, where the layout has dicts.
+#[tactic(auto, unfolding(crate::specs::Names::names_at))]
+pub(crate) fn read_names<P: ProcessMemory>(
+    alloc: Global,
+    process: &mut P,
+    layout: &Layout,
+    interpreter: u64,
+) -> Result<Vec<Named>, NamesError>
+    requires sound { IsSound layout.now }
+    ensures { Reads names_fault (10 + 12 * 65536) (P.seen process.old) (P.seen process.new)
+        (λ m. names_at layout.now m interpreter) (items_of result) }
+{
+    match layout.dicts {
+        Dicts::Absent => Err(NamesError::NoDicts),
+        Dicts::General | Dicts::Compact => read_interpreter(alloc, process, layout, interpreter),
+    }
+}
+
+/// A map of names, later ones in the place of earlier ones of their ids.
+fn names_map(
+    alloc: Global,
+    names: Vec<Named>,
+) -> Result<BTreeMap<u64, Text>, AllocFailed<(u64, Text)>>
+    ensures { IfOk result (λ map. HasNames map names.items) }
+{
+    let mut map = BTreeMap::new(alloc);
+    for named in names {
+        map.insert(named.id, named.name)?;
+    }
+    Ok(map)
+}
+
+/// The names of an interpreter's threads, by the threads' ids, as its module `threading` keeps them.
+///
+/// The interpreter names the dict of modules; its first entry `threading` is the module. The word that stands in
+/// it where its type says names its dict, whose first entry `_active` is a dict; without either there are no
+/// names. Each entry of that dict has an integer as its key, the thread's id as 8 bytes (`copy_long`), and the
+/// thread as its value. A thread's dict is its managed one, where the flags of its type have bit 4, and else the
+/// one that the word names which stands where its type says; its first entry `_name` is the thread's name, and
+/// without it there is none. A later name of one id takes the place of an earlier one.
+///
+/// `NoDicts` comes exactly where the layout has no dicts, and `Entries` where 65536 slots of these dicts were
+/// looked at, empty ones too, and another would be. `Object` has the first fault of what is read: a part that is
+/// not in memory, a dict that is none, a key met in a search, or a name, that is no text. Else it is want of
+/// memory. At most 10 reads, and 12 for each of the 65536 slots.
+pub fn thread_names_from_interpreter<P: ProcessMemory>(
+    alloc: Global,
+    interpreter: u64,
+    process: &mut P,
+    layout: &Layout,
+) -> Result<BTreeMap<u64, Text>, NamesError>
+    requires sound { IsSound layout.now }
+    ensures { Reading names_cost (P.seen process.old) (P.seen process.new)
+        (λ m. AnswersNames (names_at layout.now m interpreter) result) }
+{
+    let names = read_names(alloc, process, layout, interpreter)?;
+    let map = names_map(alloc, names)?;
+    Ok(map)
+}

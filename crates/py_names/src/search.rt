@@ -1,0 +1,96 @@
+//! The first entry of a dict under a name.
+ghost use Rattle.std.specs.Prelude.{◌≡◌, ◌≤◌, ◌*◌, ◌-◌, IfOk};
+ghost use Rattle.process_memory.specs.Seen.{Reads};
+ghost use Rattle.py_fields.specs.Sound.{IsSound};
+ghost use Rattle.py_names.specs.NamesError.{names_fault};
+ghost use Rattle.py_names.specs.Search.{find_from, used, value_at, value_named};
+
+use crate::NamesError;
+use process_memory::ProcessMemory;
+use py_fields::Layout;
+use py_objects::{DictCursor, Slot, copy_string};
+use std::alloc::Global;
+
+/// What a search found, and how many slots may be looked at then.
+#[derive(Clone, Copy)]
+pub(crate) struct Looked {
+    pub(crate) found: Option<u64>,
+    pub(crate) left: u64,
+}
+
+/// The value that a slot has under a name; none where it is empty or its key is another text. At most 2 reads.
+#[tactic(auto, unfolding(crate::specs::Search::value_named))]
+fn value_named<P: ProcessMemory>(
+    alloc: Global,
+    process: &mut P,
+    layout: &Layout,
+    name: &str,
+    slot: Slot,
+) -> Result<Option<u64>, NamesError>
+    requires sound { IsSound layout.now }
+    ensures { Reads names_fault 2 (P.seen process.old) (P.seen process.new)
+        (λ m. value_named layout.now m name.now slot) result }
+{
+    match slot {
+        Slot::Empty => Ok(None),
+        Slot::Entry(key, value) => {
+            let text = copy_string(alloc, process, layout, key)?;
+            if text.as_str() == name {
+                return Ok(Some(value));
+            }
+            Ok(None)
+        }
+    }
+}
+
+/// The same of the slot of a number. At most 4 reads.
+fn read_value<P: ProcessMemory>(
+    alloc: Global,
+    process: &mut P,
+    layout: &Layout,
+    name: &str,
+    dict: &DictCursor,
+    number: u64,
+) -> Result<Option<u64>, NamesError>
+    requires sound { IsSound layout.now }
+    ensures { Reads names_fault 4 (P.seen process.old) (P.seen process.new)
+        (λ m. value_at layout.now m name.now dict.now.slots number) result }
+{
+    let slot = dict.slot(process, number)?;
+    value_named(alloc, process, layout, name, slot)
+}
+
+/// The value of the first entry of a dict under a name, where so many slots may be looked at. `Entries` comes
+/// where they were and there is another. At most 4 reads for each slot that is looked at.
+pub(crate) fn find_in<P: ProcessMemory>(
+    alloc: Global,
+    process: &mut P,
+    layout: &Layout,
+    name: &str,
+    dict: &DictCursor,
+    limit: u64,
+) -> Result<Looked, NamesError>
+    requires sound { IsSound layout.now }
+    requires start { dict.now.passed ≡ 0 }
+    ensures answer { Reads names_fault (4 * used limit result) (P.seen process.old) (P.seen process.new)
+        (λ m. find_from layout.now m name.now dict.now.slots dict.now.slots.count 0 limit) result }
+    ensures fewer { IfOk result (λ looked. looked.left ≤ limit) }
+{
+    let mut left = limit;
+    for number in 0..dict.remaining() {
+        if left == 0 {
+            return Err(NamesError::Entries);
+        }
+        left -= 1;
+        match read_value(alloc, process, layout, name, dict, number)? {
+            Some(value) => {
+                return Ok(Looked {
+                    found: Some(value),
+                    left,
+                });
+            }
+            None => {}
+        }
+    }
+    Ok(Looked { found: None, left })
+}

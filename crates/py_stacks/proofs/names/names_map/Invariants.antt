@@ -1,5 +1,0 @@
-use Rattle.py_stacks.specs.Names.{HasNames}
-use Rattle.py_stacks.proofs.names.names_map.Given as goal
-
-abbrev pub invariant-loop-named : goal.invariant-loop-named
-invariant-loop-named l = HasNames l.map l.yielded

@@ -1,8 +1,0 @@
-use Rattle.std.proofs.Common.{refl}
-use Rattle.process_memory.proofs.Reading.{reads_end}
-use Rattle.py_stacks.specs.Names.{name_at}
-use Rattle.py_stacks.proofs.names.read_name.Goals as goal
-
-pub returns-in-None : goal.returns-in-None
-unfolding name_at
-returns-in-None g c = rw c.in-None.is (reads_end 2 refl)

@@ -1,8 +1,0 @@
-use Rattle.std.proofs.Common.{refl}
-use Rattle.process_memory.proofs.Reading.{reading_none}
-use Rattle.py_stacks.specs.Names.{names_at}
-use Rattle.py_stacks.proofs.names.read_names.Goals as goal
-
-pub returns-in-Absent : goal.returns-in-Absent
-unfolding names_at
-returns-in-Absent g c = rw c.in-Absent.is (reading_none _ _ _ (λ m. record { is = refl }))
