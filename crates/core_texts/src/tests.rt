@@ -98,7 +98,7 @@ fn threads_are_printed_from_the_last(rt: HostRuntime) -> Result<(), Fail> {
 const PRINTED: [(bool, usize, u32, &str); 4] = [
     (true, 1, 100, "Thread 4242 (active): \"Wörker\"\n"),
     (false, 1, 100, "Thread 4242: \"Wörker\"\n"),
-    (true, 0, 41, "Thread 0x7F00ABCD (active+gil)\n    f (a."),
+    (true, 0, 40, "Thread 0x7F00ABCD (active+gil)\n    f (a."),
     (false, 0, 0, ""),
 ];
 
@@ -107,8 +107,9 @@ fn a_thread_is_printed_as_far_as_there_is_room(rt: HostRuntime) -> Result<(), Fa
     let alloc = rt.alloc();
     let traces = traces(alloc)?;
     for (activity, place, room, printed) in &PRINTED {
+        let trace = traces.get(*place).ok_or("a thread")?;
         let mut out = MemorySink::new(alloc, *room, Vec::new(alloc))?;
-        let answer = write_trace(alloc, &mut out, &traces[*place], *activity);
+        let answer = write_trace(alloc, &mut out, trace, *activity);
         assert_eq!(rt; out.bytes(), printed.as_bytes());
         match answer {
             Ok(()) => assert!(rt; *room == 100),
