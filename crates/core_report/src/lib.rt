@@ -16,6 +16,8 @@ mod walk_command;
 
 pub use command::run;
 pub use core_stacks::{PythonCoreDump, report, walk};
+pub use core_texts::{PrintError, write_trace};
+pub use core_words::{ArgsError, DumpWords, config_from_args};
 pub use py_process::{CoreError, Report};
 
 #[cfg(test)]
