@@ -1,5 +1,5 @@
 -- Steps of which each has one right answer, want of memory aside.
-use Rattle.std.proofs.Common.{◌≡◌, ◌≢◌, ◌⊎◌, refl, sym, ap, subst, ◌∙◌, inl, inr, ⊎_elim}
+use Rattle.std.proofs.Common.{◌≡◌, ◌⊎◌, refl, sym, ap, subst, ◌∙◌, inl, inr, ⊎_elim}
 use Rattle.std.specs.Prelude.{Result, Ok, Err}
 use Rattle.py_process.specs.Steps.{Then}
 use Rattle.py_process.specs.declared.core_error.CoreError.{CoreError}

@@ -1,11 +1,11 @@
 -- What is found of a process is one, and so is its first cause.
-use Rattle.std.proofs.Common.{◌≡◌, ◌⊎◌, ℕ, List, refl, sym, ap, subst, ◌∙◌}
+use Rattle.std.proofs.Common.{◌≡◌, ℕ, List, refl, sym, ap, subst, ◌∙◌}
 use Rattle.std.specs.Prelude.{Bool, Option, Some, None, Result, Ok, Err, All, AllPairs}
 use Rattle.std.proofs.lemmas.Option.{same_Some, none-some}
 use Rattle.elf64_core.specs.declared.header.Machine.{Machine}
 use Rattle.image_memory.specs.Images.{Pushed, first_under}
 use Rattle.image_memory.specs.Maps.{in_maps}
-use Rattle.image_memory.specs.Mmap.{Mapped, shown_bytes}
+use Rattle.image_memory.specs.Mmap.{shown_bytes}
 use Rattle.image_memory.specs.declared.maps.CoreMapRange.{CoreMapRange}
 use Rattle.process_memory.specs.Memory.{Memory, Found}
 use Rattle.process_memory.specs.Memory.Fault.{Missing}
@@ -15,8 +15,8 @@ use Rattle.py_layout.specs.Lists.{Clash}
 use Rattle.py_layout.proofs.Choosing.{covers_same}
 use Rattle.py_process.specs.Binary.{IsInfo}
 use Rattle.py_process.specs.Candidates.{IsFirstOf, IsInterpreterIn, IsNoneOf, candidates_of}
-use Rattle.py_process.specs.Facts.{Facts, Known, facts_of}
-use Rattle.py_process.specs.Findings.{AfterImages, AfterLayout, AfterMaps, AfterSearch, AfterVersion, Finding, FindingIs, IsChosen, IsMade, LayoutSays, LockSays, SearchSays, VersionSays}
+use Rattle.py_process.specs.Facts.{Facts, Known}
+use Rattle.py_process.specs.Findings.{AfterImages, AfterLayout, AfterMaps, AfterSearch, AfterVersion, FindingIs, IsChosen, IsMade, LayoutSays, LockSays, SearchSays, VersionSays}
 use Rattle.py_process.specs.Lock.{lock_address_of}
 use Rattle.py_process.specs.Programs.{ArePrograms, FactsAre, FactsOf, FirstMapIs, ImageSays, ImagesSay, IsBadImage, IsFirstMap, IsKnown, IsLibraryMap, IsProgram, MapsSay, Programs, needed_map, path_of}
 use Rattle.py_process.specs.Sources.{FirstTells, sources_of}

@@ -1,6 +1,6 @@
 -- A report that is right in all its fields is the report of its core.
 use Rattle.std.proofs.Common.{◌≡◌, ℕ, List, refl, ap, ◌∙◌, inr}
-use Rattle.std.specs.Prelude.{Option, None, Ok}
+use Rattle.std.specs.Prelude.{None, Ok}
 use Rattle.elf64_core.specs.Header.{machine_of}
 use Rattle.image_memory.specs.Images.{Pushed}
 use Rattle.process_memory.specs.Walk.{fault_in}

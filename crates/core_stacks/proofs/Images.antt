@@ -1,11 +1,11 @@
 -- What the two images of a process say.
 use Rattle.std.proofs.Common.{◌≡◌, ℕ, List, refl, subst}
-use Rattle.std.specs.Prelude.{Bool, true, false, Option, Some, None, option_map}
+use Rattle.std.specs.Prelude.{true, false, Option, Some, None, option_map}
 use Rattle.std.specs.Option.{is_some}
 use Rattle.image_memory.specs.Images.{Pushed}
 use Rattle.image_memory.specs.declared.maps.CoreMapRange.{CoreMapRange}
-use Rattle.py_process.specs.Facts.{Facts, Known, facts_of}
-use Rattle.py_process.specs.Programs.{FactsAre, FactsOf, ImageSays, IsKnown, Programs, needed_map, path_of}
+use Rattle.py_process.specs.Facts.{facts_of}
+use Rattle.py_process.specs.Programs.{FactsAre, FactsOf, IsKnown, Programs, needed_map, path_of}
 use Rattle.py_process.specs.declared.binary.BinaryInfo.{BinaryInfo}
 use Rattle.core_stacks.specs.Seen.{needed_by}
 

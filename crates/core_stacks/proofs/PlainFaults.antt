@@ -1,5 +1,5 @@
 -- The lock's owner and the locals of a frame have no limit of threads or frames among their faults.
-use Rattle.std.proofs.Common.{◌≡◌, ℕ, zero, suc, ◌+◌, ◌*◌, ◌<◌, ◌^◌, cond, ltb, leb, List, [], ◌∷◌, refl, sym, ap, ◌∙◌, subst}
+use Rattle.std.proofs.Common.{◌≡◌, ℕ, zero, suc, ◌+◌, ◌*◌, ◌^◌, cond, ltb, leb, List, subst}
 use Rattle.std.specs.Prelude.{Bool, true, false, ℤ, Option, Some, None, Ok, Err}
 use Rattle.std.specs.Int.{w32, cast_signed}
 use Rattle.elf64_core.specs.Fields.{u32_in}
@@ -9,7 +9,7 @@ use Rattle.process_memory.specs.Faults.{faults_then}
 use Rattle.process_memory.specs.Walk.{first_fault}
 use Rattle.py_fields.specs.declared.layout.GilAt.{GilAt}
 use Rattle.py_fields.specs.declared.layout.Layout.{Layout}
-use Rattle.py_stacks.specs.Locals.{count_of, counted, each_faults, local_at, locals_faults, name_fault, named, names_at, variable_name_at}
+use Rattle.py_stacks.specs.Locals.{count_of, each_faults, local_at, locals_faults, name_fault, named, names_at, variable_name_at}
 use Rattle.py_stacks.specs.Member.{MemberAt}
 use Rattle.py_stacks.specs.Owner.{gil_holder_at, holder_at, holder_through, id_of, owner_at, thread_id_at}
 

@@ -1,5 +1,5 @@
 -- The report of a core is one, it is right, and it is owed where the input can be read.
-use Rattle.std.proofs.Common.{◌≡◌, ◌⊎◌, ℕ, List, refl, sym, ap, subst, ◌∙◌, inl, inr, ⊎_elim}
+use Rattle.std.proofs.Common.{◌≡◌, ℕ, List, refl, sym, ap, subst, ◌∙◌, inl, inr, ⊎_elim}
 use Rattle.std.specs.Prelude.{ℤ, Option, Some, None, Result, Ok, Err, IfOk, option_map}
 use Rattle.elf64_core.specs.Header.{machine_of}
 use Rattle.elf64_core.specs.declared.header.Machine.{Machine}

@@ -1,5 +1,5 @@
 -- What the readers' answers say of the stacks of a process, and that they say one thing.
-use Rattle.std.proofs.Common.{◌≡◌, ℕ, refl, sym, ap, subst, ◌∙◌}
+use Rattle.std.proofs.Common.{◌≡◌, refl, sym, ap, subst, ◌∙◌}
 use Rattle.std.specs.Prelude.{true, false, Bool, List, Option, Some, None, Result, Ok, Err}
 use Rattle.process_memory.specs.Memory.{Memory, Fault}
 use Rattle.process_memory.specs.Memory.Fault.{Missing, BadValue, LocalsLimit, ThreadLimit, FrameLimit, ChainLimit}

@@ -1,6 +1,6 @@
 -- What the answers of the search say as steps.
 use Rattle.std.proofs.Common.{◌≡◌, ℕ, List, refl, subst, sym, ◌∙◌}
-use Rattle.std.specs.Prelude.{Bool, Option, Some, Result, Ok, Err}
+use Rattle.std.specs.Prelude.{Bool, Some, Result, Ok, Err}
 use Rattle.elf64_core.specs.Header.{machine_of}
 use Rattle.elf64_core.specs.declared.header.Machine.{Machine}
 use Rattle.image_memory.specs.Images.{Pushed}

@@ -1,7 +1,7 @@
 -- Where an address is an interpreter's, neither a limit nor a record of a thread or a frame is in the way of its stacks:
 -- their first fault is the lock owner's, or one of the locals of a kept frame.
-use Rattle.std.proofs.Common.{◌≡◌, ◌⊎◌, ℕ, zero, suc, ◌+◌, ◌<◌, ◌≤◌, ◌^◌, cond, ltb, leb, List, [], ◌∷◌, refl, sym, ap, ◌∙◌, subst, inl, inr, arith, add-zero}
-use Rattle.std.specs.Prelude.{Bool, true, false, not, nat_eq, nat_lt, nat_le, Option, Some, None, Ok, Err, Result}
+use Rattle.std.proofs.Common.{◌≡◌, ◌⊎◌, ℕ, zero, suc, ◌+◌, ◌<◌, ◌^◌, cond, ltb, leb, List, [], ◌∷◌, refl, sym, ap, ◌∙◌, subst, inl, inr, arith, add-zero}
+use Rattle.std.specs.Prelude.{Bool, true, false, Option, Some, None, Ok, Err}
 use Rattle.std.specs.Result.{IsOk}
 use Rattle.std.proofs.lemmas.Bool.{lt-ltb, le-leb}
 use Rattle.elf64_core.specs.Fields.{u32_in}
@@ -21,13 +21,13 @@ use Rattle.py_stacks.specs.Interpreter.{IsInterpreter}
 use Rattle.py_stacks.specs.Locals.{asked_faults, count_of, each_faults, local_at, locals_faults, names_at}
 use Rattle.py_stacks.specs.Owner.{owner_at}
 use Rattle.py_stacks.specs.Stacks.{stacks_faults}
-use Rattle.py_stacks.specs.Threads.{first_frame_at, thread_after, thread_faults, thread_limit, thread_next, traces_at, traces_faults}
+use Rattle.py_stacks.specs.Threads.{first_frame_at, thread_after, thread_faults, thread_limit, thread_next, traces_faults}
 use Rattle.py_stacks.proofs.ThreadLaws.{traces_same}
 use Rattle.py_stacks.proofs.Wholes.{traces_whole}
 use Rattle.py_process.specs.Findings.{Finding}
 use Rattle.py_process.specs.Reports.{fault_on}
-use Rattle.py_process.specs.Variables.{Follows, HasLocals, HasRest, IsKept, IsLocalsFault, IsRestFault}
-use Rattle.core_stacks.proofs.WalkFaults.{Meets, empty, no_fault, not_empty, walk_first}
+use Rattle.py_process.specs.Variables.{Follows, HasLocals, HasRest, IsLocalsFault, IsRestFault}
+use Rattle.core_stacks.proofs.WalkFaults.{empty, no_fault, not_empty, walk_first}
 
 -- ---- of a member that is met, the locals' alone
 

@@ -1,8 +1,8 @@
 -- Where the lock is found, family by family.
-use Rattle.std.proofs.Common.{◌≡◌, ◌≢◌, ℕ, ◌+◌, ap, ◌∙◌, refl, sym, subst}
-use Rattle.std.specs.Prelude.{Option, Some, None, Ok, Err, option_map, codes, unwrap_or}
+use Rattle.std.proofs.Common.{◌≡◌, ℕ, ap, ◌∙◌, refl}
+use Rattle.std.specs.Prelude.{Option, Some, None, Ok, option_map, codes}
 use Rattle.elf64_core.specs.declared.header.Machine.{Machine}
-use Rattle.process_memory.specs.Memory.{Found, Memory, word_at}
+use Rattle.process_memory.specs.Memory.{Memory}
 use Rattle.py_version.specs.Offsets.{tstate_current_offset}
 use Rattle.py_version.specs.declared.version.Version.{Version}
 use Rattle.py_fields.specs.declared.layout.Layout.{Layout}

@@ -1,5 +1,5 @@
 -- What is found of a Python process by its memory, its maps and its images, or the first cause why nothing is.
-use Rattle.std.specs.Prelude.{◌≡◌, ℕ, List, All, Contains, Bool, Option, Some, None, Result, Ok, Err, ⊤}
+use Rattle.std.specs.Prelude.{◌≡◌, ℕ, List, Contains, Bool, Some, None, Result, Ok, Err, ⊤}
 use Rattle.elf64_core.specs.declared.header.Machine.{Machine}
 use Rattle.image_memory.specs.Images.{Pushed}
 use Rattle.image_memory.specs.Maps.{in_maps}

@@ -1,5 +1,5 @@
 -- Which members of an interpreter's chains of frames are kept, and whether their locals can be read.
-use Rattle.std.specs.Prelude.{◌≡◌, ◌⊎◌, ℕ, ◌+◌, ◌<◌, ◌≤◌, true, IsOk, Option, Some, List, [], ◌∷◌, Ok, Err}
+use Rattle.std.specs.Prelude.{◌≡◌, ◌⊎◌, ℕ, ◌+◌, ◌<◌, ◌≤◌, true, IsOk, Some, List, [], ◌∷◌, Ok, Err}
 use Rattle.elf64_core.specs.Fields.{u32_in}
 use Rattle.process_memory.specs.Memory.{Memory, Found, Fault, record_at, word_at}
 use Rattle.process_memory.specs.Walk.{first_fault}

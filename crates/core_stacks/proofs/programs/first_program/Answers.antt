@@ -1,6 +1,5 @@
 use Rattle.std.specs.Bool.{IsTrue}
-use Rattle.std.specs.Prelude.{true}
-use Rattle.std.proofs.Common.{subst, rules}
+use Rattle.std.proofs.Common.{rules}
 use Rattle.py_process.specs.Programs.{IsProgram}
 use Rattle.core_stacks.proofs.FirstMaps.{first_here}
 use Rattle.core_stacks.proofs.programs.first_program.Goals as goal
