@@ -146,7 +146,8 @@ def run(words: argparse.Namespace) -> None:
     machine, files = read_core(words.core)
     if not words.layouts and machine not in (None, MACHINE):
         raise Fault(f"layouts/ has none of the core's machine, {machine}: name a file by --layouts", BAD_WORDS)
-    command = [os.fsencode(it) for it in (program, "dump", "-c", words.core, "--layouts", words.layouts or LAYOUTS)]
+    layouts = os.fspath(words.layouts or LAYOUTS)
+    command = [os.fsencode(it) for it in (program, "dump", f"--core={words.core}", f"--layouts={layouts}")]
     command += [b"-l"] * words.locals + [b"-j"] * words.json
     for word in command[1:]:
         if not is_text(word):

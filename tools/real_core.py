@@ -44,10 +44,10 @@ ROOT = Path(__file__).resolve().parent.parent
 HOLDER_IN_DUMP = True
 """Whether a report marks the thread that holds the interpreter's lock."""
 
-JSON_IN_DUMP = False
+JSON_IN_DUMP = True
 """Whether the program can report as JSON."""
 
-LOCALS_IN_DUMP = False
+LOCALS_IN_DUMP = True
 """Whether the program can report locals."""
 
 HELD = """\

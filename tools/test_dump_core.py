@@ -126,9 +126,9 @@ class Case(unittest.TestCase):
         path = self.put("core", core)
         status, out, said = self.tool(path, *words)
         self.assertEqual(status, 0, said)
-        expected = [b"dump", b"-c", path, b"--layouts", os.fsencode(LAYOUTS)]
-        self.assertEqual(out.split(b"\0")[:5], expected)
-        return out.split(b"\0")[5:], said
+        expected = [b"dump", b"--core=" + path, b"--layouts=" + os.fsencode(LAYOUTS)]
+        self.assertEqual(out.split(b"\0")[:3], expected)
+        return out.split(b"\0")[3:], said
 
 
 class Words(Case):
@@ -283,7 +283,7 @@ class Faults(Case):
         for core in ("none", "."):
             status, out, said = self.tool(core, program=self.fake("pystacks: cannot read it\n", "sys.exit(3)"))
             self.assertEqual((status, said), (3, "pystacks: cannot read it\n"))
-            self.assertEqual(out.split(b"\0"), [b"dump", b"-c", core.encode(), b"--layouts", os.fsencode(LAYOUTS)])
+            self.assertEqual(out.split(b"\0"), [b"dump", b"--core=" + core.encode(), b"--layouts=" + os.fsencode(LAYOUTS)])
 
     def test_status(self):
         core = self.put("core", core_of([Mapped(0x1000, self.put("python3.14", b"p"))]))
@@ -311,15 +311,15 @@ class Faults(Case):
     def test_layouts(self):
         core = self.put("core", core_of([]))
         _, out, _ = self.tool(core, "--layouts", "my.toml")
-        self.assertEqual(out.split(b"\0")[3:], [b"--layouts", b"my.toml"])
+        self.assertEqual(out.split(b"\0")[2:], [b"--layouts=my.toml"])
 
     def test_options(self):
         core = self.put("core", core_of([]))
-        expected = [b"--layouts", os.fsencode(LAYOUTS)]
+        expected = [b"--layouts=" + os.fsencode(LAYOUTS)]
         for words, added in ((["-l"], ["-l"]), (["-ll", "-j"], ["-l", "-l", "-j"]), (["-j", "--locals"], ["-l", "-j"])):
             status, out, said = self.tool(core, *words)
             self.assertEqual((status, said), (0, ""))
-            self.assertEqual(out.split(b"\0")[3:], expected + [os.fsencode(it) for it in added])
+            self.assertEqual(out.split(b"\0")[2:], expected + [os.fsencode(it) for it in added])
 
     def test_machine(self):
         whole = core_of([])

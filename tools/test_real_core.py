@@ -139,8 +139,12 @@ Thread 0x7E00: "Thread-1 (run)"
 
     def test_json(self):
         derived = Derived(BUILD, "", {}, "runtime", True)
+        holder = patch("real_core.HOLDER_IN_DUMP", True)
+        holder.start()
+        self.addCleanup(holder.stop)
         right = real_core.json_of(self.TOLD, derived, "[]")
         tree = json.loads(right)
+        self.assertEqual([it["owns_gil"] for it in tree], [False, True])
         frames = [(it["name"], it["filename"], it["line"]) for thread in tree for it in thread["frames"]]
         self.assertEqual(frames, [("<lambda>", "a.py", 9), ("f", "é.py", 3), ("g", "日本.py", 17)])
         for thread in tree:
@@ -266,7 +270,8 @@ class Programs(unittest.TestCase):
             self.core(Case("free"), False, False),
             self.core(Case("main", USUAL), True, False),
         ]
-        with patch("real_core.HOLDER_IN_DUMP", marks):
+        # (these programs write text alone)
+        with patch("real_core.HOLDER_IN_DUMP", marks), patch("real_core.JSON_IN_DUMP", False):
             for core in cores:
                 over_core(program, derived, core, self.folder)
 

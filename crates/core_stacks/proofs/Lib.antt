@@ -4,6 +4,7 @@ pub mod FindingLaws
 pub mod Finds
 pub mod FirstMaps
 pub mod Firsts
+pub mod Full
 pub mod Images
 pub mod Left
 pub mod Means

@@ -131,7 +131,7 @@ found_by m machine maps images layouts f h =
       lock = six.1;
     })
 
-finds : (m : Memory) (machine : Machine) (maps : List CoreMapRange) (images : Pushed) (layouts : List Layout) (f : Finding)
+pub finds : (m : Memory) (machine : Machine) (maps : List CoreMapRange) (images : Pushed) (layouts : List Layout) (f : Finding)
     → IsFound m machine maps images layouts f → FindingIs m machine maps images layouts (Ok f)
 finds m machine maps images layouts f found =
     inr (

@@ -1,6 +1,6 @@
 //! The report of a core.
-ghost use Rattle.std.specs.Prelude.{◌≡◌, IfErr, IfOk, None};
-ghost use Rattle.py_process.specs.Reports.{AsksNoOther, IsReadable, IsRight, NotesTell, ReportIs, fault_on, reported, reported_of};
+ghost use Rattle.std.specs.Prelude.{◌≡◌, ◌⊎◌, IfErr, IfOk, None};
+ghost use Rattle.py_process.specs.Reports.{AsksNoOther, IsReadable, IsRight, NotesTell, ReportIs, Reported, fault_on, reported, reported_of};
 ghost use Rattle.core_stacks.specs.Sole.{IsSole, Settles};
 ghost use Rattle.core_stacks.specs.Opened.{IsReportOf, memory_in};
 
@@ -70,6 +70,9 @@ pub fn report(
     ensures only { IsSole (ReportIs bytes.items images.now layouts.now config.now) (reported result) }
     // the threads are the whole chain of the first candidate that is an interpreter's, each with its whole chain
     ensures whole { IfOk result (λ report. IsRight bytes.items images.now layouts.now config.now (reported_of report)) }
+    // and what is right in all these fields is the report, want of memory aside
+    ensures full { (r : Reported) → AsksNoOther config.now → IsRight bytes.items images.now layouts.now config.now r
+        → (reported result ≡ Ok r) ⊎ (reported result ≡ Err CoreError.OutOfMemory) }
     ensures complete { IsReadable bytes.items images.now layouts.now config.now
         → IfErr result (λ error. error ≡ CoreError.OutOfMemory) }
 {

@@ -2,3 +2,5 @@ pub mod Afters
 pub mod SearchSteps
 pub mod TypedSteps
 pub mod NameSteps
+pub mod NameCounts
+pub mod SlotBounds

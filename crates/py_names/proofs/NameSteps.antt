@@ -4,16 +4,17 @@ use Rattle.std.proofs.Math.Nat.{sub-zero}
 use Rattle.std.specs.Prelude.{Bool, true, false, cond, nat_eq, option_map, reverse, Option, Some, None, Ok, Err, ⊤}
 use Rattle.std.specs.List.{find}
 use Rattle.std.proofs.lemmas.List.{reverse-append}
-use Rattle.process_memory.specs.Memory.{Memory, Found, Fault, ◌>>=◌}
+use Rattle.process_memory.specs.Memory.{Memory, Found, Fault, byte_at, ◌>>=◌}
 use Rattle.process_memory.specs.Memory.Fault.{Entries}
-use Rattle.process_memory.specs.Seen.{Seen, Reading, Reads, FaultIs, Answers}
+use Rattle.process_memory.specs.Seen.{Seen, Reading, ReadsBy, FaultIs, Answers}
 use Rattle.process_memory.specs.Walk.{after_all}
-use Rattle.process_memory.proofs.Reading.{reading_then, reading_gives, reading_none}
+use Rattle.process_memory.proofs.Reading.{reading_here, reading_then, reading_gives, reading_none}
 use Rattle.py_fields.specs.declared.layout.Layout.{Layout}
 use Rattle.py_objects.specs.declared.keys.Slots.{Slots}
 use Rattle.py_names.specs.declared.names.Given.{Given}
 use Rattle.py_names.specs.declared.names.Named.{Named}
-use Rattle.py_names.specs.Names.{AnswersNames, HasNames, kept_name, name_under, names_from, thread_at}
+use Rattle.py_names.specs.Names.{AnswersNames, HasNames, each_looked, kept_name, name_under, names_from, thread_at, thread_looked}
+use Rattle.py_names.specs.Search.{looked_in}
 use Rattle.py_names.specs.NamesError.{names_fault}
 use Rattle.py_names.specs.declared.names_error.NamesError.{NamesError}
 use Rattle.std.specs.BTreeMap.{BTreeMap}
@@ -24,6 +25,19 @@ module _ (l : Layout) (m : Memory) (s : Slots) (number n left : ℕ) where
       → names_from l m s n number left ≡ after_all (kept_name g.named) (names_from l m s j (number + 1) g.left)
   unfolding names_from
   names_step j k g n_is left_is e = rw (n_is, left_is, e) (elim (names_from l m s j (number + 1) g.left) as (λ d. (d >>= (λ rest. Ok (kept_name g.named ++ rest))) ≡ after_all (kept_name g.named) d) [ Ok rest ↦ refl | Err f ↦ refl ])
+
+  each_step : (j k : ℕ) → n ≡ suc j → left ≡ suc k → each_looked l m s n number left
+      ≡ 1 + (thread_looked l m s number k + looked_in (thread_at l m s number k) (λ thread. each_looked l m s j (number + 1) thread.left))
+  unfolding each_looked
+  each_step j k n_is left_is = rw (n_is, left_is) refl
+
+  each_more : (j k : ℕ) (g : Given) → n ≡ suc j → left ≡ suc k → thread_at l m s number k ≡ Ok g
+      → each_looked l m s n number left ≡ 1 + (thread_looked l m s number k + each_looked l m s j (number + 1) g.left)
+  each_more j k g n_is left_is e = each_step j k n_is left_is ∙ rw e refl
+
+  -- the slot itself, and what is looked at for its thread
+  each_one : (j k : ℕ) → n ≡ suc j → left ≡ suc k → 1 + thread_looked l m s number k ≤ each_looked l m s n number left
+  each_one j k n_is left_is = omega (arith, each_step j k n_is left_is)
 
   names_stop : (j k : ℕ) (f : Fault) → n ≡ suc j → left ≡ suc k → thread_at l m s number k ≡ Err f
       → names_from l m s n number left ≡ Err f
@@ -40,44 +54,55 @@ module _ (l : Layout) (m : Memory) (s : Slots) (number n left : ℕ) where
 
 -- these names were read of the slots before a number, and so many may still be looked at
 pub record Naming (l : Layout) (s : Slots) (s0 s1 : Seen) (limit number left : ℕ) (names : List Named) : Type 0 where
-  pub within : left ≤ limit
-  pub reading : Reading (12 * (limit - left)) s0 s1
+  pub spent : ℕ
+  pub counted : each_looked l (byte_at s0.pieces) s s.count 0 limit ≡ spent + each_looked l (byte_at s0.pieces) s (s.count - number) number left
+  pub reading : Reading (12 * spent) s0 s1
       (λ m. names_from l m s s.count 0 limit ≡ after_all names (names_from l m s (s.count - number) number left))
 
 pub naming_init : (l : Layout) (s : Slots) (seen : Seen) (limit : ℕ) → Naming l s seen seen limit 0 limit []
-naming_init l s seen limit = record { within = omega arith; reading = reading_none _ seen _ (λ m. rw sub-zero (after_all_none (names_from l m s s.count 0 limit))) }
+naming_init l s seen limit = record { spent = 0; counted = rw sub-zero (omega arith); reading = reading_none _ seen _ (λ m. rw sub-zero (after_all_none (names_from l m s s.count 0 limit))) }
 
 module _ {l : Layout} {s : Slots} {s0 s1 : Seen} {limit number left : ℕ} {names : List Named} where
+  -- a thread more is counted
+  one_more : (t : Naming l s s0 s1 limit number left names) → number < s.count → 0 < left
+      → t.spent + (1 + thread_looked l (byte_at s1.pieces) s number (left - 1)) ≤ each_looked l (byte_at s0.pieces) s s.count 0 limit
+  one_more t some room =
+      let one = each_one l (byte_at s0.pieces) s number (s.count - number) left (s.count - (number + 1)) (left - 1) (omega arith) (omega arith) in
+      rw t.reading.pieces (omega (arith, t.counted, one))
+
   pub naming_more : {E : Type 0} {fault : E → Option Fault} {s2 : Seen} (g : Given) → Naming l s s0 s1 limit number left names
-      → number < s.count → 0 < left → g.left ≤ left - 1
-      → Reads {E = E} fault (12 + 4 * (left - 1 - g.left)) s1 s2 (λ m. thread_at l m s number (left - 1)) (Ok g)
+      → number < s.count → 0 < left
+      → ReadsBy {E = E} fault (λ m. 12 + 4 * thread_looked l m s number (left - 1)) s1 s2 (λ m. thread_at l m s number (left - 1)) (Ok g)
       → Naming l s s0 s2 limit (number + 1) g.left (names ++ kept_name g.named)
-  naming_more g t some room fewer a =
+  naming_more g t some room a =
       let n_is : s.count - number ≡ suc (s.count - (number + 1)) = omega arith in
       let left_is : left ≡ suc (left - 1) = omega arith in
+      let here = rw t.reading.pieces at (reading_here a).is in
+      let more = each_more l (byte_at s0.pieces) s number (s.count - number) left (s.count - (number + 1)) (left - 1) g n_is left_is here in
       record {
-        within = omega (arith, t.within);
+        spent = t.spent + (1 + thread_looked l (byte_at s1.pieces) s number (left - 1));
+        counted = rw t.reading.pieces (omega (arith, t.counted, more));
         reading = reading_gives _ _
             (reading_then (λ m. names_from l m s s.count 0 limit ≡ after_all (names ++ kept_name g.named) (names_from l m s (s.count - (number + 1)) (number + 1) g.left)) t.reading a
             (λ m e x. e ∙ ap (after_all names) (names_step l m s number (s.count - number) left (s.count - (number + 1)) (left - 1) g n_is left_is x.is) ∙ after_all_twice names (kept_name g.named) (names_from l m s (s.count - (number + 1)) (number + 1) g.left)))
-            (omega (arith, t.within, room, fewer)) (λ m e. e);
+            (omega arith) (λ m e. e);
       }
 
   pub naming_done : {E : Type 0} {fault : E → Option Fault} → Naming l s s0 s1 limit number left names → s.count ≤ number
-      → Reads {E = E} fault (12 * limit) s0 s1 (λ m. names_from l m s s.count 0 limit) (Ok names)
-  naming_done t all = reading_gives _ _ t.reading (omega arith)
+      → ReadsBy {E = E} fault (λ m. 12 * each_looked l m s s.count 0 limit) s0 s1 (λ m. names_from l m s s.count 0 limit) (Ok names)
+  naming_done t all = reading_gives _ _ t.reading (omega (arith, t.counted))
       (λ m e. record { is = e ∙ ap (after_all names) (names_end l m s number (s.count - number) left (omega arith)) ∙ ap Ok (append-nil names) })
 
   pub naming_over : {E : Type 0} {fault : E → Option Fault} (e : E) → Naming l s s0 s1 limit number left names
       → number < s.count → left ≡ 0 → fault e ≡ Some Entries
-      → Reads {T = List Named} fault (12 * limit) s0 s1 (λ m. names_from l m s s.count 0 limit) (Err e)
-  naming_over e t some none is = reading_gives _ _ t.reading (omega arith)
+      → ReadsBy {T = List Named} fault (λ m. 12 * each_looked l m s s.count 0 limit) s0 s1 (λ m. names_from l m s s.count 0 limit) (Err e)
+  naming_over e t some none is = reading_gives _ _ t.reading (omega (arith, t.counted))
       (λ m d. record { is = rw is (d ∙ ap (after_all names) (names_over l m s number (s.count - number) left (s.count - (number + 1)) (omega arith) none)) })
 
   pub naming_stop : {E E' : Type 0} {fault : E → Option Fault} {fault' : E' → Option Fault} {s2 : Seen} {e : E} (e' : E')
       → Naming l s s0 s1 limit number left names → number < s.count → 0 < left
-      → Reads {T = Given} fault (12 + 4 * (left - 1)) s1 s2 (λ m. thread_at l m s number (left - 1)) (Err e) → fault' e' ≡ fault e
-      → Reads {T = List Named} fault' (12 * limit) s0 s2 (λ m. names_from l m s s.count 0 limit) (Err e')
+      → ReadsBy {T = Given} fault (λ m. 12 + 4 * thread_looked l m s number (left - 1)) s1 s2 (λ m. thread_at l m s number (left - 1)) (Err e) → fault' e' ≡ fault e
+      → ReadsBy {T = List Named} fault' (λ m. 12 * each_looked l m s s.count 0 limit) s0 s2 (λ m. names_from l m s s.count 0 limit) (Err e')
   naming_stop {fault = fault} {fault' = fault'} {e = e} e' t some room a same =
       let n_is : s.count - number ≡ suc (s.count - (number + 1)) = omega arith in
       let left_is : left ≡ suc (left - 1) = omega arith in
@@ -85,14 +110,14 @@ module _ {l : Layout} {s : Slots} {s0 s1 : Seen} {limit number left : ℕ} {name
       (reading_then (λ m. FaultIs (names_from l m s s.count 0 limit) (fault e)) t.reading a
       (λ m d x. elim (fault e) as (λ o. FaultIs (thread_at l m s number (left - 1)) o → FaultIs (names_from l m s s.count 0 limit) o)
       [ None ↦ λ h. tt | Some f ↦ λ h. d ∙ ap (after_all names) (names_stop l m s number (s.count - number) left (s.count - (number + 1)) (left - 1) f n_is left_is h) ] x.is))
-      (omega (arith, t.within, room))
+      (omega (arith, one_more t some room))
       (λ m h. record { is = rw same h })
 
   pub naming_lost : {E E' : Type 0} {fault : E → Option Fault} {fault' : E' → Option Fault} {s2 : Seen} {g : Given} (e' : E')
-      → Naming l s s0 s1 limit number left names → number < s.count → 0 < left → g.left ≤ left - 1
-      → Reads {E = E} fault (12 + 4 * (left - 1 - g.left)) s1 s2 (λ m. thread_at l m s number (left - 1)) (Ok g) → fault' e' ≡ None
-      → Reads {T = List Named} fault' (12 * limit) s0 s2 (λ m. names_from l m s s.count 0 limit) (Err e')
-  naming_lost e' t some room fewer a same = reading_gives _ _ (reading_then (λ m. ⊤) t.reading a (λ m d x. tt)) (omega (arith, t.within, room, fewer)) (λ m h. record { is = rw same tt })
+      → Naming l s s0 s1 limit number left names → number < s.count → 0 < left
+      → ReadsBy {E = E} fault (λ m. 12 + 4 * thread_looked l m s number (left - 1)) s1 s2 (λ m. thread_at l m s number (left - 1)) (Ok g) → fault' e' ≡ None
+      → ReadsBy {T = List Named} fault' (λ m. 12 * each_looked l m s s.count 0 limit) s0 s2 (λ m. names_from l m s s.count 0 limit) (Err e')
+  naming_lost e' t some room a same = reading_gives _ _ (reading_then (λ m. ⊤) t.reading a (λ m d x. tt)) (omega (arith, one_more t some room)) (λ m h. record { is = rw same tt })
 
 -- one name more
 pub name_more : (names : List Named) (n : Named) (id : ℕ) → name_under (names ++ n ∷ []) id ≡ cond (nat_eq n.id id) (Some n.name) (name_under names id)

@@ -1,7 +1,7 @@
 -- The names of an interpreter's threads, as its module `threading` keeps them: four searches over the slots of
 -- dicts. That the module has its threads under `_active`, by their ids, and a thread its own name under `_name`,
 -- is CPython's (`Lib/threading.py`); that so many slots are looked at in all, at most, is this project's rule.
-use Rattle.std.specs.Prelude.{◌≡◌, IsOkAnd, ℕ, zero, suc, ◌+◌, ◌-◌, ◌*◌, ◌==◌, Option, Some, None, List, [], ◌∷◌, ◌++◌, codes, Result, Ok, Err, option_map, reverse}
+use Rattle.std.specs.Prelude.{◌≡◌, IsOkAnd, ℕ, zero, suc, ◌+◌, ◌*◌, ◌==◌, Option, Some, None, List, [], ◌∷◌, ◌++◌, codes, Result, Ok, Err, option_map, reverse}
 use Rattle.std.specs.Int.{w64, cast_unsigned}
 use Rattle.std.specs.List.{find}
 use Rattle.std.specs.Ordering.{nat_cmp}
@@ -22,7 +22,7 @@ use Rattle.py_names.specs.declared.names.Named.{Named}
 use Rattle.process_memory.specs.Seen.{FaultIs}
 use Rattle.py_names.specs.declared.names_error.NamesError.{NamesError}
 use Rattle.py_names.specs.NamesError.{names_fault}
-use Rattle.py_names.specs.Search.{find_from}
+use Rattle.py_names.specs.Search.{find_from, find_looked, looked_in}
 use Rattle.py_names.specs.Typed.{plain_slots, type_at, typed_slots}
 
 -- how many slots are looked at, at most
@@ -106,10 +106,58 @@ names_by Compact names = names
 unfoldable pub names_at : Layout → Memory → ℕ → Found (List Named)
 names_at l m interpreter = names_by l.dicts (interpreter_names_at l m interpreter)
 
--- how many slots were looked at, at most
-abbrev pub spent : {E : Type 0} → ℕ → Result Given E → ℕ
-spent left (Ok g) = left - g.left
-spent left (Err e) = left
+-- ---- how many slots are looked at
+
+-- the slots of the thread that an entry of the dict of threads holds
+unfoldable pub thread_slots : Layout → Memory → ℕ → ℕ → Found Slots
+thread_slots l m key value = do
+  id ← long_at l m key
+  t ← type_at l m value
+  typed_slots l m value t
+
+unfoldable pub entry_looked : Layout → Memory → ℕ → ℕ → ℕ → ℕ
+entry_looked l m key value left =
+    looked_in (thread_slots l m key value) (λ slots. find_looked l m (codes "_name") slots slots.count 0 left)
+
+abbrev pub slot_looked : Layout → Memory → ℕ → Slot → ℕ
+slot_looked l m left Empty = 0
+slot_looked l m left (Entry key value) = entry_looked l m key value left
+
+unfoldable pub thread_looked : Layout → Memory → Slots → ℕ → ℕ → ℕ
+thread_looked l m s number left = looked_in (slot_at m s number) (slot_looked l m left)
+
+-- those of `n` slots from a number on, and in each thread's dict those of the search for its name
+unfoldable pub each_looked : Layout → Memory → Slots → ℕ → ℕ → ℕ → ℕ
+each_looked l m s zero number left = 0
+each_looked l m s (suc n) number zero = 0
+each_looked l m s (suc n) number (suc left) = 1 + (thread_looked l m s number left
+    + looked_in (thread_at l m s number left) (λ thread. each_looked l m s n (number + 1) thread.left))
+
+unfoldable pub threads_looked : Layout → Memory → Option ℕ → ℕ → ℕ
+threads_looked l m None left = 0
+threads_looked l m (Some dict) left =
+    looked_in (dict_slots l m dict) (λ slots. each_looked l m slots slots.count 0 left)
+
+unfoldable pub module_slots : Layout → Memory → ℕ → Found Slots
+module_slots l m a = type_at l m a >>= plain_slots l m a
+
+-- those of a search, and of what comes behind what it found
+abbrev pub search_looked : Layout → Memory → List ℕ → ℕ → (Option ℕ → ℕ → ℕ) → Slots → ℕ
+search_looked l m name left behind slots = find_looked l m name slots slots.count 0 left
+    + looked_in (find_from l m name slots slots.count 0 left) (λ search. behind search.found search.left)
+
+unfoldable pub module_looked : Layout → Memory → Option ℕ → ℕ → ℕ
+module_looked l m None left = 0
+module_looked l m (Some a) left =
+    looked_in (module_slots l m a) (search_looked l m (codes "_active") left (threads_looked l m))
+
+unfoldable pub modules_slots : Layout → Memory → ℕ → Found Slots
+modules_slots l m interpreter = word_at m (interpreter + l.interpreter.modules) >>= dict_slots l m
+
+-- how many slots of all these dicts are looked at, empty ones too
+unfoldable pub slots_looked_at : Layout → Memory → ℕ → ℕ
+slots_looked_at l m interpreter =
+    looked_in (modules_slots l m interpreter) (search_looked l m (codes "threading") slot_limit (module_looked l m))
 
 -- ---- as a map
 
@@ -130,5 +178,5 @@ pub record AnswersNames (d : Found (List Named)) (result : Result (BTreeMap ℕ 
   pub is : NamesAre d result
 
 -- how many reads they take at most
-abbrev pub names_cost : ℕ
-names_cost = 10 + 12 * 65536
+abbrev pub names_cost : Layout → Memory → ℕ → ℕ
+names_cost l m interpreter = 10 + 12 * slots_looked_at l m interpreter

@@ -1,6 +1,6 @@
 -- The first entry of a dict under a name. How many slots may still be looked at is counted down on the way: that
 -- there are so many at most, over all searches for names, is this project's rule.
-use Rattle.std.specs.Prelude.{ℕ, zero, suc, ◌+◌, ◌-◌, if◌then◌else◌, Option, Some, None, List, bytes_eq, encode_utf8_all, Result, Ok, Err}
+use Rattle.std.specs.Prelude.{ℕ, zero, suc, if◌then◌else◌, ◌+◌, Option, Some, None, List, bytes_eq, encode_utf8_all, Ok, Err}
 use Rattle.process_memory.specs.Memory.{Memory, Found, ◌>>=◌}
 use Rattle.process_memory.specs.Memory.Fault.{Entries}
 use Rattle.py_fields.specs.declared.layout.Layout.{Layout}
@@ -38,7 +38,22 @@ find_from l m name s (suc n) number (suc left) = do
   value ← value_at l m name s number
   or_go_on value left (find_from l m name s n (number + 1) left)
 
--- how many slots a search looked at, at most
-abbrev pub used : {E : Type 0} → ℕ → Result Looked E → ℕ
-used left (Ok r) = left - r.left
-used left (Err e) = left
+-- ---- how many slots are looked at
+
+-- those behind one: none where it has the name, or can't be read
+abbrev pub looked_behind : Found (Option ℕ) → ℕ → ℕ
+looked_behind (Ok None) rest = rest
+looked_behind (Ok (Some value)) rest = 0
+looked_behind (Err f) rest = 0
+
+-- up to the first slot that has the name or can't be read, among `n` slots from a number on
+unfoldable pub find_looked : Layout → Memory → List ℕ → Slots → ℕ → ℕ → ℕ → ℕ
+find_looked l m name s zero number left = 0
+find_looked l m name s (suc n) number zero = 0
+find_looked l m name s (suc n) number (suc left) =
+    1 + looked_behind (value_at l m name s number) (find_looked l m name s n (number + 1) left)
+
+-- what was found of what comes first has so many
+abbrev pub looked_in : {T : Type 0} → Found T → (T → ℕ) → ℕ
+looked_in (Ok x) count = count x
+looked_in (Err f) count = 0

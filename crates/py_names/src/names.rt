@@ -1,9 +1,10 @@
 //! The names of an interpreter's threads.
-ghost use Rattle.std.specs.Prelude.{◌≡◌, ◌+◌, ◌*◌, ◌-◌, ◌≤◌, ◌++◌, ℕ, IfOk, OnOk};
-ghost use Rattle.process_memory.specs.Seen.{Reading, Reads, items_of};
+ghost use Rattle.std.specs.Prelude.{◌≡◌, ◌+◌, ◌*◌, ◌≤◌, ◌++◌, ℕ, IfOk, OnOk};
+ghost use Rattle.process_memory.specs.Memory.{byte_at};
+ghost use Rattle.process_memory.specs.Seen.{Reads, ReadsBy, ReadingBy, items_of};
 ghost use Rattle.py_fields.specs.Sound.{IsSound};
 ghost use Rattle.py_names.specs.NamesError.{names_fault};
-ghost use Rattle.py_names.specs.Names.{AnswersNames, HasNames, names_cost, entry_in, interpreter_names_at, kept_name, module_names_at, name_at, names_at, names_from, spent, thread_at, thread_in, threads_at};
+ghost use Rattle.py_names.specs.Names.{AnswersNames, HasNames, each_looked, entry_in, entry_looked, interpreter_names_at, kept_name, module_looked, module_names_at, name_at, names_at, names_cost, names_from, slot_looked, slots_looked_at, thread_at, thread_in, thread_looked, threads_at, threads_looked};
 
 use crate::NamesError;
 use crate::search::find_in;
@@ -64,9 +65,8 @@ fn read_entry<P: ProcessMemory>(
     left: u64,
 ) -> Result<Given, NamesError>
     requires sound { IsSound layout.now }
-    ensures answer { Reads names_fault (10 + 4 * spent left result) (P.seen process.old) (P.seen process.new)
-        (λ m. entry_in layout.now m key value left) result }
-    ensures fewer { IfOk result (λ given. given.left ≤ left) }
+    ensures { ReadsBy names_fault (λ m. 10 + 4 * entry_looked layout.now m key value left)
+        (P.seen process.old) (P.seen process.new) (λ m. entry_in layout.now m key value left) result }
 {
     let (number, _) = copy_long(process, layout, key)?;
     let typed = read_type(alloc, process, layout, value)?;
@@ -88,9 +88,8 @@ fn read_given<P: ProcessMemory>(
     left: u64,
 ) -> Result<Given, NamesError>
     requires sound { IsSound layout.now }
-    ensures answer { Reads names_fault (10 + 4 * spent left result) (P.seen process.old) (P.seen process.new)
-        (λ m. thread_in layout.now m left slot) result }
-    ensures fewer { IfOk result (λ given. given.left ≤ left) }
+    ensures { ReadsBy names_fault (λ m. 10 + 4 * slot_looked layout.now m left slot)
+        (P.seen process.old) (P.seen process.new) (λ m. thread_in layout.now m left slot) result }
 {
     match slot {
         Slot::Empty => Ok(Given { named: None, left }),
@@ -108,9 +107,9 @@ fn read_thread<P: ProcessMemory>(
     left: u64,
 ) -> Result<Given, NamesError>
     requires sound { IsSound layout.now }
-    ensures answer { Reads names_fault (12 + 4 * spent left result) (P.seen process.old) (P.seen process.new)
+    ensures { ReadsBy names_fault (λ m. 12 + 4 * thread_looked layout.now m dict.now.slots number left)
+        (P.seen process.old) (P.seen process.new)
         (λ m. thread_at layout.now m dict.now.slots number left) result }
-    ensures fewer { IfOk result (λ given. given.left ≤ left) }
 {
     let slot = dict.slot(process, number)?;
     read_given(alloc, process, layout, slot, left)
@@ -126,7 +125,7 @@ fn add_name(names: &mut Vec<Named>, named: Option<Named>) -> Result<(), AllocFai
     }
 }
 
-/// The names of a dict's entries, where so many slots may be looked at. At most 12 reads for each of them.
+/// The names of a dict's entries, where so many slots may be looked at. At most 12 reads for each that is.
 fn read_each<P: ProcessMemory>(
     alloc: Global,
     process: &mut P,
@@ -136,7 +135,9 @@ fn read_each<P: ProcessMemory>(
 ) -> Result<Vec<Named>, NamesError>
     requires sound { IsSound layout.now }
     requires start { dict.now.passed ≡ 0 }
-    ensures { Reads names_fault (12 * limit) (P.seen process.old) (P.seen process.new)
+    ensures { ReadsBy names_fault
+        (λ m. 12 * each_looked layout.now m dict.now.slots dict.now.slots.count 0 limit)
+        (P.seen process.old) (P.seen process.new)
         (λ m. names_from layout.now m dict.now.slots dict.now.slots.count 0 limit) (items_of result) }
 {
     let mut names = Vec::new(alloc);
@@ -152,7 +153,7 @@ fn read_each<P: ProcessMemory>(
     Ok(names)
 }
 
-/// The names of the threads that a dict has, where there is one. At most 2 reads, and 12 for each slot that may be
+/// The names of the threads that a dict has, where there is one. At most 2 reads, and 12 for each slot that is
 /// looked at.
 #[tactic(auto, unfolding(crate::specs::Names::threads_at))]
 fn read_threads<P: ProcessMemory>(
@@ -163,8 +164,8 @@ fn read_threads<P: ProcessMemory>(
     left: u64,
 ) -> Result<Vec<Named>, NamesError>
     requires sound { IsSound layout.now }
-    ensures { Reads names_fault (2 + 12 * left) (P.seen process.old) (P.seen process.new)
-        (λ m. threads_at layout.now m found left) (items_of result) }
+    ensures { ReadsBy names_fault (λ m. 2 + 12 * threads_looked layout.now m found left)
+        (P.seen process.old) (P.seen process.new) (λ m. threads_at layout.now m found left) (items_of result) }
 {
     match found {
         None => Ok(Vec::new(alloc)),
@@ -175,7 +176,7 @@ fn read_threads<P: ProcessMemory>(
     }
 }
 
-/// The names that a module keeps, where there is one. At most 7 reads, and 12 for each slot that may be looked at.
+/// The names that a module keeps, where there is one. At most 7 reads, and 12 for each slot that is looked at.
 #[tactic(auto, unfolding(crate::specs::Names::module_names_at))]
 fn read_module<P: ProcessMemory>(
     alloc: Global,
@@ -185,7 +186,8 @@ fn read_module<P: ProcessMemory>(
     left: u64,
 ) -> Result<Vec<Named>, NamesError>
     requires sound { IsSound layout.now }
-    ensures { Reads names_fault (7 + 12 * left) (P.seen process.old) (P.seen process.new)
+    ensures { ReadsBy names_fault (λ m. 7 + 12 * module_looked layout.now m found left)
+        (P.seen process.old) (P.seen process.new)
         (λ m. module_names_at layout.now m found left) (items_of result) }
 {
     match found {
@@ -199,7 +201,8 @@ fn read_module<P: ProcessMemory>(
     }
 }
 
-/// The names of an interpreter's threads, in the order of their dict. At most 10 reads, and 12 for each slot that may be looked at.
+/// The names of an interpreter's threads, in the order of their dict. At most 10 reads,
+/// and 12 for each slot that is looked at.
 fn read_interpreter<P: ProcessMemory>(
     alloc: Global,
     process: &mut P,
@@ -207,7 +210,8 @@ fn read_interpreter<P: ProcessMemory>(
     interpreter: u64,
 ) -> Result<Vec<Named>, NamesError>
     requires sound { IsSound layout.now }
-    ensures { Reads names_fault (10 + 12 * 65536) (P.seen process.old) (P.seen process.new)
+    ensures { ReadsBy names_fault (λ m. names_cost layout.now m interpreter)
+        (P.seen process.old) (P.seen process.new)
         (λ m. interpreter_names_at layout.now m interpreter) (items_of result) }
 {
     let modules = word_past(process, interpreter, layout.interpreter.modules as u64)?;
@@ -225,8 +229,8 @@ pub(crate) fn read_names<P: ProcessMemory>(
     interpreter: u64,
 ) -> Result<Vec<Named>, NamesError>
     requires sound { IsSound layout.now }
-    ensures { Reads names_fault (10 + 12 * 65536) (P.seen process.old) (P.seen process.new)
-        (λ m. names_at layout.now m interpreter) (items_of result) }
+    ensures { ReadsBy names_fault (λ m. names_cost layout.now m interpreter)
+        (P.seen process.old) (P.seen process.new) (λ m. names_at layout.now m interpreter) (items_of result) }
 {
     match layout.dicts {
         Dicts::Absent => Err(NamesError::NoDicts),
@@ -260,7 +264,7 @@ fn names_map(
 /// `NoDicts` comes exactly where the layout has no dicts, and `Entries` where 65536 slots of these dicts were
 /// looked at, empty ones too, and another would be. `Object` has the first fault of what is read: a part that is
 /// not in memory, a dict that is none, a key met in a search, or a name, that is no text. Else it is want of
-/// memory. At most 10 reads, and 12 for each of the 65536 slots.
+/// memory. At most 10 reads, and 12 for each slot that is looked at.
 pub fn thread_names_from_interpreter<P: ProcessMemory>(
     alloc: Global,
     interpreter: u64,
@@ -268,8 +272,10 @@ pub fn thread_names_from_interpreter<P: ProcessMemory>(
     layout: &Layout,
 ) -> Result<BTreeMap<u64, Text>, NamesError>
     requires sound { IsSound layout.now }
-    ensures { Reading names_cost (P.seen process.old) (P.seen process.new)
+    ensures names { ReadingBy (λ m. 10 + 12 * slots_looked_at layout.now m interpreter)
+        (P.seen process.old) (P.seen process.new)
         (λ m. AnswersNames (names_at layout.now m interpreter) result) }
+    ensures most { slots_looked_at layout.now (byte_at (P.seen process.old).pieces) interpreter ≤ 65536 }
 {
     let names = read_names(alloc, process, layout, interpreter)?;
     let map = names_map(alloc, names)?;

@@ -1,9 +1,9 @@
 //! The first entry of a dict under a name.
-ghost use Rattle.std.specs.Prelude.{◌≡◌, ◌≤◌, ◌*◌, ◌-◌, IfOk};
-ghost use Rattle.process_memory.specs.Seen.{Reads};
+ghost use Rattle.std.specs.Prelude.{◌≡◌, ◌*◌};
+ghost use Rattle.process_memory.specs.Seen.{Reads, ReadsBy};
 ghost use Rattle.py_fields.specs.Sound.{IsSound};
 ghost use Rattle.py_names.specs.NamesError.{names_fault};
-ghost use Rattle.py_names.specs.Search.{find_from, used, value_at, value_named};
+ghost use Rattle.py_names.specs.Search.{find_from, find_looked, value_at, value_named};
 
 use crate::NamesError;
 use process_memory::ProcessMemory;
@@ -72,9 +72,10 @@ pub(crate) fn find_in<P: ProcessMemory>(
 ) -> Result<Looked, NamesError>
     requires sound { IsSound layout.now }
     requires start { dict.now.passed ≡ 0 }
-    ensures answer { Reads names_fault (4 * used limit result) (P.seen process.old) (P.seen process.new)
+    ensures { ReadsBy names_fault
+        (λ m. 4 * find_looked layout.now m name.now dict.now.slots dict.now.slots.count 0 limit)
+        (P.seen process.old) (P.seen process.new)
         (λ m. find_from layout.now m name.now dict.now.slots dict.now.slots.count 0 limit) result }
-    ensures fewer { IfOk result (λ looked. looked.left ≤ limit) }
 {
     let mut left = limit;
     for number in 0..dict.remaining() {

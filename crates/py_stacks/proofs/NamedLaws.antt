@@ -23,7 +23,7 @@ names_alike f g same (t ∷ ts) =
     ∙ ap (λ us. by_name g t ∷ us) (names_alike f g same ts)
 
 module _ (q : Asked) (l : Layout) (m : Memory) (lock interpreter : ℕ) where
-  pub named_costs : named_cost q l m lock interpreter ≡ stacks_cost q l m lock interpreter + names_cost
+  pub named_costs : named_cost q l m lock interpreter ≡ stacks_cost q l m lock interpreter + names_cost l m interpreter
   unfolding named_cost
   named_costs = refl
 

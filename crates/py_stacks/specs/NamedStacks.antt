@@ -28,7 +28,7 @@ named_stacks_at q l m lock interpreter = do
   Ok (map (by_name (name_by (names_at l m interpreter))) traces)
 
 unfoldable pub named_cost : Asked → Layout → Memory → ℕ → ℕ → ℕ
-named_cost q l m lock interpreter = stacks_cost q l m lock interpreter + names_cost
+named_cost q l m lock interpreter = stacks_cost q l m lock interpreter + names_cost l m interpreter
 
 -- ---- a map, if there is one
 

@@ -1,6 +1,6 @@
 //! The stacks of an interpreter, with the names of its threads.
 ghost use Rattle.std.specs.Prelude.{◌≡◌, IfOk, OnOk, map};
-ghost use Rattle.process_memory.specs.Seen.{Reading, ReadsBy};
+ghost use Rattle.process_memory.specs.Seen.{ReadingBy, ReadsBy};
 ghost use Rattle.py_fields.specs.Sound.{IsSound};
 ghost use Rattle.py_stacks.specs.Asking.{asked_of};
 ghost use Rattle.py_names.specs.Names.{names_at, names_cost};
@@ -27,7 +27,7 @@ fn read_names<P: ProcessMemory>(
     interpreter: u64,
 ) -> Result<Option<BTreeMap<u64, Text>>, StackError>
     requires sound { IsSound layout.now }
-    ensures { Reading names_cost (P.seen process.old) (P.seen process.new)
+    ensures { ReadingBy (λ m. names_cost layout.now m interpreter) (P.seen process.old) (P.seen process.new)
         (λ m. GivesNames (names_at layout.now m interpreter) result) }
 {
     match thread_names_from_interpreter(alloc, interpreter, process, layout) {

@@ -5,7 +5,7 @@ ghost use Rattle.process_memory.specs.Seen.{Answers, ReadsBy, ReadingBy};
 ghost use Rattle.process_memory.specs.Walk.{first_fault};
 ghost use Rattle.process_memory.specs.Faults.{FaultsAre};
 ghost use Rattle.py_fields.specs.Sound.{IsSound};
-ghost use Rattle.py_names.specs.Names.{names_cost};
+ghost use Rattle.py_names.specs.Names.{slots_looked_at};
 ghost use Rattle.py_stacks.specs.Asking.{asked_of};
 ghost use Rattle.py_stacks.specs.Met.{details_cost, locals_met, locals_most, members_met, stacks_bound};
 ghost use Rattle.py_stacks.specs.StackError.{fault_of};
@@ -51,7 +51,8 @@ fn read_stacks<P: ProcessMemory>(
 /// the local's address in a width of 128 times `dump_locals`, at most 2^63 - 1, with no visit counted before; where
 /// that has a fault, it is `?`, and that is no error. Want of memory is one.
 ///
-/// As many reads as `get_stack_traces` makes, those of the names, and at most 8 for each visit of a value, which
+/// As many reads as `get_stack_traces` makes, at most 10 and 12 for each slot of a dict that is looked at for names,
+/// and at most 8 for each visit of a value, which
 /// are at most 4096 for each local. Where locals are not asked for there are none, and nothing is read of them.
 pub fn get_stack_over<P: ProcessMemory>(
     alloc: Global,
@@ -86,8 +87,10 @@ pub fn get_stack_over<P: ProcessMemory>(
         (stacks_faults (asked_of config.now) layout.now m addresses.now.lock addresses.now.interpreter)) result) }
     ensures bound { (P.seen process.new).reads ≤ (P.seen process.old).reads
         + (stacks_bound (asked_of config.now) layout.now (byte_at (P.seen process.old).pieces)
-        addresses.now.interpreter + names_cost + 8 * values_met config.now layout.now
-        (byte_at (P.seen process.old).pieces) addresses.now.lock addresses.now.interpreter) }
+        addresses.now.interpreter
+        + (10 + 12 * slots_looked_at layout.now (byte_at (P.seen process.old).pieces) addresses.now.interpreter)
+        + 8 * values_met config.now layout.now (byte_at (P.seen process.old).pieces) addresses.now.lock
+        addresses.now.interpreter) }
     ensures details { details_cost (asked_of config.now) layout.now (byte_at (P.seen process.old).pieces)
         addresses.now.interpreter
         ≤ 3 * members_met (asked_of config.now) layout.now (byte_at (P.seen process.old).pieces)
@@ -99,7 +102,7 @@ pub fn get_stack_over<P: ProcessMemory>(
         addresses.now.interpreter ≤ 4096 * (4096 * (4096 * variables_most (asked_of config.now).locals)) }
     // whatever the memory holds, as cyclic chains
     ensures most { (P.seen process.new).reads ≤ (P.seen process.old).reads
-        + (3 + 4096 * (2 + 16384 * (9 + locals_most (asked_of config.now).locals)) + names_cost
+        + (3 + 4096 * (2 + 16384 * (9 + locals_most (asked_of config.now).locals)) + (10 + 12 * 65536)
         + 8 * (4096 * (4096 * (4096 * variables_most (asked_of config.now).locals)))) }
 {
     read_stacks(alloc, process, layout, addresses, config)

@@ -14,16 +14,16 @@ returns-then-left-eq0 g c = naming_over {fault = names_fault} Entries c.loop-num
 pub returns-in_err-given : goal.returns-in_err-given
 returns-in_err-given g c =
     let p = err_from_is_err_and c.from_residual.result c.from_residual.ensures.1 in
-    rw p.1 (naming_stop p.0 c.loop-number.invariant (omega (arith, c.remaining-number-end.ensures)) (omega arith) c.in_err-given.ensures.answer (ap names_fault p.2))
+    rw p.1 (naming_stop p.0 c.loop-number.invariant (omega (arith, c.remaining-number-end.ensures)) (omega arith) c.in_err-given.ensures (ap names_fault p.2))
 
 pub returns-in_err-add_name : goal.returns-in_err-add_name
 returns-in_err-add_name g c =
     let p = err_from_is_err_and c.from_residual-in_err-add_name.result c.from_residual-in_err-add_name.ensures.1 in
-    rw p.1 (naming_lost p.0 c.loop-number.invariant (omega (arith, c.remaining-number-end.ensures)) (omega arith) c.in_ok-given.ensures.fewer c.in_ok-given.ensures.answer (ap names_fault p.2))
+    rw p.1 (naming_lost p.0 c.loop-number.invariant (omega (arith, c.remaining-number-end.ensures)) (omega arith) c.in_ok-given.ensures (ap names_fault p.2))
 
 pub loop-number-preserved : goal.loop-number-preserved
 loop-number-preserved g c =
-    rw c.in_ok-add_name.ensures (naming_more c.in_ok-given.given c.loop-number.invariant (omega (arith, c.remaining-number-end.ensures)) (omega arith) c.in_ok-given.ensures.fewer c.in_ok-given.ensures.answer)
+    rw c.in_ok-add_name.ensures (naming_more c.in_ok-given.given c.loop-number.invariant (omega (arith, c.remaining-number-end.ensures)) (omega arith) c.in_ok-given.ensures)
 
 pub returns : goal.returns
 returns g c = naming_done c.loop-number.invariant (omega (arith, c.requires.start, c.remaining-number-end.ensures))

@@ -1,9 +1,12 @@
 use Rattle.std.proofs.Common.{◌+◌, ◌*◌, arith, ap}
 use Rattle.std.proofs.Math.Nat.{le_refl}
 use Rattle.std.proofs.lemmas.Result.{err_from_is_err_and}
+use Rattle.std.specs.Prelude.{codes}
+use Rattle.process_memory.specs.Memory.{byte_at}
 use Rattle.process_memory.proofs.Reading.{reads_next, reads_halt}
 use Rattle.py_names.specs.NamesError.{names_fault}
-use Rattle.py_names.specs.Names.{interpreter_names_at}
+use Rattle.py_names.specs.Names.{interpreter_names_at, module_looked, slot_limit, slots_looked_at}
+use Rattle.py_names.proofs.NameCounts.{interpreter_counts, search_counts}
 use Rattle.py_names.proofs.names.read_interpreter.Goals as goal
 
 pub returns-in_err-modules : goal.returns-in_err-modules
@@ -22,9 +25,14 @@ pub returns-in_err-search : goal.returns-in_err-search
 unfolding interpreter_names_at
 returns-in_err-search g c =
     let p = err_from_is_err_and c.from_residual-in_err-search.result c.from_residual-in_err-search.ensures.1 in
-    rw p.1 (reads_next _ _ c.in_ok-modules.ensures.answer (reads_next (2 + 4 * 65536) _ c.in_ok-dict.ensures.answer (reads_halt (4 * 65536) p.0 _ c.in_err-search.ensures.answer (ap names_fault p.2) (le_refl _)) (le_refl _)) (omega arith))
+    let n = slots_looked_at c.args.layout.now (byte_at (g.P.ProcessMemory.seen c.args.process.now).pieces) c.args.interpreter in
+    let count = interpreter_counts c.args.layout.now c.args.interpreter c.in_ok-modules.ensures.answer c.in_ok-dict.ensures.answer in
+    rw p.1 (reads_next _ _ c.in_ok-modules.ensures.answer (reads_next (2 + 4 * n) _ c.in_ok-dict.ensures.answer (reads_halt (4 * n) p.0 _ c.in_err-search.ensures (ap names_fault p.2) (omega (arith, count))) (le_refl _)) (omega arith))
 
 pub returns : goal.returns
 unfolding interpreter_names_at
 returns g c =
-    reads_next _ _ c.in_ok-modules.ensures.answer (reads_next (9 + 12 * 65536) _ c.in_ok-dict.ensures.answer (reads_next (7 + 12 * 65536) _ c.in_ok-search.ensures.answer c.read_module.ensures (omega (arith, c.in_ok-search.ensures.fewer))) (omega arith)) (omega arith)
+    let n = slots_looked_at c.args.layout.now (byte_at (g.P.ProcessMemory.seen c.args.process.now).pieces) c.args.interpreter in
+    let count = interpreter_counts c.args.layout.now c.args.interpreter c.in_ok-modules.ensures.answer c.in_ok-dict.ensures.answer in
+    let behind = search_counts c.args.layout.now (codes "threading") slot_limit (module_looked c.args.layout.now) _ c.in_ok-search.ensures in
+    reads_next _ _ c.in_ok-modules.ensures.answer (reads_next (9 + 12 * n) _ c.in_ok-dict.ensures.answer (reads_next (7 + 12 * n) _ c.in_ok-search.ensures c.read_module.ensures (omega (arith, count, behind))) (omega arith)) (omega arith)

@@ -1,7 +1,7 @@
-use Rattle.std.proofs.Common.{sym}
-use Rattle.std.proofs.Math.Nat.{le_refl}
+use Rattle.std.proofs.Common.{sym, arith}
 use Rattle.process_memory.proofs.Reading.{reads_next, reads_end}
 use Rattle.py_names.specs.Names.{threads_at}
+use Rattle.py_names.proofs.NameCounts.{threads_counts}
 use Rattle.py_names.proofs.names.read_threads.Goals as goal
 
 pub returns-in-None : goal.returns-in-None
@@ -10,4 +10,6 @@ returns-in-None g c = rw c.in-None.is (reads_end _ (sym c.new.ensures.items))
 
 pub returns-in_ok-dict-in-Some : goal.returns-in_ok-dict-in-Some
 unfolding threads_at
-returns-in_ok-dict-in-Some g c = rw c.in-Some.is (reads_next _ _ c.in_ok-dict-in-Some.ensures.answer c.read_each.ensures (le_refl _))
+returns-in_ok-dict-in-Some g c =
+    let count = threads_counts c.args.layout.now c.in-Some.addr c.args.left c.in_ok-dict-in-Some.ensures.answer in
+    rw c.in-Some.is (reads_next _ _ c.in_ok-dict-in-Some.ensures.answer c.read_each.ensures (omega (arith, count)))

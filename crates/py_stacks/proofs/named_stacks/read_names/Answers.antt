@@ -4,4 +4,4 @@ use Rattle.py_stacks.proofs.NamedLaws.{names_held}
 use Rattle.py_stacks.proofs.named_stacks.read_names.Goals as goal
 
 pub returns-in-Ok : goal.returns-in-Ok
-returns-in-Ok g c = reading_gives _ _ c.in-Ok.ensures (le_refl _) (λ m a. record { is = names_held _ c.in-Ok.names a.is })
+returns-in-Ok g c = reading_gives _ _ c.in-Ok.ensures.names (le_refl _) (λ m a. record { is = names_held _ c.in-Ok.names a.is })

@@ -2,6 +2,7 @@ use Rattle.std.proofs.Common.{arith}
 use Rattle.std.proofs.Math.Nat.{le_refl}
 use Rattle.process_memory.specs.Memory.{byte_at}
 use Rattle.process_memory.proofs.Reading.{reading_gives}
+use Rattle.py_names.proofs.SlotBounds.{slots_most}
 use Rattle.py_stacks.specs.Asking.{asked_of}
 use Rattle.py_stacks.proofs.Bounds.{stacks_within}
 use Rattle.py_stacks.proofs.DetailBounds.{details_sum, stacks_most}
@@ -35,4 +36,4 @@ pub returns-clause-most : goal.returns-clause-most
 returns-clause-most g c =
     let m = byte_at (g.P.ProcessMemory.seen c.args.process.now).pieces in
     let q = asked_of c.args.config.now in
-    omega (arith, c.read_stacks.ensures.cost, over_costs c.args.config.now c.args.layout.now m c.args.addresses.now.lock c.args.addresses.now.interpreter, named_costs q c.args.layout.now m c.args.addresses.now.lock c.args.addresses.now.interpreter, stacks_most q c.args.layout.now m c.args.addresses.now.lock c.args.addresses.now.interpreter, values_few c.args.config.now c.args.layout.now m c.args.addresses.now.lock c.args.addresses.now.interpreter)
+    omega (arith, c.read_stacks.ensures.cost, over_costs c.args.config.now c.args.layout.now m c.args.addresses.now.lock c.args.addresses.now.interpreter, named_costs q c.args.layout.now m c.args.addresses.now.lock c.args.addresses.now.interpreter, slots_most c.args.layout.now m c.args.addresses.now.interpreter, stacks_most q c.args.layout.now m c.args.addresses.now.lock c.args.addresses.now.interpreter, values_few c.args.config.now c.args.layout.now m c.args.addresses.now.lock c.args.addresses.now.interpreter)

@@ -1,0 +1,50 @@
+-- A report that is right in all its fields is the report of its core.
+use Rattle.std.proofs.Common.{◌≡◌, ℕ, List, refl, ap, ◌∙◌, inr}
+use Rattle.std.specs.Prelude.{Option, None, Ok}
+use Rattle.elf64_core.specs.Header.{machine_of}
+use Rattle.image_memory.specs.Images.{Pushed}
+use Rattle.process_memory.specs.Walk.{fault_in}
+use Rattle.py_fields.specs.declared.layout.Layout.{Layout}
+use Rattle.py_stacks.specs.Asking.{asked_of}
+use Rattle.py_stacks.specs.declared.config.Config.{Config}
+use Rattle.py_stacks.proofs.StackLaws.{stacks_same}
+use Rattle.py_stacks.proofs.Wholes.{stacks_whole}
+use Rattle.py_process.specs.Findings.{Finding, finding}
+use Rattle.py_process.specs.Reports.{AsksNoOther, IsRight, ReportIs, Reported, fault_on, memory_in}
+use Rattle.core_stacks.proofs.ReportLaws.{finds}
+
+module _ (bytes : List ℕ) (images : Pushed) (layouts : List Layout) (config : Config) (r : Reported)
+    (h : IsRight bytes images layouts config r) where
+  abbrev is_found : Finding
+  is_found = finding r.version h.layout h.interpreter h.lock
+
+  -- stacks that are whole meet no fault
+  faultless : fault_on (memory_in h.dumped) is_found config ≡ None
+  faultless =
+      stacks_same (asked_of config) h.layout (memory_in h.dumped) h.lock h.interpreter
+      ∙ ap fault_in (stacks_whole (asked_of config) h.layout (memory_in h.dumped) h.lock h.interpreter h.stacks.walked h.stacks.stacks)
+
+  pub right_reports : AsksNoOther config → ReportIs bytes images layouts config (Ok r)
+  right_reports asks =
+      inr (
+        h.dumped,
+        (h.core, h.is_dumped),
+        inr (
+          is_found,
+          finds (memory_in h.dumped) (machine_of bytes) h.dumped.maps images layouts is_found (record {
+            programs = h.programs;
+            are_programs = h.are_programs;
+            known = h.known;
+            is_known = h.is_known;
+            told = h.told;
+            chosen = h.chosen;
+            first = h.first;
+            lock = h.is_lock;
+          }),
+          inr (
+            r.traces,
+            record { asks = asks; faultless = faultless; are = h.stacks },
+            (r, record { version_is = refl; traces_are = refl; notes = h.notes }, refl),
+          ),
+        ),
+      )
