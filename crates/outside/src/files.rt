@@ -12,7 +12,8 @@ pub(crate) const FILE_LIMIT: u64 = 1 << 36;
 ///
 /// An object means, where it tells it, a map from names to bytes, which its calls leave as it is, and
 /// always a list of the names that failed and a count of the bytes that were taken, in a `u64` that stays
-/// at its last number. No call asks for another name than the one that it is given.
+/// at its last number. That a call which succeeds asks for no other file is said by no clause: only a read
+/// that fails leaves its name.
 pub trait Files {
     /// The names with their bytes, where they are told; the names that failed, each with its fault, in the
     /// order of the calls; and how many bytes were taken, which never falls.

@@ -6,7 +6,7 @@
 
 use py_version::Version;
 
-/// How the address of the first interpreter is found.
+/// How the address of the newest interpreter is found.
 #[derive(Clone, Copy, Debug, PartialEq, Eq)]
 pub enum Head {
     /// A symbol names the word that holds it.
@@ -298,7 +298,7 @@ pub struct GilAt {
 #[derive(Clone, Copy, Debug)]
 pub struct OffsetsAt {
     pub size: u32,
-    /// Where the first interpreter's address stands in the runtime record.
+    /// Where the newest interpreter's address stands in the runtime record.
     pub head: u32,
 }
 

@@ -6,7 +6,7 @@ use Rattle.elf64_core.specs.declared.header.Machine.{Machine}
 use Rattle.elf64_core.specs.declared.header.Machine.TheVariants.{X86_64, Aarch64, Other}
 use Rattle.py_version.specs.declared.version.Version.{Version}
 
--- where the address of the first interpreter lies, by the minor of major 3
+-- where the address of the newest interpreter lies, by the minor of major 3
 abbrev pub head_of_3 : ℕ → ℕ
 head_of_3 minor = if is_in_range 8 10 minor then 32 else (if is_in_range 11 12 minor then 40 else 24)
 

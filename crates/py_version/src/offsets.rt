@@ -5,7 +5,7 @@ ghost use Rattle.py_version.specs.Offsets.{current_of_3, interp_head_offset, is_
 use crate::Version;
 use elf64_core::{Machine, Text};
 
-/// Where the address of the first interpreter lies in `_PyRuntime`: at 32 bytes for 3.8 to 3.10, at 40 for
+/// Where the address of the newest interpreter lies in `_PyRuntime`: at 32 bytes for 3.8 to 3.10, at 40 for
 /// 3.11 and 3.12, and at 24 for every other version.
 ///
 /// The numbers are this project's own; that a real CPython has them is trusted.
