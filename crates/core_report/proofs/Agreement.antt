@@ -11,6 +11,10 @@ use Rattle.py_layout.specs.Lists.{AreSound, Clash}
 use Rattle.py_layout.specs.File.{IsRightFor}
 use Rattle.image_memory.specs.Images.{Pushed}
 use Rattle.py_stacks.specs.declared.config.Config.{Config}
+use Rattle.std.specs.Prelude.{Vec, map}
+use Rattle.std.specs.Global.{Global}
+use Rattle.py_stacks.specs.Threads.{Trace, trace_of}
+use Rattle.py_stacks.specs.declared.trace.StackTrace.{StackTrace}
 use Rattle.py_process.specs.Reports.{IsReadable, Reported, reported_of}
 use Rattle.py_process.specs.declared.report.Report.{Report}
 use Rattle.py_layout.proofs.Answering.{right-unique}
@@ -21,7 +25,8 @@ use Rattle.core_words.specs.Words.{Command, LayoutSource, Walk, dump, walk, samp
 use Rattle.core_texts.specs.Text.{walk_text}
 use Rattle.core_stacks.specs.Answer.{IsWalkable}
 use Rattle.core_stacks.proofs.ReportLaws.{report_agree, report_complete}
-use Rattle.core_stacks.proofs.Finds.{NoneClash, finds_means, means_none}
+use Rattle.core_stacks.proofs.FindingLaws.{NoneClash}
+use Rattle.core_stacks.proofs.Walked.{walk_agree as walks_agree, walk_complete}
 use Rattle.core_report.specs.declared.cause.Cause.{Cause}
 use Rattle.core_report.specs.declared.cause.Cause.TheVariants.{Core, Layouts, OutOfMemory}
 use Rattle.core_report.specs.Outcome.{IsDumped, IsDumpedBy, IsFaultless, IsFaultlessDump, IsFaultlessWalk, IsOutcome, IsReported, IsShown, IsWalked, IsWalkedBy, Outcome, ReportAnswers, SourceSays, Then, WalkAnswers, cause_status, core_status, images_of, layouts_status, outcome_status, shown_report}
@@ -183,9 +188,22 @@ text_sound text cause ne is = cc is
 
 -- ---- walks
 
+lost_of : (ts : List Trace) (e : CoreError) → ◌≡◌ {A = Result (List Trace) CoreError} (Ok ts) (Err e) → ⊥
+lost_of ts e is = cc
+
+lost_kept : (e : CoreError) → e ≢ core.OutOfMemory → ◌≡◌ {A = Result (List Trace) CoreError} (Err e) (Err core.OutOfMemory) → ⊥
+lost_kept e ne is = ne (cc)
+
+-- traces and a cause aren't both right
+walk_apart : (w : Walk) (bytes : List ℕ) (list : List Layout) → NoneClash list → (v : Vec StackTrace Global) (e : CoreError)
+    → WalkAnswers w bytes list (Ok v) → WalkAnswers w bytes list (Err e) → e ≢ core.OutOfMemory → ⊥
+walk_apart w bytes list apart v e one other ne =
+    lost_of (map trace_of v.items) e (walks_agree bytes list w.version w.addresses apart (Ok (map trace_of v.items)) (Err e) one other
+    (lost_of (map trace_of v.items) core.OutOfMemory) (lost_kept e ne))
+
 walked_agree : (w : Walk) (bytes : List ℕ) (list : List Layout) → NoneClash list → Agree (IsWalkedBy w bytes list)
 walked_agree w bytes list apart = then_agree (λ error. Core error) (WalkAnswers w bytes list) (IsShown w)
-    (core_exclude (WalkAnswers w bytes list) (λ traces e one other ne. finds_means bytes list w.version w.addresses _ e apart one ne other))
+    (core_exclude (WalkAnswers w bytes list) (walk_apart w bytes list apart))
     (λ s t one other a b p q na nb. text_agree _ _ a b p q)
 
 walk_agree : (w : Walk) (contents : List (List ℕ)) → Agree (IsWalked w contents)
@@ -197,7 +215,7 @@ walk_agree w (bytes ∷ rest) a b one other na nb =
 walked_sound : (w : Walk) (bytes : List ℕ) (list : List Layout) → NoneClash list
     → IsWalkable bytes list w.version w.addresses → NoCause (IsWalkedBy w bytes list)
 walked_sound w bytes list apart good = then_sound (λ error. Core error) (WalkAnswers w bytes list) (IsShown w)
-    (λ e error ne. means_none bytes list w.version w.addresses e apart good (core_one e ne).1 error)
+    (λ e error ne. walk_complete bytes list w.version w.addresses apart good e error (lost_kept e (core_one e ne).1))
     (λ traces found. text_sound (walk_text w.version traces.items))
 
 walk_sound : (w : Walk) (contents : List (List ℕ)) → IsFaultlessWalk w contents → NoCause (IsWalked w contents)

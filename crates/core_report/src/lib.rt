@@ -15,7 +15,7 @@ mod trouble;
 mod walk_command;
 
 pub use command::run;
-pub use core_stacks::{PythonCoreDump, report, walk};
+pub use core_stacks::{PythonCoreDump, report, report_counted, walk};
 pub use core_texts::{PrintError, write_trace};
 pub use core_words::{ArgsError, DumpWords, config_from_args};
 pub use py_process::{CoreError, Report};

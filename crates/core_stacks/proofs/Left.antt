@@ -1,8 +1,7 @@
--- What is left of the errors of stacks where the process was found, and stacks over an equal memory.
+-- What is left of the errors of stacks where the process was found.
 use Rattle.std.proofs.Common.{◌≡◌, ℕ, List, sym, subst, inl, inr}
 use Rattle.std.specs.Prelude.{Result, Ok, Err, IfErr, Vec}
 use Rattle.std.specs.Global.{Global}
-use mathlib.Core.Path.{fun_ext}
 use Rattle.process_memory.specs.Memory.{Fault, Memory}
 use Rattle.py_stacks.specs.Threads.{Trace}
 use Rattle.py_stacks.specs.declared.config.Config.{Config}
@@ -12,15 +11,11 @@ use Rattle.py_process.specs.Reports.{MeetsFault, StacksSay, traces_in}
 use Rattle.py_process.specs.Variables.{IsRestFault}
 use Rattle.py_process.specs.declared.core_error.CoreError.{CoreError}
 use Rattle.py_process.specs.declared.core_error.CoreError.TheVariants as core
+use Rattle.process_memory.specs.declared.memory.Span.{Span}
+use Rattle.core_stacks.specs.Footprints.{traces_with}
 use Rattle.core_stacks.specs.Opened.{IsFoundIn, IsLeft, Opened, memory_in}
 use Rattle.core_stacks.proofs.PlainFaults.{FailsPlainly, IsPlain, locals_plain, owner_plain}
 use Rattle.core_stacks.proofs.Unfaulted.{rest_fault}
-
-pub stacks_equal : (o other : Opened) (config : Config) (r : Result (List Trace) CoreError) → other.finding ≡ o.finding
-    → ((a : ℕ) → memory_in other a ≡ memory_in o a) → StacksSay (memory_in o) o.finding config r → StacksSay (memory_in other) other.finding config r
-stacks_equal o other config r same equal h =
-    subst (λ f. StacksSay (memory_in other) f config r) (sym same)
-    (subst (λ m. StacksSay m o.finding config r) (sym (fun_ext equal)) h)
 
 -- a fault of the rest is no limit of threads or frames
 limit_none : (m : Memory) (f : Finding) (config : Config) (fault : Fault) → IsRestFault m f config fault → IsPlain fault
@@ -50,3 +45,8 @@ pub found_left : (o : Opened) (config : Config) (r : Result (Vec StackTrace Glob
     → StacksSay (memory_in o) o.finding config (traces_in r) → IfErr r (IsLeft o config)
 found_left o config (Ok v) found h = tt
 found_left o config (Err e) found h = left o config found e h
+
+pub footprint_left : (o : Opened) (config : Config) (r : Result (Vec StackTrace Global × Vec Span Global) CoreError) → IsFoundIn o
+    → StacksSay (memory_in o) o.finding config (traces_with r) → IfErr r (IsLeft o config)
+footprint_left o config (Ok x) found h = tt
+footprint_left o config (Err e) found h = left o config found e h

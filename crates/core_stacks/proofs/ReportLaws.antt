@@ -92,7 +92,7 @@ told_same bytes f traces r q one two = λ i. record {
   traces = (one.traces_are ∙ sym two.traces_are) i;
 }
 
-told_agree : (bytes : List ℕ) (f : Finding) (traces : List Trace) → Agree (IsTold bytes f traces)
+pub told_agree : (bytes : List ℕ) (f : Finding) (traces : List Trace) → Agree (IsTold bytes f traces)
 told_agree bytes f traces a b (r, one, is) (q, two, is') na nb = is ∙ ap (λ x. Ok x) (told_same bytes f traces r q one two) ∙ sym is'
 
 -- ---- one report
@@ -111,7 +111,7 @@ module _ (bytes : List ℕ) (images : Pushed) (layouts : List Layout) (config : 
 
 -- ---- what was found, in one record
 
-found_by : (m : Memory) (machine : Machine) (maps : List CoreMapRange) (images : Pushed) (layouts : List Layout) (f : Finding)
+pub found_by : (m : Memory) (machine : Machine) (maps : List CoreMapRange) (images : Pushed) (layouts : List Layout) (f : Finding)
     → FindingIs m machine maps images layouts (Ok f) → IsFound m machine maps images layouts f
 found_by m machine maps images layouts f h =
     let one = then_ok (MapsSay maps) (AfterMaps m machine maps images layouts) f h in

@@ -4,3 +4,5 @@ pub mod Printing
 pub mod Seen
 pub mod Sole
 pub mod Notes
+pub mod Reached
+pub mod Footprints

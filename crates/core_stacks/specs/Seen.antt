@@ -1,22 +1,26 @@
 -- What the program's own values stand for.
-use Rattle.std.specs.Prelude.{ℕ, List, Option, Some, None, Result, Ok, Err, option_copied}
+use Rattle.std.specs.Prelude.{◌≡◌, ℕ, List, Option, Some, None, Result, Ok, Err, IfOk, option_copied}
 use Rattle.elf64_core.specs.Header.{machine_of}
 use Rattle.image_memory.specs.Images.{Pushed}
+use Rattle.image_memory.specs.MapTables.{tests}
+use Rattle.image_memory.specs.Maps.{AreMaps, in_maps}
+use Rattle.image_memory.specs.declared.map_table.MapTable.{MapTable}
 use Rattle.image_memory.specs.declared.maps.CoreMapRange.{CoreMapRange}
 use Rattle.py_fields.specs.declared.layout.Layout.{Layout}
 use Rattle.py_process.specs.Findings.{Finding, FindingIs}
 use Rattle.py_process.specs.Reports.{Dumped, IsDumped, memory_in}
 use Rattle.py_process.specs.Facts.{Known, known_of}
-use Rattle.py_process.specs.Programs as maps
+use Rattle.py_process.specs.Programs as programs
+use Rattle.py_process.specs.Steps.{Then}
 use Rattle.py_process.specs.declared.process_info.PythonProcessInfo.{PythonProcessInfo}
 use Rattle.py_process.specs.declared.core_error.CoreError.{CoreError}
 use Rattle.core_stacks.specs.declared.found.Found.{Found}
 use Rattle.core_stacks.specs.declared.programs.Programs.{Programs}
 
-abbrev pub programs_now : Programs → maps.Programs
+abbrev pub programs_now : Programs → programs.Programs
 programs_now p = record { program = p.program.now; library = option_copied p.library }
 
-abbrev pub programs_in : Result Programs CoreError → Result maps.Programs CoreError
+abbrev pub programs_in : Result Programs CoreError → Result programs.Programs CoreError
 programs_in (Ok p) = Ok (programs_now p)
 programs_in (Err e) = Err e
 
@@ -24,9 +28,16 @@ abbrev pub known_in : {M : Type 0} → Result (PythonProcessInfo M) CoreError �
 known_in (Ok info) = Ok (known_of info)
 known_in (Err e) = Err e
 
+-- what is known of the process of a core by its maps and the images, or why nothing is
+pub record Knows (bytes : List ℕ) (images : Pushed) (result : Result (PythonProcessInfo MapTable) CoreError) : Type 0 where
+  pub maps : List CoreMapRange
+  pub are_maps : AreMaps bytes maps
+  pub says : Then (programs.MapsSay maps) (programs.ImagesSay images) (known_in result)
+  pub tested : IfOk result (λ info. tests info.maps ≡ in_maps maps)
+
 -- what is wrong with the image of this map
 abbrev pub IsImageError : Pushed → CoreMapRange → CoreError → Type 0
-IsImageError images m error = maps.ImagesSay images (record { program = m; library = None }) (Err error)
+IsImageError images m error = programs.ImagesSay images (record { program = m; library = None }) (Err error)
 
 -- of what is so of the program and of the library, what is so of the one whose image is needed
 abbrev pub needed_by : {T : Type 0} → Option CoreMapRange → T → T → T

@@ -1,18 +1,20 @@
 //! What is found of a Python process, by the memory, the maps and the images.
-ghost use Rattle.std.specs.Prelude.{IfOk};
-ghost use Rattle.elf64_core.specs.Header.{machine_of};
+ghost use Rattle.std.specs.Prelude.{◌+◌, ◌^◌, IfOk};
 ghost use Rattle.image_memory.specs.Backed.{IsBackedMemory, regions_of};
 ghost use Rattle.process_memory.specs.Memory.{byte_at};
+ghost use Rattle.process_memory.specs.Seen.{ReadingBelow};
 ghost use Rattle.py_fields.specs.Sound.{IsSound};
+ghost use Rattle.py_process.specs.Candidates.{search_bound};
 ghost use Rattle.py_process.specs.Facts.{known_of};
-ghost use Rattle.py_process.specs.Findings.{AfterImages, AfterLayout, AfterMaps, AfterSearch, AfterVersion, LockSays};
+ghost use Rattle.py_process.specs.Findings.{AfterImages, AfterLayout, AfterSearch, AfterVersion, LockSays};
+ghost use Rattle.core_stacks.specs.Reached.{IsTrialAt, IsTrialBy, Trying};
 ghost use Rattle.core_stacks.specs.Sole.{Settles};
-ghost use Rattle.core_stacks.specs.Seen.{FindsProcess, finding_in, programs_now};
+ghost use Rattle.core_stacks.specs.Seen.{FindsProcess, Knows, finding_in};
 
 use crate::found::Found;
-use crate::programs::{Programs, programs_of, read_images};
+use crate::programs::{programs_of, read_images};
 use elf64_core::Machine;
-use image_memory::{BackedDump, ContainsAddr, CoreMapRange, Images};
+use image_memory::{BackedDump, ContainsAddr, CoreDump, Images, MapTable};
 use process_memory::ProcessMemory;
 use py_layout::{Layout, Layouts, Version};
 use py_process::{
@@ -22,7 +24,7 @@ use py_process::{
 use py_stacks::{Addresses, Config};
 use std::alloc::Global;
 
-/// The address of an interpreter's lock, by a layout.
+/// The address of an interpreter's lock, by a layout. At most one read.
 fn find_lock<M: ContainsAddr, P: ProcessMemory>(
     interpreter: u64,
     info: &PythonProcessInfo<M>,
@@ -32,8 +34,8 @@ fn find_lock<M: ContainsAddr, P: ProcessMemory>(
     layout: &Layout,
 ) -> Result<u64, CoreError>
     requires { IsSound layout.now }
-    ensures { LockSays (byte_at (P.seen process.old).pieces) machine (known_of info.now) version.now layout.now interpreter
-        result }
+    ensures { ReadingBelow (2 ^ 64) 1 (P.seen process.old) (P.seen process.new)
+        (λ m. LockSays m machine (known_of info.now) version.now layout.now interpreter result) }
 {
     let config = Config::default();
     match get_threadstate_address(
@@ -52,7 +54,7 @@ fn find_lock<M: ContainsAddr, P: ProcessMemory>(
     }
 }
 
-/// What is found where the interpreter is known: its lock is left.
+/// What is found where the interpreter is known: its lock is left. At most one read.
 fn with_lock<M: ContainsAddr, P: ProcessMemory>(
     interpreter: u64,
     info: &PythonProcessInfo<M>,
@@ -62,9 +64,8 @@ fn with_lock<M: ContainsAddr, P: ProcessMemory>(
     layout: &Layout,
 ) -> Result<Found, CoreError>
     requires { IsSound layout.now }
-    ensures settles { Settles (AfterSearch (byte_at (P.seen process.old).pieces) machine (known_of info.now) version
-        layout.now interpreter)
-        (finding_in result) }
+    ensures settles { ReadingBelow (2 ^ 64) 1 (P.seen process.old) (P.seen process.new)
+        (λ m. Settles (AfterSearch m machine (known_of info.now) version layout.now interpreter) (finding_in result)) }
     ensures sound { IfOk result (λ found. IsSound found.layout) }
 {
     let lock = find_lock(interpreter, info, process, machine, &version, layout)?;
@@ -85,9 +86,12 @@ fn find_interpreter<M: ContainsAddr, P: ProcessMemory>(
     layout: &Layout,
 ) -> Result<Found, CoreError>
     requires { IsSound layout.now }
-    ensures settles { Settles (AfterLayout (byte_at (P.seen process.old).pieces) machine (M.contains info.now.maps)
-        (known_of info.now) version layout.now)
-        (finding_in result) }
+    ensures settles { ReadingBelow (2 ^ 64)
+        (search_bound (M.contains info.now.maps) (known_of info.now) version layout.now
+        (byte_at (P.seen process.old).pieces) + 1)
+        (P.seen process.old) (P.seen process.new)
+        (λ m. Settles (AfterLayout m machine (M.contains info.now.maps) (known_of info.now) version layout.now)
+        (finding_in result)) }
     ensures sound { IfOk result (λ found. IsSound found.layout) }
 {
     let interpreter = get_interpreter_address(alloc, info, process, &version, layout)?;
@@ -103,9 +107,10 @@ fn find_by_version<M: ContainsAddr, P: ProcessMemory>(
     layouts: &Layouts,
     version: Version,
 ) -> Result<Found, CoreError>
-    ensures settles { Settles (AfterVersion (byte_at (P.seen process.old).pieces) machine (M.contains info.now.maps) layouts.now
-        (known_of info.now) version)
-        (finding_in result) }
+    ensures settles { Trying (IsTrialAt layouts.now (known_of info.now) version) (M.contains info.now.maps) 7
+        (P.seen process.old) (P.seen process.new)
+        (λ m. Settles (AfterVersion m machine (M.contains info.now.maps) layouts.now (known_of info.now) version)
+        (finding_in result)) }
     ensures sound { IfOk result (λ found. IsSound found.layout) }
 {
     match layouts.choose(&version) {
@@ -114,44 +119,42 @@ fn find_by_version<M: ContainsAddr, P: ProcessMemory>(
     }
 }
 
-/// The version, and what is found by it.
-fn find_by_images<M: ContainsAddr, P: ProcessMemory>(
+/// What is found over a memory of a process, by what is known of it: the version, the layout that covers it, the
+/// interpreter, and the lock; or the first cause why nothing is.
+///
+/// At most 10 reads, and those of the candidates that are tried, up to and with the first that is an interpreter's.
+pub(crate) fn find_process<M: ContainsAddr, P: ProcessMemory>(
     alloc: Global,
     info: &PythonProcessInfo<M>,
     process: &mut P,
     machine: Machine,
     layouts: &Layouts,
 ) -> Result<Found, CoreError>
-    ensures settles { Settles (AfterImages (byte_at (P.seen process.old).pieces) machine (M.contains info.now.maps) layouts.now
-        (known_of info.now))
-        (finding_in result) }
+    ensures settles { Trying (IsTrialBy (byte_at (P.seen process.old).pieces) layouts.now (known_of info.now))
+        (M.contains info.now.maps) 10 (P.seen process.old) (P.seen process.new)
+        (λ m. Settles (AfterImages m machine (M.contains info.now.maps) layouts.now (known_of info.now))
+        (finding_in result)) }
     ensures sound { IfOk result (λ found. IsSound found.layout) }
 {
     let version = get_python_version(alloc, info, process)?;
     find_by_version(alloc, info, process, machine, layouts, version)
 }
 
-/// What the images say, and what is found by it.
-fn find_by_maps(
+/// What the images of the maps of a core say of its process. Nothing of the process's memory is read.
+pub(crate) fn process_info(
     alloc: Global,
-    dump: &BackedDump,
-    maps: &[CoreMapRange],
+    core: &CoreDump,
     images: &Images,
-    layouts: &Layouts,
-    programs: &Programs<'_>,
-) -> Result<Found, CoreError>
-    ensures settles { Settles (AfterMaps (byte_at (regions_of dump.now)) (machine_of dump.now.core) maps.now images.now layouts.now
-        (programs_now programs.now))
-        (finding_in result) }
-    ensures sound { IfOk result (λ found. IsSound found.layout) }
+) -> Result<PythonProcessInfo<MapTable>, CoreError>
+    ensures { Knows core.now images.now result }
 {
-    let info = read_images(alloc, images, maps, programs)?;
-    let mut view = dump.view();
-    find_by_images(alloc, &info, &mut view, dump.core().machine(), layouts)
+    let maps = core.maps();
+    let programs = programs_of(maps)?;
+    read_images(alloc, images, maps, &programs)
 }
 
 /// What is found of the process of a core and its images, or the first cause why nothing is.
-pub(crate) fn find_process(
+pub(crate) fn find_in_dump(
     alloc: Global,
     dump: &BackedDump,
     images: &Images,
@@ -161,7 +164,7 @@ pub(crate) fn find_process(
     ensures settles { Settles (FindsProcess dump.now.core images.now layouts.now) (finding_in result) }
     ensures sound { IfOk result (λ found. IsSound found.layout) }
 {
-    let maps = dump.core().maps();
-    let programs = programs_of(maps)?;
-    find_by_maps(alloc, dump, maps, images, layouts, &programs)
+    let info = process_info(alloc, dump.core(), images)?;
+    let mut view = dump.view();
+    find_process(alloc, &info, &mut view, dump.core().machine(), layouts)
 }

@@ -9,7 +9,8 @@ mod printing;
 mod programs;
 mod python_core;
 mod reporting;
+mod stacks_in;
 
 pub use core_walk::walk;
 pub use python_core::PythonCoreDump;
-pub use reporting::report;
+pub use reporting::{report, report_counted};

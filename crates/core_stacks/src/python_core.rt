@@ -1,23 +1,27 @@
 //! A core of a Python process.
-ghost use Rattle.std.specs.Prelude.{◌≡◌, ℕ, IfErr};
-ghost use Rattle.process_memory.specs.Memory.{byte_at};
+ghost use Rattle.std.specs.Prelude.{◌≡◌, ℕ, IfErr, IfOk, map};
+ghost use Rattle.process_memory.specs.Memory.{Memory, byte_at};
 ghost use Rattle.image_memory.specs.Backed.{regions_of};
 ghost use Rattle.py_fields.specs.Sound.{IsSound};
+ghost use Rattle.py_stacks.specs.Threads.{trace_of};
 ghost use Rattle.py_process.specs.Reports.{StacksSay, traces_in};
+ghost use Rattle.core_stacks.specs.Footprints.{IsFootprint, traces_with};
 ghost use Rattle.core_stacks.specs.Sole.{IsSole, Settles};
 ghost use Rattle.core_stacks.specs.Opened.{IsFoundIn, IsLeft, Opened, Opens, OpensAt, memory_in};
 ghost use Rattle.core_stacks.specs.Printing.{IsPrintedBy, IsTextOf};
 ghost use Rattle.core_stacks.specs.Seen.{finding_of};
 
-use crate::finding::find_process;
+use crate::finding::find_in_dump;
 use crate::found::Found;
 use crate::printing::text_of;
+use crate::stacks_in::stacks_in;
 use core_texts::PrintError;
 use image_memory::{BackedDump, CoreDump, Images};
 use outside::Sink;
+use process_memory::{Recorder, Span};
 use py_layout::{Layouts, Version};
 use py_process::CoreError;
-use py_stacks::{Addresses, Config, StackTrace, get_stack_over};
+use py_stacks::{Addresses, Config, StackTrace};
 use std::alloc::Global;
 use std::marker::Model;
 
@@ -45,7 +49,7 @@ impl Model for PythonCoreDump {
     ghost invariant = { λ p. IsSound p.found.layout };
 }
 
-/// Reads the traces of what was found in a core.
+/// Reads the traces of what was found in a core. They are right over every memory with the same bytes.
 fn read_stacks(
     alloc: Global,
     dump: &BackedDump,
@@ -53,17 +57,29 @@ fn read_stacks(
     config: &Config,
 ) -> Result<Vec<StackTrace>, CoreError>
     requires sound { IsSound found.now.layout }
-    ensures { StacksSay (byte_at (regions_of dump.now)) (finding_of found.now) config.now (traces_in result) }
+    ensures { (m : Memory) → ((a : ℕ) → m a ≡ byte_at (regions_of dump.now) a)
+        → StacksSay m (finding_of found.now) config.now (traces_in result) }
 {
-    if config.native {
-        return Err(CoreError::NativeUnsupported);
-    }
-    if config.subprocesses {
-        return Err(CoreError::SubprocessesUnsupported);
-    }
     let mut view = dump.view();
-    let traces = get_stack_over(alloc, &mut view, &found.layout, &found.addresses, config)?;
-    Ok(traces)
+    stacks_in(alloc, &mut view, found, config)
+}
+
+/// Reads the traces of what was found in a core, and lists what was read.
+fn read_footprint(
+    alloc: Global,
+    dump: &BackedDump,
+    found: &Found,
+    config: &Config,
+) -> Result<(Vec<StackTrace>, Vec<Span>), CoreError>
+    requires sound { IsSound found.now.layout }
+    ensures says { StacksSay (byte_at (regions_of dump.now)) (finding_of found.now) config.now (traces_with result) }
+    ensures footprint { IfOk result (λ answer. IsFootprint (byte_at (regions_of dump.now)) (finding_of found.now)
+        config.now (map trace_of answer.0.items) answer.1.items) }
+{
+    let mut recorder = Recorder::new(alloc, dump.view());
+    let traces = stacks_in(alloc, &mut recorder, found, config)?;
+    let ranges = recorder.ranges().to_vec(alloc)?;
+    Ok((traces, ranges))
 }
 
 /// Looks for what there is to find in a core.
@@ -76,7 +92,7 @@ fn open_core(
     ensures { Settles (Opens core images.now layouts.now) result }
 {
     let dump = BackedDump::new(alloc, core, images)?;
-    let found = find_process(alloc, &dump, images, layouts)?;
+    let found = find_in_dump(alloc, &dump, images, layouts)?;
     Ok(PythonCoreDump { alloc, dump, found })
 }
 
@@ -146,15 +162,28 @@ impl PythonCoreDump {
         ensures right { StacksSay (memory_in self.now) self.now.finding config.now (traces_in result) }
         // what is right is the answer, want of memory aside
         ensures only { IsSole (StacksSay (memory_in self.now) self.now.finding config.now) (traces_in result) }
-        // the answer is right for every core whose memory is the same
-        ensures equal { (other : Opened) → other.finding ≡ self.now.finding
-            → ((a : ℕ) → memory_in other a ≡ memory_in self.now a)
-            → StacksSay (memory_in other) other.finding config.now (traces_in result) }
+        // the answer is right over every memory with the same bytes
+        ensures equal { (m : Memory) → ((a : ℕ) → m a ≡ memory_in self.now a)
+            → StacksSay m self.now.finding config.now (traces_in result) }
         // where the process was found, neither a limit nor a record of a thread or a frame is in the way: the lock's
         // owner may be, and the locals of a kept frame, where they are asked for
         ensures found { IsFoundIn self.now → IfErr result (IsLeft self.now config.now) }
     {
         read_stacks(self.alloc, &self.dump, &self.found, config)
+    }
+
+    /// The traces of `get_stack`, with the ranges of the process's memory that were read for them, each of fewer than
+    /// 65536 bytes, in order: the same traces are right over every part of the memory that holds all of these. The
+    /// errors are those of `get_stack`.
+    pub fn footprint(&self, config: &Config) -> Result<(Vec<StackTrace>, Vec<Span>), CoreError>
+        ensures right { StacksSay (memory_in self.now) self.now.finding config.now (traces_with result) }
+        // what is right is the answer, want of memory aside
+        ensures only { IsSole (StacksSay (memory_in self.now) self.now.finding config.now) (traces_with result) }
+        ensures footprint { IfOk result (λ answer. IsFootprint (memory_in self.now) self.now.finding config.now
+            (map trace_of answer.0.items) answer.1.items) }
+        ensures found { IsFoundIn self.now → IfErr result (IsLeft self.now config.now) }
+    {
+        read_footprint(self.alloc, &self.dump, &self.found, config)
     }
 
     /// Prints traces of this core, by one write of the whole text, under the name of the core's file: the signal that
@@ -191,17 +220,5 @@ impl PythonCoreDump {
             Ok(()) => Ok(()),
             Err(fault) => Err(PrintError::Sink(fault)),
         }
-    }
-
-    /// The version.
-    pub(crate) fn into_version(self) -> Version
-        ensures { result ≡ self.finding.version }
-    {
-        let PythonCoreDump {
-            alloc: _,
-            dump: _,
-            found,
-        } = self;
-        found.version
     }
 }

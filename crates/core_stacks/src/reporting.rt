@@ -1,30 +1,81 @@
 //! The report of a core.
-ghost use Rattle.std.specs.Prelude.{◌≡◌, ◌⊎◌, IfErr, IfOk, None};
-ghost use Rattle.py_process.specs.Reports.{AsksNoOther, IsReadable, IsRight, NotesTell, ReportIs, Reported, fault_on, reported, reported_of};
+ghost use Rattle.std.specs.Prelude.{◌≡◌, ◌⊎◌, IfErr, IfOk, None, Ok};
+ghost use Rattle.elf64_core.specs.Header.{machine_of};
+ghost use Rattle.image_memory.specs.Backed.{IsBackedMemory, regions_of};
+ghost use Rattle.image_memory.specs.Cores.{IsCore};
+ghost use Rattle.process_memory.specs.Memory.{byte_at};
+ghost use Rattle.py_process.specs.Facts.{known_of};
+ghost use Rattle.py_process.specs.Findings.{AfterImages, Finding};
+ghost use Rattle.py_process.specs.Reports.{AsksNoOther, CoreSays, IsReadable, IsRight, NotesTell, ReportIs, Reported, fault_on, reported, reported_of};
+ghost use Rattle.core_stacks.specs.Reached.{AfterKnown, IsCounted, IsTrialBy, Reporting};
 ghost use Rattle.core_stacks.specs.Sole.{IsSole, Settles};
-ghost use Rattle.core_stacks.specs.Opened.{IsReportOf, memory_in};
 
-use crate::PythonCoreDump;
+use crate::finding::{find_process, process_info};
 use crate::notes::{Notes, notes_of};
-use image_memory::{CoreDump, Images};
+use crate::stacks_in::stacks_in;
+use elf64_core::Steps;
+use image_memory::{BackedDump, ContainsAddr, CoreDump, Images};
+use process_memory::{Counted, ProcessMemory};
 use py_layout::Layouts;
-use py_process::{CoreError, Report};
+use py_process::{CoreError, PythonProcessInfo, Report};
 use py_stacks::Config;
 use std::alloc::Global;
+use std::sync::ledger::Ledger;
 
-/// The report of a core of a Python process that was opened, and of what its notes tell.
-fn report_of(python: PythonCoreDump, notes: Notes, config: &Config) -> Result<Report, CoreError>
-    requires notes { NotesTell python.core notes.signal notes.process }
-    ensures settles { Settles (IsReportOf python config.now) (reported result) }
-    ensures complete { AsksNoOther config.now → fault_on (memory_in python) python.finding config.now ≡ None
+/// A core with the images that its process had mapped, and what its notes tell.
+#[derive(Drop)]
+struct Loaded {
+    dump: BackedDump,
+    notes: Notes,
+}
+
+/// Takes a core's file in, with the images that its process had mapped. Nothing of the process's memory is read.
+fn load(alloc: Global, bytes: Vec<u8>, images: &Images) -> Result<Loaded, CoreError>
+    ensures core { IfOk result (λ loaded. IsCore loaded.dump.core) }
+    ensures same { IfOk result (λ loaded. loaded.dump.core ≡ bytes.items) }
+    ensures memory { IfOk result (λ loaded. IsBackedMemory loaded.dump.core images.now (regions_of loaded.dump)) }
+    ensures notes { IfOk result (λ loaded. NotesTell loaded.dump.core loaded.notes.signal loaded.notes.process) }
+    ensures refused { IfErr result (λ error. CoreSays bytes.items images.now (Err error)) }
+{
+    let core = CoreDump::new(alloc, bytes)?;
+    let notes = notes_of(alloc, &core)?;
+    let dump = BackedDump::new(alloc, core, images)?;
+    Ok(Loaded { dump, notes })
+}
+
+/// The report of a core over a memory of its process, by what is known of that.
+///
+/// At most 10 reads for the search and 13 for the stacks, and those of the candidates that are tried and of what the
+/// stacks meet.
+fn report_over<M: ContainsAddr, P: ProcessMemory>(
+    alloc: Global,
+    core: &CoreDump,
+    notes: Notes,
+    info: &PythonProcessInfo<M>,
+    process: &mut P,
+    layouts: &Layouts,
+    config: &Config,
+) -> Result<Report, CoreError>
+    requires notes { NotesTell core.now notes.signal notes.process }
+    ensures reports { Reporting (IsTrialBy (byte_at (P.seen process.old).pieces) layouts.now (known_of info.now))
+        (λ finding. AfterImages (byte_at (P.seen process.old).pieces) (machine_of core.now) (M.contains info.now.maps)
+        layouts.now (known_of info.now) (Ok finding))
+        (M.contains info.now.maps) config.now (P.seen process.old) (P.seen process.new)
+        (λ m. Settles (AfterKnown core.now m (M.contains info.now.maps) layouts.now config.now (known_of info.now))
+        (reported result)) }
+    // where the process is found, nothing else is asked for and no fault is met, the one error is want of memory
+    ensures complete { (finding : Finding)
+        → AfterImages (byte_at (P.seen process.old).pieces) (machine_of core.now) (M.contains info.now.maps)
+        layouts.now (known_of info.now) (Ok finding)
+        → AsksNoOther config.now → fault_on (byte_at (P.seen process.old).pieces) finding config.now ≡ None
         → IfErr result (λ error. error ≡ CoreError.OutOfMemory) }
 {
-    let traces = python.get_stack(config)?;
-    let version = python.into_version();
+    let found = find_process(alloc, info, process, core.machine(), layouts)?;
+    let traces = stacks_in(alloc, process, &found, config)?;
     Ok(Report {
         signal: notes.signal,
         process: notes.process,
-        version,
+        version: found.version,
         traces,
     })
 }
@@ -41,10 +92,40 @@ fn make_report(
     ensures complete { IsReadable bytes.items images.now layouts.now config.now
         → IfErr result (λ error. error ≡ CoreError.OutOfMemory) }
 {
-    let core = CoreDump::new(alloc, bytes)?;
-    let notes = notes_of(alloc, &core)?;
-    let python = PythonCoreDump::new(alloc, core, images, layouts)?;
-    report_of(python, notes, config)
+    let loaded = load(alloc, bytes, images)?;
+    let Loaded { dump, notes } = loaded;
+    let info = process_info(alloc, dump.core(), images)?;
+    let mut view = dump.view();
+    report_over(alloc, dump.core(), notes, &info, &mut view, layouts, config)
+}
+
+/// Makes the report, and counts the reads of the process's memory.
+fn make_report_counted<L: Ledger>(
+    alloc: Global,
+    bytes: Vec<u8>,
+    images: &Images,
+    layouts: &Layouts,
+    config: &Config,
+    steps: &mut Steps<L>,
+) -> Result<Report, CoreError>
+    ensures settles { Settles (ReportIs bytes.items images.now layouts.now config.now) (reported result) }
+    ensures complete { IsReadable bytes.items images.now layouts.now config.now
+        → IfErr result (λ error. error ≡ CoreError.OutOfMemory) }
+    ensures counted { IsCounted bytes.items images.now layouts.now config.now steps.old steps.new }
+{
+    let loaded = load(alloc, bytes, images)?;
+    let Loaded { dump, notes } = loaded;
+    let info = process_info(alloc, dump.core(), images)?;
+    let mut counted = Counted::new(dump.view(), steps);
+    report_over(
+        alloc,
+        dump.core(),
+        notes,
+        &info,
+        &mut counted,
+        layouts,
+        config,
+    )
 }
 
 /// What a core and the images that its process had mapped tell of the process: the signal of the first status
@@ -77,4 +158,30 @@ pub fn report(
         → IfErr result (λ error. error ≡ CoreError.OutOfMemory) }
 {
     make_report(alloc, bytes, images, layouts, config)
+}
+
+/// The report of `report`, with its reads of the process's memory counted: each is one step, whether it reads a record,
+/// a word, or a whole section.
+///
+/// The steps are at most 10 for the search and 13 for the stacks; for each candidate that is tried, up to and with the
+/// first that is an interpreter's, none where no map holds it, one where its head is not in memory or in no map, else 3,
+/// 2 for each thread that its test meets and 6 for each member; and of the interpreter 2 for each thread that is met,
+/// 9 for each member, 4 for each variable, 8 for each visit of a value, and 12 for each slot that is looked at for
+/// names. What is never reached takes none.
+pub fn report_counted<L: Ledger>(
+    alloc: Global,
+    bytes: Vec<u8>,
+    images: &Images,
+    layouts: &Layouts,
+    config: &Config,
+    steps: &mut Steps<L>,
+) -> Result<Report, CoreError>
+    ensures right { ReportIs bytes.items images.now layouts.now config.now (reported result) }
+    // what is right is the answer, want of memory aside
+    ensures only { IsSole (ReportIs bytes.items images.now layouts.now config.now) (reported result) }
+    ensures complete { IsReadable bytes.items images.now layouts.now config.now
+        → IfErr result (λ error. error ≡ CoreError.OutOfMemory) }
+    ensures counted { IsCounted bytes.items images.now layouts.now config.now steps.old steps.new }
+{
+    make_report_counted(alloc, bytes, images, layouts, config, steps)
 }

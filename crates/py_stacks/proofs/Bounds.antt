@@ -7,7 +7,7 @@ use Rattle.process_memory.proofs.WalkSums.{walk_ones, walk_sum}
 use Rattle.py_fields.specs.declared.layout.Layout.{Layout}
 use Rattle.py_stacks.specs.declared.asked.Asked.{Asked}
 use Rattle.py_stacks.specs.Frames.{cost_after, extra_cost, frame_step, frames_cost, member_cost, member_limit}
-use Rattle.py_stacks.specs.Met.{details_cost, frames_extra, frames_met, members_met, of_thread, threads_met}
+use Rattle.py_stacks.specs.Met.{details_cost, details_walked, frames_extra, frames_met, members_met, members_walked, of_thread, stacks_bound, threads_met, threads_walked, where_owned}
 use Rattle.py_stacks.specs.Stacks.{stacks_cost}
 use Rattle.py_stacks.specs.Threads.{first_frame_at, thread_cost, thread_frames_cost, thread_limit, thread_step, threads_cost, traces_cost}
 use Rattle.py_stacks.specs.Owner.{owner_at}
@@ -73,13 +73,29 @@ traces_bound q l m interpreter =
 
 -- two more for the owner of the lock
 pub stacks_within : (q : Asked) (l : Layout) (m : Memory) (lock interpreter : ℕ)
-    → stacks_cost q l m lock interpreter ≤ 3 + 2 * threads_met q l m interpreter + 6 * members_met q l m interpreter + details_cost q l m interpreter
-unfolding stacks_cost
+    → stacks_cost q l m lock interpreter ≤ stacks_bound q l m lock interpreter
+unfolding stacks_cost threads_walked members_walked details_walked
 stacks_within q l m lock interpreter =
-    let traces : cost_after (owner_at l m lock) (λ owner. traces_cost q l m interpreter) ≤ 1 + 2 * threads_met q l m interpreter + 6 * members_met q l m interpreter + details_cost q l m interpreter =
-    elim (owner_at l m lock) as (λ v. cost_after v (λ owner. traces_cost q l m interpreter) ≤ 1 + 2 * threads_met q l m interpreter + 6 * members_met q l m interpreter + details_cost q l m interpreter)
+    let traces : cost_after (owner_at l m lock) (λ owner. traces_cost q l m interpreter) ≤ 1 + 2 * where_owned l m lock (threads_met q l m interpreter) + 6 * where_owned l m lock (members_met q l m interpreter) + where_owned l m lock (details_cost q l m interpreter) =
+    elim (owner_at l m lock) as (λ v. cost_after v (λ owner. traces_cost q l m interpreter) ≤ 1 + 2 * cost_after v (λ owner. threads_met q l m interpreter) + 6 * cost_after v (λ owner. members_met q l m interpreter) + cost_after v (λ owner. details_cost q l m interpreter))
     [ Ok owner ↦ traces_bound q l m interpreter | Err e ↦ omega arith ] in
     omega (arith, traces)
+
+-- what is counted behind the owner is counted where there is one
+pub owned_few : (l : Layout) (m : Memory) (lock n : ℕ) → where_owned l m lock n ≤ n
+owned_few l m lock n = elim (owner_at l m lock) as (λ v. cost_after v (λ owner. n) ≤ n) [ Ok owner ↦ omega arith | Err e ↦ omega arith ]
+
+pub stacks_below : (q : Asked) (l : Layout) (m : Memory) (lock interpreter : ℕ)
+    → stacks_cost q l m lock interpreter ≤ 3 + 2 * threads_met q l m interpreter + 6 * members_met q l m interpreter + details_cost q l m interpreter
+unfolding threads_walked members_walked details_walked
+stacks_below q l m lock interpreter =
+    omega (
+      arith,
+      stacks_within q l m lock interpreter,
+      owned_few l m lock (threads_met q l m interpreter),
+      owned_few l m lock (members_met q l m interpreter),
+      owned_few l m lock (details_cost q l m interpreter),
+    )
 
 pub threads_met_most : (q : Asked) (l : Layout) (m : Memory) (interpreter : ℕ)
     → threads_met q l m interpreter ≤ thread_limit

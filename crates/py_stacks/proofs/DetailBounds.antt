@@ -19,10 +19,11 @@ use Rattle.py_stacks.specs.Lines.{line_cost}
 use Rattle.py_stacks.specs.Locals.{count_of, count_or_zero, locals_cost, locals_read}
 use Rattle.py_stacks.specs.Member.{MemberAt}
 use Rattle.py_stacks.specs.Frames.{Call, cost_after, extra_cost, frame_limit, frame_step, frames_cost, member_limit, part_cost, plain_by, records_at}
-use Rattle.py_stacks.specs.Met.{details_cost, frames_extra, frames_locals, frames_met, locals_met, locals_most, member_locals, members_met, of_thread, part_locals}
+use Rattle.py_stacks.specs.Met.{details_cost, details_walked, frames_extra, frames_locals, frames_met, locals_met, locals_most, locals_walked, member_locals, members_met, members_walked, of_thread, part_locals}
+use Rattle.py_stacks.specs.Owner.{owner_at}
 use Rattle.py_stacks.specs.Stacks.{stacks_cost}
 use Rattle.py_stacks.specs.Threads.{first_frame_at, thread_cost, thread_frames_cost, thread_limit, thread_step}
-use Rattle.py_stacks.proofs.Bounds.{frames_bound, frames_met_most, members_met_most, stacks_within, threads_met_most}
+use Rattle.py_stacks.proofs.Bounds.{frames_bound, frames_met_most, members_met_most, stacks_below, threads_met_most}
 
 line_most : (lineno : LineNo) → line_cost lineno ≤ 2
 line_most NoLine = omega arith
@@ -107,6 +108,13 @@ module _ (q : Asked) (l : Layout) (m : Memory) where
       elim (word_at m (interpreter + l.interpreter.threads)) as (λ v. cost_after v (λ head. walk_cost (thread_step q l m) (of_thread (frames_extra q l m) l m) thread_limit tt head) ≤ 3 * cost_after v (λ head. walk_cost (thread_step q l m) (of_thread (frames_met q l m) l m) thread_limit tt head) + 4 * cost_after v (λ head. walk_cost (thread_step q l m) (of_thread (frames_locals q l m) l m) thread_limit tt head))
       [ Ok head ↦ along head | Err e ↦ omega arith ]
 
+  pub details_walked_sum : (lock interpreter : ℕ) → details_walked q l m lock interpreter
+      ≤ 3 * members_walked q l m lock interpreter + 4 * locals_walked q l m lock interpreter
+  unfolding details_walked members_walked locals_walked
+  details_walked_sum lock interpreter =
+      elim (owner_at l m lock) as (λ v. cost_after v (λ owner. details_cost q l m interpreter) ≤ 3 * cost_after v (λ owner. members_met q l m interpreter) + 4 * cost_after v (λ owner. locals_met q l m interpreter))
+      [ Ok owner ↦ details_sum interpreter | Err e ↦ omega arith ]
+
 -- ---- whatever the memory holds
 
 module _ (q : Asked) (l : Layout) (m : Memory) where
@@ -173,4 +181,4 @@ module _ (q : Asked) (l : Layout) (m : Memory) where
       → stacks_cost q l m lock interpreter ≤ 3 + 4096 * (2 + 16384 * (9 + locals_most q.locals))
   stacks_most lock interpreter =
       let most = mul-le-mul_left (3 + locals_most q.locals) (members_met_most q l m interpreter) in
-      omega (arith, stacks_within q l m lock interpreter, details_few interpreter, threads_met_most q l m interpreter, members_met_most q l m interpreter, most)
+      omega (arith, stacks_below q l m lock interpreter, details_few interpreter, threads_met_most q l m interpreter, members_met_most q l m interpreter, most)

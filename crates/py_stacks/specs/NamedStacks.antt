@@ -8,7 +8,8 @@ use Rattle.py_stacks.specs.declared.asked.Asked.{Asked}
 use Rattle.py_stacks.specs.declared.error.StackError.{StackError}
 use Rattle.py_stacks.specs.declared.error.StackError.TheVariants.{OutOfMemory}
 use Rattle.py_names.specs.declared.names.Named.{Named}
-use Rattle.py_names.specs.Names.{name_under, names_at, names_cost}
+use Rattle.py_names.specs.Names.{name_under, names_at, names_cost, slots_looked_at}
+use Rattle.py_stacks.specs.Frames.{cost_after}
 use Rattle.py_stacks.specs.Stacks.{stacks_at, stacks_cost}
 use Rattle.py_stacks.specs.Threads.{Trace}
 
@@ -27,8 +28,14 @@ named_stacks_at q l m lock interpreter = do
   traces ← stacks_at q l m lock interpreter
   Ok (map (by_name (name_by (names_at l m interpreter))) traces)
 
+-- the names are read where the stacks were found
 unfoldable pub named_cost : Asked → Layout → Memory → ℕ → ℕ → ℕ
-named_cost q l m lock interpreter = stacks_cost q l m lock interpreter + names_cost l m interpreter
+named_cost q l m lock interpreter = stacks_cost q l m lock interpreter
+    + cost_after (stacks_at q l m lock interpreter) (λ traces. names_cost l m interpreter)
+
+-- the slots that are looked at for names
+unfoldable pub slots_named : Asked → Layout → Memory → (lock interpreter : ℕ) → ℕ
+slots_named q l m lock interpreter = cost_after (stacks_at q l m lock interpreter) (λ traces. slots_looked_at l m interpreter)
 
 -- ---- a map, if there is one
 

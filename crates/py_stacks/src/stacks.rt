@@ -7,7 +7,7 @@ ghost use Rattle.process_memory.specs.Faults.{FaultsAre};
 ghost use Rattle.py_fields.specs.Sound.{IsSound};
 ghost use Rattle.py_stacks.specs.StackError.{fault_of};
 ghost use Rattle.py_stacks.specs.Asking.{asked_by, asks};
-ghost use Rattle.py_stacks.specs.Met.{details_cost, locals_met, locals_most, members_met, stacks_bound};
+ghost use Rattle.py_stacks.specs.Met.{details_walked, locals_most, locals_walked, members_walked, stacks_bound};
 ghost use Rattle.py_stacks.specs.Threads.{IsTraceOf, Trace, thread_cost, thread_faults, trace_at};
 ghost use Rattle.py_stacks.specs.Threads.{trace_of, trace_of_result, traces_of_result};
 ghost use Rattle.py_stacks.specs.Stacks.{AreStacks, by_owner, stacks_at, stacks_cost, stacks_faults};
@@ -111,10 +111,10 @@ pub fn get_stack_traces<P: ProcessMemory>(
         (λ m. FaultsAre fault_of
         (first_fault (stacks_faults (asked_by config.entry) layout.now m lock interpreter)) result) }
     ensures bound { (P.seen process.new).reads ≤ (P.seen process.old).reads
-        + stacks_bound (asked_by config.entry) layout.now (byte_at (P.seen process.old).pieces) interpreter }
-    ensures details { details_cost (asked_by config.entry) layout.now (byte_at (P.seen process.old).pieces) interpreter
-        ≤ 3 * members_met (asked_by config.entry) layout.now (byte_at (P.seen process.old).pieces) interpreter
-        + 4 * locals_met (asked_by config.entry) layout.now (byte_at (P.seen process.old).pieces) interpreter }
+        + stacks_bound (asked_by config.entry) layout.now (byte_at (P.seen process.old).pieces) lock interpreter }
+    ensures details { details_walked (asked_by config.entry) layout.now (byte_at (P.seen process.old).pieces) lock interpreter
+        ≤ 3 * members_walked (asked_by config.entry) layout.now (byte_at (P.seen process.old).pieces) lock interpreter
+        + 4 * locals_walked (asked_by config.entry) layout.now (byte_at (P.seen process.old).pieces) lock interpreter }
     // whatever the memory holds, as cyclic chains
     ensures most { (P.seen process.new).reads ≤ (P.seen process.old).reads
         + (3 + 4096 * (2 + 16384 * (9 + locals_most (asked_by config.entry).locals))) }

@@ -5,9 +5,9 @@ ghost use Rattle.process_memory.specs.Seen.{Answers, ReadsBy, ReadingBy};
 ghost use Rattle.process_memory.specs.Walk.{first_fault};
 ghost use Rattle.process_memory.specs.Faults.{FaultsAre};
 ghost use Rattle.py_fields.specs.Sound.{IsSound};
-ghost use Rattle.py_names.specs.Names.{slots_looked_at};
 ghost use Rattle.py_stacks.specs.Asking.{asked_of};
-ghost use Rattle.py_stacks.specs.Met.{details_cost, locals_met, locals_most, members_met, stacks_bound};
+ghost use Rattle.py_stacks.specs.Met.{details_walked, locals_most, locals_walked, members_walked, stacks_bound};
+ghost use Rattle.py_stacks.specs.NamedStacks.{slots_named};
 ghost use Rattle.py_stacks.specs.StackError.{fault_of};
 ghost use Rattle.py_stacks.specs.Stacks.{stacks_faults};
 ghost use Rattle.py_stacks.specs.StacksOver.{AreStacksOver, stacks_over_at, stacks_over_cost, values_met, variables_most};
@@ -86,17 +86,18 @@ pub fn get_stack_over<P: ProcessMemory>(
         (λ m. FaultsAre fault_of (first_fault
         (stacks_faults (asked_of config.now) layout.now m addresses.now.lock addresses.now.interpreter)) result) }
     ensures bound { (P.seen process.new).reads ≤ (P.seen process.old).reads
-        + (stacks_bound (asked_of config.now) layout.now (byte_at (P.seen process.old).pieces)
+        + (stacks_bound (asked_of config.now) layout.now (byte_at (P.seen process.old).pieces) addresses.now.lock
         addresses.now.interpreter
-        + (10 + 12 * slots_looked_at layout.now (byte_at (P.seen process.old).pieces) addresses.now.interpreter)
+        + (10 + 12 * slots_named (asked_of config.now) layout.now (byte_at (P.seen process.old).pieces)
+        addresses.now.lock addresses.now.interpreter)
         + 8 * values_met config.now layout.now (byte_at (P.seen process.old).pieces) addresses.now.lock
         addresses.now.interpreter) }
-    ensures details { details_cost (asked_of config.now) layout.now (byte_at (P.seen process.old).pieces)
-        addresses.now.interpreter
-        ≤ 3 * members_met (asked_of config.now) layout.now (byte_at (P.seen process.old).pieces)
-        addresses.now.interpreter
-        + 4 * locals_met (asked_of config.now) layout.now (byte_at (P.seen process.old).pieces)
-        addresses.now.interpreter }
+    ensures details { details_walked (asked_of config.now) layout.now (byte_at (P.seen process.old).pieces)
+        addresses.now.lock addresses.now.interpreter
+        ≤ 3 * members_walked (asked_of config.now) layout.now (byte_at (P.seen process.old).pieces)
+        addresses.now.lock addresses.now.interpreter
+        + 4 * locals_walked (asked_of config.now) layout.now (byte_at (P.seen process.old).pieces)
+        addresses.now.lock addresses.now.interpreter }
     // at most 4096 for each local, of which there are none where they aren't asked for
     ensures values { values_met config.now layout.now (byte_at (P.seen process.old).pieces) addresses.now.lock
         addresses.now.interpreter ≤ 4096 * (4096 * (4096 * variables_most (asked_of config.now).locals)) }

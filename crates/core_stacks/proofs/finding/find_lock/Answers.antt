@@ -1,15 +1,20 @@
-use Rattle.std.proofs.Common.{ap}
+use Rattle.std.proofs.Common.{ap, ◌^◌, arith}
+use Rattle.std.proofs.Math.Nat.{le_refl}
 use Rattle.std.specs.Prelude.{Ok, unwrap_or}
-use Rattle.process_memory.proofs.Reading.{reading_here}
+use Rattle.process_memory.proofs.Reading.{reading_gives}
 use Rattle.py_process.specs.Lock.{lock_address_of}
+use Rattle.py_process.proofs.Wider.{reading_wider}
 use Rattle.core_stacks.proofs.finding.find_lock.Goals as goal
 
 pub returns-in-Ok : goal.returns-in-Ok
 unfolding lock_address_of
-returns-in-Ok g c = (reading_here c.in-Ok.ensures).0
+returns-in-Ok g c = reading_gives 1 _ (reading_wider (2 ^ 64) c.in-Ok.ensures (omega arith)) (le_refl _) (λ m h. h.0)
 
 pub returns-in-Err-Unreadable : goal.returns-in-Err-Unreadable
 unfolding lock_address_of
 returns-in-Err-Unreadable g c =
-    let missing = rw c.in-Err-Unreadable.field-0-is at (reading_here c.in-Err-Unreadable.ensures) in
-    ap (λ found. unwrap_or found (Ok 0)) missing
+    reading_gives 1 _ (reading_wider (2 ^ 64) (rw c.in-Err-Unreadable.field-0-is at c.in-Err-Unreadable.ensures) (omega arith)) (le_refl _)
+    (λ m h. ap (λ found. unwrap_or found (Ok 0)) h)
+
+pub returns-in-Err-OutOfMemory : goal.returns-in-Err-OutOfMemory
+returns-in-Err-OutOfMemory g c = reading_gives 1 _ (reading_wider (2 ^ 64) c.in-Err-OutOfMemory.ensures (omega arith)) (le_refl _) (λ m h. tt)

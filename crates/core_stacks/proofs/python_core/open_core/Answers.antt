@@ -12,8 +12,8 @@ returns-in_err-dump c =
     let p = err_from_is_err_and c.from_residual.result c.from_residual.ensures.1 in
     memory_opens _ _ _ _ (p.1 ∙ ap (λ e. Err e) p.2)
 
-pub find_process-requires : goal.find_process-requires
-find_process-requires c =
+pub find_in_dump-requires : goal.find_in_dump-requires
+find_in_dump-requires c =
     subst (λ bs. IsBackedMemory bs c.args.images.now (regions_of c.in_ok-dump.dump)) (sym c.in_ok-dump.ensures.kept.core_is)
     c.in_ok-dump.ensures.memory
 

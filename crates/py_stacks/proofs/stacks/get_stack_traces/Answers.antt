@@ -5,7 +5,7 @@ use Rattle.py_stacks.specs.Asking.{asked_by}
 use Rattle.process_memory.specs.Memory.{byte_at}
 use Rattle.py_stacks.proofs.Bounds.{stacks_within}
 use Rattle.py_stacks.proofs.StackLaws.{stacks_law, stacks_faults_law}
-use Rattle.py_stacks.proofs.DetailBounds.{details_sum, stacks_most}
+use Rattle.py_stacks.proofs.DetailBounds.{details_walked_sum, stacks_most}
 use Rattle.py_stacks.proofs.Wholes.{stacks_only}
 use Rattle.py_stacks.proofs.stacks.get_stack_traces.Goals as goal
 
@@ -28,7 +28,7 @@ returns-clause-bound g c =
     omega (arith, cost, most)
 
 pub returns-clause-details : goal.returns-clause-details
-returns-clause-details g c = details_sum (asked_by c.args.config) c.args.layout.now _ c.args.interpreter
+returns-clause-details g c = details_walked_sum (asked_by c.args.config) c.args.layout.now _ c.args.lock c.args.interpreter
 
 pub returns-clause-most : goal.returns-clause-most
 returns-clause-most g c =

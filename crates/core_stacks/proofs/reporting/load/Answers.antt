@@ -1,0 +1,1 @@
+use Rattle.core_stacks.proofs.reporting.load.Goals as goal
