@@ -20,7 +20,7 @@ from typing import Dict, List, Optional, Tuple
 # (what only looks at a core leaves nothing behind)
 sys.dont_write_bytecode = True
 
-from core_maps import Use, Wanted, build_id, header_of, is_text, machine_of, wanted_files
+from core_maps import Use, Wanted, build_id, is_text, machine_of, wanted_files
 
 ROOT = Path(__file__).resolve().parent.parent
 PROGRAM = ROOT / "crates" / "pystacks" / "out" / "pystacks"
@@ -81,21 +81,24 @@ def path_below(root: bytes, name: bytes) -> bytes:
     return path
 
 
-def check_file(path: bytes, wanted: Wanted) -> None:
-    """Refuses a file whose build id isn't the one that the core has of the mapped file, where both have one. Where
-    only bytes of it are wanted, it has to be an ELF file: nothing of Python stands in others, which may be large."""
+def check_file(path: bytes, wanted: Wanted, machine: Optional[int]) -> None:
+    """Refuses an ELF file of another machine than the core's, and one whose build id isn't the one that the core has
+    of the mapped file, where both have one: the program takes what it is handed. Where only bytes of it are wanted,
+    it has to be an ELF file: nothing of Python stands in others, which may be large."""
     try:
         with open(path, "rb") as file:
-            is_elf, own = bool(header_of(file)), build_id(file)
+            own_machine, own = machine_of(file), build_id(file)
     except OSError as error:
         raise Missing(f"cannot read {shown(path)}: {error.strerror}") from None
-    if wanted.use is Use.MEMORY and not is_elf:
+    if wanted.use is Use.MEMORY and own_machine is None:
         raise Missing(f"{shown(path)} is no ELF file")
+    if own_machine is not None and own_machine != machine:
+        raise Missing(f"{shown(path)} is of another machine")
     if own and wanted.builds - {own}:
         raise Missing(f"{shown(path)} is of another build")
 
 
-def image_word(wanted: Wanted, root: bytes) -> bytes:
+def image_word(wanted: Wanted, root: bytes, machine: Optional[int]) -> bytes:
     """The program's word for an image."""
     if b"=" in wanted.name:
         raise Missing("a path with an equals sign can't be handed over")
@@ -103,13 +106,13 @@ def image_word(wanted: Wanted, root: bytes) -> bytes:
     word = wanted.name + b"=" + path
     if not is_text(word):
         raise Missing("a path that is not UTF-8 can't be handed over")
-    check_file(path, wanted)
+    check_file(path, wanted, machine)
     return word
 
 
-def image_words(files: List[Wanted], root: bytes) -> List[bytes]:
-    """The words for the images that are there, in the order of the maps, after the line that names those that the
-    program looks into and that are not."""
+def image_words(files: List[Wanted], root: bytes, machine: Optional[int]) -> List[bytes]:
+    """The words for the images that are there and of the core's machine, in the order of the maps, after the line that
+    names those that the program looks into and that are not."""
     words, left = [], MOST
     missing: Dict[Use, str] = {}
     for wanted in files:
@@ -117,7 +120,7 @@ def image_words(files: List[Wanted], root: bytes) -> List[bytes]:
         if wanted.use is Use.MEMORY and left < 0:
             continue
         try:
-            words.append(image_word(wanted, root))
+            words.append(image_word(wanted, root, machine))
         except Missing as reason:
             if wanted.use is not Use.MEMORY:
                 missing[wanted.use] = f"{shown(wanted.name)} ({wanted.use.value}; {reason})"
@@ -152,7 +155,7 @@ def run(words: argparse.Namespace) -> None:
     for word in command[1:]:
         if not is_text(word):
             raise Fault(f"a name that is not UTF-8 can't be handed over: {shown(word)}", BAD_WORDS)
-    command += image_words(files, os.fsencode(words.root))
+    command += image_words(files, os.fsencode(words.root), machine)
     try:
         os.execv(command[0], command)
     except OSError as error:

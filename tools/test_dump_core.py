@@ -62,11 +62,11 @@ def file_table(entries: Sequence[Tuple[int, int, bytes]]) -> bytes:
     return note(b"CORE\0", 0x46494C45, struct.pack("<2Q", len(entries), 4096) + numbers + names)
 
 
-def elf(kind: int, segments: Sequence[Tuple[int, int, int, bytes, int]]) -> bytes:
+def elf(kind: int, segments: Sequence[Tuple[int, int, int, bytes, int]], machine: int = 62) -> bytes:
     """An ELF file of segments: kind, flags, address, bytes, and size in memory."""
     at = 64 + 56 * len(segments)
     header = b"\x7fELF\2\1\1".ljust(16, b"\0")
-    header += struct.pack("<2HI3QI6H", kind, 62, 1, 0, 64, 0, 0, 64, 56, len(segments), 64, 0, 0)
+    header += struct.pack("<2HI3QI6H", kind, machine, 1, 0, 64, 0, 0, 64, 56, len(segments), 64, 0, 0)
     rows = b""
     for segment, flags, start, data, size in segments:
         rows += struct.pack("<2I6Q", segment, flags, at, start, 0, len(data), size, 0)
@@ -251,6 +251,20 @@ class Words(Case):
             maps = [Mapped(0x1000, self.library), Mapped(0x2000, self.other, 4, data)]
             images, said = self.handed(core_of(maps))
             self.assertEqual((len(images), said), (count, ""))
+
+    def test_other_machine(self):
+        # (over a core of aarch64 the host's own Python of the same version is no image)
+        other, core = elf(3, [], 183), core_of([Mapped(0x1000, self.python), Mapped(0x2000, self.other, 4)])
+        for name in ("bin/python3.9", "lib/libc.so.6"):
+            self.put(name, other)
+        images, said = self.handed(core)
+        self.assertEqual((images, said.count("\n")), ([], 1))
+        self.assertIn("(needed; ", said)
+        self.assertIn("is of another machine", said)
+        path = self.put("core", core[:18] + b"\xb7" + core[19:])
+        status, out, said = self.tool(path, "--layouts", LAYOUTS)
+        self.assertEqual((status, said), (0, ""))
+        self.assertEqual(out.split(b"\0")[3:], self.words(self.python, self.other))
 
     def test_tables(self):
         maps = [Mapped(0x1000), Mapped(0x2000)]
