@@ -12,6 +12,7 @@ from dataclasses import dataclass
 from pathlib import Path
 from typing import List, Optional, Tuple
 
+import rooms  # (first: it makes the other rooms known)
 from derive_layout import Derived
 
 SECONDS = 60

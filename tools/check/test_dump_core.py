@@ -15,12 +15,14 @@ from dataclasses import dataclass
 from pathlib import Path
 from typing import Dict, List, Optional, Sequence, Tuple
 
+from rooms import ROOT, TOOLS  # (first: it makes the other rooms known)
+
 from core_maps import is_library
-from dump_core import LAYOUTS, PROGRAM, ROOT
+from dump_core import LAYOUTS, PROGRAM
 from join_layouts import joined, single_files
 from layout_plan import VERSIONS
 
-TOOL = Path(__file__).resolve().with_name("dump_core.py")
+TOOL = TOOLS / "dump_core.py"
 
 FAKE = """#!{python} -IS
 import os, sys
@@ -350,7 +352,7 @@ class Layouts(unittest.TestCase):
     def test_joined(self):
         files = single_files(LAYOUTS.parent, "x86_64")
         text = LAYOUTS.read_text(encoding="utf-8")
-        self.assertEqual(text, joined(files, "x86_64"), "tools/join_layouts.py -o layouts/cpython-x86_64.toml")
+        self.assertEqual(text, joined(files, "x86_64"), "tools/layouts/join_layouts.py -o layouts/cpython-x86_64.toml")
         self.assertNotIn(LAYOUTS, files)
         self.assertEqual([path.name for path in files], [f"cpython-{a}.{b}-x86_64.toml" for a, b in VERSIONS])
 

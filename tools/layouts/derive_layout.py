@@ -1,7 +1,7 @@
 #!/usr/bin/env python3
 """Writes the layout file of an installed CPython, from its own headers and debug information.
 
-    tools/derive_layout.py /usr/bin/python3.9 -o layouts/cpython-3.9-x86_64.toml
+    tools/layouts/derive_layout.py /usr/bin/python3.9 -o layouts/cpython-3.9-x86_64.toml
 
 The interpreter is asked which build it is and where its headers are. Each number is then looked up in the headers,
 by a C program that is compiled against them, and in the debug information of the binary, by gdb. One of the two must
@@ -271,7 +271,7 @@ def chain_told(plan: Plan, numbers: Dict[str, int]) -> List[str]:
 def comments(build: Build, plan: Plan, numbers: Dict[str, int], answers: Sequence[Answers], how: How) -> List[str]:
     """The head of the file: which build it was read from, and how."""
     lines = [
-        f"The layout of CPython {build.dotted} on {build.machine}, written by tools/derive_layout.py.",
+        f"The layout of CPython {build.dotted} on {build.machine}, written by tools/layouts/derive_layout.py.",
         f"build: {build.build}",
         f"options that change records: {', '.join(build.options) or 'none'}",
     ]

@@ -1,7 +1,7 @@
 #!/usr/bin/env python3
 """Measures seconds and memory of the program's commands over cores that it makes, beside reading their files once.
 
-    tools/measure.py --program crates/pystacks/out/pystacks
+    tools/check/measure.py --program crates/pystacks/out/pystacks
 
 The cores are laid out by the example of docs/LAYOUTS.md. Each command must answer with the stacks that the core was
 made of. Measure where nothing else runs.

@@ -12,13 +12,15 @@ from dataclasses import replace
 from pathlib import Path
 from unittest.mock import patch
 
+from rooms import ROOT  # (first: it makes the other rooms known)
+
 import real_core
 from child_cores import USUAL, Case, Core, Failure, Skip, Thread, Told, names_by
 from derive_layout import Build, Derived, DeriveError, fault_of, settled, values_of
 from layout_plan import VERSIONS, Field, Group, Plan, plan_of
 from layout_sources import Answers, Place, faults_of
 from layout_swaps import numbers_in, swaps
-from real_core import ROOT, Walk, as_stored, check_report, compare, derived_for, directions, over_core, printed, ran
+from real_core import Walk, as_stored, check_report, compare, derived_for, directions, over_core, printed, ran
 from real_core import report_of, try_all
 
 BUILD = Build("/python", (3, 9, 1), "3.9.1 (main)", "/python", "x86_64", (), (), ())

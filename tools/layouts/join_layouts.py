@@ -1,7 +1,7 @@
 #!/usr/bin/env python3
 """Joins the layout files of one machine into one, so that nobody has to pick one.
 
-    tools/join_layouts.py -o layouts/cpython-x86_64.toml
+    tools/layouts/join_layouts.py -o layouts/cpython-x86_64.toml
 """
 
 import argparse
@@ -11,10 +11,10 @@ from typing import List
 
 from find_pythons import version_key
 
-LAYOUTS = Path(__file__).resolve().parent.parent / "layouts"
+LAYOUTS = Path(__file__).resolve().parent.parent.parent / "layouts"
 
 HEAD = """\
-# The layouts of CPython on {machine} in this folder, joined by tools/join_layouts.py: {names}.
+# The layouts of CPython on {machine} in this folder, joined by tools/layouts/join_layouts.py: {names}.
 # Each covers a minor version, and was read from one build of it, which the lines above it name.
 """
 

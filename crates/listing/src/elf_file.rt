@@ -1,5 +1,5 @@
-//! The lines.
-use elf64_core::{Elf64, SymbolKind, read_build_id};
+//! The lines of an ELF file.
+use elf64_core::{Elf64, Machine, SymbolKind, read_build_id};
 use py_process::parse_binary;
 use std::alloc::Global;
 use std::io::{self, Write};
@@ -12,8 +12,32 @@ fn shown<'a>(name: Option<&'a [u8]>) -> &'a str {
     }
 }
 
+/// `machine` and the machine that the header names.
+fn list_machine<W: Write>(out: &mut W, elf: &Elf64<'_>) -> io::Result<()> {
+    let machine = match elf.machine() {
+        Machine::X86_64 => "x86-64",
+        Machine::Aarch64 => "aarch64",
+        Machine::Other => "other",
+    };
+    writeln!(out, "machine {machine}")
+}
+
+/// `segment KIND FLAGS OFFSET ADDR FILE_SIZE MEMORY_SIZE` for each segment, in table order.
+fn list_segments<W: Write>(out: &mut W, elf: &Elf64<'_>) -> io::Result<()> {
+    for segment in elf.segments() {
+        let (kind, flags) = (segment.kind, segment.flags);
+        let (offset, addr) = (segment.offset, segment.addr);
+        let (in_file, in_memory) = (segment.file_size, segment.mem_size);
+        writeln!(
+            out,
+            "segment {kind} {flags} {offset} {addr} {in_file} {in_memory}"
+        )?;
+    }
+    Ok(())
+}
+
 /// `section KIND ADDR OFFSET SIZE LINK NAME` for each section, in table order.
-pub(crate) fn list_sections<W: Write>(out: &mut W, elf: &Elf64<'_>) -> io::Result<()> {
+fn list_sections<W: Write>(out: &mut W, elf: &Elf64<'_>) -> io::Result<()> {
     let Ok(sections) = elf.sections() else {
         return writeln!(out, "sections refused");
     };
@@ -35,7 +59,7 @@ fn word_of(kind: SymbolKind) -> &'static str {
 }
 
 /// `plain INFO SECTION VALUE SIZE NAME` for each symbol, in table order; `dynamic ..` likewise.
-pub(crate) fn list_symbols<W: Write>(
+fn list_symbols<W: Write>(
     out: &mut W,
     alloc: Global,
     elf: &Elf64<'_>,
@@ -55,7 +79,7 @@ pub(crate) fn list_symbols<W: Write>(
 }
 
 /// `build` and the bytes of the build id, in hexadecimal digits.
-pub(crate) fn list_build_id<W: Write>(out: &mut W, elf: &Elf64<'_>) -> io::Result<()> {
+fn list_build_id<W: Write>(out: &mut W, elf: &Elf64<'_>) -> io::Result<()> {
     match read_build_id(elf) {
         Err(_) => writeln!(out, "build refused"),
         Ok(None) => writeln!(out, "build -"),
@@ -71,7 +95,7 @@ pub(crate) fn list_build_id<W: Write>(out: &mut W, elf: &Elf64<'_>) -> io::Resul
 
 /// `binary BSS_ADDR BSS_SIZE RUNTIME_ADDR RUNTIME_SIZE COUNT`, and `symbol NAME ADDR` for two symbols of
 /// CPython, where they are there.
-pub(crate) fn list_binary<W: Write>(
+fn list_binary<W: Write>(
     out: &mut W,
     alloc: Global,
     bytes: &[u8],
@@ -94,4 +118,26 @@ pub(crate) fn list_binary<W: Write>(
         }
     }
     Ok(())
+}
+
+/// The lines of a file's bytes, with those of an image that is mapped at an address, with a size.
+pub(crate) fn list_elf<W: Write>(
+    out: &mut W,
+    alloc: Global,
+    bytes: &[u8],
+    map: Option<(u64, u64)>,
+) -> io::Result<()> {
+    let Ok(elf) = Elf64::parse(bytes) else {
+        return writeln!(out, "refused");
+    };
+    list_machine(out, &elf)?;
+    list_segments(out, &elf)?;
+    list_sections(out, &elf)?;
+    list_symbols(out, alloc, &elf, SymbolKind::Plain)?;
+    list_symbols(out, alloc, &elf, SymbolKind::Dynamic)?;
+    list_build_id(out, &elf)?;
+    match map {
+        Some((addr, size)) => list_binary(out, alloc, bytes, addr, size),
+        None => Ok(()),
+    }
 }

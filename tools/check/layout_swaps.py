@@ -4,6 +4,7 @@ import re
 from dataclasses import dataclass
 from typing import Dict, Iterator, List, Optional, Tuple
 
+import rooms  # (first: it makes the other rooms known)
 from layout_plan import Version, plan_of
 
 FARTHEST = 6

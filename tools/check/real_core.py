@@ -1,8 +1,8 @@
 #!/usr/bin/env python3
 """Walks cores of real Pythons, and compares the stacks with those that the Pythons told before they died.
 
-    tools/real_core.py --program crates/pystacks/out/pystacks
-    tools/real_core.py --program crates/pystacks/out/pystacks --swaps    # slow: which wrong layouts are noticed
+    tools/check/real_core.py --program crates/pystacks/out/pystacks
+    tools/check/real_core.py --program crates/pystacks/out/pystacks --swaps    # slow: which wrong layouts are noticed
 
 For each installed CPython of 2.7 and 3.6 to 3.13 the layout is derived (derive_layout.py), real_core_child.py is
 started and leaves some cores, and the program walks those that have all private mappings. Threads, their order,
@@ -30,6 +30,8 @@ from itertools import takewhile, zip_longest
 from pathlib import Path
 from typing import Dict, Iterator, List, Sequence, Tuple
 
+from rooms import ROOT  # (first: it makes the other rooms known)
+
 import child_cores
 from child_cores import CASES, Core, Failure, Skip, Thread, Told, core_names, leave_core
 from core_maps import wanted_files
@@ -39,7 +41,6 @@ from find_pythons import pythons
 from layout_plan import plan_of
 from layout_swaps import swaps
 
-ROOT = Path(__file__).resolve().parent.parent
 
 HOLDER_IN_DUMP = True
 """Whether a report marks the thread that holds the interpreter's lock."""

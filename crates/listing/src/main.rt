@@ -1,0 +1,59 @@
+//! What is read in a file, line by line, for comparison with other readers: `listing elf FILE [ADDR SIZE]`
+//! and `listing maps FILE`.
+//!
+//! Of an ELF file the machine, each segment, each section, each symbol and the build id have a line; with
+//! ADDR and SIZE, decimal numbers, also what the file says as an image that is mapped there. Of maps text,
+//! which is read as that of the process 1, each line has one. All numbers are decimal. A name that is no text
+//! is `?`, and `-` stands for none. This is a tool of the repository, and no command of `pystacks`.
+#![tactic(auto)]
+
+mod elf_file;
+mod maps_file;
+
+use elf_file::list_elf;
+use maps_file::list_maps;
+use std::alloc::Global;
+use std::env::Env;
+use std::io::{BufWriter, Write};
+use std::process::ExitCode;
+use std::rt::Files;
+use std::{env, fs, io};
+
+/// The words after the program's name.
+fn words<R: Env + Alloc<A = Global>>(rt: &R) -> io::Result<Vec<String>> {
+    let mut words = Vec::new(rt.alloc());
+    for word in env::args(rt)?.skip(1) {
+        words.push(word)?;
+    }
+    Ok(words)
+}
+
+/// The map that the words name, an address and a size.
+fn map_of(words: &[String]) -> Option<(u64, u64)> {
+    let [addr, size] = words else {
+        return None;
+    };
+    Some((addr.as_str().parse().ok()?, size.as_str().parse().ok()?))
+}
+
+fn run<R: Env + Files + Print + Alloc<A = Global>>(rt: &R) -> io::Result<()> {
+    let words = words(rt)?;
+    let [kind, path, map @ ..] = words.as_slice() else {
+        return Ok(());
+    };
+    let bytes = fs::read(rt, path.as_str())?;
+    let mut out = BufWriter::new(rt.alloc(), io::writer(rt))?;
+    match kind.as_str() {
+        "elf" => list_elf(&mut out, rt.alloc(), &bytes, map_of(map))?,
+        "maps" => list_maps(&mut out, rt.alloc(), &bytes)?,
+        _ => writeln!(out, "refused")?,
+    }
+    out.flush()
+}
+
+fn main(rt: HostRuntime) -> ExitCode {
+    match run(&rt) {
+        Ok(()) => ExitCode::from(0),
+        Err(_) => ExitCode::from(1),
+    }
+}
