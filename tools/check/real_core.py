@@ -34,7 +34,7 @@ from rooms import ROOT  # (first: it makes the other rooms known)
 
 import child_cores
 from child_cores import CASES, Core, Failure, Skip, Thread, Told, core_names, leave_core
-from core_maps import wanted_files
+from core_maps import machine_of, wanted_files
 from derive_layout import Build, Derived, DeriveError, How, build_of, derive, same_version, told_of
 from dump_core import image_words
 from find_pythons import pythons
@@ -124,7 +124,7 @@ def walk(program: Path, core: Core, layouts: Path, build: Build, lock: int) -> W
 def images_of(core: Path) -> Tuple[str, ...]:
     """The words for the images of a core that are there."""
     with open(core, "rb") as file:
-        return tuple(os.fsdecode(it) for it in image_words(wanted_files(file), b""))
+        return tuple(os.fsdecode(it) for it in image_words(wanted_files(file), b"", machine_of(file)))
 
 
 def dump(program: Path, core: Core, layouts: Path, *options: str) -> Walk:
