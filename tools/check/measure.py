@@ -10,20 +10,17 @@ made of. Measure where nothing else runs.
 import argparse
 import os
 import platform
-import struct
 import subprocess
 import sys
 import tempfile
 from dataclasses import dataclass
 from datetime import date
 from pathlib import Path
-from typing import Dict, List, Sequence, Tuple
+from typing import List, Sequence, Tuple
 
-from test_dump_core import IMAGE, Mapped, core_of, example_layout, with_words
-
-INTERPRETER = 0x10000
-CODE, FILE, NAME, FREE = 0x40, 0x80, 0xD0, 0x120
-"""Where the one code and its texts stand in the heap, and what follows them."""
+from made import EXAMPLE, Objects, Segment, core_file, layout_of
+from row import HEAP as INTERPRETER
+from rows_dump import PROGRAM as IMAGE, bss, mapped
 
 FILLER = 0x100000000
 """Where the segments begin that hold nothing of Python."""
@@ -68,35 +65,19 @@ class Failure(Exception):
     """What went wrong in what was measured."""
 
 
-def put_text(words: Dict[int, int], at: int, text: bytes) -> None:
-    """Puts a text of at most 8 ASCII characters into the words of a heap; it takes 72 bytes."""
-    words.update({at + 16: len(text), at + 32: 0x64, at + 48: int.from_bytes(text, "little")})
-
-
-def put_frames(words: Dict[int, int], at: int, count: int) -> int:
-    """Puts a chain of frames, and returns where it ends."""
-    for number in range(count):
-        back = INTERPRETER + at + 64 if number + 1 < count else 0
-        words.update({at + 16: INTERPRETER + CODE, at + 24: back})
-        at += 64
-    return at
-
-
-def heap(shape: Shape) -> bytes:
+def heap(shape: Shape) -> Segment:
     """The heap of an interpreter: threads in a chain, each with its chain of frames, all of one code."""
-    words: Dict[int, int] = {CODE + 32: INTERPRETER + FILE, CODE + 40: INTERPRETER + NAME}
-    put_text(words, FILE, b"a.py")
-    put_text(words, NAME, b"f")
-    end = put_frames(words, FREE, shape.frames)
-    frames, link = FREE, 8
-    for thread in range(shape.threads):
-        if thread > 0 and not shape.is_shared:
-            frames, end = end, put_frames(words, end, shape.frames)
-        words[link] = INTERPRETER + end
-        words.update({end + 16: INTERPRETER, end + 24: INTERPRETER + frames, end + 32: 0x7F00 + thread})
-        link = end + 8
-        end += 64
-    return with_words(end, words)
+    objects = Objects(layout_of(EXAMPLE), INTERPRETER)
+    interpreter = objects.record("interpreter")
+    file, name = objects.text("a.py"), objects.text("f")
+    codes = [objects.record("code", None, filename=file, name=name)] * shape.frames
+    shared = objects.frames(codes)
+    threads = [
+        {"id": 0x7F00 + number, "frame": shared if shape.is_shared or number == 0 else objects.frames(codes)}
+        for number in range(shape.threads)
+    ]
+    objects.threads(interpreter, threads)
+    return objects.segment()
 
 
 def image_name(number: int) -> bytes:
@@ -107,14 +88,10 @@ def image_name(number: int) -> bytes:
 def core(shape: Shape) -> bytes:
     """The core of a shape, with its heap in the middle of the segments."""
     more = shape.segments - 3
-    filler = [Mapped(FILLER + 0x1000 * number, None, 6, bytes(16)) for number in range(more)]
-    maps = filler[: more // 2] + [
-        Mapped(INTERPRETER, None, 6, heap(shape)),
-        Mapped(0x400000, b"/usr/bin/python3.9", size=0x1000),
-        Mapped(0x500000, None, 6, struct.pack("<2Q", 0x400000, INTERPRETER)),
-    ]
-    images = [Mapped(IMAGES * (at + 1), image_name(at), 4, size=IMAGE_SIZE) for at in range(shape.images)]
-    return core_of(maps + images + filler[more // 2 :])
+    filler = [Segment(FILLER + 0x1000 * number, bytes(16), 6) for number in range(more)]
+    maps = filler[: more // 2] + [heap(shape), mapped(), bss()]
+    images = [Segment(IMAGES * (at + 1), b"", 4, IMAGE_SIZE, image_name(at)) for at in range(shape.images)]
+    return core_file(maps + images + filler[more // 2 :])
 
 
 def text_of(shape: Shape) -> bytes:
@@ -141,8 +118,8 @@ def measured(program: str, shape: Shape, folder: Path, times: int) -> str:
     """The row of a shape: for each command the fastest of some runs."""
     files = {name: str(folder / name) for name in ("core", "layouts", "image", "out")}
     Path(files["core"]).write_bytes(core(shape))
-    Path(files["layouts"]).write_text(example_layout(), encoding="utf-8")
-    Path(files["image"]).write_bytes(with_words(328, IMAGE))
+    Path(files["layouts"]).write_text(EXAMPLE, encoding="utf-8")
+    Path(files["image"]).write_bytes(IMAGE)
     others = [folder / f"lib{number}.so" for number in range(shape.images)]
     for path in others:
         path.write_bytes(os.urandom(IMAGE_SIZE))

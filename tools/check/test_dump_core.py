@@ -6,21 +6,22 @@ Where the real program is built, it is run over such a core too.
 
 import os
 import signal
-import struct
 import subprocess
 import sys
 import tempfile
 import unittest
-from dataclasses import dataclass
 from pathlib import Path
-from typing import Dict, List, Optional, Sequence, Tuple
+from typing import List, Optional, Tuple
 
-from rooms import ROOT, TOOLS  # (first: it makes the other rooms known)
+from rooms import TOOLS  # (first: it makes the other rooms known)
 
 from core_maps import is_library
 from dump_core import LAYOUTS, PROGRAM
 from join_layouts import joined, single_files
 from layout_plan import VERSIONS
+from made import AARCH64, EXAMPLE, NOTE, X86_64, Segment, build_id, core_file, elf_file, file_table, note
+from row import TEXT, heap
+from rows_dump import PROGRAM as IMAGE, bss
 
 TOOL = TOOLS / "dump_core.py"
 
@@ -34,63 +35,21 @@ sys.stderr.write({line!r})
 """A program that prints its words, says a line, and ends."""
 
 
-@dataclass(frozen=True)
-class Mapped:
-    """A load segment of a core that is made."""
-
-    start: int
-    name: Optional[bytes] = None
-    flags: int = 5
-    data: bytes = b""
-    pages: int = 0
-    size: Optional[int] = None
-    """Its bytes in memory; the same as in the file, if not given."""
+def mapped(
+    start: int, name: Optional[bytes] = None, flags: int = 5, data: bytes = b"", pages: int = 0, size: Optional[int] = None
+) -> Segment:
+    """A load segment of a core, with the file that is mapped there."""
+    return Segment(start, data, flags, size, name, pages)
 
 
-def padded(data: bytes) -> bytes:
-    """Some bytes padded to 4."""
-    return data + bytes(-len(data) % 4)
-
-
-def note(owner: bytes, kind: int, data: bytes) -> bytes:
-    """A note."""
-    return struct.pack("<3I", len(owner), len(data), kind) + padded(owner) + padded(data)
-
-
-def file_table(entries: Sequence[Tuple[int, int, bytes]]) -> bytes:
-    """A file table of starts, first pages and names."""
-    numbers = b"".join(struct.pack("<3Q", start, start + 4096, pages) for start, pages, _ in entries)
-    names = b"".join(name + b"\0" for _, _, name in entries)
-    return note(b"CORE\0", 0x46494C45, struct.pack("<2Q", len(entries), 4096) + numbers + names)
-
-
-def elf(kind: int, segments: Sequence[Tuple[int, int, int, bytes, int]], machine: int = 62) -> bytes:
-    """An ELF file of segments: kind, flags, address, bytes, and size in memory."""
-    at = 64 + 56 * len(segments)
-    header = b"\x7fELF\2\1\1".ljust(16, b"\0")
-    header += struct.pack("<2HI3QI6H", kind, machine, 1, 0, 64, 0, 0, 64, 56, len(segments), 64, 0, 0)
-    rows = b""
-    for segment, flags, start, data, size in segments:
-        rows += struct.pack("<2I6Q", segment, flags, at, start, 0, len(data), size, 0)
-        at += len(data)
-    return header + rows + b"".join(data for _, _, _, data, _ in segments)
-
-
-def core_of(maps: Sequence[Mapped], tables: Optional[Sequence[bytes]] = None) -> bytes:
-    """A core of these maps, with the file table that they have, or with these."""
-    table = file_table([(it.start, it.pages, it.name) for it in maps if it.name is not None])
-    loads = [(1, it.flags, it.start, it.data, len(it.data) if it.size is None else it.size) for it in maps]
-    return elf(4, loads + [(4, 0, 0, b"".join([table] if tables is None else tables), 0)])
+def program(machine: int = X86_64) -> bytes:
+    """An ELF file that is no core, for a machine."""
+    return elf_file(3, [], machine)
 
 
 def built(number: int) -> bytes:
     """The front of a library of this build."""
-    return elf(3, [(4, 4, 0, note(b"GNU\0", 3, bytes([number]) * 20), 0)])
-
-
-def with_words(size: int, words: Dict[int, int]) -> bytes:
-    """So many bytes with these words of 8 bytes."""
-    return b"".join(struct.pack("<Q", words.get(at, 0)) for at in range(0, size, 8))
+    return elf_file(3, [Segment(0, build_id(bytes([number]) * 20), 4, 0, kind=NOTE)])
 
 
 class Case(unittest.TestCase):
@@ -140,55 +99,55 @@ class Words(Case):
         super().setUp()
         self.python = self.put("bin/python3.9", b"p")
         self.library = self.put("lib/libpython3.9.so.1.0", b"l")
-        self.other = self.put("lib/libc.so.6", elf(3, []))
+        self.other = self.put("lib/libc.so.6", program())
 
     def words(self, *paths):
         """The words for these images."""
         return [it + b"=" + it for it in paths]
 
     def test_found(self):
-        maps = [Mapped(0x1000, self.other, 6), Mapped(0x2000, None), Mapped(0x3000, self.python)]
-        images, said = self.handed(core_of(maps))
+        maps = [mapped(0x1000, self.other, 6), mapped(0x2000, None), mapped(0x3000, self.python)]
+        images, said = self.handed(core_file(maps))
         self.assertEqual((images, said), (self.words(self.python), ""))
-        maps += [Mapped(0x5000, self.library, 4), Mapped(0x6000, self.library), Mapped(0x7000, self.other)]
-        images, said = self.handed(core_of(maps))
+        maps += [mapped(0x5000, self.library, 4), mapped(0x6000, self.library), mapped(0x7000, self.other)]
+        images, said = self.handed(core_file(maps))
         self.assertEqual((images, said), (self.words(self.python, self.library, self.other), ""))
 
     def test_all(self):
         data = self.put("data", b"not of a program")
-        more = [self.put(f"lib/lib{number}.so", elf(3, [])) for number in range(30)]
-        maps = [Mapped(0x1000, self.python)]
-        maps += [Mapped(0x1000 * number, it, 4) for number, it in enumerate([data, *more, *more], 2)]
-        maps += [Mapped(0x100000, self.library), Mapped(0x101000, self.python), Mapped(0x102000, self.other, 7)]
-        maps += [Mapped(0x103000, b"/gone.so", 4), Mapped(0x104000, b"/dev/zero", 4)]
-        images, said = self.handed(core_of(maps))
+        more = [self.put(f"lib/lib{number}.so", program()) for number in range(30)]
+        maps = [mapped(0x1000, self.python)]
+        maps += [mapped(0x1000 * number, it, 4) for number, it in enumerate([data, *more, *more], 2)]
+        maps += [mapped(0x100000, self.library), mapped(0x101000, self.python), mapped(0x102000, self.other, 7)]
+        maps += [mapped(0x103000, b"/gone.so", 4), mapped(0x104000, b"/dev/zero", 4)]
+        images, said = self.handed(core_file(maps))
         self.assertEqual((images, said), (self.words(self.python, *more, self.library), ""))
 
     def test_many(self):
         # (a core may name any number of files that are there)
         path = os.path.dirname(self.other)
         names = [path + b"/." * number + b"/libc.so.6" for number in range(1100)]
-        maps = [Mapped(0x1000 * number, it, 4) for number, it in enumerate(names, 1)]
-        images, said = self.handed(core_of([*maps, Mapped(0x10000000, self.python)]))
+        maps = [mapped(0x1000 * number, it, 4) for number, it in enumerate(names, 1)]
+        images, said = self.handed(core_file([*maps, mapped(0x10000000, self.python)]))
         self.assertEqual((len(images), images[-1:], said), (1001, self.words(self.python), ""))
 
     def test_missing(self):
         gone = os.fsencode(self.folder) + b"/gone/libpython3.9.so"
-        images, said = self.handed(core_of([Mapped(0x1000, self.python), Mapped(0x2000, gone)]))
+        images, said = self.handed(core_file([mapped(0x1000, self.python), mapped(0x2000, gone)]))
         self.assertEqual(images, [self.python + b"=" + self.python])
         name = os.fsdecode(gone)
         self.assertEqual(said, f"dump_core: no image of {name} (needed; there is no file {name})\n")
-        images, said = self.handed(core_of([Mapped(0x1000, gone[:-3]), Mapped(0x2000, gone)]))
+        images, said = self.handed(core_file([mapped(0x1000, gone[:-3]), mapped(0x2000, gone)]))
         self.assertEqual((images, said.count("\n")), ([], 1))
         self.assertIn(f"no image of {name} (needed; there is no file {name}), {name[:-3]} (not needed; ", said)
-        images, said = self.handed(core_of([Mapped(0x1000, gone[:-3]), Mapped(0x2000, self.library)]))
+        images, said = self.handed(core_file([mapped(0x1000, gone[:-3]), mapped(0x2000, self.library)]))
         self.assertEqual(images, [self.library + b"=" + self.library])
         self.assertIn("(not needed; there is no file", said)
 
     def test_no_file(self):
         system = (b"/memfd:it (deleted)", b"/dev/zero", b"/proc/self/maps")
         for name in (b"", b"relative", os.fsencode(self.folder), *system):
-            images, said = self.handed(core_of([Mapped(0x1000, name)]))
+            images, said = self.handed(core_file([mapped(0x1000, name)]))
             self.assertEqual((images, said.count("\n")), ([], 1), said)
             self.assertIn("(needed; ", said)
         for size, count in ((0, 0), (1 << 36, 1), ((1 << 36) + 1, 0)):
@@ -197,12 +156,12 @@ class Words(Case):
             except OSError:
                 # (files here can't be so long)
                 continue
-            images, said = self.handed(core_of([Mapped(0x1000, self.python)]))
+            images, said = self.handed(core_file([mapped(0x1000, self.python)]))
             self.assertEqual((len(images), f"has {size} bytes" in said), (count, count == 0))
 
     def test_deleted(self):
         name = self.library + b" (deleted)"
-        images, said = self.handed(core_of([Mapped(0x1000, self.python), Mapped(0x2000, name)]))
+        images, said = self.handed(core_file([mapped(0x1000, self.python), mapped(0x2000, name)]))
         self.assertEqual(images, [self.python + b"=" + self.python, name + b"=" + self.library])
         self.assertEqual(said, "")
 
@@ -210,15 +169,15 @@ class Words(Case):
         root = self.folder / "container"
         path = self.put("container/usr/bin/python3.9", b"p")
         (root / "usr/bin/out").symlink_to(os.fsdecode(self.python))
-        core = core_of([Mapped(0x1000, b"/usr/bin/python3.9 (deleted)")])
+        core = core_file([mapped(0x1000, b"/usr/bin/python3.9 (deleted)")])
         for words in (["--root", root], ["--root", f"{root}/"]):
             images, said = self.handed(core, *words)
             self.assertEqual((images, said), ([b"/usr/bin/python3.9 (deleted)=" + path], ""))
         for name in (b"/usr/bin/out", b"/../bin/python3.9"):
-            images, said = self.handed(core_of([Mapped(0x1000, name)]), "--root", root)
+            images, said = self.handed(core_file([mapped(0x1000, name)]), "--root", root)
             self.assertEqual(images, [])
             self.assertIn("leads out of", said)
-        images, said = self.handed(core_of([Mapped(0x1000, self.python)]), "--root", root)
+        images, said = self.handed(core_file([mapped(0x1000, self.python)]), "--root", root)
         self.assertEqual(images, [])
         self.assertIn("there is no file", said)
 
@@ -228,51 +187,51 @@ class Words(Case):
             os.makedirs(os.path.dirname(path))
             with open(path, "wb") as file:
                 file.write(b"p")
-            images, said = self.handed(core_of([Mapped(0x1000, path)]))
+            images, said = self.handed(core_file([mapped(0x1000, path)]))
             self.assertEqual((images, said.count("\n")), ([], 1))
             self.assertIn(reason, said)
         path = self.put("new\nline\x1b", b"p")
-        images, said = self.handed(core_of([Mapped(0x1000, path)]))
+        images, said = self.handed(core_file([mapped(0x1000, path)]))
         self.assertEqual((images, said), ([path + b"=" + path], ""))
-        images, said = self.handed(core_of([Mapped(0x1000, path + b"?")]))
+        images, said = self.handed(core_file([mapped(0x1000, path + b"?")]))
         self.assertEqual((images, said.count("\n"), said.count("\x1b")), ([], 1, 0))
 
     def test_build(self):
         self.put("lib/libpython3.9.so.1.0", built(1) + bytes(100))
         word = self.library + b"=" + self.library
         for data, images in ((b"", [word]), (built(1), [word]), (built(1)[:130], [word]), (built(2), [])):
-            maps = [Mapped(0x1000, self.library, 4, data), Mapped(0x2000, self.library, pages=1, data=built(3))]
-            maps.append(Mapped(0x3000, self.other, 6, built(4)))
-            found, said = self.handed(core_of(maps))
+            maps = [mapped(0x1000, self.library, 4, data), mapped(0x2000, self.library, pages=1, data=built(3))]
+            maps.append(mapped(0x3000, self.other, 6, built(4)))
+            found, said = self.handed(core_file(maps))
             self.assertEqual(found, images)
             self.assertEqual("is of another build" in said, not images)
         self.put("lib/libpython3.9.so.1.0", b"l")
-        self.assertEqual(self.handed(core_of([Mapped(0x1000, self.library, 5, built(2))])), ([word], ""))
+        self.assertEqual(self.handed(core_file([mapped(0x1000, self.library, 5, built(2))])), ([word], ""))
         self.put("lib/libc.so.6", built(4))
         for data, count in ((built(4), 2), (built(5), 1)):
-            maps = [Mapped(0x1000, self.library), Mapped(0x2000, self.other, 4, data)]
-            images, said = self.handed(core_of(maps))
+            maps = [mapped(0x1000, self.library), mapped(0x2000, self.other, 4, data)]
+            images, said = self.handed(core_file(maps))
             self.assertEqual((len(images), said), (count, ""))
 
     def test_other_machine(self):
         # (over a core of aarch64 the host's own Python of the same version is no image)
-        other, core = elf(3, [], 183), core_of([Mapped(0x1000, self.python), Mapped(0x2000, self.other, 4)])
+        other, data = program(AARCH64), core_file([mapped(0x1000, self.python), mapped(0x2000, self.other, 4)])
         for name in ("bin/python3.9", "lib/libc.so.6"):
             self.put(name, other)
-        images, said = self.handed(core)
+        images, said = self.handed(data)
         self.assertEqual((images, said.count("\n")), ([], 1))
         self.assertIn("(needed; ", said)
         self.assertIn("is of another machine", said)
-        path = self.put("core", core[:18] + b"\xb7" + core[19:])
+        path = self.put("core", data[:18] + b"\xb7" + data[19:])
         status, out, said = self.tool(path, "--layouts", LAYOUTS)
         self.assertEqual((status, said), (0, ""))
         self.assertEqual(out.split(b"\0")[3:], self.words(self.python, self.other))
 
     def test_tables(self):
-        maps = [Mapped(0x1000), Mapped(0x2000)]
+        maps = [mapped(0x1000), mapped(0x2000)]
         first = file_table([(0x1000, 0, self.other), (0x2000, 0, self.library), (0x1000, 0, self.library)])
         notes = [note(b"CORE\0", 1, b"abc"), first, file_table([(0x1000, 0, self.python)])]
-        images, _ = self.handed(core_of(maps, notes))
+        images, _ = self.handed(core_file(maps, notes))
         self.assertEqual(images, self.words(self.python, self.library))
 
     def test_libraries(self):
@@ -288,7 +247,7 @@ class Faults(Case):
     """What is no core, and what the program says."""
 
     def test_no_core(self):
-        whole = core_of([Mapped(0x1000, b"/bin/no")])
+        whole = core_file([mapped(0x1000, b"/bin/no")])
         table = whole[whole.index(b"CORE") - 12 :]
         wrong = [b"", b"text", whole[:63], whole[:100], whole[:-30], whole[:5] + b"\2" + whole[6:], table]
         wrong += [whole[:56] + b"\xff\xff" + whole[58:], whole[:32] + b"\xff" * 8 + whole[40:]]
@@ -302,7 +261,7 @@ class Faults(Case):
             self.assertEqual(out.split(b"\0"), [b"dump", b"--core=" + core.encode(), b"--layouts=" + os.fsencode(LAYOUTS)])
 
     def test_status(self):
-        core = self.put("core", core_of([Mapped(0x1000, self.put("python3.14", b"p"))]))
+        core = self.put("core", core_file([mapped(0x1000, self.put("python3.14", b"p"))]))
         line = "pystacks: no layout for Python 3.14.0\n"
         status, _, said = self.tool(core, program=self.fake(line, "sys.exit(1)"))
         self.assertEqual((status, said), (1, line))
@@ -310,7 +269,7 @@ class Faults(Case):
         self.assertEqual(status, -signal.SIGKILL)
 
     def test_own(self):
-        core = self.put("core", core_of([]))
+        core = self.put("core", core_file([]))
         cut = self.folder / "cut"
         cut.write_bytes(b"\x7fELF")
         for words, program, status, line in (
@@ -325,12 +284,12 @@ class Faults(Case):
         self.assertIn("rt run", self.tool(core, program=self.folder / "none")[2])
 
     def test_layouts(self):
-        core = self.put("core", core_of([]))
+        core = self.put("core", core_file([]))
         _, out, _ = self.tool(core, "--layouts", "my.toml")
         self.assertEqual(out.split(b"\0")[2:], [b"--layouts=my.toml"])
 
     def test_options(self):
-        core = self.put("core", core_of([]))
+        core = self.put("core", core_file([]))
         expected = [b"--layouts=" + os.fsencode(LAYOUTS)]
         for words, added in ((["-l"], ["-l"]), (["-ll", "-j"], ["-l", "-l", "-j"]), (["-j", "--locals"], ["-l", "-j"])):
             status, out, said = self.tool(core, *words)
@@ -338,7 +297,7 @@ class Faults(Case):
             self.assertEqual(out.split(b"\0")[2:], expected + [os.fsencode(it) for it in added])
 
     def test_machine(self):
-        whole = core_of([])
+        whole = core_file([])
         core = self.put("core", whole[:18] + b"\xb7" + whole[19:])
         status, out, said = self.tool(core)
         self.assertEqual((status, out, said.count("\n")), (2, b"", 1))
@@ -366,78 +325,9 @@ class Layouts(unittest.TestCase):
         self.assertEqual(whole, {"layout": [table for it in tables for table in it["layout"]]})
 
 
-HEAP = {
-    0x8: 0x10040,
-    0x50: 0x10000,
-    0x58: 0x10080,
-    0x60: 0x7F00,
-    0x90: 0x10100,
-    0x98: 0x100C0,
-    0xD0: 0x10140,
-    0x118: 3,
-    0x120: 0x10180,
-    0x128: 0x101D0,
-    0x158: 1,
-    0x160: 0x10180,
-    0x168: 0x10220,
-    0x190: 4,
-    0x1A0: 0x64,
-    0x1B0: int.from_bytes(b"a.py", "little"),
-    0x1E0: 1,
-    0x1F0: 0x64,
-    0x200: ord("f"),
-    0x230: 8,
-    0x240: 0x64,
-    0x250: int.from_bytes(b"<module>", "little"),
-}
-"""An interpreter at 0x10000, a thread at 0x10040, frames at 0x10080 and 0x100c0, their code and texts, by the example
-of docs/LAYOUTS.md."""
-
-IMAGE = {
-    0: 0x102464C457F,
-    16: 0x3E0000,
-    32: 0x40,
-    40: 0x88,
-    48: 0x38000000000000,
-    56: 0x2000300400001,
-    64: 0x500000001,
-    80: 0x400000,
-    104: 0x1000,
-    120: 0x732E007373622E00,
-    128: 0x62617274747368,
-    200: 0x800000001,
-    216: 0x500000,
-    232: 0x10,
-    264: 0x300000006,
-    288: 0x78,
-    296: 0x10,
-}
-"""A program of code at 0x400000 and a bss of 16 bytes at 0x500000."""
-
-TEXT = b"""Python v3.9.0
-
-Thread 0x7F00
-    f (a.py)
-    <module> (a.py)
-"""
-
-
 def small_core(name: bytes) -> bytes:
-    """A core of that interpreter, in a program of this name."""
-    bss = struct.pack("<2Q", 0x400000, 0x10000)
-    return core_of(
-        [
-            Mapped(0x10000, None, 6, with_words(616, HEAP)),
-            Mapped(0x400000, name, size=0x1000),
-            Mapped(0x500000, None, 6, bss),
-        ]
-    )
-
-
-def example_layout() -> str:
-    """The example of docs/LAYOUTS.md."""
-    text = (ROOT / "docs" / "LAYOUTS.md").read_text(encoding="utf-8")
-    return text.split("```toml\n")[1].split("```")[0]
+    """The small core, in a program of this name."""
+    return core_file([heap().segment(6), mapped(0x400000, name, size=0x1000), bss()])
 
 
 @unittest.skipUnless(PROGRAM.is_file(), "the program isn't built")
@@ -452,12 +342,12 @@ class Real(Case):
     def setUp(self):
         super().setUp()
         for name in ("python3.9", "python3.14"):
-            self.put(f"container/usr/bin/{name}", with_words(328, IMAGE))
+            self.put(f"container/usr/bin/{name}", IMAGE)
         self.layout = self.folder / "example.toml"
-        self.layout.write_text(example_layout(), encoding="utf-8")
+        self.layout.write_text(EXAMPLE, encoding="utf-8")
 
     def test_stack(self):
-        self.assertEqual(self.ran(b"/usr/bin/python3.9", "--layouts", self.layout), (0, TEXT, ""))
+        self.assertEqual(self.ran(b"/usr/bin/python3.9", "--layouts", self.layout), (0, TEXT.encode(), ""))
 
     def test_missing(self):
         status, out, said = self.ran(b"/usr/bin/python3.8", "--layouts", self.layout)
