@@ -17,6 +17,7 @@ from pathlib import Path
 from typing import List, Optional
 
 import rows_dump
+import rows_search
 import rows_walk
 from row import Row
 
@@ -79,7 +80,7 @@ def main() -> int:
     parser.add_argument("--only", default="", help="the rows in whose name this stands")
     parser.add_argument("--list", action="store_true", help="print the names of the rows, and run none")
     words = parser.parse_args()
-    rows = [row for row in [*rows_walk.rows(), *rows_dump.rows()] if words.only in row.what]
+    rows = [row for row in [*rows_walk.rows(), *rows_dump.rows(), *rows_search.rows()] if words.only in row.what]
     names = [row.what for row in rows]
     assert len(set(names)) == len(names), "two rows of one name"
     if words.list:
