@@ -18,7 +18,24 @@ CODE = Segment(0x400000, b"", 5, 0x1000)
 
 def rows() -> List[Row]:
     """All of them."""
-    return [*versions(), *facts(), *kept_symbols(), *candidates(), *sections(), *heads(), *locks()]
+    return [*libraries(), *versions(), *facts(), *kept_symbols(), *candidates(), *sections(), *heads(), *locks()]
+
+
+def libraries() -> Iterator[Row]:
+    """Which of two maps is Python's library, whose image is then the one that is needed."""
+    program = b"/usr/bin/x"
+    for path, is_library in (
+        (b"/tmp/_MEIOqzg01/libpython2.7.so.1.0", True), (b"./libpython2.7.so", True), (b"/usr/lib/libpython3.4d.so", True),
+        (b"/usr/lib/x86_64-linux-gnu/libboost_python-py27.so.1.58.0", False), (b"/libpython3.10.so", True),
+        (b"/libpython3.10m.so", True), (b"/libpython3.9u.so.1.0", True), (b"/libpython3.9x.so", False),
+        (b"/libpython3.100.so", False), (b"/libpython3.10so", True), (b"/libpython3x9mso", True),
+        (b"/libpython3\xc3\xa99\xe2\x82\xacso", True), (b"/libpython3\n9.so", False), (b"/libpython3.9\nso", False),
+        (b"libpython3.9.so", False), (b"/libpython3.so", False), (b"/libpython/libpython3.9.so", True),
+        (b"/libpython3.9.so\xff", False), (b"", False),
+    ):
+        maps = [mapped(program), Segment(0x600000, b"", 5, 0x1000, path)]
+        yield row(f"library: {path!r}", "dump -c core --layouts layouts", files_of(core_file(maps)),
+                  line=b"image not given: " + (path if is_library else program))
 
 
 NUMBERS = b"\xf0\0\x0c\3\xc1\0\x0a\3\xa5\0\x0d\3\xbf\2\x0b\3\xd4\2\x0b\3"

@@ -4,31 +4,23 @@
 
 mod binary;
 mod binary_error;
-#[cfg(test)]
-mod binary_tests;
 mod candidates;
 mod core_error;
 mod file_version;
 mod head;
 mod interpreter;
-#[cfg(test)]
-mod interpreter_tests;
 mod library;
-#[cfg(test)]
-mod library_tests;
 mod lock;
 mod lock_error;
-#[cfg(test)]
-mod lock_tests;
 mod process_info;
 mod python_version;
 mod ranges;
 mod report;
 mod search_error;
 mod symbols;
-mod version_error;
 #[cfg(test)]
-mod version_tests;
+mod tests;
+mod version_error;
 
 pub use binary::{BinaryInfo, parse_binary};
 pub use binary_error::BinaryError;
