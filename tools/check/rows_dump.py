@@ -47,7 +47,7 @@ def files_of(data: bytes, text: str = EXAMPLE, program: bytes = PROGRAM) -> Dict
 
 def rows() -> List[Row]:
     """All of them."""
-    parts = (words, causes, limits, searches, images, heads, lines, names, locals_rows, values, trees, unread)
+    parts = (words, causes, limits, searches, images, heads, lines, families_of_lines, names, locals_rows, values, trees, unread)
     return [it for part in parts for it in part()]
 
 
@@ -225,6 +225,34 @@ def lines() -> Iterator[Row]:
         yield row(f"dump: line: {what}", GOOD, files_of(data), TEXT.replace("f (a.py)", f"f (a.py{line})"))
 
 
+def families_of_lines() -> Iterator[Row]:
+    """The other families of line tables and of last instructions."""
+    start = edited(EXAMPLE, lasti='"pointer"', code=(
+        "{size=64, argcount=16, nlocals=20, first_line=24, filename=32, name=40, table=48, varnames=56, start=16}"))
+    units = edited(EXAMPLE, lasti='"units"')
+    pairs = (3, bytes([0, 1, 10, 1, 8, 1, 4, 1]))
+    ranges, locations = (10, bytes([4, 1, 2, 0x80, 6, 2])), (5, bytes.fromhex("D90000E807F8"))
+    by = lambda text, lines: edited(text, lines=f'"{lines}"')
+    for what, text, table, instruction, line in (
+        ("units of two bytes", units, pairs, 15, ":7"), ("a unit before the first", units, pairs, 0xFFFFFFFF, ""),
+        ("an address", start, pairs, CODE + 16 + 30, ":7"), ("an address before the code", start, pairs, CODE + 15, ""),
+        ("the last address", start, pairs, 2 ** 64 - 1, ""),
+        ("ranges, the first", by(EXAMPLE, "ranges"), ranges, 0, ":11"), ("ranges, one of no line", by(EXAMPLE, "ranges"), ranges, 5, ""),
+        ("ranges, behind one of no line", by(EXAMPLE, "ranges"), ranges, 6, ":13"), ("ranges, past the end", by(EXAMPLE, "ranges"), ranges, 12, ""),
+        ("locations, the first", by(EXAMPLE, "locations"), locations, 2, ":6"),
+        ("locations, one below", by(EXAMPLE, "locations"), locations, 4, ":3"),
+        ("locations, one of no line", by(EXAMPLE, "locations"), locations, 6, ""),
+        ("locations, cut", by(EXAMPLE, "locations"), (5, locations[1][:4]), 4, ""),
+        ("locations, before the cut", by(EXAMPLE, "locations"), (5, locations[1][:4]), 2, ":6"),
+    ):
+        objects = heap(text)
+        place = objects.table(table[1])
+        objects.record("code", CODE, filename=CODE + 0x80, name=FUNCTION, first_line=table[0], table=place)
+        objects.write(FRAME + 32, instruction.to_bytes(8, "little"))
+        yield row(f"dump: line: {what}", GOOD, files_of(core_file([objects.segment(6), mapped(), bss()]), text),
+                  TEXT.replace("f (a.py)", f"f (a.py{line})"))
+
+
 def names() -> Iterator[Row]:
     """The names of threads are those of the map of threading, if each part of it can be read."""
 
@@ -299,12 +327,56 @@ def locals_rows() -> Iterator[Row]:
         frame = struct.unpack_from("<Q", data, 64 + 56 * 4 + THREAD - HEAP + 24)[0]
         yield row(f"dump: locals: {what}", f"{GOOD} -l", files_of(data), line=line.format(frame))
 
+    yield from local_causes()
+
     def nameless(objects: Objects) -> None:
         place = objects.items([objects.record("string", None, length=-1, state=100)])
         objects.record("code", CODE, filename=CODE + 0x80, name=FUNCTION, nlocals=1, varnames=place)
 
     yield row("dump: locals: a name that is no text", f"{GOOD} -l", files_of(small(nameless)),
               line=f"bad variable name or count in frame 0x{FRAME:x}")
+
+
+def local_causes() -> Iterator[Row]:
+    """Counts of arguments and variables, and which part of a local is missing first: the tuple's record, the word of a
+    name, the name, the slot."""
+    code, slots, names_at, long_at, nowhere = CODE, HEAP + 0x300, HEAP + 0x400, HEAP + 0x800, 0xDEAD0000
+
+    def made(arguments: int, variables: int, names: Optional[Sequence[int]], items: int = 3) -> bytes:
+        objects = heap(locals_at=HEAP)
+        objects.record("code", code, filename=code + 0x80, name=FUNCTION, argcount=arguments, nlocals=variables,
+                       varnames=nowhere if names is None else names_at)
+        frame = objects.frame([0, 1, 0x9001], slots, code=code, back=CALLER)
+        objects.word(THREAD + 24, frame)
+        objects.items(names or (), names_at)
+        objects.record("tuple", names_at, count=items)
+        texts = [objects.text(text, long_at + 0x80 * number) for number, text in enumerate("abc")]
+        objects.record("string", long_at + 0x180, length=4096, state=100)
+        objects.text("x" * 4095, long_at + 0x200)
+        for number, name in enumerate(names or ()):
+            objects.word(names_at + 24 + 8 * number, texts[name] if name < 3 else name)
+        return core_file([objects.segment(6), mapped(), bss()])
+
+    def local(is_argument: bool) -> Dict[str, object]:
+        return {"addr": 0x9000, "arg": is_argument, "name": "c", "repr": None}
+
+    frame = HEAP + 0x300
+    shown = lambda *found: tree(frame_tree("f", True, False, list(found)), frame_tree("<module>", True, True, []))
+    marked = lambda is_argument: shown(local(is_argument)).replace('"repr": null', '"repr": "?"')
+    bad = f"bad variable name or count in frame 0x{frame:x}"
+    too_long, longest = HEAP + 0x800 + 0x180, HEAP + 0x800 + 0x200
+    for what, data, out, line in (
+        ("two arguments", made(2, 3, (0, 1, 2)), marked(False), ""), ("three arguments", made(3, 3, (0, 1, 2)), marked(True), ""),
+        ("arguments below 0", made(-1, 3, (0, 1, 2)), marked(True), ""), ("variables without values", made(2, 2, (0, 1, 2)), shown(), ""),
+        ("no variables", made(2, 0, (0, 1, 2)), shown(), ""), ("a tuple that states less", made(2, 3, (0, 1, 2), 1), marked(False), ""),
+        ("a name of 4095 characters", made(2, 3, (0, longest, 2)), marked(False), ""),
+        ("a count below 0, before the names", made(2, -1, None), "", bad),
+        ("a count of 65536, before the names", made(2, 65536, None), "", "a frame counts 65536 locals"),
+        ("no names, and no variables", made(2, 0, None), "", "unreadable at 0xdead0000, 24 bytes"),
+        ("a name that is missing", made(2, 3, (0, nowhere, 2)), "", "unreadable at 0xdead0000, 72 bytes"),
+        ("a name of 4096 characters", made(2, 3, (0, too_long, 2)), "", bad),
+    ):
+        yield row(f"dump: locals: {what}", f"{GOOD} -lj", files_of(data), out, line)
 
 
 def values() -> Iterator[Row]:
