@@ -403,12 +403,22 @@ def values() -> Iterator[Row]:
         found = objects.record("float", None, value=struct.unpack("<Q", struct.pack("<d", 1.5))[0])
         return objects.of_class(found, objects.klass("float", 0))
 
+    def of_dict(objects: Objects, numbers: int, texts: int) -> int:
+        keys = objects.record("keys", None, used=2, slots=8)
+        entries = keys + objects.group("keys")["size"] + 8
+        objects.write(entries, bytes(48))
+        objects.word(entries + 32, objects.text("k", klass=texts))
+        objects.word(entries + 40, objects.number(1, numbers))
+        return objects.of_class(objects.record("dict", None, keys=keys), objects.klass("dict", 29))
+
     letters = lambda count: lambda objects, numbers, texts: objects.text("x" * count, klass=texts)
     yield shown("a text of 200 letters", letters(200), '"' + "x" * 123 + '..."')
     yield shown("a text of 200 letters, twice", letters(200), '"' + "x" * 200 + '"', "-ll")
     yield shown("a list", lambda objects, numbers, texts: list_of(
         objects, [objects.text("s", klass=texts), objects.number(7, numbers)]), '["s", 7]')
     yield shown("a list that holds itself", itself, "[" * 58 + "..." + "]" * 58)
+    yield shown("a list that holds itself, past 256 levels", itself, "?", "-lllll")
+    yield shown("a dict with an empty slot", of_dict, '{"k": 1}')
     yield shown("a count below 0", lambda objects, numbers, texts: list_of(objects, [], -1), "?")
     yield shown("a truth", lambda objects, numbers, texts: objects.number(1, objects.klass("bool", 24)), "True")
     yield shown("a float", of_float, "float 0x3ff8000000000000")

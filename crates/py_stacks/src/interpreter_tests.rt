@@ -1,8 +1,8 @@
 //! The test of an interpreter, in its two steps.
+use crate::tests::piece;
 use crate::{StackError, get_first_thread, is_interpreter, is_interpreter_from};
-use process_memory::{Part, Piece};
+use process_memory::Part;
 use py_fields::Layout;
-use std::alloc::{AllocError, Global};
 use std::test::Fail;
 
 /// Two interpreters, whose first thread is the same one; it names the first.
@@ -12,14 +12,6 @@ const OTHER: u64 = 0x2000;
 
 /// Where that thread stands.
 const THREAD: u64 = 0x3000;
-
-fn piece(alloc: Global, start: u64, words: &[u64]) -> Result<Piece, AllocError> {
-    let mut bytes = Vec::new(alloc);
-    for word in words {
-        bytes.extend_from_slice(&word.to_le_bytes())?;
-    }
-    Ok(Piece { start, bytes })
-}
 
 /// An address, its first thread where that is known, and whether it is an interpreter.
 const ROWS: [(u64, Option<u64>, bool); 3] = [

@@ -37,12 +37,4 @@ pub use trace::{Addresses, Frame, LocalVariable, StackTrace};
 #[cfg(test)]
 mod interpreter_tests;
 #[cfg(test)]
-mod line_tests;
-#[cfg(test)]
-mod local_tests;
-#[cfg(test)]
-mod owner_tests;
-#[cfg(test)]
-mod shown_tests;
-#[cfg(test)]
 mod tests;
