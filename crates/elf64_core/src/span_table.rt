@@ -1,4 +1,4 @@
-//! Tables of ranges of addresses, which are looked up by halving them.
+//! Tables of ranges of addresses, which ascend and don't meet.
 ghost use Rattle.std.specs.Prelude.{◌≡◌, ◌+◌, ◌<◌, List, length, slice_get, Some};
 ghost use Rattle.elf64_core.specs.SpanTables.{AreSpans};
 ghost use Rattle.elf64_core.specs.declared.span_table.TableEntry.{TableEntry as Entry};
@@ -23,7 +23,8 @@ pub struct TableEntry {
 /// Ranges of addresses in ascending order, none empty, of which no two meet. Each ends at 2^64 - 1 at most,
 /// and there are fewer than 2^32.
 ///
-/// Contracts see it as the list of its entries. An entry is had by `probe` alone, which counts a step.
+/// Contracts see it as the list of its entries. `probe` hands an entry out, and counts a step on the counter that
+/// it is given; no clause says that nothing else looks at the entries, as printing by `Debug` does.
 #[derive(Debug, Drop)]
 pub struct SpanTable {
     entries: Vec<TableEntry>,
@@ -54,7 +55,7 @@ impl SpanTable {
         self.entries.len() as u32
     }
 
-    /// The entry of a number, from 0 on. It counts one step, and takes no memory.
+    /// The entry of a number, from 0 on. It adds one step to the counter that is handed in, and takes no memory.
     pub fn probe<L: Ledger>(&self, index: u32, steps: &mut Steps<L>) -> TableEntry
         requires { index < length self.now }
         ensures entry { slice_get self.now index ≡ Some result }

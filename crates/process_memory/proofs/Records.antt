@@ -1,8 +1,9 @@
 -- Records of a memory, byte by byte, and of each memory that agrees with it.
-use Rattle.std.proofs.Common.{◌≡◌, ℕ, zero, suc, ◌+◌, ◌-◌, ◌<◌, ◌≤◌, ◌^◌, true, false, cond, ltb, List, [], ◌∷◌, length, get_or, refl, ap, ◌∙◌, rules, arith, add-zero, add_assoc}
+use Rattle.std.proofs.Common.{◌≡◌, ℕ, zero, suc, ◌+◌, ◌-◌, ◌<◌, ◌≤◌, ◌^◌, true, false, cond, ltb, List, [], ◌∷◌, ◌++◌, length, get_or, take, drop, refl, sym, ap, ◌∙◌, rules, arith, add-zero, add_assoc}
 use Rattle.std.specs.Prelude.{Option, Some, None, IsSome, IfOk, Result, Ok, Err, vec_len}
 use Rattle.std.specs.Global.{Vec}
 use Rattle.std.proofs.lemmas.Bool.Decides.{nat_tests}
+use Rattle.std.proofs.Math.Seq.{take-append_seam}
 use Rattle.process_memory.specs.declared.memory.ReadFault.{ReadFault}
 use Rattle.process_memory.specs.Memory.Fault.{Missing}
 use Rattle.process_memory.specs.Memory.{Memory, Region, byte_at, bytes_at, in_front, found_or, outside, record_at, Fault}
@@ -148,6 +149,16 @@ record_length m a n bs =
 pub answer_length : (m : Memory) (a n : ℕ) (r : Result (Vec ℕ) ReadFault) → Answers fault_of (record_at m a n) (items_of r) → IfOk r (λ v. vec_len v ≡ n)
 answer_length m a n (Ok v) p = rw (v.ok.0) (record_length m a n v.items p.is)
 answer_length m a n (Err e) p = tt
+
+-- a buffer of so many bytes that was filled
+pub record_filled : (m : Memory) (a n count : ℕ) (buf old : List ℕ) → a < 2 ^ 64 → count ≡ length buf → length buf ≡ n → ((k : ℕ) → k < length buf → m (a + k) ≡ Some (get_or buf k 0)) → record_at m a n ≡ Ok (take count (buf ++ drop (length buf) old))
+record_filled m a n count buf old lt few long h =
+    ap (record_at m a) (sym long) ∙ record_each m a buf lt h
+    ∙ ap Ok (sym (ap (λ i. take i (buf ++ drop (length buf) old)) few ∙ take-append_seam buf (drop (length buf) old)))
+
+-- what was read is in memory
+pub answer_holds : {E : Type 0} {fault : E → Option Fault} (m : Memory) (a n : ℕ) (bs : List ℕ) → Answers fault (record_at m a n) (Ok bs) → (k : ℕ) → k < n → IsSome (m (a + k))
+answer_holds m a n bs p = record_all m a n bs p.is
 
 -- a range that starts past the last address
 pub record_past : (m : Memory) (a n : ℕ) → 2 ^ 64 ≤ a → 0 < n → record_at m a n ≡ Err (Missing (2 ^ 64 - 1) n)

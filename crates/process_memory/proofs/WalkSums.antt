@@ -3,7 +3,7 @@
 use Rattle.std.proofs.Common.{◌≡◌, ◌≢◌, ℕ, zero, suc, ◌+◌, ◌*◌, ◌≤◌, List, [], ◌∷◌, length, map, refl, sym, ◌∙◌, ap, arith}
 use Rattle.std.proofs.Math.Nat.{mul-add}
 use Rattle.std.specs.Prelude.{Ok, Err, IsOkAnd, ⊤}
-use Rattle.process_memory.specs.Memory.{Found, Fault, ◌>>=◌}
+use Rattle.process_memory.specs.Memory.{Found, Fault}
 use Rattle.process_memory.specs.Walk.{IsChain, Step, cost_next, walk_at, walk_cost}
 
 module _ {S T : Type 0} (step : S → ℕ → Found (Step S T)) where

@@ -74,6 +74,10 @@ Extends (Some xs) (Some ys) = (zs : List Span) × (ys ≡ xs ++ zs)
 abbrev pub HoldsSpan : Memory → Span → Type 0
 HoldsSpan m s = (k : ℕ) → k < s.len → IsSome (m (s.start + k))
 
+-- all bytes of a range are in memory
+abbrev pub HoldsRange : Seen → (addr len : ℕ) → Type 0
+HoldsRange seen addr len = HoldsSpan (byte_at seen.pieces) (record { start = addr; len = len })
+
 -- the memory holds what was read: the added ranges where they are kept, and else all of the memory
 abbrev pub HoldsRead : Option (List Span) → Option (List Span) → Memory → Memory → Type 0
 HoldsRead None new whole m = (a : ℕ) → IsSome (whole a) → IsSome (m a)

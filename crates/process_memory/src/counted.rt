@@ -1,6 +1,6 @@
 //! A memory whose reads are counted.
 ghost use Rattle.std.specs.Prelude.{◌≡◌, ◌+◌, ◌<◌, length, OnErr, IsErrOf, IsTrue};
-ghost use Rattle.process_memory.specs.Seen.{OneRead, with_bytes, items_of};
+ghost use Rattle.process_memory.specs.Seen.{OneRead, HoldsRange, with_bytes, items_of};
 ghost use Rattle.process_memory.specs.Layers.{counted};
 
 use crate::{ProcessMemory, ReadFault};
@@ -43,6 +43,7 @@ impl<'s, P: ProcessMemory, L: Ledger> ProcessMemory for Counted<'s, P, L> {
     fn copy(&mut self, alloc: Global, addr: u64, len: u64) -> Result<Vec<u8>, ReadFault>
         ensures law { OneRead (counted (P.seen self.old.inner) self.old.steps.now self.old.steps.ghost_name)
             (counted (P.seen self.new.inner) self.new.steps.now self.new.steps.ghost_name) addr len (items_of result) }
+        ensures held { IsErrOf result ReadFault.OutOfMemory → HoldsRange (P.seen self.old.inner) addr len }
         ensures ticks { self.new.steps.now ≡ self.old.steps.now + 1 }
     {
         self.steps.tick(); // A copy is one read too.

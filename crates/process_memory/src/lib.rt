@@ -18,6 +18,6 @@ mod tests;
 pub use counted::Counted;
 pub use memory::{ProcessMemory, ReadFault, Span};
 pub use part::{Part, Piece};
-pub use pieces::{Pieces, read_pieces};
+pub use pieces::{Pieces, copy_pieces, read_pieces};
 pub use readers::{record, record_in, record_wide, word, word_past, word_wide};
 pub use recorder::Recorder;

@@ -1,6 +1,6 @@
 //! What a process's memory is to its readers.
 ghost use Rattle.std.specs.Prelude.{◌≡◌, length, OnErr, IsErrOf, IsTrue};
-ghost use Rattle.process_memory.specs.Seen.{Seen, OneRead, with_bytes, items_of};
+ghost use Rattle.process_memory.specs.Seen.{Seen, OneRead, HoldsRange, with_bytes, items_of};
 
 use std::alloc::Global;
 use thiserror::Error;
@@ -42,17 +42,11 @@ pub trait ProcessMemory {
         ensures memory { IsErrOf result ReadFault.OutOfMemory → IsTrue (seen self.old).may_want_memory };
 
     /// A copy of the `len` bytes from `addr` on. Ok exactly where every byte is in memory; else
-    /// `Unreadable` names the range. Its memory is taken before anything is read.
+    /// `Unreadable` names the range. Memory is wanted only where the whole range is in memory: so a range
+    /// that isn't there is refused, however long it is.
     fn copy(&mut self, alloc: Global, addr: u64, len: u64) -> Result<Vec<u8>, ReadFault>
-        ensures { OneRead (seen self.old) (seen self.new) addr len (items_of result) }
-    {
-        let mut bytes = match vec![in alloc; 0u8; len as usize] {
-            Ok(bytes) => bytes,
-            Err(_) => return Err(ReadFault::OutOfMemory),
-        };
-        self.read(addr, &mut bytes)?;
-        Ok(bytes)
-    }
+        ensures law { OneRead (seen self.old) (seen self.new) addr len (items_of result) }
+        ensures held { IsErrOf result ReadFault.OutOfMemory → HoldsRange (seen self.old) addr len };
 }
 
 impl<P: ProcessMemory> ProcessMemory for &mut P {

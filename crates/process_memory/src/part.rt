@@ -4,7 +4,7 @@ ghost use Rattle.process_memory.specs.Memory.{Region};
 ghost use Rattle.process_memory.specs.Pieces.{region_of};
 ghost use Rattle.process_memory.specs.Layers.{plain};
 
-use crate::pieces::{Pieces, read_pieces};
+use crate::pieces::{Pieces, copy_pieces, read_pieces};
 use crate::{ProcessMemory, ReadFault};
 use std::alloc::Global;
 use std::marker::Model;
@@ -58,5 +58,9 @@ impl ProcessMemory for Part {
 
     fn read(&mut self, addr: u64, buf: &mut [u8]) -> Result<(), ReadFault> {
         read_pieces(self, addr, buf)
+    }
+
+    fn copy(&mut self, alloc: Global, addr: u64, len: u64) -> Result<Vec<u8>, ReadFault> {
+        copy_pieces(alloc, self, addr, len)
     }
 }

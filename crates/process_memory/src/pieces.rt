@@ -2,10 +2,11 @@
 ghost use Rattle.std.specs.Prelude.{◌≡◌, ℕ, ◌+◌, ◌<◌, ◌≤◌, List, length, slice_get, slice_index, EachIndex, IsSome, IfSome, option_map, Some, None, OnErr, IsErrOf};
 ghost use Rattle.std.specs.Bool.{OnTrue, OnFalse};
 ghost use Rattle.process_memory.specs.Memory.{Region, byte_at, record_at};
-ghost use Rattle.process_memory.specs.Seen.{Answers, fault_of, with_bytes};
+ghost use Rattle.process_memory.specs.Seen.{Answers, fault_of, items_of, with_bytes};
 ghost use Rattle.process_memory.specs.Pieces.{run_in};
 
 use crate::ReadFault;
+use std::alloc::Global;
 
 /// Pieces of memory, by number.
 ///
@@ -116,4 +117,29 @@ pub fn read_pieces<P: Pieces>(pieces: &P, addr: u64, buf: &mut [u8]) -> Result<(
     }
     fill(pieces, addr, buf);
     Ok(())
+}
+
+/// A copy of the `len` bytes from `addr` on, each that of the first piece that holds its address.
+///
+/// Ok exactly where every byte of the range is there; else `Unreadable` names the range. Memory is taken only
+/// once the whole range was looked at, as `read_pieces` does.
+pub fn copy_pieces<P: Pieces>(
+    alloc: Global,
+    pieces: &P,
+    addr: u64,
+    len: u64,
+) -> Result<Vec<u8>, ReadFault>
+    ensures gives { Answers fault_of (record_at (byte_at (P.regions pieces.now)) addr len) (items_of result) }
+    ensures held { IsErrOf result ReadFault.OutOfMemory
+        → (k : ℕ) → k < len → IsSome (byte_at (P.regions pieces.now) (addr + k)) }
+{
+    if !holds(pieces, addr, len as usize) {
+        return Err(ReadFault::Unreadable { addr, len });
+    }
+    let mut bytes = match vec![in alloc; 0u8; len as usize] {
+        Ok(bytes) => bytes,
+        Err(_) => return Err(ReadFault::OutOfMemory),
+    };
+    fill(pieces, addr, &mut bytes);
+    Ok(bytes)
 }

@@ -1,7 +1,7 @@
 //! Readers of one record or one word.
 ghost use Rattle.std.specs.Prelude.{◌≡◌, ◌+◌, ◌<◌, ◌^◌, length, OnErr, IfOk, IsErrOf, IsTrue, vec_len};
 ghost use Rattle.process_memory.specs.Memory.{record_at, word_at};
-ghost use Rattle.process_memory.specs.Seen.{with_bytes, items_of, Reads, fault_of};
+ghost use Rattle.process_memory.specs.Seen.{with_bytes, items_of, HoldsRange, Reads, fault_of};
 
 use crate::{ProcessMemory, ReadFault};
 use std::alloc::Global;
@@ -24,7 +24,8 @@ pub fn record_in<P: ProcessMemory>(
     process.read(addr, buf)
 }
 
-/// A copy of the `len` bytes at an address, fewer than 65536. One read.
+/// A copy of the `len` bytes at an address, fewer than 65536. One read. Memory is wanted only where they are
+/// in memory.
 pub fn record<P: ProcessMemory>(
     alloc: Global,
     process: &mut P,
@@ -35,12 +36,13 @@ pub fn record<P: ProcessMemory>(
     ensures answer { Reads fault_of 1 (P.seen process.old) (P.seen process.new) (λ m. record_at m addr len)
         (items_of result) }
     ensures whole { IfOk result (λ v. vec_len v ≡ len) }
+    ensures held { IsErrOf result ReadFault.OutOfMemory → HoldsRange (P.seen process.old) addr len }
 {
     process.copy(alloc, addr, len)
 }
 
 /// A copy of the `len` bytes, fewer than 65536, at an address that may be past the last one. At most one
-/// read.
+/// read. Memory is wanted only where they are in memory.
 pub fn record_wide<P: ProcessMemory>(
     alloc: Global,
     process: &mut P,
@@ -51,6 +53,7 @@ pub fn record_wide<P: ProcessMemory>(
     ensures answer { Reads fault_of 1 (P.seen process.old) (P.seen process.new) (λ m. record_at m addr len)
         (items_of result) }
     ensures whole { IfOk result (λ v. vec_len v ≡ len) }
+    ensures held { IsErrOf result ReadFault.OutOfMemory → HoldsRange (P.seen process.old) addr len }
 {
     if addr < ADDRESSES {
         return record(alloc, process, addr as u64, len);

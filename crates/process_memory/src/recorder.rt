@@ -6,7 +6,7 @@ use crate::{ProcessMemory, ReadFault, Span};
 use std::alloc::Global;
 
 /// A memory, and the ranges that were read from it with Ok, in order. Each read may want memory, for its
-/// range.
+/// range; a copy only where the range is in memory.
 #[derive(Drop)]
 pub struct Recorder<P> {
     inner: P,
@@ -44,6 +44,14 @@ impl<P: ProcessMemory> ProcessMemory for Recorder<P> {
         match self.spans.push(Span { start: addr, len }) {
             Ok(()) => Ok(()),
             Err(_) => unreachable!(),
+        }
+    }
+
+    fn copy(&mut self, alloc: Global, addr: u64, len: u64) -> Result<Vec<u8>, ReadFault> {
+        let bytes = self.inner.copy(alloc, addr, len)?;
+        match self.spans.push(Span { start: addr, len }) {
+            Ok(()) => Ok(bytes),
+            Err(_) => Err(ReadFault::OutOfMemory),
         }
     }
 }

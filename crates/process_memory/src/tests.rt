@@ -139,6 +139,18 @@ fn ranges_are_those_read_with_ok(rt: HostRuntime) -> Result<(), Fail> {
     Ok(())
 }
 
+#[test]
+fn a_range_that_is_not_there_asks_for_no_memory(rt: HostRuntime) -> Result<(), Fail> {
+    let alloc = rt.alloc();
+    let mut recorder = Recorder::new(alloc, part(alloc)?);
+    for len in [1 << 62, u64::MAX] {
+        let fault = ReadFault::Unreadable { addr: 0x1000, len };
+        assert!(rt; recorder.copy(alloc, 0x1000, len).err() == Some(fault));
+    }
+    assert_eq!(rt; recorder.ranges(), [].as_slice());
+    Ok(())
+}
+
 /// How many addresses there are.
 const ADDRESSES: u128 = 0x1_0000_0000_0000_0000;
 

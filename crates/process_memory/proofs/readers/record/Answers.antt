@@ -3,7 +3,7 @@ use Rattle.process_memory.proofs.Records.{answer_length}
 use Rattle.process_memory.proofs.readers.record.Goals as goal
 
 pub returns-clause-answer : goal.returns-clause-answer
-returns-clause-answer g c = reading_one c.requires c.copy.ensures
+returns-clause-answer g c = reading_one c.requires c.copy.ensures.law
 
 pub returns-clause-whole : goal.returns-clause-whole
-returns-clause-whole g c = answer_length _ c.args.addr c.args.len c.copy.result (reading_here (reading_one c.requires c.copy.ensures))
+returns-clause-whole g c = answer_length _ c.args.addr c.args.len c.copy.result (reading_here (reading_one c.requires c.copy.ensures.law))
