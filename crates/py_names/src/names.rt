@@ -1,5 +1,5 @@
 //! The names of an interpreter's threads.
-ghost use Rattle.std.specs.Prelude.{◌≡◌, ◌+◌, ◌*◌, ◌≤◌, ◌++◌, ℕ, IfOk, OnOk};
+ghost use Rattle.std.specs.Prelude.{◌≡◌, ◌≢◌, ◌+◌, ◌*◌, ◌≤◌, ◌++◌, ℕ, IfOk, OnOk};
 ghost use Rattle.process_memory.specs.Memory.{byte_at};
 ghost use Rattle.process_memory.specs.Seen.{Reads, ReadsBy, ReadingBy, items_of};
 ghost use Rattle.py_fields.specs.Sound.{IsSound};
@@ -12,7 +12,7 @@ use crate::typed::{read_plain_dict, read_type, read_typed_dict};
 use elf64_core::Text;
 use process_memory::{ProcessMemory, word_past};
 use py_fields::{Dicts, Layout};
-use py_objects::{DictCursor, Slot, copy_long, copy_string};
+use py_objects::{DictCursor, ObjectError, Slot, copy_long, copy_string};
 use std::alloc::{AllocFailed, Global};
 use std::collections::BTreeMap;
 
@@ -43,7 +43,8 @@ fn read_name<P: ProcessMemory>(
     found: Option<u64>,
 ) -> Result<Option<Named>, NamesError>
     requires sound { IsSound layout.now }
-    ensures { Reads names_fault 2 (P.seen process.old) (P.seen process.new) (λ m. name_at layout.now m id found) result }
+    ensures answer { Reads names_fault 2 (P.seen process.old) (P.seen process.new) (λ m. name_at layout.now m id found) result }
+    ensures memory { result ≢ Err (NamesError.Object ObjectError.OutOfMemory) }
 {
     match found {
         None => Ok(None),
@@ -65,8 +66,9 @@ fn read_entry<P: ProcessMemory>(
     left: u64,
 ) -> Result<Given, NamesError>
     requires sound { IsSound layout.now }
-    ensures { ReadsBy names_fault (λ m. 10 + 4 * entry_looked layout.now m key value left)
+    ensures answer { ReadsBy names_fault (λ m. 10 + 4 * entry_looked layout.now m key value left)
         (P.seen process.old) (P.seen process.new) (λ m. entry_in layout.now m key value left) result }
+    ensures memory { result ≢ Err (NamesError.Object ObjectError.OutOfMemory) }
 {
     let (number, _) = copy_long(process, layout, key)?;
     let typed = read_type(alloc, process, layout, value)?;
@@ -88,8 +90,9 @@ fn read_given<P: ProcessMemory>(
     left: u64,
 ) -> Result<Given, NamesError>
     requires sound { IsSound layout.now }
-    ensures { ReadsBy names_fault (λ m. 10 + 4 * slot_looked layout.now m left slot)
+    ensures answer { ReadsBy names_fault (λ m. 10 + 4 * slot_looked layout.now m left slot)
         (P.seen process.old) (P.seen process.new) (λ m. thread_in layout.now m left slot) result }
+    ensures memory { result ≢ Err (NamesError.Object ObjectError.OutOfMemory) }
 {
     match slot {
         Slot::Empty => Ok(Given { named: None, left }),
@@ -107,9 +110,10 @@ fn read_thread<P: ProcessMemory>(
     left: u64,
 ) -> Result<Given, NamesError>
     requires sound { IsSound layout.now }
-    ensures { ReadsBy names_fault (λ m. 12 + 4 * thread_looked layout.now m dict.now.slots number left)
+    ensures answer { ReadsBy names_fault (λ m. 12 + 4 * thread_looked layout.now m dict.now.slots number left)
         (P.seen process.old) (P.seen process.new)
         (λ m. thread_at layout.now m dict.now.slots number left) result }
+    ensures memory { result ≢ Err (NamesError.Object ObjectError.OutOfMemory) }
 {
     let slot = dict.slot(process, number)?;
     read_given(alloc, process, layout, slot, left)
@@ -135,10 +139,11 @@ fn read_each<P: ProcessMemory>(
 ) -> Result<Vec<Named>, NamesError>
     requires sound { IsSound layout.now }
     requires start { dict.now.passed ≡ 0 }
-    ensures { ReadsBy names_fault
+    ensures answer { ReadsBy names_fault
         (λ m. 12 * each_looked layout.now m dict.now.slots dict.now.slots.count 0 limit)
         (P.seen process.old) (P.seen process.new)
         (λ m. names_from layout.now m dict.now.slots dict.now.slots.count 0 limit) (items_of result) }
+    ensures memory { result ≢ Err (NamesError.Object ObjectError.OutOfMemory) }
 {
     let mut names = Vec::new(alloc);
     let mut left = limit;
@@ -164,8 +169,9 @@ fn read_threads<P: ProcessMemory>(
     left: u64,
 ) -> Result<Vec<Named>, NamesError>
     requires sound { IsSound layout.now }
-    ensures { ReadsBy names_fault (λ m. 2 + 12 * threads_looked layout.now m found left)
+    ensures answer { ReadsBy names_fault (λ m. 2 + 12 * threads_looked layout.now m found left)
         (P.seen process.old) (P.seen process.new) (λ m. threads_at layout.now m found left) (items_of result) }
+    ensures memory { result ≢ Err (NamesError.Object ObjectError.OutOfMemory) }
 {
     match found {
         None => Ok(Vec::new(alloc)),
@@ -186,9 +192,10 @@ fn read_module<P: ProcessMemory>(
     left: u64,
 ) -> Result<Vec<Named>, NamesError>
     requires sound { IsSound layout.now }
-    ensures { ReadsBy names_fault (λ m. 7 + 12 * module_looked layout.now m found left)
+    ensures answer { ReadsBy names_fault (λ m. 7 + 12 * module_looked layout.now m found left)
         (P.seen process.old) (P.seen process.new)
         (λ m. module_names_at layout.now m found left) (items_of result) }
+    ensures memory { result ≢ Err (NamesError.Object ObjectError.OutOfMemory) }
 {
     match found {
         None => Ok(Vec::new(alloc)),
@@ -210,9 +217,10 @@ fn read_interpreter<P: ProcessMemory>(
     interpreter: u64,
 ) -> Result<Vec<Named>, NamesError>
     requires sound { IsSound layout.now }
-    ensures { ReadsBy names_fault (λ m. names_cost layout.now m interpreter)
+    ensures answer { ReadsBy names_fault (λ m. names_cost layout.now m interpreter)
         (P.seen process.old) (P.seen process.new)
         (λ m. interpreter_names_at layout.now m interpreter) (items_of result) }
+    ensures memory { result ≢ Err (NamesError.Object ObjectError.OutOfMemory) }
 {
     let modules = word_past(process, interpreter, layout.interpreter.modules as u64)?;
     let dict = DictCursor::from(process, layout, modules)?;
@@ -229,8 +237,9 @@ pub(crate) fn read_names<P: ProcessMemory>(
     interpreter: u64,
 ) -> Result<Vec<Named>, NamesError>
     requires sound { IsSound layout.now }
-    ensures { ReadsBy names_fault (λ m. names_cost layout.now m interpreter)
+    ensures answer { ReadsBy names_fault (λ m. names_cost layout.now m interpreter)
         (P.seen process.old) (P.seen process.new) (λ m. names_at layout.now m interpreter) (items_of result) }
+    ensures memory { result ≢ Err (NamesError.Object ObjectError.OutOfMemory) }
 {
     match layout.dicts {
         Dicts::Absent => Err(NamesError::NoDicts),
@@ -264,7 +273,7 @@ fn names_map(
 /// `NoDicts` comes exactly where the layout has no dicts, and `Entries` where 65536 slots of these dicts were
 /// looked at, empty ones too, and another would be. `Object` has the first fault of what is read: a part that is
 /// not in memory, a dict that is none, a key met in a search, or a name, that is no text. Else it is want of
-/// memory. At most 10 reads, and 12 for each slot that is looked at.
+/// memory, `OutOfMemory`, which `Object` never holds. At most 10 reads, and 12 for each slot that is looked at.
 pub fn thread_names_from_interpreter<P: ProcessMemory>(
     alloc: Global,
     interpreter: u64,
@@ -276,6 +285,7 @@ pub fn thread_names_from_interpreter<P: ProcessMemory>(
         (P.seen process.old) (P.seen process.new)
         (λ m. AnswersNames (names_at layout.now m interpreter) result) }
     ensures most { slots_looked_at layout.now (byte_at (P.seen process.old).pieces) interpreter ≤ 65536 }
+    ensures memory { result ≢ Err (NamesError.Object ObjectError.OutOfMemory) }
 {
     let names = read_names(alloc, process, layout, interpreter)?;
     let map = names_map(alloc, names)?;

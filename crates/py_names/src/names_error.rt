@@ -15,7 +15,7 @@ pub enum NamesError {
     /// 65536 slots of dicts were looked at, and there is another.
     #[error("more than 65536 slots")]
     Entries,
-    /// An object on the way can't be read.
+    /// An object on the way can't be read. It is never for want of memory, which has a variant of its own.
     #[error("{0}")]
     Object(ObjectError),
     /// There was no memory left.
@@ -25,9 +25,9 @@ pub enum NamesError {
 
 impl From<ObjectError> for NamesError {
     ghost use Rattle.py_objects.specs.ObjectError.{fault_of as object_fault};
-    ghost use Rattle.py_names.specs.NamesError.{names_fault};
+    ghost use Rattle.py_names.specs.NamesError.{Tells};
 
-    ghost from_gives = { λ e d. names_fault d ≡ object_fault e };
+    ghost from_gives = { λ e d. Tells d (object_fault e) };
 
     fn from(e: ObjectError) -> NamesError {
         match e {
@@ -39,9 +39,9 @@ impl From<ObjectError> for NamesError {
 
 impl From<ReadFault> for NamesError {
     ghost use Rattle.process_memory.specs.Seen.{fault_of as read_fault};
-    ghost use Rattle.py_names.specs.NamesError.{names_fault};
+    ghost use Rattle.py_names.specs.NamesError.{Tells};
 
-    ghost from_gives = { λ e d. names_fault d ≡ read_fault e };
+    ghost from_gives = { λ e d. Tells d (read_fault e) };
 
     fn from(e: ReadFault) -> NamesError {
         match e {

@@ -1,5 +1,5 @@
 //! The first entry of a dict under a name.
-ghost use Rattle.std.specs.Prelude.{◌≡◌, ◌*◌};
+ghost use Rattle.std.specs.Prelude.{◌≡◌, ◌≢◌, ◌*◌};
 ghost use Rattle.process_memory.specs.Seen.{Reads, ReadsBy};
 ghost use Rattle.py_fields.specs.Sound.{IsSound};
 ghost use Rattle.py_names.specs.NamesError.{names_fault};
@@ -8,7 +8,7 @@ ghost use Rattle.py_names.specs.Search.{find_from, find_looked, value_at, value_
 use crate::NamesError;
 use process_memory::ProcessMemory;
 use py_fields::Layout;
-use py_objects::{DictCursor, Slot, copy_string};
+use py_objects::{DictCursor, ObjectError, Slot, copy_string};
 use std::alloc::Global;
 
 /// What a search found, and how many slots may be looked at then.
@@ -28,8 +28,9 @@ fn value_named<P: ProcessMemory>(
     slot: Slot,
 ) -> Result<Option<u64>, NamesError>
     requires sound { IsSound layout.now }
-    ensures { Reads names_fault 2 (P.seen process.old) (P.seen process.new)
+    ensures answer { Reads names_fault 2 (P.seen process.old) (P.seen process.new)
         (λ m. value_named layout.now m name.now slot) result }
+    ensures memory { result ≢ Err (NamesError.Object ObjectError.OutOfMemory) }
 {
     match slot {
         Slot::Empty => Ok(None),
@@ -53,8 +54,9 @@ fn read_value<P: ProcessMemory>(
     number: u64,
 ) -> Result<Option<u64>, NamesError>
     requires sound { IsSound layout.now }
-    ensures { Reads names_fault 4 (P.seen process.old) (P.seen process.new)
+    ensures answer { Reads names_fault 4 (P.seen process.old) (P.seen process.new)
         (λ m. value_at layout.now m name.now dict.now.slots number) result }
+    ensures memory { result ≢ Err (NamesError.Object ObjectError.OutOfMemory) }
 {
     let slot = dict.slot(process, number)?;
     value_named(alloc, process, layout, name, slot)
@@ -72,10 +74,11 @@ pub(crate) fn find_in<P: ProcessMemory>(
 ) -> Result<Looked, NamesError>
     requires sound { IsSound layout.now }
     requires start { dict.now.passed ≡ 0 }
-    ensures { ReadsBy names_fault
+    ensures answer { ReadsBy names_fault
         (λ m. 4 * find_looked layout.now m name.now dict.now.slots dict.now.slots.count 0 limit)
         (P.seen process.old) (P.seen process.new)
         (λ m. find_from layout.now m name.now dict.now.slots dict.now.slots.count 0 limit) result }
+    ensures memory { result ≢ Err (NamesError.Object ObjectError.OutOfMemory) }
 {
     let mut left = limit;
     for number in 0..dict.remaining() {

@@ -1,5 +1,5 @@
 //! The type of an object, and the dict that it says the object has.
-ghost use Rattle.std.specs.Prelude.{◌≡◌, IfOk, length};
+ghost use Rattle.std.specs.Prelude.{◌≡◌, ◌≢◌, IfOk, length};
 ghost use Rattle.process_memory.specs.Memory.{word_at};
 ghost use Rattle.process_memory.specs.Seen.{Reads, fault_of as read_fault};
 ghost use Rattle.py_fields.specs.Sound.{IsSound};
@@ -11,7 +11,7 @@ use crate::NamesError;
 use elf64_core::u64_in;
 use process_memory::{ProcessMemory, ReadFault, record, word, word_past};
 use py_fields::Layout;
-use py_objects::{DictCursor, PY_TPFLAGS_MANAGED_DICT};
+use py_objects::{DictCursor, ObjectError, PY_TPFLAGS_MANAGED_DICT};
 use std::alloc::Global;
 
 /// The type of an object: its address, and its record.
@@ -32,6 +32,7 @@ pub(crate) fn read_type<P: ProcessMemory>(
     ensures answer { Reads names_fault 2 (P.seen process.old) (P.seen process.new) (λ m. type_at layout.now m addr)
         (typed_of_result result) }
     ensures whole { IfOk result (λ typed. length typed.klass.items ≡ layout.now.klass.size) }
+    ensures memory { result ≢ Err (NamesError.Object ObjectError.OutOfMemory) }
 {
     let object = record(alloc, process, addr, layout.object.size as u64)?;
     let at = u64_in(&object, layout.object.klass as usize);
@@ -73,6 +74,7 @@ pub(crate) fn read_plain_dict<P: ProcessMemory>(
     ensures answer { Reads names_fault 3 (P.seen process.old) (P.seen process.new)
         (λ m. plain_slots layout.now m addr (typed_of typed.now)) (slots_of result) }
     ensures start { IfOk result (λ cursor. cursor.passed ≡ 0) }
+    ensures memory { result ≢ Err (NamesError.Object ObjectError.OutOfMemory) }
 {
     let offset = u64_in(&typed.klass, layout.klass.dict_offset as usize);
     let dict = word_beside(process, addr, offset)?;
@@ -92,6 +94,7 @@ pub(crate) fn read_typed_dict<P: ProcessMemory>(
     ensures answer { Reads names_fault 4 (P.seen process.old) (P.seen process.new)
         (λ m. typed_slots layout.now m addr (typed_of typed.now)) (slots_of result) }
     ensures start { IfOk result (λ cursor. cursor.passed ≡ 0) }
+    ensures memory { result ≢ Err (NamesError.Object ObjectError.OutOfMemory) }
 {
     let flags = u64_in(&typed.klass, layout.klass.flags as usize);
     if flags & PY_TPFLAGS_MANAGED_DICT != 0 {

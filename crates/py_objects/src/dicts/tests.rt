@@ -143,26 +143,29 @@ fn entries_go_on_behind_a_missing_one(rt: HostRuntime) -> Result<(), Fail> {
     let alloc = rt.alloc();
     let layout = compact(Managed::Tagged);
     assert!(rt; is_sound(&layout));
-    // Four slots of 16 bytes behind an index of 8, the second of them empty; the value of the third is missing.
+    // Five slots of 16 bytes behind an index of 8, the third of them empty; the value of the fourth is missing.
     let words: [(u64, &[u64]); 4] = [
         (DICT, &[0, 0, 0, 0, KEYS, VALUES]),
         (
             KEYS,
-            &[0, 0x1_0300, 0, 4, 0, 0x11, 1, 0, 2, 0x13, 3, 0x14, 4],
+            &[
+                0, 0x1_0300, 0, 5, 0, 0x11, 1, 0x12, 2, 0, 3, 0x14, 4, 0x15, 5,
+            ],
         ),
-        (VALUES, &[0x21, 0x22]),
-        (VALUES + 24, &[0x24]),
+        (VALUES, &[0x21, 0x22, 0x23]),
+        (VALUES + 32, &[0x25]),
     ];
     let mut part = memory(alloc, &words)?;
     let mut entries = DictIterator::from(&mut part, &layout, DICT)?;
-    assert!(rt; entries.remaining() == 4);
+    assert!(rt; entries.remaining() == 5);
     assert!(rt; entries.next() == Some(Ok((0x11, 0x21))));
+    assert!(rt; entries.next() == Some(Ok((0x12, 0x22))));
     let missing = ObjectError::Unreadable {
-        addr: VALUES + 16,
+        addr: VALUES + 24,
         len: 8,
     };
     assert!(rt; entries.next() == Some(Err(missing)));
-    assert!(rt; entries.next() == Some(Ok((0x14, 0x24))));
+    assert!(rt; entries.next() == Some(Ok((0x15, 0x25))));
     assert!(rt; entries.next() == None && entries.remaining() == 0);
     Ok(())
 }

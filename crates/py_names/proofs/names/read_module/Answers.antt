@@ -9,28 +9,28 @@ use Rattle.py_names.specs.Names.{module_looked, module_names_at, threads_looked}
 use Rattle.py_names.proofs.NameCounts.{module_counts, search_counts}
 use Rattle.py_names.proofs.names.read_module.Goals as goal
 
-pub returns-in-None : goal.returns-in-None
+pub returns-in-None-clause-answer : goal.returns-in-None-clause-answer
 unfolding module_names_at
-returns-in-None g c = rw c.in-None.is (reads_end _ (sym c.new.ensures.items))
+returns-in-None-clause-answer g c = rw c.in-None.is (reads_end _ (sym c.new.ensures.items))
 
-pub returns-in_err-dict-in-Some : goal.returns-in_err-dict-in-Some
+pub returns-in_err-dict-in-Some-clause-answer : goal.returns-in_err-dict-in-Some-clause-answer
 unfolding module_names_at
-returns-in_err-dict-in-Some g c =
+returns-in_err-dict-in-Some-clause-answer g c =
     let p = err_from_is_err_and c.from_residual-in_err-dict-in-Some.result c.from_residual-in_err-dict-in-Some.ensures.1 in
     rw (c.in-Some.is, p.1) (reads_next _ _ c.in_ok-typed-in-Some.ensures.answer (reads_halt 3 p.0 _ c.in_err-dict-in-Some.ensures.answer (ap names_fault p.2) (le_refl 3)) (omega arith))
 
-pub returns-in_err-search-in-Some : goal.returns-in_err-search-in-Some
+pub returns-in_err-search-in-Some-clause-answer : goal.returns-in_err-search-in-Some-clause-answer
 unfolding module_names_at
-returns-in_err-search-in-Some g c =
+returns-in_err-search-in-Some-clause-answer g c =
     let p = err_from_is_err_and c.from_residual-in_err-search-in-Some.result c.from_residual-in_err-search-in-Some.ensures.1 in
     let n = module_looked c.args.layout.now (byte_at (g.P.ProcessMemory.seen c.args.process.now).pieces) (Some c.in-Some.addr) c.args.left in
     let count = module_counts c.args.layout.now c.in-Some.addr c.args.left c.in_ok-typed-in-Some.ensures.answer c.in_ok-dict-in-Some.ensures.answer in
-    rw (c.in-Some.is, p.1) (reads_next _ _ c.in_ok-typed-in-Some.ensures.answer (reads_next (3 + 4 * n) _ c.in_ok-dict-in-Some.ensures.answer (reads_halt (4 * n) p.0 _ c.in_err-search-in-Some.ensures (ap names_fault p.2) (omega (arith, count))) (le_refl _)) (omega arith))
+    rw (c.in-Some.is, p.1) (reads_next _ _ c.in_ok-typed-in-Some.ensures.answer (reads_next (3 + 4 * n) _ c.in_ok-dict-in-Some.ensures.answer (reads_halt (4 * n) p.0 _ c.in_err-search-in-Some.ensures.answer (ap names_fault p.2) (omega (arith, count))) (le_refl _)) (omega arith))
 
-pub returns-in_ok-search-in-Some : goal.returns-in_ok-search-in-Some
+pub returns-in_ok-search-in-Some-clause-answer : goal.returns-in_ok-search-in-Some-clause-answer
 unfolding module_names_at
-returns-in_ok-search-in-Some g c =
+returns-in_ok-search-in-Some-clause-answer g c =
     let n = module_looked c.args.layout.now (byte_at (g.P.ProcessMemory.seen c.args.process.now).pieces) (Some c.in-Some.addr) c.args.left in
     let count = module_counts c.args.layout.now c.in-Some.addr c.args.left c.in_ok-typed-in-Some.ensures.answer c.in_ok-dict-in-Some.ensures.answer in
-    let behind = search_counts c.args.layout.now (codes "_active") c.args.left (threads_looked c.args.layout.now) _ c.in_ok-search-in-Some.ensures in
-    rw c.in-Some.is (reads_next _ _ c.in_ok-typed-in-Some.ensures.answer (reads_next (5 + 12 * n) _ c.in_ok-dict-in-Some.ensures.answer (reads_next (2 + 12 * n) _ c.in_ok-search-in-Some.ensures c.read_threads.ensures (omega (arith, count, behind))) (omega arith)) (omega arith))
+    let behind = search_counts c.args.layout.now (codes "_active") c.args.left (threads_looked c.args.layout.now) _ c.in_ok-search-in-Some.ensures.answer in
+    rw c.in-Some.is (reads_next _ _ c.in_ok-typed-in-Some.ensures.answer (reads_next (5 + 12 * n) _ c.in_ok-dict-in-Some.ensures.answer (reads_next (2 + 12 * n) _ c.in_ok-search-in-Some.ensures.answer c.read_threads.ensures.answer (omega (arith, count, behind))) (omega arith)) (omega arith))

@@ -3,6 +3,6 @@ use Rattle.process_memory.proofs.Reading.{reads_end}
 use Rattle.py_names.specs.Names.{name_at}
 use Rattle.py_names.proofs.names.read_name.Goals as goal
 
-pub returns-in-None : goal.returns-in-None
+pub returns-in-None-clause-answer : goal.returns-in-None-clause-answer
 unfolding name_at
-returns-in-None g c = rw c.in-None.is (reads_end 2 refl)
+returns-in-None-clause-answer g c = rw c.in-None.is (reads_end 2 refl)

@@ -10,15 +10,15 @@ use Rattle.py_names.proofs.names.thread_names_from_interpreter.Goals as goal
 pub returns-in_err-names-clause-names : goal.returns-in_err-names-clause-names
 returns-in_err-names-clause-names g c =
     let p = err_from_is_err_and c.from_residual.result c.from_residual.ensures.1 in
-    rw p.1 (reading_gives _ _ c.in_err-names.ensures (le_refl _) (λ m a. map_fails p.0 (ap names_fault p.2) a))
+    rw p.1 (reading_gives _ _ c.in_err-names.ensures.answer (le_refl _) (λ m a. map_fails p.0 (ap names_fault p.2) a))
 
 pub returns-in_err-map-clause-names : goal.returns-in_err-map-clause-names
 returns-in_err-map-clause-names g c =
     let p = err_from_is_err_and c.from_residual-in_err-map.result c.from_residual-in_err-map.ensures.1 in
-    rw p.1 (reading_gives _ _ c.in_ok-names.ensures (le_refl _) (λ m a. map_lost p.0 (ap names_fault p.2)))
+    rw p.1 (reading_gives _ _ c.in_ok-names.ensures.answer (le_refl _) (λ m a. map_lost p.0 (ap names_fault p.2)))
 
 pub returns-clause-names : goal.returns-clause-names
-returns-clause-names g c = reading_gives _ _ c.in_ok-names.ensures (le_refl _) (λ m a. map_answers c.in_ok-map.map c.in_ok-map.ensures a)
+returns-clause-names g c = reading_gives _ _ c.in_ok-names.ensures.answer (le_refl _) (λ m a. map_answers c.in_ok-map.map c.in_ok-map.ensures a)
 
 pub returns-in_err-names-clause-most : goal.returns-in_err-names-clause-most
 returns-in_err-names-clause-most g c = slots_most c.args.layout.now _ c.args.interpreter

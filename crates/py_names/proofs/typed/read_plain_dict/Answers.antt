@@ -14,14 +14,14 @@ unfolding plain_slots
 returns-in_err-dict-clause-answer g c =
     let p = err_from_is_err_and c.from_residual.result c.from_residual.ensures.1 in
     let dict = rw (c.u64_in-offset.ensures, c.deref.ensures.value) at c.in_err-dict.ensures in
-    rw p.1 (reads_halt 3 p.0 _ dict p.2 (omega arith))
+    rw p.1 (reads_halt 3 p.0 _ dict p.2.0 (omega arith))
 
 pub returns-in_err-cursor-clause-answer : goal.returns-in_err-cursor-clause-answer
 unfolding plain_slots
 returns-in_err-cursor-clause-answer g c =
     let p = err_from_is_err_and c.from_residual-in_err-cursor.result c.from_residual-in_err-cursor.ensures.1 in
     let dict = rw (c.u64_in-offset.ensures, c.deref.ensures.value) at c.in_ok-dict.ensures in
-    rw p.1 (reads_next 3 _ dict (reads_fail p.0 c.in_err-cursor.ensures.answer p.2) (omega arith))
+    rw p.1 (reads_next 3 _ dict (reads_fail p.0 c.in_err-cursor.ensures.answer p.2.0) (omega arith))
 
 pub returns-clause-answer : goal.returns-clause-answer
 unfolding plain_slots

@@ -12,14 +12,14 @@ pub returns-in_err-object-clause-answer : goal.returns-in_err-object-clause-answ
 unfolding type_at
 returns-in_err-object-clause-answer g c =
     let p = err_from_is_err_and c.from_residual.result c.from_residual.ensures.1 in
-    rw p.1 (reads_halt 2 p.0 _ c.in_err-object.ensures.answer p.2 (omega arith))
+    rw p.1 (reads_halt 2 p.0 _ c.in_err-object.ensures.answer p.2.0 (omega arith))
 
 pub returns-in_err-klass-clause-answer : goal.returns-in_err-klass-clause-answer
 unfolding type_at
 returns-in_err-klass-clause-answer g c =
     let p = err_from_is_err_and c.from_residual-in_err-klass.result c.from_residual-in_err-klass.ensures.1 in
     let klass = rw (c.u64_in-at.ensures, c.deref.ensures.value) at c.in_err-klass.ensures.answer in
-    rw p.1 (reads_next 2 _ c.in_ok-object.ensures.answer (reads_halt 1 p.0 _ klass p.2 (omega arith)) (omega arith))
+    rw p.1 (reads_next 2 _ c.in_ok-object.ensures.answer (reads_halt 1 p.0 _ klass p.2.0 (omega arith)) (omega arith))
 
 pub returns-clause-answer : goal.returns-clause-answer
 unfolding type_at

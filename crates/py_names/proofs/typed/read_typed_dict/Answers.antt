@@ -14,7 +14,7 @@ pub returns-in_err-cursor-clause-answer : goal.returns-in_err-cursor-clause-answ
 returns-in_err-cursor-clause-answer g c =
     let p = err_from_is_err_and c.from_residual.result c.from_residual.ensures.1 in
     let flags = c.u64_in-flags.ensures ∙ ap (λ b. u64_in b c.args.layout.now.klass.flags) c.deref.ensures.value in
-    rw p.1 (reads_same _ _ (λ m. typed_managed c.args.layout.now m c.args.addr (typed_of c.args.typed.now) c.u64_in-flags.result flags c.if-flags-ne0.true) (reads_fail p.0 c.in_err-cursor.ensures.answer p.2))
+    rw p.1 (reads_same _ _ (λ m. typed_managed c.args.layout.now m c.args.addr (typed_of c.args.typed.now) c.u64_in-flags.result flags c.if-flags-ne0.true) (reads_fail p.0 c.in_err-cursor.ensures.answer p.2.0))
 
 pub returns-then-flags-ne0-clause-answer : goal.returns-then-flags-ne0-clause-answer
 returns-then-flags-ne0-clause-answer g c =

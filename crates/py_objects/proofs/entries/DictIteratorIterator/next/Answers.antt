@@ -1,8 +1,8 @@
 use Rattle.std.proofs.Common.{◌≡◌, ℕ, refl, ◌∙◌, ap, arith}
-use Rattle.std.specs.Prelude.{Result, Err}
+use Rattle.std.specs.Prelude.{Result, Ok, Err}
 use Rattle.py_objects.specs.declared.error.ObjectError.{ObjectError}
 use Rattle.py_objects.specs.declared.error.ObjectError.TheVariants.{OutOfMemory}
-use Rattle.py_objects.proofs.Nexts.{passed_more, passed_entry, passed_end, passed_fault, passed_init}
+use Rattle.py_objects.proofs.Nexts.{passed_more, passed_last, passed_end, passed_init}
 use Rattle.py_objects.proofs.entries.DictIteratorIterator.next.Goals as goal
 
 pub slots-init : goal.slots-init
@@ -25,8 +25,7 @@ returns-in-Entry-clause-steps g c =
     let slot = rw (i.dict, c.in-Ok.is, c.in-Entry.is) at c.in-Some.ensures.slot in
     record {
       dict = c.next.ensures.dict ∙ i.dict;
-      passes = omega (arith, i.passed.along, c.in-Some.ensures.passes);
-      reading = rw c.in-Some.ensures.passes.0 (passed_entry _ _ i.passed more _ (omega (arith, c.in-Some.ensures.passes)) slot);
+      reading = rw c.in-Some.ensures.passes.0 (passed_last (Ok (c.in-Entry.key, c.in-Entry.value)) i.passed more _ (omega (arith, c.in-Some.ensures.passes)) slot);
       memory = λ e. absurd (cc);
     }
 
@@ -38,8 +37,7 @@ returns-in-Err-clause-steps g c =
     let lost : ◌≡◌ {A = Result (ℕ × ℕ) ObjectError} (Err c.in-Err.error) (Err OutOfMemory) → c.in-Err.error ≡ OutOfMemory = λ e. cc in
     record {
       dict = c.next.ensures.dict ∙ i.dict;
-      passes = omega (arith, i.passed.along, c.in-Some.ensures.passes);
-      reading = rw c.in-Some.ensures.passes.0 (passed_fault _ i.passed more _ (omega (arith, c.in-Some.ensures.passes)) slot);
+      reading = rw c.in-Some.ensures.passes.0 (passed_last (Err c.in-Err.error) i.passed more _ (omega (arith, c.in-Some.ensures.passes)) slot);
       memory = λ e. rw i.passed.reading.memory at (c.in-Some.ensures.memory (c.in-Err.is ∙ ap Err (lost e)));
     }
 
@@ -49,7 +47,6 @@ returns-in-None-clause-steps g c =
     let over = rw i.dict at c.in-None.ensures.passes.1 in
     record {
       dict = c.next.ensures.dict ∙ i.dict;
-      passes = omega (arith, i.passed.along, c.in-None.ensures.passes.0);
       reading = rw c.in-None.ensures.passes.0 (passed_end i.passed over _ (omega (arith, c.in-None.ensures.passes.0)) c.in-None.ensures.slot);
       memory = tt;
     }
