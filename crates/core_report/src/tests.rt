@@ -326,8 +326,8 @@ fn walk_errors(alloc: Global) -> Result<Vec<(CoreError, &'static [u8])>, AllocEr
             b"bad variable name or count in frame 0x1f0"
         ),
         (
-            CoreError::LocalsLimit { count: -7 },
-            b"a frame counts -7 locals"
+            CoreError::LocalsLimit { count: 70000 },
+            b"a frame counts 70000 locals"
         ),
         (CoreError::ThreadLimit, b"more than 4096 threads"),
         (CoreError::FrameLimit, b"more than 4096 frames in a thread"),

@@ -10,7 +10,8 @@ use Rattle.py_process.specs.declared.binary_error.BinaryError.{BinaryError}
 use Rattle.py_process.specs.declared.binary_error.BinaryError.TheVariants.{NotElf64, BadHeader, NoBss, NoExecutable, BadBss, OutOfMemory}
 use Rattle.py_process.specs.declared.ranges.BssRange.{BssRange}
 use Rattle.py_process.specs.declared.ranges.Ranges.{Ranges}
-use Rattle.py_process.specs.Binary.{HasInfo, IsInfo, SaySame}
+use Rattle.py_process.specs.Binary.{HasInfo, IsInfo, SaysFacts, SaySame}
+use Rattle.py_process.specs.Facts.{Facts}
 use Rattle.py_process.specs.Ranges.{AreRanges, bss_range, moved_by, runtime_range, runtime_section}
 use Rattle.py_process.specs.Refusals.{HasBadBss, HasBadHeader, HasNoBss, HasNoExecutable, HasRanges, Refuses}
 use Rattle.py_process.specs.SymbolMap.{address_of}
@@ -164,3 +165,29 @@ say_same bytes addr size one other h g =
           ∙ ap (λ (b : BssRange). address_of (record { addr = addr; size = size; offset = g.ranges.offset; bss_end = b.end }) name (symbols_of bytes Plain ++ symbols_of bytes Dynamic)) same.bss
           ∙ sym (g.symbols name);
     }
+
+-- an image says one thing
+pub facts_once : (bytes : List ℕ) (addr size : ℕ) (f g : Facts) → SaysFacts bytes addr size f → SaysFacts bytes addr size g → f ≡ g
+facts_once bytes addr size f g h k =
+    let same = one_ranges bytes addr h.ranges k.ranges h.are_ranges k.are_ranges in
+    let bss_addr : f.bss_addr ≡ g.bss_addr = h.bss_addr ∙ ap (λ (b : BssRange). b.addr) same.bss ∙ sym k.bss_addr in
+    let bss_size : f.bss_size ≡ g.bss_size = h.bss_size ∙ ap (λ (b : BssRange). b.size) same.bss ∙ sym k.bss_size in
+    let runtime_addr : f.pyruntime_addr ≡ g.pyruntime_addr = h.pyruntime_addr ∙ ap (λ (p : ℕ × ℕ). p.0) same.runtime ∙ sym k.pyruntime_addr in
+    let runtime_size : f.pyruntime_size ≡ g.pyruntime_size = h.pyruntime_size ∙ ap (λ (p : ℕ × ℕ). p.1) same.runtime ∙ sym k.pyruntime_size in
+    let symbols : (name : List ℕ) → f.symbols name ≡ g.symbols name = λ name. h.symbols name
+    ∙ ap (λ o. address_of (record { addr = addr; size = size; offset = o; bss_end = h.ranges.bss.end }) name (symbols_of bytes Plain ++ symbols_of bytes Dynamic)) same.offset
+    ∙ ap (λ (b : BssRange). address_of (record { addr = addr; size = size; offset = k.ranges.offset; bss_end = b.end }) name (symbols_of bytes Plain ++ symbols_of bytes Dynamic)) same.bss
+    ∙ sym (k.symbols name) in
+    λ i. record {
+      symbols = λ name. symbols name i;
+      bss_addr = bss_addr i;
+      bss_size = bss_size i;
+      pyruntime_addr = runtime_addr i;
+      pyruntime_size = runtime_size i;
+      addr = (h.addr_is ∙ sym k.addr_is) i;
+      size = (h.size_is ∙ sym k.size_is) i;
+    }
+
+-- what says something is refused for no cause
+pub says_has : (bytes : List ℕ) (addr size : ℕ) (f : Facts) → SaysFacts bytes addr size f → HasInfo bytes addr
+says_has bytes addr size f h = record { accepted = h.accepted; ranges = (h.ranges, h.are_ranges); both = h.both }

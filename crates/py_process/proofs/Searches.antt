@@ -1,5 +1,5 @@
 -- A search in a list, and in one list after another.
-use Rattle.std.proofs.Common.{◌≡◌, ℕ, ◌+◌, ◌≤◌, ◌^◌, Bool, true, false, cond, List, [], ◌∷◌, ◌++◌, length, refl, sym, ap, subst, ◌∙◌, arith, zero-add}
+use Rattle.std.proofs.Common.{◌≡◌, ℕ, ◌+◌, ◌*◌, ◌≤◌, ◌^◌, Bool, true, false, cond, List, [], ◌∷◌, ◌++◌, length, refl, sym, ap, subst, ◌∙◌, arith, zero-add}
 use Rattle.std.specs.Prelude.{Option, Some, None, Result, Ok, Err, IfOk, find, option_to_list}
 use Rattle.std.specs.Option.{option_or}
 use Rattle.std.proofs.lemmas.List.Elements.{All-cons, All-head, All-nil, All-tail}
@@ -13,7 +13,9 @@ use Rattle.process_memory.specs.declared.memory.ReadFault.TheVariants as read
 use Rattle.process_memory.proofs.Reading.{reading_gives, reading_here, reading_none, reading_then, reads_within}
 use Rattle.py_version.specs.declared.version.Version.{Version}
 use Rattle.py_fields.specs.declared.layout.Layout.{Layout}
-use Rattle.py_process.specs.Candidates.{FirstIs, IsFirstOf, IsInterpreterIn, IsNoneOf, ListIs, NotFoundWhere, SearchIs, Searching, Seeking, candidate_cost, candidates_of, interpreter_of, passes_in, search_bound, search_cost, section_words, words_in, words_of}
+use Rattle.py_process.specs.Candidates.{FirstIs, IsFirstOf, IsInterpreterIn, IsNoneOf, ListIs, NotFoundWhere, SearchIs, Searching, Seeking, candidate_cost, candidates_of, head_lies, interpreter_of, passes_in, search_bound, search_cost, search_most, section_words, walk_bound, words_in, words_of}
+use Rattle.py_stacks.specs.Interpreter.{threads_head}
+use Rattle.py_stacks.proofs.Candidates.{test_most}
 use Rattle.py_process.specs.Facts.{Known}
 use Rattle.py_process.specs.declared.search_error.SearchError.{SearchError}
 use Rattle.py_process.specs.declared.search_error.SearchError.TheVariants.{NotFound, OutOfMemory}
@@ -41,6 +43,33 @@ cost_front c l m (x ∷ xs) ys = by (passes_in c l m x) (cost_front c l m xs ys)
         → candidate_cost c l m x + cond t 0 (search_cost c l m xs) ≤ candidate_cost c l m x + cond t 0 (search_cost c l m (xs ++ ys))
     by true h = omega arith
     by false h = omega (arith, h)
+
+-- a test costs at most what a walk to the limits does
+candidate_most : (c : ℕ → Bool) (l : Layout) (m : Memory) (a : ℕ) → candidate_cost c l m a ≤ 3 + 4096 * (2 + 6 * 16384)
+unfolding candidate_cost
+candidate_most c l m a =
+    let walk = walk_bound l m a in
+    let tested = test_most l m a in
+    elim (c a) as (λ t. cond t (1 + cond (head_lies c (threads_head l m a)) walk 0) 0 ≤ 3 + 4096 * (2 + 6 * 16384)) [
+      | true ↦ elim (head_lies c (threads_head l m a)) as (λ t. 1 + cond t walk 0 ≤ 3 + 4096 * (2 + 6 * 16384))
+          [ true ↦ omega (arith, tested) | false ↦ omega arith ]
+      | false ↦ omega arith
+    ]
+
+cost_most : (c : ℕ → Bool) (l : Layout) (m : Memory) (xs : List ℕ)
+    → search_cost c l m xs ≤ (3 + 4096 * (2 + 6 * 16384)) * length xs
+unfolding search_cost
+cost_most c l m [] = omega arith
+cost_most c l m (x ∷ xs) =
+    let rest = cost_most c l m xs in
+    let one = candidate_most c l m x in
+    elim (passes_in c l m x) as (λ t. candidate_cost c l m x + cond t 0 (search_cost c l m xs) ≤ (3 + 4096 * (2 + 6 * 16384)) * length (x ∷ xs))
+    [ true ↦ omega (arith, one) | false ↦ omega (arith, one, rest) ]
+
+-- the whole search, whatever the memory holds
+pub bound_most : (c : ℕ → Bool) (k : Known) (v : Version) (l : Layout) (m : Memory) → search_bound c k v l m ≤ search_most k v l m
+unfolding search_bound
+bound_most c k v l m = omega (arith, cost_most c l m (candidates_of k v l m))
 
 -- ---- one list after another
 

@@ -5,9 +5,10 @@ use Rattle.elf64_core.specs.Header.{IsAccepted}
 use Rattle.py_process.specs.declared.binary.BinaryInfo.{BinaryInfo}
 use Rattle.py_process.specs.declared.ranges.Ranges.{Ranges}
 use Rattle.py_process.specs.declared.symbols.Place.{Place}
+use Rattle.py_process.specs.Facts.{Facts, facts_of}
 use Rattle.py_process.specs.Ranges.{AreRanges}
 use Rattle.py_process.specs.Refusals.{HasBoth, HasRanges}
-use Rattle.py_process.specs.SymbolMap.{HasAddresses, address_in}
+use Rattle.py_process.specs.SymbolMap.{AreAddresses, address_in}
 
 abbrev pub place_of : (addr size : ℕ) → Ranges → Place
 place_of addr size ranges = record {
@@ -18,18 +19,22 @@ place_of addr size ranges = record {
 }
 
 -- this is what an image says that is mapped at an address with a size
-pub record IsInfo (bytes : List ℕ) (addr size : ℕ) (info : BinaryInfo) : Type 0 where
+pub record SaysFacts (bytes : List ℕ) (addr size : ℕ) (facts : Facts) : Type 0 where
   pub accepted : IsAccepted bytes
   pub both : HasBoth bytes
   pub ranges : Ranges
   pub are_ranges : AreRanges bytes addr ranges
-  pub bss_addr : info.bss_addr ≡ ranges.bss.addr
-  pub bss_size : info.bss_size ≡ ranges.bss.size
-  pub pyruntime_addr : info.pyruntime_addr ≡ ranges.runtime_addr
-  pub pyruntime_size : info.pyruntime_size ≡ ranges.runtime_size
-  pub addr_is : info.addr ≡ addr
-  pub size_is : info.size ≡ size
-  pub symbols : HasAddresses bytes (place_of addr size ranges) info.symbols
+  pub bss_addr : facts.bss_addr ≡ ranges.bss.addr
+  pub bss_size : facts.bss_size ≡ ranges.bss.size
+  pub pyruntime_addr : facts.pyruntime_addr ≡ ranges.runtime_addr
+  pub pyruntime_size : facts.pyruntime_size ≡ ranges.runtime_size
+  pub addr_is : facts.addr ≡ addr
+  pub size_is : facts.size ≡ size
+  pub symbols : AreAddresses bytes (place_of addr size ranges) facts.symbols
+
+-- the same of the struct that has it
+abbrev pub IsInfo : List ℕ → (addr size : ℕ) → BinaryInfo → Type 0
+IsInfo bytes addr size info = SaysFacts bytes addr size (facts_of info)
 
 -- two say the same: the same numbers, and the same address for each name
 pub record SaySame (one other : BinaryInfo) : Type 0 where

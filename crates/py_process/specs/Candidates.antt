@@ -1,7 +1,7 @@
 -- The addresses that may be the interpreter's, in order, and the first that is one. Where the symbols stand is
 -- CPython's (`interp_head` up to 3.6, `_PyRuntime` from 3.7 on); that words of sections are tried is this
 -- project's own rule, after py-spy.
-use Rattle.std.specs.Prelude.{◌≡◌, ℕ, ◌+◌, ◌*◌, ◌^◌, nat_eq, ◌&&◌, Bool, false, if◌then◌else◌, IsTrue, All, List, [], ◌∷◌, ◌++◌, Option, Some, None, Result, Ok, Err, ⊤, codes, find, option_to_list}
+use Rattle.std.specs.Prelude.{◌≡◌, ℕ, ◌+◌, ◌*◌, ◌^◌, nat_eq, ◌&&◌, Bool, false, if◌then◌else◌, IsTrue, All, List, [], ◌∷◌, ◌++◌, length, Option, Some, None, Result, Ok, Err, ⊤, codes, find, option_to_list}
 use Rattle.std.specs.Int.{w64, from_le_bytes}
 use Rattle.elf64_core.specs.Fields.{u64_in}
 use Rattle.process_memory.specs.Memory.{Found, Memory, ◌>>=◌, byte_at, record_at, word_at}
@@ -154,6 +154,10 @@ search_cost contains l m (a ∷ rest) =
 -- candidates
 unfoldable pub search_bound : (ℕ → Bool) → Known → Version → Layout → Memory → ℕ
 search_bound contains k v l m = 6 + search_cost contains l m (candidates_of k v l m)
+
+-- the same whatever the memory holds, as chains that are cyclic: the walk of a test ends at the limits
+abbrev pub search_most : Known → Version → Layout → Memory → ℕ
+search_most k v l m = 6 + (3 + 4096 * (2 + 6 * 16384)) * length (candidates_of k v l m)
 
 -- what the search owes: it makes at most so many reads, of which a section's is one, and a fact holds over every memory
 -- that covers them

@@ -5,10 +5,9 @@ use Rattle.std.specs.Int.{IsBitSet}
 use Rattle.image_memory.specs.Images.{Pushed, first_under}
 use Rattle.image_memory.specs.Mmap.{Mapped, shown_bytes}
 use Rattle.image_memory.specs.declared.maps.CoreMapRange.{CoreMapRange}
-use Rattle.py_process.specs.Binary.{IsInfo}
-use Rattle.py_process.specs.Facts.{Facts, Known, facts_of}
+use Rattle.py_process.specs.Binary.{SaysFacts}
+use Rattle.py_process.specs.Facts.{Facts, Known}
 use Rattle.py_process.specs.Library.{IsLibrary}
-use Rattle.py_process.specs.declared.binary.BinaryInfo.{BinaryInfo}
 use Rattle.py_process.specs.declared.core_error.CoreError.{CoreError}
 use Rattle.py_process.specs.declared.core_error.CoreError.TheVariants.{NoBinary, NoImage, BadImage, OutOfMemory}
 
@@ -64,9 +63,7 @@ path_of m = unwrap_or m.pathname []
 pub record ImageSays (images : Pushed) (m : CoreMapRange) (facts : Facts) : Type 0 where
   pub image : Mapped
   pub held : first_under (path_of m) images ≡ Some image
-  pub info : BinaryInfo
-  pub says : IsInfo (shown_bytes image) m.segment.addr m.segment.mem_size info
-  pub are : facts ≡ facts_of info
+  pub says : SaysFacts (shown_bytes image) m.segment.addr m.segment.mem_size facts
 
 -- what the image of a map says; nothing where it isn't handed in, or says nothing
 abbrev pub FactsAre : Pushed → CoreMapRange → Option Facts → Type 0

@@ -55,7 +55,11 @@ address_of place name symbols = option_map (λ symbol. symbol.value + place.offs
 abbrev pub address_in : BTreeMap (Vec ℕ Global) ℕ → List ℕ → Option ℕ
 address_in symbols name = get_by (λ key. slice_cmp nat_cmp name key.items) symbols
 
--- a map has for each name the address of the last symbol that is kept, the dynamic ones after the plain ones
+-- each name has the address of the last symbol that is kept, the dynamic ones after the plain ones
+abbrev pub AreAddresses : List ℕ → Place → (List ℕ → Option ℕ) → Type 0
+AreAddresses bytes place symbols = (name : List ℕ) →
+    symbols name ≡ address_of place name (symbols_of bytes Plain ++ symbols_of bytes Dynamic)
+
+-- so it is in a map
 abbrev pub HasAddresses : List ℕ → Place → BTreeMap (Vec ℕ Global) ℕ → Type 0
-HasAddresses bytes place symbols = (name : List ℕ) →
-    address_in symbols name ≡ address_of place name (symbols_of bytes Plain ++ symbols_of bytes Dynamic)
+HasAddresses bytes place symbols = AreAddresses bytes place (address_in symbols)

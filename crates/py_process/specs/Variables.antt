@@ -1,5 +1,5 @@
 -- Which members of an interpreter's chains of frames are kept, and whether their locals can be read.
-use Rattle.std.specs.Prelude.{◌≡◌, ◌⊎◌, ℕ, ◌+◌, ◌<◌, ◌≤◌, true, IsOk, Some, List, [], ◌∷◌, Ok, Err}
+use Rattle.std.specs.Prelude.{◌≡◌, ◌≢◌, ◌⊎◌, ℕ, ◌+◌, ◌<◌, ◌≤◌, true, IsOk, Some, List, [], ◌∷◌, Ok, Err}
 use Rattle.elf64_core.specs.Fields.{u32_in}
 use Rattle.process_memory.specs.Memory.{Memory, Found, Fault, record_at, word_at}
 use Rattle.process_memory.specs.Walk.{first_fault}
@@ -13,10 +13,11 @@ use Rattle.py_stacks.specs.Threads.{first_frame_at, thread_after}
 use Rattle.py_stacks.specs.declared.config.Config.{Config}
 use Rattle.py_process.specs.Findings.{Finding}
 
--- from a head one comes by these members, each named by the one before it, to an address
+-- from a head one comes by these members, each named by the one before it, to an address; none of them is null, at
+-- which a chain ends
 abbrev pub Follows : (ℕ → Found ℕ) → ℕ → List ℕ → ℕ → Type 0
-Follows next head [] a = head ≡ a
-Follows next head (b ∷ rest) a = (next head ≡ Ok b) × Follows next b rest a
+Follows next head [] a = (head ≢ 0) × (head ≡ a)
+Follows next head (b ∷ rest) a = (head ≢ 0) × (next head ≡ Ok b) × Follows next b rest a
 
 -- a member of the frames of one of an interpreter's threads, as it is read, that isn't skipped
 pub record IsKept (l : Layout) (m : Memory) (interpreter : ℕ) (r : MemberAt) : Type 0 where

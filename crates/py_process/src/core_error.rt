@@ -36,7 +36,7 @@ pub enum CoreError {
     /// The file of this path was mapped, and its bytes don't make sense.
     #[error("bad image")]
     BadImage { path: Name },
-    /// The version's text can't be read.
+    /// What tells the version can't be read: the 4 bytes of `Py_Version`, or the bss of an image.
     #[error("version unreadable at {addr:#x}, {len} bytes")]
     UnreadableVersion { addr: u64, len: u64 },
     /// Nothing says which version of Python ran.
@@ -57,10 +57,10 @@ pub enum CoreError {
     /// Subprocesses were asked for.
     #[error("subprocesses are not read from a core")]
     SubprocessesUnsupported,
-    /// The frame at this address has a local whose name is no text, or a count that makes no sense.
+    /// The frame at this address has a local whose name is no text, or counts fewer locals than none.
     #[error("bad variable name or count in frame {frame:#x}")]
     BadValue { frame: u64 },
-    /// A frame counts so many locals, which is too many or fewer than none.
+    /// A frame counts so many locals, which are more than 65535. A count below 0 is `BadValue`.
     #[error("a frame counts {count} locals")]
     LocalsLimit { count: i32 },
     /// The chain of threads goes on after 4096 threads.

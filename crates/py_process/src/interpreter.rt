@@ -1,7 +1,8 @@
 //! Where the interpreter of a process is.
-ghost use Rattle.std.specs.Prelude.{IfOk};
+ghost use Rattle.std.specs.Prelude.{◌+◌, ◌≤◌, IfOk};
+ghost use Rattle.process_memory.specs.Memory.{byte_at};
 ghost use Rattle.py_fields.specs.Sound.{IsSound};
-ghost use Rattle.py_process.specs.Candidates.{FirstIs, IsFirstOf, IsNoneOf, NotFoundWhere, Searching, Seeking, candidates_of, interpreter_of, words_of_images};
+ghost use Rattle.py_process.specs.Candidates.{FirstIs, IsFirstOf, IsNoneOf, NotFoundWhere, Searching, Seeking, candidates_of, interpreter_of, search_most, words_of_images};
 ghost use Rattle.py_process.specs.Facts.{known_of};
 
 use crate::candidates::first_in_image;
@@ -83,7 +84,7 @@ fn find_interpreter<M: ContainsAddr, P: ProcessMemory>(
 /// `NotFound` comes exactly where no candidate is one. Else the one error is want of memory, which is no failed
 /// test. At most 6 reads, and for each candidate up to and with the first that is one: none where no map holds
 /// it; one where its head is not in memory or in no map; else 3, 2 for each thread that its test meets, and 6
-/// for each frame. A section is read by one.
+/// for each frame: for a cyclic chain as many as its limit lets be met. A section is read by one.
 pub fn get_interpreter_address<M: ContainsAddr, P: ProcessMemory>(
     alloc: Global,
     info: &PythonProcessInfo<M>,
@@ -101,6 +102,9 @@ pub fn get_interpreter_address<M: ContainsAddr, P: ProcessMemory>(
     ensures none { Searching (M.contains info.now.maps) (known_of info.now) version.now layout.now
         (P.seen process.old) (P.seen process.new) (λ m. NotFoundWhere (IsNoneOf (M.contains info.now.maps) layout.now m
         (candidates_of (known_of info.now) version.now layout.now m)) result) }
+    // whatever the memory holds, as cyclic chains
+    ensures most { (P.seen process.new).reads ≤ (P.seen process.old).reads
+        + search_most (known_of info.now) version.now layout.now (byte_at (P.seen process.old).pieces) }
 {
     find_interpreter(alloc, info, process, version, layout)
 }

@@ -1,5 +1,5 @@
 //! Where the lock of an interpreter is.
-ghost use Rattle.std.specs.Prelude.{◌+◌, Some};
+ghost use Rattle.std.specs.Prelude.{◌+◌, IsErrOf, IsTrue, Some};
 ghost use Rattle.process_memory.specs.Memory.{word_at};
 ghost use Rattle.process_memory.specs.Seen.{Reading};
 ghost use Rattle.py_fields.specs.Sound.{IsSound};
@@ -16,7 +16,8 @@ use py_version::{Version, get_tstate_current_offset};
 
 /// A place in the runtime; none where its symbol or the place is not known.
 fn in_runtime(runtime: Option<u64>, offset: Option<u64>) -> Result<Option<u64>, LockError>
-    ensures { FoundIs (in_runtime runtime offset) result }
+    ensures answer { FoundIs (in_runtime runtime offset) result }
+    ensures memory { ¬ IsErrOf result LockError.OutOfMemory }
 {
     let (Some(runtime), Some(offset)) = (runtime, offset) else {
         return Ok(None);
@@ -36,8 +37,9 @@ fn read_lock<P: ProcessMemory>(
     interpreter: u64,
     offset: u64,
 ) -> Result<Option<u64>, LockError>
-    ensures { Reading 1 (P.seen process.old) (P.seen process.new)
+    ensures answer { Reading 1 (P.seen process.old) (P.seen process.new)
         (λ m. FoundIs (Some (word_at m (interpreter + offset))) result) }
+    ensures memory { IsErrOf result LockError.OutOfMemory → IsTrue (P.seen process.old).may_want_memory }
 {
     match word_past(process, interpreter, offset) {
         Ok(lock) => Ok(Some(lock)),
@@ -56,8 +58,9 @@ fn find_lock<M: ContainsAddr, P: ProcessMemory>(
     layout: &Layout,
 ) -> Result<Option<u64>, LockError>
     requires sound { IsSound layout.now }
-    ensures { Reading 1 (P.seen process.old) (P.seen process.new)
+    ensures answer { Reading 1 (P.seen process.old) (P.seen process.new)
         (λ m. FoundIs (lock_found machine (known_of info.now) version.now layout.now m interpreter) result) }
+    ensures memory { IsErrOf result LockError.OutOfMemory → IsTrue (P.seen process.old).may_want_memory }
 {
     match (layout.lock, layout.interpreter.gil) {
         (Lock::Gil, Some(gil)) => read_lock(process, interpreter, gil as u64),
@@ -78,8 +81,8 @@ fn find_lock<M: ContainsAddr, P: ProcessMemory>(
 /// `interpreter` is an address, and `machine` that of the core's header.
 ///
 /// `Unreadable` comes exactly where that word is not in memory, or the sum passes 2^64 - 1, which names 8 bytes
-/// there; `NoLock` exactly where the `Config` asks for the holder alone and a symbol or that place is missing. Else
-/// the one error is want of memory. At most one read.
+/// there; `NoLock` exactly where the `Config` asks for the holder alone and a symbol or that place is missing. It
+/// takes no memory: want of memory comes only where a read of the process may want it. At most one read.
 pub fn get_threadstate_address<M: ContainsAddr, P: ProcessMemory>(
     interpreter: u64,
     info: &PythonProcessInfo<M>,
@@ -90,8 +93,9 @@ pub fn get_threadstate_address<M: ContainsAddr, P: ProcessMemory>(
     config: &Config,
 ) -> Result<u64, LockError>
     requires sound { IsSound layout.now }
-    ensures { Reading 1 (P.seen process.old) (P.seen process.new)
+    ensures answer { Reading 1 (P.seen process.old) (P.seen process.new)
         (λ m. LockIs config.now (lock_found machine (known_of info.now) version.now layout.now m interpreter) result) }
+    ensures memory { IsErrOf result LockError.OutOfMemory → IsTrue (P.seen process.old).may_want_memory }
 {
     match find_lock(interpreter, info, process, machine, version, layout)? {
         Some(addr) => Ok(addr),

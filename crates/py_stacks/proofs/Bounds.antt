@@ -7,7 +7,7 @@ use Rattle.process_memory.proofs.WalkSums.{walk_ones, walk_sum}
 use Rattle.py_fields.specs.declared.layout.Layout.{Layout}
 use Rattle.py_stacks.specs.declared.asked.Asked.{Asked}
 use Rattle.py_stacks.specs.Frames.{cost_after, extra_cost, frame_step, frames_cost, member_cost, member_limit}
-use Rattle.py_stacks.specs.Met.{details_cost, details_walked, frames_extra, frames_met, members_met, members_walked, of_thread, stacks_bound, threads_met, threads_walked, where_owned}
+use Rattle.py_stacks.specs.Met.{details_cost, details_walked, frames_extra, frames_met, members_met, members_walked, of_thread, stacks_bound, thread_bound, thread_details, thread_members, threads_met, threads_walked, where_owned}
 use Rattle.py_stacks.specs.Stacks.{stacks_cost}
 use Rattle.py_stacks.specs.Threads.{first_frame_at, thread_cost, thread_frames_cost, thread_limit, thread_step, threads_cost, traces_cost}
 use Rattle.py_stacks.specs.Owner.{owner_at}
@@ -49,6 +49,12 @@ thread_sum q l m s a =
     elim (record_at m a l.thread.size >>= first_frame_at l m) as (λ v. cost_after v (frames_cost q l m) ≤ 6 * cost_after v (frames_met q l m) + cost_after v (frames_extra q l m))
     [ Ok first ↦ frames_bound q l m first | Err e ↦ omega arith ] in
     omega (arith, frames)
+
+-- two reads for a thread, six for each member that is met, and those of the details
+pub thread_within : (q : Asked) (l : Layout) (m : Memory) (thread : ℕ)
+    → thread_cost q l m tt thread ≤ thread_bound q l m thread
+unfolding thread_members thread_details
+thread_within q l m thread = omega (arith, thread_sum q l m tt thread)
 
 -- what the members of a thread add
 abbrev six_and_extra : Asked → Layout → Memory → Unit {0} → ℕ → ℕ

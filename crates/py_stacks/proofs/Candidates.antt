@@ -128,6 +128,15 @@ test_most l m a =
     let members = where_most (members_met nothing l m a) (16384 * 4096) a (named_at l m a) (members_met_most nothing l m a) in
     omega (arith, threads, members)
 
+pub from_most : (l : Layout) (m : Memory) (a head : ℕ)
+    → 2 + 2 * threads_from l m a head + 6 * members_from l m a head ≤ 2 + 4096 * (2 + 6 * 16384)
+unfolding threads_from members_from
+from_most l m a head =
+    let named = named_by l m head in
+    let threads = where_most (threads_met nothing l m a) 4096 a named (threads_met_most nothing l m a) in
+    let members = where_most (members_met nothing l m a) (16384 * 4096) a named (members_met_most nothing l m a) in
+    omega (arith, threads, members)
+
 -- ---- the law of the test: it passes exactly at what is an interpreter
 
 -- what was named is the address, and its threads can be walked

@@ -19,7 +19,7 @@ use Rattle.py_stacks.specs.Lines.{line_cost}
 use Rattle.py_stacks.specs.Locals.{count_of, count_or_zero, locals_cost, locals_read}
 use Rattle.py_stacks.specs.Member.{MemberAt}
 use Rattle.py_stacks.specs.Frames.{Call, cost_after, extra_cost, frame_limit, frame_step, frames_cost, member_limit, part_cost, plain_by, records_at}
-use Rattle.py_stacks.specs.Met.{details_cost, details_walked, frames_extra, frames_locals, frames_met, locals_met, locals_most, locals_walked, member_locals, members_met, members_walked, of_thread, part_locals}
+use Rattle.py_stacks.specs.Met.{details_cost, details_walked, frames_extra, frames_locals, frames_met, locals_met, locals_most, locals_walked, member_locals, members_met, members_walked, of_thread, part_locals, thread_details, thread_locals, thread_members}
 use Rattle.py_stacks.specs.Owner.{owner_at}
 use Rattle.py_stacks.specs.Stacks.{stacks_cost}
 use Rattle.py_stacks.specs.Threads.{first_frame_at, thread_cost, thread_frames_cost, thread_limit, thread_step}
@@ -89,6 +89,12 @@ module _ (q : Asked) (l : Layout) (m : Memory) where
   thread_sum s a =
       elim (record_at m a l.thread.size >>= first_frame_at l m) as (λ v. cost_after v (frames_extra q l m) ≤ 4 * cost_after v (frames_locals q l m) + 3 * cost_after v (frames_met q l m))
       [ Ok first ↦ frames_sum first | Err e ↦ omega arith ]
+
+  -- the same of one thread alone
+  pub thread_details_sum : (thread : ℕ)
+      → thread_details q l m thread ≤ 3 * thread_members q l m thread + 4 * thread_locals q l m thread
+  unfolding thread_details thread_members thread_locals
+  thread_details_sum thread = omega (arith, thread_sum tt thread)
 
   members_threes : (head : ℕ) → walk_cost (thread_step q l m) (λ s a. 3 * of_thread (frames_met q l m) l m s a) thread_limit tt head
       ≤ 3 * walk_cost (thread_step q l m) (of_thread (frames_met q l m) l m) thread_limit tt head

@@ -1,5 +1,5 @@
--- How many threads and members a walk meets before it ends, and how many variables it reads: what the bound on
--- its reads counts.
+-- How many threads and members a walk meets before it ends, and how many variables it reads: what the bounds on
+-- its reads count.
 use Rattle.std.specs.Prelude.{ℕ, ◌+◌, ◌*◌, nat_lt, Bool, true, false, if◌then◌else◌, Option, Some, None}
 use Rattle.process_memory.specs.Memory.{Memory, ◌>>=◌, record_at, word_at}
 use Rattle.process_memory.specs.Walk.{walk_cost}
@@ -81,3 +81,17 @@ abbrev pub stacks_bound : Asked → Layout → Memory → (lock interpreter : �
 stacks_bound q l m lock interpreter =
     3 + 2 * threads_walked q l m lock interpreter + 6 * members_walked q l m lock interpreter
     + details_walked q l m lock interpreter
+
+-- the members, the reads of their details and the variables that the stack of one thread meets before it ends
+unfoldable pub thread_members : Asked → Layout → Memory → ℕ → ℕ
+thread_members q l m thread = of_thread (frames_met q l m) l m tt thread
+
+unfoldable pub thread_details : Asked → Layout → Memory → ℕ → ℕ
+thread_details q l m thread = of_thread (frames_extra q l m) l m tt thread
+
+unfoldable pub thread_locals : Asked → Layout → Memory → ℕ → ℕ
+thread_locals q l m thread = of_thread (frames_locals q l m) l m tt thread
+
+-- at most 2 reads for the thread, 6 for each member that is met, and those of the details
+abbrev pub thread_bound : Asked → Layout → Memory → ℕ → ℕ
+thread_bound q l m thread = 2 + 6 * thread_members q l m thread + thread_details q l m thread

@@ -33,9 +33,10 @@ unfoldable pub named_cost : Asked → Layout → Memory → ℕ → ℕ → ℕ
 named_cost q l m lock interpreter = stacks_cost q l m lock interpreter
     + cost_after (stacks_at q l m lock interpreter) (λ traces. names_cost l m interpreter)
 
--- the slots that are looked at for names
+-- the slots that are looked at for names, where they are read
 unfoldable pub slots_named : Asked → Layout → Memory → (lock interpreter : ℕ) → ℕ
-slots_named q l m lock interpreter = cost_after (stacks_at q l m lock interpreter) (λ traces. slots_looked_at l m interpreter)
+slots_named q l m lock interpreter =
+    cost_after (stacks_at q l m lock interpreter) (λ traces. slots_looked_at l m interpreter)
 
 -- ---- a map, if there is one
 

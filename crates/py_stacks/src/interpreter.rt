@@ -110,7 +110,7 @@ pub fn get_first_thread<P: ProcessMemory>(
 /// after its first read.
 ///
 /// The one error is want of memory. At most 2 reads, 2 for each thread that is met, and 6 for each member of its
-/// chain of frames.
+/// chain of frames: for a cyclic chain as many as its limit lets be met.
 pub fn is_interpreter_from<P: ProcessMemory>(
     alloc: Global,
     process: &mut P,
@@ -124,6 +124,8 @@ pub fn is_interpreter_from<P: ProcessMemory>(
     ensures exact { ReadingBy (λ m. bound_from layout.now m interpreter head)
         (P.seen process.old) (P.seen process.new)
         (λ m. IfOk result (λ is. IsTrue is ↔ IsInterpreterFrom layout.now m interpreter head)) }
+    ensures most { Reads fault_of (2 + 4096 * (2 + 6 * 16384)) (P.seen process.old) (P.seen process.new)
+        (λ m. Ok (passes_from layout.now m interpreter head)) result }
 {
     walk_from(alloc, process, layout, interpreter, head)
 }

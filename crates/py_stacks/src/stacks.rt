@@ -8,6 +8,7 @@ ghost use Rattle.py_fields.specs.Sound.{IsSound};
 ghost use Rattle.py_stacks.specs.StackError.{fault_of};
 ghost use Rattle.py_stacks.specs.Asking.{asked_by, asks};
 ghost use Rattle.py_stacks.specs.Met.{details_walked, locals_most, locals_walked, members_walked, stacks_bound};
+ghost use Rattle.py_stacks.specs.Met.{thread_bound, thread_details, thread_locals, thread_members};
 ghost use Rattle.py_stacks.specs.Threads.{IsTraceOf, Trace, thread_cost, thread_faults, trace_at};
 ghost use Rattle.py_stacks.specs.Threads.{trace_of, trace_of_result, traces_of_result};
 ghost use Rattle.py_stacks.specs.Stacks.{AreStacks, by_owner, stacks_at, stacks_cost, stacks_faults};
@@ -84,7 +85,7 @@ fn walk_stack_traces<P: ProcessMemory>(
 ///
 /// At most 3 reads, 2 for each thread that is met, 6 for each member, 2 for the line of each member that is kept
 /// and 1 for its tuple of names, and 4 for each variable. Of a member that is not kept neither a table nor a
-/// variable is read, nor of any member what is not asked for.
+/// variable is read, nor of any member what is not asked for. Where the owner is not known no thread is met.
 pub fn get_stack_traces<P: ProcessMemory>(
     alloc: Global,
     interpreter: u64,
@@ -112,7 +113,8 @@ pub fn get_stack_traces<P: ProcessMemory>(
         (first_fault (stacks_faults (asked_by config.entry) layout.now m lock interpreter)) result) }
     ensures bound { (P.seen process.new).reads ≤ (P.seen process.old).reads
         + stacks_bound (asked_by config.entry) layout.now (byte_at (P.seen process.old).pieces) lock interpreter }
-    ensures details { details_walked (asked_by config.entry) layout.now (byte_at (P.seen process.old).pieces) lock interpreter
+    ensures details { details_walked (asked_by config.entry) layout.now (byte_at (P.seen process.old).pieces)
+        lock interpreter
         ≤ 3 * members_walked (asked_by config.entry) layout.now (byte_at (P.seen process.old).pieces) lock interpreter
         + 4 * locals_walked (asked_by config.entry) layout.now (byte_at (P.seen process.old).pieces) lock interpreter }
     // whatever the memory holds, as cyclic chains
@@ -172,6 +174,11 @@ pub fn get_stack_trace<P: ProcessMemory>(
         (P.seen process.old) (P.seen process.new)
         (λ m. FaultsAre fault_of
         (first_fault (thread_faults (asks lineno copy_locals) layout.now m tt thread)) result) }
+    ensures bound { (P.seen process.new).reads ≤ (P.seen process.old).reads
+        + thread_bound (asks lineno copy_locals) layout.now (byte_at (P.seen process.old).pieces) thread }
+    ensures details { thread_details (asks lineno copy_locals) layout.now (byte_at (P.seen process.old).pieces) thread
+        ≤ 3 * thread_members (asks lineno copy_locals) layout.now (byte_at (P.seen process.old).pieces) thread
+        + 4 * thread_locals (asks lineno copy_locals) layout.now (byte_at (P.seen process.old).pieces) thread }
     // whatever the memory holds, as a cyclic chain
     ensures most { (P.seen process.new).reads ≤ (P.seen process.old).reads + (2 + 16384 * (9 + locals_most copy_locals)) }
 {
