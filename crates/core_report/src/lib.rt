@@ -21,18 +21,8 @@ pub use core_words::{ArgsError, DumpWords, config_from_args};
 pub use py_process::{CoreError, Report};
 
 #[cfg(test)]
-mod dump_tests;
+mod core_tests;
 #[cfg(test)]
-mod family_tests;
+mod made;
 #[cfg(test)]
-mod found_tests;
-#[cfg(test)]
-mod layout_tests;
-#[cfg(test)]
-mod member_tests;
-#[cfg(test)]
-mod opened_tests;
-#[cfg(test)]
-mod tests;
-#[cfg(test)]
-mod walk_tests;
+mod run_tests;
