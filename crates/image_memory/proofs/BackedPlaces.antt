@@ -169,13 +169,15 @@ stretch_bytes dump addr most file start size run held h is =
     )
 
 -- what was read of a run that goes no further
-pub file_run : (dump : Backed) (addr most file start size : ℕ) (run : List ℕ) → IsFileStretch dump addr most file start size
+pub file_run : (dump : Backed) (addr most file start size : ℕ) (run : List ℕ)
+    → IsFileStretch dump addr most file start size
     → (size < most → stands_in dump (addr + size) ≢ Some (file, start + size))
     → run ≡ slice_range (file_bytes dump file) start (start + size) → length run ≡ size
     → (name from : ℕ) × IsFileRun dump addr most name from (length run)
     × (run ≡ slice_range (file_bytes dump name) from (from + length run))
 file_run dump addr most file start size run h longest is count =
-    let whole : IsFileRun dump addr most file start size = record { some = h.some; short = h.short; each = h.each; longest = longest } in (
+    let whole : IsFileRun dump addr most file start size =
+    record { some = h.some; short = h.short; each = h.each; longest = longest } in (
       file,
       start,
       subst (λ n. IsFileRun dump addr most file start n) (sym count) whole,

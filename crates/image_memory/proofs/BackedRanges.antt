@@ -209,7 +209,8 @@ no_owned : Owned
 no_owned = record { entry = record { start = 0; len = 0; offset = 0 }; owner = 0 }
 
 -- what is kept for look-ups
-pub IsKept-of : (dump : Backed) (laid : List Owned) (table : List TableEntry) (files : List ℕ) → IsCore dump.core → All (IsInFile dump) (file_ranges dump)
+pub IsKept-of : (dump : Backed) (laid : List Owned) (table : List TableEntry) (files : List ℕ) → IsCore dump.core
+    → All (IsInFile dump) (file_ranges dump)
     → AreLaid (all_ranges dump) laid → table ≡ map entry_of laid → AreFilesOf (file_ranges dump) laid files → IsKept dump table files
 IsKept-of dump laid table files core held are is of = record {
   core = core;

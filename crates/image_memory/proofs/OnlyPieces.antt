@@ -22,14 +22,16 @@ record Covers (ranges : List TableEntry) (low : ℕ) (pieces : List TableEntry) 
   pub whole : (addr : ℕ) → low ≤ addr → owner_of ranges addr < length ranges → list_any (spans addr) pieces ≡ true
 
 -- an address that one of some entries holds isn't before all of them
-held_from : (low addr : ℕ) (es : List TableEntry) → All (StartsFrom low) es → list_any (spans addr) es ≡ true → low ≤ addr
+held_from : (low addr : ℕ) (es : List TableEntry) → All (StartsFrom low) es → list_any (spans addr) es ≡ true
+    → low ≤ addr
 held_from low addr [] from h = absurd (cc)
 held_from low addr (e ∷ es) from h =
     let here : low ≤ e.start = All-head (StartsFrom low) e es from in
     elim (cases_lt addr low) [
       | inl less ↦
           let no : spans addr e ≡ false = before e (omega arith) in
-          held_from low addr es (All-tail (StartsFrom low) e es from) (sym (ap (λ b. b || list_any (spans addr) es) no) ∙ h)
+          held_from low addr es (All-tail (StartsFrom low) e es from)
+          (sym (ap (λ b. b || list_any (spans addr) es) no) ∙ h)
       | inr le ↦ le
     ]
   where
@@ -37,8 +39,8 @@ held_from low addr (e ∷ es) from h =
     before r less = grind (arith, nat_tests)
 
 -- the first one starts before each address that is a range's, or there
-first_before : (ranges : List TableEntry) (low addr : ℕ) (e : TableEntry) (es : List TableEntry) → Covers ranges low (e ∷ es)
-    → low ≤ addr → owner_of ranges addr < length ranges → e.start ≤ addr
+first_before : (ranges : List TableEntry) (low addr : ℕ) (e : TableEntry) (es : List TableEntry)
+    → Covers ranges low (e ∷ es) → low ≤ addr → owner_of ranges addr < length ranges → e.start ≤ addr
 first_before ranges low addr e es c le owned =
     held_from e.start addr (e ∷ es) starts (c.whole addr le owned)
   where
@@ -47,8 +49,8 @@ first_before ranges low addr e es c le owned =
     starts (suc k) d less = omega (arith, tail_after e es c.ascend k d (omega arith))
 
 -- of two pieces of one range that start at one address neither ends before the other
-not_shorter : (ranges : List TableEntry) (owner : ℕ) (p q : TableEntry) → IsPieceOf ranges owner p → IsPieceOf ranges owner q
-    → p.start ≡ q.start → q.len ≤ p.len
+not_shorter : (ranges : List TableEntry) (owner : ℕ) (p q : TableEntry) → IsPieceOf ranges owner p
+    → IsPieceOf ranges owner q → p.start ≡ q.start → q.len ≤ p.len
 not_shorter ranges owner p q hp hq same =
     elim (cases_lt p.len q.len) [
       | inl less ↦ absurd (hp.ends (hq.each (p.start + p.len) (omega arith) (omega arith)))
@@ -59,15 +61,17 @@ starts_owned : (ranges : List TableEntry) (p : TableEntry) (h : IsPiece ranges p
 starts_owned ranges p h = h.1.each p.start (omega arith) (omega (arith, h.1.some))
 
 -- two lists of pieces from one address on begin with the same addresses
-same_head : (ranges : List TableEntry) (low : ℕ) (p q : TableEntry) (ps qs : List TableEntry) → Covers ranges low (p ∷ ps)
-    → Covers ranges low (q ∷ qs) → p.start + p.len ≡ q.start + q.len
+same_head : (ranges : List TableEntry) (low : ℕ) (p q : TableEntry) (ps qs : List TableEntry)
+    → Covers ranges low (p ∷ ps) → Covers ranges low (q ∷ qs) → p.start + p.len ≡ q.start + q.len
 same_head ranges low p q ps qs a b =
     let hp : IsPiece ranges p = All-head (IsPiece ranges) p ps a.each in
     let hq : IsPiece ranges q = All-head (IsPiece ranges) q qs b.each in
     let op = starts_owned ranges p hp in
     let oq = starts_owned ranges q hq in
-    let before = first_before ranges low p.start q qs b (All-head (StartsFrom low) p ps a.from) (omega (arith, op, hp.1.owned)) in
-    let after = first_before ranges low q.start p ps a (All-head (StartsFrom low) q qs b.from) (omega (arith, oq, hq.1.owned)) in
+    let before = first_before ranges low p.start q qs b (All-head (StartsFrom low) p ps a.from)
+    (omega (arith, op, hp.1.owned)) in
+    let after = first_before ranges low q.start p ps a (All-head (StartsFrom low) q qs b.from)
+    (omega (arith, oq, hq.1.owned)) in
     let same : p.start ≡ q.start = omega (arith, before, after) in
     let owner : hq.0 ≡ hp.0 = sym oq ∙ ap (owner_of ranges) (sym same) ∙ op in
     let hq' = subst (λ o. IsPieceOf ranges o q) owner hq.1 in
@@ -106,8 +110,15 @@ as_many ranges low (p ∷ ps) (q ∷ qs) a b =
     let further = subst (λ n. Covers ranges n qs) (sym (same_head ranges low p q ps qs a b)) (rest ranges low q qs b) in
     ap suc (as_many ranges (p.start + p.len) ps qs (rest ranges low p ps a) further)
 
-pub pieces_as_many : (ranges ps qs : List TableEntry) → ArePieces ranges ps → ArePieces ranges qs → length ps ≡ length qs
+-- two lists of the pieces of some ranges
+pub pieces_as_many : (ranges ps qs : List TableEntry) → ArePieces ranges ps → ArePieces ranges qs
+    → length ps ≡ length qs
 pieces_as_many ranges ps qs a b = as_many ranges 0 ps qs (all ps a) (all qs b)
   where
     all : (es : List TableEntry) → ArePieces ranges es → Covers ranges 0 es
-    all es h = record { each = h.each; ascend = h.ascend; from = λ k d less. omega arith; whole = λ addr le owned. h.whole addr owned }
+    all es h = record {
+      each = h.each;
+      ascend = h.ascend;
+      from = λ k d less. omega arith;
+      whole = λ addr le owned. h.whole addr owned;
+    }

@@ -224,17 +224,21 @@ byte_none bytes pieces addr few h are none =
     byte_found_at bytes addr few h ∙ ap (option_map (byte_there bytes)) (place_none bytes pieces addr are none)
 
 -- the bytes of a stretch are those of the memory
-pub stretch_bytes : (bytes : List ℕ) (addr most start size : ℕ) (run : List ℕ) → length bytes ≤ 2 ^ 64 - 1 → HasSegments bytes
+pub stretch_bytes : (bytes : List ℕ) (addr most start size : ℕ) (run : List ℕ) → length bytes ≤ 2 ^ 64 - 1
+    → HasSegments bytes
     → IsStretch bytes (loads_of bytes) addr most start size → run ≡ slice_range bytes start (start + size)
     → (length run ≡ size) × ((k : ℕ) → k < length run → byte_at (memory_of bytes) (addr + k) ≡ Some (get_or run k 0))
 stretch_bytes bytes addr most start size run few held h is =
     let part = start + size - start in
     let inside = h.inside in
-    let count : length run ≡ size = ap length is ∙ omega (arith, length-take part (drop start bytes), length-drop start bytes) in (
+    let count : length run ≡ size =
+    ap length is ∙ omega (arith, length-take part (drop start bytes), length-drop start bytes) in (
       count,
       λ k less.
+          let read = ap (λ r. get_or r k 0) is ∙ get_or-take part (drop start bytes) k 0 (omega arith)
+          ∙ get_or-drop start bytes k 0 in
           byte_found_at bytes (addr + k) few held ∙ ap (option_map (byte_there bytes)) (h.each k (omega arith))
-          ∙ ap (λ n. Some n) (sym (ap (λ r. get_or r k 0) is ∙ get_or-take part (drop start bytes) k 0 (omega arith) ∙ get_or-drop start bytes k 0)),
+          ∙ ap (λ n. Some n) (sym read),
     )
 
 -- what was read of a stretch that goes no further
@@ -242,9 +246,11 @@ pub stretch_run : (bytes : List ℕ) (addr most start size : ℕ) (run : List �
     → IsStretch bytes (loads_of bytes) addr most start size
     → (size < most → place_in (loads_of bytes) (addr + size) ≢ Some (start + size))
     → run ≡ slice_range bytes start (start + size) → length run ≡ size
-    → (from : ℕ) × IsRun (loads_of bytes) addr most from (length run) × (run ≡ slice_range bytes from (from + length run))
+    → (from : ℕ) × IsRun (loads_of bytes) addr most from (length run)
+    × (run ≡ slice_range bytes from (from + length run))
 stretch_run bytes addr most start size run h longest is count =
-    let whole : IsRun (loads_of bytes) addr most start size = record { some = h.some; short = h.short; each = h.each; longest = longest } in (
+    let whole : IsRun (loads_of bytes) addr most start size =
+    record { some = h.some; short = h.short; each = h.each; longest = longest } in (
       start,
       subst (λ n. IsRun (loads_of bytes) addr most start n) (sym count) whole,
       is ∙ ap (λ n. slice_range bytes start (start + n)) (sym count),

@@ -270,7 +270,8 @@ impl BackedDump {
     /// `addr` is not in memory. They are those of the memory that `view` means. It takes no memory.
     pub fn piece(&self, addr: u64, len: u64) -> Option<&[u8]>
         ensures none { result ≡ None ↔ (len ≡ 0) ⊎ (byte_at (regions_of self.now) addr ≡ None) }
-        ensures run { IfSome result (λ piece. (file start : ℕ) × IsFileRun self.now addr len file start (length piece.now)
+        ensures run { IfSome result (λ piece. (file start : ℕ)
+            × IsFileRun self.now addr len file start (length piece.now)
             × (piece.now ≡ slice_range (file_bytes self.now file) start (start + length piece.now))) }
         ensures bytes { IfSome result (λ piece. (k : ℕ) → k < length piece.now
             → byte_at (regions_of self.now) (addr + k) ≡ Some (slice_index piece.now k)) }

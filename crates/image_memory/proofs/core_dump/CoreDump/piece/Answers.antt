@@ -12,7 +12,8 @@ use Rattle.image_memory.proofs.core_dump.CoreDump.piece.Goals.{After-part, else-
 pub returns-in_err-first-clause-none : goal.returns-in_err-first-clause-none
 returns-in_err-first-clause-none c =
     let core = subst (λ bs. AreContents bs c.self.inside.contents) c.self.view_is c.self.invariant in
-    let none = byte_of_no_place c.args.self.now c.args.addr core.fits core.core.accepted.readable (c.stretch.ensures.none c.in_err-first.was) in
+    let none = byte_of_no_place c.args.self.now c.args.addr core.fits core.core.accepted.readable
+    (c.stretch.ensures.none c.in_err-first.was) in
     (λ _. inr none, λ _. c.from_residual.ensures)
 
 pub overflow_add-start : goal.overflow_add-start
@@ -27,16 +28,21 @@ loop-size-preserved c =
     c.loop-size.invariant (c.goes_on-more.ensures.run (omega (arith, c.if-more-eq0.false))) c.loop-size-test.true
 
 -- what was read is what stands there in the file
-shown : (c : After-part) → c.part.result.now ≡ slice_range c.args.self.now c.in_ok-first.first.start (c.in_ok-first.first.start + c.loop-size.size)
+shown : (c : After-part)
+    → let start = c.in_ok-first.first.start in
+    c.part.result.now ≡ slice_range c.args.self.now start (start + c.loop-size.size)
 shown c =
     let start = c.in_ok-first.first.start in
-    c.part.ensures ∙ ap (λ bs. slice_range bs start (start + c.loop-size.size)) (c.deref-bytes.ensures.value ∙ c.self.view_is)
+    c.part.ensures
+    ∙ ap (λ bs. slice_range bs start (start + c.loop-size.size)) (c.deref-bytes.ensures.value ∙ c.self.view_is)
 
 held : (c : After-part) → (length c.part.result.now ≡ c.loop-size.size)
-    × ((k : ℕ) → k < length c.part.result.now → byte_at (memory_of c.args.self.now) (c.args.addr + k) ≡ Some (get_or c.part.result.now k 0))
+    × ((k : ℕ) → k < length c.part.result.now
+    → byte_at (memory_of c.args.self.now) (c.args.addr + k) ≡ Some (get_or c.part.result.now k 0))
 held c =
     let core = subst (λ bs. AreContents bs c.self.inside.contents) c.self.view_is c.self.invariant in
-    stretch_bytes c.args.self.now c.args.addr c.args.len c.in_ok-first.first.start c.loop-size.size c.part.result.now core.fits
+    let start = c.in_ok-first.first.start in
+    stretch_bytes c.args.self.now c.args.addr c.args.len start c.loop-size.size c.part.result.now core.fits
     core.core.accepted.readable c.loop-size.invariant (shown c)
 
 pub returns-clause-none : goal.returns-clause-none
@@ -45,7 +51,8 @@ returns-clause-none c = (
   λ none. ⊎_elim (λ (empty : c.args.len ≡ 0). absurd (omega (arith, c.if-len-eq0.false)))
       (λ (lacks : byte_at (memory_of c.args.self.now) c.args.addr ≡ None).
       let count = (held c).0 in
-      absurd (first_byte_there _ c.args.addr c.part.result.now (omega (arith, c.loop-size.invariant.some)) (held c).1 lacks))
+      let some = c.loop-size.invariant.some in
+      absurd (first_byte_there _ c.args.addr c.part.result.now (omega arith) (held c).1 lacks))
       none,
 )
 
@@ -58,7 +65,8 @@ returns-clause-run c =
       | else-loop-size-test w ↦ λ less. absurd (omega (arith, w.loop-size-test.false))
       | then-loop-size-test+then-more-eq0 w ↦ λ less. w.goes_on-more.ensures.none (omega (arith, w.if-more-eq0.true))
     ] in
-    stretch_run c.args.self.now c.args.addr c.args.len start size c.part.result.now c.loop-size.invariant longest (shown c) (held c).0
+    stretch_run c.args.self.now c.args.addr c.args.len start size c.part.result.now c.loop-size.invariant longest
+    (shown c) (held c).0
 
 pub returns-clause-bytes : goal.returns-clause-bytes
 returns-clause-bytes c = (held c).1

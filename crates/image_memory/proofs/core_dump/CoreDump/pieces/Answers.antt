@@ -16,4 +16,5 @@ returns-clause-few c =
 pub returns-clause-only : goal.returns-clause-only
 returns-clause-only c = λ pieces are.
     let core = subst (λ bs. AreContents bs c.self.inside.contents) c.self.view_is c.self.invariant in
-    pieces_as_many (ranges_of c.args.self.now) pieces c.self.inside.contents.table are core.pieces_are ∙ sym c.len.ensures.count
+    pieces_as_many (ranges_of c.args.self.now) pieces c.self.inside.contents.table are core.pieces_are
+    ∙ sym c.len.ensures.count
