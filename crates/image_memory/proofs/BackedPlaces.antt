@@ -1,5 +1,5 @@
 -- Where the bytes of a core and its images stand, and that they are those of the memory.
-use Rattle.std.proofs.Common.{◌≡◌, ◌⊎◌, ℕ, ◌+◌, ◌-◌, ◌<◌, ◌≤◌, ◌^◌, min, Bool, true, false, not, cond, List, [], ◌∷◌, length, drop, get_or, map, refl, sym, ap, subst, ◌∙◌, arith, inl, inr, ⊎_elim, length-drop, length-take, get_or-drop, get_or-take}
+use Rattle.std.proofs.Common.{◌≡◌, ◌≢◌, ◌⊎◌, ℕ, ◌+◌, ◌-◌, ◌<◌, ◌≤◌, ◌^◌, min, Bool, true, false, not, cond, List, [], ◌∷◌, length, drop, get_or, map, refl, sym, ap, subst, ◌∙◌, arith, inl, inr, ⊎_elim, length-drop, length-take, get_or-drop, get_or-take}
 use Rattle.std.specs.Prelude.{All, Option, Some, None, find, option_map, slice_get, slice_range}
 use Rattle.std.specs.List.{list_any, position_or_len}
 use Rattle.std.proofs.lemmas.Bool.{cases_lt}
@@ -13,7 +13,7 @@ use Rattle.process_memory.proofs.Stretch.{byte_below}
 use Rattle.process_memory.proofs.Records.{byte_at-above}
 use Rattle.image_memory.specs.declared.backed_dump.FileRange.{FileRange}
 use Rattle.image_memory.specs.Backed.{Backed, file_bytes, file_ranges, region_in, regions_of}
-use Rattle.image_memory.specs.BackedPlaces.{IsFilePiece, IsFileStretch, IsInFile, all_ranges, place_by, range_of_file, spans_file, stands_in}
+use Rattle.image_memory.specs.BackedPlaces.{IsFilePiece, IsFileRun, IsFileStretch, IsInFile, all_ranges, place_by, range_of_file, spans_file, stands_in}
 use Rattle.image_memory.specs.Overlays.{ArePieces, IsRange, found_by, owner_of, spans}
 use Rattle.image_memory.proofs.Lists.{find-map}
 use Rattle.image_memory.proofs.Overlays.{IsWithin, find_none, piece_within, spans_from}
@@ -167,3 +167,24 @@ stretch_bytes dump addr most file start size run held h is =
           byte_stands dump (addr + k) held ∙ ap (option_map (byte_in dump)) (h.each k (omega arith))
           ∙ ap (λ n. Some n) (sym (ap (λ r. get_or r k 0) is ∙ get_or-take part (drop start bytes) k 0 (omega arith) ∙ get_or-drop start bytes k 0)),
     )
+
+-- what was read of a run that goes no further
+pub file_run : (dump : Backed) (addr most file start size : ℕ) (run : List ℕ)
+    → IsFileStretch dump addr most file start size
+    → (size < most → stands_in dump (addr + size) ≢ Some (file, start + size))
+    → run ≡ slice_range (file_bytes dump file) start (start + size) → length run ≡ size
+    → (name from : ℕ) × IsFileRun dump addr most name from (length run)
+    × (run ≡ slice_range (file_bytes dump name) from (from + length run))
+file_run dump addr most file start size run h longest is count =
+    let whole : IsFileRun dump addr most file start size =
+    record { some = h.some; short = h.short; each = h.each; longest = longest } in (
+      file,
+      start,
+      subst (λ n. IsFileRun dump addr most file start n) (sym count) whole,
+      is ∙ ap (λ n. slice_range (file_bytes dump file) start (start + n)) (sym count),
+    )
+
+-- an address without a place has no byte
+pub byte_of_no_file : (dump : Backed) (addr : ℕ) → All (IsInFile dump) (file_ranges dump) → stands_in dump addr ≡ None
+    → byte_at (regions_of dump) addr ≡ None
+byte_of_no_file dump addr held none = byte_stands dump addr held ∙ ap (option_map (byte_in dump)) none

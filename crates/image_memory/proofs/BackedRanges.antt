@@ -16,6 +16,7 @@ use Rattle.image_memory.specs.declared.file_table.FilePlace.{FilePlace}
 use Rattle.image_memory.specs.declared.maps.CoreMapRange.{CoreMapRange}
 use Rattle.image_memory.specs.Backed.{AreImageRanges, Backed, IsBackedMemory, backed_region, byte_place, core_range, file_bytes, file_ranges, image_range, is_writable, numbered_range, range_by, region_by, region_in, region_of_image, regions_of}
 use Rattle.image_memory.specs.BackedPlaces.{AreFilesOf, IsInFile, IsInImage, IsKept, all_ranges}
+use Rattle.image_memory.specs.Cores.{IsCore}
 use Rattle.image_memory.specs.FileTables.{Entry}
 use Rattle.image_memory.specs.Images.{Pushed, first_under, images_shown, is_under}
 use Rattle.image_memory.specs.Maps.{AreMaps, ArePlaces, entry_for, map_by, place_by}
@@ -208,9 +209,11 @@ no_owned : Owned
 no_owned = record { entry = record { start = 0; len = 0; offset = 0 }; owner = 0 }
 
 -- what is kept for look-ups
-pub IsKept-of : (dump : Backed) (laid : List Owned) (table : List TableEntry) (files : List ℕ) → All (IsInFile dump) (file_ranges dump)
+pub IsKept-of : (dump : Backed) (laid : List Owned) (table : List TableEntry) (files : List ℕ) → IsCore dump.core
+    → All (IsInFile dump) (file_ranges dump)
     → AreLaid (all_ranges dump) laid → table ≡ map entry_of laid → AreFilesOf (file_ranges dump) laid files → IsKept dump table files
-IsKept-of dump laid table files held are is of = record {
+IsKept-of dump laid table files core held are is of = record {
+  core = core;
   held = held;
   pieces = subst (ArePieces (all_ranges dump)) (sym is) (ArePieces-laid (all_ranges dump) laid are);
   counted = omega (arith, of.counted, ap length is, length-map laid entry_of);

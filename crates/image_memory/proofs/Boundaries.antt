@@ -69,10 +69,11 @@ end r = r.start + r.len
 abbrev StartsIn : List ℕ → TableEntry → Type 0
 StartsIn xs e = (0 < e.len) × IsIn e.start xs
 
-tail_ascends : (e : TableEntry) (es : List TableEntry) → AllPairs StandsBefore (e ∷ es) → AllPairs StandsBefore es
+pub tail_ascends : (e : TableEntry) (es : List TableEntry) → AllPairs StandsBefore (e ∷ es) → AllPairs StandsBefore es
 tail_ascends e es h = λ i j d ij less. h (suc i) (suc j) d (omega arith) (omega arith)
 
-tail_after : (e : TableEntry) (es : List TableEntry) → AllPairs StandsBefore (e ∷ es) → All (λ next. end e ≤ next.start) es
+pub tail_after : (e : TableEntry) (es : List TableEntry) → AllPairs StandsBefore (e ∷ es)
+    → All (λ next. e.start + e.len ≤ next.start) es
 tail_after e es h = λ k d less. h 0 (suc k) d (omega arith) (omega arith)
 
 -- entries that ascend, each of which starts at one of some numbers

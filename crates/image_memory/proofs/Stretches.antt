@@ -1,5 +1,5 @@
 -- Where the bytes of a piece stand, and that they are those of the memory.
-use Rattle.std.proofs.Common.{◌≡◌, ◌⊎◌, ℕ, ◌+◌, ◌-◌, ◌<◌, ◌≤◌, ◌^◌, min, leb, true, false, cond, List, [], ◌∷◌, length, take, drop, get_or, map, refl, sym, ap, subst, ◌∙◌, arith, inl, inr, ⊎_elim, length-drop, length-take}
+use Rattle.std.proofs.Common.{◌≡◌, ◌≢◌, ◌⊎◌, ℕ, ◌+◌, ◌-◌, ◌<◌, ◌≤◌, ◌^◌, min, leb, true, false, cond, List, [], ◌∷◌, length, take, drop, get_or, map, refl, sym, ap, subst, ◌∙◌, arith, inl, inr, ⊎_elim, length-drop, length-take}
 use Rattle.std.specs.Prelude.{All, Option, Some, None, find, option_map, slice_get, slice_range}
 use Rattle.std.specs.List.{list_any}
 use Rattle.std.proofs.lemmas.Bool.{cases_lt, le-leb, lt-leb}
@@ -16,7 +16,7 @@ use Rattle.process_memory.proofs.Records.{byte_at-above}
 use Rattle.image_memory.specs.Lookups.{IsHit}
 use Rattle.image_memory.specs.Overlays.{ArePieces, IsPiece, IsRange, found_at, found_by, owner_of, spans}
 use Rattle.image_memory.specs.Pieces.{loads_of, memory_of, range_of, ranges_of, segment_region}
-use Rattle.image_memory.specs.Places.{IsHeld, IsStretch, holds_byte, place_in, stands_at}
+use Rattle.image_memory.specs.Places.{IsHeld, IsRun, IsStretch, holds_byte, place_in, stands_at}
 use Rattle.image_memory.proofs.Held.{held_loads}
 use Rattle.image_memory.proofs.Lists.{find-map}
 use Rattle.image_memory.proofs.Overlays.{IsWithin, find_none, piece_found, piece_within, spans_from, spans_within}
@@ -223,10 +223,40 @@ pub byte_none : (bytes : List ℕ) (pieces : List TableEntry) (addr : ℕ) → l
 byte_none bytes pieces addr few h are none =
     byte_found_at bytes addr few h ∙ ap (option_map (byte_there bytes)) (place_none bytes pieces addr are none)
 
--- an address whose rest of a piece has bytes has one
-pub byte_some : (bytes : List ℕ) (addr : ℕ) (rest : List ℕ) → 0 < length rest
-    → ((k : ℕ) → k < length rest → byte_at (memory_of bytes) (addr + k) ≡ Some (get_or rest k 0)) → byte_at (memory_of bytes) addr ≡ None → ⊥
-byte_some bytes addr rest some each none =
-    let here : addr + 0 ≡ addr = omega arith in
-    let byte = sym (ap (byte_at (memory_of bytes)) here) ∙ each 0 some in
-    absurd (cc)
+-- the bytes of a stretch are those of the memory
+pub stretch_bytes : (bytes : List ℕ) (addr most start size : ℕ) (run : List ℕ) → length bytes ≤ 2 ^ 64 - 1
+    → HasSegments bytes
+    → IsStretch bytes (loads_of bytes) addr most start size → run ≡ slice_range bytes start (start + size)
+    → (length run ≡ size) × ((k : ℕ) → k < length run → byte_at (memory_of bytes) (addr + k) ≡ Some (get_or run k 0))
+stretch_bytes bytes addr most start size run few held h is =
+    let part = start + size - start in
+    let inside = h.inside in
+    let count : length run ≡ size =
+    ap length is ∙ omega (arith, length-take part (drop start bytes), length-drop start bytes) in (
+      count,
+      λ k less.
+          let read = ap (λ r. get_or r k 0) is ∙ get_or-take part (drop start bytes) k 0 (omega arith)
+          ∙ get_or-drop start bytes k 0 in
+          byte_found_at bytes (addr + k) few held ∙ ap (option_map (byte_there bytes)) (h.each k (omega arith))
+          ∙ ap (λ n. Some n) (sym read),
+    )
+
+-- what was read of a stretch that goes no further
+pub stretch_run : (bytes : List ℕ) (addr most start size : ℕ) (run : List ℕ)
+    → IsStretch bytes (loads_of bytes) addr most start size
+    → (size < most → place_in (loads_of bytes) (addr + size) ≢ Some (start + size))
+    → run ≡ slice_range bytes start (start + size) → length run ≡ size
+    → (from : ℕ) × IsRun (loads_of bytes) addr most from (length run)
+    × (run ≡ slice_range bytes from (from + length run))
+stretch_run bytes addr most start size run h longest is count =
+    let whole : IsRun (loads_of bytes) addr most start size =
+    record { some = h.some; short = h.short; each = h.each; longest = longest } in (
+      start,
+      subst (λ n. IsRun (loads_of bytes) addr most start n) (sym count) whole,
+      is ∙ ap (λ n. slice_range bytes start (start + n)) (sym count),
+    )
+
+-- an address without a place has no byte
+pub byte_of_no_place : (bytes : List ℕ) (addr : ℕ) → length bytes ≤ 2 ^ 64 - 1 → HasSegments bytes
+    → place_in (loads_of bytes) addr ≡ None → byte_at (memory_of bytes) addr ≡ None
+byte_of_no_place bytes addr few h none = byte_found_at bytes addr few h ∙ ap (option_map (byte_there bytes)) none

@@ -2,6 +2,7 @@
 use Rattle.std.specs.Prelude.{◌≡◌, ◌≢◌, ◌⊎◌, ℕ, ◌+◌, ◌<◌, ◌≤◌, ◌-◌, ◌^◌, All, Bool, List, length, map, find, Option, Some, option_map, slice_get, slice_index, slice_index_or, []}
 use Rattle.elf64_core.specs.declared.span_table.TableEntry.{TableEntry}
 use Rattle.image_memory.specs.Backed.{Backed, file_bytes, file_ranges}
+use Rattle.image_memory.specs.Cores.{IsCore}
 use Rattle.image_memory.specs.Overlays.{ArePieces, IsPieceOf, IsRange, found_by, spans}
 use Rattle.image_memory.specs.declared.backed_dump.FileRange.{FileRange}
 use Rattle.image_memory.specs.declared.overlay.Owned.{Owned}
@@ -59,8 +60,9 @@ pub record IsFilePiece (dump : Backed) (file : ℕ) (piece : TableEntry) : Type 
   pub is : IsPieceOf (all_ranges dump) owner piece
   pub file_is : (d : FileRange) → file ≡ (slice_index_or (file_ranges dump) owner d).file
 
--- what is kept for look-ups: the pieces, and the file of each
+-- what is kept: a core, and for look-ups the pieces, and the file of each
 pub record IsKept (dump : Backed) (table : List TableEntry) (files : List ℕ) : Type 0 where
+  pub core : IsCore dump.core
   pub held : All (IsInFile dump) (file_ranges dump)
   pub pieces : ArePieces (all_ranges dump) table
   pub counted : length files ≡ length table

@@ -1,12 +1,14 @@
 //! The memory of a core and of the images that it mapped.
-ghost use Rattle.std.specs.Prelude.{◌≡◌, ◌≢◌, ◌⊎◌, ◌+◌, ◌-◌, ◌<◌, ◌≤◌, ◌^◌, ◌++◌, ℕ, All, IfOk, IfSome, IsTrue, MatchOption, None, Some, length, map, slice_range};
+ghost use Rattle.std.specs.Prelude.{◌≡◌, ◌≢◌, ◌⊎◌, ◌↔◌, ◌+◌, ◌-◌, ◌<◌, ◌≤◌, ◌^◌, ◌++◌, ℕ, All, IfOk, IfSome, IsTrue, None, Some, length, map, slice_index, slice_range};
 ghost use Rattle.image_memory.specs.Backed.{AreImageRanges, Backed, IsBacked, IsBackedMemory, core_range, file_bytes, file_ranges, range_by, range_in, regions_of};
 ghost use Rattle.image_memory.specs.BackedPlaces.{AreFilesOf, IsFilePiece, IsFileRun, IsFileStretch, IsInFile, IsInImage, IsKept, range_of_file, stands_in};
+ghost use Rattle.image_memory.specs.Cores.{IsCore};
 ghost use Rattle.image_memory.specs.Images.{images_shown};
 ghost use Rattle.image_memory.specs.Mmap.{shown_bytes};
 ghost use Rattle.image_memory.specs.Overlays.{IsRange, spans};
 ghost use Rattle.image_memory.specs.Pieces.{loads_of};
 ghost use Rattle.process_memory.specs.Layers.{plain};
+ghost use Rattle.process_memory.specs.Memory.{byte_at};
 
 use crate::file_table::FilePlace;
 use crate::lookup::look_up;
@@ -193,9 +195,10 @@ impl BackedDump {
         })
     }
 
-    /// The core alone.
+    /// The core alone, whose bytes are those of a core.
     pub fn core(&self) -> &CoreDump
-        ensures { result.now ≡ self.now.core }
+        ensures same { result.now ≡ self.now.core }
+        ensures core { IsCore self.now.core }
     {
         &self.core
     }
@@ -264,11 +267,14 @@ impl BackedDump {
 
     /// The bytes of the longest run of at most `len` addresses from `addr` on that are in memory and whose
     /// bytes follow each other in the core's file or in one image; none exactly where `len` is 0 or the byte at
-    /// `addr` is not in memory. It takes no memory.
+    /// `addr` is not in memory. They are those of the memory that `view` means. It takes no memory.
     pub fn piece(&self, addr: u64, len: u64) -> Option<&[u8]>
-        ensures { MatchOption result ((len ≡ 0) ⊎ (stands_in self.now addr ≡ None))
-            (λ piece. (file start size : ℕ) × IsFileRun self.now addr len file start size
-            × (piece.now ≡ slice_range (file_bytes self.now file) start (start + size))) }
+        ensures none { result ≡ None ↔ (len ≡ 0) ⊎ (byte_at (regions_of self.now) addr ≡ None) }
+        ensures run { IfSome result (λ piece. (file start : ℕ)
+            × IsFileRun self.now addr len file start (length piece.now)
+            × (piece.now ≡ slice_range (file_bytes self.now file) start (start + length piece.now))) }
+        ensures bytes { IfSome result (λ piece. (k : ℕ) → k < length piece.now
+            → byte_at (regions_of self.now) (addr + k) ≡ Some (slice_index piece.now k)) }
     {
         if len == 0 {
             return None;

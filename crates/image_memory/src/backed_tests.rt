@@ -60,12 +60,13 @@ fn core(alloc: Global) -> Result<Vec<u8>, AllocError> {
 }
 
 /// Addresses and lengths, what is read there, and the piece there.
-const READS: [(u64, u64, Option<&[u8]>, Option<&[u8]>); 9] = [
+const READS: [(u64, u64, Option<&[u8]>, Option<&[u8]>); 10] = [
     (0x1000, 12, Some(b"AA6789abcdef"), Some(b"AA")),
     (0x1002, 11, None, Some(b"6789abcdef")),
     (0x2000, 1, None, None),
     (0x2ffc, 8, Some(b"89abcdef"), Some(b"89abcdef")),
     (0x3000, 5, None, Some(b"cdef")),
+    (0x3000, 1 << 62, None, Some(b"cdef")),
     (0x4000, 1, None, None),
     (0x5000, 1, None, None),
     (0x6000, 4, Some(b"wxyz"), Some(b"wxyz")),

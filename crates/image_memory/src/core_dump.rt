@@ -1,5 +1,5 @@
 //! A core dump: the file of a dead process's memory.
-ghost use Rattle.std.specs.Prelude.{◌≡◌, ◌≢◌, ◌⊎◌, ◌↔◌, ◌<◌, ◌≤◌, ◌*◌, List, ℕ, IfOk, IfErr, IfSome, IsTrue, is_some, Err, MatchOption, None, Option, Some, ◌+◌, length, option_and_then, option_copied, slice_get, slice_index, slice_range};
+ghost use Rattle.std.specs.Prelude.{◌≡◌, ◌≢◌, ◌⊎◌, ◌↔◌, ◌<◌, ◌≤◌, ◌*◌, List, ℕ, IfOk, IfErr, IfSome, IsTrue, is_some, Err, None, Option, Some, ◌+◌, length, option_and_then, option_copied, slice_get, slice_index, slice_range};
 ghost use Rattle.elf64_core.specs.Header.{machine_of};
 ghost use Rattle.image_memory.specs.Contents.{AreContents};
 ghost use Rattle.image_memory.specs.Cores.{IsCore, IsEarly, Refuses};
@@ -90,10 +90,11 @@ impl CoreDump {
     }
 
     /// The maps: the load segments in table order, each with the name that the file tables give last for its
-    /// start, over all tables in order, if one does.
+    /// start, over all tables in order, if one does. The bytes are those of a core, as `new` saw.
     pub fn maps(&self) -> &Vec<CoreMapRange>
         ensures are { AreMaps self.now result.now.items }
         ensures only { (maps : List Map) → AreMaps self.now maps → maps ≡ result.now.items }
+        ensures core { IsCore self.now }
     {
         &self.contents.maps
     }
@@ -154,9 +155,11 @@ impl CoreDump {
     }
 
     /// How many pieces of memory there are: a piece is a longest interval of addresses whose bytes are those
-    /// of one load segment. There are at most twice as many as load segments.
+    /// of one load segment. There are at most twice as many as load segments, and no list of such intervals
+    /// has another length.
     pub fn pieces(&self) -> u32
         ensures are { (pieces : List Entry) × ArePieces (ranges_of self.now) pieces × (result ≡ length pieces) }
+        ensures only { (pieces : List Entry) → ArePieces (ranges_of self.now) pieces → length pieces ≡ result }
         ensures few { result ≤ 2 * length (loads_of self.now) }
     {
         self.contents.table.len()
@@ -178,7 +181,8 @@ impl CoreDump {
     }
 
     /// The bytes from `addr` up to the end of the piece that holds it; none exactly where the address has no
-    /// byte. It adds as many steps as it takes to halve the pieces, and takes no memory.
+    /// byte. It adds k steps to the counter that is handed in, where 2^k is at most twice the number that
+    /// `pieces` gives and one; that nothing is looked up beside these steps no clause says. It takes no memory.
     pub fn find<L: Ledger>(&self, addr: u64, steps: &mut Steps<L>) -> Option<&[u8]>
         ensures none { result ≡ None ↔ byte_at (memory_of self.now) addr ≡ None }
         ensures rest { IfSome result (λ rest. IsRest (loads_of self.now) addr (length rest.now)) }
@@ -220,12 +224,15 @@ impl CoreDump {
 
     /// The bytes of the longest run of at most `len` addresses from `addr` on that are in memory and whose
     /// bytes follow each other in the file; none exactly where `len` is 0 or the byte at `addr` is not in
-    /// memory. It takes no memory. Where the byte at an address stands is as `view` has it: in the first load
-    /// segment that holds it. For each run of one segment the pieces are halved once.
+    /// memory. They are those of the memory that `view` means. Where the byte at an address stands is as `view`
+    /// has it: in the first load segment that holds it. It takes no memory. The pieces are looked up once for
+    /// each run of one segment, of which no clause speaks.
     pub fn piece(&self, addr: u64, len: u64) -> Option<&[u8]>
-        ensures { MatchOption result ((len ≡ 0) ⊎ (place_in (loads_of self.now) addr ≡ None))
-            (λ piece. (start size : ℕ) × IsRun (loads_of self.now) addr len start size
-            × (piece.now ≡ slice_range self.now start (start + size))) }
+        ensures none { result ≡ None ↔ (len ≡ 0) ⊎ (byte_at (memory_of self.now) addr ≡ None) }
+        ensures run { IfSome result (λ piece. (start : ℕ) × IsRun (loads_of self.now) addr len start (length piece.now)
+            × (piece.now ≡ slice_range self.now start (start + length piece.now))) }
+        ensures bytes { IfSome result (λ piece. (k : ℕ) → k < length piece.now
+            → byte_at (memory_of self.now) (addr + k) ≡ Some (slice_index piece.now k)) }
     {
         if len == 0 {
             return None;

@@ -16,7 +16,8 @@ pub(crate) struct Hit {
     pub(crate) entry: TableEntry,
 }
 
-/// The entry that holds an address; none exactly where no entry does. The table is halved with each step.
+/// The entry that holds an address; none exactly where no entry does. It adds as many steps to the counter that is
+/// handed in as it takes to halve the table; that it looks at no entry beside these no clause says.
 pub(crate) fn lookup<L: Ledger>(table: &SpanTable, addr: u64, steps: &mut Steps<L>) -> Option<Hit>
     ensures hit { IfSome result (λ hit. IsHit table.now addr hit.number hit.entry) }
     ensures none { result ≡ None → list_any (spans addr) table.now ≡ false }

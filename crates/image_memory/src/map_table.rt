@@ -11,8 +11,8 @@ use elf64_core::{SpanTable, TableEntry};
 use std::alloc::{AllocError, Global};
 use std::marker::Model;
 
-/// The addresses that lie in one of some maps, whether or not the core has their bytes. They are looked up by
-/// halving; the maps may overlap.
+/// The addresses that lie in one of some maps, whether or not the core has their bytes; the maps may overlap.
+/// They are looked up by halving, of which no clause speaks.
 ///
 /// Contracts see it as the spans of addresses that it holds.
 #[derive(Debug, Drop)]

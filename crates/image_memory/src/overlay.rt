@@ -116,7 +116,7 @@ fn lay_one(alloc: Global, range: TableEntry) -> Result<Vec<Owned>, AllocError>
 }
 
 /// The pieces of ranges, each the longest interval of addresses of which its range is the first that holds
-/// them. Time goes by n log n: those of one half are laid over those of the other.
+/// them. Those of one half are laid over those of the other, so that time goes by n log n, which no clause says.
 pub(crate) fn lay(alloc: Global, ranges: &[TableEntry]) -> Result<Vec<Owned>, AllocError>
     requires { All IsRange ranges.now }
     ensures { IfOk result (λ laid. AreLaid ranges.now laid.items) }

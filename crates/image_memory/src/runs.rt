@@ -2,9 +2,10 @@
 ghost use Rattle.std.specs.Prelude.{◌≡◌, ℕ, ◌+◌, ◌<◌, ◌≤◌, List, length, slice_index, slice_range, EachIndex, IsSome, IfSome, Some, None, OnErr, IsErrOf};
 ghost use Rattle.std.specs.Bool.{OnTrue, OnFalse};
 ghost use Rattle.process_memory.specs.Memory.{Region, byte_at, record_at};
-ghost use Rattle.process_memory.specs.Seen.{Answers, fault_of, with_bytes};
+ghost use Rattle.process_memory.specs.Seen.{Answers, fault_of, items_of, with_bytes};
 
 use process_memory::ReadFault;
+use std::alloc::Global;
 
 /// The bytes from a place on up to another.
 pub(crate) fn part(bytes: &[u8], start: u64, end: u64) -> &[u8]
@@ -80,7 +81,7 @@ fn read_whole<R: Runs>(runs: &R, addr: u64, buf: &mut [u8]) -> bool
 /// Fills the buffer with the bytes from `addr` on, each that of the first piece that holds its address.
 ///
 /// Ok exactly where every byte of the range is there; else `Unreadable` names the range, and the buffer is
-/// as it was. It takes no memory. A range in one run is had at one go; any other is looked at whole before
+/// as it was. It takes no memory. A range in one run is copied from it; any other is looked at whole before
 /// anything is copied, run by run.
 pub(crate) fn read_runs<R: Runs>(runs: &R, addr: u64, buf: &mut [u8]) -> Result<(), ReadFault>
     ensures gives { Answers fault_of
@@ -100,4 +101,29 @@ pub(crate) fn read_runs<R: Runs>(runs: &R, addr: u64, buf: &mut [u8]) -> Result<
     }
     fill(runs, addr, buf);
     Ok(())
+}
+
+/// A copy of the `len` bytes from `addr` on, each that of the first piece that holds its address.
+///
+/// Ok exactly where every byte of the range is there; else `Unreadable` names the range. Memory is taken only
+/// once the whole range was looked at, run by run.
+pub(crate) fn copy_runs<R: Runs>(
+    alloc: Global,
+    runs: &R,
+    addr: u64,
+    len: u64,
+) -> Result<Vec<u8>, ReadFault>
+    ensures gives { Answers fault_of (record_at (byte_at (R.regions runs.now)) addr len) (items_of result) }
+    ensures held { IsErrOf result ReadFault.OutOfMemory
+        → (k : ℕ) → k < len → IsSome (byte_at (R.regions runs.now) (addr + k)) }
+{
+    if !holds(runs, addr, len as usize) {
+        return Err(ReadFault::Unreadable { addr, len });
+    }
+    let mut bytes = match vec![in alloc; 0u8; len as usize] {
+        Ok(bytes) => bytes,
+        Err(_) => return Err(ReadFault::OutOfMemory),
+    };
+    fill(runs, addr, &mut bytes);
+    Ok(bytes)
 }

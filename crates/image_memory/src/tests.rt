@@ -55,7 +55,7 @@ fn core(alloc: Global) -> Result<Vec<u8>, AllocError> {
 }
 
 /// Addresses and lengths, and the bytes there, if they are in memory.
-const READS: [(u64, u64, Option<&[u8]>); 10] = [
+const READS: [(u64, u64, Option<&[u8]>); 11] = [
     (0x1000, 24, Some(b"AAAAAAAAAAAAAAAABBBBBBBB")),
     (0x1010, 1, Some(b"B")),
     (0x1000, 25, None),
@@ -66,6 +66,7 @@ const READS: [(u64, u64, Option<&[u8]>); 10] = [
     (u64::MAX - 4, 4, Some(b"CCCC")),
     (u64::MAX - 1, 2, None),
     (u64::MAX, 0, Some(b"")),
+    (0x1000, 1 << 62, None),
 ];
 
 #[test]

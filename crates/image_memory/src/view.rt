@@ -1,9 +1,10 @@
 //! The memory of a core, over its bytes, and with the images that it mapped.
 ghost use Rattle.std.specs.Prelude.{◌≡◌};
 
-use crate::runs::read_runs;
+use crate::runs::{copy_runs, read_runs};
 use crate::{BackedDump, CoreDump};
 use process_memory::{ProcessMemory, ReadFault};
+use std::alloc::Global;
 
 /// The memory of a core, over the core's own bytes: one piece for each load segment, in table order.
 #[derive(Drop)]
@@ -27,6 +28,10 @@ impl<'a> ProcessMemory for View<'a> {
 
     fn read(&mut self, addr: u64, buf: &mut [u8]) -> Result<(), ReadFault> {
         read_runs(self.core, addr, buf)
+    }
+
+    fn copy(&mut self, alloc: Global, addr: u64, len: u64) -> Result<Vec<u8>, ReadFault> {
+        copy_runs(alloc, self.core, addr, len)
     }
 }
 
@@ -52,5 +57,9 @@ impl<'a> ProcessMemory for BackedView<'a> {
 
     fn read(&mut self, addr: u64, buf: &mut [u8]) -> Result<(), ReadFault> {
         read_runs(self.dump, addr, buf)
+    }
+
+    fn copy(&mut self, alloc: Global, addr: u64, len: u64) -> Result<Vec<u8>, ReadFault> {
+        copy_runs(alloc, self.dump, addr, len)
     }
 }

@@ -151,13 +151,16 @@ answer_length m a n (Ok v) p = rw (v.ok.0) (record_length m a n v.items p.is)
 answer_length m a n (Err e) p = tt
 
 -- a buffer of so many bytes that was filled
-pub record_filled : (m : Memory) (a n count : ℕ) (buf old : List ℕ) → a < 2 ^ 64 → count ≡ length buf → length buf ≡ n → ((k : ℕ) → k < length buf → m (a + k) ≡ Some (get_or buf k 0)) → record_at m a n ≡ Ok (take count (buf ++ drop (length buf) old))
+pub record_filled : (m : Memory) (a n count : ℕ) (buf old : List ℕ) → a < 2 ^ 64 → count ≡ length buf → length buf ≡ n
+    → ((k : ℕ) → k < length buf → m (a + k) ≡ Some (get_or buf k 0))
+    → record_at m a n ≡ Ok (take count (buf ++ drop (length buf) old))
 record_filled m a n count buf old lt few long h =
     ap (record_at m a) (sym long) ∙ record_each m a buf lt h
     ∙ ap Ok (sym (ap (λ i. take i (buf ++ drop (length buf) old)) few ∙ take-append_seam buf (drop (length buf) old)))
 
 -- what was read is in memory
-pub answer_holds : {E : Type 0} {fault : E → Option Fault} (m : Memory) (a n : ℕ) (bs : List ℕ) → Answers fault (record_at m a n) (Ok bs) → (k : ℕ) → k < n → IsSome (m (a + k))
+pub answer_holds : {E : Type 0} {fault : E → Option Fault} (m : Memory) (a n : ℕ) (bs : List ℕ)
+    → Answers fault (record_at m a n) (Ok bs) → (k : ℕ) → k < n → IsSome (m (a + k))
 answer_holds m a n bs p = record_all m a n bs p.is
 
 -- a range that starts past the last address

@@ -6,4 +6,5 @@ pub returns-clause-answer : goal.returns-clause-answer
 returns-clause-answer g c = reading_one c.requires c.copy.ensures.law
 
 pub returns-clause-whole : goal.returns-clause-whole
-returns-clause-whole g c = answer_length _ c.args.addr c.args.len c.copy.result (reading_here (reading_one c.requires c.copy.ensures.law))
+returns-clause-whole g c =
+    answer_length _ c.args.addr c.args.len c.copy.result (reading_here (reading_one c.requires c.copy.ensures.law))

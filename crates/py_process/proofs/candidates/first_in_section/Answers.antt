@@ -7,13 +7,13 @@ use Rattle.py_process.proofs.candidates.first_in_section.Goals as goal
 
 pub returns-in-Err-Unreadable : goal.returns-in-Err-Unreadable
 returns-in-Err-Unreadable g c =
-    reading_gives _ _ (reading_one (omega arith) c.in-Err-Unreadable.ensures) (omega arith)
+    reading_gives _ _ (reading_one (omega arith) c.in-Err-Unreadable.ensures.law) (omega arith)
     (λ m a. ap (find (passes_in (g.M.ContainsAddr.contains c.args.maps.now) c.args.layout.now m)) (section_missing m c.args.addr c.args.size c.in-Err-Unreadable.field-0 _ _ c.in-Err-Unreadable.field-0-is a))
 
 pub returns-in-Err-OutOfMemory : goal.returns-in-Err-OutOfMemory
-returns-in-Err-OutOfMemory g c = reading_gives _ _ (reading_one (omega arith) c.in-Err-OutOfMemory.ensures) (omega arith) (λ m a. tt)
+returns-in-Err-OutOfMemory g c = reading_gives _ _ (reading_one (omega arith) c.in-Err-OutOfMemory.ensures.law) (omega arith) (λ m a. tt)
 
 pub returns : goal.returns
 returns g c =
     section_then (g.M.ContainsAddr.contains c.args.maps.now) c.args.layout.now c.args.addr c.args.size c.in-Ok.bytes.items c.deref.result.now c.first_of_words.result c.deref.ensures.value
-    (reading_one (omega arith) c.in-Ok.ensures) c.first_of_words.ensures
+    (reading_one (omega arith) c.in-Ok.ensures.law) c.first_of_words.ensures

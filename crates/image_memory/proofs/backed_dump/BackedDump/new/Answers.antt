@@ -51,7 +51,8 @@ invariant_of-result-2 c =
     let are = subst (λ rs. AreLaid rs laid) (addresses_are before) c.in_ok-laid.ensures in
     let of = subst (λ ps. AreFilesOf (file_ranges (so_far before)) ps c.in_ok-files.files.items) c.deref-5.ensures.value
     (subst (λ fs. AreFilesOf fs c.deref-5.result.now c.in_ok-files.files.items) (c.deref-6.ensures.value ∙ all_is before) c.in_ok-files.ensures) in
-    let kept = IsKept-of (so_far before) laid c.in_ok-table.table c.in_ok-files.files.items (held before) are is of in
+    let kept = IsKept-of (so_far before) laid c.in_ok-table.table c.in_ok-files.files.items c.core.invariant.core
+    (held before) are is of in
     subst (λ is. IsKept (record { core = c.core.inside.bytes.items; images = is; ranges = c.in_ok-ranges.ranges.items }) c.in_ok-table.table c.in_ok-files.files.items)
     (sym shown) kept
 

@@ -1,6 +1,7 @@
 use Rattle.std.proofs.Common.{subst}
 use Rattle.image_memory.specs.Contents.{AreContents}
-use Rattle.image_memory.proofs.Stretches.{byte_none, byte_some, hit_piece}
+use Rattle.image_memory.proofs.Stretches.{byte_none, hit_piece}
+use Rattle.image_memory.proofs.RunParts.{first_byte_there}
 use Rattle.image_memory.proofs.core_dump.CoreDump.find.Goals as goal
 
 pub returns-in_err-hit-clause-none : goal.returns-in_err-hit-clause-none
@@ -18,5 +19,5 @@ rest-requires-clause-piece g c =
 pub returns-clause-none : goal.returns-clause-none
 returns-clause-none g c = (
   λ e. absurd (cc),
-  λ none. absurd (byte_some c.args.self.now c.args.addr c.rest.result.now c.rest.ensures.some c.rest.ensures.bytes none),
+  λ none. absurd (first_byte_there _ c.args.addr c.rest.result.now c.rest.ensures.some c.rest.ensures.bytes none),
 )
