@@ -13,7 +13,7 @@ use Rattle.py_fields.specs.declared.layout.Layout.{Layout}
 use Rattle.py_version.specs.declared.version.Version.{Version}
 use Rattle.py_layout.specs.Lists.{Clash}
 use Rattle.py_layout.proofs.Choosing.{covers_same}
-use Rattle.py_process.specs.Binary.{IsInfo}
+use Rattle.py_process.specs.Binary.{SaysFacts}
 use Rattle.py_process.specs.Candidates.{IsFirstOf, IsInterpreterIn, IsNoneOf, candidates_of}
 use Rattle.py_process.specs.Facts.{Facts, Known}
 use Rattle.py_process.specs.Findings.{AfterImages, AfterLayout, AfterMaps, AfterSearch, AfterVersion, FindingIs, IsChosen, IsMade, LayoutSays, LockSays, SearchSays, VersionSays}
@@ -22,8 +22,7 @@ use Rattle.py_process.specs.Programs.{ArePrograms, FactsAre, FactsOf, FirstMapIs
 use Rattle.py_process.specs.Sources.{FirstTells, sources_of}
 use Rattle.py_process.specs.declared.core_error.CoreError.{CoreError}
 use Rattle.py_process.specs.declared.core_error.CoreError.TheVariants as core
-use Rattle.py_process.proofs.Facts.{facts_same}
-use Rattle.py_process.proofs.Images.{say_same}
+use Rattle.py_process.proofs.Images.{facts_once}
 use Rattle.py_process.proofs.Telling.{told_once}
 use Rattle.core_stacks.proofs.Agreement.{Agree, IsKept, then_agree}
 use Rattle.core_stacks.proofs.Firsts.{first_same, none_first}
@@ -76,9 +75,8 @@ maps_agree maps a b one two na nb = maps_one maps a b (maps_cause maps a one na)
 says_same : (images : Pushed) (m : CoreMapRange) (f g : Facts) → ImageSays images m f → ImageSays images m g → f ≡ g
 says_same images m f g one two =
     let image : one.image ≡ two.image = same_Some _ _ (sym one.held ∙ two.held) in
-    let says : IsInfo (shown_bytes two.image) m.segment.addr m.segment.mem_size one.info =
-    subst (λ i. IsInfo (shown_bytes i) m.segment.addr m.segment.mem_size one.info) image one.says in
-    one.are ∙ facts_same one.info two.info (say_same (shown_bytes two.image) m.segment.addr m.segment.mem_size one.info two.info says two.says) ∙ sym two.are
+    facts_once (shown_bytes two.image) m.segment.addr m.segment.mem_size f g
+    (subst (λ i. SaysFacts (shown_bytes i) m.segment.addr m.segment.mem_size f) image one.says) two.says
 
 facts_are : (images : Pushed) (m : CoreMapRange) (f g : Option Facts) → FactsAre images m f → FactsAre images m g → f ≡ g
 facts_are images m None None one two = refl

@@ -1,5 +1,5 @@
 -- Where a walk meets no fault of one kind, its first fault of another is one of a member that it comes to.
-use Rattle.std.proofs.Common.{◌≡◌, ◌⊎◌, ℕ, zero, suc, List, [], ◌∷◌, ◌++◌, refl, sym, inl, inr}
+use Rattle.std.proofs.Common.{◌≡◌, ◌≢◌, ◌⊎◌, ℕ, zero, suc, List, [], ◌∷◌, ◌++◌, arith, refl, sym, inl, inr}
 use Rattle.std.specs.Prelude.{Option, Some, None, Ok, Err}
 use Rattle.process_memory.specs.Memory.{Found, Fault}
 use Rattle.process_memory.specs.Walk.{first_fault, goes_on, walk_faults}
@@ -39,36 +39,36 @@ pub record Meets {S : Type 0} (base faults : S → ℕ → List Fault) (next : �
 module _ {S : Type 0} (over : Fault) (go : S → ℕ → Found (ℕ × S)) (base faults : S → ℕ → List Fault) (next : ℕ → Found ℕ)
     (agree : (s : S) (a : ℕ) (x : ℕ × S) → go s a ≡ Ok x → next a ≡ Ok x.0) (f : Fault) where
   -- what is met behind a member
-  behind : (a n : ℕ) → next a ≡ Ok n → Meets base faults next f n → Meets base faults next f a
-  behind a n is h = record {
+  behind : (a n : ℕ) → a ≢ 0 → next a ≡ Ok n → Meets base faults next f n → Meets base faults next f a
+  behind a n some is h = record {
     path = n ∷ h.path;
     member = h.member;
-    along = (is, h.along);
+    along = (some, is, h.along);
     state = h.state;
     none = h.none;
     first = h.first;
   }
 
-  one : (limit : ℕ) (s : S) (a : ℕ) (x : Found (ℕ × S)) → go s a ≡ x
+  one : (limit : ℕ) (s : S) (a : ℕ) (x : Found (ℕ × S)) → a ≢ 0 → go s a ≡ x
       → ((t : S) (n : ℕ) → walk_faults over go base limit t n ≡ [] → first_fault (walk_faults over go faults limit t n) ≡ Some f → Meets base faults next f n)
       → base s a ++ goes_on x (λ t n. walk_faults over go base limit t n) ≡ []
       → first_fault (faults s a ++ goes_on x (λ t n. walk_faults over go faults limit t n)) ≡ Some f → Meets base faults next f a
-  one limit s a (Err e) is rest none h =
+  one limit s a (Err e) some is rest none h =
       elim (first_in (faults s a) [] f h) [
-        | inl first ↦ record { path = []; member = a; along = refl; state = s; none = empty_front (base s a) [] none; first = first }
+        | inl first ↦ record { path = []; member = a; along = (some, refl); state = s; none = empty_front (base s a) [] none; first = first }
         | inr first ↦ absurd (no_fault f first)
       ]
-  one limit s a (Ok x) is rest none h =
+  one limit s a (Ok x) some is rest none h =
       elim (first_in (faults s a) (walk_faults over go faults limit x.1 x.0) f h) [
         | inl first ↦ record {
           path = [];
           member = a;
-          along = refl;
+          along = (some, refl);
           state = s;
           none = empty_front (base s a) (walk_faults over go base limit x.1 x.0) none;
           first = first;
         }
-        | inr first ↦ behind a x.0 (agree s a x is) (rest x.1 x.0 (empty_rest (base s a) (walk_faults over go base limit x.1 x.0) none) first)
+        | inr first ↦ behind a x.0 some (agree s a x is) (rest x.1 x.0 (empty_rest (base s a) (walk_faults over go base limit x.1 x.0) none) first)
       ]
 
   pub walk_first : (limit : ℕ) (s : S) (head : ℕ) → walk_faults over go base limit s head ≡ []
@@ -76,4 +76,4 @@ module _ {S : Type 0} (over : Fault) (go : S → ℕ → Found (ℕ × S)) (base
   unfolding walk_faults
   walk_first limit s zero none h = absurd (no_fault f h)
   walk_first zero s (suc a) none h = absurd (not_empty over [] none)
-  walk_first (suc limit) s (suc a) none h = one limit s (suc a) (go s (suc a)) refl (walk_first limit) none h
+  walk_first (suc limit) s (suc a) none h = one limit s (suc a) (go s (suc a)) (λ e. omega arith) refl (walk_first limit) none h
