@@ -1,10 +1,10 @@
 -- What was read is a footprint.
-use Rattle.std.proofs.Common.{◌≡◌, ℕ, zero, suc, ◌<◌, ◌+◌, ◌^◌, List, [], ◌∷◌, length, refl, arith}
-use Rattle.std.specs.Prelude.{All, Option, Some, None, slice_get, get_or}
+use Rattle.std.proofs.Common.{◌≡◌, ℕ, ◌<◌, ◌+◌, ◌^◌, List, [], length, refl, arith}
+use Rattle.std.specs.Prelude.{All, Some, slice_get, get_or}
 use Rattle.std.proofs.lemmas.List.Elements.{All-from_get_or}
 use Rattle.std.proofs.lemmas.Option.{slice_get-get_or}
 use Rattle.process_memory.specs.Layers.{plain, recorded}
-use Rattle.process_memory.specs.Memory.{Memory, Region, byte_at}
+use Rattle.process_memory.specs.Memory.{Region, byte_at}
 use Rattle.process_memory.specs.Seen.{AddsShort, HoldsRead, HoldsSpan, Reading, Seen}
 use Rattle.process_memory.specs.declared.memory.Span.{Span}
 use Rattle.process_memory.proofs.Reading.{reading_part}

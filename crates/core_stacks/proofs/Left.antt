@@ -1,9 +1,8 @@
 -- What is left of the errors of stacks where the process was found.
-use Rattle.std.proofs.Common.{◌≡◌, ℕ, List, sym, subst, inl, inr}
-use Rattle.std.specs.Prelude.{Result, Ok, Err, IfErr, Vec}
+use Rattle.std.proofs.Common.{ℕ, List, subst, inl, inr}
+use Rattle.std.specs.Prelude.{Result, Ok, Err, IfErr, IfOk, Vec}
 use Rattle.std.specs.Global.{Global}
 use Rattle.process_memory.specs.Memory.{Fault, Memory}
-use Rattle.py_stacks.specs.Threads.{Trace}
 use Rattle.py_stacks.specs.declared.config.Config.{Config}
 use Rattle.py_stacks.specs.declared.trace.StackTrace.{StackTrace}
 use Rattle.py_process.specs.Findings.{Finding}
@@ -13,13 +12,20 @@ use Rattle.py_process.specs.declared.core_error.CoreError.{CoreError}
 use Rattle.py_process.specs.declared.core_error.CoreError.TheVariants as core
 use Rattle.process_memory.specs.declared.memory.Span.{Span}
 use Rattle.core_stacks.specs.Footprints.{traces_with}
-use Rattle.core_stacks.specs.Opened.{IsFoundIn, IsLeft, Opened, memory_in}
-use Rattle.core_stacks.proofs.PlainFaults.{FailsPlainly, IsPlain, locals_plain, owner_plain}
+use Rattle.elf64_core.specs.Header.{machine_of}
+use Rattle.image_memory.specs.Images.{Pushed}
+use Rattle.process_memory.specs.Memory.{byte_at}
+use Rattle.py_fields.specs.declared.layout.Layout.{Layout}
+use Rattle.py_process.specs.Findings.{IsFound}
+use Rattle.core_stacks.specs.Opened.{IsFoundIn, IsLeft, Opened, Opens, memory_in}
+use Rattle.core_stacks.proofs.Dumped.{backed_once}
+use Rattle.core_stacks.proofs.ReportLaws.{found_by}
+use Rattle.core_stacks.proofs.PlainFaults.{Fails, IsPlain, locals_plain, owner_plain}
 use Rattle.core_stacks.proofs.Unfaulted.{rest_fault}
 
 -- a fault of the rest is no limit of threads or frames
-limit_none : (m : Memory) (f : Finding) (config : Config) (fault : Fault) → IsRestFault m f config fault → IsPlain fault
-limit_none m f config fault (inl e) = subst (λ x. FailsPlainly x) e (owner_plain f.layout m f.addresses.lock)
+pub limit_none : (m : Memory) (f : Finding) (config : Config) (fault : Fault) → IsRestFault m f config fault → IsPlain fault
+limit_none m f config fault (inl e) = subst (λ x. Fails IsPlain x) e (owner_plain f.layout m f.addresses.lock)
 limit_none m f config fault (inr (asked, h)) = locals_plain f.layout m h.member fault h.first
 
 module _ (o : Opened) (config : Config) (found : IsFoundIn o) where
@@ -50,3 +56,19 @@ pub footprint_left : (o : Opened) (config : Config) (r : Result (Vec StackTrace 
     → StacksSay (memory_in o) o.finding config (traces_with r) → IfErr r (IsLeft o config)
 footprint_left o config (Ok x) found h = tt
 footprint_left o config (Err e) found h = left o config found e h
+
+-- what is opened was found
+pub found_in : (bytes : List ℕ) (images : Pushed) (layouts : List Layout) (r : Result Opened CoreError) → Opens bytes images layouts r
+    → IfOk r IsFoundIn
+found_in bytes images layouts (Ok o) h =
+    let d = h.finds.dumped in
+    record {
+      machine = machine_of bytes;
+      maps = d.maps;
+      images = images;
+      layouts = layouts;
+      is = subst (λ ps. IsFound (byte_at ps) (machine_of bytes) d.maps images layouts o.finding)
+          (backed_once bytes images d.pieces o.pieces h.finds.is_dumped.memory h.memory)
+          (found_by (byte_at d.pieces) (machine_of bytes) d.maps images layouts o.finding h.finds.is);
+    }
+found_in bytes images layouts (Err e) h = tt

@@ -9,6 +9,8 @@ pub mod Images
 pub mod Left
 pub mod OpenedLaws
 pub mod PlainFaults
+pub mod PlainWalks
+pub mod ReportCauses
 pub mod ReportLaws
 pub mod ReportSteps
 pub mod Searching

@@ -1,4 +1,5 @@
--- The lock's owner and the locals of a frame have no limit of threads or frames among their faults.
+-- What the faults of the readers can be: of records and words missing ranges alone, and of the lock's owner and the
+-- locals of a frame no limit of threads or frames.
 use Rattle.std.proofs.Common.{◌≡◌, ℕ, zero, suc, ◌+◌, ◌*◌, ◌^◌, cond, ltb, leb, List, subst}
 use Rattle.std.specs.Prelude.{Bool, true, false, ℤ, Option, Some, None, Ok, Err}
 use Rattle.std.specs.Int.{w32, cast_signed}
@@ -13,79 +14,86 @@ use Rattle.py_stacks.specs.Locals.{count_of, each_faults, local_at, locals_fault
 use Rattle.py_stacks.specs.Member.{MemberAt}
 use Rattle.py_stacks.specs.Owner.{gil_holder_at, holder_at, holder_through, id_of, owner_at, thread_id_at}
 
--- no limit of threads, of frames or of members
+-- a fault of what is found is such a one
+abbrev pub Fails : {T : Type 0} → (Fault → Type 0) → Found T → Type 0
+Fails Is (Ok x) = Unit {0}
+Fails Is (Err f) = Is f
+
+-- ---- steps
+
+pub some_same : (e f : Fault) → ◌≡◌ {A = Option Fault} (Some e) (Some f) → e ≡ f
+some_same e f h = cc
+
+module _ (Is : Fault → Type 0) where
+  pub next_fails : {T U : Type 0} (d : Found T) (g : T → Found U) → Fails Is d → ((x : T) → Fails Is (g x)) → Fails Is (d >>= g)
+  next_fails (Ok x) g one rest = rest x
+  next_fails (Err e) g one rest = one
+
+  pub first_fails : {T : Type 0} (d : Found T) (g : T → List Fault) (f : Fault) → Fails Is d
+      → ((x : T) → first_fault (g x) ≡ Some f → Is f) → first_fault (faults_then d g) ≡ Some f → Is f
+  first_fails (Ok x) g f one rest h = rest x h
+  first_fails (Err e) g f one rest h = subst Is (some_same e f h) one
+
+-- ---- records, words and the owner, of which only ranges may be missing
+
+module _ (Is : Fault → Type 0) (missing : (a n : ℕ) → Is (Missing a n)) where
+  found_fails : {T : Type 0} (o : Option T) (a n : ℕ) → Fails Is (found_or o (Missing a n))
+  found_fails None a n = missing a n
+  found_fails (Some x) a n = tt
+
+  outside_fails : (n : ℕ) → Fails Is (outside n)
+  outside_fails zero = tt
+  outside_fails (suc n) = missing _ _
+
+  pub record_fails : (m : Memory) (a n : ℕ) → Fails Is (record_at m a n)
+  unfolding record_at
+  record_fails m a n =
+      elim (ltb a (2 ^ 64)) as (λ t. Fails Is (cond t (found_or (bytes_at m a n) (Missing a n)) (outside n)))
+      [ true ↦ found_fails (bytes_at m a n) a n | false ↦ outside_fails n ]
+
+  pub word_fails : (m : Memory) (a : ℕ) → Fails Is (word_at m a)
+  unfolding word_at
+  word_fails m a = next_fails Is (record_at m a 8) _ (record_fails m a 8) (λ bytes. tt)
+
+  gil_fails : (g : GilAt) (m : Memory) (lock : ℕ) → Fails Is (gil_holder_at g m lock)
+  unfolding gil_holder_at
+  gil_fails g m lock = next_fails Is (record_at m lock g.size) _ (record_fails m lock g.size) (λ gil. tt)
+
+  through_fails : (g : Option GilAt) (m : Memory) (lock : ℕ) → Fails Is (holder_through g m lock)
+  through_fails None m lock = word_fails m lock
+  through_fails (Some g) m lock = gil_fails g m lock
+
+  holder_fails : (l : Layout) (m : Memory) (lock : ℕ) → Fails Is (holder_at l m lock)
+  unfolding holder_at
+  holder_fails l m lock = through_fails l.gil m lock
+
+  thread_id_fails : (l : Layout) (m : Memory) (a : ℕ) → Fails Is (thread_id_at l m a)
+  unfolding thread_id_at
+  thread_id_fails l m a = next_fails Is (record_at m a l.thread.size) _ (record_fails m a l.thread.size) (λ thread. tt)
+
+  id_fails : (l : Layout) (m : Memory) (holder : ℕ) → Fails Is (id_of l m holder)
+  unfolding id_of
+  id_fails l m zero = tt
+  id_fails l m (suc holder) = thread_id_fails l m (suc holder)
+
+  pub owner_fails : (l : Layout) (m : Memory) (lock : ℕ) → Fails Is (owner_at l m lock)
+  unfolding owner_at
+  owner_fails l m zero = tt
+  owner_fails l m (suc lock) = next_fails Is (holder_at l m (suc lock)) (id_of l m) (holder_fails l m (suc lock)) (id_fails l m)
+
+-- ---- no limit of threads, of frames or of members
+
 abbrev pub IsPlain : Fault → Type 0
 IsPlain ThreadLimit = ⊥
 IsPlain FrameLimit = ⊥
 IsPlain ChainLimit = ⊥
 IsPlain _ = Unit {0}
 
--- the faults of what is found are plain
-abbrev pub FailsPlainly : {T : Type 0} → Found T → Type 0
-FailsPlainly (Ok x) = Unit {0}
-FailsPlainly (Err f) = IsPlain f
+abbrev FailsPlainly : {T : Type 0} → Found T → Type 0
+FailsPlainly d = Fails IsPlain d
 
--- ---- steps
-
-next_plain : {T U : Type 0} (d : Found T) (g : T → Found U) → FailsPlainly d → ((x : T) → FailsPlainly (g x)) → FailsPlainly (d >>= g)
-next_plain (Ok x) g one rest = rest x
-next_plain (Err e) g one rest = one
-
-first_plain : {T : Type 0} (d : Found T) (g : T → List Fault) (f : Fault) → FailsPlainly d
-    → ((x : T) → first_fault (g x) ≡ Some f → IsPlain f) → first_fault (faults_then d g) ≡ Some f → IsPlain f
-first_plain (Ok x) g f one rest h = rest x h
-first_plain (Err e) g f one rest h = subst IsPlain (same e f h) one
-  where
-    same : (e f : Fault) → ◌≡◌ {A = Option Fault} (Some e) (Some f) → e ≡ f
-    same e f h = cc
-
--- ---- records and words
-
-found_plain : {T : Type 0} (o : Option T) (a n : ℕ) → FailsPlainly (found_or o (Missing a n))
-found_plain None a n = tt
-found_plain (Some x) a n = tt
-
-outside_plain : (n : ℕ) → FailsPlainly (outside n)
-outside_plain zero = tt
-outside_plain (suc n) = tt
-
-record_plain : (m : Memory) (a n : ℕ) → FailsPlainly (record_at m a n)
-unfolding record_at
-record_plain m a n =
-    elim (ltb a (2 ^ 64)) as (λ t. FailsPlainly (cond t (found_or (bytes_at m a n) (Missing a n)) (outside n)))
-    [ true ↦ found_plain (bytes_at m a n) a n | false ↦ outside_plain n ]
-
-word_plain : (m : Memory) (a : ℕ) → FailsPlainly (word_at m a)
-unfolding word_at
-word_plain m a = next_plain (record_at m a 8) _ (record_plain m a 8) (λ bytes. tt)
-
--- ---- the owner
-
-gil_plain : (g : GilAt) (m : Memory) (lock : ℕ) → FailsPlainly (gil_holder_at g m lock)
-unfolding gil_holder_at
-gil_plain g m lock = next_plain (record_at m lock g.size) _ (record_plain m lock g.size) (λ gil. tt)
-
-through_plain : (g : Option GilAt) (m : Memory) (lock : ℕ) → FailsPlainly (holder_through g m lock)
-through_plain None m lock = word_plain m lock
-through_plain (Some g) m lock = gil_plain g m lock
-
-holder_plain : (l : Layout) (m : Memory) (lock : ℕ) → FailsPlainly (holder_at l m lock)
-unfolding holder_at
-holder_plain l m lock = through_plain l.gil m lock
-
-thread_id_plain : (l : Layout) (m : Memory) (a : ℕ) → FailsPlainly (thread_id_at l m a)
-unfolding thread_id_at
-thread_id_plain l m a = next_plain (record_at m a l.thread.size) _ (record_plain m a l.thread.size) (λ thread. tt)
-
-id_plain : (l : Layout) (m : Memory) (holder : ℕ) → FailsPlainly (id_of l m holder)
-unfolding id_of
-id_plain l m zero = tt
-id_plain l m (suc holder) = thread_id_plain l m (suc holder)
-
-pub owner_plain : (l : Layout) (m : Memory) (lock : ℕ) → FailsPlainly (owner_at l m lock)
-unfolding owner_at
-owner_plain l m zero = tt
-owner_plain l m (suc lock) = next_plain (holder_at l m (suc lock)) (id_of l m) (holder_plain l m (suc lock)) (id_plain l m)
+pub owner_plain : (l : Layout) (m : Memory) (lock : ℕ) → Fails IsPlain (owner_at l m lock)
+owner_plain l m lock = owner_fails IsPlain (λ a n. tt) l m lock
 
 -- ---- the locals
 
@@ -116,9 +124,9 @@ variable_plain l m frame a = named_plain frame _
 local_plain : (l : Layout) (m : Memory) (r : MemberAt) (index : ℕ) → FailsPlainly (local_at l m r index)
 unfolding local_at
 local_plain l m r index =
-    next_plain (word_at m (names_at l r + l.tuple.at + 8 * index)) _ (word_plain m _)
-    (λ name_at. next_plain (variable_name_at l m r.frame_at name_at) _ (variable_plain l m r.frame_at name_at)
-    (λ name. next_plain (word_at m (r.frame_at + l.frame.locals + 8 * index)) _ (word_plain m _) (λ slot. tt)))
+    next_fails IsPlain (word_at m (names_at l r + l.tuple.at + 8 * index)) _ (word_fails IsPlain (λ a n. tt) m _)
+    (λ name_at. next_fails IsPlain (variable_name_at l m r.frame_at name_at) _ (variable_plain l m r.frame_at name_at)
+    (λ name. next_fails IsPlain (word_at m (r.frame_at + l.frame.locals + 8 * index)) _ (word_fails IsPlain (λ a n. tt) m _) (λ slot. tt)))
 
 each_plain : (l : Layout) (m : Memory) (r : MemberAt) (n index : ℕ) (f : Fault) → first_fault (each_faults l m r index n) ≡ Some f → IsPlain f
 unfolding each_faults
@@ -127,12 +135,12 @@ each_plain l m r zero index f h = absurd (none_some f h)
     none_some : (f : Fault) → ◌≡◌ {A = Option Fault} None (Some f) → ⊥
     none_some f e = cc
 each_plain l m r (suc n) index f h =
-    first_plain (local_at l m r index) (λ local. each_faults l m r (index + 1) n) f (local_plain l m r index)
+    first_fails IsPlain (local_at l m r index) (λ local. each_faults l m r (index + 1) n) f (local_plain l m r index)
     (λ local. each_plain l m r n (index + 1) f) h
 
 pub locals_plain : (l : Layout) (m : Memory) (r : MemberAt) (f : Fault) → first_fault (locals_faults l m r) ≡ Some f → IsPlain f
 unfolding locals_faults
 locals_plain l m r f h =
-    first_plain (count_of l r) (λ count. faults_then (record_at m (names_at l r) l.tuple.size) (λ names. each_faults l m r 0 count)) f (count_plain l r)
-    (λ count. first_plain (record_at m (names_at l r) l.tuple.size) (λ names. each_faults l m r 0 count) f (record_plain m _ _)
+    first_fails IsPlain (count_of l r) (λ count. faults_then (record_at m (names_at l r) l.tuple.size) (λ names. each_faults l m r 0 count)) f (count_plain l r)
+    (λ count. first_fails IsPlain (record_at m (names_at l r) l.tuple.size) (λ names. each_faults l m r 0 count) f (record_fails IsPlain (λ a n. tt) m _ _)
     (λ names. each_plain l m r count 0 f)) h

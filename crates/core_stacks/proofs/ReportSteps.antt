@@ -1,6 +1,6 @@
 -- The report over a memory, by the search and the stacks; and over the memory of a core and its images.
-use Rattle.std.proofs.Common.{◌≡◌, ℕ, ◌+◌, ◌*◌, ◌^◌, List, refl, sym, ap, subst, ◌∙◌, arith, ⊎_elim, inl, inr}
-use Rattle.std.specs.Prelude.{Bool, Option, Some, None, Result, Ok, Err}
+use Rattle.std.proofs.Common.{◌≡◌, ℕ, ◌+◌, ◌^◌, List, refl, sym, ap, subst, ◌∙◌, arith, ⊎_elim, inl, inr}
+use Rattle.std.specs.Prelude.{Bool, Some, None, Result, Ok, Err}
 use Rattle.std.proofs.lemmas.Option.{IfSome_then}
 use Rattle.elf64_core.specs.Header.{machine_of}
 use Rattle.image_memory.specs.Cores.{IsCore}
@@ -8,7 +8,7 @@ use Rattle.image_memory.specs.Images.{Pushed}
 use Rattle.image_memory.specs.Maps.{in_maps}
 use Rattle.process_memory.specs.Layers.{plain}
 use Rattle.process_memory.specs.Memory.{Memory, Region, byte_at}
-use Rattle.process_memory.specs.Seen.{Reading, ReadingBelow, Seen}
+use Rattle.process_memory.specs.Seen.{Reading, Seen}
 use Rattle.process_memory.proofs.Reading.{reading_gives, reading_here, reading_then, reads_within}
 use Rattle.py_fields.specs.declared.layout.Layout.{Layout}
 use Rattle.py_stacks.specs.declared.config.Config.{Config}
@@ -22,10 +22,9 @@ use Rattle.py_process.specs.Steps.{Then}
 use Rattle.py_process.specs.declared.core_error.CoreError.{CoreError}
 use Rattle.py_process.specs.declared.core_error.CoreError.TheVariants as core
 use Rattle.py_process.proofs.Wider.{reading_wider}
-use Rattle.core_stacks.specs.Opened.{Opened}
-use Rattle.core_stacks.specs.Reached.{AfterKnown, IsCounted, IsTrial, IsTrialBy, Reporting, Trying, cost_of, finding_cost, reached_cost, trial_cost}
+use Rattle.core_stacks.specs.Reached.{AfterKnown, IsCounted, IsTrialBy, Reporting, Trying, cost_of, finding_cost, trial_cost}
 use Rattle.core_stacks.specs.Sole.{Settles}
-use Rattle.core_stacks.proofs.Agreement.{IsKept, err_kept, kept_or, ok_is, ok_kept, ok_not_err, settles_agree, settles_by_err, settles_by_ok, settles_err, settles_ok, then_ok, then_value}
+use Rattle.core_stacks.proofs.Agreement.{ok_is, ok_kept, ok_not_err, settles_agree, settles_by_err, settles_by_ok, settles_err, settles_ok, then_ok, then_value}
 use Rattle.core_stacks.proofs.FindingLaws.{images_agree, maps_agree}
 use Rattle.core_stacks.proofs.ReportLaws.{core_agree, finds, found_by, left_memory, told_agree}
 use Rattle.core_stacks.proofs.Dumped.{dumped_once}

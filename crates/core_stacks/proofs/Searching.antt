@@ -21,7 +21,6 @@ use Rattle.py_process.specs.Sources.{FirstTells, VersionIs, sources_of}
 use Rattle.py_process.specs.Steps.{Then}
 use Rattle.py_process.specs.Causes.{cause_of_version}
 use Rattle.py_process.specs.declared.core_error.CoreError.{CoreError}
-use Rattle.py_process.specs.declared.core_error.CoreError.TheVariants as core
 use Rattle.py_process.specs.declared.version_error.VersionError.{VersionError}
 use Rattle.core_stacks.specs.Reached.{IsTrialAt, IsTrialBy, Trial, Trying, cost_of, trial_cost}
 use Rattle.core_stacks.specs.Seen.{FindsProcess}

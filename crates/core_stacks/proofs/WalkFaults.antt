@@ -23,7 +23,7 @@ empty_rest : (xs ys : List Fault) → xs ++ ys ≡ [] → ys ≡ []
 empty_rest [] ys e = e
 empty_rest (x ∷ xs) ys e = absurd (not_empty x (xs ++ ys) e)
 
-first_in : (xs ys : List Fault) (f : Fault) → first_fault (xs ++ ys) ≡ Some f → (first_fault xs ≡ Some f) ⊎ (first_fault ys ≡ Some f)
+pub first_in : (xs ys : List Fault) (f : Fault) → first_fault (xs ++ ys) ≡ Some f → (first_fault xs ≡ Some f) ⊎ (first_fault ys ≡ Some f)
 first_in [] ys f e = inr e
 first_in (x ∷ xs) ys f e = inl e
 

@@ -1,5 +1,5 @@
 -- A walk over a core, step by step, and that it has one right answer.
-use Rattle.std.proofs.Common.{◌≡◌, ◌≢◌, ℕ, List, [], ◌∷◌, refl, sym, ap, subst, ◌∙◌, inl, inr, rules}
+use Rattle.std.proofs.Common.{◌≡◌, ℕ, List, [], ◌∷◌, refl, sym, ap, subst, ◌∙◌, inl, inr, rules}
 use Rattle.std.specs.Prelude.{Option, Some, None, Result, Ok, Err}
 use Rattle.image_memory.specs.Cores.{IsCore, Refuses}
 use Rattle.image_memory.specs.declared.dump_error.DumpError.{DumpError}
@@ -30,6 +30,7 @@ use Rattle.core_stacks.specs.Answer.{FaultsSay, FileSays, IsWalkable, Means, Wal
 use Rattle.core_stacks.specs.Sole.{Settles}
 use Rattle.core_stacks.proofs.Agreement.{Agree, IsKept, settles_agree, settles_err, settles_ok, then_agree, then_value}
 use Rattle.core_stacks.proofs.FindingLaws.{NoneClash, chosen_same, layout_agree}
+use Rattle.core_stacks.proofs.PlainWalks.{IsWalkFault, stacks_walk}
 
 -- ---- the file
 
@@ -72,8 +73,6 @@ module _ (bytes : List ℕ) where
 -- the error that names a fault
 error_of : Fault → CoreError
 error_of (Missing addr len) = core.Unreadable addr len
-error_of (BadValue frame) = core.BadValue frame
-error_of (LocalsLimit count) = core.LocalsLimit count
 error_of ThreadLimit = core.ThreadLimit
 error_of FrameLimit = core.FrameLimit
 error_of ChainLimit = core.ChainLimit
@@ -88,8 +87,6 @@ module _ {T : Type 0} (first : Option Fault) (Has : T → Type 0) where
   unfolding error_of
   fault_cause (Ok x) h kept = has x refl h.0 h.1
   fault_cause (Err (core.Unreadable addr len)) h kept = meets (Missing addr len) refl h
-  fault_cause (Err (core.BadValue frame)) h kept = meets (BadValue frame) refl h
-  fault_cause (Err (core.LocalsLimit count)) h kept = meets (LocalsLimit count) refl h
   fault_cause (Err core.ThreadLimit) h kept = meets ThreadLimit refl h
   fault_cause (Err core.FrameLimit) h kept = meets FrameLimit refl h
   fault_cause (Err core.ChainLimit) h kept = meets ChainLimit refl h
@@ -119,14 +116,15 @@ module _ {T : Type 0} (first : Option Fault) (Has : T → Type 0) where
       by (has t is g j) = absurd (cc)
 
   -- an error of the readers is the first fault
-  faults_say : (e : StackError) → IsFirst first (fault_of e) → FaultsSay first Has (Err (cause_of_stacks e))
-  faults_say (stack.Unreadable addr len) h = h
-  faults_say (stack.BadValue frame) h = h
-  faults_say (stack.LocalsLimit count) h = h
-  faults_say stack.ThreadLimit h = h
-  faults_say stack.FrameLimit h = h
-  faults_say stack.ChainLimit h = h
-  faults_say stack.OutOfMemory h = tt
+  faults_say : ((f : Fault) → first ≡ Some f → IsWalkFault f) → (e : StackError) → IsFirst first (fault_of e)
+      → FaultsSay first Has (Err (cause_of_stacks e))
+  faults_say walks (stack.Unreadable addr len) h = h
+  faults_say walks (stack.BadValue frame) h = walks (BadValue frame) h
+  faults_say walks (stack.LocalsLimit count) h = walks (LocalsLimit count) h
+  faults_say walks stack.ThreadLimit h = h
+  faults_say walks stack.FrameLimit h = h
+  faults_say walks stack.ChainLimit h = h
+  faults_say walks stack.OutOfMemory h = tt
 
 -- ---- the walk
 
@@ -171,7 +169,8 @@ module _ (bytes : List ℕ) (layouts : List Layout) (version : Version) (address
       (settles_agree (WalkSays bytes addresses l) (walk_says_agree l) r says))
 
   pub lost_says : (l : Layout) (e : StackError) → IsFirst (fault_by l bytes addresses) (fault_of e) → WalkSays bytes addresses l (Err (cause_of_stacks e))
-  lost_says l e h = faults_say (fault_by l bytes addresses) (AreStacks nothing l (core_memory bytes) addresses.lock addresses.interpreter) e h
+  lost_says l e h = faults_say (fault_by l bytes addresses) (AreStacks nothing l (core_memory bytes) addresses.lock addresses.interpreter)
+      (stacks_walk l (core_memory bytes) addresses.lock addresses.interpreter) e h
 
   pub walk_agree : NoneClash layouts → Agree (Means bytes layouts version addresses)
   walk_agree apart = then_agree (FileSays bytes) rest (file_agree bytes)

@@ -5,7 +5,7 @@ use Rattle.std.specs.Global.{Vec}
 use Rattle.image_memory.specs.Cores.{IsCore, Refuses}
 use Rattle.image_memory.specs.declared.dump_error.DumpError.TheVariants as dump
 use Rattle.process_memory.specs.Memory.{Memory, Fault, byte_at}
-use Rattle.process_memory.specs.Memory.Fault.{Missing, BadValue as IsBadValue, LocalsLimit as ManyLocals, ThreadLimit as ManyThreads, FrameLimit as ManyFrames, ChainLimit as ManyMembers}
+use Rattle.process_memory.specs.Memory.Fault.{Missing, ThreadLimit as ManyThreads, FrameLimit as ManyFrames, ChainLimit as ManyMembers}
 use Rattle.image_memory.specs.Pieces.{memory_of}
 use Rattle.process_memory.specs.Walk.{first_fault}
 use Rattle.py_fields.specs.declared.layout.Layout.{Layout}
@@ -18,7 +18,7 @@ use Rattle.py_stacks.specs.Threads.{Trace, trace_of}
 use Rattle.py_process.specs.Findings.{IsChosen, LayoutSays}
 use Rattle.py_process.specs.Steps.{Then}
 use Rattle.py_process.specs.declared.core_error.CoreError.{CoreError}
-use Rattle.py_process.specs.declared.core_error.CoreError.TheVariants.{NotElf64, BadHeader, NoNotes, BadNote, Unreadable, BadValue, LocalsLimit, ThreadLimit, FrameLimit, ChainLimit, OutOfMemory}
+use Rattle.py_process.specs.declared.core_error.CoreError.TheVariants.{NotElf64, BadHeader, NoNotes, BadNote, Unreadable, ThreadLimit, FrameLimit, ChainLimit, OutOfMemory}
 
 -- the core's memory
 abbrev pub core_memory : List ℕ → Memory
@@ -41,12 +41,11 @@ FileSays bytes (Err BadNote) = Refuses bytes dump.BadNote
 FileSays bytes (Err OutOfMemory) = ⊤
 FileSays bytes (Err _) = ⊥
 
--- a value where there is no fault, and else the first one
+-- a value where there is no fault, and else the first one: a missing range, or a limit. No fault of locals comes, since a
+-- walk asks for none
 abbrev pub FaultsSay : {T : Type 0} → Option Fault → (T → Type 0) → Result T CoreError → Type 0
 FaultsSay first Has (Ok value) = (first ≡ None) × Has value
 FaultsSay first Has (Err (Unreadable addr len)) = first ≡ Some (Missing addr len)
-FaultsSay first Has (Err (BadValue frame)) = first ≡ Some (IsBadValue frame)
-FaultsSay first Has (Err (LocalsLimit count)) = first ≡ Some (ManyLocals count)
 FaultsSay first Has (Err ThreadLimit) = first ≡ Some ManyThreads
 FaultsSay first Has (Err FrameLimit) = first ≡ Some ManyFrames
 FaultsSay first Has (Err ChainLimit) = first ≡ Some ManyMembers

@@ -1,5 +1,5 @@
 -- The ranges of a process's memory from which its stacks can be read.
-use Rattle.std.specs.Prelude.{ℕ, ◌+◌, ◌^◌, ◌<◌, ◌≤◌, List, All, length, map, Result, Ok, Err, Vec}
+use Rattle.std.specs.Prelude.{◌+◌, ◌^◌, ◌<◌, ◌≤◌, List, All, length, map, Result, Ok, Err, Vec}
 use Rattle.std.specs.Global.{Global}
 use Rattle.process_memory.specs.Memory.{Memory}
 use Rattle.process_memory.specs.Seen.{HoldsSpan, IsPartWith}

@@ -1,4 +1,5 @@
 pub mod Answer
+pub mod ReportCauses
 pub mod Opened
 pub mod Printing
 pub mod Seen

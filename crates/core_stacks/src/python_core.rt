@@ -122,6 +122,8 @@ impl PythonCoreDump {
         ensures right { Opens core images.now layouts.now result }
         // what is right is the answer, want of memory aside
         ensures only { IsSole (Opens core images.now layouts.now) result }
+        // so of the errors of `get_stack` and `footprint` few are left
+        ensures found { IfOk result IsFoundIn }
     {
         open_core(alloc, core, images, layouts)
     }

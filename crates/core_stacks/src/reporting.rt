@@ -7,6 +7,7 @@ ghost use Rattle.process_memory.specs.Memory.{byte_at};
 ghost use Rattle.py_process.specs.Facts.{known_of};
 ghost use Rattle.py_process.specs.Findings.{AfterImages, Finding};
 ghost use Rattle.py_process.specs.Reports.{AsksNoOther, CoreSays, IsReadable, IsRight, NotesTell, ReportIs, Reported, fault_on, reported, reported_of};
+ghost use Rattle.core_stacks.specs.ReportCauses.{IsReportCause};
 ghost use Rattle.core_stacks.specs.Reached.{AfterKnown, IsCounted, IsTrialBy, Reporting};
 ghost use Rattle.core_stacks.specs.Sole.{IsSole, Settles};
 
@@ -139,6 +140,9 @@ fn make_report_counted<L: Ledger>(
 ///
 /// The error is the first of these: `NotElf64`, `BadHeader`, `NoNotes` and `BadNote` (`image_memory::CoreDump::new`);
 /// those of `PythonCoreDump::new`, in its order; those of `PythonCoreDump::get_stack`. Else it is want of memory.
+/// Of these no `ThreadLimit`, `FrameLimit` or `ChainLimit` comes, since the interpreter's chains are whole, and
+/// `Unreadable` names a range of the pointer to the lock, of its record or word, of its owner's record, or, where locals
+/// are asked for, of a kept frame's tuple of names, the word that names a variable, its name or its slot.
 pub fn report(
     alloc: Global,
     bytes: Vec<u8>,
@@ -154,6 +158,8 @@ pub fn report(
     // and what is right in all these fields is the report, want of memory aside
     ensures full { (r : Reported) → AsksNoOther config.now → IsRight bytes.items images.now layouts.now config.now r
         → (reported result ≡ Ok r) ⊎ (reported result ≡ Err CoreError.OutOfMemory) }
+    // no limit of threads or frames is a cause, and no missing range but of the lock, its owner and asked locals
+    ensures causes { IfErr result (IsReportCause bytes.items images.now layouts.now config.now) }
     ensures complete { IsReadable bytes.items images.now layouts.now config.now
         → IfErr result (λ error. error ≡ CoreError.OutOfMemory) }
 {

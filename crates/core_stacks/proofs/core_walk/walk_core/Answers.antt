@@ -1,10 +1,8 @@
-use Rattle.std.proofs.Common.{ap, subst, ◌∙◌}
+use Rattle.std.proofs.Common.{ap, ◌∙◌}
 use Rattle.std.specs.Prelude.{Err}
-use Rattle.std.proofs.lemmas.List.Elements.{All-contains}
 use Rattle.std.proofs.lemmas.Result.{err_from_is_err_and}
 use Rattle.process_memory.specs.Seen.{Seen}
 use Rattle.process_memory.proofs.Reading.{reading_here}
-use Rattle.py_fields.specs.Sound.{Covers}
 use Rattle.core_stacks.specs.Answer.{traced}
 use Rattle.core_stacks.proofs.Walked.{layout_walk, lost_says, memory_walk}
 use Rattle.core_stacks.proofs.core_walk.walk_core.Goals as goal

@@ -1,12 +1,11 @@
-use Rattle.std.proofs.Common.{ap, length, map, refl, ◌∙◌}
+use Rattle.std.proofs.Common.{ap, length, map, ◌∙◌}
 use Rattle.std.proofs.lemmas.Option.{same_Some}
-use Rattle.std.specs.Prelude.{Err, []}
+use Rattle.std.specs.Prelude.{[]}
 use Rattle.std.proofs.lemmas.Result.{err_from_is_err_and}
 use Rattle.image_memory.specs.Backed.{regions_of}
 use Rattle.process_memory.specs.Layers.{recorded}
 use Rattle.process_memory.specs.Seen.{Seen}
 use Rattle.py_stacks.specs.Threads.{trace_of}
-use Rattle.core_stacks.specs.Footprints.{traces_with}
 use Rattle.core_stacks.specs.Seen.{finding_of}
 use Rattle.core_stacks.proofs.Footprints.{footprint_of}
 use Rattle.core_stacks.proofs.Stacks.{over_this}

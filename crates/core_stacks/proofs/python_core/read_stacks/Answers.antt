@@ -1,5 +1,3 @@
-use Rattle.std.proofs.Common.{ap}
-use Rattle.process_memory.specs.Seen.{Seen}
 use Rattle.core_stacks.proofs.Stacks.{over_same}
 use Rattle.core_stacks.proofs.python_core.read_stacks.Goals as goal
 

@@ -1,1 +1,0 @@
-use Rattle.core_stacks.proofs.reporting.load.Goals as goal
