@@ -62,6 +62,7 @@ fn push_header(
 }
 
 /// A segment: its kind and flags, where its bytes are in the file, and where it is in memory.
+#[derive(Clone, Copy)]
 struct Segment {
     kind: u32,
     flags: u32,
