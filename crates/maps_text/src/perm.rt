@@ -6,8 +6,11 @@ use std::fmt;
 use std::ops::{BitAnd, BitAndAssign, BitOr, BitOrAssign};
 
 /// What a map allows: 4 to read, 2 to write, 1 to execute, in sum. The default allows nothing.
+///
+/// The number may be any. Other bits mean nothing: a line sets none, `Display` looks at these three alone and
+/// `filter_relevant` at 4 and 1; the operators and `==` work on all eight.
 #[derive(Clone, Copy, Debug, Default, PartialEq)]
-pub struct Perm(u8);
+pub struct Perm(pub u8);
 
 impl Perm {
     /// It may be read.
@@ -46,7 +49,7 @@ pub(crate) fn perm_in(mode: &[u8]) -> Option<Perm>
     Some(perm)
 }
 
-/// What both allow.
+/// What both allow: the bits that both have.
 impl BitAnd for Perm {
     type Output = Perm;
 
@@ -65,7 +68,7 @@ impl BitAndAssign for Perm {
     }
 }
 
-/// What either allows.
+/// What either allows: the bits that one of them has.
 impl BitOr for Perm {
     type Output = Perm;
 
@@ -84,7 +87,7 @@ impl BitOrAssign for Perm {
     }
 }
 
-/// `rwx`, with `-` for each that is missing.
+/// `rwx`, with `-` for each that is missing, whatever the other bits are.
 impl fmt::Display for Perm {
     ghost output = { λ p. Some (perm_text p.0) };
 

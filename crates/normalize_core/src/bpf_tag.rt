@@ -8,12 +8,12 @@ ghost use Rattle.normalize_core.specs.ReadTags.{ReadsTag};
 use std::fmt;
 use std::str::FromStr;
 
-/// The tag of a BPF program: the first eight bytes of a hash of its instructions.
+/// The tag of a BPF program: the first eight bytes of a hash of its instructions, or any eight.
 ///
 /// It is printed as 16 hexadecimal digits in lower case. It is read from 16 ASCII bytes, each two of which are
 /// two hexadecimal digits of either case, or `+` and one; the one error is that a text has another form.
 #[derive(Clone, Copy, Debug, PartialEq, Eq, Hash)]
-pub struct BpfTag([u8; 8]);
+pub struct BpfTag(pub [u8; 8]);
 
 /// The tag of these bytes.
 impl From<[u8; 8]> for BpfTag {
