@@ -5,10 +5,10 @@ use Rattle.process_memory.specs.Memory.{Memory, Fault, byte_at, word_at}
 use Rattle.process_memory.specs.Seen.{Seen, Reads}
 use Rattle.process_memory.proofs.Reading.{reading_here}
 use Rattle.py_fields.specs.declared.layout.Layout.{Layout}
-use Rattle.py_objects.specs.declared.keys.Slots.{Slots}
-use Rattle.py_objects.specs.declared.dicts.Slot.{Slot}
-use Rattle.py_objects.specs.Dicts.{dict_slots, slot_at}
-use Rattle.py_objects.specs.Integers.{long_at}
+use Rattle.py_builtins.specs.declared.keys.Slots.{Slots}
+use Rattle.py_builtins.specs.declared.dicts.Slot.{Slot}
+use Rattle.py_builtins.specs.Dicts.{dict_slots, slot_at}
+use Rattle.py_builtins.specs.Integers.{long_at}
 use Rattle.py_names.specs.declared.search.Looked.{Looked}
 use Rattle.py_names.specs.Names.{each_looked, entry_looked, module_looked, module_slots, modules_slots, search_looked, slot_limit, slot_looked, slots_looked_at, thread_looked, thread_slots, threads_looked}
 use Rattle.py_names.specs.Search.{find_from, find_looked}

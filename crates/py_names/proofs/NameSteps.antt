@@ -10,7 +10,7 @@ use Rattle.process_memory.specs.Seen.{Seen, Reading, ReadsBy, FaultIs, Answers}
 use Rattle.process_memory.specs.Walk.{after_all}
 use Rattle.process_memory.proofs.Reading.{reading_here, reading_then, reading_gives, reading_none}
 use Rattle.py_fields.specs.declared.layout.Layout.{Layout}
-use Rattle.py_objects.specs.declared.keys.Slots.{Slots}
+use Rattle.py_builtins.specs.declared.keys.Slots.{Slots}
 use Rattle.py_names.specs.declared.names.Given.{Given}
 use Rattle.py_names.specs.declared.names.Named.{Named}
 use Rattle.py_names.specs.Names.{AnswersNames, HasNames, each_looked, kept_name, name_under, names_from, thread_at, thread_looked}

@@ -7,7 +7,7 @@ use Rattle.process_memory.specs.Memory.Fault.{Entries}
 use Rattle.process_memory.specs.Seen.{Seen, Reading, Reads, ReadsBy, FaultIs}
 use Rattle.process_memory.proofs.Reading.{reading_here, reading_then, reading_gives, reading_none}
 use Rattle.py_fields.specs.declared.layout.Layout.{Layout}
-use Rattle.py_objects.specs.declared.keys.Slots.{Slots}
+use Rattle.py_builtins.specs.declared.keys.Slots.{Slots}
 use Rattle.py_names.specs.declared.search.Looked.{Looked}
 use Rattle.py_names.specs.Search.{find_from, find_looked, looked, looked_behind, or_go_on, value_at}
 

@@ -5,11 +5,11 @@ use Rattle.std.specs.Int.{w64, cast_unsigned}
 use Rattle.process_memory.specs.Memory.{Memory, Found}
 use Rattle.process_memory.proofs.Founds.{bound, ok_same}
 use Rattle.py_fields.specs.declared.layout.Layout.{Layout}
-use Rattle.py_objects.specs.declared.keys.Slots.{Slots}
-use Rattle.py_objects.specs.declared.dicts.Slot.{Slot}
-use Rattle.py_objects.specs.declared.dicts.Slot.TheVariants.{Empty, Entry}
-use Rattle.py_objects.specs.Dicts.{dict_slots, slot_at}
-use Rattle.py_objects.specs.Integers.{long_at}
+use Rattle.py_builtins.specs.declared.keys.Slots.{Slots}
+use Rattle.py_builtins.specs.declared.dicts.Slot.{Slot}
+use Rattle.py_builtins.specs.declared.dicts.Slot.TheVariants.{Empty, Entry}
+use Rattle.py_builtins.specs.Dicts.{dict_slots, slot_at}
+use Rattle.py_builtins.specs.Integers.{long_at}
 use Rattle.py_names.specs.declared.names.Given.{Given}
 use Rattle.py_names.specs.declared.search.Looked.{Looked}
 use Rattle.py_names.specs.Names.{each_looked, entry_in, entry_looked, given, module_looked, module_slots, modules_slots, name_at, slot_limit, slot_looked, slots_looked_at, thread_at, thread_in, thread_looked, thread_slots, threads_looked}

@@ -9,7 +9,7 @@ use Rattle.process_memory.specs.Memory.{Memory, Found, Fault, address_before}
 use Rattle.process_memory.specs.Seen.{Seen, Reads}
 use Rattle.process_memory.proofs.Reading.{reading_gives}
 use Rattle.py_fields.specs.declared.layout.Layout.{Layout}
-use Rattle.py_objects.specs.Dicts.{managed_slots}
+use Rattle.py_builtins.specs.Dicts.{managed_slots}
 use Rattle.py_names.specs.Typed.{TypeAt, beside, flagged_slots, plain_slots, typed_slots}
 use Rattle.elf64_core.specs.Fields.{u64_in}
 

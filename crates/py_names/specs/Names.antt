@@ -11,12 +11,12 @@ use Rattle.process_memory.specs.Memory.Fault.{NoDicts, Entries}
 use Rattle.py_fields.specs.declared.layout.Dicts.{Dicts}
 use Rattle.py_fields.specs.declared.layout.Dicts.TheVariants.{Absent, General, Compact}
 use Rattle.py_fields.specs.declared.layout.Layout.{Layout}
-use Rattle.py_objects.specs.declared.keys.Slots.{Slots}
-use Rattle.py_objects.specs.declared.dicts.Slot.{Slot}
-use Rattle.py_objects.specs.declared.dicts.Slot.TheVariants.{Empty, Entry}
-use Rattle.py_objects.specs.Dicts.{dict_slots, slot_at}
-use Rattle.py_objects.specs.Integers.{long_at}
-use Rattle.py_objects.specs.Texts.{text_at}
+use Rattle.py_builtins.specs.declared.keys.Slots.{Slots}
+use Rattle.py_builtins.specs.declared.dicts.Slot.{Slot}
+use Rattle.py_builtins.specs.declared.dicts.Slot.TheVariants.{Empty, Entry}
+use Rattle.py_builtins.specs.Dicts.{dict_slots, slot_at}
+use Rattle.py_builtins.specs.Integers.{long_at}
+use Rattle.py_builtins.specs.Texts.{text_at}
 use Rattle.py_names.specs.declared.names.Given.{Given}
 use Rattle.py_names.specs.declared.names.Named.{Named}
 use Rattle.process_memory.specs.Seen.{FaultIs}

@@ -2,8 +2,8 @@
 use Rattle.std.specs.Prelude.{◌≡◌, ◌≢◌, Option, Some, None}
 use Rattle.process_memory.specs.Memory.{Fault}
 use Rattle.process_memory.specs.Memory.Fault.{NoDicts as HasNoDicts, Entries as ManyEntries}
-use Rattle.py_objects.specs.ObjectError.{fault_of as object_fault}
-use Rattle.py_objects.specs.declared.error.ObjectError.TheVariants.{OutOfMemory as HasNoMemory}
+use Rattle.py_builtins.specs.ObjectError.{fault_of as object_fault}
+use Rattle.py_builtins.specs.declared.error.ObjectError.TheVariants.{OutOfMemory as HasNoMemory}
 use Rattle.py_names.specs.declared.names_error.NamesError.{NamesError}
 use Rattle.py_names.specs.declared.names_error.NamesError.TheVariants.{NoDicts, Entries, Object, OutOfMemory}
 

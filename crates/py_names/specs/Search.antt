@@ -4,11 +4,11 @@ use Rattle.std.specs.Prelude.{ℕ, zero, suc, if◌then◌else◌, ◌+◌, Opti
 use Rattle.process_memory.specs.Memory.{Memory, Found, ◌>>=◌}
 use Rattle.process_memory.specs.Memory.Fault.{Entries}
 use Rattle.py_fields.specs.declared.layout.Layout.{Layout}
-use Rattle.py_objects.specs.declared.keys.Slots.{Slots}
-use Rattle.py_objects.specs.declared.dicts.Slot.{Slot}
-use Rattle.py_objects.specs.declared.dicts.Slot.TheVariants.{Empty, Entry}
-use Rattle.py_objects.specs.Dicts.{slot_at}
-use Rattle.py_objects.specs.Texts.{text_at}
+use Rattle.py_builtins.specs.declared.keys.Slots.{Slots}
+use Rattle.py_builtins.specs.declared.dicts.Slot.{Slot}
+use Rattle.py_builtins.specs.declared.dicts.Slot.TheVariants.{Empty, Entry}
+use Rattle.py_builtins.specs.Dicts.{slot_at}
+use Rattle.py_builtins.specs.Texts.{text_at}
 use Rattle.py_names.specs.declared.search.Looked.{Looked}
 
 -- the value that a slot has under a name: none where it is empty or its key is another text

@@ -3,9 +3,9 @@ use Rattle.std.specs.Prelude.{ℕ, ◌+◌, ◌-◌, ◌^◌, nat_lt, if◌then�
 use Rattle.elf64_core.specs.Fields.{u64_in}
 use Rattle.process_memory.specs.Memory.{Memory, Found, ◌>>=◌, record_at, word_at, address_before}
 use Rattle.py_fields.specs.declared.layout.Layout.{Layout}
-use Rattle.py_objects.specs.declared.keys.Slots.{Slots}
-use Rattle.py_objects.specs.Dicts.{dict_slots, managed_slots}
-use Rattle.py_objects.specs.Texts.{bit_is_set}
+use Rattle.py_builtins.specs.declared.keys.Slots.{Slots}
+use Rattle.py_builtins.specs.Dicts.{dict_slots, managed_slots}
+use Rattle.py_builtins.specs.Texts.{bit_is_set}
 use Rattle.py_names.specs.declared.typed.Typed as read
 
 -- the type of an object, by its address and its record

@@ -11,8 +11,8 @@ use crate::search::find_in;
 use crate::typed::{read_plain_dict, read_type, read_typed_dict};
 use elf64_core::Text;
 use process_memory::{ProcessMemory, word_past};
+use py_builtins::{DictCursor, ObjectError, Slot, copy_long, copy_string};
 use py_fields::{Dicts, Layout};
-use py_objects::{DictCursor, ObjectError, Slot, copy_long, copy_string};
 use std::alloc::{AllocFailed, Global};
 use std::collections::BTreeMap;
 

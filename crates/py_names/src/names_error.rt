@@ -2,7 +2,7 @@
 ghost use Rattle.std.specs.Prelude.{◌≡◌};
 
 use process_memory::ReadFault;
-use py_objects::ObjectError;
+use py_builtins::ObjectError;
 use std::alloc::{AllocError, AllocFailed};
 use thiserror::Error;
 
@@ -24,7 +24,7 @@ pub enum NamesError {
 }
 
 impl From<ObjectError> for NamesError {
-    ghost use Rattle.py_objects.specs.ObjectError.{fault_of as object_fault};
+    ghost use Rattle.py_builtins.specs.ObjectError.{fault_of as object_fault};
     ghost use Rattle.py_names.specs.NamesError.{Tells};
 
     ghost from_gives = { λ e d. Tells d (object_fault e) };

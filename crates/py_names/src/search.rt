@@ -7,8 +7,8 @@ ghost use Rattle.py_names.specs.Search.{find_from, find_looked, value_at, value_
 
 use crate::NamesError;
 use process_memory::ProcessMemory;
+use py_builtins::{DictCursor, ObjectError, Slot, copy_string};
 use py_fields::Layout;
-use py_objects::{DictCursor, ObjectError, Slot, copy_string};
 use std::alloc::Global;
 
 /// What a search found, and how many slots may be looked at then.

@@ -2,8 +2,8 @@
 use crate::{NamesError, thread_names_from_interpreter};
 use elf64_core::Text;
 use process_memory::{Part, Piece};
+use py_builtins::ObjectError;
 use py_fields::Layout;
-use py_objects::ObjectError;
 use std::alloc::{AllocError, Global};
 use std::collections::BTreeMap;
 use std::test::Fail;

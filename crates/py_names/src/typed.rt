@@ -3,15 +3,15 @@ ghost use Rattle.std.specs.Prelude.{◌≡◌, ◌≢◌, IfOk, length};
 ghost use Rattle.process_memory.specs.Memory.{word_at};
 ghost use Rattle.process_memory.specs.Seen.{Reads, fault_of as read_fault};
 ghost use Rattle.py_fields.specs.Sound.{IsSound};
-ghost use Rattle.py_objects.specs.Dicts.{slots_of};
+ghost use Rattle.py_builtins.specs.Dicts.{slots_of};
 ghost use Rattle.py_names.specs.NamesError.{names_fault};
 ghost use Rattle.py_names.specs.Typed.{beside, plain_slots, type_at, typed_of, typed_of_result, typed_slots};
 
 use crate::NamesError;
 use elf64_core::u64_in;
 use process_memory::{ProcessMemory, ReadFault, record, word, word_past};
+use py_builtins::{DictCursor, ObjectError, PY_TPFLAGS_MANAGED_DICT};
 use py_fields::Layout;
-use py_objects::{DictCursor, ObjectError, PY_TPFLAGS_MANAGED_DICT};
 use std::alloc::Global;
 
 /// The type of an object: its address, and its record.

@@ -1,8 +1,7 @@
-pub mod BytesRead
-pub mod Codings
-pub mod DictSteps
-pub mod Nexts
-pub mod Numbers
-pub mod Refusals
-pub mod Sound
-pub mod Texts
+pub mod Hexes
+pub mod Levels
+pub mod Moving
+pub mod Rising
+pub mod Showing
+pub mod Steps
+pub mod Utf

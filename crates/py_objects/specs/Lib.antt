@@ -1,8 +1,5 @@
-pub mod Bytes
-pub mod Dicts
-pub mod Entries
-pub mod Integers
-pub mod ObjectError
-pub mod Refusals
-pub mod TextKind
-pub mod Texts
+pub mod Kinds
+pub mod Nodes
+pub mod ShownTexts
+pub mod Shown
+pub mod Shows

@@ -1,24 +1,18 @@
-//! Python objects: texts, bytes, integers and dicts, read out of a process's memory by a layout.
+//! Values of a Python process as text: what an inspector shows of them, within a width.
 //!
-//! Each reader answers what the object means at this memory, or the first fault on the way, and says how
-//! many reads it made. The rules are CPython's where they say what an object means, and this project's
-//! own where they say which objects are refused.
+//! The rule is one over values and their parts, wherever these come from; here they are a process's, read by a
+//! layout. Visits and levels are counted, so that each value ends, a list of itself too.
+//!
+//! The readers of texts, bytes, integers and dicts are those of `py_builtins`, named on here.
 #![tactic(auto)]
 
-mod bytes;
-mod coding;
-mod dicts;
-mod entries;
-mod error;
-mod integers;
-mod keys;
-mod managed;
-mod strings;
+mod kinds;
+mod nodes;
+mod show;
+mod texts;
 
-pub use bytes::copy_bytes;
-pub use dicts::{DictCursor, Slot};
-pub use entries::DictIterator;
-pub use error::ObjectError;
-pub use integers::{copy_int, copy_long};
-pub use managed::{PY_TPFLAGS_INLINE_VALUES, PY_TPFLAGS_MANAGED_DICT};
-pub use strings::copy_string;
+pub use py_builtins::{
+    DictCursor, DictIterator, ObjectError, PY_TPFLAGS_INLINE_VALUES, PY_TPFLAGS_MANAGED_DICT, Slot,
+    copy_bytes, copy_int, copy_long, copy_string,
+};
+pub use show::format_variable;

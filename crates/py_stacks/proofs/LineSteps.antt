@@ -7,7 +7,7 @@ use Rattle.process_memory.proofs.Founds.{bound}
 use Rattle.process_memory.proofs.Records.{record_length}
 use Rattle.elf64_core.specs.Fields.{u64_in}
 use Rattle.py_fields.specs.declared.layout.Layout.{Layout}
-use Rattle.py_objects.specs.Bytes.{bytes_object_at, bytes_of_length}
+use Rattle.py_builtins.specs.Bytes.{bytes_object_at, bytes_of_length}
 
 length_short : (l : Layout) (m : Memory) (a n : ℕ) (bytes : List ℕ) (t : Bool) → leb 65536 n ≡ t → bytes_of_length l m a n ≡ Ok bytes → length bytes < 65536
 unfolding bytes_of_length

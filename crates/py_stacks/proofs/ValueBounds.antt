@@ -8,8 +8,8 @@ use Rattle.std.proofs.Math.Nat.{mul-le-mul_left, mul_comm}
 use Rattle.process_memory.specs.Memory.{Memory, record_at}
 use Rattle.process_memory.proofs.Founds.{bound, ok_same}
 use Rattle.py_fields.specs.declared.layout.Layout.{Layout}
-use Rattle.py_shown.specs.Nodes.{values_in}
-use Rattle.py_shown.proofs.Moving.{show_within}
+use Rattle.py_objects.specs.Nodes.{values_in}
+use Rattle.py_objects.proofs.Moving.{show_within}
 use Rattle.py_stacks.specs.declared.asked.Asked.{Asked}
 use Rattle.py_stacks.specs.declared.config.Config.{Config}
 use Rattle.py_stacks.specs.declared.trace.LocalVariable.{LocalVariable}

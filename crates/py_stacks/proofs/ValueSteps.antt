@@ -6,10 +6,10 @@ use Rattle.process_memory.specs.Memory.{Memory, Found, byte_at}
 use Rattle.process_memory.specs.Seen.{Seen, Reading, ReadingBy}
 use Rattle.process_memory.proofs.Reading.{reading_gives, reading_here}
 use Rattle.py_fields.specs.declared.layout.Layout.{Layout}
-use Rattle.py_objects.specs.declared.error.ObjectError.{ObjectError}
-use Rattle.py_objects.specs.ObjectError.{fault_of}
-use Rattle.py_shown.specs.Nodes.{values_in}
-use Rattle.py_shown.specs.Shows.{AnswerShows, FaultShows, bytes_of}
+use Rattle.py_builtins.specs.declared.error.ObjectError.{ObjectError}
+use Rattle.py_builtins.specs.ObjectError.{fault_of}
+use Rattle.py_objects.specs.Nodes.{values_in}
+use Rattle.py_objects.specs.Shows.{AnswerShows, FaultShows, bytes_of}
 use Rattle.py_stacks.specs.declared.error.StackError.{StackError}
 use Rattle.py_stacks.specs.Values.{IsOrLost, MarkedAs, text_or_mark, value_at, value_text, value_visits}
 

@@ -9,7 +9,7 @@ use Rattle.process_memory.specs.Walk.{Step, IsChain, walk_at, walk_cost, walk_fa
 use Rattle.process_memory.specs.Faults.{faults_then}
 use Rattle.py_fields.specs.declared.layout.Layout.{Layout}
 use Rattle.py_fields.specs.declared.layout.FrameAt.{FrameAt}
-use Rattle.py_objects.specs.Texts.{text_at}
+use Rattle.py_builtins.specs.Texts.{text_at}
 use Rattle.py_stacks.specs.declared.trace.Frame.{Frame}
 use Rattle.py_stacks.specs.declared.trace.LocalVariable.{LocalVariable}
 use Rattle.py_stacks.specs.declared.asked.Asked.{Asked}

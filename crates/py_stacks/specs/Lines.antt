@@ -17,7 +17,7 @@ use Rattle.py_lines.specs.declared.lines.LineFamily.{LineFamily}
 use Rattle.py_lines.specs.declared.lines.LineFamily.TheVariants.{Pairs as PairTables, Ranges as RangeTables, Locations as LocationTables}
 use Rattle.py_lines.specs.declared.lines.LineRange.{LineRange}
 use Rattle.py_lines.specs.Lines.{in_i32, line_of, ranges_of}
-use Rattle.py_objects.specs.Bytes.{bytes_object_at}
+use Rattle.py_builtins.specs.Bytes.{bytes_object_at}
 use Rattle.py_stacks.specs.declared.asked.LineNo.{LineNo}
 use Rattle.py_stacks.specs.declared.asked.LineNo.TheVariants.{NoLine, First, LastInstruction}
 use Rattle.py_stacks.specs.Member.{MemberAt, readable}

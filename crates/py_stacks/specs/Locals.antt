@@ -10,7 +10,7 @@ use Rattle.process_memory.specs.Memory.{Memory, Found, Fault, ◌>>=◌, record_
 use Rattle.process_memory.specs.Memory.Fault.{Missing, BadValue, LocalsLimit}
 use Rattle.process_memory.specs.Faults.{faults_then}
 use Rattle.py_fields.specs.declared.layout.Layout.{Layout}
-use Rattle.py_objects.specs.Texts.{text_at}
+use Rattle.py_builtins.specs.Texts.{text_at}
 use Rattle.py_stacks.specs.declared.trace.LocalVariable.{LocalVariable}
 use Rattle.py_stacks.specs.Member.{MemberAt}
 

@@ -1,14 +1,14 @@
 -- The values of locals as text. How wide they are shown, and what stands for one that can't be, is this project's
--- own; the text of a value is py_shown's.
+-- own; the text of a value is py_objects's.
 use Rattle.std.specs.Prelude.{ℕ, ◌*◌, ◌-◌, ◌^◌, min, Option, Some, None, List, map, option_map, codes, IsSome, ◌≡◌, Result, Ok, Err}
 use Rattle.std.specs.List.{sum_by}
 use Rattle.std.specs.Str.{chars}
 use Rattle.process_memory.specs.Memory.{Memory, Found}
 use Rattle.py_fields.specs.declared.layout.Layout.{Layout}
-use Rattle.py_objects.specs.declared.error.ObjectError.{ObjectError}
-use Rattle.py_objects.specs.ObjectError.{fault_of}
-use Rattle.py_shown.specs.Nodes.{values_in}
-use Rattle.py_shown.specs.Shows.{show_at}
+use Rattle.py_builtins.specs.declared.error.ObjectError.{ObjectError}
+use Rattle.py_builtins.specs.ObjectError.{fault_of}
+use Rattle.py_objects.specs.Nodes.{values_in}
+use Rattle.py_objects.specs.Shows.{show_at}
 use Rattle.py_stacks.specs.declared.error.StackError.{StackError}
 use Rattle.py_stacks.specs.declared.error.StackError.TheVariants.{OutOfMemory}
 use Rattle.py_stacks.specs.declared.trace.LocalVariable.{LocalVariable}

@@ -10,8 +10,7 @@ use crate::{Frame, LocalVariable, StackError, StackTrace};
 use elf64_core::Text;
 use process_memory::ProcessMemory;
 use py_fields::Layout;
-use py_objects::ObjectError;
-use py_shown::format_variable;
+use py_objects::{ObjectError, format_variable};
 use std::alloc::Global;
 
 /// How wide values are shown for each level that is asked for.

@@ -1,9 +1,9 @@
 use Rattle.std.proofs.Common.{◌≡◌, ◌≢◌, ◌∙◌, refl}
 use Rattle.std.specs.Prelude.{IsSome, codes}
 use Rattle.std.specs.Str.{chars}
-use Rattle.py_objects.specs.declared.error.ObjectError.{ObjectError}
-use Rattle.py_objects.specs.declared.error.ObjectError.TheVariants.{Unreadable, NoText, TooLong, BadDict, BadType, Visits, Depth, BadCount, BadBool, OutOfMemory}
-use Rattle.py_objects.specs.ObjectError.{fault_of}
+use Rattle.py_builtins.specs.declared.error.ObjectError.{ObjectError}
+use Rattle.py_builtins.specs.declared.error.ObjectError.TheVariants.{Unreadable, NoText, TooLong, BadDict, BadType, Visits, Depth, BadCount, BadBool, OutOfMemory}
+use Rattle.py_builtins.specs.ObjectError.{fault_of}
 use Rattle.py_stacks.proofs.values.mark_for.Goals as goal
 
 -- each error but want of memory names a fault

@@ -2,7 +2,7 @@ use Rattle.std.proofs.Common.{ap, arith, rules}
 use Rattle.std.specs.Prelude.{pos}
 use Rattle.std.specs.Int.{w64}
 use Rattle.std.proofs.lemmas.Int.{to_z-of_z}
-use Rattle.py_shown.specs.Shows.{width_of}
+use Rattle.py_objects.specs.Shows.{width_of}
 use Rattle.py_stacks.proofs.ValueSteps.{value_told}
 use Rattle.py_stacks.proofs.values.value_text.Goals as goal
 

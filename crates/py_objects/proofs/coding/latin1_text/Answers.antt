@@ -1,6 +1,0 @@
-use Rattle.std.proofs.Common.{rules}
-use Rattle.py_objects.proofs.Codings.{answers_latin1}
-use Rattle.py_objects.proofs.coding.latin1_text.Goals as goal
-
-pub returns : goal.returns
-returns c = answers_latin1 _ _ _ c.from.ensures c.in_ok-latin1_string.ensures (search rules)

@@ -1,0 +1,176 @@
+-- What the values of a process's memory are, and their parts. Which fields they have is CPython's to say, and
+-- where they are the layout's.
+use Rattle.std.specs.Prelude.{ℕ, ◌+◌, ◌*◌, ◌^◌, nat_lt, List, Result, Ok, Err, if◌then◌else◌, codes, string_bytes, String, encode_utf8_all}
+use Rattle.std.specs.Global.{Global}
+use Rattle.std.specs.Int.{w64, cast_signed}
+use Rattle.elf64_core.specs.Fields.{u64_in}
+use Rattle.process_memory.specs.Memory.{Memory, Found, ◌>>=◌, record_at, word_at}
+use Rattle.process_memory.specs.Memory.Fault.{BadType, BadCount}
+use Rattle.py_fields.specs.declared.layout.Dicts.{Dicts}
+use Rattle.py_fields.specs.declared.layout.Dicts.TheVariants.{Absent, General, Compact}
+use Rattle.py_fields.specs.declared.layout.Layout.{Layout}
+use Rattle.py_builtins.specs.declared.keys.Slots.{Slots as SlotsOf}
+use Rattle.py_builtins.specs.declared.dicts.Slot.{Slot}
+use Rattle.py_builtins.specs.declared.dicts.Slot.TheVariants.{Empty as EmptySlot, Entry as EntrySlot}
+use Rattle.py_builtins.specs.Dicts.{dict_slots, slot_at}
+use Rattle.py_builtins.specs.Integers.{small_at, long_at}
+use Rattle.py_builtins.specs.Texts.{text_at}
+use Rattle.py_objects.specs.declared.kinds.Scalar.{Scalar}
+use Rattle.py_objects.specs.declared.kinds.Kind.{Kind}
+use Rattle.py_objects.specs.declared.kinds.Kind.TheVariants.{Small, Long, Text, Dict, List as ListKind, Tuple, Float, Nothing, Number, Other}
+use Rattle.py_objects.specs.declared.nodes.Sequence.TheVariants.{List as ListItems, Tuple as TupleItems}
+use Rattle.py_objects.specs.declared.nodes.Parts.{Parts}
+use Rattle.py_objects.specs.declared.nodes.Parts.TheVariants.{Items as ItemParts, Slots as SlotParts}
+use Rattle.py_objects.specs.declared.nodes.Node.{Node as NodeRead}
+use Rattle.py_objects.specs.declared.nodes.Node.TheVariants.{Whole as WholeRead, Quoted as QuotedRead, Many as ManyRead}
+use Rattle.py_objects.specs.declared.nodes.Child.{Child as ChildRead}
+use Rattle.py_objects.specs.declared.nodes.Child.TheVariants.{Item as ItemRead, Slot as SlotRead}
+use Rattle.py_objects.specs.Kinds.{kind_of, scalar_width}
+use Rattle.py_objects.specs.ShownTexts.{before_nul, text_or, number_text, long_text, float_text, scalar_text, other_text}
+use Rattle.py_objects.specs.Shows.{Brackets, Node, Child, Source}
+use Rattle.py_objects.specs.Shows.Brackets.{Square, Round, Curly}
+use Rattle.py_objects.specs.Shows.Node.{Whole, Quoted, Many}
+use Rattle.py_objects.specs.Shows.Child.{Item, Empty, Entry}
+
+-- where the parts of a value stand: the address of the first item, or the slots of a dict
+pub data Place : Type 0 where
+  ItemsAt : ℕ → Place
+  SlotsAt : SlotsOf → Place
+
+-- the flags and the name of the type of the value at an address
+unfoldable pub type_at : Layout → Memory → ℕ → Found (ℕ × List ℕ)
+type_at l m a = do
+  object ← record_at m a l.object.size
+  klass ← record_at m (u64_in object l.object.klass) l.klass.size
+  chars ← record_at m (u64_in klass l.klass.name) 128
+  name ← text_or (before_nul chars) BadType
+  Ok (u64_in klass l.klass.flags, name)
+
+-- a count of items, by the 8 bytes that state it, unless it is negative
+unfoldable pub item_count : ℕ → Found ℕ
+item_count n = if nat_lt n (2 ^ 63) then Ok n else Err (BadCount (cast_signed w64 n))
+
+unfoldable pub small_node : Layout → Memory → ℕ → List ℕ → Found (Node Place)
+small_node l m a name = do
+  z ← small_at l m a
+  Ok (Whole (number_text name z))
+
+unfoldable pub long_node : Layout → Memory → ℕ → List ℕ → Found (Node Place)
+long_node l m a name = do
+  number ← long_at l m a
+  Ok (Whole (long_text name number))
+
+unfoldable pub text_node : Layout → Memory → ℕ → Found (Node Place)
+text_node l m a = do
+  text ← text_at l m a
+  Ok (Quoted (encode_utf8_all text))
+
+unfoldable pub list_node : Layout → Memory → ℕ → Found (Node Place)
+list_node l m a = do
+  list ← record_at m a l.list.size
+  n ← item_count (u64_in list l.list.count)
+  Ok (Many Square n (ItemsAt (u64_in list l.list.items)))
+
+unfoldable pub tuple_node : Layout → Memory → ℕ → Found (Node Place)
+tuple_node l m a = do
+  tuple ← record_at m a l.tuple.size
+  n ← item_count (u64_in tuple l.tuple.count)
+  Ok (Many Round n (ItemsAt (a + l.tuple.at)))
+
+unfoldable pub slots_node : Layout → Memory → ℕ → Found (Node Place)
+slots_node l m a = do
+  slots ← dict_slots l m a
+  Ok (Many Curly slots.count (SlotsAt slots))
+
+abbrev pub dict_node : Dicts → Layout → Memory → ℕ → Found (Node Place)
+dict_node Absent l m a = Ok (Whole (codes "dict"))
+dict_node General l m a = slots_node l m a
+dict_node Compact l m a = slots_node l m a
+
+unfoldable pub float_node : Layout → Memory → ℕ → Found (Node Place)
+float_node l m a = do
+  float ← record_at m a l.float.size
+  Ok (Whole (float_text 16 (u64_in float l.float.value)))
+
+unfoldable pub scalar_node : Layout → Memory → ℕ → Scalar → Found (Node Place)
+scalar_node l m a s = do
+  bytes ← record_at m (a + l.object.size) (scalar_width s)
+  text ← scalar_text s bytes
+  Ok (Whole text)
+
+abbrev pub kind_node : Layout → Memory → ℕ → List ℕ → Kind → Found (Node Place)
+kind_node l m a name Small = small_node l m a name
+kind_node l m a name Long = long_node l m a name
+kind_node l m a name Text = text_node l m a
+kind_node l m a name Dict = dict_node l.dicts l m a
+kind_node l m a name ListKind = list_node l m a
+kind_node l m a name Tuple = tuple_node l m a
+kind_node l m a name Float = float_node l m a
+kind_node l m a name Nothing = Ok (Whole (codes "None"))
+kind_node l m a name (Number s) = scalar_node l m a s
+kind_node l m a name Other = Ok (Whole (other_text name a))
+
+-- what the value at an address is: its text, or how many parts it has and where they stand
+unfoldable pub node_at : Layout → Memory → ℕ → Found (Node Place)
+node_at l m a = do
+  class ← type_at l m a
+  kind_node l m a class.1 (kind_of l.bytes_text class.0 class.1)
+
+abbrev pub child_of : Slot → Child ℕ
+child_of EmptySlot = Empty
+child_of (EntrySlot key value) = Entry key value
+
+-- the part of a number at a place
+unfoldable pub child_at : Memory → Place → ℕ → Found (Child ℕ)
+child_at m (ItemsAt first) k = do
+  item ← word_at m (first + 8 * k)
+  Ok (Item item)
+child_at m (SlotsAt slots) k = do
+  slot ← slot_at m slots k
+  Ok (child_of slot)
+
+-- the values of a memory
+abbrev pub values_in : Layout → Memory → Source ℕ Place
+values_in l m = record { node = node_at l m; child = child_at m }
+
+-- what was read of a value
+abbrev pub brackets_of : Parts → Brackets
+brackets_of (ItemParts ListItems base offset) = Square
+brackets_of (ItemParts TupleItems base offset) = Round
+brackets_of (SlotParts cursor) = Curly
+
+abbrev pub place_of : Parts → Place
+place_of (ItemParts sequence base offset) = ItemsAt (base + offset)
+place_of (SlotParts cursor) = SlotsAt cursor.slots
+
+abbrev pub node_of : NodeRead → Node Place
+node_of (WholeRead text) = Whole (string_bytes text)
+node_of (QuotedRead text) = Quoted (encode_utf8_all text)
+node_of (ManyRead count parts) = Many (brackets_of parts) count (place_of parts)
+
+abbrev pub nodes_of : {E : Type 0} → Result NodeRead E → Result (Node Place) E
+nodes_of (Ok n) = Ok (node_of n)
+nodes_of (Err e) = Err e
+
+abbrev pub part_read : ChildRead → Child ℕ
+part_read (ItemRead value) = Item value
+part_read (SlotRead slot) = child_of slot
+
+abbrev pub parts_read : {E : Type 0} → Result ChildRead E → Result (Child ℕ) E
+parts_read (Ok c) = Ok (part_read c)
+parts_read (Err e) = Err e
+
+abbrev pub type_of : {E : Type 0} → Result (ℕ × String Global) E → Result (ℕ × List ℕ) E
+type_of (Ok p) = Ok (p.0, string_bytes p.1)
+type_of (Err e) = Err e
+
+-- how many visits it takes to look at a part
+abbrev pub slot_visits : Parts → ℕ
+slot_visits (ItemParts sequence base offset) = 0
+slot_visits (SlotParts cursor) = 1
+
+-- whether a part has a text
+abbrev pub texts_of : Child ℕ → ℕ
+texts_of (Item value) = 1
+texts_of Empty = 0
+texts_of (Entry key value) = 1

@@ -1,5 +1,0 @@
-use Rattle.py_shown.proofs.Hexes.{sixteen_digits}
-use Rattle.py_shown.proofs.texts.double.Goals as goal
-
-pub returns : goal.returns
-returns c = rw (← sixteen_digits c.args.bits) c.padded_double.ensures

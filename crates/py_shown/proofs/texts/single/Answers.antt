@@ -1,5 +1,0 @@
-use Rattle.py_shown.proofs.Hexes.{eight_digits}
-use Rattle.py_shown.proofs.texts.single.Goals as goal
-
-pub returns : goal.returns
-returns c = rw (← eight_digits c.args.bits) c.padded_single.ensures
