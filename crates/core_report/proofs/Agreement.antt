@@ -24,8 +24,9 @@ use Rattle.core_words.specs.Dump.{Dump}
 use Rattle.core_words.specs.Words.{Command, LayoutSource, Walk, dump, walk, sample, file}
 use Rattle.core_texts.specs.Text.{walk_text}
 use Rattle.core_stacks.specs.Answer.{IsWalkable}
-use Rattle.core_stacks.proofs.ReportLaws.{report_agree, report_complete}
-use Rattle.core_stacks.proofs.FindingLaws.{NoneClash}
+use Rattle.py_process.proofs.ReportLaws.{report_agree}
+use Rattle.core_stacks.proofs.ReportLaws.{report_complete}
+use Rattle.core_stacks.proofs.Layouts.{NoneClash, chooses_once}
 use Rattle.core_stacks.proofs.Walked.{walk_agree as walks_agree, walk_complete}
 use Rattle.core_report.specs.declared.cause.Cause.{Cause}
 use Rattle.core_report.specs.declared.cause.Cause.TheVariants.{Core, Layouts, OutOfMemory}
@@ -236,7 +237,7 @@ err_kept e ne is = ne (cc)
 report_apart : (config : Config) (bytes : List ℕ) (images : Pushed) (list : List Layout) → NoneClash list → (r : Report) (e : CoreError)
     → ReportAnswers config bytes images list (Ok r) → ReportAnswers config bytes images list (Err e) → e ≢ core.OutOfMemory → ⊥
 report_apart config bytes images list apart r e one other ne =
-    err_of (reported_of r) e (report_agree bytes images list config apart (Ok (reported_of r)) (Err e) one other
+    err_of (reported_of r) e (report_agree bytes images list config (chooses_once list apart) (Ok (reported_of r)) (Err e) one other
     (err_of (reported_of r) core.OutOfMemory) (err_kept e ne))
 
 dumped_agree : (d : Dump) (bytes : List ℕ) (images : Pushed) (list : List Layout) → NoneClash list → Agree (IsDumpedBy d bytes images list)

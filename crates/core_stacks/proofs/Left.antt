@@ -18,7 +18,7 @@ use Rattle.process_memory.specs.Memory.{byte_at}
 use Rattle.py_fields.specs.declared.layout.Layout.{Layout}
 use Rattle.py_process.specs.Findings.{IsFound}
 use Rattle.core_stacks.specs.Opened.{IsFoundIn, IsLeft, Opened, Opens, memory_in}
-use Rattle.core_stacks.proofs.Dumped.{backed_once}
+use Rattle.py_process.proofs.Dumped.{backed_once}
 use Rattle.core_stacks.proofs.ReportLaws.{found_by}
 use Rattle.core_stacks.proofs.PlainFaults.{Fails, IsPlain, locals_plain, owner_plain}
 use Rattle.core_stacks.proofs.Unfaulted.{rest_fault}

@@ -1,11 +1,7 @@
-pub mod Agreement
-pub mod Dumped
-pub mod FindingLaws
 pub mod FirstMaps
-pub mod Firsts
 pub mod Footprints
-pub mod Full
 pub mod Images
+pub mod Layouts
 pub mod Left
 pub mod OpenedLaws
 pub mod PlainFaults
@@ -14,7 +10,7 @@ pub mod ReportCauses
 pub mod ReportLaws
 pub mod ReportSteps
 pub mod Searching
-pub mod StackCauses
+pub mod Settling
 pub mod Stacks
 pub mod Steps
 pub mod Unfaulted

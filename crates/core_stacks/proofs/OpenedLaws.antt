@@ -13,8 +13,8 @@ use Rattle.py_process.specs.declared.core_error.CoreError.TheVariants as error
 use Rattle.core_stacks.specs.Opened.{IsOpened, IsUnopened, Opened, Opens}
 use Rattle.core_stacks.specs.Seen.{FindsProcess}
 use Rattle.core_stacks.specs.Sole.{IsSole, Settles}
-use Rattle.core_stacks.proofs.Agreement.{IsKept, err_kept, ok_is, ok_kept, ok_not_err}
-use Rattle.core_stacks.proofs.Dumped.{backed_once}
+use Rattle.py_process.proofs.Agreement.{IsKept, err_kept, ok_is, ok_kept, ok_not_err}
+use Rattle.py_process.proofs.Dumped.{backed_once}
 
 module _ (bytes : List ℕ) (images : Pushed) (layouts : List Layout) where
   same : (o p : Opened) → IsOpened bytes images layouts p → o.core ≡ bytes → IsBackedMemory bytes images o.pieces → o.finding ≡ p.finding → o ≡ p

@@ -19,7 +19,7 @@ use Rattle.py_process.specs.declared.core_error.CoreError.{CoreError}
 use Rattle.py_process.specs.declared.core_error.CoreError.TheVariants as core
 use Rattle.py_process.specs.declared.report.Report.{Report}
 use Rattle.core_stacks.specs.ReportCauses.{IsReportCause, MeetsRest}
-use Rattle.core_stacks.proofs.Agreement.{ok_not_err}
+use Rattle.py_process.proofs.Agreement.{ok_not_err}
 use Rattle.core_stacks.proofs.Left.{limit_none}
 use Rattle.core_stacks.proofs.PlainFaults.{IsPlain}
 use Rattle.core_stacks.proofs.ReportLaws.{found_by}

@@ -24,11 +24,13 @@ use Rattle.py_process.specs.declared.core_error.CoreError.TheVariants as core
 use Rattle.py_process.proofs.Wider.{reading_wider}
 use Rattle.core_stacks.specs.Reached.{AfterKnown, IsCounted, IsTrialBy, Reporting, Trying, cost_of, finding_cost, trial_cost}
 use Rattle.core_stacks.specs.Sole.{Settles}
-use Rattle.core_stacks.proofs.Agreement.{ok_is, ok_kept, ok_not_err, settles_agree, settles_by_err, settles_by_ok, settles_err, settles_ok, then_ok, then_value}
-use Rattle.core_stacks.proofs.FindingLaws.{images_agree, maps_agree}
-use Rattle.core_stacks.proofs.ReportLaws.{core_agree, finds, found_by, left_memory, told_agree}
-use Rattle.core_stacks.proofs.Dumped.{dumped_once}
-use Rattle.core_stacks.proofs.StackCauses.{stacks_agree}
+use Rattle.py_process.proofs.Agreement.{ok_is, ok_kept, ok_not_err, then_ok, then_value}
+use Rattle.py_process.proofs.FindingLaws.{images_agree, maps_agree}
+use Rattle.py_process.proofs.ReportLaws.{core_agree, finds, found_by, told_agree}
+use Rattle.py_process.proofs.Dumped.{dumped_once}
+use Rattle.py_process.proofs.StackCauses.{stacks_agree}
+use Rattle.core_stacks.proofs.Settling.{settles_agree, settles_by_err, settles_by_ok, settles_err, settles_ok}
+use Rattle.core_stacks.proofs.ReportLaws.{left_memory}
 use Rattle.core_stacks.proofs.Unfaulted.{unfaulted}
 
 err_is : {T : Type 0} (e d : CoreError) → ◌≡◌ {A = Result T CoreError} (Err e) (Err d) → e ≡ d

@@ -25,7 +25,7 @@ use Rattle.py_process.specs.declared.version_error.VersionError.{VersionError}
 use Rattle.core_stacks.specs.Reached.{IsTrialAt, IsTrialBy, Trial, Trying, cost_of, trial_cost}
 use Rattle.core_stacks.specs.Seen.{FindsProcess}
 use Rattle.core_stacks.specs.Sole.{Settles}
-use Rattle.core_stacks.proofs.Agreement.{then_ok}
+use Rattle.py_process.proofs.Agreement.{then_ok}
 use Rattle.core_stacks.proofs.Steps.{images_fail, images_then, layout_then, maps_fail, maps_then, version_fails, version_then}
 
 -- nothing is tried, and nothing was read

@@ -15,7 +15,7 @@ use Rattle.py_process.specs.Causes.{cause_of_stacks}
 use Rattle.py_process.specs.Findings.{Finding}
 use Rattle.py_process.specs.Reports.{AsksNoOther, StacksSay, fault_on}
 use Rattle.py_process.specs.declared.core_error.CoreError.{CoreError}
-use Rattle.core_stacks.proofs.StackCauses.{stack_fails}
+use Rattle.py_process.proofs.StackCauses.{stack_fails}
 
 -- another count of the reads, and what follows from two facts
 pub reading_both : {limit n k j : ℕ} {s0 s1 : Seen} {P Q : Memory → Type 0} (R : Memory → Type 0) → ReadingBelow limit n s0 s1 P → ReadingBelow limit k s0 s1 Q

@@ -20,9 +20,9 @@ use Rattle.py_process.specs.declared.core_error.CoreError.{CoreError}
 use Rattle.py_process.specs.declared.core_error.CoreError.TheVariants as core
 use Rattle.core_stacks.specs.Seen.{FindsProcess}
 use Rattle.core_stacks.specs.Sole.{Settles}
-use Rattle.core_stacks.proofs.Agreement.{settles_agree, settles_err, settles_ok}
-use Rattle.core_stacks.proofs.Dumped.{dumped_once}
-use Rattle.core_stacks.proofs.FindingLaws.{images_agree, layout_agree, lock_agree, made_agree, maps_agree, search_agree, version_agree}
+use Rattle.core_stacks.proofs.Settling.{settles_agree, settles_err, settles_ok}
+use Rattle.py_process.proofs.Dumped.{dumped_once}
+use Rattle.py_process.proofs.FindingLaws.{images_agree, layout_agree, lock_agree, made_agree, maps_agree, search_agree, version_agree}
 use Rattle.py_process.specs.declared.search_error.SearchError.{SearchError}
 use Rattle.py_process.specs.declared.search_error.SearchError.TheVariants as search
 use Rattle.py_process.specs.declared.version_error.VersionError.{VersionError}

@@ -28,8 +28,10 @@ use Rattle.py_process.specs.declared.core_error.CoreError.{CoreError}
 use Rattle.py_process.specs.declared.core_error.CoreError.TheVariants as core
 use Rattle.core_stacks.specs.Answer.{FaultsSay, FileSays, IsWalkable, Means, WalkSays, core_memory, fault_by}
 use Rattle.core_stacks.specs.Sole.{Settles}
-use Rattle.core_stacks.proofs.Agreement.{Agree, IsKept, settles_agree, settles_err, settles_ok, then_agree, then_value}
-use Rattle.core_stacks.proofs.FindingLaws.{NoneClash, chosen_same, layout_agree}
+use Rattle.py_process.proofs.Agreement.{Agree, IsKept, then_agree, then_value}
+use Rattle.py_process.proofs.FindingLaws.{layout_agree}
+use Rattle.core_stacks.proofs.Settling.{settles_agree, settles_err, settles_ok}
+use Rattle.core_stacks.proofs.Layouts.{NoneClash, chooses_once}
 use Rattle.core_stacks.proofs.PlainWalks.{IsWalkFault, stacks_walk}
 
 -- ---- the file
@@ -174,12 +176,12 @@ module _ (bytes : List ℕ) (layouts : List Layout) (version : Version) (address
 
   pub walk_agree : NoneClash layouts → Agree (Means bytes layouts version addresses)
   walk_agree apart = then_agree (FileSays bytes) rest (file_agree bytes)
-      (λ x h. then_agree (LayoutSays layouts version) (WalkSays bytes addresses) (layout_agree layouts version (λ a b one other. chosen_same layouts version a b apart one other)) (λ l h. walk_says_agree l))
+      (λ x h. then_agree (LayoutSays layouts version) (WalkSays bytes addresses) (layout_agree layouts version (chooses_once layouts apart version)) (λ l h. walk_says_agree l))
 
   -- where there is nothing to complain of, no cause is right
   pub walk_complete : NoneClash layouts → IsWalkable bytes layouts version addresses → (e : CoreError) → Means bytes layouts version addresses (Err e)
       → IsKept {T = List Trace} (Err e) → ⊥
   walk_complete apart good e h kept =
       let one = then_value (FileSays bytes) rest (file_agree bytes) tt good.core (Err e) kept h in
-      let two = then_value (LayoutSays layouts version) (WalkSays bytes addresses) (layout_agree layouts version (λ a b one other. chosen_same layouts version a b apart one other)) good.layout good.chosen (Err e) kept one in
+      let two = then_value (LayoutSays layouts version) (WalkSays bytes addresses) (layout_agree layouts version (chooses_once layouts apart version)) good.layout good.chosen (Err e) kept one in
       no_fault (fault_by good.layout bytes addresses) (AreStacks nothing good.layout (core_memory bytes) addresses.lock addresses.interpreter) good.faultless e two kept

@@ -1,6 +1,6 @@
 use Rattle.std.specs.Prelude.{Ok}
-use Rattle.core_stacks.proofs.Agreement.{ok_kept}
-use Rattle.core_stacks.proofs.Full.{right_reports}
+use Rattle.py_process.proofs.Agreement.{ok_kept}
+use Rattle.py_process.proofs.Full.{right_reports}
 use Rattle.core_stacks.proofs.ReportCauses.{report_causes}
 use Rattle.core_stacks.proofs.ReportLaws.{whole}
 use Rattle.core_stacks.proofs.reporting.report.Goals as goal

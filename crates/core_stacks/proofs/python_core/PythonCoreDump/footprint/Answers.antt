@@ -3,9 +3,9 @@ use Rattle.core_stacks.specs.Footprints.{traces_with}
 use Rattle.py_process.specs.Reports.{StacksSay}
 use Rattle.std.proofs.Common.{subst}
 use Rattle.core_stacks.specs.Opened.{Opened}
-use Rattle.core_stacks.proofs.Agreement.{sole_of}
+use Rattle.core_stacks.proofs.Settling.{sole_of}
 use Rattle.core_stacks.proofs.Left.{footprint_left}
-use Rattle.core_stacks.proofs.StackCauses.{stacks_agree}
+use Rattle.py_process.proofs.StackCauses.{stacks_agree}
 use Rattle.core_stacks.proofs.python_core.PythonCoreDump.footprint.Goals as goal
 
 pub returns-clause-right : goal.returns-clause-right

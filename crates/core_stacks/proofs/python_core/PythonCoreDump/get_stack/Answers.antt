@@ -2,9 +2,9 @@ use Rattle.std.proofs.Common.{◌≡◌, ℕ, refl, subst}
 use Rattle.process_memory.specs.Memory.{Memory}
 use Rattle.py_process.specs.Reports.{StacksSay, traces_in}
 use Rattle.core_stacks.specs.Opened.{Opened, memory_in}
-use Rattle.core_stacks.proofs.Agreement.{sole_of}
+use Rattle.core_stacks.proofs.Settling.{sole_of}
 use Rattle.core_stacks.proofs.Left.{found_left}
-use Rattle.core_stacks.proofs.StackCauses.{stacks_agree}
+use Rattle.py_process.proofs.StackCauses.{stacks_agree}
 use Rattle.core_stacks.proofs.python_core.PythonCoreDump.get_stack.Goals as goal
 
 pub returns-clause-equal : goal.returns-clause-equal

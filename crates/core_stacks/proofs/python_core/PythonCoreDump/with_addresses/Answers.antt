@@ -1,6 +1,6 @@
 use Rattle.std.proofs.Common.{refl, subst}
 use Rattle.image_memory.specs.Backed.{IsBackedMemory, regions_of}
-use Rattle.core_stacks.proofs.Dumped.{alone}
+use Rattle.py_process.proofs.Dumped.{alone}
 use Rattle.core_stacks.proofs.python_core.PythonCoreDump.with_addresses.Goals as goal
 
 pub returns : goal.returns

@@ -16,7 +16,7 @@ use Rattle.py_process.specs.Findings.{Finding}
 use Rattle.py_process.specs.Reports.{AsksNoOther, HasStacks, MeetsFault, StacksSay, fault_on}
 use Rattle.py_process.specs.declared.core_error.CoreError.{CoreError}
 use Rattle.py_process.specs.declared.core_error.CoreError.TheVariants as core
-use Rattle.core_stacks.proofs.Agreement.{Agree, IsKept}
+use Rattle.py_process.proofs.Agreement.{Agree, IsKept}
 
 -- an error of the readers is the first fault
 stack_says : (m : Memory) (f : Finding) (config : Config) (e : StackError) → AsksNoOther config

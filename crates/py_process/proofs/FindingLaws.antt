@@ -1,6 +1,6 @@
 -- What is found of a process is one, and so is its first cause.
 use Rattle.std.proofs.Common.{◌≡◌, ℕ, List, refl, sym, ap, subst, ◌∙◌}
-use Rattle.std.specs.Prelude.{Bool, Option, Some, None, Result, Ok, Err, All, AllPairs}
+use Rattle.std.specs.Prelude.{Bool, Option, Some, None, Result, Ok, Err, All}
 use Rattle.std.proofs.lemmas.Option.{same_Some, none-some}
 use Rattle.elf64_core.specs.declared.header.Machine.{Machine}
 use Rattle.image_memory.specs.Images.{Pushed, first_under}
@@ -11,8 +11,6 @@ use Rattle.process_memory.specs.Memory.{Memory, Found}
 use Rattle.process_memory.specs.Memory.Fault.{Missing}
 use Rattle.py_fields.specs.declared.layout.Layout.{Layout}
 use Rattle.py_version.specs.declared.version.Version.{Version}
-use Rattle.py_layout.specs.Lists.{Clash}
-use Rattle.py_layout.proofs.Choosing.{covers_same}
 use Rattle.py_process.specs.Binary.{SaysFacts}
 use Rattle.py_process.specs.Candidates.{IsFirstOf, IsInterpreterIn, IsNoneOf, candidates_of}
 use Rattle.py_process.specs.Facts.{Facts, Known}
@@ -24,8 +22,8 @@ use Rattle.py_process.specs.declared.core_error.CoreError.{CoreError}
 use Rattle.py_process.specs.declared.core_error.CoreError.TheVariants as core
 use Rattle.py_process.proofs.Images.{facts_once}
 use Rattle.py_process.proofs.Telling.{told_once}
-use Rattle.core_stacks.proofs.Agreement.{Agree, IsKept, then_agree}
-use Rattle.core_stacks.proofs.Firsts.{first_same, none_first}
+use Rattle.py_process.proofs.Agreement.{Agree, IsKept, then_agree}
+use Rattle.py_process.proofs.Firsts.{first_same, none_first}
 
 -- ---- the maps
 
@@ -174,13 +172,6 @@ version_agree m k a b one two na nb = version_one m k a b (version_cause m k a o
 
 -- ---- the layout
 
-abbrev pub NoneClash : List Layout → Type 0
-NoneClash layouts = AllPairs (λ a b. ¬ Clash a b) layouts
-
-pub chosen_same : (layouts : List Layout) (version : Version) (a b : Layout) → NoneClash layouts → IsChosen layouts version a → IsChosen layouts version b → a ≡ b
-chosen_same layouts version a b apart one other =
-    covers_same layouts version a b apart one.listed one.covers other.listed other.covers
-
 data LayoutCause (layouts : List Layout) (v : Version) (r : Result Layout CoreError) : Type 0 where
   uncovered : r ≡ Err (core.UnsupportedVersion v) → ((l : Layout) → ¬ IsChosen layouts v l) → LayoutCause layouts v r
   covered : (l : Layout) → r ≡ Ok l → IsChosen layouts v l → LayoutCause layouts v r
@@ -194,6 +185,10 @@ layout_cause layouts v (Err _) h kept = absurd h
 -- one layout at most covers the version
 abbrev pub CoversOnce : List Layout → Version → Type 0
 CoversOnce layouts v = (a b : Layout) → IsChosen layouts v a → IsChosen layouts v b → a ≡ b
+
+-- so it is of each version, as in a list of which no two clash
+abbrev pub ChoosesOnce : List Layout → Type 0
+ChoosesOnce layouts = (version : Version) → CoversOnce layouts version
 
 layout_one : (layouts : List Layout) (v : Version) → CoversOnce layouts v → (a b : Result Layout CoreError) → LayoutCause layouts v a → LayoutCause layouts v b → a ≡ b
 layout_one layouts v once a b (uncovered is lack) (uncovered is' lack') = is ∙ sym is'
@@ -273,18 +268,18 @@ after_layout m machine contains k v l =
     then_agree (SearchSays m contains k v l) (AfterSearch m machine k v l) (search_agree m contains k v l)
     (λ a h. then_agree (LockSays m machine k v l a) (IsMade v l a) (lock_agree m machine k v l a) (λ lock g. made_agree v l a lock))
 
-after_version : (m : Memory) (machine : Machine) (contains : ℕ → Bool) (layouts : List Layout) (k : Known) (v : Version) → NoneClash layouts → Agree (AfterVersion m machine contains layouts k v)
+after_version : (m : Memory) (machine : Machine) (contains : ℕ → Bool) (layouts : List Layout) (k : Known) (v : Version) → ChoosesOnce layouts → Agree (AfterVersion m machine contains layouts k v)
 after_version m machine contains layouts k v apart =
-    then_agree (LayoutSays layouts v) (AfterLayout m machine contains k v) (layout_agree layouts v (λ a b x y. chosen_same layouts v a b apart x y)) (λ l h. after_layout m machine contains k v l)
+    then_agree (LayoutSays layouts v) (AfterLayout m machine contains k v) (layout_agree layouts v (apart v)) (λ l h. after_layout m machine contains k v l)
 
-after_images : (m : Memory) (machine : Machine) (contains : ℕ → Bool) (layouts : List Layout) (k : Known) → NoneClash layouts → Agree (AfterImages m machine contains layouts k)
+after_images : (m : Memory) (machine : Machine) (contains : ℕ → Bool) (layouts : List Layout) (k : Known) → ChoosesOnce layouts → Agree (AfterImages m machine contains layouts k)
 after_images m machine contains layouts k apart =
     then_agree (VersionSays m k) (AfterVersion m machine contains layouts k) (version_agree m k) (λ v h. after_version m machine contains layouts k v apart)
 
-after_maps : (m : Memory) (machine : Machine) (maps : List CoreMapRange) (images : Pushed) (layouts : List Layout) (p : Programs) → NoneClash layouts → Agree (AfterMaps m machine maps images layouts p)
+after_maps : (m : Memory) (machine : Machine) (maps : List CoreMapRange) (images : Pushed) (layouts : List Layout) (p : Programs) → ChoosesOnce layouts → Agree (AfterMaps m machine maps images layouts p)
 after_maps m machine maps images layouts p apart =
     then_agree (ImagesSay images p) (AfterImages m machine (in_maps maps) layouts) (images_agree images p) (λ k h. after_images m machine (in_maps maps) layouts k apart)
 
-pub finding_agree : (m : Memory) (machine : Machine) (maps : List CoreMapRange) (images : Pushed) (layouts : List Layout) → NoneClash layouts → Agree (FindingIs m machine maps images layouts)
+pub finding_agree : (m : Memory) (machine : Machine) (maps : List CoreMapRange) (images : Pushed) (layouts : List Layout) → ChoosesOnce layouts → Agree (FindingIs m machine maps images layouts)
 finding_agree m machine maps images layouts apart =
     then_agree (MapsSay maps) (AfterMaps m machine maps images layouts) (maps_agree maps) (λ p h. after_maps m machine maps images layouts p apart)

@@ -1,4 +1,4 @@
--- A report that is right in all its fields is the report of its core.
+-- A report that is right in all its fields is the report of its core, and there is one.
 use Rattle.std.proofs.Common.{◌≡◌, ℕ, List, refl, ap, ◌∙◌, inr}
 use Rattle.std.specs.Prelude.{None, Ok}
 use Rattle.elf64_core.specs.Header.{machine_of}
@@ -11,7 +11,9 @@ use Rattle.py_stacks.proofs.StackLaws.{stacks_same}
 use Rattle.py_stacks.proofs.Wholes.{stacks_whole}
 use Rattle.py_process.specs.Findings.{Finding, finding}
 use Rattle.py_process.specs.Reports.{AsksNoOther, IsRight, ReportIs, Reported, fault_on, memory_in}
-use Rattle.core_stacks.proofs.ReportLaws.{finds}
+use Rattle.py_process.proofs.Agreement.{ok_is, ok_kept}
+use Rattle.py_process.proofs.FindingLaws.{ChoosesOnce}
+use Rattle.py_process.proofs.ReportLaws.{finds, report_agree}
 
 module _ (bytes : List ℕ) (images : Pushed) (layouts : List Layout) (config : Config) (r : Reported)
     (h : IsRight bytes images layouts config r) where
@@ -48,3 +50,12 @@ module _ (bytes : List ℕ) (images : Pushed) (layouts : List Layout) (config : 
           ),
         ),
       )
+
+-- two reports of one core and its images that are right are one, in all their fields
+pub right_once : (bytes : List ℕ) (images : Pushed) (layouts : List Layout) (config : Config) → ChoosesOnce layouts
+    → AsksNoOther config → (r q : Reported) → IsRight bytes images layouts config r
+    → IsRight bytes images layouts config q → r ≡ q
+right_once bytes images layouts config once asks r q one two =
+    ok_is r q (report_agree bytes images layouts config once (Ok r) (Ok q)
+    (right_reports bytes images layouts config r one asks) (right_reports bytes images layouts config q two asks)
+    (ok_kept r) (ok_kept q))
