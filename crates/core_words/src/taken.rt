@@ -1,8 +1,8 @@
 //! The words of a report, as clap takes them.
-ghost use Rattle.std.specs.Prelude.{◌≡◌, ◌↔◌, false, None, Some, IfOk};
+ghost use Rattle.std.specs.Prelude.{◌≡◌, ◌↔◌, false, IfOk};
 ghost use Rattle.clap.specs.Words.{app_of, found_of, rows_of, rule_of};
 ghost use Rattle.core_words.specs.Answers.{Answers};
-ghost use Rattle.core_words.specs.Dump.{core_rule, dump_app, flag_rule, images_rule, layouts_rule, locals_rule, taken_rows};
+ghost use Rattle.core_words.specs.Dump.{dump_app, flag_rule, images_rule, locals_rule, taken_rows, wanted_rule};
 ghost use Rattle.core_words.specs.Words.{texts};
 
 use crate::args_error::ArgsError;
@@ -10,44 +10,31 @@ use clap::error::ErrorKind;
 use clap::{Arg, ArgAction, ArgMatches, Command};
 use std::alloc::{AllocError, Global};
 
-/// A flag.
-fn flag<'a>(alloc: Global, name: &'a str) -> Arg<'a>
-    ensures rule { rule_of result ≡ flag_rule name.entry.now None }
+/// A flag, with a letter where it has one.
+fn flag<'a>(alloc: Global, name: &'a str, short: Option<char>) -> Arg<'a>
+    ensures rule { rule_of result ≡ flag_rule name.entry.now short }
     ensures local { result.global ≡ false }
 {
-    Arg::new(alloc, name).long(name).action(ArgAction::SetTrue)
+    let arg = Arg::new(alloc, name).long(name).action(ArgAction::SetTrue);
+    match short {
+        Some(letter) => arg.short(letter),
+        None => arg,
+    }
 }
 
-/// A flag of one letter too.
-fn short_flag<'a>(alloc: Global, name: &'a str, short: char) -> Arg<'a>
-    ensures rule { rule_of result ≡ flag_rule name.entry.now (Some short) }
+/// An option that must be given, with a letter where it has one.
+fn wanted<'a>(alloc: Global, name: &'a str, short: Option<char>) -> Arg<'a>
+    ensures rule { rule_of result ≡ wanted_rule name.entry.now short }
     ensures local { result.global ≡ false }
 {
-    Arg::new(alloc, name)
-        .short(short)
+    let arg = Arg::new(alloc, name)
         .long(name)
-        .action(ArgAction::SetTrue)
-}
-
-fn core_arg<'a>(alloc: Global) -> Arg<'a>
-    ensures rule { rule_of result ≡ core_rule }
-    ensures local { result.global ≡ false }
-{
-    Arg::new(alloc, "core")
-        .short('c')
-        .long("core")
         .required(true)
-        .action(ArgAction::Set)
-}
-
-fn layouts_arg<'a>(alloc: Global) -> Arg<'a>
-    ensures rule { rule_of result ≡ layouts_rule }
-    ensures local { result.global ≡ false }
-{
-    Arg::new(alloc, "layouts")
-        .long("layouts")
-        .required(true)
-        .action(ArgAction::Set)
+        .action(ArgAction::Set);
+    match short {
+        Some(letter) => arg.short(letter),
+        None => arg,
+    }
 }
 
 fn locals_arg<'a>(alloc: Global) -> Arg<'a>
@@ -74,13 +61,13 @@ fn dump_command<'a>(alloc: Global) -> Result<Command<'a>, AllocError>
     ensures { IfOk result (λ command. app_of command ≡ dump_app) }
 {
     Command::new(alloc, "dump")
-        .arg(core_arg(alloc))?
-        .arg(layouts_arg(alloc))?
+        .arg(wanted(alloc, "core", Some('c')))?
+        .arg(wanted(alloc, "layouts", None))?
         .arg(locals_arg(alloc))?
-        .arg(short_flag(alloc, "json", 'j'))?
-        .arg(flag(alloc, "full-filenames"))?
-        .arg(short_flag(alloc, "native", 'n'))?
-        .arg(short_flag(alloc, "subprocesses", 's'))?
+        .arg(flag(alloc, "json", Some('j')))?
+        .arg(flag(alloc, "full-filenames", None))?
+        .arg(flag(alloc, "native", Some('n')))?
+        .arg(flag(alloc, "subprocesses", Some('s')))?
         .arg(images_arg(alloc))
 }
 

@@ -5,11 +5,11 @@ use Rattle.core_words.proofs.taken.dump_command.Goals as goal
 
 pub returns : goal.returns
 returns c =
-    let one = c.in_ok-arg.ensures.shape c.core_arg.ensures.local ∙ ap₂ with_rule c.new.ensures.app c.core_arg.ensures.rule in
-    let two = c.in_ok-arg-2.ensures.shape c.layouts_arg.ensures.local ∙ ap₂ with_rule one c.layouts_arg.ensures.rule in
+    let one = c.in_ok-arg.ensures.shape c.wanted.ensures.local ∙ ap₂ with_rule c.new.ensures.app c.wanted.ensures.rule in
+    let two = c.in_ok-arg-2.ensures.shape c.wanted-2.ensures.local ∙ ap₂ with_rule one c.wanted-2.ensures.rule in
     let three = c.in_ok-arg-3.ensures.shape c.locals_arg.ensures.local ∙ ap₂ with_rule two c.locals_arg.ensures.rule in
-    let four = c.in_ok-arg-4.ensures.shape c.short_flag.ensures.local ∙ ap₂ with_rule three c.short_flag.ensures.rule in
-    let five = c.in_ok-arg-5.ensures.shape c.flag.ensures.local ∙ ap₂ with_rule four c.flag.ensures.rule in
-    let six = c.in_ok-arg-6.ensures.shape c.short_flag-2.ensures.local ∙ ap₂ with_rule five c.short_flag-2.ensures.rule in
-    let seven = c.in_ok-arg-7.ensures.shape c.short_flag-3.ensures.local ∙ ap₂ with_rule six c.short_flag-3.ensures.rule in
+    let four = c.in_ok-arg-4.ensures.shape c.flag.ensures.local ∙ ap₂ with_rule three c.flag.ensures.rule in
+    let five = c.in_ok-arg-5.ensures.shape c.flag-2.ensures.local ∙ ap₂ with_rule four c.flag-2.ensures.rule in
+    let six = c.in_ok-arg-6.ensures.shape c.flag-3.ensures.local ∙ ap₂ with_rule five c.flag-3.ensures.rule in
+    let seven = c.in_ok-arg-7.ensures.shape c.flag-4.ensures.local ∙ ap₂ with_rule six c.flag-4.ensures.rule in
     IfOk-weaker c.arg-8.result _ _ (λ command added. added.shape c.images_arg.ensures.local ∙ ap₂ with_rule seven c.images_arg.ensures.rule) c.arg-8.ensures
