@@ -28,6 +28,7 @@ use Rattle.core_stacks.proofs.Agreement.{ok_is, ok_kept, ok_not_err, settles_agr
 use Rattle.core_stacks.proofs.FindingLaws.{images_agree, maps_agree}
 use Rattle.core_stacks.proofs.ReportLaws.{core_agree, finds, found_by, left_memory, told_agree}
 use Rattle.core_stacks.proofs.Dumped.{dumped_once}
+use Rattle.core_stacks.proofs.Searching.{candidate_ends}
 use Rattle.core_stacks.proofs.StackCauses.{stacks_agree}
 use Rattle.core_stacks.proofs.Unfaulted.{unfaulted}
 
@@ -141,7 +142,7 @@ module _ (bytes : List ℕ) (images : Pushed) (layouts : List Layout) (config : 
       ((refusal e says).only (Ok good.dumped) (good.core, good.is_dumped) (λ is. absurd (ok_not_err good.dumped core.OutOfMemory is)))
 
   pub none_counted : (n : ℕ) → IsCounted bytes images layouts config n n
-  none_counted n = record { reached = None; is = tt; most = omega arith }
+  none_counted n = record { reached = None; is = tt; most = omega arith; tests_end = tt }
 
   module _ (d : Dumped) (accepted : IsCore bytes) (dumped : IsDumped bytes images d) where
     abbrev found_in : Result Finding CoreError → Type 0
@@ -233,6 +234,7 @@ module _ (bytes : List ℕ) (images : Pushed) (layouts : List Layout) (config : 
               finding = IfSome_then h.found h.is_found found_here;
             };
             most = omega (arith, h.reading.cost, tests, trials, findings);
+            tests_end = λ l a. candidate_ends (in_maps d.maps) l (memory_in d) a;
           }
 
       -- what can be read is found
