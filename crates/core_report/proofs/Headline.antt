@@ -15,7 +15,7 @@ use Rattle.core_words.specs.Words.{Command, dump}
 use Rattle.core_stacks.proofs.ReportLaws.{report_whole}
 use Rattle.core_report.specs.Headline.{HasReported}
 use Rattle.core_report.specs.Outcome.{IsDumped, IsDumpedBy, IsOutcome, Outcome, images_of}
-use Rattle.core_report.specs.Reading.{IsRead}
+use Rattle.core_report.specs.Reading.{IsAll, IsRead}
 use Rattle.core_report.specs.Run.{ComesTo, Reaches}
 use Rattle.core_report.specs.declared.cause.Cause.{Cause}
 
@@ -27,13 +27,14 @@ no_text s cause is = cc
 
 module _ (d : Dump) (told : Told) (old new : SinkSeen) (written : List ℕ) (added : Appends old.written new.written written) where
   by_report : (bytes text : List ℕ) (images : List (List ℕ)) (layouts : List Layout) → IsRead told (dump d) (bytes ∷ text ∷ images)
-      → IsRightFor text (Ok layouts) → IsDumpedBy d bytes (images_of d.images images) layouts (Ok written) → HasReported d told old new
-  by_report bytes text images layouts read says (inl (e, is, h)) = absurd (no_text written _ is)
-  by_report bytes text images layouts read says (inr (report, h, is)) = record {
+      → IsAll (dump d) (bytes ∷ text ∷ images) → IsRightFor text (Ok layouts) → IsDumpedBy d bytes (images_of d.images images) layouts (Ok written) → HasReported d told old new
+  by_report bytes text images layouts read all says (inl (e, is, h)) = absurd (no_text written _ is)
+  by_report bytes text images layouts read all says (inr (report, h, is)) = record {
     core = bytes;
     text = text;
     images = images;
     read = read;
+    all = all;
     layouts = layouts;
     says = says;
     report = report;
@@ -41,14 +42,14 @@ module _ (d : Dump) (told : Told) (old new : SinkSeen) (written : List ℕ) (add
     written = subst (λ t. Appends old.written new.written t) (text_same written _ is) added;
   }
 
-  by_contents : (contents : List (List ℕ)) → IsRead told (dump d) contents → IsDumped d contents (Ok written) → HasReported d told old new
-  by_contents [] read h = absurd h
-  by_contents (bytes ∷ []) read h = absurd h
-  by_contents (bytes ∷ text ∷ images) read (inl (e, is, h)) = absurd (no_text written _ is)
-  by_contents (bytes ∷ text ∷ images) read (inr (layouts, says, h)) = by_report bytes text images layouts read says h
+  by_contents : (contents : List (List ℕ)) → IsRead told (dump d) contents → IsAll (dump d) contents → IsDumped d contents (Ok written) → HasReported d told old new
+  by_contents [] read all h = absurd h
+  by_contents (bytes ∷ []) read all h = absurd h
+  by_contents (bytes ∷ text ∷ images) read all (inl (e, is, h)) = absurd (no_text written _ is)
+  by_contents (bytes ∷ text ∷ images) read all (inr (layouts, says, h)) = by_report bytes text images layouts read all says h
 
   comes : ComesTo told (dump d) (Ok written) → HasReported d told old new
-  comes h = by_contents h.contents h.read h.is
+  comes h = by_contents h.contents h.read h.all h.is
 
   pub reported_of_run : (asked : Option Command) → asked ≡ Some (dump d) → Reaches asked told (Ok written) → HasReported d told old new
   reported_of_run asked is reached =

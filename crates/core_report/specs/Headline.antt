@@ -10,18 +10,20 @@ use Rattle.py_process.specs.declared.report.Report.{Report}
 use Rattle.core_words.specs.Dump.{Dump}
 use Rattle.core_words.specs.Words.{dump}
 use Rattle.core_report.specs.Outcome.{images_of, shown_report}
-use Rattle.core_report.specs.Reading.{IsRead}
+use Rattle.core_report.specs.Reading.{IsAll, IsRead}
 
 -- The text of a report was written, or its threads as JSON where the words ask for that. The report's threads are the
--- whole chain of threads, to null, of the first candidate interpreter that passes the test over the core's memory, and
--- the frames of each are its whole chain of callers, to null, less the skipped members, with their code records' file
--- and function names (`IsRight`): by the bytes that the files gave for the core, by the layouts that they gave, and by
--- the images, each under its path; and with what else the words ask for.
+-- whole chain of threads, to null, of the first candidate interpreter that passes the test over the memory of the core and
+-- its images, and the frames of each are its whole chain of callers, to null, less the skipped members, with their code
+-- records' file and function names (`IsRight`): by the bytes that the files gave for the core, by the layouts that they
+-- gave, and by all the images, each under its path; and with what else the words ask for. Which bytes a file gave is said
+-- where the files tell, and what was written where the stream tells.
 pub record HasReported (d : Dump) (told : Told) (old new : SinkSeen) : Type 0 where
   pub core : List ℕ
   pub text : List ℕ
   pub images : List (List ℕ)
   pub read : IsRead told (dump d) (core ∷ text ∷ images)
+  pub all : IsAll (dump d) (core ∷ text ∷ images)
   pub layouts : List Layout
   pub says : IsRightFor text (Ok layouts)
   pub report : Report

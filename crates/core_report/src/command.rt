@@ -129,8 +129,9 @@ pub fn run<F: Files, S: Sink, E: Sink>(
         × Appends (S.seen out.old).written (S.seen out.new).written text }
 
     // a dump ends with status 0 only after writing the text of a report whose threads are the whole chain, to null,
-    // of the first candidate interpreter that passes the test over the core's memory, and in which each thread's
-    // frames are its whole chain of callers, to null, less the skipped members, with their file and function names
+    // of the first candidate interpreter that passes the test over the memory of the core and its images, and in which
+    // each thread's frames are its whole chain of callers, to null, less the skipped members, with their file and
+    // function names: by all the files that the words name, where the files and `out` tell their bytes
     ensures headline { (d : Dump) → command_of (texts words.now) ≡ Some (dump d) → result ≡ 0
         → HasReported d (F.seen files.old).told (S.seen out.old) (S.seen out.new) }
 

@@ -24,12 +24,14 @@ use Rattle.core_stacks.proofs.PlainFaults.{Fails, IsPlain, locals_plain, owner_p
 use Rattle.core_stacks.proofs.Unfaulted.{rest_fault}
 
 -- a fault of the rest is no limit of threads or frames
-pub limit_none : (m : Memory) (f : Finding) (config : Config) (fault : Fault) → IsRestFault m f config fault → IsPlain fault
+pub limit_none : (m : Memory) (f : Finding) (config : Config) (fault : Fault) → IsRestFault m f config fault
+    → IsPlain fault
 limit_none m f config fault (inl e) = subst (λ x. Fails IsPlain x) e (owner_plain f.layout m f.addresses.lock)
 limit_none m f config fault (inr (asked, h)) = locals_plain f.layout m h.member fault h.first
 
 module _ (o : Opened) (config : Config) (found : IsFoundIn o) where
-  rest : (fault : Fault) → MeetsFault (memory_in o) o.finding config fault → IsRestFault (memory_in o) o.finding config fault
+  rest : (fault : Fault) → MeetsFault (memory_in o) o.finding config fault
+      → IsRestFault (memory_in o) o.finding config fault
   rest fault h = rest_fault (memory_in o) o.finding config fault found.is.first.is.is h.first
 
   no_limit : (fault : Fault) → MeetsFault (memory_in o) o.finding config fault → IsPlain fault
@@ -52,13 +54,15 @@ pub found_left : (o : Opened) (config : Config) (r : Result (Vec StackTrace Glob
 found_left o config (Ok v) found h = tt
 found_left o config (Err e) found h = left o config found e h
 
-pub footprint_left : (o : Opened) (config : Config) (r : Result (Vec StackTrace Global × Vec Span Global) CoreError) → IsFoundIn o
+pub footprint_left : (o : Opened) (config : Config) (r : Result (Vec StackTrace Global × Vec Span Global) CoreError)
+    → IsFoundIn o
     → StacksSay (memory_in o) o.finding config (traces_with r) → IfErr r (IsLeft o config)
 footprint_left o config (Ok x) found h = tt
 footprint_left o config (Err e) found h = left o config found e h
 
 -- what is opened was found
-pub found_in : (bytes : List ℕ) (images : Pushed) (layouts : List Layout) (r : Result Opened CoreError) → Opens bytes images layouts r
+pub found_in : (bytes : List ℕ) (images : Pushed) (layouts : List Layout) (r : Result Opened CoreError)
+    → Opens bytes images layouts r
     → IfOk r IsFoundIn
 found_in bytes images layouts (Ok o) h =
     let d = h.finds.dumped in

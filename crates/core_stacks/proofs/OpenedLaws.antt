@@ -1,13 +1,10 @@
 -- What is opened of a core is what is found of it.
 use Rattle.std.proofs.Common.{◌≡◌, ℕ, List, refl, sym, ap, subst, ◌∙◌, inl, inr, ⊎_elim}
 use Rattle.std.specs.Prelude.{Result, Ok, Err}
-use Rattle.elf64_core.specs.Header.{machine_of}
 use Rattle.image_memory.specs.Backed.{IsBackedMemory}
 use Rattle.image_memory.specs.Images.{Pushed}
-use Rattle.process_memory.specs.Memory.{Region}
 use Rattle.py_fields.specs.declared.layout.Layout.{Layout}
-use Rattle.py_process.specs.Findings.{Finding, FindingIs}
-use Rattle.py_process.specs.Reports.{Dumped, IsDumped, memory_in}
+use Rattle.py_process.specs.Findings.{Finding}
 use Rattle.py_process.specs.declared.core_error.CoreError.{CoreError}
 use Rattle.py_process.specs.declared.core_error.CoreError.TheVariants as error
 use Rattle.core_stacks.specs.Opened.{IsOpened, IsUnopened, Opened, Opens}
@@ -69,49 +66,3 @@ module _ (bytes : List ℕ) (images : Pushed) (layouts : List Layout) where
     right = subst (λ x. Opens bytes images layouts x) (sym is) (inl refl);
     only = λ answer h kept. inr is;
   }
-
-  -- ---- and back
-
-  abbrev opened_by : List Region → Result Finding CoreError → Result Opened CoreError
-  opened_by pieces (Ok f) = Ok (record { core = bytes; pieces = pieces; finding = f })
-  opened_by pieces (Err e) = Err e
-
-  abbrev pub finding_by : Result Opened CoreError → Result Finding CoreError
-  finding_by (Ok o) = Ok o.finding
-  finding_by (Err e) = Err e
-
-  opens_by : (pieces : List Region) → IsBackedMemory bytes images pieces → (a : Result Finding CoreError) → FindsProcess bytes images layouts a
-      → Opens bytes images layouts (opened_by pieces a)
-  opens_by pieces memory (Ok f) h = record { core_is = refl; memory = memory; finds = h }
-  opens_by pieces memory (Err e) h = inr h
-
-  back : (pieces : List Region) (a : Result Finding CoreError) → finding_by (opened_by pieces a) ≡ a
-  back pieces (Ok f) = refl
-  back pieces (Err e) = refl
-
-  err_out : (e d : CoreError) → ◌≡◌ {A = Result Opened CoreError} (Err e) (Err d) → e ≡ d
-  err_out e d h = cc
-
-  kept_by : (pieces : List Region) (a : Result Finding CoreError) → ¬ (a ≡ Err error.OutOfMemory) → ¬ (opened_by pieces a ≡ Err error.OutOfMemory)
-  kept_by pieces (Ok f) kept = ok_kept (record { core = bytes; pieces = pieces; finding = f })
-  kept_by pieces (Err e) kept = err_kept (Err e) e refl kept
-
-  -- what is found by what is dumped is one, where what is opened is
-  pub finding_sole : (r : Result Opened CoreError) → IsSole (Opens bytes images layouts) r → (d : Dumped) → IsDumped bytes images d
-      → IsSole (FindingIs (memory_in d) (machine_of bytes) d.maps images layouts) (finding_by r)
-  finding_sole r sole d is a h kept =
-      ⊎_elim (λ e. inl (ap finding_by e ∙ back d.pieces a)) (λ e. inr (ap finding_by e))
-      (sole (opened_by d.pieces a) (opens_by d.pieces is.memory a (record { dumped = d; is_dumped = is; is = h })) (kept_by d.pieces a kept))
-
-  -- what was found is what is opened
-  pub opened_is : (o : Opened) → IsSole (Opens bytes images layouts) (Ok o) → (f : Finding) → FindsProcess bytes images layouts (Ok f) → o.finding ≡ f
-  opened_is o sole f h =
-      let ps = h.dumped.pieces in
-      ⊎_elim (λ e. ok_is o.finding f (ap finding_by e)) (λ e. absurd (ok_not_err o error.OutOfMemory e))
-      (sole (opened_by ps (Ok f)) (opens_by ps h.is_dumped.memory (Ok f) h) (ok_kept (record { core = bytes; pieces = ps; finding = f })))
-
-  pub unopened_is : (e : CoreError) → IsSole (Opens bytes images layouts) (Err e) → (f : Finding) → FindsProcess bytes images layouts (Ok f) → e ≡ error.OutOfMemory
-  unopened_is e sole f h =
-      let ps = h.dumped.pieces in
-      ⊎_elim (λ x. absurd (ok_not_err (record { core = bytes; pieces = ps; finding = f }) e (sym x))) (λ x. err_out e error.OutOfMemory x)
-      (sole (opened_by ps (Ok f)) (opens_by ps h.is_dumped.memory (Ok f) h) (ok_kept (record { core = bytes; pieces = ps; finding = f })))

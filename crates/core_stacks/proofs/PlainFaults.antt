@@ -25,7 +25,8 @@ pub some_same : (e f : Fault) → ◌≡◌ {A = Option Fault} (Some e) (Some f)
 some_same e f h = cc
 
 module _ (Is : Fault → Type 0) where
-  pub next_fails : {T U : Type 0} (d : Found T) (g : T → Found U) → Fails Is d → ((x : T) → Fails Is (g x)) → Fails Is (d >>= g)
+  pub next_fails : {T U : Type 0} (d : Found T) (g : T → Found U) → Fails Is d → ((x : T) → Fails Is (g x))
+      → Fails Is (d >>= g)
   next_fails (Ok x) g one rest = rest x
   next_fails (Err e) g one rest = one
 
@@ -79,7 +80,8 @@ module _ (Is : Fault → Type 0) (missing : (a n : ℕ) → Is (Missing a n)) wh
   pub owner_fails : (l : Layout) (m : Memory) (lock : ℕ) → Fails Is (owner_at l m lock)
   unfolding owner_at
   owner_fails l m zero = tt
-  owner_fails l m (suc lock) = next_fails Is (holder_at l m (suc lock)) (id_of l m) (holder_fails l m (suc lock)) (id_fails l m)
+  owner_fails l m (suc lock) = next_fails Is (holder_at l m (suc lock)) (id_of l m) (holder_fails l m (suc lock))
+      (id_fails l m)
 
 -- ---- no limit of threads, of frames or of members
 
@@ -126,9 +128,11 @@ unfolding local_at
 local_plain l m r index =
     next_fails IsPlain (word_at m (names_at l r + l.tuple.at + 8 * index)) _ (word_fails IsPlain (λ a n. tt) m _)
     (λ name_at. next_fails IsPlain (variable_name_at l m r.frame_at name_at) _ (variable_plain l m r.frame_at name_at)
-    (λ name. next_fails IsPlain (word_at m (r.frame_at + l.frame.locals + 8 * index)) _ (word_fails IsPlain (λ a n. tt) m _) (λ slot. tt)))
+    (λ name. next_fails IsPlain (word_at m (r.frame_at + l.frame.locals + 8 * index)) _
+    (word_fails IsPlain (λ a n. tt) m _) (λ slot. tt)))
 
-each_plain : (l : Layout) (m : Memory) (r : MemberAt) (n index : ℕ) (f : Fault) → first_fault (each_faults l m r index n) ≡ Some f → IsPlain f
+each_plain : (l : Layout) (m : Memory) (r : MemberAt) (n index : ℕ) (f : Fault)
+    → first_fault (each_faults l m r index n) ≡ Some f → IsPlain f
 unfolding each_faults
 each_plain l m r zero index f h = absurd (none_some f h)
   where
@@ -138,9 +142,13 @@ each_plain l m r (suc n) index f h =
     first_fails IsPlain (local_at l m r index) (λ local. each_faults l m r (index + 1) n) f (local_plain l m r index)
     (λ local. each_plain l m r n (index + 1) f) h
 
-pub locals_plain : (l : Layout) (m : Memory) (r : MemberAt) (f : Fault) → first_fault (locals_faults l m r) ≡ Some f → IsPlain f
+pub locals_plain : (l : Layout) (m : Memory) (r : MemberAt) (f : Fault) → first_fault (locals_faults l m r) ≡ Some f
+    → IsPlain f
 unfolding locals_faults
 locals_plain l m r f h =
-    first_fails IsPlain (count_of l r) (λ count. faults_then (record_at m (names_at l r) l.tuple.size) (λ names. each_faults l m r 0 count)) f (count_plain l r)
-    (λ count. first_fails IsPlain (record_at m (names_at l r) l.tuple.size) (λ names. each_faults l m r 0 count) f (record_fails IsPlain (λ a n. tt) m _ _)
+    first_fails IsPlain (count_of l r)
+    (λ count. faults_then (record_at m (names_at l r) l.tuple.size) (λ names. each_faults l m r 0 count)) f
+    (count_plain l r)
+    (λ count. first_fails IsPlain (record_at m (names_at l r) l.tuple.size) (λ names. each_faults l m r 0 count) f
+    (record_fails IsPlain (λ a n. tt) m _ _)
     (λ names. each_plain l m r count 0 f)) h

@@ -1,5 +1,5 @@
--- What the first fault of a walk over the stacks can be where neither lines nor locals are asked for: a missing range, or
--- a limit.
+-- What the first fault of a walk over the stacks can be where neither lines nor locals are asked for: a missing range,
+-- or a limit.
 use Rattle.std.proofs.Common.{◌≡◌, ℕ, zero, suc, ◌+◌, cond, ltb, List, [], ◌∷◌, subst, ⊎_elim}
 use Rattle.std.specs.Prelude.{Bool, true, false, Option, Some, None, Ok, Err}
 use Rattle.process_memory.specs.Memory.{Memory, Found, Fault, record_at, word_at}
@@ -28,14 +28,17 @@ IsWalkFault _ = ⊥
 
 -- ---- along a chain
 
-module _ {S : Type 0} (over : Fault) (go : S → ℕ → Found (ℕ × S)) (faults : S → ℕ → List Fault) (limited : IsWalkFault over)
+module _ {S : Type 0} (over : Fault) (go : S → ℕ → Found (ℕ × S)) (faults : S → ℕ → List Fault)
+    (limited : IsWalkFault over)
     (each : (s : S) (a : ℕ) (f : Fault) → first_fault (faults s a) ≡ Some f → IsWalkFault f) where
   behind : (x : Found (ℕ × S)) (g : S → ℕ → List Fault) (f : Fault)
-      → ((s : S) (a : ℕ) → first_fault (g s a) ≡ Some f → IsWalkFault f) → first_fault (goes_on x g) ≡ Some f → IsWalkFault f
+      → ((s : S) (a : ℕ) → first_fault (g s a) ≡ Some f → IsWalkFault f) → first_fault (goes_on x g) ≡ Some f
+      → IsWalkFault f
   behind (Ok x) g f rest h = rest x.1 x.0 h
   behind (Err e) g f rest h = absurd (no_fault f h)
 
-  pub along : (limit : ℕ) (s : S) (a : ℕ) (f : Fault) → first_fault (walk_faults over go faults limit s a) ≡ Some f → IsWalkFault f
+  pub along : (limit : ℕ) (s : S) (a : ℕ) (f : Fault) → first_fault (walk_faults over go faults limit s a) ≡ Some f
+      → IsWalkFault f
   unfolding walk_faults
   along limit s zero f h = absurd (no_fault f h)
   along zero s (suc a) f h = subst IsWalkFault (some_same over f h) limited
@@ -66,15 +69,19 @@ unfolding detail_faults
 part_walks l m kept r None f h = absurd (no_fault f h)
 part_walks l m kept r (Some c) f h = cut (ltb kept frame_limit) f h
 
-frame_walks : (l : Layout) (m : Memory) (kept a : ℕ) (f : Fault) → first_fault (frame_faults nothing l m kept a) ≡ Some f → IsWalkFault f
+frame_walks : (l : Layout) (m : Memory) (kept a : ℕ) (f : Fault)
+    → first_fault (frame_faults nothing l m kept a) ≡ Some f → IsWalkFault f
 unfolding frame_faults
 frame_walks l m kept a f h =
-    first_fails IsWalkFault (records_at l m a) (λ r. part_faults nothing l m kept r (plain_by l m r)) f (records_fail l m a)
+    first_fails IsWalkFault (records_at l m a) (λ r. part_faults nothing l m kept r (plain_by l m r)) f
+    (records_fail l m a)
     (λ r. part_walks l m kept r (plain_by l m r) f) h
 
-frames_walk : (l : Layout) (m : Memory) (first : ℕ) (f : Fault) → first_fault (frames_faults nothing l m first) ≡ Some f → IsWalkFault f
+frames_walk : (l : Layout) (m : Memory) (first : ℕ) (f : Fault)
+    → first_fault (frames_faults nothing l m first) ≡ Some f → IsWalkFault f
 unfolding frames_faults
-frames_walk l m first f h = along ChainLimit (frame_next l m) (frame_faults nothing l m) tt (frame_walks l m) member_limit 0 first f h
+frames_walk l m first f h = along ChainLimit (frame_next l m) (frame_faults nothing l m) tt
+    (frame_walks l m) member_limit 0 first f h
 
 through_fails : (c : Option CframeAt) (m : Memory) (a : ℕ) → Fails IsWalkFault (frame_through c m a)
 through_fails None m a = tt
@@ -84,26 +91,32 @@ first_frame_fails : (l : Layout) (m : Memory) (thread : List ℕ) → Fails IsWa
 unfolding first_frame_at
 first_frame_fails l m thread = through_fails l.cframe m _
 
-thread_walks : (l : Layout) (m : Memory) (s : Unit {0}) (a : ℕ) (f : Fault) → first_fault (thread_faults nothing l m s a) ≡ Some f → IsWalkFault f
+thread_walks : (l : Layout) (m : Memory) (s : Unit {0}) (a : ℕ) (f : Fault)
+    → first_fault (thread_faults nothing l m s a) ≡ Some f → IsWalkFault f
 unfolding thread_faults
 thread_walks l m s a f h =
     first_fails IsWalkFault (record_at m a l.thread.size)
-    (λ thread. faults_then (first_frame_at l m thread) (λ first. frames_faults nothing l m first)) f (record_fails IsWalkFault missing m a l.thread.size)
-    (λ thread. first_fails IsWalkFault (first_frame_at l m thread) (λ first. frames_faults nothing l m first) f (first_frame_fails l m thread)
+    (λ thread. faults_then (first_frame_at l m thread) (λ first. frames_faults nothing l m first)) f
+    (record_fails IsWalkFault missing m a l.thread.size)
+    (λ thread. first_fails IsWalkFault (first_frame_at l m thread) (λ first. frames_faults nothing l m first) f
+    (first_frame_fails l m thread)
     (λ first. frames_walk l m first f)) h
 
-traces_walk : (l : Layout) (m : Memory) (interpreter : ℕ) (f : Fault) → first_fault (traces_faults nothing l m interpreter) ≡ Some f → IsWalkFault f
+traces_walk : (l : Layout) (m : Memory) (interpreter : ℕ) (f : Fault)
+    → first_fault (traces_faults nothing l m interpreter) ≡ Some f → IsWalkFault f
 unfolding traces_faults
 traces_walk l m interpreter f h =
     first_fails IsWalkFault (word_at m (interpreter + l.interpreter.threads))
     (λ head. walk_faults ThreadLimit (thread_next l m) (thread_faults nothing l m) thread_limit tt head) f
     (word_fails IsWalkFault missing m (interpreter + l.interpreter.threads))
-    (λ head. along ThreadLimit (thread_next l m) (thread_faults nothing l m) tt (thread_walks l m) thread_limit tt head f) h
+    (λ head. along ThreadLimit (thread_next l m) (thread_faults nothing l m) tt
+    (thread_walks l m) thread_limit tt head f) h
 
 -- the first fault of a walk that asks for nothing else
 pub stacks_walk : (l : Layout) (m : Memory) (lock interpreter : ℕ) (f : Fault)
     → first_fault (stacks_faults nothing l m lock interpreter) ≡ Some f → IsWalkFault f
 unfolding stacks_faults
 stacks_walk l m lock interpreter f h =
-    first_fails IsWalkFault (owner_at l m lock) (λ owner. traces_faults nothing l m interpreter) f (owner_fails IsWalkFault missing l m lock)
+    first_fails IsWalkFault (owner_at l m lock) (λ owner. traces_faults nothing l m interpreter) f
+    (owner_fails IsWalkFault missing l m lock)
     (λ owner. traces_walk l m interpreter f) h

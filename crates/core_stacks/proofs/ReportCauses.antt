@@ -29,8 +29,10 @@ err_is : {T : Type 0} (e d : CoreError) → ◌≡◌ {A = Result T CoreError} (
 err_is e d is = cc
 
 -- an error of two steps is one of the first, or of the rest
-by_step : {T U : Type 0} (First : Result T CoreError → Type 0) (Rest : T → Result U CoreError → Type 0) (P : CoreError → Type 0)
-    (e : CoreError) → ((d : CoreError) → First (Err d) → P d) → ((x : T) → First (Ok x) → Rest x (Err e) → P e) → Then First Rest (Err e) → P e
+by_step : {T U : Type 0} (First : Result T CoreError → Type 0) (Rest : T → Result U CoreError → Type 0)
+    (P : CoreError → Type 0)
+    (e : CoreError) → ((d : CoreError) → First (Err d) → P d) → ((x : T) → First (Ok x) → Rest x (Err e) → P e)
+    → Then First Rest (Err e) → P e
 by_step First Rest P e first rest (inl (d, one, is)) = subst P (err_is e d is) (first d one)
 by_step First Rest P e first rest (inr (x, one, more)) = rest x one more
 
@@ -69,13 +71,15 @@ module _ (bytes : List ℕ) (images : Pushed) (layouts : List Layout) (config : 
     layout_cause v core.OutOfMemory h = tt
     layout_cause v _ h = absurd h
 
-    search_cause : (k : Known) (v : Version) (l : Layout) (e : CoreError) → SearchSays (memory_in d) (in_maps d.maps) k v l (Err e) → IsCause e
+    search_cause : (k : Known) (v : Version) (l : Layout) (e : CoreError)
+        → SearchSays (memory_in d) (in_maps d.maps) k v l (Err e) → IsCause e
     search_cause k v l core.NoInterpreter h = tt
     search_cause k v l core.OutOfMemory h = tt
     search_cause k v l _ h = absurd h
 
     module _ (p : Programs) (are : ArePrograms d.maps p) (k : Known) (is_known : IsKnown images p k) (v : Version)
-        (told : FirstTells (memory_in d) (sources_of k) (Ok (Some v))) (l : Layout) (chosen : IsChosen layouts v l) (a : ℕ)
+        (told : FirstTells (memory_in d) (sources_of k) (Ok (Some v))) (l : Layout) (chosen : IsChosen layouts v l)
+        (a : ℕ)
         (first : IsFirstOf (in_maps d.maps) l (memory_in d) (candidates_of k v l (memory_in d)) a) where
       lock_cause : (e : CoreError) → LockSays (memory_in d) (machine_of bytes) k v l a (Err e) → IsCause e
       lock_cause (core.Unreadable addr len) h = inl (record {
@@ -96,7 +100,8 @@ module _ (bytes : List ℕ) (images : Pushed) (layouts : List Layout) (config : 
       lock_cause core.OutOfMemory h = tt
       lock_cause _ h = absurd h
 
-    finding_cause : (e : CoreError) → FindingIs (memory_in d) (machine_of bytes) d.maps images layouts (Err e) → IsCause e
+    finding_cause : (e : CoreError) → FindingIs (memory_in d) (machine_of bytes) d.maps images layouts (Err e)
+        → IsCause e
     finding_cause e h =
         let m = memory_in d in
         let machine = machine_of bytes in
@@ -120,7 +125,8 @@ module _ (bytes : List ℕ) (images : Pushed) (layouts : List Layout) (config : 
       }
 
       no_limit : (fault : Fault) → MeetsFault (memory_in d) f config fault → IsPlain fault
-      no_limit fault h = limit_none (memory_in d) f config fault (rest_fault (memory_in d) f config fault found.first.is.is h.first)
+      no_limit fault h = limit_none (memory_in d) f config fault
+          (rest_fault (memory_in d) f config fault found.first.is.is h.first)
 
       stacks_cause : (e : CoreError) → StacksSay (memory_in d) f config (Err e) → IsCause e
       stacks_cause core.NativeUnsupported h = h
@@ -137,11 +143,13 @@ module _ (bytes : List ℕ) (images : Pushed) (layouts : List Layout) (config : 
   report_cause : (e : CoreError) → ReportIs bytes images layouts config (Err e) → IsCause e
   report_cause e h =
       by_step (CoreSays bytes images) (AfterCore bytes images layouts config) IsCause e core_cause (λ d one.
-      by_step (FindingIs (memory_in d) (machine_of bytes) d.maps images layouts) (AfterFinding bytes d config) IsCause e (finding_cause d one.1) (λ f finds.
+      by_step (FindingIs (memory_in d) (machine_of bytes) d.maps images layouts)
+      (AfterFinding bytes d config) IsCause e (finding_cause d one.1) (λ f finds.
       by_step (StacksSay (memory_in d) f config) (IsTold bytes f) IsCause e
       (stacks_cause d one.1 f (found_by (memory_in d) (machine_of bytes) d.maps images layouts f finds))
       (λ traces has told. absurd (ok_not_err told.0 e (sym told.2))))) h
 
-  pub report_causes : (r : Result Report CoreError) → ReportIs bytes images layouts config (reported r) → IfErr r IsCause
+  pub report_causes : (r : Result Report CoreError) → ReportIs bytes images layouts config (reported r)
+      → IfErr r IsCause
   report_causes (Ok r) h = tt
   report_causes (Err e) h = report_cause e h

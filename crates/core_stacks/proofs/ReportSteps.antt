@@ -31,6 +31,7 @@ use Rattle.py_process.proofs.Dumped.{dumped_once}
 use Rattle.py_process.proofs.StackCauses.{stacks_agree}
 use Rattle.core_stacks.proofs.Settling.{settles_agree, settles_by_err, settles_by_ok, settles_err, settles_ok}
 use Rattle.core_stacks.proofs.ReportLaws.{left_memory}
+use Rattle.core_stacks.proofs.Searching.{candidate_ends}
 use Rattle.core_stacks.proofs.Unfaulted.{unfaulted}
 
 err_is : {T : Type 0} (e d : CoreError) → ◌≡◌ {A = Result T CoreError} (Err e) (Err d) → e ≡ d
@@ -143,7 +144,7 @@ module _ (bytes : List ℕ) (images : Pushed) (layouts : List Layout) (config : 
       ((refusal e says).only (Ok good.dumped) (good.core, good.is_dumped) (λ is. absurd (ok_not_err good.dumped core.OutOfMemory is)))
 
   pub none_counted : (n : ℕ) → IsCounted bytes images layouts config n n
-  none_counted n = record { reached = None; is = tt; most = omega arith }
+  none_counted n = record { reached = None; is = tt; most = omega arith; tests_end = tt }
 
   module _ (d : Dumped) (accepted : IsCore bytes) (dumped : IsDumped bytes images d) where
     abbrev found_in : Result Finding CoreError → Type 0
@@ -235,6 +236,7 @@ module _ (bytes : List ℕ) (images : Pushed) (layouts : List Layout) (config : 
               finding = IfSome_then h.found h.is_found found_here;
             };
             most = omega (arith, h.reading.cost, tests, trials, findings);
+            tests_end = λ l a. candidate_ends (in_maps d.maps) l (memory_in d) a;
           }
 
       -- what can be read is found

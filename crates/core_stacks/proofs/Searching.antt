@@ -1,7 +1,7 @@
 -- How the steps of a search are put together, with their reads.
-use Rattle.std.proofs.Common.{◌≡◌, ℕ, ◌+◌, ◌^◌, List, refl, sym, ap, subst, ◌∙◌, arith, inl, inr}
+use Rattle.std.proofs.Common.{◌≡◌, ℕ, ◌+◌, ◌*◌, ◌^◌, ◌≤◌, cond, List, refl, sym, ap, subst, ◌∙◌, arith, inl, inr}
 use Rattle.std.proofs.lemmas.Option.{IfSome_then}
-use Rattle.std.specs.Prelude.{Bool, Some, None, Result, Ok, Err}
+use Rattle.std.specs.Prelude.{Bool, true, false, Some, None, Result, Ok, Err}
 use Rattle.elf64_core.specs.Header.{machine_of}
 use Rattle.elf64_core.specs.declared.header.Machine.{Machine}
 use Rattle.image_memory.specs.Backed.{IsBackedMemory}
@@ -13,7 +13,9 @@ use Rattle.process_memory.specs.Seen.{ReadingBelow, Seen}
 use Rattle.process_memory.proofs.Reading.{reading_gives, reading_here, reading_none, reading_then, reads_within}
 use Rattle.py_fields.specs.declared.layout.Layout.{Layout}
 use Rattle.py_version.specs.declared.version.Version.{Version}
-use Rattle.py_process.specs.Candidates.{search_bound}
+use Rattle.py_stacks.specs.Interpreter.{threads_head}
+use Rattle.py_stacks.proofs.Candidates.{test_most}
+use Rattle.py_process.specs.Candidates.{candidate_cost, head_lies, search_bound, walk_bound}
 use Rattle.py_process.specs.Facts.{Known}
 use Rattle.py_process.specs.Findings.{AfterImages, AfterLayout, AfterVersion, Finding, IsChosen}
 use Rattle.py_process.specs.Programs.{ImagesSay, MapsSay}
@@ -95,3 +97,16 @@ unknown_finds bytes images layouts pieces maps e r memory are (inl (d, says, is)
 unknown_finds bytes images layouts pieces maps e r memory are (inr (p, programs, says)) same =
     maps_then bytes (record { maps = maps; pieces = pieces }) images layouts p r (record { are_maps = are; memory = memory }) programs
     (images_fail (byte_at pieces) (machine_of bytes) maps images layouts p e r says same)
+
+-- ---- one candidate
+
+-- where no map holds it, or its head, it takes fewer
+picked : (lies head : Bool) (walk most : ℕ) → 1 + walk ≤ most → cond lies (1 + cond head walk 0) 0 ≤ most
+picked true true walk most h = h
+picked true false walk most h = omega (arith, h)
+picked false head walk most h = omega arith
+
+pub candidate_ends : (contains : ℕ → Bool) (l : Layout) (m : Memory) (a : ℕ) → candidate_cost contains l m a ≤ 3 + 4096 * (2 + 6 * 16384)
+unfolding candidate_cost
+candidate_ends contains l m a =
+    picked (contains a) (head_lies contains (threads_head l m a)) (walk_bound l m a) (3 + 4096 * (2 + 6 * 16384)) (omega (arith, test_most l m a))

@@ -41,8 +41,8 @@ FileSays bytes (Err BadNote) = Refuses bytes dump.BadNote
 FileSays bytes (Err OutOfMemory) = ⊤
 FileSays bytes (Err _) = ⊥
 
--- a value where there is no fault, and else the first one: a missing range, or a limit. No fault of locals comes, since a
--- walk asks for none
+-- a value where there is no fault, and else the first one: a missing range, or a limit. No fault of locals comes,
+-- since a walk asks for none
 abbrev pub FaultsSay : {T : Type 0} → Option Fault → (T → Type 0) → Result T CoreError → Type 0
 FaultsSay first Has (Ok value) = (first ≡ None) × Has value
 FaultsSay first Has (Err (Unreadable addr len)) = first ≡ Some (Missing addr len)
@@ -67,7 +67,8 @@ traced (Ok v) = Ok (map trace_of v.items)
 traced (Err e) = Err e
 
 -- the bytes are those of a core, a layout covers the version, and no fault is met on the way
-pub record IsWalkable (bytes : List ℕ) (layouts : List Layout) (version : Version) (addresses : Addresses) : Type 0 where
+pub record IsWalkable (bytes : List ℕ) (layouts : List Layout) (version : Version)
+    (addresses : Addresses) : Type 0 where
   pub core : IsCore bytes
   pub layout : Layout
   pub chosen : IsChosen layouts version layout

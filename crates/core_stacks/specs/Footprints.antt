@@ -17,7 +17,8 @@ traces_with (Ok x) = Ok (map trace_of x.0.items)
 traces_with (Err e) = Err e
 
 -- these ranges are a footprint of these traces
-pub record IsFootprint (m : Memory) (f : Finding) (config : Config) (traces : List Trace) (ranges : List Span) : Type 0 where
+pub record IsFootprint (m : Memory) (f : Finding) (config : Config) (traces : List Trace)
+    (ranges : List Span) : Type 0 where
   -- all bytes of each are in memory, and they are fewer than 65536
   pub held : All (HoldsSpan m) ranges
   pub short : All (λ s. s.len < 2 ^ 16) ranges

@@ -11,4 +11,5 @@ IsSignal bytes signal = (statuses : List elf_prstatus) × AreStatuses bytes stat
 
 -- what the last process record of a core tells
 abbrev pub IsProcessTold : List ℕ → Option (ℤ × List ℕ) → Type 0
-IsProcessTold bytes process = (last : Option elf_prpsinfo) × IsProcess bytes last × (process ≡ option_map process_told last)
+IsProcessTold bytes process = (last : Option elf_prpsinfo) × IsProcess bytes last ×
+    (process ≡ option_map process_told last)

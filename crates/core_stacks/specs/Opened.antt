@@ -12,8 +12,6 @@ use Rattle.py_version.specs.declared.version.Version.{Version}
 use Rattle.py_stacks.specs.declared.config.Config.{Config}
 use Rattle.py_stacks.specs.declared.trace.Addresses.{Addresses}
 use Rattle.py_process.specs.Findings.{Finding, IsChosen, IsFound}
-use Rattle.py_process.specs.Reports.{IsTold, Reported, StacksSay}
-use Rattle.py_process.specs.Steps.{Then}
 use Rattle.py_process.specs.Variables.{IsRestFault}
 use Rattle.py_process.specs.declared.core_error.CoreError.{CoreError}
 use Rattle.py_process.specs.declared.core_error.CoreError.TheVariants.{UnsupportedVersion, Unreadable, NativeUnsupported, SubprocessesUnsupported, BadValue, LocalsLimit, OutOfMemory}
@@ -44,7 +42,8 @@ Opens bytes images layouts (Ok o) = IsOpened bytes images layouts o
 Opens bytes images layouts (Err error) = IsUnopened bytes images layouts error
 
 -- it is of this core alone, with the version and the addresses that were handed in
-pub record IsOpenedAt (bytes : List ℕ) (layouts : List Layout) (version : Version) (addresses : Addresses) (o : Opened) : Type 0 where
+pub record IsOpenedAt (bytes : List ℕ) (layouts : List Layout) (version : Version) (addresses : Addresses)
+    (o : Opened) : Type 0 where
   pub core_is : o.core ≡ bytes
   pub pieces_are : o.pieces ≡ memory_of bytes
   pub version_is : o.finding.version ≡ version
@@ -77,7 +76,3 @@ IsLeft o config (BadValue frame) = IsRestFault (memory_in o) o.finding config (I
 IsLeft o config (LocalsLimit count) = IsRestFault (memory_in o) o.finding config (ManyLocals count)
 IsLeft o config OutOfMemory = ⊤
 IsLeft o config _ = ⊥
-
--- the report of what was opened, or the first cause why there is none
-abbrev pub IsReportOf : Opened → Config → Result Reported CoreError → Type 0
-IsReportOf o config = Then (StacksSay (memory_in o) o.finding config) (IsTold o.core o.finding)

@@ -10,7 +10,8 @@ use Rattle.core_texts.specs.Tree.{report_json}
 use Rattle.core_texts.specs.declared.print_error.PrintError.{PrintError}
 use Rattle.core_texts.specs.declared.print_error.PrintError.TheVariants.{Sink, OutOfMemory}
 
--- the text of traces of a core, under the name of its file: as JSON, or behind what the core's notes tell and the version
+-- the text of traces of a core, under the name of its file: as JSON, or behind what the core's notes tell and the
+-- version
 abbrev pub IsTextOf : (json : Bool) → List ℕ → Version → List ℕ → List StackTrace → List ℕ → Type 0
 IsTextOf true core version name traces text = text ≡ report_json traces
 IsTextOf false core version name traces text = (signal : Option ℤ) × (process : Option (ℤ × List ℕ))

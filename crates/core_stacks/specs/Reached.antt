@@ -13,7 +13,7 @@ use Rattle.py_stacks.specs.Asking.{asked_of}
 use Rattle.py_stacks.specs.Met.{locals_walked, members_walked, threads_walked}
 use Rattle.py_stacks.specs.NamedStacks.{slots_named}
 use Rattle.py_stacks.specs.StacksOver.{values_met}
-use Rattle.py_process.specs.Candidates.{candidates_of, search_cost}
+use Rattle.py_process.specs.Candidates.{candidate_cost, candidates_of, search_cost}
 use Rattle.py_process.specs.Facts.{Known}
 use Rattle.py_process.specs.Findings.{AfterImages, Finding, IsChosen, IsFound}
 use Rattle.py_process.specs.Programs.{ArePrograms, IsKnown, Programs}
@@ -29,7 +29,8 @@ pub record Trial : Type 0 where
   pub layout : Layout
 
 -- it is of this memory, these maps, images and layouts
-pub record IsTrial (m : Memory) (maps : List CoreMapRange) (images : Pushed) (layouts : List Layout) (t : Trial) : Type 0 where
+pub record IsTrial (m : Memory) (maps : List CoreMapRange) (images : Pushed) (layouts : List Layout)
+    (t : Trial) : Type 0 where
   pub programs : Programs
   pub are_programs : ArePrograms maps programs
   pub is_known : IsKnown images programs t.known
@@ -58,7 +59,8 @@ trial_cost contains m t = search_cost contains t.layout m (candidates_of t.known
 
 -- what a search owes: it makes at most `n` reads, of which a section's is one, and those of the candidates that it
 -- tries, and `Q` holds of every memory that covers them
-pub record Trying (IsTrialHere : Trial → Type 0) (contains : ℕ → Bool) (n : ℕ) (old new : Seen) (Q : Memory → Type 0) : Type 0 where
+pub record Trying (IsTrialHere : Trial → Type 0) (contains : ℕ → Bool) (n : ℕ) (old new : Seen)
+    (Q : Memory → Type 0) : Type 0 where
   pub tried : Option Trial
   pub is : IfSome tried IsTrialHere
   pub reading : ReadingBelow (2 ^ 64) (n + cost_of (trial_cost contains (byte_at old.pieces)) tried) old new Q
@@ -75,7 +77,8 @@ finding_cost c m f =
 
 -- what a report over a memory owes: it makes at most 10 reads for the search and 13 for the stacks, those of the
 -- candidates that it tries and of the stacks of what it found, and `Q` holds of every memory that covers them
-pub record Reporting (IsTrialHere : Trial → Type 0) (IsFoundHere : Finding → Type 0) (contains : ℕ → Bool) (config : Config)
+pub record Reporting (IsTrialHere : Trial → Type 0) (IsFoundHere : Finding → Type 0) (contains : ℕ → Bool)
+    (config : Config)
     (old new : Seen) (Q : Memory → Type 0) : Type 0 where
   pub tried : Option Trial
   pub is_tried : IfSome tried IsTrialHere
@@ -104,9 +107,17 @@ abbrev pub reached_cost : Config → Reached → ℕ
 reached_cost c r = cost_of (trial_cost (in_maps r.dumped.maps) (memory_in r.dumped)) r.trial
     + cost_of (finding_cost c (memory_in r.dumped)) r.finding
 
+-- no test of a candidate takes more reads than a walk of 4096 threads of 16384 members each, whatever the memory
+-- holds, as cyclic chains
+abbrev pub TestsEnd : Reached → Type 0
+TestsEnd r = (layout : Layout) (candidate : ℕ)
+    → candidate_cost (in_maps r.dumped.maps) layout (memory_in r.dumped) candidate ≤ 3 + 4096 * (2 + 6 * 16384)
+
 -- a counter rises by at most 10 for the search and 13 for the stacks, and what the candidates that are tried and the
 -- stacks of what is found take
-pub record IsCounted (bytes : List ℕ) (images : Pushed) (layouts : List Layout) (config : Config) (old new : ℕ) : Type 0 where
+pub record IsCounted (bytes : List ℕ) (images : Pushed) (layouts : List Layout) (config : Config)
+    (old new : ℕ) : Type 0 where
   pub reached : Option Reached
   pub is : IfSome reached (IsReached bytes images layouts)
   pub most : new ≤ old + (10 + 13 + cost_of (reached_cost config) reached)
+  pub tests_end : IfSome reached TestsEnd

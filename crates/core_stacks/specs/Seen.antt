@@ -29,7 +29,8 @@ known_in (Ok info) = Ok (known_of info)
 known_in (Err e) = Err e
 
 -- what is known of the process of a core by its maps and the images, or why nothing is
-pub record Knows (bytes : List ℕ) (images : Pushed) (result : Result (PythonProcessInfo MapTable) CoreError) : Type 0 where
+pub record Knows (bytes : List ℕ) (images : Pushed)
+    (result : Result (PythonProcessInfo MapTable) CoreError) : Type 0 where
   pub maps : List CoreMapRange
   pub are_maps : AreMaps bytes maps
   pub says : Then (programs.MapsSay maps) (programs.ImagesSay images) (known_in result)
@@ -52,7 +53,8 @@ finding_in (Ok f) = Ok (finding_of f)
 finding_in (Err e) = Err e
 
 -- what is found of the process of a core and its images, or the first cause why nothing is
-pub record FindsProcess (bytes : List ℕ) (images : Pushed) (layouts : List Layout) (result : Result Finding CoreError) : Type 0 where
+pub record FindsProcess (bytes : List ℕ) (images : Pushed) (layouts : List Layout)
+    (result : Result Finding CoreError) : Type 0 where
   pub dumped : Dumped
   pub is_dumped : IsDumped bytes images dumped
   pub is : FindingIs (memory_in dumped) (machine_of bytes) dumped.maps images layouts result

@@ -1,33 +1,12 @@
 //! The walk over a core's threads.
 ghost use Rattle.core_stacks.specs.Answer.{Means, traced};
-ghost use Rattle.core_stacks.specs.Sole.{IsSole, Settles};
+ghost use Rattle.core_stacks.specs.Sole.{Settles};
 
 use image_memory::CoreDump;
 use py_layout::{Layouts, Version};
 use py_process::CoreError;
 use py_stacks::{Addresses, StackTrace, get_stack_traces};
 use std::alloc::Global;
-
-/// Walks the core.
-fn walk_core(
-    alloc: Global,
-    bytes: Vec<u8>,
-    layouts: &Layouts,
-    version: &Version,
-    addresses: &Addresses,
-) -> Result<Vec<StackTrace>, CoreError>
-    ensures { Settles (Means bytes.items layouts.now version.now addresses.now) (traced result) }
-{
-    let core = CoreDump::new(alloc, bytes)?;
-    let Some(layout) = layouts.choose(version) else {
-        let version = version.copy(alloc)?;
-        return Err(CoreError::UnsupportedVersion { version });
-    };
-    let mut view = core.view();
-    let (interpreter, lock) = (addresses.interpreter, addresses.lock);
-    let traces = get_stack_traces(alloc, interpreter, &mut view, layout, lock, None)?;
-    Ok(traces)
-}
 
 /// The traces of the threads of the interpreter at a handed-in address, in the order of their chain.
 ///
@@ -49,9 +28,16 @@ pub fn walk(
     version: &Version,
     addresses: &Addresses,
 ) -> Result<Vec<StackTrace>, CoreError>
-    ensures right { Means bytes.items layouts.now version.now addresses.now (traced result) }
-    // what is right is the answer, want of memory aside
-    ensures only { IsSole (Means bytes.items layouts.now version.now addresses.now) (traced result) }
+    // the answer is right, and what is right is the answer, want of memory aside
+    ensures { Settles (Means bytes.items layouts.now version.now addresses.now) (traced result) }
 {
-    walk_core(alloc, bytes, layouts, version, addresses)
+    let core = CoreDump::new(alloc, bytes)?;
+    let Some(layout) = layouts.choose(version) else {
+        let version = version.copy(alloc)?;
+        return Err(CoreError::UnsupportedVersion { version });
+    };
+    let mut view = core.view();
+    let (interpreter, lock) = (addresses.interpreter, addresses.lock);
+    let traces = get_stack_traces(alloc, interpreter, &mut view, layout, lock, None)?;
+    Ok(traces)
 }

@@ -1,13 +1,12 @@
 //! What is found of a Python process, by the memory, the maps and the images.
-ghost use Rattle.std.specs.Prelude.{◌+◌, ◌^◌, IfOk};
+ghost use Rattle.std.specs.Prelude.{◌^◌, IfOk};
 ghost use Rattle.image_memory.specs.Backed.{IsBackedMemory, regions_of};
 ghost use Rattle.process_memory.specs.Memory.{byte_at};
 ghost use Rattle.process_memory.specs.Seen.{ReadingBelow};
 ghost use Rattle.py_fields.specs.Sound.{IsSound};
-ghost use Rattle.py_process.specs.Candidates.{search_bound};
 ghost use Rattle.py_process.specs.Facts.{known_of};
-ghost use Rattle.py_process.specs.Findings.{AfterImages, AfterLayout, AfterSearch, AfterVersion, LockSays};
-ghost use Rattle.core_stacks.specs.Reached.{IsTrialAt, IsTrialBy, Trying};
+ghost use Rattle.py_process.specs.Findings.{AfterImages, LockSays};
+ghost use Rattle.core_stacks.specs.Reached.{IsTrialBy, Trying};
 ghost use Rattle.core_stacks.specs.Sole.{Settles};
 ghost use Rattle.core_stacks.specs.Seen.{FindsProcess, Knows, finding_in};
 
@@ -54,71 +53,6 @@ fn find_lock<M: ContainsAddr, P: ProcessMemory>(
     }
 }
 
-/// What is found where the interpreter is known: its lock is left. At most one read.
-fn with_lock<M: ContainsAddr, P: ProcessMemory>(
-    interpreter: u64,
-    info: &PythonProcessInfo<M>,
-    process: &mut P,
-    machine: Machine,
-    version: Version,
-    layout: &Layout,
-) -> Result<Found, CoreError>
-    requires { IsSound layout.now }
-    ensures settles { ReadingBelow (2 ^ 64) 1 (P.seen process.old) (P.seen process.new)
-        (λ m. Settles (AfterSearch m machine (known_of info.now) version layout.now interpreter) (finding_in result)) }
-    ensures sound { IfOk result (λ found. IsSound found.layout) }
-{
-    let lock = find_lock(interpreter, info, process, machine, &version, layout)?;
-    Ok(Found {
-        version,
-        layout: *layout,
-        addresses: Addresses { interpreter, lock },
-    })
-}
-
-/// The interpreter and its lock, by a layout.
-fn find_interpreter<M: ContainsAddr, P: ProcessMemory>(
-    alloc: Global,
-    info: &PythonProcessInfo<M>,
-    process: &mut P,
-    machine: Machine,
-    version: Version,
-    layout: &Layout,
-) -> Result<Found, CoreError>
-    requires { IsSound layout.now }
-    ensures settles { ReadingBelow (2 ^ 64)
-        (search_bound (M.contains info.now.maps) (known_of info.now) version layout.now
-        (byte_at (P.seen process.old).pieces) + 1)
-        (P.seen process.old) (P.seen process.new)
-        (λ m. Settles (AfterLayout m machine (M.contains info.now.maps) (known_of info.now) version layout.now)
-        (finding_in result)) }
-    ensures sound { IfOk result (λ found. IsSound found.layout) }
-{
-    let interpreter = get_interpreter_address(alloc, info, process, &version, layout)?;
-    with_lock(interpreter, info, process, machine, version, layout)
-}
-
-/// The layout that covers the version, and the interpreter by it.
-fn find_by_version<M: ContainsAddr, P: ProcessMemory>(
-    alloc: Global,
-    info: &PythonProcessInfo<M>,
-    process: &mut P,
-    machine: Machine,
-    layouts: &Layouts,
-    version: Version,
-) -> Result<Found, CoreError>
-    ensures settles { Trying (IsTrialAt layouts.now (known_of info.now) version) (M.contains info.now.maps) 7
-        (P.seen process.old) (P.seen process.new)
-        (λ m. Settles (AfterVersion m machine (M.contains info.now.maps) layouts.now (known_of info.now) version)
-        (finding_in result)) }
-    ensures sound { IfOk result (λ found. IsSound found.layout) }
-{
-    match layouts.choose(&version) {
-        Some(layout) => find_interpreter(alloc, info, process, machine, version, layout),
-        None => Err(CoreError::UnsupportedVersion { version }),
-    }
-}
-
 /// What is found over a memory of a process, by what is known of it: the version, the layout that covers it, the
 /// interpreter, and the lock; or the first cause why nothing is.
 ///
@@ -137,7 +71,16 @@ pub(crate) fn find_process<M: ContainsAddr, P: ProcessMemory>(
     ensures sound { IfOk result (λ found. IsSound found.layout) }
 {
     let version = get_python_version(alloc, info, process)?;
-    find_by_version(alloc, info, process, machine, layouts, version)
+    let Some(layout) = layouts.choose(&version) else {
+        return Err(CoreError::UnsupportedVersion { version });
+    };
+    let interpreter = get_interpreter_address(alloc, info, process, &version, layout)?;
+    let lock = find_lock(interpreter, info, process, machine, &version, layout)?;
+    Ok(Found {
+        version,
+        layout: *layout,
+        addresses: Addresses { interpreter, lock },
+    })
 }
 
 /// What the images of the maps of a core say of its process. Nothing of the process's memory is read.

@@ -49,21 +49,6 @@ impl Model for PythonCoreDump {
     ghost invariant = { λ p. IsSound p.found.layout };
 }
 
-/// Reads the traces of what was found in a core. They are right over every memory with the same bytes.
-fn read_stacks(
-    alloc: Global,
-    dump: &BackedDump,
-    found: &Found,
-    config: &Config,
-) -> Result<Vec<StackTrace>, CoreError>
-    requires sound { IsSound found.now.layout }
-    ensures { (m : Memory) → ((a : ℕ) → m a ≡ byte_at (regions_of dump.now) a)
-        → StacksSay m (finding_of found.now) config.now (traces_in result) }
-{
-    let mut view = dump.view();
-    stacks_in(alloc, &mut view, found, config)
-}
-
 /// Reads the traces of what was found in a core, and lists what was read.
 fn read_footprint(
     alloc: Global,
@@ -154,6 +139,20 @@ impl PythonCoreDump {
         Ok(PythonCoreDump { alloc, dump, found })
     }
 
+    /// The version of Python that ran: the one that was found, or that was handed in.
+    pub fn version(&self) -> &Version
+        ensures { result.now ≡ self.now.finding.version }
+    {
+        &self.found.version
+    }
+
+    /// Where the interpreter is, and the address of its lock, 0 where there is none: what was found, or was handed in.
+    pub fn addresses(&self) -> Addresses
+        ensures { result ≡ self.now.finding.addresses }
+    {
+        self.found.addresses
+    }
+
     /// The traces of the interpreter's threads, in the order of their chain, with what a `Config` asks for
     /// (`py_stacks::get_stack_over`).
     ///
@@ -171,7 +170,8 @@ impl PythonCoreDump {
         // owner may be, and the locals of a kept frame, where they are asked for
         ensures found { IsFoundIn self.now → IfErr result (IsLeft self.now config.now) }
     {
-        read_stacks(self.alloc, &self.dump, &self.found, config)
+        let mut view = self.dump.view();
+        stacks_in(self.alloc, &mut view, &self.found, config)
     }
 
     /// The traces of `get_stack`, with the ranges of the process's memory that were read for them, each of fewer than

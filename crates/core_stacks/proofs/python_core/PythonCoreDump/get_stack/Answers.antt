@@ -5,12 +5,13 @@ use Rattle.core_stacks.specs.Opened.{Opened, memory_in}
 use Rattle.core_stacks.proofs.Settling.{sole_of}
 use Rattle.core_stacks.proofs.Left.{found_left}
 use Rattle.py_process.proofs.StackCauses.{stacks_agree}
+use Rattle.core_stacks.proofs.Stacks.{over_same}
 use Rattle.core_stacks.proofs.python_core.PythonCoreDump.get_stack.Goals as goal
 
 pub returns-clause-equal : goal.returns-clause-equal
 returns-clause-equal c =
-    subst (λ (o : Opened). (m : Memory) → ((a : ℕ) → m a ≡ memory_in o a) → StacksSay m o.finding c.args.config.now (traces_in c.read_stacks.result))
-    c.self.view_is c.read_stacks.ensures
+    subst (λ (o : Opened). (m : Memory) → ((a : ℕ) → m a ≡ memory_in o a) → StacksSay m o.finding c.args.config.now (traces_in c.stacks_in.result))
+    c.self.view_is (λ m same. over_same _ m c.view-view.ensures same c.stacks_in.ensures)
 
 pub returns-clause-right : goal.returns-clause-right
 returns-clause-right c = returns-clause-equal c (memory_in c.args.self.now) (λ a. refl)
@@ -19,7 +20,7 @@ pub returns-clause-only : goal.returns-clause-only
 returns-clause-only c =
     let o = c.args.self.now in
     sole_of (StacksSay (memory_in o) o.finding c.args.config.now) (stacks_agree (memory_in o) o.finding c.args.config.now)
-    (traces_in c.read_stacks.result) (returns-clause-right c)
+    (traces_in c.stacks_in.result) (returns-clause-right c)
 
 pub returns-clause-found : goal.returns-clause-found
-returns-clause-found c = λ found. found_left c.args.self.now c.args.config.now c.read_stacks.result found (returns-clause-right c)
+returns-clause-found c = λ found. found_left c.args.self.now c.args.config.now c.stacks_in.result found (returns-clause-right c)

@@ -5,7 +5,7 @@ use Rattle.process_memory.specs.Seen.{Seen}
 use Rattle.process_memory.proofs.Reading.{reading_here}
 use Rattle.core_stacks.specs.Answer.{traced}
 use Rattle.core_stacks.proofs.Walked.{layout_walk, lost_says, memory_walk}
-use Rattle.core_stacks.proofs.core_walk.walk_core.Goals as goal
+use Rattle.core_stacks.proofs.core_walk.walk.Goals as goal
 
 pub returns-in_err-version : goal.returns-in_err-version
 returns-in_err-version c =

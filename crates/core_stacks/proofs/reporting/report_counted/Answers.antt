@@ -6,7 +6,7 @@ use Rattle.process_memory.specs.Seen.{Seen}
 use Rattle.py_process.specs.Reports.{IsReadable, reported}
 use Rattle.py_process.specs.declared.core_error.CoreError.TheVariants.{OutOfMemory}
 use Rattle.core_stacks.proofs.ReportSteps.{report_counts, report_goods, report_settles, unknown_memory, unknown_reports}
-use Rattle.core_stacks.proofs.reporting.make_report_counted.Goals as goal
+use Rattle.core_stacks.proofs.reporting.report_counted.Goals as goal
 
 pub returns-in_err-info-clause-settles : goal.returns-in_err-info-clause-settles
 returns-in_err-info-clause-settles g c =
