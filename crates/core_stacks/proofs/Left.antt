@@ -19,7 +19,7 @@ use Rattle.py_fields.specs.declared.layout.Layout.{Layout}
 use Rattle.py_process.specs.Findings.{IsFound}
 use Rattle.core_stacks.specs.Opened.{IsFoundIn, IsLeft, Opened, Opens, memory_in}
 use Rattle.py_process.proofs.Dumped.{backed_once}
-use Rattle.core_stacks.proofs.ReportLaws.{found_by}
+use Rattle.py_process.proofs.ReportLaws.{found_by}
 use Rattle.core_stacks.proofs.PlainFaults.{Fails, IsPlain, locals_plain, owner_plain}
 use Rattle.core_stacks.proofs.Unfaulted.{rest_fault}
 

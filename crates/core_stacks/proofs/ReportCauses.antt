@@ -22,7 +22,7 @@ use Rattle.core_stacks.specs.ReportCauses.{IsReportCause, MeetsRest}
 use Rattle.py_process.proofs.Agreement.{ok_not_err}
 use Rattle.core_stacks.proofs.Left.{limit_none}
 use Rattle.core_stacks.proofs.PlainFaults.{IsPlain}
-use Rattle.core_stacks.proofs.ReportLaws.{found_by}
+use Rattle.py_process.proofs.ReportLaws.{found_by}
 use Rattle.core_stacks.proofs.Unfaulted.{rest_fault}
 
 err_is : {T : Type 0} (e d : CoreError) → ◌≡◌ {A = Result T CoreError} (Err e) (Err d) → d ≡ e
