@@ -4,6 +4,8 @@
 
 mod binary;
 mod binary_error;
+#[cfg(test)]
+mod call_tests;
 mod candidates;
 mod core_error;
 mod file_version;
@@ -18,8 +20,6 @@ mod ranges;
 mod report;
 mod search_error;
 mod symbols;
-#[cfg(test)]
-mod tests;
 mod version_error;
 
 pub use binary::{BinaryInfo, parse_binary};
