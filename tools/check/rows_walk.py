@@ -83,8 +83,6 @@ def cores() -> Iterator[Row]:
               TEXT.replace("0x7F00", "0x0 (gil)"))
     yield row("walk: no file", "walk none sample 3.9.0 0x10000 0", files, line="cannot read none", status=3)
     yield row("walk: a folder", "walk . sample 3.9.0 0x10000 0", files, line="cannot read .", status=3)
-    yield row("walk: too long a file", GOOD, files, line="file too long: core", status=3,
-              lengths={"core": 2 ** 36 + 1}, memory=1 << 30)
     yield row("walk: no memory", GOOD, files, line="out of memory", status=5, lengths={"core": 1 << 30}, memory=1 << 28)
 
 
