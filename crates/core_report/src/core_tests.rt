@@ -26,6 +26,9 @@ fn images(alloc: Global) -> Result<Images, Fail> {
     Ok(images)
 }
 
+/// What is printed of the core's traces.
+const TEXT: &[u8] = b"Python v3.9.0\n\nThread 0x7F00\n";
+
 const ADDRESSES: Addresses = Addresses {
     interpreter: INTERPRETER,
     lock: 0,
@@ -73,6 +76,9 @@ fn a_process_that_is_opened(rt: HostRuntime) -> Result<(), Fail> {
     let refused = python.get_stack(&native).err();
     assert_eq!(rt; refused, Some(CoreError::NativeUnsupported));
     assert!(rt; python.footprint(&native).is_err());
+    let mut out = MemorySink::new(alloc, 100, Vec::new(alloc))?;
+    python.print_traces(&mut out, b"core", &traces, &native)?;
+    assert_eq!(rt; out.bytes(), TEXT);
     let mut out = MemorySink::new(alloc, 10, Vec::new(alloc))?;
     let printed = python.print_traces(&mut out, b"core", &traces, &native);
     assert!(rt; printed.is_err());
