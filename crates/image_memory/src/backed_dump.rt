@@ -13,11 +13,10 @@ ghost use Rattle.process_memory.specs.Memory.{byte_at};
 use crate::file_table::FilePlace;
 use crate::lookup::look_up;
 use crate::overlay::{Owned, lay, table_of_laid};
-use crate::places::range_of;
-use crate::runs::{Runs, part};
+use crate::places::{part, range_of};
 use crate::{BackedView, CoreDump, CoreMapRange, Images, Mmap};
 use elf64_core::{Segment, SpanTable, TableEntry};
-use process_memory::ProcessMemory;
+use process_memory::{Pieces, ProcessMemory};
 use std::alloc::{AllocError, Global};
 use std::marker::Model;
 
@@ -294,7 +293,7 @@ impl BackedDump {
     }
 }
 
-impl Runs for BackedDump {
+impl Pieces for BackedDump {
     ghost regions = { regions_of };
 
     fn run(&self, addr: u64) -> Option<&[u8]> {

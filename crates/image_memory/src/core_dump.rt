@@ -22,10 +22,10 @@ ghost use Rattle.process_memory.specs.Memory.{byte_at};
 use crate::contents::{Contents, read_core};
 use crate::lookup::{look_up, lookup};
 use crate::maps::holds_addr;
-use crate::runs::{Runs, part};
+use crate::places::part;
 use crate::{ContainsAddr, CoreMapRange, DumpError, FilePlace, View, elf_prpsinfo, elf_prstatus};
 use elf64_core::{Machine, Segment, Steps, TableEntry};
-use process_memory::ProcessMemory;
+use process_memory::{Pieces, ProcessMemory};
 use std::alloc::Global;
 use std::marker::Model;
 use std::sync::ledger::Ledger;
@@ -260,7 +260,7 @@ impl CoreDump {
     }
 }
 
-impl Runs for CoreDump {
+impl Pieces for CoreDump {
     ghost regions = { memory_of };
 
     fn run(&self, addr: u64) -> Option<&[u8]> {

@@ -25,7 +25,6 @@ mod overlay;
 mod piece_tests;
 mod places;
 mod records;
-mod runs;
 mod subrange;
 #[cfg(test)]
 mod tests;

@@ -1,5 +1,5 @@
 //! Where the bytes of a core's memory stand in its file.
-ghost use Rattle.std.specs.Prelude.{◌≡◌, All, IfOk, map};
+ghost use Rattle.std.specs.Prelude.{◌≡◌, ◌≤◌, All, IfOk, length, map, slice_range};
 ghost use Rattle.image_memory.specs.Overlays.{ArePieces, IsRange};
 ghost use Rattle.image_memory.specs.Pieces.{range_of};
 
@@ -32,4 +32,13 @@ pub(crate) fn pieces_of(alloc: Global, loads: &[Segment]) -> Result<SpanTable, A
 {
     let ranges = ranges_of(alloc, loads)?;
     table_of(alloc, &ranges)
+}
+
+/// The bytes from a place on up to another.
+pub(crate) fn part(bytes: &[u8], start: u64, end: u64) -> &[u8]
+    requires ascends { start ≤ end }
+    requires inside { end ≤ length bytes.now }
+    ensures { result.now ≡ slice_range bytes.now start end }
+{
+    &bytes[start as usize..end as usize]
 }

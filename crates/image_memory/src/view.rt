@@ -1,9 +1,8 @@
 //! The memory of a core, over its bytes, and with the images that it mapped.
 ghost use Rattle.std.specs.Prelude.{◌≡◌};
 
-use crate::runs::{copy_runs, read_runs};
 use crate::{BackedDump, CoreDump};
-use process_memory::{ProcessMemory, ReadFault};
+use process_memory::{ProcessMemory, ReadFault, copy_pieces, read_pieces};
 use std::alloc::Global;
 
 /// The memory of a core, over the core's own bytes: one piece for each load segment, in table order.
@@ -27,11 +26,11 @@ impl<'a> ProcessMemory for View<'a> {
     ghost seen = { λ v. plain (memory_of v.core.now) };
 
     fn read(&mut self, addr: u64, buf: &mut [u8]) -> Result<(), ReadFault> {
-        read_runs(self.core, addr, buf)
+        read_pieces(self.core, addr, buf)
     }
 
     fn copy(&mut self, alloc: Global, addr: u64, len: u64) -> Result<Vec<u8>, ReadFault> {
-        copy_runs(alloc, self.core, addr, len)
+        copy_pieces(alloc, self.core, addr, len)
     }
 }
 
@@ -56,10 +55,10 @@ impl<'a> ProcessMemory for BackedView<'a> {
     ghost seen = { λ v. plain (regions_of v.dump.now) };
 
     fn read(&mut self, addr: u64, buf: &mut [u8]) -> Result<(), ReadFault> {
-        read_runs(self.dump, addr, buf)
+        read_pieces(self.dump, addr, buf)
     }
 
     fn copy(&mut self, alloc: Global, addr: u64, len: u64) -> Result<Vec<u8>, ReadFault> {
-        copy_runs(alloc, self.dump, addr, len)
+        copy_pieces(alloc, self.dump, addr, len)
     }
 }

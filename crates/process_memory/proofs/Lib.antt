@@ -5,3 +5,4 @@ pub mod Founds
 pub mod Stretch
 pub mod Walks
 pub mod WalkSums
+pub mod RunParts

@@ -1,68 +1,26 @@
-//! Reads over pieces of memory, stretch by stretch.
-ghost use Rattle.std.specs.Prelude.{◌≡◌, ℕ, ◌+◌, ◌<◌, ◌≤◌, List, length, slice_get, slice_index, EachIndex, IsSome, IfSome, option_map, Some, None, OnErr, IsErrOf};
+//! Reads over pieces of memory whose bytes are had in runs.
+ghost use Rattle.std.specs.Prelude.{◌≡◌, ℕ, ◌+◌, ◌<◌, List, length, slice_index, EachIndex, IsSome, IfSome, Some, None, OnErr, IsErrOf};
 ghost use Rattle.std.specs.Bool.{OnTrue, OnFalse};
 ghost use Rattle.process_memory.specs.Memory.{Region, byte_at, record_at};
 ghost use Rattle.process_memory.specs.Seen.{Answers, fault_of, items_of, with_bytes};
-ghost use Rattle.process_memory.specs.Pieces.{run_in};
 
 use crate::ReadFault;
 use std::alloc::Global;
 
-/// Pieces of memory, by number.
+/// Pieces of memory, whose bytes are had in runs.
 ///
-/// An object means a list of pieces, each with its start and its bytes.
+/// An object means a list of pieces, each with its start and its bytes; the byte at an address is that of
+/// the first piece that holds it.
 pub trait Pieces {
     /// The pieces, in order.
     ghost regions: { Self → List Region };
 
-    /// How many there are.
-    fn count(&self) -> usize
-        ensures { result ≡ length (regions self.now) };
-
-    /// The address at which the piece of a number, from 0 on, starts, and its bytes.
-    fn piece(&self, number: usize) -> (u64, &[u8])
-        requires { number < length (regions self.now) }
-        ensures { slice_get (regions self.now) number ≡ Some (result.0, result.1.now) };
-}
-
-/// The bytes of one piece from an address on, if it holds that address.
-fn run_in(start: u64, bytes: &[u8], addr: u64) -> Option<&[u8]>
-    ensures { option_map (λ run. run.now) result ≡ run_in (start, bytes.now) addr }
-{
-    if addr < start {
-        return None;
-    }
-    let past = (addr - start) as usize;
-    if past < bytes.len() {
-        Some(&bytes[past..])
-    } else {
-        None
-    }
-}
-
-/// Bytes from an address on, one or more and at most so many, all of the first piece that holds it; none
-/// where no piece holds it. The run ends where an earlier piece may begin.
-fn stretch<P: Pieces>(pieces: &P, addr: u64, most: usize) -> Option<&[u8]>
-    requires some { 0 < most }
-    ensures length { IfSome result (λ run. (0 < length run.now) × (length run.now ≤ most)) }
-    ensures bytes { IfSome result (λ run. (k : ℕ) → k < length run.now
-        → byte_at (P.regions pieces.now) (addr + k) ≡ Some (slice_index run.now k)) }
-    ensures none { result ≡ None → byte_at (P.regions pieces.now) addr ≡ None }
-{
-    let mut reach = most.min((u64::MAX - addr) as usize);
-    if reach == 0 {
-        return None;
-    }
-    for number in 0..pieces.count() {
-        let (start, bytes) = pieces.piece(number);
-        if let Some(run) = run_in(start, bytes, addr) {
-            return Some(&run[..reach.min(run.len())]);
-        }
-        if addr < start {
-            reach = reach.min((start - addr) as usize);
-        }
-    }
-    None
+    /// Bytes from an address on, one or more; none exactly where the address has no byte.
+    fn run(&self, addr: u64) -> Option<&[u8]>
+        ensures some { IfSome result (λ run. 0 < length run.now) }
+        ensures bytes { IfSome result (λ run. (k : ℕ) → k < length run.now
+            → byte_at (regions self.now) (addr + k) ≡ Some (slice_index run.now k)) }
+        ensures none { result ≡ None → byte_at (regions self.now) addr ≡ None };
 }
 
 /// Whether all bytes of a range are there.
@@ -72,8 +30,8 @@ fn holds<P: Pieces>(pieces: &P, addr: u64, len: usize) -> bool
 {
     let mut done = 0;
     while done < len {
-        match stretch(pieces, addr + done as u64, len - done) {
-            Some(run) => done += run.len(),
+        match pieces.run(addr + done as u64) {
+            Some(run) => done += run.len().min(len - done),
             None => return false,
         }
     }
@@ -87,21 +45,37 @@ fn fill<P: Pieces>(pieces: &P, addr: u64, buf: &mut [u8])
 {
     let mut done = 0;
     while done < buf.len() {
-        match stretch(pieces, addr + done as u64, buf.len() - done) {
+        match pieces.run(addr + done as u64) {
             Some(run) => {
-                buf[done..done + run.len()].copy_from_slice(run);
-                done += run.len();
+                let size = run.len().min(buf.len() - done);
+                buf[done..done + size].copy_from_slice(&run[..size]);
+                done += size;
             }
             None => unreachable!(),
         }
     }
 }
 
+/// Copies a range, if it lies in one run; else nothing is copied.
+fn read_whole<P: Pieces>(pieces: &P, addr: u64, buf: &mut [u8]) -> bool
+    ensures whole { OnTrue result
+        (EachIndex buf.new (λ k. byte_at (P.regions pieces.now) (addr + k) ≡ Some (slice_index buf.new k))) }
+    ensures left { OnFalse result (buf.new ≡ buf.old) }
+{
+    match pieces.run(addr) {
+        Some(run) if buf.len() <= run.len() => {
+            buf.copy_from_slice(&run[..buf.len()]);
+            true
+        }
+        _ => false,
+    }
+}
+
 /// Fills the buffer with the bytes from `addr` on, each that of the first piece that holds its address.
 ///
 /// Ok exactly where every byte of the range is there; else `Unreadable` names the range, and the buffer is
-/// as it was. It takes no memory. The whole range is looked at before anything is copied, stretch by
-/// stretch, and for each stretch the pieces from the first one on.
+/// as it was. It takes no memory. A range in one run is copied from it; any other is looked at whole before
+/// anything is copied, run by run.
 pub fn read_pieces<P: Pieces>(pieces: &P, addr: u64, buf: &mut [u8]) -> Result<(), ReadFault>
     ensures gives { Answers fault_of
         (record_at (byte_at (P.regions pieces.now)) addr (length buf.old))
@@ -109,6 +83,9 @@ pub fn read_pieces<P: Pieces>(pieces: &P, addr: u64, buf: &mut [u8]) -> Result<(
     ensures left { OnErr result (buf.new ≡ buf.old) }
     ensures memory { IsErrOf result ReadFault.OutOfMemory → ⊥ }
 {
+    if read_whole(pieces, addr, buf) {
+        return Ok(());
+    }
     if !holds(pieces, addr, buf.len()) {
         return Err(ReadFault::Unreadable {
             addr,
@@ -122,7 +99,7 @@ pub fn read_pieces<P: Pieces>(pieces: &P, addr: u64, buf: &mut [u8]) -> Result<(
 /// A copy of the `len` bytes from `addr` on, each that of the first piece that holds its address.
 ///
 /// Ok exactly where every byte of the range is there; else `Unreadable` names the range. Memory is taken only
-/// once the whole range was looked at, as `read_pieces` does.
+/// once the whole range was looked at, run by run.
 pub fn copy_pieces<P: Pieces>(
     alloc: Global,
     pieces: &P,

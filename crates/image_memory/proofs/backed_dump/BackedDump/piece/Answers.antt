@@ -4,7 +4,7 @@ use Rattle.process_memory.specs.Memory.{byte_at}
 use Rattle.image_memory.specs.Backed.{file_bytes, regions_of}
 use Rattle.image_memory.specs.BackedPlaces.{stands_in}
 use Rattle.image_memory.proofs.BackedPlaces.{byte_of_no_file, file_run, file_stretch_joined, stretch_bytes}
-use Rattle.image_memory.proofs.RunParts.{first_byte_there}
+use Rattle.process_memory.proofs.RunParts.{first_byte_there}
 use Rattle.image_memory.proofs.backed_dump.BackedDump.piece.Goals as goal
 use Rattle.image_memory.proofs.backed_dump.BackedDump.piece.Goals.{After-part, else-loop-size-test, then-loop-size-test+then-more-eq0}
 

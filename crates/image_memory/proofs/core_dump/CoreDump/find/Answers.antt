@@ -1,7 +1,7 @@
 use Rattle.std.proofs.Common.{subst}
 use Rattle.image_memory.specs.Contents.{AreContents}
 use Rattle.image_memory.proofs.Stretches.{byte_none, hit_piece}
-use Rattle.image_memory.proofs.RunParts.{first_byte_there}
+use Rattle.process_memory.proofs.RunParts.{first_byte_there}
 use Rattle.image_memory.proofs.core_dump.CoreDump.find.Goals as goal
 
 pub returns-in_err-hit-clause-none : goal.returns-in_err-hit-clause-none

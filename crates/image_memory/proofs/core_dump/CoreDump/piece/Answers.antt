@@ -5,7 +5,7 @@ use Rattle.image_memory.specs.Contents.{AreContents}
 use Rattle.image_memory.specs.Pieces.{loads_of, memory_of}
 use Rattle.image_memory.specs.Places.{place_in}
 use Rattle.image_memory.proofs.Stretches.{byte_of_no_place, stretch_bytes, stretch_joined, stretch_run}
-use Rattle.image_memory.proofs.RunParts.{first_byte_there}
+use Rattle.process_memory.proofs.RunParts.{first_byte_there}
 use Rattle.image_memory.proofs.core_dump.CoreDump.piece.Goals as goal
 use Rattle.image_memory.proofs.core_dump.CoreDump.piece.Goals.{After-part, else-loop-size-test, then-loop-size-test+then-more-eq0}
 

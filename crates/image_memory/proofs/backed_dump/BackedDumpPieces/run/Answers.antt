@@ -1,7 +1,7 @@
 use Rattle.std.proofs.Common.{◌+◌, ◌∙◌, ap}
 use Rattle.std.specs.Prelude.{option_map, slice_range}
 use Rattle.image_memory.proofs.BackedPlaces.{byte_in, byte_stands, stretch_bytes}
-use Rattle.image_memory.proofs.backed_dump.BackedDumpRuns.run.Goals as goal
+use Rattle.image_memory.proofs.backed_dump.BackedDumpPieces.run.Goals as goal
 
 pub returns-in_err-run-clause-none : goal.returns-in_err-run-clause-none
 returns-in_err-run-clause-none c = λ _.

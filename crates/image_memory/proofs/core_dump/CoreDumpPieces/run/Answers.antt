@@ -1,7 +1,7 @@
 use Rattle.std.proofs.Common.{subst}
 use Rattle.image_memory.specs.Contents.{AreContents}
 use Rattle.image_memory.proofs.Stretches.{byte_none, hit_piece}
-use Rattle.image_memory.proofs.core_dump.CoreDumpRuns.run.Goals as goal
+use Rattle.image_memory.proofs.core_dump.CoreDumpPieces.run.Goals as goal
 
 pub returns-in_err-hit-clause-none : goal.returns-in_err-hit-clause-none
 returns-in_err-hit-clause-none c =
