@@ -4,13 +4,14 @@ use Rattle.std.specs.Int.{bit_at}
 use Rattle.std.specs.Int.Bits.{bit_and}
 use Rattle.std.proofs.lemmas.Nat.Bits.{and_pow, bit_at-lt}
 use Rattle.std.proofs.lemmas.Bool.Decides.{nat_tests}
-use Rattle.std.specs.Prelude.{Option, Ok, Err}
-use Rattle.process_memory.specs.Memory.{Memory, Found, Fault, address_before}
+use Rattle.std.specs.Prelude.{Option, Result, Ok, Err}
+use Rattle.process_memory.specs.Memory.{Memory, Found, Fault, address_before, word_at}
 use Rattle.process_memory.specs.Seen.{Seen, Reads}
-use Rattle.process_memory.proofs.Reading.{reading_gives}
+use Rattle.process_memory.proofs.Reading.{reading_gives, reads_halt, reads_next}
 use Rattle.py_fields.specs.declared.layout.Layout.{Layout}
 use Rattle.py_builtins.specs.declared.types.ObjectType.{ObjectType}
-use Rattle.py_builtins.specs.Dicts.{managed_slots}
+use Rattle.py_builtins.specs.declared.keys.Slots.{Slots}
+use Rattle.py_builtins.specs.Dicts.{dict_slots, managed_slots}
 use Rattle.py_names.specs.Typed.{beside, plain_slots, typed_slots}
 
 pub beside_on : (a distance : ℕ) → distance < 2 ^ 63 → beside a distance ≡ a + distance
@@ -54,3 +55,15 @@ module _ {T E E' : Type 0} {fault : E → Option Fault} {fault' : E' → Option 
   -- the same value, beside other errors
   pub reads_pass : {x : T} → Reads {T = T} fault n s0 s1 d (Ok x) → Reads {T = T} fault' n s0 s1 d (Ok x)
   reads_pass p = reading_gives _ _ p (omega arith) (λ m a. record { is = a.is })
+
+-- the dict that the word names which stands where the object's type says
+pub plain_then : {E E' : Type 0} {fault : E → Option Fault} {fault' : E' → Option Fault} {s0 s1 s2 : Seen} {dict : ℕ} {r : Result Slots E'} (l : Layout) (a : ℕ) (t : ObjectType)
+    → Reads fault 1 s0 s1 (λ m. word_at m (beside a t.dict_offset)) (Ok dict) → Reads fault' 2 s1 s2 (λ m. dict_slots l m dict) r
+    → Reads fault' 3 s0 s2 (λ m. plain_slots l m a t) r
+unfolding plain_slots
+plain_then l a t p q = reads_next 3 _ p q (omega arith)
+
+pub plain_stop : {E : Type 0} {fault : E → Option Fault} {s0 s1 : Seen} {e : E} (l : Layout) (a : ℕ) (t : ObjectType)
+    → Reads {T = ℕ} fault 1 s0 s1 (λ m. word_at m (beside a t.dict_offset)) (Err e) → Reads {T = Slots} fault 3 s0 s1 (λ m. plain_slots l m a t) (Err e)
+unfolding plain_slots
+plain_stop {e = e} l a t p = reads_halt 3 e _ p refl (omega arith)

@@ -8,7 +8,7 @@ ghost use Rattle.py_names.specs.Names.{AnswersNames, HasNames, each_looked, entr
 
 use crate::NamesError;
 use crate::search::find_in;
-use crate::typed::{read_plain_dict, read_typed_dict};
+use crate::typed::{read_typed_dict, word_beside};
 use elf64_core::Text;
 use process_memory::{ProcessMemory, word_past};
 use py_builtins::{DictCursor, ObjectError, Slot, copy_long, copy_string, read_type};
@@ -201,7 +201,8 @@ fn read_module<P: ProcessMemory>(
         None => Ok(Vec::new(alloc)),
         Some(addr) => {
             let class = read_type(alloc, process, layout, addr)?;
-            let dict = read_plain_dict(process, layout, addr, class)?;
+            let place = word_beside(process, addr, class.dict_offset)?;
+            let dict = DictCursor::from(process, layout, place)?;
             let search = find_in(alloc, process, layout, "_active", &dict, left)?;
             read_threads(alloc, process, layout, search.found, search.left)
         }

@@ -5,7 +5,7 @@ ghost use Rattle.process_memory.specs.Seen.{Reads, fault_of as read_fault};
 ghost use Rattle.py_fields.specs.Sound.{IsSound};
 ghost use Rattle.py_builtins.specs.Dicts.{slots_of};
 ghost use Rattle.py_names.specs.NamesError.{names_fault};
-ghost use Rattle.py_names.specs.Typed.{beside, plain_slots, typed_slots};
+ghost use Rattle.py_names.specs.Typed.{beside, typed_slots};
 
 use crate::NamesError;
 use process_memory::{ProcessMemory, ReadFault, word, word_past};
@@ -13,7 +13,7 @@ use py_builtins::{DictCursor, ObjectError, ObjectType, PY_TPFLAGS_MANAGED_DICT};
 use py_fields::Layout;
 
 /// The word so far behind an address; a negative distance is a number from 2^63 on. At most one read.
-fn word_beside<P: ProcessMemory>(
+pub(crate) fn word_beside<P: ProcessMemory>(
     process: &mut P,
     addr: u64,
     distance: u64,
@@ -34,26 +34,8 @@ fn word_beside<P: ProcessMemory>(
     })
 }
 
-/// The dict of the object of a type at an address that the word names which stands where the type says. At most 3
-/// reads.
-pub(crate) fn read_plain_dict<P: ProcessMemory>(
-    process: &mut P,
-    layout: &Layout,
-    addr: u64,
-    class: ObjectType,
-) -> Result<DictCursor, NamesError>
-    requires sound { IsSound layout.now }
-    ensures answer { Reads names_fault 3 (P.seen process.old) (P.seen process.new)
-        (λ m. plain_slots layout.now m addr class) (slots_of result) }
-    ensures start { IfOk result (λ cursor. cursor.passed ≡ 0) }
-    ensures memory { result ≢ Err (NamesError.Object ObjectError.OutOfMemory) }
-{
-    let dict = word_beside(process, addr, class.dict_offset)?;
-    let cursor = DictCursor::from(process, layout, dict)?;
-    Ok(cursor)
-}
-
-/// The dict of the object of a type at an address: its managed one, where the type's flags say so. At most 4 reads.
+/// The dict of the object of a type at an address: its managed one, where the type's flags say so, and else the one
+/// that the word names which stands where the type says. At most 4 reads.
 pub(crate) fn read_typed_dict<P: ProcessMemory>(
     process: &mut P,
     layout: &Layout,
@@ -70,5 +52,7 @@ pub(crate) fn read_typed_dict<P: ProcessMemory>(
         let cursor = DictCursor::from_managed_dict(process, layout, addr, class.at, class.flags)?;
         return Ok(cursor);
     }
-    read_plain_dict(process, layout, addr, class)
+    let dict = word_beside(process, addr, class.dict_offset)?;
+    let plain = DictCursor::from(process, layout, dict)?;
+    Ok(plain)
 }
