@@ -3,7 +3,7 @@ ghost use Rattle.std.specs.Prelude.{◌≡◌, ◌≤◌, ◌∷◌, IfOk, lengt
 ghost use Rattle.core_words.specs.Words.{dump, kept_files};
 ghost use Rattle.core_words.specs.Seen.{asked_dump};
 ghost use Rattle.core_report.specs.Reading.{contents};
-ghost use Rattle.core_report.specs.Outcome.{IsAnswer, IsDumped, IsDumpedBy, IsOutcome, images_of, shown_report};
+ghost use Rattle.core_report.specs.Outcome.{IsAnswer, IsDumpOutcome, IsDumpedBy, IsOutcome, images_read, shown_report};
 
 use crate::cause::Cause;
 use core_stacks::report;
@@ -17,7 +17,7 @@ use std::alloc::{AllocError, Global};
 
 /// The images of a report: each file's bytes under the path of its word.
 fn dump_images(alloc: Global, words: &DumpWords, files: Vec<Vec<u8>>) -> Result<Images, AllocError>
-    ensures { IfOk result (λ images. images ≡ images_of (asked_dump words.now).images (contents files.items)) }
+    ensures { IfOk result (λ images. images ≡ images_read (asked_dump words.now).images (contents files.items)) }
 {
     let mut images = Images::new(alloc);
     let mut names = words.images.as_slice();
@@ -71,7 +71,7 @@ fn dump_parts(
     text: &[u8],
     files: Vec<Vec<u8>>,
 ) -> Result<Vec<u8>, Cause>
-    ensures { IsAnswer (IsDumped (asked_dump words.now) (core.items ∷ text.now ∷ contents files.items)) result }
+    ensures { IsAnswer (IsDumpOutcome (asked_dump words.now) (core.items ∷ text.now ∷ contents files.items)) result }
 {
     let layouts = Layouts::from_toml(alloc, text)?;
     let images = dump_images(alloc, words, files)?;
@@ -86,7 +86,7 @@ fn dump_rest(
     mut rest: Vec<Vec<u8>>,
 ) -> Result<Vec<u8>, Cause>
     requires { 1 ≤ length rest.items }
-    ensures { IsAnswer (IsDumped (asked_dump words.now) (core.items ∷ contents rest.items)) result }
+    ensures { IsAnswer (IsDumpOutcome (asked_dump words.now) (core.items ∷ contents rest.items)) result }
 {
     let text = rest.remove(0);
     dump_parts(alloc, words, core, &text, rest)

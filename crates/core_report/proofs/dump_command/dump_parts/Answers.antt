@@ -1,6 +1,6 @@
 use Rattle.std.proofs.Common.{◌∷◌, inr, subst}
 use Rattle.core_words.specs.Seen.{asked_dump}
-use Rattle.core_report.specs.Outcome.{IsDumped, IsDumpedBy}
+use Rattle.core_report.specs.Outcome.{IsDumpOutcome, IsDumpedBy}
 use Rattle.core_report.specs.Reading.{contents}
 use Rattle.core_report.proofs.Weaker.{answer_weaker}
 use Rattle.core_report.proofs.dump_command.dump_parts.Goals as goal
@@ -9,7 +9,7 @@ pub returns : goal.returns
 returns c =
     let d = asked_dump c.args.words.now in
     answer_weaker (IsDumpedBy d c.args.core.items c.in_ok-images.images c.in_ok-layouts.layouts)
-    (IsDumped d (c.args.core.items ∷ c.args.text.now ∷ contents c.args.files.items))
+    (IsDumpOutcome d (c.args.core.items ∷ c.args.text.now ∷ contents c.args.files.items))
     (λ o h. inr (
       c.in_ok-layouts.layouts,
       c.in_ok-layouts.ensures.right,
