@@ -1,3 +1,4 @@
+pub mod Buffers
 pub mod BytesRead
 pub mod Codings
 pub mod DictSteps

@@ -2,7 +2,9 @@ pub mod Bytes
 pub mod Dicts
 pub mod Entries
 pub mod Integers
+pub mod Items
 pub mod ObjectError
 pub mod Refusals
 pub mod TextKind
 pub mod Texts
+pub mod Types

@@ -29,27 +29,7 @@ pub fn copy_int<P: ProcessMemory>(
     ensures memory { IsErrOf result ObjectError.OutOfMemory → IsTrue (P.seen process.old).may_want_memory }
 {
     let mut record = [0; RECORD_LIMIT];
-    read_small(
-        process,
-        layout,
-        addr,
-        &mut record[..layout.small.size as usize],
-    )
-}
-
-/// The same, with the record read into the buffer.
-fn read_small<P: ProcessMemory>(
-    process: &mut P,
-    layout: &Layout,
-    addr: u64,
-    object: &mut [u8],
-) -> Result<i64, ObjectError>
-    requires sound { IsSound layout.now }
-    requires object { length object.old ≡ layout.now.small.size }
-    ensures answer { Reads fault_of 1 (P.seen process.old) (P.seen process.new) (λ m. small_at layout.now m addr)
-        result }
-    ensures memory { IsErrOf result ObjectError.OutOfMemory → IsTrue (P.seen process.old).may_want_memory }
-{
+    let object = &mut record[..layout.small.size as usize];
     record_in(process, addr, object)?;
     Ok(u64_in(object, layout.small.value as usize).cast_signed())
 }
@@ -83,27 +63,7 @@ pub fn copy_long<P: ProcessMemory>(
     ensures memory { IsErrOf result ObjectError.OutOfMemory → IsTrue (P.seen process.old).may_want_memory }
 {
     let mut record = [0; RECORD_LIMIT];
-    read_long(
-        process,
-        layout,
-        addr,
-        &mut record[..layout.long.size as usize],
-    )
-}
-
-/// The same, with the record read into the buffer.
-fn read_long<P: ProcessMemory>(
-    process: &mut P,
-    layout: &Layout,
-    addr: u64,
-    object: &mut [u8],
-) -> Result<(i64, bool), ObjectError>
-    requires sound { IsSound layout.now }
-    requires object { length object.old ≡ layout.now.long.size }
-    ensures answer { Reads fault_of 2 (P.seen process.old) (P.seen process.new) (λ m. long_at layout.now m addr)
-        result }
-    ensures memory { IsErrOf result ObjectError.OutOfMemory → IsTrue (P.seen process.old).may_want_memory }
-{
+    let object = &mut record[..layout.long.size as usize];
     record_in(process, addr, object)?;
     let digits = digits_of(layout.integers, u64_in(object, layout.long.count as usize));
     let magnitude = read_magnitude(process, layout, addr, object, digits.count)?;

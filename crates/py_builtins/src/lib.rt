@@ -1,4 +1,5 @@
-//! Python objects: texts, bytes, integers and dicts, read out of a process's memory by a layout.
+//! Python objects: their types, texts, bytes, integers, dicts, and the items of lists and tuples, read out of a
+//! process's memory by a layout.
 //!
 //! Each reader answers what the object means at this memory, or the first fault on the way, and says how
 //! many reads it made. The rules are CPython's where they say what an object means, and this project's
@@ -11,14 +12,18 @@ mod dicts;
 mod entries;
 mod error;
 mod integers;
+mod items;
 mod keys;
 mod managed;
 mod strings;
+mod types;
 
 pub use bytes::copy_bytes;
 pub use dicts::{DictCursor, Slot};
 pub use entries::DictIterator;
 pub use error::ObjectError;
 pub use integers::{copy_int, copy_long};
+pub use items::{Items, Sequence, read_item, read_items};
 pub use managed::{PY_TPFLAGS_INLINE_VALUES, PY_TPFLAGS_MANAGED_DICT};
 pub use strings::copy_string;
+pub use types::{ObjectType, read_type};

@@ -9,12 +9,14 @@ use Rattle.py_builtins.specs.declared.keys.Slots.{Slots}
 use Rattle.py_builtins.specs.declared.dicts.Slot.{Slot}
 use Rattle.py_builtins.specs.Dicts.{dict_slots, slot_at}
 use Rattle.py_builtins.specs.Integers.{long_at}
+use Rattle.py_builtins.specs.Types.{type_at}
+use Rattle.py_builtins.specs.declared.types.ObjectType.{ObjectType}
 use Rattle.py_names.specs.declared.search.Looked.{Looked}
 use Rattle.py_names.specs.Names.{each_looked, entry_looked, module_looked, module_slots, modules_slots, search_looked, slot_limit, slot_looked, slots_looked_at, thread_looked, thread_slots, threads_looked}
 use Rattle.py_names.specs.Search.{find_from, find_looked}
-use Rattle.py_names.specs.Typed.{TypeAt, plain_slots, type_at, typed_slots}
+use Rattle.py_names.specs.Typed.{plain_slots, typed_slots}
 
-pub entry_counts : {E1 E2 E3 : Type 0} {f1 : E1 → Option Fault} {f2 : E2 → Option Fault} {f3 : E3 → Option Fault} {n1 n2 n3 : ℕ} {s0 s1 s2 s3 : Seen} {id : ℤ × Bool} {t : TypeAt} {slots : Slots}
+pub entry_counts : {E1 E2 E3 : Type 0} {f1 : E1 → Option Fault} {f2 : E2 → Option Fault} {f3 : E3 → Option Fault} {n1 n2 n3 : ℕ} {s0 s1 s2 s3 : Seen} {id : ℤ × Bool} {t : ObjectType} {slots : Slots}
     (l : Layout) (key value left : ℕ) → Reads {E = E1} f1 n1 s0 s1 (λ m. long_at l m key) (Ok id)
     → Reads {E = E2} f2 n2 s1 s2 (λ m. type_at l m value) (Ok t) → Reads {E = E3} f3 n3 s2 s3 (λ m. typed_slots l m value t) (Ok slots)
     → entry_looked l (byte_at s0.pieces) key value left ≡ find_looked l (byte_at s3.pieces) (codes "_name") slots slots.count 0 left
@@ -37,7 +39,7 @@ pub threads_counts : {E : Type 0} {fault : E → Option Fault} {n : ℕ} {s0 s1 
 unfolding threads_looked
 threads_counts l dict left a = let one = (reading_here a).is in rw (a.pieces, one) refl
 
-pub module_counts : {E1 E2 : Type 0} {f1 : E1 → Option Fault} {f2 : E2 → Option Fault} {n1 n2 : ℕ} {s0 s1 s2 : Seen} {t : TypeAt} {slots : Slots} (l : Layout) (a left : ℕ)
+pub module_counts : {E1 E2 : Type 0} {f1 : E1 → Option Fault} {f2 : E2 → Option Fault} {n1 n2 : ℕ} {s0 s1 s2 : Seen} {t : ObjectType} {slots : Slots} (l : Layout) (a left : ℕ)
     → Reads {E = E1} f1 n1 s0 s1 (λ m. type_at l m a) (Ok t) → Reads {E = E2} f2 n2 s1 s2 (λ m. plain_slots l m a t) (Ok slots)
     → module_looked l (byte_at s0.pieces) (Some a) left ≡ search_looked l (byte_at s2.pieces) (codes "_active") left (threads_looked l (byte_at s2.pieces)) slots
 unfolding module_looked module_slots

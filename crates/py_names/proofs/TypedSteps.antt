@@ -1,17 +1,18 @@
 -- The steps to the dict of an object.
-use Rattle.std.proofs.Common.{◌≡◌, ◌≢◌, ℕ, ◌+◌, ◌-◌, ◌^◌, ◌<◌, ◌≤◌, true, false, cond, ltb, leb, nat_eq, refl, sym, ◌∙◌, ap, arith}
+use Rattle.std.proofs.Common.{◌≡◌, ◌≢◌, ℕ, ◌+◌, ◌-◌, ◌^◌, ◌<◌, ◌≤◌, true, false, cond, ltb, leb, nat_eq, refl, ap, arith}
 use Rattle.std.specs.Int.{bit_at}
 use Rattle.std.specs.Int.Bits.{bit_and}
 use Rattle.std.proofs.lemmas.Nat.Bits.{and_pow, bit_at-lt}
 use Rattle.std.proofs.lemmas.Bool.Decides.{nat_tests}
-use Rattle.std.specs.Prelude.{Option, Ok, Err}
-use Rattle.process_memory.specs.Memory.{Memory, Found, Fault, address_before}
+use Rattle.std.specs.Prelude.{Option, Result, Ok, Err}
+use Rattle.process_memory.specs.Memory.{Memory, Found, Fault, address_before, word_at}
 use Rattle.process_memory.specs.Seen.{Seen, Reads}
-use Rattle.process_memory.proofs.Reading.{reading_gives}
+use Rattle.process_memory.proofs.Reading.{reading_gives, reads_halt, reads_next}
 use Rattle.py_fields.specs.declared.layout.Layout.{Layout}
-use Rattle.py_builtins.specs.Dicts.{managed_slots}
-use Rattle.py_names.specs.Typed.{TypeAt, beside, flagged_slots, plain_slots, typed_slots}
-use Rattle.elf64_core.specs.Fields.{u64_in}
+use Rattle.py_builtins.specs.declared.types.ObjectType.{ObjectType}
+use Rattle.py_builtins.specs.declared.keys.Slots.{Slots}
+use Rattle.py_builtins.specs.Dicts.{dict_slots, managed_slots}
+use Rattle.py_names.specs.Typed.{beside, plain_slots, typed_slots}
 
 pub beside_on : (a distance : ℕ) → distance < 2 ^ 63 → beside a distance ≡ a + distance
 unfolding beside
@@ -31,26 +32,20 @@ beside_out a distance le past =
     let out : leb (2 ^ 64 - distance) a ≡ false = grind (arith, nat_tests) in
     rw (back, out) refl
 
-module _ (l : Layout) (m : Memory) (a : ℕ) (t : TypeAt) (flags : ℕ) where
-  flagged_managed : bit_and flags 16 ≢ 0 → flagged_slots l m a t flags ≡ managed_slots l m a t.at flags
-  flagged_managed some =
-      let bit : bit_at flags 4 ≡ 1 = omega (arith, and_pow flags 4, bit_at-lt flags 4, some) in
-      let is : nat_eq (bit_at flags 4) 1 ≡ true = grind (arith, nat_tests) in
-      ap (λ b. cond b (managed_slots l m a t.at flags) (plain_slots l m a t)) is
-
-  flagged_plain : bit_and flags 16 ≡ 0 → flagged_slots l m a t flags ≡ plain_slots l m a t
-  flagged_plain none =
-      let bit : bit_at flags 4 ≡ 0 = omega (arith, and_pow flags 4, none) in
-      let is : nat_eq (bit_at flags 4) 1 ≡ false = grind (arith, nat_tests) in
-      ap (λ b. cond b (managed_slots l m a t.at flags) (plain_slots l m a t)) is
-
-  pub typed_managed : flags ≡ u64_in t.klass l.klass.flags → bit_and flags 16 ≢ 0 → typed_slots l m a t ≡ managed_slots l m a t.at flags
+module _ (l : Layout) (m : Memory) (a : ℕ) (t : ObjectType) where
+  pub typed_managed : bit_and t.flags 16 ≢ 0 → typed_slots l m a t ≡ managed_slots l m a t.at t.flags
   unfolding typed_slots
-  typed_managed is some = ap (flagged_slots l m a t) (sym is) ∙ flagged_managed some
+  typed_managed some =
+      let bit : bit_at t.flags 4 ≡ 1 = omega (arith, and_pow t.flags 4, bit_at-lt t.flags 4, some) in
+      let is : nat_eq (bit_at t.flags 4) 1 ≡ true = grind (arith, nat_tests) in
+      ap (λ b. cond b (managed_slots l m a t.at t.flags) (plain_slots l m a t)) is
 
-  pub typed_plain : flags ≡ u64_in t.klass l.klass.flags → bit_and flags 16 ≡ 0 → typed_slots l m a t ≡ plain_slots l m a t
+  pub typed_plain : bit_and t.flags 16 ≡ 0 → typed_slots l m a t ≡ plain_slots l m a t
   unfolding typed_slots
-  typed_plain is none = ap (flagged_slots l m a t) (sym is) ∙ flagged_plain none
+  typed_plain none =
+      let bit : bit_at t.flags 4 ≡ 0 = omega (arith, and_pow t.flags 4, none) in
+      let is : nat_eq (bit_at t.flags 4) 1 ≡ false = grind (arith, nat_tests) in
+      ap (λ b. cond b (managed_slots l m a t.at t.flags) (plain_slots l m a t)) is
 
 module _ {T E E' : Type 0} {fault : E → Option Fault} {fault' : E' → Option Fault} {n : ℕ} {s0 s1 : Seen} {d : Memory → Found T} where
   -- the same fault, by another error
@@ -60,3 +55,15 @@ module _ {T E E' : Type 0} {fault : E → Option Fault} {fault' : E' → Option 
   -- the same value, beside other errors
   pub reads_pass : {x : T} → Reads {T = T} fault n s0 s1 d (Ok x) → Reads {T = T} fault' n s0 s1 d (Ok x)
   reads_pass p = reading_gives _ _ p (omega arith) (λ m a. record { is = a.is })
+
+-- the dict that the word names which stands where the object's type says
+pub plain_then : {E E' : Type 0} {fault : E → Option Fault} {fault' : E' → Option Fault} {s0 s1 s2 : Seen} {dict : ℕ} {r : Result Slots E'} (l : Layout) (a : ℕ) (t : ObjectType)
+    → Reads fault 1 s0 s1 (λ m. word_at m (beside a t.dict_offset)) (Ok dict) → Reads fault' 2 s1 s2 (λ m. dict_slots l m dict) r
+    → Reads fault' 3 s0 s2 (λ m. plain_slots l m a t) r
+unfolding plain_slots
+plain_then l a t p q = reads_next 3 _ p q (omega arith)
+
+pub plain_stop : {E : Type 0} {fault : E → Option Fault} {s0 s1 : Seen} {e : E} (l : Layout) (a : ℕ) (t : ObjectType)
+    → Reads {T = ℕ} fault 1 s0 s1 (λ m. word_at m (beside a t.dict_offset)) (Err e) → Reads {T = Slots} fault 3 s0 s1 (λ m. plain_slots l m a t) (Err e)
+unfolding plain_slots
+plain_stop {e = e} l a t p = reads_halt 3 e _ p refl (omega arith)

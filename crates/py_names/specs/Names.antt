@@ -17,13 +17,14 @@ use Rattle.py_builtins.specs.declared.dicts.Slot.TheVariants.{Empty, Entry}
 use Rattle.py_builtins.specs.Dicts.{dict_slots, slot_at}
 use Rattle.py_builtins.specs.Integers.{long_at}
 use Rattle.py_builtins.specs.Texts.{text_at}
+use Rattle.py_builtins.specs.Types.{type_at}
 use Rattle.py_names.specs.declared.names.Given.{Given}
 use Rattle.py_names.specs.declared.names.Named.{Named}
 use Rattle.process_memory.specs.Seen.{FaultIs}
 use Rattle.py_names.specs.declared.names_error.NamesError.{NamesError}
 use Rattle.py_names.specs.NamesError.{names_fault}
 use Rattle.py_names.specs.Search.{find_from, find_looked, looked_in}
-use Rattle.py_names.specs.Typed.{plain_slots, type_at, typed_slots}
+use Rattle.py_names.specs.Typed.{plain_slots, typed_slots}
 
 -- how many slots are looked at, at most
 abbrev pub slot_limit : ℕ

@@ -8,10 +8,10 @@ ghost use Rattle.py_names.specs.Names.{AnswersNames, HasNames, each_looked, entr
 
 use crate::NamesError;
 use crate::search::find_in;
-use crate::typed::{read_plain_dict, read_type, read_typed_dict};
+use crate::typed::{read_typed_dict, word_beside};
 use elf64_core::Text;
 use process_memory::{ProcessMemory, word_past};
-use py_builtins::{DictCursor, ObjectError, Slot, copy_long, copy_string};
+use py_builtins::{DictCursor, ObjectError, Slot, copy_long, copy_string, read_type};
 use py_fields::{Dicts, Layout};
 use std::alloc::{AllocFailed, Global};
 use std::collections::BTreeMap;
@@ -71,8 +71,8 @@ fn read_entry<P: ProcessMemory>(
     ensures memory { result ≢ Err (NamesError.Object ObjectError.OutOfMemory) }
 {
     let (number, _) = copy_long(process, layout, key)?;
-    let typed = read_type(alloc, process, layout, value)?;
-    let dict = read_typed_dict(process, layout, value, &typed)?;
+    let class = read_type(alloc, process, layout, value)?;
+    let dict = read_typed_dict(process, layout, value, class)?;
     let search = find_in(alloc, process, layout, "_name", &dict, left)?;
     let named = read_name(alloc, process, layout, number.cast_unsigned(), search.found)?;
     Ok(Given {
@@ -200,8 +200,9 @@ fn read_module<P: ProcessMemory>(
     match found {
         None => Ok(Vec::new(alloc)),
         Some(addr) => {
-            let typed = read_type(alloc, process, layout, addr)?;
-            let dict = read_plain_dict(process, layout, addr, &typed)?;
+            let class = read_type(alloc, process, layout, addr)?;
+            let place = word_beside(process, addr, class.dict_offset)?;
+            let dict = DictCursor::from(process, layout, place)?;
             let search = find_in(alloc, process, layout, "_active", &dict, left)?;
             read_threads(alloc, process, layout, search.found, search.left)
         }

@@ -1,24 +1,27 @@
 -- What the values of a process's memory are, and their parts. Which fields they have is CPython's to say, and
 -- where they are the layout's.
-use Rattle.std.specs.Prelude.{ℕ, ◌+◌, ◌*◌, ◌^◌, nat_lt, List, Result, Ok, Err, if◌then◌else◌, codes, string_bytes, String, encode_utf8_all}
+use Rattle.std.specs.Prelude.{ℕ, ◌+◌, List, Result, Ok, Err, codes, string_bytes, String, encode_utf8_all}
 use Rattle.std.specs.Global.{Global}
-use Rattle.std.specs.Int.{w64, cast_signed}
 use Rattle.elf64_core.specs.Fields.{u64_in}
-use Rattle.process_memory.specs.Memory.{Memory, Found, ◌>>=◌, record_at, word_at}
-use Rattle.process_memory.specs.Memory.Fault.{BadType, BadCount}
+use Rattle.process_memory.specs.Memory.{Memory, Found, ◌>>=◌, record_at}
+use Rattle.process_memory.specs.Memory.Fault.{BadType}
 use Rattle.py_fields.specs.declared.layout.Dicts.{Dicts}
 use Rattle.py_fields.specs.declared.layout.Dicts.TheVariants.{Absent, General, Compact}
 use Rattle.py_fields.specs.declared.layout.Layout.{Layout}
 use Rattle.py_builtins.specs.declared.keys.Slots.{Slots as SlotsOf}
 use Rattle.py_builtins.specs.declared.dicts.Slot.{Slot}
 use Rattle.py_builtins.specs.declared.dicts.Slot.TheVariants.{Empty as EmptySlot, Entry as EntrySlot}
+use Rattle.py_builtins.specs.declared.items.Items.{Items as ItemsOf}
+use Rattle.py_builtins.specs.declared.items.Sequence.{Sequence}
+use Rattle.py_builtins.specs.declared.items.Sequence.TheVariants.{List as ListItems, Tuple as TupleItems}
 use Rattle.py_builtins.specs.Dicts.{dict_slots, slot_at}
 use Rattle.py_builtins.specs.Integers.{small_at, long_at}
+use Rattle.py_builtins.specs.Items.{item_at, items_at}
 use Rattle.py_builtins.specs.Texts.{text_at}
+use Rattle.py_builtins.specs.Types.{type_at}
 use Rattle.py_objects.specs.declared.kinds.Scalar.{Scalar}
 use Rattle.py_objects.specs.declared.kinds.Kind.{Kind}
 use Rattle.py_objects.specs.declared.kinds.Kind.TheVariants.{Small, Long, Text, Dict, List as ListKind, Tuple, Float, Nothing, Number, Other}
-use Rattle.py_objects.specs.declared.nodes.Sequence.TheVariants.{List as ListItems, Tuple as TupleItems}
 use Rattle.py_objects.specs.declared.nodes.Parts.{Parts}
 use Rattle.py_objects.specs.declared.nodes.Parts.TheVariants.{Items as ItemParts, Slots as SlotParts}
 use Rattle.py_objects.specs.declared.nodes.Node.{Node as NodeRead}
@@ -32,23 +35,18 @@ use Rattle.py_objects.specs.Shows.Brackets.{Square, Round, Curly}
 use Rattle.py_objects.specs.Shows.Node.{Whole, Quoted, Many}
 use Rattle.py_objects.specs.Shows.Child.{Item, Empty, Entry}
 
--- where the parts of a value stand: the address of the first item, or the slots of a dict
+-- where the parts of a value stand: the items of a list or a tuple, or the slots of a dict
 pub data Place : Type 0 where
-  ItemsAt : ℕ → Place
+  ItemsAt : ItemsOf → Place
   SlotsAt : SlotsOf → Place
 
 -- the flags and the name of the type of the value at an address
-unfoldable pub type_at : Layout → Memory → ℕ → Found (ℕ × List ℕ)
-type_at l m a = do
-  object ← record_at m a l.object.size
-  klass ← record_at m (u64_in object l.object.klass) l.klass.size
-  chars ← record_at m (u64_in klass l.klass.name) 128
+unfoldable pub class_at : Layout → Memory → ℕ → Found (ℕ × List ℕ)
+class_at l m a = do
+  class ← type_at l m a
+  chars ← record_at m class.name 128
   name ← text_or (before_nul chars) BadType
-  Ok (u64_in klass l.klass.flags, name)
-
--- a count of items, by the 8 bytes that state it, unless it is negative
-unfoldable pub item_count : ℕ → Found ℕ
-item_count n = if nat_lt n (2 ^ 63) then Ok n else Err (BadCount (cast_signed w64 n))
+  Ok (class.flags, name)
 
 unfoldable pub small_node : Layout → Memory → ℕ → List ℕ → Found (Node Place)
 small_node l m a name = do
@@ -65,17 +63,14 @@ text_node l m a = do
   text ← text_at l m a
   Ok (Quoted (encode_utf8_all text))
 
-unfoldable pub list_node : Layout → Memory → ℕ → Found (Node Place)
-list_node l m a = do
-  list ← record_at m a l.list.size
-  n ← item_count (u64_in list l.list.count)
-  Ok (Many Square n (ItemsAt (u64_in list l.list.items)))
+abbrev pub brackets_by : Sequence → Brackets
+brackets_by ListItems = Square
+brackets_by TupleItems = Round
 
-unfoldable pub tuple_node : Layout → Memory → ℕ → Found (Node Place)
-tuple_node l m a = do
-  tuple ← record_at m a l.tuple.size
-  n ← item_count (u64_in tuple l.tuple.count)
-  Ok (Many Round n (ItemsAt (a + l.tuple.at)))
+unfoldable pub items_node : Layout → Memory → Sequence → ℕ → Found (Node Place)
+items_node l m s a = do
+  items ← items_at l m s a
+  Ok (Many (brackets_by s) items.count (ItemsAt items))
 
 unfoldable pub slots_node : Layout → Memory → ℕ → Found (Node Place)
 slots_node l m a = do
@@ -103,8 +98,8 @@ kind_node l m a name Small = small_node l m a name
 kind_node l m a name Long = long_node l m a name
 kind_node l m a name Text = text_node l m a
 kind_node l m a name Dict = dict_node l.dicts l m a
-kind_node l m a name ListKind = list_node l m a
-kind_node l m a name Tuple = tuple_node l m a
+kind_node l m a name ListKind = items_node l m ListItems a
+kind_node l m a name Tuple = items_node l m TupleItems a
 kind_node l m a name Float = float_node l m a
 kind_node l m a name Nothing = Ok (Whole (codes "None"))
 kind_node l m a name (Number s) = scalar_node l m a s
@@ -113,7 +108,7 @@ kind_node l m a name Other = Ok (Whole (other_text name a))
 -- what the value at an address is: its text, or how many parts it has and where they stand
 unfoldable pub node_at : Layout → Memory → ℕ → Found (Node Place)
 node_at l m a = do
-  class ← type_at l m a
+  class ← class_at l m a
   kind_node l m a class.1 (kind_of l.bytes_text class.0 class.1)
 
 abbrev pub child_of : Slot → Child ℕ
@@ -122,8 +117,8 @@ child_of (EntrySlot key value) = Entry key value
 
 -- the part of a number at a place
 unfoldable pub child_at : Memory → Place → ℕ → Found (Child ℕ)
-child_at m (ItemsAt first) k = do
-  item ← word_at m (first + 8 * k)
+child_at m (ItemsAt items) k = do
+  item ← item_at m items k
   Ok (Item item)
 child_at m (SlotsAt slots) k = do
   slot ← slot_at m slots k
@@ -135,12 +130,11 @@ values_in l m = record { node = node_at l m; child = child_at m }
 
 -- what was read of a value
 abbrev pub brackets_of : Parts → Brackets
-brackets_of (ItemParts ListItems base offset) = Square
-brackets_of (ItemParts TupleItems base offset) = Round
+brackets_of (ItemParts sequence items) = brackets_by sequence
 brackets_of (SlotParts cursor) = Curly
 
 abbrev pub place_of : Parts → Place
-place_of (ItemParts sequence base offset) = ItemsAt (base + offset)
+place_of (ItemParts sequence items) = ItemsAt items
 place_of (SlotParts cursor) = SlotsAt cursor.slots
 
 abbrev pub node_of : NodeRead → Node Place
@@ -160,13 +154,13 @@ abbrev pub parts_read : {E : Type 0} → Result ChildRead E → Result (Child �
 parts_read (Ok c) = Ok (part_read c)
 parts_read (Err e) = Err e
 
-abbrev pub type_of : {E : Type 0} → Result (ℕ × String Global) E → Result (ℕ × List ℕ) E
-type_of (Ok p) = Ok (p.0, string_bytes p.1)
-type_of (Err e) = Err e
+abbrev pub class_of : {E : Type 0} → Result (ℕ × String Global) E → Result (ℕ × List ℕ) E
+class_of (Ok p) = Ok (p.0, string_bytes p.1)
+class_of (Err e) = Err e
 
 -- how many visits it takes to look at a part
 abbrev pub slot_visits : Parts → ℕ
-slot_visits (ItemParts sequence base offset) = 0
+slot_visits (ItemParts sequence items) = 0
 slot_visits (SlotParts cursor) = 1
 
 -- whether a part has a text

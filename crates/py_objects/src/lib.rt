@@ -3,7 +3,7 @@
 //! The rule is one over values and their parts, wherever these come from; here they are a process's, read by a
 //! layout. Visits and levels are counted, so that each value ends, a list of itself too.
 //!
-//! The readers of texts, bytes, integers and dicts are those of `py_builtins`, named on here.
+//! The readers of types, texts, bytes, integers, dicts and items are those of `py_builtins`, named on here.
 #![tactic(auto)]
 
 mod kinds;
@@ -12,7 +12,8 @@ mod show;
 mod texts;
 
 pub use py_builtins::{
-    DictCursor, DictIterator, ObjectError, PY_TPFLAGS_INLINE_VALUES, PY_TPFLAGS_MANAGED_DICT, Slot,
-    copy_bytes, copy_int, copy_long, copy_string,
+    DictCursor, DictIterator, Items, ObjectError, ObjectType, PY_TPFLAGS_INLINE_VALUES,
+    PY_TPFLAGS_MANAGED_DICT, Sequence, Slot, copy_bytes, copy_int, copy_long, copy_string,
+    read_item, read_items, read_type,
 };
 pub use show::format_variable;

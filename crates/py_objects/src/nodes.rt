@@ -1,40 +1,29 @@
 //! What the values of a process are, and their parts.
 ghost use Rattle.std.specs.Prelude.{◌≡◌, ◌+◌, ◌≤◌, ◌<◌, ◌^◌, IfOk, string_bytes};
-ghost use Rattle.process_memory.specs.Seen.{Answers, Reads};
+ghost use Rattle.process_memory.specs.Seen.{Reads};
 ghost use Rattle.py_fields.specs.Sound.{IsSound};
 ghost use Rattle.py_builtins.specs.ObjectError.{fault_of};
-ghost use Rattle.py_objects.specs.Nodes.{child_at, dict_node, float_node, item_count, kind_node, list_node, long_node, node_at, nodes_of, part_read, parts_read, place_of, scalar_node, slot_visits, slots_node, small_node, text_node, texts_of, tuple_node, type_at, type_of};
+ghost use Rattle.py_objects.specs.Nodes.{child_at, class_at, class_of, dict_node, float_node, items_node, kind_node, long_node, node_at, nodes_of, part_read, parts_read, place_of, scalar_node, slot_visits, slots_node, small_node, text_node, texts_of};
 
 use crate::kinds::{Kind, Scalar, kind_of};
 use crate::texts;
 use elf64_core::{Text, u64_in};
-use process_memory::{ProcessMemory, record, record_wide, word_wide};
-use py_builtins::{DictCursor, ObjectError, Slot, copy_int, copy_long, copy_string};
+use process_memory::{ProcessMemory, record, record_wide};
+use py_builtins::{
+    DictCursor, Items, ObjectError, Sequence, Slot, copy_int, copy_long, copy_string, read_item,
+    read_items, read_type,
+};
 use py_fields::{Dicts, Layout};
 use std::alloc::Global;
 
 /// How many bytes a type's name is looked for in.
 const NAME_LIMIT: u64 = 128;
 
-/// How many items there are less than.
-const COUNT_LIMIT: u64 = 1 << 63;
-
-/// What items are those of.
-#[derive(Clone, Copy)]
-pub enum Sequence {
-    List,
-    Tuple,
-}
-
 /// Where the parts of a value are.
 #[derive(Drop)]
 pub enum Parts {
-    /// The addresses of items stand at an address and an offset.
-    Items {
-        sequence: Sequence,
-        base: u64,
-        offset: u32,
-    },
+    /// The items of a list or a tuple.
+    Items(Sequence, Items),
     /// The slots of a dict.
     Slots(DictCursor),
 }
@@ -73,29 +62,26 @@ pub fn read_node<P: ProcessMemory>(
     ensures { Reads fault_of 6 (P.seen process.old) (P.seen process.new) (λ m. node_at layout.now m addr)
         (nodes_of result) }
 {
-    let (flags, name) = read_type(alloc, process, layout, addr)?;
+    let (flags, name) = read_class(alloc, process, layout, addr)?;
     let kind = kind_of(layout.bytes_text, flags, &name);
     read_kind(alloc, process, layout, addr, &name, kind)
 }
 
 /// The flags and the name of the type of a value. At most 3 reads.
-fn read_type<P: ProcessMemory>(
+fn read_class<P: ProcessMemory>(
     alloc: Global,
     process: &mut P,
     layout: &Layout,
     addr: u64,
 ) -> Result<(u64, String), ObjectError>
     requires sound { IsSound layout.now }
-    ensures { Reads fault_of 3 (P.seen process.old) (P.seen process.new) (λ m. type_at layout.now m addr)
-        (type_of result) }
+    ensures { Reads fault_of 3 (P.seen process.old) (P.seen process.new) (λ m. class_at layout.now m addr)
+        (class_of result) }
 {
-    let object = record(alloc, process, addr, layout.object.size as u64)?;
-    let klass_at = u64_in(&object, layout.object.klass as usize);
-    let klass = record(alloc, process, klass_at, layout.klass.size as u64)?;
-    let name_at = u64_in(&klass, layout.klass.name as usize);
-    let chars = record(alloc, process, name_at, NAME_LIMIT)?;
+    let class = read_type(alloc, process, layout, addr)?;
+    let chars = record(alloc, process, class.name, NAME_LIMIT)?;
     let name = texts::type_name(alloc, &chars)?;
-    Ok((u64_in(&klass, layout.klass.flags as usize), name))
+    Ok((class.flags, name))
 }
 
 /// What the value of a kind is, whose type has this name. At most 3 reads.
@@ -116,8 +102,8 @@ fn read_kind<P: ProcessMemory>(
         Kind::Long => read_long(alloc, process, layout, addr, name),
         Kind::Text => read_text(alloc, process, layout, addr),
         Kind::Dict => read_dict(alloc, process, layout, addr),
-        Kind::List => read_list(alloc, process, layout, addr),
-        Kind::Tuple => read_tuple(alloc, process, layout, addr),
+        Kind::List => read_sequence(alloc, process, layout, Sequence::List, addr),
+        Kind::Tuple => read_sequence(alloc, process, layout, Sequence::Tuple, addr),
         Kind::Float => read_float(alloc, process, layout, addr),
         Kind::Nothing => Ok(Node::Whole(String::from_str(alloc, "None")?)),
         Kind::Number(scalar) => read_scalar(alloc, process, layout, addr, scalar),
@@ -200,61 +186,21 @@ fn read_slots<P: ProcessMemory>(
     })
 }
 
-fn read_list<P: ProcessMemory>(
+fn read_sequence<P: ProcessMemory>(
     alloc: Global,
     process: &mut P,
     layout: &Layout,
+    sequence: Sequence,
     addr: u64,
 ) -> Result<Node, ObjectError>
     requires sound { IsSound layout.now }
-    ensures { Reads fault_of 1 (P.seen process.old) (P.seen process.new) (λ m. list_node layout.now m addr)
-        (nodes_of result) }
+    ensures { Reads fault_of 1 (P.seen process.old) (P.seen process.new)
+        (λ m. items_node layout.now m sequence addr) (nodes_of result) }
 {
-    let list = record(alloc, process, addr, layout.list.size as u64)?;
-    let count = item_count(u64_in(&list, layout.list.count as usize))?;
-    let base = u64_in(&list, layout.list.items as usize);
+    let items = read_items(alloc, process, layout, sequence, addr)?;
     Ok(Node::Many {
-        count,
-        parts: Parts::Items {
-            sequence: Sequence::List,
-            base,
-            offset: 0,
-        },
-    })
-}
-
-fn read_tuple<P: ProcessMemory>(
-    alloc: Global,
-    process: &mut P,
-    layout: &Layout,
-    addr: u64,
-) -> Result<Node, ObjectError>
-    requires sound { IsSound layout.now }
-    ensures { Reads fault_of 1 (P.seen process.old) (P.seen process.new) (λ m. tuple_node layout.now m addr)
-        (nodes_of result) }
-{
-    let tuple = record(alloc, process, addr, layout.tuple.size as u64)?;
-    let count = item_count(u64_in(&tuple, layout.tuple.count as usize))?;
-    Ok(Node::Many {
-        count,
-        parts: Parts::Items {
-            sequence: Sequence::Tuple,
-            base: addr,
-            offset: layout.tuple.at,
-        },
-    })
-}
-
-/// A number of items, unless it is negative.
-#[tactic(auto, unfolding(crate::specs::Nodes::item_count))]
-fn item_count(stated: u64) -> Result<u64, ObjectError>
-    ensures { Answers fault_of (item_count stated) result }
-{
-    if stated < COUNT_LIMIT {
-        return Ok(stated);
-    }
-    Err(ObjectError::BadCount {
-        count: stated.cast_signed(),
+        count: items.count,
+        parts: Parts::Items(sequence, items),
     })
 }
 
@@ -300,10 +246,7 @@ pub fn read_child<P: ProcessMemory>(
     ensures texts { IfOk result (λ child. 1 ≤ texts_of (part_read child) + slot_visits parts.now) }
 {
     match parts {
-        Parts::Items { base, offset, .. } => {
-            let place = *base as u128 + *offset as u128 + 8 * number as u128;
-            Ok(Child::Item(word_wide(process, place)?))
-        }
+        Parts::Items(_, items) => Ok(Child::Item(read_item(process, items, number)?)),
         Parts::Slots(cursor) => Ok(Child::Slot(cursor.slot(process, number)?)),
     }
 }

@@ -8,11 +8,11 @@ ghost use Rattle.py_objects.specs.Nodes.{brackets_of, node_of, part_read, place_
 ghost use Rattle.py_objects.specs.Shown.{Tells, visit};
 ghost use Rattle.py_objects.specs.Shows.{AnswerShows, bytes_of, child_shown, closing, looked_at, node_shown, opening, part_at, part_of, parts_shown, separator, show_at, text_of, width_of};
 
-use crate::nodes::{Child, Node, Parts, Sequence, read_child, read_node};
+use crate::nodes::{Child, Node, Parts, read_child, read_node};
 use crate::texts;
 use elf64_core::Text;
 use process_memory::ProcessMemory;
-use py_builtins::{ObjectError, Slot};
+use py_builtins::{ObjectError, Sequence, Slot};
 use py_fields::Layout;
 use std::alloc::{AllocError, Global};
 
@@ -200,14 +200,8 @@ fn open(alloc: Global, parts: &Parts) -> Result<String, AllocError>
     ensures { IfOk result (λ t. string_bytes t ≡ opening (brackets_of parts.now)) }
 {
     let bracket = match parts {
-        Parts::Items {
-            sequence: Sequence::List,
-            ..
-        } => "[",
-        Parts::Items {
-            sequence: Sequence::Tuple,
-            ..
-        } => "(",
+        Parts::Items(Sequence::List, _) => "[",
+        Parts::Items(Sequence::Tuple, _) => "(",
         Parts::Slots(_) => "{",
     };
     String::from_str(alloc, bracket)
@@ -218,14 +212,8 @@ fn close(mut text: String, parts: &Parts) -> Result<String, AllocError>
     ensures { IfOk result (λ t. string_bytes t ≡ string_bytes text ++ closing (brackets_of parts.now)) }
 {
     let bracket = match parts {
-        Parts::Items {
-            sequence: Sequence::List,
-            ..
-        } => "]",
-        Parts::Items {
-            sequence: Sequence::Tuple,
-            ..
-        } => ")",
+        Parts::Items(Sequence::List, _) => "]",
+        Parts::Items(Sequence::Tuple, _) => ")",
         Parts::Slots(_) => "}",
     };
     text.push_str(bracket)?;
@@ -282,7 +270,7 @@ fn look(parts: &Parts, visits: &mut u32) -> Result<(), ObjectError>
     ensures counts { OnOk result (visits.new ≡ visits.old + slot_visits parts.now) }
 {
     match parts {
-        Parts::Items { .. } => Ok(()),
+        Parts::Items(..) => Ok(()),
         Parts::Slots(_) => count_visit(visits),
     }
 }

@@ -16,25 +16,25 @@ returns-in_err-number-clause-answer g c =
     let p = err_from_is_err_and c.from_residual.result c.from_residual.ensures.1 in
     rw p.1 (reads_halt _ p.0 _ c.in_err-number.ensures.answer p.2.0 (omega arith))
 
-pub returns-in_err-typed-clause-answer : goal.returns-in_err-typed-clause-answer
+pub returns-in_err-class-clause-answer : goal.returns-in_err-class-clause-answer
 unfolding entry_in
-returns-in_err-typed-clause-answer g c =
-    let p = err_from_is_err_and c.from_residual-in_err-typed.result c.from_residual-in_err-typed.ensures.1 in
-    rw p.1 (reads_next _ _ c.in_ok-number.ensures.answer (reads_halt 2 p.0 _ c.in_err-typed.ensures.answer (ap names_fault p.2) (le_refl 2)) (omega arith))
+returns-in_err-class-clause-answer g c =
+    let p = err_from_is_err_and c.from_residual-in_err-class.result c.from_residual-in_err-class.ensures.1 in
+    rw p.1 (reads_next _ _ c.in_ok-number.ensures.answer (reads_halt 2 p.0 _ c.in_err-class.ensures p.2.0 (le_refl 2)) (omega arith))
 
 pub returns-in_err-dict-clause-answer : goal.returns-in_err-dict-clause-answer
 unfolding entry_in
 returns-in_err-dict-clause-answer g c =
     let p = err_from_is_err_and c.from_residual-in_err-dict.result c.from_residual-in_err-dict.ensures.1 in
-    rw p.1 (reads_next _ _ c.in_ok-number.ensures.answer (reads_next 6 _ c.in_ok-typed.ensures.answer (reads_halt 4 p.0 _ c.in_err-dict.ensures.answer (ap names_fault p.2) (le_refl 4)) (le_refl 6)) (omega arith))
+    rw p.1 (reads_next _ _ c.in_ok-number.ensures.answer (reads_next 6 _ c.in_ok-class.ensures (reads_halt 4 p.0 _ c.in_err-dict.ensures.answer (ap names_fault p.2) (le_refl 4)) (le_refl 6)) (omega arith))
 
 pub returns-in_err-search-clause-answer : goal.returns-in_err-search-clause-answer
 unfolding entry_in
 returns-in_err-search-clause-answer g c =
     let p = err_from_is_err_and c.from_residual-in_err-search.result c.from_residual-in_err-search.ensures.1 in
     let n = entry_looked c.args.layout.now (byte_at (g.P.ProcessMemory.seen c.args.process.now).pieces) c.args.key c.args.value c.args.left in
-    let count = entry_counts c.args.layout.now c.args.key c.args.value c.args.left c.in_ok-number.ensures.answer c.in_ok-typed.ensures.answer c.in_ok-dict.ensures.answer in
-    rw p.1 (reads_next _ _ c.in_ok-number.ensures.answer (reads_next (2 + (4 + 4 * n)) _ c.in_ok-typed.ensures.answer (reads_next (4 + 4 * n) _ c.in_ok-dict.ensures.answer (reads_halt (4 * n) p.0 _ c.in_err-search.ensures.answer (ap names_fault p.2) (omega (arith, count))) (le_refl _)) (le_refl _)) (omega arith))
+    let count = entry_counts c.args.layout.now c.args.key c.args.value c.args.left c.in_ok-number.ensures.answer c.in_ok-class.ensures c.in_ok-dict.ensures.answer in
+    rw p.1 (reads_next _ _ c.in_ok-number.ensures.answer (reads_next (2 + (4 + 4 * n)) _ c.in_ok-class.ensures (reads_next (4 + 4 * n) _ c.in_ok-dict.ensures.answer (reads_halt (4 * n) p.0 _ c.in_err-search.ensures.answer (ap names_fault p.2) (omega (arith, count))) (le_refl _)) (le_refl _)) (omega arith))
 
 pub returns-in_err-named-clause-answer : goal.returns-in_err-named-clause-answer
 unfolding entry_in
@@ -44,8 +44,8 @@ returns-in_err-named-clause-answer g c =
     let id : c.cast_unsigned.result ≡ cast_unsigned w64 c.in_ok-number.number = c.cast_unsigned.ensures ∙ ap (cast_unsigned w64) (to_z-of_z w64 c.in_ok-number.number fits) in
     let name = rw id at c.in_err-named.ensures.answer in
     let n = entry_looked c.args.layout.now (byte_at (g.P.ProcessMemory.seen c.args.process.now).pieces) c.args.key c.args.value c.args.left in
-    let count = entry_counts c.args.layout.now c.args.key c.args.value c.args.left c.in_ok-number.ensures.answer c.in_ok-typed.ensures.answer c.in_ok-dict.ensures.answer in
-    rw p.1 (reads_next _ _ c.in_ok-number.ensures.answer (reads_next (2 + (4 + (4 * n + 2))) _ c.in_ok-typed.ensures.answer (reads_next (4 + (4 * n + 2)) _ c.in_ok-dict.ensures.answer (reads_next (4 * n + 2) _ c.in_ok-search.ensures.answer (reads_halt 2 p.0 _ name (ap names_fault p.2) (le_refl 2)) (omega (arith, count))) (le_refl _)) (le_refl _)) (omega arith))
+    let count = entry_counts c.args.layout.now c.args.key c.args.value c.args.left c.in_ok-number.ensures.answer c.in_ok-class.ensures c.in_ok-dict.ensures.answer in
+    rw p.1 (reads_next _ _ c.in_ok-number.ensures.answer (reads_next (2 + (4 + (4 * n + 2))) _ c.in_ok-class.ensures (reads_next (4 + (4 * n + 2)) _ c.in_ok-dict.ensures.answer (reads_next (4 * n + 2) _ c.in_ok-search.ensures.answer (reads_halt 2 p.0 _ name (ap names_fault p.2) (le_refl 2)) (omega (arith, count))) (le_refl _)) (le_refl _)) (omega arith))
 
 pub returns-clause-answer : goal.returns-clause-answer
 unfolding entry_in
@@ -54,5 +54,5 @@ returns-clause-answer g c =
     let id : c.cast_unsigned.result ≡ cast_unsigned w64 c.in_ok-number.number = c.cast_unsigned.ensures ∙ ap (cast_unsigned w64) (to_z-of_z w64 c.in_ok-number.number fits) in
     let name = rw id at c.in_ok-named.ensures.answer in
     let n = entry_looked c.args.layout.now (byte_at (g.P.ProcessMemory.seen c.args.process.now).pieces) c.args.key c.args.value c.args.left in
-    let count = entry_counts c.args.layout.now c.args.key c.args.value c.args.left c.in_ok-number.ensures.answer c.in_ok-typed.ensures.answer c.in_ok-dict.ensures.answer in
-    reads_next _ _ c.in_ok-number.ensures.answer (reads_next (2 + (4 + (4 * n + 2))) _ c.in_ok-typed.ensures.answer (reads_next (4 + (4 * n + 2)) _ c.in_ok-dict.ensures.answer (reads_next (4 * n + 2) _ c.in_ok-search.ensures.answer (reads_next 2 _ name (reads_end 0 refl) (omega arith)) (omega (arith, count))) (le_refl _)) (le_refl _)) (omega arith)
+    let count = entry_counts c.args.layout.now c.args.key c.args.value c.args.left c.in_ok-number.ensures.answer c.in_ok-class.ensures c.in_ok-dict.ensures.answer in
+    reads_next _ _ c.in_ok-number.ensures.answer (reads_next (2 + (4 + (4 * n + 2))) _ c.in_ok-class.ensures (reads_next (4 + (4 * n + 2)) _ c.in_ok-dict.ensures.answer (reads_next (4 * n + 2) _ c.in_ok-search.ensures.answer (reads_next 2 _ name (reads_end 0 refl) (omega arith)) (omega (arith, count))) (le_refl _)) (le_refl _)) (omega arith)

@@ -7,30 +7,41 @@ use Rattle.process_memory.proofs.Reading.{reads_next, reads_halt, reads_end}
 use Rattle.py_names.specs.NamesError.{names_fault}
 use Rattle.py_names.specs.Names.{module_looked, module_names_at, threads_looked}
 use Rattle.py_names.proofs.NameCounts.{module_counts, search_counts}
+use Rattle.py_names.proofs.TypedSteps.{plain_stop, plain_then}
 use Rattle.py_names.proofs.names.read_module.Goals as goal
 
 pub returns-in-None-clause-answer : goal.returns-in-None-clause-answer
 unfolding module_names_at
 returns-in-None-clause-answer g c = rw c.in-None.is (reads_end _ (sym c.new.ensures.items))
 
+pub returns-in_err-place-in-Some-clause-answer : goal.returns-in_err-place-in-Some-clause-answer
+unfolding module_names_at
+returns-in_err-place-in-Some-clause-answer g c =
+    let p = err_from_is_err_and c.from_residual-in_err-place-in-Some.result c.from_residual-in_err-place-in-Some.ensures.1 in
+    let plain = plain_stop c.args.layout.now c.in-Some.addr c.in_ok-class-in-Some.class c.in_err-place-in-Some.ensures in
+    rw (c.in-Some.is, p.1) (reads_next _ _ c.in_ok-class-in-Some.ensures (reads_halt 3 p.0 _ plain p.2.0 (le_refl 3)) (omega arith))
+
 pub returns-in_err-dict-in-Some-clause-answer : goal.returns-in_err-dict-in-Some-clause-answer
 unfolding module_names_at
 returns-in_err-dict-in-Some-clause-answer g c =
     let p = err_from_is_err_and c.from_residual-in_err-dict-in-Some.result c.from_residual-in_err-dict-in-Some.ensures.1 in
-    rw (c.in-Some.is, p.1) (reads_next _ _ c.in_ok-typed-in-Some.ensures.answer (reads_halt 3 p.0 _ c.in_err-dict-in-Some.ensures.answer (ap names_fault p.2) (le_refl 3)) (omega arith))
+    let plain = plain_then c.args.layout.now c.in-Some.addr c.in_ok-class-in-Some.class c.in_ok-place-in-Some.ensures c.in_err-dict-in-Some.ensures.answer in
+    rw (c.in-Some.is, p.1) (reads_next _ _ c.in_ok-class-in-Some.ensures (reads_halt 3 p.0 _ plain p.2.0 (le_refl 3)) (omega arith))
 
 pub returns-in_err-search-in-Some-clause-answer : goal.returns-in_err-search-in-Some-clause-answer
 unfolding module_names_at
 returns-in_err-search-in-Some-clause-answer g c =
     let p = err_from_is_err_and c.from_residual-in_err-search-in-Some.result c.from_residual-in_err-search-in-Some.ensures.1 in
+    let plain = plain_then c.args.layout.now c.in-Some.addr c.in_ok-class-in-Some.class c.in_ok-place-in-Some.ensures c.in_ok-dict-in-Some.ensures.answer in
     let n = module_looked c.args.layout.now (byte_at (g.P.ProcessMemory.seen c.args.process.now).pieces) (Some c.in-Some.addr) c.args.left in
-    let count = module_counts c.args.layout.now c.in-Some.addr c.args.left c.in_ok-typed-in-Some.ensures.answer c.in_ok-dict-in-Some.ensures.answer in
-    rw (c.in-Some.is, p.1) (reads_next _ _ c.in_ok-typed-in-Some.ensures.answer (reads_next (3 + 4 * n) _ c.in_ok-dict-in-Some.ensures.answer (reads_halt (4 * n) p.0 _ c.in_err-search-in-Some.ensures.answer (ap names_fault p.2) (omega (arith, count))) (le_refl _)) (omega arith))
+    let count = module_counts c.args.layout.now c.in-Some.addr c.args.left c.in_ok-class-in-Some.ensures plain in
+    rw (c.in-Some.is, p.1) (reads_next _ _ c.in_ok-class-in-Some.ensures (reads_next (3 + 4 * n) _ plain (reads_halt (4 * n) p.0 _ c.in_err-search-in-Some.ensures.answer (ap names_fault p.2) (omega (arith, count))) (le_refl _)) (omega arith))
 
 pub returns-in_ok-search-in-Some-clause-answer : goal.returns-in_ok-search-in-Some-clause-answer
 unfolding module_names_at
 returns-in_ok-search-in-Some-clause-answer g c =
+    let plain = plain_then c.args.layout.now c.in-Some.addr c.in_ok-class-in-Some.class c.in_ok-place-in-Some.ensures c.in_ok-dict-in-Some.ensures.answer in
     let n = module_looked c.args.layout.now (byte_at (g.P.ProcessMemory.seen c.args.process.now).pieces) (Some c.in-Some.addr) c.args.left in
-    let count = module_counts c.args.layout.now c.in-Some.addr c.args.left c.in_ok-typed-in-Some.ensures.answer c.in_ok-dict-in-Some.ensures.answer in
+    let count = module_counts c.args.layout.now c.in-Some.addr c.args.left c.in_ok-class-in-Some.ensures plain in
     let behind = search_counts c.args.layout.now (codes "_active") c.args.left (threads_looked c.args.layout.now) _ c.in_ok-search-in-Some.ensures.answer in
-    rw c.in-Some.is (reads_next _ _ c.in_ok-typed-in-Some.ensures.answer (reads_next (5 + 12 * n) _ c.in_ok-dict-in-Some.ensures.answer (reads_next (2 + 12 * n) _ c.in_ok-search-in-Some.ensures.answer c.read_threads.ensures.answer (omega (arith, count, behind))) (omega arith)) (omega arith))
+    rw c.in-Some.is (reads_next _ _ c.in_ok-class-in-Some.ensures (reads_next (5 + 12 * n) _ plain (reads_next (2 + 12 * n) _ c.in_ok-search-in-Some.ensures.answer c.read_threads.ensures.answer (omega (arith, count, behind))) (omega arith)) (omega arith))

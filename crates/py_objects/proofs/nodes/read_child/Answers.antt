@@ -8,11 +8,11 @@ use Rattle.py_objects.specs.Nodes.{child_of}
 use Rattle.py_objects.specs.Shows.Child.{Item}
 use Rattle.py_objects.proofs.nodes.read_child.Goals as goal
 
-pub returns-in_err-word_wide-in-Items-clause-answer : goal.returns-in_err-word_wide-in-Items-clause-answer
+pub returns-in_err-read_item-in-Items-clause-answer : goal.returns-in_err-read_item-in-Items-clause-answer
 unfolding child_at
-returns-in_err-word_wide-in-Items-clause-answer g c =
+returns-in_err-read_item-in-Items-clause-answer g c =
     let p = err_from_is_err_and c.from_residual.result c.from_residual.ensures.1 in
-    rw (c.in-Items.is, p.1) (reads_halt 1 p.0 (λ m item. Ok (Item item)) c.in_err-word_wide-in-Items.ensures.answer p.2 (omega arith))
+    rw (c.in-Items.is, p.1) (reads_halt 1 p.0 (λ m item. Ok (Item item)) c.in_err-read_item-in-Items.ensures.answer p.2 (omega arith))
 
 pub returns-in_err-slot-in-Slots-clause-answer : goal.returns-in_err-slot-in-Slots-clause-answer
 unfolding child_at
@@ -20,10 +20,10 @@ returns-in_err-slot-in-Slots-clause-answer g c =
     let p = err_from_is_err_and c.from_residual-in_err-slot-in-Slots.result c.from_residual-in_err-slot-in-Slots.ensures.1 in
     rw (c.in-Slots.is, p.1) (reads_halt 2 p.0 (λ m slot. Ok (child_of slot)) c.in_err-slot-in-Slots.ensures.answer (ap fault_of p.2) (omega arith))
 
-pub returns-in_ok-word_wide-in-Items-clause-answer : goal.returns-in_ok-word_wide-in-Items-clause-answer
+pub returns-in_ok-read_item-in-Items-clause-answer : goal.returns-in_ok-read_item-in-Items-clause-answer
 unfolding child_at
-returns-in_ok-word_wide-in-Items-clause-answer g c =
-    rw c.in-Items.is (reads_next 1 (λ m item. Ok (Item item)) c.in_ok-word_wide-in-Items.ensures.answer (reads_end 0 refl) (omega arith))
+returns-in_ok-read_item-in-Items-clause-answer g c =
+    rw c.in-Items.is (reads_next 1 (λ m item. Ok (Item item)) c.in_ok-read_item-in-Items.ensures.answer (reads_end 0 refl) (omega arith))
 
 pub returns-in_ok-slot-in-Slots-clause-answer : goal.returns-in_ok-slot-in-Slots-clause-answer
 unfolding child_at
