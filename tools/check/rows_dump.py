@@ -59,17 +59,31 @@ def words() -> Iterator[Row]:
         (": the first image of a path", f"{GOOD} /usr/bin/python3.9=core"),
         (": another image before", f"dump -c core --layouts layouts /lib/other=core {IMAGE}"),
         (": behind two dashes", f"dump --core=core --layouts layouts -- {IMAGE}"),
-        (": locals of none", f"{GOOD} -ll"),
+        (": locals of none", f"{GOOD} -ll"), (": an equals sign behind a letter", f"dump -c=core --layouts layouts {IMAGE}"),
+        (": images before, between and behind", f"dump /lib/a=core -c core {IMAGE} --layouts layouts =core"),
+        (": words behind two dashes are images",
+         f"dump -c core --layouts layouts {IMAGE} -- -j=core --layouts=core --=core"),
+        (": two equals signs", f"dump -c core --layouts layouts /lib/a=b=c {IMAGE}"),
+        (": a core that begins with a dash", f"dump -c-x --layouts layouts {IMAGE}"),
+        (": a core that begins with a dash, after an equals sign", f"dump --core=-x --layouts layouts {IMAGE}"),
     ):
         data = files_of(small()) if "locals" not in what else files_of(core_file([
             heap(locals_at=HEAP).segment(6), mapped(), bss()]))
-        yield row(f"dump{what}", text, data, TEXT)
+        yield row(f"dump{what}", text, {**data, "-x": data["core"], "b=c": data["core"]}, TEXT)
     for what, text in (
         ("no core", f"dump --layouts layouts {IMAGE}"), ("no layouts", f"dump -c core {IMAGE}"),
         ("another command", f"dude -c core --layouts layouts {IMAGE}"), ("an image without a path", GOOD + " x"),
         ("help", "dump -h"), ("a version", "dump --version"), ("a core twice", GOOD + " -c core"),
         ("a flag twice", GOOD + " -j -j"), ("a flag with a value", GOOD + " --json=yes"),
         ("a core that begins with a dash", "dump -c -x --layouts layouts"), ("a front of an option", GOOD + " --jso"),
+        ("a longer word", f"dumped -c core --layouts layouts {IMAGE}"), ("another case", GOOD.replace("dump", "Dump")),
+        ("no command", f"-c core --layouts layouts {IMAGE}"), ("the command alone", "dump"),
+        ("an option without a value", f"dump -c core {IMAGE} --layouts"), ("a core in both forms", GOOD + " --core=core"),
+        ("layouts twice", GOOD + " --layouts layouts"),
+        ("an image without a path, before", "dump x -c core --layouts layouts"),
+        ("help behind the others", GOOD + " --help"), ("a version's letter", GOOD + " -V"),
+        ("an unknown letter", GOOD + " -q"),
+        ("a count with a value", GOOD + " --locals=2"), ("a flag behind two dashes", GOOD + " -- -j"),
     ):
         yield row(f"dump: words: {what}", text, files, line="bad words", status=2)
     yield row("dump: the layout file before the image", "dump -c core --layouts none /usr/bin/python3.9=none", files,
@@ -444,6 +458,9 @@ def trees() -> Iterator[Row]:
     """JSON, and what it alone shows: marks, ids, addresses."""
     plain = tree(frame_tree("f", True, False, None), frame_tree("<module>", True, True, None))
     yield row("dump: JSON", f"dump -jc core --layouts layouts {IMAGE}", files_of(small()), plain)
+    quoted = lambda objects: objects.text('a"\n', FUNCTION)
+    yield row("dump: JSON: a name with a quote and a line feed", f"{GOOD} -j", files_of(small(quoted)),
+              tree(frame_tree('a"\n', True, False, None), frame_tree("<module>", True, True, None)))
     entry = edited(EXAMPLE, frame="{size=64, code=16, back=24, instr=32, entry=48, locals=56, code_tag_bits=0}")
     marked = lambda objects: objects.record("frame", FRAME, code=CODE, back=CALLER, entry=1)
     yield row("dump: JSON: where C called into Python", f"{GOOD} -j", files_of(small(marked, entry), entry),

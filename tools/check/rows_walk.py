@@ -20,7 +20,7 @@ def small(change: Callable[[Objects], object] = lambda objects: None, text: str 
 
 def rows() -> List[Row]:
     """All of them."""
-    return [*words(), *cores(), *layout_files(), *orders(), *families(), *chains(), *texts()]
+    return [*words(), *cores(), *layout_files(), *layout_flaws(), *orders(), *families(), *chains(), *texts()]
 
 
 def words() -> Iterator[Row]:
@@ -40,8 +40,15 @@ def words() -> Iterator[Row]:
         ("an address in other digits", "walk core sample 3.9.0 10000h 0"), ("0X", "walk core sample 3.9.0 0X10000 0"),
         ("a number past 64 bits", "walk core sample 3.9.0 18446744073709551616 0"),
         ("a sign", "walk core sample 3.9.0 +65536 0"), ("an empty number", "walk core sample 3.9.0 0x 0"),
+        ("another case", GOOD.replace("walk", "Walk")), ("no digits", "walk core sample 3.9.0  0"),
+        ("a version of four numbers", "walk core sample 3.9.0.1 0x10000 0"),
+        ("a version without a minor", "walk core sample 3..0 0x10000 0"),
+        ("17 hexadecimal digits", "walk core sample 3.9.0 0x1000000000000000f 0"),
+        ("hexadecimal digits alone", "walk core sample 3.9.0 ff 0"), ("a lock below 0", "walk core sample 3.9.0 0x10000 -1"),
+        ("no lock", "walk core sample 3.9.0 0x10000 "),
     ):
         yield row(f"walk: words: {what}", text, files, line="bad words", status=2)
+    yield row("walk: digits of either case", "walk core sample 3.9.0 0xfFaB 0", files, line="unreadable at 0xffb3, 8 bytes")
     yield row("walk: the greatest address", "walk core sample 3.9.0 18446744073709551615 0", files,
               line="unreadable at 0xffffffffffffffff, 8 bytes")
 
@@ -108,6 +115,83 @@ def layout_files() -> Iterator[Row]:
     ):
         files = {"core": small(), "layouts": text.encode()}
         yield row(f"walk: layouts: {what}", "walk core layouts 3.9.0 0x10000 0", files, "" if line else TEXT, line, status)
+
+
+FLAWS = (
+    ("major", "major = 3\n", ""), ("major", "major = 3", "major = 1000"), ("major", "major = 3", "major = -1"),
+    ("major", "major = 3", 'major = "3"'), ("bytes_text", "= false", "= 0"), ("managed", '"none"', '"absent"'),
+    ("managed", '"none"', "0"), ("tuple", "tuple = {size=24, count=16, at=24}", "tuple = 24"),
+    ("thread.id", "id=32,", "id=4294967296,"), ("thread.id", "id=32,", "id=32.0,"),
+    ("thread.native_id", "id=32,", "id=32, native_id=true,"), ("thread.other", "id=32,", "id=32, other=0,"),
+    ("keys.log2", "slots=8", "slots=8, log2=9"), ("keys.slots", ", slots=8", ""), ("string.long_at", "long_at=72, ", ""),
+    ("gil", "dict =", "gil = {size=24}\ndict ="), ("dict", '"general"', '"none"'),
+    ("other", "[[layout]]", "other = 0\n[[layout]]"),
+    ("layout", "[[layout]]", "[layout]"), ("x", "[[layout]]\nmajor = 3", "layout = [{major=3}, 0]\n[x]"),
+    ("cframe", 'frames = "direct"', 'frames = "cframe"'),
+)
+"""The key that is named, and what stands in place of a part of the example."""
+
+UNSOUND = (
+    ("last_minor = 9", "last_minor = 8"), ("threads=8", "threads=1048576"), ("modules=16", "modules=1048576"),
+    ("modules=16", "modules=15"), ("{size=64, next", "{size=0, next"), ("{size=64, next", "{size=65536, next"),
+    ("next=8", "next=57"), ("next=8", "next=9"), ("id=32,", "id=32, native_id=57,"), ("id=32,", "id=32, native_id=28,"),
+    ("{size=64, code", "{size=0, code"), ("instr=32", "instr=32, entry=64"), ("instr=32", "instr=32, entry=35"),
+    ("locals=56", "locals=35"), ("locals=56", "locals=1048576"), ("code_tag_bits=0", "code_tag_bits=4"),
+    ("{size=64, argcount", "{size=0, argcount"), ("argcount=16", "argcount=17"), ("varnames=56", "varnames=57"),
+    ("{size=72, length", "{size=0, length"), ("pointer=64", "pointer=65"), ("state=32", "state=23"),
+    ("short_at=48", "short_at=35"), ("long_at=72", "long_at=35"), ("short_at=48", "short_at=1048576"),
+    ("long_at=72", "long_at=1048576"), ("kind_shift=2", "kind_shift=30"), ("compact_bit=5", "compact_bit=32"),
+    ("ascii_bit=6", "ascii_bit=32"), ("compact_bit=5", "compact_bit=4"), ("ascii_bit=6", "ascii_bit=2"),
+    ("ascii_bit=6", "ascii_bit=5"), ("{size=32, length=16, at=32}", "{size=0, length=16, at=32}"),
+    ("length=16, at=32}", "length=16, at=23}"), ("length=16, at=32}", "length=16, at=1048576}"),
+    ("{size=24, count=16, at=24}", "{size=0, count=16, at=24}"), ("count=16, at=24}", "count=16, at=23}"),
+    ("count=16, at=24}", "count=16, at=1048576}"), ("list = {size=40", "list = {size=0"), ("items=24", "items=23"),
+    ("object = {size=16", "object = {size=0"), ("klass = {size=48", "klass = {size=0"), ("name=24,", "name=31,"),
+    ("long = {size=32", "long = {size=0"), ("digits=24", "digits=8"), ("small = {size=24", "small = {size=0"),
+    ("float = {size=24", "float = {size=0"), ("dict = {size=48", "dict = {size=0"), ("keys = {size=40", "keys = {size=0"),
+)
+"""What makes the example unsound in place of a part of it: records of no or too many bytes, fields that meet or stand
+outside, places past 2^20."""
+
+PARTS = {
+    "lock": '"gil"', "frames": '"cframe"', "lasti": '"pointer"', "dicts": '"compact"', "managed": '"tagged"',
+    "interpreter": "{threads=8, modules=16, gil=24}", "gil": "{size=24, locked=16, holder=8}", "cframe": "{current=0}",
+    "code": "{size=64, argcount=16, nlocals=20, first_line=24, filename=32, name=40, table=48, varnames=56, start=64}",
+    "frame": "{size=80, code=0, back=8, instr=56, entry=70, locals=72, code_tag_bits=0}",
+    "keys": "{size=32, used=24, log2=9, kind=10}", "heap": "{size=64, cached_keys=48, inline=24}",
+}
+"""Groups that the example hasn't, by the keys that differ."""
+
+UNSOUND_PARTS = (
+    ("gil=24}", "gil=1048576}"), ("gil=24}", "gil=20}"), ("current=0", "current=1048576"), ("instr=56", "instr=66"),
+    ("start=64", "start=1048576"), ("kind=10", "kind=9"), ("heap = {size=64", "heap = {size=0"),
+    ("inline=24", "inline=1048576"), ("locked=16, holder=8", "locked=17, holder=20"), ("gil = {size=24", "gil = {size=0"),
+)
+"""What makes a layout with those groups unsound."""
+
+
+def layout_flaws() -> Iterator[Row]:
+    """A layout file for each flaw, in place of a part of a good one."""
+    parts = edited(EXAMPLE, **PARTS)
+    cases = [(EXAMPLE, old, new, f"key {key}") for key, old, new in FLAWS]
+    cases += [(EXAMPLE, old, new, "") for old, new in UNSOUND] + [(parts, old, new, "") for old, new in UNSOUND_PARTS]
+    for text, old, new, key in cases:
+        assert old in text, old
+        files = {"core": b"", "layouts": text.replace(old, new, 1).encode()}
+        line = f"layouts: table 0, {key}" if key else "layouts: table 0 is unsound"
+        yield row(f"walk: layouts: {old!r} to {new!r}", "walk core layouts 3.9.0 0x10000 0", files, line=line, status=6)
+    for what, text, line in (
+        ("a number past 63 bits", EXAMPLE.replace("id=32,", "id=9223372036854775808,"), "layouts: not TOML"),
+        ("no UTF-8", b"\xff", "layouts: not TOML"), ("a number", "layout = 1", "layouts: table 0, key layout"),
+        ("a list of a number", "layout = [0]", "layouts: table 0, key layout"),
+        ("a second without minors", EXAMPLE + "[[layout]]\nmajor = 3\n", "layouts: table 1, key first_minor"),
+        ("a state of bytes", edited(EXAMPLE, strings='"bytes"', string="{size=72, length=16, state=32, short_at=48}"),
+         "layouts: table 0, key string.state"),
+        ("the groups that the example hasn't", parts, "not an ELF64 little-endian file"),
+    ):
+        files = {"core": b"", "layouts": text if isinstance(text, bytes) else text.encode()}
+        status = 6 if line.startswith("layouts") else 1
+        yield row(f"walk: layouts: {what}", "walk core layouts 3.9.0 0x10000 0", files, line=line, status=status)
 
 
 def orders() -> Iterator[Row]:

@@ -1,5 +1,5 @@
 -- Of a list of which no two layouts clash one at most covers a version.
-use Rattle.std.proofs.Common.{◌≡◌, List}
+use Rattle.std.proofs.Common.{List}
 use Rattle.std.specs.Prelude.{AllPairs}
 use Rattle.py_fields.specs.declared.layout.Layout.{Layout}
 use Rattle.py_layout.specs.Lists.{Clash}

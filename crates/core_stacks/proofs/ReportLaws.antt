@@ -1,5 +1,5 @@
 -- The report of a core is right, and it is owed where the input can be read.
-use Rattle.std.proofs.Common.{◌≡◌, ℕ, List, refl, sym, ap, subst, ◌∙◌, inl, inr, ⊎_elim}
+use Rattle.std.proofs.Common.{◌≡◌, ℕ, List, sym, subst, inl, inr, ⊎_elim}
 use Rattle.std.specs.Prelude.{Some, None, Result, Ok, Err, IfOk}
 use Rattle.elf64_core.specs.Header.{machine_of}
 use Rattle.image_memory.specs.Images.{Pushed}

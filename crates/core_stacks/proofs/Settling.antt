@@ -4,7 +4,7 @@ use Rattle.std.specs.Prelude.{Result, Ok, Err}
 use Rattle.py_process.specs.Steps.{Then}
 use Rattle.py_process.specs.declared.core_error.CoreError.{CoreError}
 use Rattle.py_process.specs.declared.core_error.CoreError.TheVariants as core
-use Rattle.py_process.proofs.Agreement.{Agree, IsKept, err_is, err_kept, kept_or, ok_is, ok_kept, ok_not_err}
+use Rattle.py_process.proofs.Agreement.{Agree, err_is, err_kept, kept_or, ok_is, ok_kept, ok_not_err}
 use Rattle.core_stacks.specs.Sole.{IsSole, Settles}
 
 -- the right answer is the one answer, want of memory aside

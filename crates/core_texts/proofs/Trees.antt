@@ -9,7 +9,7 @@ use Rattle.serde_json.specs.Written.{has_float, items_have_float}
 use Rattle.py_stacks.specs.declared.trace.Frame.{Frame}
 use Rattle.py_stacks.specs.declared.trace.LocalVariable.{LocalVariable}
 use Rattle.py_stacks.specs.declared.trace.StackTrace.{StackTrace}
-use Rattle.core_texts.specs.Tree.{frame_tree, frames_tree, id_tree, local_tree, locals_tree, report_tree, shown_tree, text_tree, trace_tree}
+use Rattle.core_texts.specs.Tree.{frame_tree, id_tree, local_tree, report_tree, shown_tree, text_tree, trace_tree}
 
 items : {X : Type 0} (f : X → Data) (each : (x : X) → has_float (f x) ≡ false) (xs : List X)
     → items_have_float (items_of (map (λ x. f x) xs)) ≡ false

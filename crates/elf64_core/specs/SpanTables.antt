@@ -1,6 +1,6 @@
 -- Tables of ranges of addresses: the entries ascend, no two meet, none is empty, each ends at 2^64 - 1 at most,
 -- and there are fewer than 2^32. This is the project's own rule.
-use Rattle.std.specs.Prelude.{ℕ, ◌+◌, ◌<◌, ◌≤◌, ◌^◌, ◌-◌, All, List, length}
+use Rattle.std.specs.Prelude.{◌+◌, ◌<◌, ◌≤◌, ◌^◌, ◌-◌, All, List, length}
 use Rattle.std.specs.List.{AllPairs}
 use Rattle.elf64_core.specs.declared.span_table.TableEntry.{TableEntry}
 

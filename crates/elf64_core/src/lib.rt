@@ -13,8 +13,6 @@ mod name;
 mod note;
 mod section;
 mod section_table;
-#[cfg(test)]
-mod section_tests;
 mod segment;
 mod span_table;
 mod steps;

@@ -20,6 +20,4 @@ pub use py_fields::{
 pub use py_version::{ScanError, Version, get_interp_head_offset, get_tstate_current_offset};
 
 #[cfg(test)]
-mod file_tests;
-#[cfg(test)]
 mod tests;

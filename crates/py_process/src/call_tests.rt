@@ -1,15 +1,13 @@
-//! Each public call once, and what no row of the program shows: memory that no map has, and the holder of a lock
-//! alone.
+//! What no row of the program shows: memory that no map has, and the holder of a lock alone.
 use crate::{
-    BinaryError, BinaryInfo, LockError, PythonProcessInfo, get_interpreter_address,
-    get_python_version, get_threadstate_address, is_python_lib, parse_binary,
+    BinaryInfo, LockError, PythonProcessInfo, get_interpreter_address, get_python_version,
+    get_threadstate_address,
 };
 use elf64_core::{LOAD, Machine, Name, Segment};
 use image_memory::CoreMapRange;
 use process_memory::{Part, Piece};
 use py_fields::Layout;
 use py_stacks::Config;
-use py_version::Version;
 use std::alloc::{AllocError, Global};
 use std::collections::BTreeMap;
 use std::test::Fail;
@@ -54,16 +52,10 @@ fn memory(alloc: Global) -> Result<Part, AllocError> {
     Ok(Part::of(alloc, pieces))
 }
 
-/// A process of a program that has this symbol and a bss of three words, and of one map of 0x1000 bytes.
-fn info(
-    alloc: Global,
-    symbol: &[u8],
-    addr: u64,
-) -> Result<PythonProcessInfo<Vec<CoreMapRange>>, AllocError> {
-    let mut symbols = BTreeMap::new(alloc);
-    symbols.insert(Vec::from_slice(alloc, symbol)?, addr)?;
+/// A process of a program that has no symbols and a bss of three words, and of one map of 0x1000 bytes.
+fn info(alloc: Global) -> Result<PythonProcessInfo<Vec<CoreMapRange>>, AllocError> {
     let program = BinaryInfo {
-        symbols,
+        symbols: BTreeMap::new(alloc),
         bss_addr: BSS,
         bss_size: 24,
         pyruntime_addr: 0,
@@ -92,61 +84,24 @@ fn info(
 }
 
 #[test]
-fn what_is_in_no_map_is_no_interpreter(rt: HostRuntime) -> Result<(), Fail> {
-    let alloc = rt.alloc();
-    let mut part = memory(alloc)?;
-    let info = info(alloc, b"x", 0)?;
-    let version = get_python_version(alloc, &info, &mut part)?;
-    assert_eq!(rt; format!(in alloc; "{version}")?.as_str(), "3.9.0");
-    let layout = Layout::sample();
-    let found = get_interpreter_address(alloc, &info, &mut part, &version, &layout);
-    assert_eq!(rt; found, Ok(MAPPED));
-    Ok(())
-}
-
-/// A symbol, whether the holder alone is asked for, and the lock's address.
-const LOCKS: [(&[u8], bool, Result<u64, LockError>); 3] = [
-    (b"_PyRuntime", true, Ok(MAPPED + 568)),
-    (b"x", false, Ok(0)),
-    (b"x", true, Err(LockError::NoLock)),
-];
-
-#[test]
-fn a_lock_that_is_missing_is_refused_where_the_holder_alone_is_asked_for(
+fn what_is_in_no_map_is_no_interpreter_and_a_holder_needs_a_lock(
     rt: HostRuntime,
 ) -> Result<(), Fail> {
     let alloc = rt.alloc();
     let mut part = memory(alloc)?;
-    let version = Version::of_numbers(alloc, 3, 9, 0)?;
+    let info = info(alloc)?;
+    let version = get_python_version(alloc, &info, &mut part)?;
     let layout = Layout::sample();
-    for (symbol, gil_only, want) in LOCKS {
-        let info = info(alloc, symbol, MAPPED)?;
-        let config = Config {
-            gil_only,
-            ..Config::default()
-        };
-        let machine = Machine::X86_64;
-        let found = get_threadstate_address(
-            MAPPED, &info, &mut part, machine, &version, &layout, &config,
-        );
-        assert_eq!(rt; found, want);
-    }
-    Ok(())
-}
-
-#[test]
-fn images_and_paths(rt: HostRuntime) -> Result<(), Fail> {
-    let alloc = rt.alloc();
-    assert_eq!(rt;
-        parse_binary(alloc, b"text", 0, 1).err(),
-        Some(BinaryError::NotElf64)
+    let found = get_interpreter_address(alloc, &info, &mut part, &version, &layout);
+    assert_eq!(rt; (version.minor, found), (9, Ok(MAPPED)));
+    let config = Config {
+        gil_only: true,
+        ..Config::default()
+    };
+    let machine = Machine::X86_64;
+    let lock = get_threadstate_address(
+        MAPPED, &info, &mut part, machine, &version, &layout, &config,
     );
-    let mut info = info(alloc, b"x", 7)?;
-    assert_eq!(rt; info.get_symbol(b"x").copied(), Some(7));
-    assert_eq!(rt; info.get_symbol(b"y").copied(), None);
-    let program = info.python_binary.take().ok_or("no program")?;
-    assert!(rt; program.contains(0x40_0fff) && !program.contains(0x40_1000));
-    assert_eq!(rt; info.get_symbol(b"x").copied(), None);
-    assert!(rt; is_python_lib(b"/usr/lib/libpython3.9.so") && !is_python_lib(b"/bin/sh"));
+    assert_eq!(rt; lock, Err(LockError::NoLock));
     Ok(())
 }
