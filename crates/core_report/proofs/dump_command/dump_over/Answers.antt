@@ -2,6 +2,7 @@ use Rattle.std.proofs.Common.{ap, inl, inr, refl, subst}
 use Rattle.std.specs.Prelude.{Err, Ok}
 use Rattle.std.proofs.lemmas.Result.{err_from_is_err_and}
 use Rattle.core_words.specs.Seen.{asked_dump}
+use Rattle.core_report.specs.declared.cause.Cause.TheVariants.{Core}
 use Rattle.core_report.specs.Outcome.{IsDumpedBy}
 use Rattle.core_report.proofs.dump_command.dump_over.Goals as goal
 
@@ -25,7 +26,7 @@ returns-in_err-report c =
     rw (p.1, p.2) (λ ne. inr (
       c.in_ok-layouts.layouts,
       says,
-      subst (λ images. IsDumpedBy d core images c.in_ok-layouts.layouts (Err _)) c.in_ok-images.ensures
+      subst (λ images. IsDumpedBy d core images c.in_ok-layouts.layouts (Err (Core c.in_err-report.field-0.0))) c.in_ok-images.ensures
           (inl (c.in_err-report.field-0.0, refl, c.in_err-report.ensures.right)),
     ))
 
