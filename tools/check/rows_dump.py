@@ -47,7 +47,7 @@ def files_of(data: bytes, text: str = EXAMPLE, program: bytes = PROGRAM) -> Dict
 
 def rows() -> List[Row]:
     """All of them."""
-    parts = (words, causes, limits, searches, images, heads, lines, families_of_lines, names, locals_rows, values, trees, unread)
+    parts = (words, causes, limits, searches, images, heads, lines, families_of_lines, cut_tables, names, locals_rows, values, trees, unread)
     return [it for part in parts for it in part()]
 
 
@@ -239,32 +239,49 @@ def lines() -> Iterator[Row]:
         yield row(f"dump: line: {what}", GOOD, files_of(data), TEXT.replace("f (a.py)", f"f (a.py{line})"))
 
 
+PAIRS, RANGES, LOCATIONS = bytes([0, 1, 10, 1, 8, 1, 4, 1]), bytes([4, 1, 2, 0x80, 6, 2]), bytes.fromhex("D90000E807F8")
+"""A line table of each family."""
+
+
+def line_row(what: str, text: str, first: int, table: bytes, instruction: int, line: str) -> Row:
+    """The line of `f`, whose code has a first line and a table, by the field of its last instruction."""
+    objects = heap(text)
+    place = objects.table(table)
+    objects.record("code", CODE, filename=CODE + 0x80, name=FUNCTION, first_line=first, table=place)
+    objects.write(FRAME + 32, instruction.to_bytes(8, "little"))
+    return row(f"dump: line: {what}", GOOD, files_of(core_file([objects.segment(6), mapped(), bss()]), text),
+               TEXT.replace("f (a.py)", f"f (a.py{line})"))
+
+
 def families_of_lines() -> Iterator[Row]:
     """The other families of line tables and of last instructions."""
     start = edited(EXAMPLE, lasti='"pointer"', code=(
         "{size=64, argcount=16, nlocals=20, first_line=24, filename=32, name=40, table=48, varnames=56, start=16}"))
-    units = edited(EXAMPLE, lasti='"units"')
-    pairs = (3, bytes([0, 1, 10, 1, 8, 1, 4, 1]))
-    ranges, locations = (10, bytes([4, 1, 2, 0x80, 6, 2])), (5, bytes.fromhex("D90000E807F8"))
-    by = lambda text, lines: edited(text, lines=f'"{lines}"')
-    for what, text, table, instruction, line in (
-        ("units of two bytes", units, pairs, 15, ":7"), ("a unit before the first", units, pairs, 0xFFFFFFFF, ""),
-        ("an address", start, pairs, CODE + 16 + 30, ":7"), ("an address before the code", start, pairs, CODE + 15, ""),
-        ("the last address", start, pairs, 2 ** 64 - 1, ""),
-        ("ranges, the first", by(EXAMPLE, "ranges"), ranges, 0, ":11"), ("ranges, one of no line", by(EXAMPLE, "ranges"), ranges, 5, ""),
-        ("ranges, behind one of no line", by(EXAMPLE, "ranges"), ranges, 6, ":13"), ("ranges, past the end", by(EXAMPLE, "ranges"), ranges, 12, ""),
-        ("locations, the first", by(EXAMPLE, "locations"), locations, 2, ":6"),
-        ("locations, one below", by(EXAMPLE, "locations"), locations, 4, ":3"),
-        ("locations, one of no line", by(EXAMPLE, "locations"), locations, 6, ""),
-        ("locations, cut", by(EXAMPLE, "locations"), (5, locations[1][:4]), 4, ""),
-        ("locations, before the cut", by(EXAMPLE, "locations"), (5, locations[1][:4]), 2, ":6"),
+    units, by_range = edited(EXAMPLE, lasti='"units"'), edited(EXAMPLE, lines='"ranges"')
+    located = edited(EXAMPLE, lines='"locations"')
+    for what, text, first, table, instruction, line in (
+        ("units of two bytes", units, 3, PAIRS, 15, ":7"), ("a unit before the first", units, 3, PAIRS, 0xFFFFFFFF, ""),
+        ("an address", start, 3, PAIRS, CODE + 16 + 30, ":7"), ("an address before the code", start, 3, PAIRS, CODE + 15, ""),
+        ("the last address", start, 3, PAIRS, 2 ** 64 - 1, ""),
+        ("ranges, the first", by_range, 10, RANGES, 0, ":11"), ("ranges, one of no line", by_range, 10, RANGES, 5, ""),
+        ("ranges, behind one of no line", by_range, 10, RANGES, 6, ":13"), ("ranges, past the end", by_range, 10, RANGES, 12, ""),
+        ("locations, the first", located, 5, LOCATIONS, 2, ":6"), ("locations, one below", located, 5, LOCATIONS, 4, ":3"),
+        ("locations, one of no line", located, 5, LOCATIONS, 6, ""),
     ):
-        objects = heap(text)
-        place = objects.table(table[1])
-        objects.record("code", CODE, filename=CODE + 0x80, name=FUNCTION, first_line=table[0], table=place)
-        objects.write(FRAME + 32, instruction.to_bytes(8, "little"))
-        yield row(f"dump: line: {what}", GOOD, files_of(core_file([objects.segment(6), mapped(), bss()]), text),
-                  TEXT.replace("f (a.py)", f"f (a.py{line})"))
+        yield line_row(what, text, first, table, instruction, line)
+
+
+def cut_tables() -> Iterator[Row]:
+    """A line table that is cut at any byte tells the lines of the entries that it has whole. (Of pairs the last line
+    goes on without end; without an entry it is the first line.)"""
+    for family, first, table, offset, lines in (
+        ("pairs", 3, PAIRS, 30, (":3", ":3", ":4", ":4", ":5", ":5", ":6", ":6")),
+        ("ranges", 10, RANGES, 0, ("", "", ":11", ":11", ":11", ":11")), ("ranges", 10, RANGES, 8, ("",) * 6),
+        ("locations", 5, LOCATIONS, 2, ("", "", "", ":6", ":6", ":6")), ("locations", 5, LOCATIONS, 4, ("",) * 5 + (":3",)),
+    ):
+        text = edited(EXAMPLE, lines=f'"{family}"')
+        for length, line in enumerate(lines):
+            yield line_row(f"{length} bytes of {family}, at {offset}", text, first, table[:length], offset, line)
 
 
 def names() -> Iterator[Row]:
@@ -490,8 +507,15 @@ def unread() -> Iterator[Row]:
     yield row("dump: layouts of none", GOOD, files_of(small(), "layout = []"), line="no layout for Python 3.9.0")
     objects = heap()
     data, cut = bytes(objects.data), 0x85
-    halves = [Segment(HEAP + cut, data[cut:], READABLE | WRITABLE), Segment(HEAP, data[:cut], READABLE | WRITABLE)]
-    yield row("dump: other segments of the same memory", GOOD, files_of(core_file([bss(), *halves, mapped()])), TEXT)
+    part = lambda first, end, **more: Segment(HEAP + first, data[first:end], READABLE | WRITABLE, **more)
+    words = [part(at, at + 8) for at in range(0, len(data), 8)]
+    covered = Segment(HEAP + cut - 8, bytes([0xAA] * 8) + data[cut:], READABLE | WRITABLE)
+    for what, parts in (
+        ("two halves", [part(cut, None), part(0, cut)]), ("a segment for each word", words[::-1]),
+        # (the first one's memory goes on without bytes; the second one's first bytes are none of the memory's)
+        ("two that overlap", [part(0, cut, size=cut + 16), covered]),
+    ):
+        yield row(f"dump: other segments of the same memory: {what}", GOOD, files_of(core_file([bss(), *parts, mapped()])), TEXT)
     over = Segment(HEAP + 64, bytes(64), READABLE | WRITABLE)
     yield row("dump: the first segment that holds an address counts", GOOD,
               files_of(small(more=[over])), TEXT)
