@@ -30,7 +30,7 @@ use Rattle.core_stacks.proofs.Layouts.{NoneClash, chooses_once}
 use Rattle.core_stacks.proofs.Walked.{walk_agree as walks_agree, walk_complete}
 use Rattle.core_report.specs.declared.cause.Cause.{Cause}
 use Rattle.core_report.specs.declared.cause.Cause.TheVariants.{Core, Layouts, OutOfMemory}
-use Rattle.core_report.specs.Outcome.{IsDumped, IsDumpedBy, IsFaultless, IsFaultlessDump, IsFaultlessWalk, IsOutcome, IsReported, IsShown, IsWalked, IsWalkedBy, Outcome, ReportAnswers, SourceSays, Then, WalkAnswers, cause_status, core_status, images_of, layouts_status, outcome_status, shown_report}
+use Rattle.core_report.specs.Outcome.{IsDumpOutcome, IsDumpedBy, IsFaultless, IsFaultlessDump, IsFaultlessWalk, IsOutcome, IsReported, IsShown, IsWalkOutcome, IsWalkedBy, Outcome, ReportAnswers, SourceSays, OutcomeThen, WalkAnswers, cause_status, core_status, images_read, layouts_status, outcome_status, shown_report}
 
 -- one sound layout is a sound list
 pub one_sound : (l : Layout) → IsSound l → AreSound (l ∷ [])
@@ -63,7 +63,7 @@ AgreeAfter {T} {E} First Rest = (x y : T) → First (Ok x) → First (Ok y) → 
     → outcome_status a ≢ 5 → outcome_status b ≢ 5 → outcome_status a ≡ outcome_status b
 
 pub then_agree : {T E : Type 0} (as_cause : E → Cause) (First : Result T E → Type 0) (Rest : T → Outcome → Type 0)
-    → Excludes as_cause First → AgreeAfter First Rest → Agree (Then as_cause First Rest)
+    → Excludes as_cause First → AgreeAfter First Rest → Agree (OutcomeThen as_cause First Rest)
 then_agree {T} {E} as_cause First Rest excludes agree a b one other na nb = ⊎_elim
     (λ p. ⊎_elim
     (λ q. ap outcome_status p.1 ∙ excludes.alike p.0 q.0 p.2 q.2 (own a p.0 p.1 na) (own b q.0 q.1 nb)
@@ -77,7 +77,7 @@ then_agree {T} {E} as_cause First Rest excludes agree a b one other na nb = ⊎_
 
 pub then_sound : {T E : Type 0} (as_cause : E → Cause) (First : Result T E → Type 0) (Rest : T → Outcome → Type 0)
     → ((e : E) → First (Err e) → cause_status (as_cause e) ≢ 5 → ⊥) → ((x : T) → First (Ok x) → NoCause (Rest x))
-    → NoCause (Then as_cause First Rest)
+    → NoCause (OutcomeThen as_cause First Rest)
 then_sound as_cause First Rest first rest cause ne right = ⊎_elim
     (λ p. first p.0 p.2 (λ five. ne (ap outcome_status p.1 ∙ five))) (λ p. rest p.0 p.1 cause ne p.2) right
 
@@ -124,13 +124,13 @@ layouts_exclude Says unique = record {
 
 -- a step of layouts, after which the work agrees
 pub layouts_agree : (Says : Laid → Type 0) (Works : List Layout → Outcome → Type 0) → Unique Says
-    → ((layouts : List Layout) → Says (Ok layouts) → Agree (Works layouts)) → Agree (Then (λ error. Layouts error) Says Works)
+    → ((layouts : List Layout) → Says (Ok layouts) → Agree (Works layouts)) → Agree (OutcomeThen (λ error. Layouts error) Says Works)
 layouts_agree Says Works unique agree = then_agree (λ error. Layouts error) Says Works (layouts_exclude Says unique)
     (λ l m says also a b p q na nb. agree l says a b p (subst (λ x. Works x b) (ok_unique Says unique m l also says) q) na nb)
 
 -- and after which no cause is right
 pub layouts_sound : (Says : Laid → Type 0) (Works : List Layout → Outcome → Type 0) → Unique Says
-    → (layouts : List Layout) → Says (Ok layouts) → NoCause (Works layouts) → NoCause (Then (λ error. Layouts error) Says Works)
+    → (layouts : List Layout) → Says (Ok layouts) → NoCause (Works layouts) → NoCause (OutcomeThen (λ error. Layouts error) Says Works)
 layouts_sound Says Works unique layouts says works = then_sound (λ error. Layouts error) Says Works
     (λ e error ne. flaw_apart Says unique layouts e (flaw_status e ne).1 says error)
     (λ l other. subst (λ m. NoCause (Works m)) (ok_unique Says unique layouts l says other) works)
@@ -207,7 +207,7 @@ walked_agree w bytes list apart = then_agree (λ error. Core error) (WalkAnswers
     (core_exclude (WalkAnswers w bytes list) (walk_apart w bytes list apart))
     (λ s t one other a b p q na nb. text_agree _ _ a b p q)
 
-walk_agree : (w : Walk) (contents : List (List ℕ)) → Agree (IsWalked w contents)
+walk_agree : (w : Walk) (contents : List (List ℕ)) → Agree (IsWalkOutcome w contents)
 walk_agree w [] a b one other na nb = absurd one
 walk_agree w (bytes ∷ rest) a b one other na nb =
     layouts_agree (SourceSays w.layouts rest) (IsWalkedBy w bytes) (source_unique w.layouts rest)
@@ -219,7 +219,7 @@ walked_sound w bytes list apart good = then_sound (λ error. Core error) (WalkAn
     (λ e error ne. walk_complete bytes list w.version w.addresses apart good e error (lost_kept e (core_one e ne).1))
     (λ traces found. text_sound (walk_text w.version traces.items))
 
-walk_sound : (w : Walk) (contents : List (List ℕ)) → IsFaultlessWalk w contents → NoCause (IsWalked w contents)
+walk_sound : (w : Walk) (contents : List (List ℕ)) → IsFaultlessWalk w contents → NoCause (IsWalkOutcome w contents)
 walk_sound w [] good cause ne is = good
 walk_sound w (bytes ∷ rest) (list, says, good) cause ne is =
     layouts_sound (SourceSays w.layouts rest) (IsWalkedBy w bytes) (source_unique w.layouts rest) list says
@@ -248,12 +248,12 @@ dumped_agree d bytes images list apart = then_agree (λ error. Core error) (Repo
 text_apart : (text : List ℕ) (list : List Layout) → IsRightFor text (Ok list) → NoneClash list
 text_apart text list says = says.sound.apart
 
-dump_agree : (d : Dump) (contents : List (List ℕ)) → Agree (IsDumped d contents)
+dump_agree : (d : Dump) (contents : List (List ℕ)) → Agree (IsDumpOutcome d contents)
 dump_agree d [] a b one other na nb = absurd one
 dump_agree d (bytes ∷ []) a b one other na nb = absurd one
 dump_agree d (bytes ∷ text ∷ images) a b one other na nb =
-    layouts_agree (IsRightFor text) (IsDumpedBy d bytes (images_of d.images images)) (right-unique text)
-    (λ list says. dumped_agree d bytes (images_of d.images images) list (text_apart text list says)) a b one other na nb
+    layouts_agree (IsRightFor text) (IsDumpedBy d bytes (images_read d.images images)) (right-unique text)
+    (λ list says. dumped_agree d bytes (images_read d.images images) list (text_apart text list says)) a b one other na nb
 
 dumped_sound : (d : Dump) (bytes : List ℕ) (images : Pushed) (list : List Layout) → NoneClash list
     → IsReadable bytes images list d.config → NoCause (IsDumpedBy d bytes images list)
@@ -261,12 +261,12 @@ dumped_sound d bytes images list apart good = then_sound (λ error. Core error) 
     (λ e error ne. report_complete bytes images list d.config apart good e error (err_kept e (core_one e ne).1))
     (λ r found. text_sound (shown_report d r))
 
-dump_sound : (d : Dump) (contents : List (List ℕ)) → IsFaultlessDump d contents → NoCause (IsDumped d contents)
+dump_sound : (d : Dump) (contents : List (List ℕ)) → IsFaultlessDump d contents → NoCause (IsDumpOutcome d contents)
 dump_sound d [] good cause ne is = good
 dump_sound d (bytes ∷ []) good cause ne is = good
 dump_sound d (bytes ∷ text ∷ images) (list, says, good) cause ne is =
-    layouts_sound (IsRightFor text) (IsDumpedBy d bytes (images_of d.images images)) (right-unique text) list says
-    (dumped_sound d bytes (images_of d.images images) list (text_apart text list says) good) cause ne is
+    layouts_sound (IsRightFor text) (IsDumpedBy d bytes (images_read d.images images)) (right-unique text) list says
+    (dumped_sound d bytes (images_read d.images images) list (text_apart text list says) good) cause ne is
 
 -- ---- commands
 

@@ -19,7 +19,7 @@ use Rattle.core_report.specs.declared.cause.Cause.TheVariants.{Core, Layouts, Ou
 use Rattle.core_report.specs.declared.trouble.Trouble.{Trouble}
 use Rattle.core_report.specs.declared.trouble.Trouble.TheVariants.{Cause as Caused, Words, File, Write}
 use Rattle.core_report.specs.Outcome.{IsFaultless, IsOutcome, Outcome, cause_status, core_status, layouts_status, outcome_status}
-use Rattle.core_report.specs.Run.{ComesTo, End, HasEnded, IsRun, Ran, Reaches, SaysEnd, Tells, cut, end_at, end_parts, printed, refused, status_of, stopped, unread}
+use Rattle.core_report.specs.Run.{ComesTo, End, HasEnded, HasRun, Ran, Reaches, SaysEnd, TellsContents, cut, end_at, end_parts, printed, refused, end_status, stopped, unread}
 use Rattle.core_report.proofs.Turns.{same_contents}
 use Rattle.core_report.proofs.Agreement.{cases_five, cause_own, no_cause, outcomes_agree}
 
@@ -45,7 +45,7 @@ reached_agree asked told a b some one other na nb = by other.command (same_Some 
         same_contents told one.command there.contents one.comes.contents some there.read one.comes.read there.all one.comes.all in
         outcomes_agree one.command one.comes.contents a b one.comes.is (subst (λ c. IsOutcome one.command c b) contents there.is) na nb
 
-pub silent_of : (old new : SinkSeen) (end : End) → SaysEnd end old new → status_of end ≡ 0 → new ≡ old
+pub silent_of : (old new : SinkSeen) (end : End) → SaysEnd end old new → end_status end ≡ 0 → new ≡ old
 silent_of old new printed said is = said
 silent_of old new (stopped cause) said is = absurd ((cause_own cause).not_0 is)
 silent_of old new refused said is = absurd (omega (arith, is))
@@ -65,7 +65,7 @@ cause_within (Core e) = core_within e
 cause_within (Layouts e) = layouts_within e
 cause_within OutOfMemory = omega arith
 
-pub status_within : (end : End) → status_of end ≤ 6
+pub status_within : (end : End) → end_status end ≤ 6
 status_within printed = omega arith
 status_within (stopped cause) = cause_within cause
 status_within refused = omega arith
@@ -73,21 +73,21 @@ status_within (unread name why) = omega arith
 status_within cut = omega arith
 
 module _ (asked : Option Command) (r : Ran) where
-  pub printed_of : (end : End) → HasEnded asked r end → status_of end ≡ 0 → (text : List ℕ) × Reaches asked r.files.told (Ok text) × Appends r.out.written r.out_after.written text
+  pub printed_of : (end : End) → HasEnded asked r end → end_status end ≡ 0 → (text : List ℕ) × Reaches asked r.files.told (Ok text) × Appends r.out.written r.out_after.written text
   printed_of printed ended is = (ended.text, ended.reached, ended.added.added)
   printed_of (stopped cause) ended is = absurd ((cause_own cause).not_0 is)
   printed_of refused ended is = absurd (omega (arith, is))
   printed_of (unread name why) ended is = absurd (omega (arith, is))
   printed_of cut ended is = absurd (omega (arith, is))
 
-  pub refused_of : (end : End) → HasEnded asked r end → status_of end ≡ 2 → asked ≡ None
+  pub refused_of : (end : End) → HasEnded asked r end → end_status end ≡ 2 → asked ≡ None
   refused_of printed ended is = absurd (omega (arith, is))
   refused_of (stopped cause) ended is = absurd ((cause_own cause).not_2 is)
   refused_of refused ended is = ended.0
   refused_of (unread name why) ended is = absurd (omega (arith, is))
   refused_of cut ended is = absurd (omega (arith, is))
 
-  pub asked_of : (end : End) → HasEnded asked r end → asked ≡ None → (status_of end ≡ 2) ⊎ (status_of end ≡ 5)
+  pub asked_of : (end : End) → HasEnded asked r end → asked ≡ None → (end_status end ≡ 2) ⊎ (end_status end ≡ 5)
   asked_of printed ended none = absurd (none-some _ (sym none ∙ ended.reached.is_asked))
   asked_of (stopped cause) ended none = by (cases_five (cause_status cause))
     where
@@ -98,21 +98,21 @@ module _ (asked : Option Command) (r : Ran) where
   asked_of (unread name why) ended none = absurd (none-some _ (sym none ∙ ended.is_asked))
   asked_of cut ended none = absurd (none-some _ (sym none ∙ ended.reached.is_asked))
 
-  pub unread_of : (end : End) → HasEnded asked r end → (status_of end ≡ 3) ↔ (r.files_after.failed ≢ r.files.failed)
+  pub unread_of : (end : End) → HasEnded asked r end → (end_status end ≡ 3) ↔ (r.files_after.failed ≢ r.files.failed)
   unread_of printed ended = (λ is. absurd (omega (arith, is)), λ more. absurd (more ended.failed))
   unread_of (stopped cause) ended = (λ is. absurd ((cause_own cause).not_3 is), λ more. absurd (more ended.quiet.failed))
   unread_of refused ended = (λ is. absurd (omega (arith, is)), λ more. absurd (more ended.1.failed))
   unread_of (unread name why) ended = (λ is. λ same. one_more r.files.failed (name, why) (sym ended.unread.failed ∙ same), λ more. refl)
   unread_of cut ended = (λ is. absurd (omega (arith, is)), λ more. absurd (more ended.failed))
 
-  pub all_read_of : (end : End) → HasEnded asked r end → status_of end ≢ 3 → r.files_after.failed ≡ r.files.failed
+  pub all_read_of : (end : End) → HasEnded asked r end → end_status end ≢ 3 → r.files_after.failed ≡ r.files.failed
   all_read_of printed ended ne = ended.failed
   all_read_of (stopped cause) ended ne = ended.quiet.failed
   all_read_of refused ended ne = ended.1.failed
   all_read_of (unread name why) ended ne = absurd (ne refl)
   all_read_of cut ended ne = ended.failed
 
-  pub nothing_out_of : (end : End) → HasEnded asked r end → status_of end ≢ 0 → status_of end ≢ 4 → r.out_after ≡ r.out
+  pub nothing_out_of : (end : End) → HasEnded asked r end → end_status end ≢ 0 → end_status end ≢ 4 → r.out_after ≡ r.out
   nothing_out_of printed ended n0 n4 = absurd (n0 refl)
   nothing_out_of (stopped cause) ended n0 n4 = ended.quiet.written
   nothing_out_of refused ended n0 n4 = ended.1.written
@@ -124,7 +124,7 @@ module _ (asked : Option Command) (r : Ran) where
       (cause_own cause).not_0 (sym (reached_agree asked r.files.told (Ok text) (Err cause) some one other (λ is. absurd (omega (arith, is))) ne))
 
   only_reached : (end : End) → HasEnded asked r end → (cause : Cause) → IsSome r.files.told → cause_status cause ≢ 5 → Reaches asked r.files.told (Err cause)
-      → r.files_after.failed ≡ r.files.failed → (status_of end ≡ cause_status cause) ⊎ (status_of end ≡ 5)
+      → r.files_after.failed ≡ r.files.failed → (end_status end ≡ cause_status cause) ⊎ (end_status end ≡ 5)
   only_reached printed ended cause some ne reached same = absurd (text_apart ended.text cause some ne ended.reached reached)
   only_reached (stopped other) ended cause some ne reached same = by (cases_five (cause_status other))
     where
@@ -135,20 +135,20 @@ module _ (asked : Option Command) (r : Ran) where
   only_reached (unread name why) ended cause some ne reached same = absurd (one_more r.files.failed (name, why) (sym ended.unread.failed ∙ same))
   only_reached cut ended cause some ne reached same = absurd (text_apart ended.text cause some ne ended.reached reached)
 
-  pub only_of : (end : End) → HasEnded asked r end → (command : Command) (contents : List (List ℕ)) (cause : Cause) → Tells asked r.files.told command contents
-      → IsOutcome command contents (Err cause) → cause_status cause ≢ 5 → r.files_after.failed ≡ r.files.failed → (status_of end ≡ cause_status cause) ⊎ (status_of end ≡ 5)
+  pub only_of : (end : End) → HasEnded asked r end → (command : Command) (contents : List (List ℕ)) (cause : Cause) → TellsContents asked r.files.told command contents
+      → IsOutcome command contents (Err cause) → cause_status cause ≢ 5 → r.files_after.failed ≡ r.files.failed → (end_status end ≡ cause_status cause) ⊎ (end_status end ≡ 5)
   only_of end ended command contents cause tells is ne same = only_reached end ended cause tells.tells ne
       (record { command = command; is_asked = tells.is_asked; comes = record { contents = contents; read = tells.read; all = tells.all; is = is } }) same
 
   -- a cause that is reached is one over the told contents
-  told_outcome : (command : Command) (contents : List (List ℕ)) (outcome : Outcome) → Tells asked r.files.told command contents
+  told_outcome : (command : Command) (contents : List (List ℕ)) (outcome : Outcome) → TellsContents asked r.files.told command contents
       → Reaches asked r.files.told outcome → IsOutcome command contents outcome
   told_outcome command contents outcome tells reached =
       let comes : ComesTo r.files.told command outcome = subst (λ c. ComesTo r.files.told c outcome) (same_Some _ _ (sym reached.is_asked ∙ tells.is_asked)) reached.comes in
       subst (λ c. IsOutcome command c outcome) (same_contents r.files.told command comes.contents contents tells.tells comes.read tells.read comes.all tells.all) comes.is
 
-  pub complete_of : (end : End) → HasEnded asked r end → (command : Command) (contents : List (List ℕ)) → Tells asked r.files.told command contents
-      → IsFaultless command contents → r.files_after.failed ≡ r.files.failed → (Rose r.out.faults r.out_after.faults → ⊥) → (status_of end ≡ 0) ⊎ (status_of end ≡ 5)
+  pub complete_of : (end : End) → HasEnded asked r end → (command : Command) (contents : List (List ℕ)) → TellsContents asked r.files.told command contents
+      → IsFaultless command contents → r.files_after.failed ≡ r.files.failed → (Rose r.out.faults r.out_after.faults → ⊥) → (end_status end ≡ 0) ⊎ (end_status end ≡ 5)
   complete_of printed ended command contents tells good same quiet = inl refl
   complete_of (stopped cause) ended command contents tells good same quiet = by (cases_five (cause_status cause))
     where
@@ -161,7 +161,7 @@ module _ (asked : Option Command) (r : Ran) where
 
 -- ---- what a run tells
 
-module _ {asked : Option Command} {r : Ran} {err err_after : SinkSeen} {status : ℕ} (run : IsRun asked r err err_after status) where
+module _ {asked : Option Command} {r : Ran} {err err_after : SinkSeen} {status : ℕ} (run : HasRun asked r err err_after status) where
   pub run_status : status ≤ 6
   run_status = subst (λ n. n ≤ 6) (sym run.is) (status_within run.end)
 
@@ -186,12 +186,12 @@ module _ {asked : Option Command} {r : Ran} {err err_after : SinkSeen} {status :
   pub run_all_read : status ≢ 3 → r.files_after.failed ≡ r.files.failed
   run_all_read ne = all_read_of asked r run.end run.ended (λ is. ne (run.is ∙ is))
 
-  pub run_only : (command : Command) (contents : List (List ℕ)) (cause : Cause) → Tells asked r.files.told command contents
+  pub run_only : (command : Command) (contents : List (List ℕ)) (cause : Cause) → TellsContents asked r.files.told command contents
       → IsOutcome command contents (Err cause) → cause_status cause ≢ 5 → r.files_after.failed ≡ r.files.failed → (status ≡ cause_status cause) ⊎ (status ≡ 5)
   run_only command contents cause tells is ne same = subst (λ n. (n ≡ cause_status cause) ⊎ (n ≡ 5)) (sym run.is)
       (only_of asked r run.end run.ended command contents cause tells is ne same)
 
-  pub run_complete : (command : Command) (contents : List (List ℕ)) → Tells asked r.files.told command contents → IsFaultless command contents
+  pub run_complete : (command : Command) (contents : List (List ℕ)) → TellsContents asked r.files.told command contents → IsFaultless command contents
       → r.files_after.failed ≡ r.files.failed → (Rose r.out.faults r.out_after.faults → ⊥) → (status ≡ 0) ⊎ (status ≡ 5)
   run_complete command contents tells good same quiet = subst (λ n. (n ≡ 0) ⊎ (n ≡ 5)) (sym run.is)
       (complete_of asked r run.end run.ended command contents tells good same quiet)

@@ -14,7 +14,7 @@ use Rattle.core_words.specs.Dump.{Dump}
 use Rattle.core_words.specs.Words.{Command, dump}
 use Rattle.core_stacks.proofs.ReportLaws.{report_whole}
 use Rattle.core_report.specs.Headline.{HasReported}
-use Rattle.core_report.specs.Outcome.{IsDumped, IsDumpedBy, IsOutcome, Outcome, images_of}
+use Rattle.core_report.specs.Outcome.{IsDumpOutcome, IsDumpedBy, IsOutcome, Outcome, images_read}
 use Rattle.core_report.specs.Reading.{IsAll, IsRead}
 use Rattle.core_report.specs.Run.{ComesTo, Reaches}
 use Rattle.core_report.specs.declared.cause.Cause.{Cause}
@@ -27,7 +27,7 @@ no_text s cause is = cc
 
 module _ (d : Dump) (told : Told) (old new : SinkSeen) (written : List ℕ) (added : Appends old.written new.written written) where
   by_report : (bytes text : List ℕ) (images : List (List ℕ)) (layouts : List Layout) → IsRead told (dump d) (bytes ∷ text ∷ images)
-      → IsAll (dump d) (bytes ∷ text ∷ images) → IsRightFor text (Ok layouts) → IsDumpedBy d bytes (images_of d.images images) layouts (Ok written) → HasReported d told old new
+      → IsAll (dump d) (bytes ∷ text ∷ images) → IsRightFor text (Ok layouts) → IsDumpedBy d bytes (images_read d.images images) layouts (Ok written) → HasReported d told old new
   by_report bytes text images layouts read all says (inl (e, is, h)) = absurd (no_text written _ is)
   by_report bytes text images layouts read all says (inr (report, h, is)) = record {
     core = bytes;
@@ -38,11 +38,11 @@ module _ (d : Dump) (told : Told) (old new : SinkSeen) (written : List ℕ) (add
     layouts = layouts;
     says = says;
     report = report;
-    right = report_whole bytes (images_of d.images images) layouts d.config (reported_of report) h;
+    right = report_whole bytes (images_read d.images images) layouts d.config (reported_of report) h;
     written = subst (λ t. Appends old.written new.written t) (text_same written _ is) added;
   }
 
-  by_contents : (contents : List (List ℕ)) → IsRead told (dump d) contents → IsAll (dump d) contents → IsDumped d contents (Ok written) → HasReported d told old new
+  by_contents : (contents : List (List ℕ)) → IsRead told (dump d) contents → IsAll (dump d) contents → IsDumpOutcome d contents (Ok written) → HasReported d told old new
   by_contents [] read all h = absurd h
   by_contents (bytes ∷ []) read all h = absurd h
   by_contents (bytes ∷ text ∷ images) read all (inl (e, is, h)) = absurd (no_text written _ is)

@@ -9,7 +9,7 @@ use Rattle.py_process.specs.Reports.{IsRight, reported_of}
 use Rattle.py_process.specs.declared.report.Report.{Report}
 use Rattle.core_words.specs.Dump.{Dump}
 use Rattle.core_words.specs.Words.{dump}
-use Rattle.core_report.specs.Outcome.{images_of, shown_report}
+use Rattle.core_report.specs.Outcome.{images_read, shown_report}
 use Rattle.core_report.specs.Reading.{IsAll, IsRead}
 
 -- The text of a report was written, or its threads as JSON where the words ask for that. The report's threads are the
@@ -27,5 +27,5 @@ pub record HasReported (d : Dump) (told : Told) (old new : SinkSeen) : Type 0 wh
   pub layouts : List Layout
   pub says : IsRightFor text (Ok layouts)
   pub report : Report
-  pub right : IsRight core (images_of d.images images) layouts d.config (reported_of report)
+  pub right : IsRight core (images_read d.images images) layouts d.config (reported_of report)
   pub written : Appends old.written new.written (shown_report d report)

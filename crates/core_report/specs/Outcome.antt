@@ -27,8 +27,8 @@ abbrev pub Outcome : Type 0
 Outcome = Result (List ℕ) Cause
 
 -- two steps, of which the first may end with a cause
-abbrev pub Then : {T E : Type 0} → (E → Cause) → (Result T E → Type 0) → (T → Outcome → Type 0) → Outcome → Type 0
-Then as_cause First Rest outcome =
+abbrev pub OutcomeThen : {T E : Type 0} → (E → Cause) → (Result T E → Type 0) → (T → Outcome → Type 0) → Outcome → Type 0
+OutcomeThen as_cause First Rest outcome =
     ((error : _) × (outcome ≡ Err (as_cause error)) × First (Err error))
     ⊎ ((value : _) × First (Ok value) × Rest value outcome)
 
@@ -57,13 +57,13 @@ IsShown w traces outcome = outcome ≡ Ok (walk_text w.version traces.items)
 
 -- a walk over a core's bytes by these layouts
 abbrev pub IsWalkedBy : Walk → List ℕ → List Layout → Outcome → Type 0
-IsWalkedBy w bytes layouts outcome = Then (λ error. Core error) (WalkAnswers w bytes layouts) (IsShown w) outcome
+IsWalkedBy w bytes layouts outcome = OutcomeThen (λ error. Core error) (WalkAnswers w bytes layouts) (IsShown w) outcome
 
 -- the layouts are judged first, and then the core is walked
-abbrev pub IsWalked : Walk → List (List ℕ) → Outcome → Type 0
-IsWalked w [] outcome = ⊥
-IsWalked w (bytes ∷ rest) outcome =
-    Then (λ error. Layouts error) (SourceSays w.layouts rest) (IsWalkedBy w bytes) outcome
+abbrev pub IsWalkOutcome : Walk → List (List ℕ) → Outcome → Type 0
+IsWalkOutcome w [] outcome = ⊥
+IsWalkOutcome w (bytes ∷ rest) outcome =
+    OutcomeThen (λ error. Layouts error) (SourceSays w.layouts rest) (IsWalkedBy w bytes) outcome
 
 -- the images of a report, each with the contents of its file under its path
 abbrev pub images_by : List (List ℕ) → List (List ℕ × List ℕ) → Pushed
@@ -71,8 +71,8 @@ images_by [] images = []
 images_by (bytes ∷ rest) [] = []
 images_by (bytes ∷ rest) (image ∷ images) = (image.0, whole_view bytes) ∷ images_by rest images
 
-abbrev pub images_of : List (List ℕ × List ℕ) → List (List ℕ) → Pushed
-images_of images contents = images_by contents images
+abbrev pub images_read : List (List ℕ × List ℕ) → List (List ℕ) → Pushed
+images_read images contents = images_by contents images
 
 -- the report of a core and its images, as the words ask for it, or the cause why there is none
 abbrev pub ReportAnswers : Config → List ℕ → Pushed → List Layout → Result Report CoreError → Type 0
@@ -89,18 +89,18 @@ IsReported d r outcome = outcome ≡ Ok (shown_report d r)
 -- a report of a core and its images by these layouts
 abbrev pub IsDumpedBy : Dump → List ℕ → Pushed → List Layout → Outcome → Type 0
 IsDumpedBy d core images layouts outcome =
-    Then (λ error. Core error) (ReportAnswers d.config core images layouts) (IsReported d) outcome
+    OutcomeThen (λ error. Core error) (ReportAnswers d.config core images layouts) (IsReported d) outcome
 
 -- the layouts are judged first, and then the report is made
-abbrev pub IsDumped : Dump → List (List ℕ) → Outcome → Type 0
-IsDumped d (core ∷ text ∷ images) outcome =
-    Then (λ error. Layouts error) (IsRightFor text) (IsDumpedBy d core (images_of d.images images)) outcome
-IsDumped d _ outcome = ⊥
+abbrev pub IsDumpOutcome : Dump → List (List ℕ) → Outcome → Type 0
+IsDumpOutcome d (core ∷ text ∷ images) outcome =
+    OutcomeThen (λ error. Layouts error) (IsRightFor text) (IsDumpedBy d core (images_read d.images images)) outcome
+IsDumpOutcome d _ outcome = ⊥
 
 -- what a command comes to over the contents of all that it asks for
 abbrev pub IsOutcome : Command → List (List ℕ) → Outcome → Type 0
-IsOutcome (walk w) contents outcome = IsWalked w contents outcome
-IsOutcome (dump d) contents outcome = IsDumped d contents outcome
+IsOutcome (walk w) contents outcome = IsWalkOutcome w contents outcome
+IsOutcome (dump d) contents outcome = IsDumpOutcome d contents outcome
 
 -- ---- contents with which nothing is wrong
 
@@ -111,7 +111,7 @@ IsFaultlessWalk w (bytes ∷ rest) =
 
 abbrev pub IsFaultlessDump : Dump → List (List ℕ) → Type 0
 IsFaultlessDump d (core ∷ text ∷ images) = (layouts : List Layout) × IsRightFor text (Ok layouts)
-    × IsReadable core (images_of d.images images) layouts d.config
+    × IsReadable core (images_read d.images images) layouts d.config
 IsFaultlessDump d _ = ⊥
 
 abbrev pub IsFaultless : Command → List (List ℕ) → Type 0

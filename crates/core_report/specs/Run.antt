@@ -50,12 +50,12 @@ pub data End : Type 0 where
   unread : List ℕ → FileFault → End
   cut : End
 
-abbrev pub status_of : End → ℕ
-status_of printed = 0
-status_of (stopped cause) = cause_status cause
-status_of refused = 2
-status_of (unread name why) = 3
-status_of cut = 4
+abbrev pub end_status : End → ℕ
+end_status printed = 0
+end_status (stopped cause) = cause_status cause
+end_status refused = 2
+end_status (unread name why) = 3
+end_status cut = 4
 
 -- the parts of its line; of a text that was printed there is none
 abbrev pub end_parts : End → List (List ℕ)
@@ -87,7 +87,7 @@ pub record IsQuiet (r : Ran) : Type 0 where
   pub written : r.out_after ≡ r.out
 
 -- the whole text was written
-pub record IsPrinted (asked : Option Command) (r : Ran) : Type 0 where
+pub record HasPrinted (asked : Option Command) (r : Ran) : Type 0 where
   pub text : List ℕ
   pub reached : Reaches asked r.files.told (Ok text)
   pub added : IsAdded r.out r.out_after text
@@ -114,21 +114,21 @@ pub record IsStopped (asked : Option Command) (r : Ran) (cause : Cause) : Type 0
 
 -- what is so where a run ends so
 abbrev pub HasEnded : Option Command → Ran → End → Type 0
-HasEnded asked r printed = IsPrinted asked r
+HasEnded asked r printed = HasPrinted asked r
 HasEnded asked r (stopped cause) = IsStopped asked r cause
 HasEnded asked r refused = (asked ≡ None) × IsQuiet r
 HasEnded asked r (unread name why) = IsStuck asked r name why
 HasEnded asked r cut = IsCut asked r
 
 -- a run with this status: how it ended, and what it said
-pub record IsRun (asked : Option Command) (r : Ran) (err err_after : SinkSeen) (status : ℕ) : Type 0 where
+pub record HasRun (asked : Option Command) (r : Ran) (err err_after : SinkSeen) (status : ℕ) : Type 0 where
   pub end : End
-  pub is : status ≡ status_of end
+  pub is : status ≡ end_status end
   pub ended : HasEnded asked r end
   pub said : SaysEnd end err err_after
 
 -- the words ask for this command, and the files tell these contents of all that it asks for
-pub record Tells (asked : Option Command) (told : Told) (command : Command) (contents : List (List ℕ)) : Type 0 where
+pub record TellsContents (asked : Option Command) (told : Told) (command : Command) (contents : List (List ℕ)) : Type 0 where
   pub is_asked : asked ≡ Some command
   pub tells : IsSome told
   pub read : IsRead told command contents
@@ -177,6 +177,6 @@ end_at Words = refused
 end_at (File name why) = unread name.now why
 end_at Write = cut
 
-abbrev pub end_of : Result (Unit {0}) Trouble → End
-end_of (Ok _) = printed
-end_of (Err trouble) = end_at trouble
+abbrev pub end_after : Result (Unit {0}) Trouble → End
+end_after (Ok _) = printed
+end_after (Err trouble) = end_at trouble

@@ -9,7 +9,7 @@ ghost use Rattle.core_words.specs.Seen.{asked_command};
 ghost use Rattle.core_report.specs.declared.cause.Cause.{Cause as Why};
 ghost use Rattle.core_report.specs.Headline.{HasReported};
 ghost use Rattle.core_report.specs.Outcome.{IsFaultless, IsOutcome, cause_status};
-ghost use Rattle.core_report.specs.Run.{Comes, HasEnded, IsRun, Reaches, Tells, end_of, ran};
+ghost use Rattle.core_report.specs.Run.{Comes, HasEnded, HasRun, Reaches, TellsContents, end_after, ran};
 
 use crate::cause::Cause;
 use crate::dump_command::{DumpFiles, dump_over};
@@ -49,7 +49,7 @@ fn execute<'a, F: Files, S: Sink>(
     out: &mut S,
 ) -> Result<(), Trouble<'a>>
     ensures ends { (asks : Option Asked) → Answers asked_command asks asked.now → HasEnded asks
-        (ran (F.seen files.old) (F.seen files.new) (S.seen out.old) (S.seen out.new)) (end_of result) }
+        (ran (F.seen files.old) (F.seen files.new) (S.seen out.old) (S.seen out.new)) (end_after result) }
     ensures told { (F.seen files.new).told ≡ (F.seen files.old).told }
 {
     let command = match asked {
@@ -88,7 +88,7 @@ pub fn run<F: Files, S: Sink, E: Sink>(
     err: &mut E,
 ) -> u8
     // each status has its cause and its line, and what `out`, `err` and the list of failed names gained
-    ensures right { IsRun (command_of (texts words.now))
+    ensures right { HasRun (command_of (texts words.now))
         (ran (F.seen files.old) (F.seen files.new) (S.seen out.old) (S.seen out.new))
         (E.seen err.old) (E.seen err.new) result }
 
@@ -119,14 +119,14 @@ pub fn run<F: Files, S: Sink, E: Sink>(
 
     // where the files tell, each cause has its status, want of memory aside
     ensures only { (command : Asked) (contents : List (List ℕ)) (cause : Why)
-        → Tells (command_of (texts words.now)) (F.seen files.old).told command contents
+        → TellsContents (command_of (texts words.now)) (F.seen files.old).told command contents
         → IsOutcome command contents (Err cause) → cause_status cause ≢ 5
         → (F.seen files.new).failed ≡ (F.seen files.old).failed
         → (result ≡ cause_status cause) ⊎ (result ≡ 5) }
 
     // where nothing is wrong with what they tell, and no write fails, the text is written, want of memory aside
     ensures complete { (command : Asked) (contents : List (List ℕ))
-        → Tells (command_of (texts words.now)) (F.seen files.old).told command contents
+        → TellsContents (command_of (texts words.now)) (F.seen files.old).told command contents
         → IsFaultless command contents
         → (F.seen files.new).failed ≡ (F.seen files.old).failed
         → ¬ Rose (S.seen out.old).faults (S.seen out.new).faults

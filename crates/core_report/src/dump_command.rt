@@ -3,7 +3,7 @@ ghost use Rattle.std.specs.Prelude.{◌≡◌, IfOk};
 ghost use Rattle.core_words.specs.Words.{dump};
 ghost use Rattle.core_words.specs.Seen.{asked_dump};
 ghost use Rattle.core_report.specs.Reading.{contents, dump_contents};
-ghost use Rattle.core_report.specs.Outcome.{IsAnswer, IsOutcome, images_of, shown_report};
+ghost use Rattle.core_report.specs.Outcome.{IsAnswer, IsOutcome, images_read, shown_report};
 ghost use Rattle.core_report.specs.Run.{HasDumpFiles};
 
 use crate::cause::Cause;
@@ -59,7 +59,7 @@ impl DumpFiles {
 
 /// The images of a report: each file's bytes under the path of its word.
 fn dump_images(alloc: Global, words: &DumpWords, files: Vec<Vec<u8>>) -> Result<Images, AllocError>
-    ensures { IfOk result (λ images. images ≡ images_of (asked_dump words.now).images (contents files.items)) }
+    ensures { IfOk result (λ images. images ≡ images_read (asked_dump words.now).images (contents files.items)) }
 {
     let mut images = Images::new(alloc);
     let mut names = words.images.as_slice();

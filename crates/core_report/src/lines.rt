@@ -4,7 +4,7 @@ ghost use Rattle.std.specs.List.{concat};
 ghost use Rattle.py_version.specs.Version.{version_text};
 ghost use Rattle.core_texts.specs.Parts.{said};
 ghost use Rattle.core_report.specs.Lines.{cause_parts, core_parts, file_parts, layout_parts, range_parts};
-ghost use Rattle.core_report.specs.Run.{SaysEnd, end_at, end_of, end_parts, status_of};
+ghost use Rattle.core_report.specs.Run.{SaysEnd, end_at, end_after, end_parts, end_status};
 
 use crate::cause::Cause;
 use crate::trouble::Trouble;
@@ -160,8 +160,8 @@ fn trouble_parts<'a>(trouble: &'a Trouble<'a>) -> Parts<'a>
 }
 
 /// Its status.
-fn status_of(trouble: &Trouble<'_>) -> u8
-    ensures { result ≡ status_of (end_at trouble.now) }
+fn end_status(trouble: &Trouble<'_>) -> u8
+    ensures { result ≡ end_status (end_at trouble.now) }
 {
     match trouble {
         Trouble::Cause(cause) => cause.status(),
@@ -173,14 +173,14 @@ fn status_of(trouble: &Trouble<'_>) -> u8
 
 /// Writes the line of a run that printed nothing, or not all, and answers the status of a run that ended so.
 pub(crate) fn tell<E: Sink>(err: &mut E, ended: &Result<(), Trouble<'_>>) -> u8
-    ensures status { result ≡ status_of (end_of ended.now) }
-    ensures said { SaysEnd (end_of ended.now) (E.seen err.old) (E.seen err.new) }
+    ensures status { result ≡ end_status (end_after ended.now) }
+    ensures said { SaysEnd (end_after ended.now) (E.seen err.old) (E.seen err.new) }
 {
     match ended {
         Ok(()) => 0,
         Err(trouble) => {
             say_line(err, &trouble_parts(trouble));
-            status_of(trouble)
+            end_status(trouble)
         }
     }
 }

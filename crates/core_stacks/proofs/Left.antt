@@ -17,7 +17,7 @@ use Rattle.image_memory.specs.Images.{Pushed}
 use Rattle.process_memory.specs.Memory.{byte_at}
 use Rattle.py_fields.specs.declared.layout.Layout.{Layout}
 use Rattle.py_process.specs.Findings.{IsFound}
-use Rattle.core_stacks.specs.Opened.{IsFoundIn, IsLeft, Opened, Opens, memory_in}
+use Rattle.core_stacks.specs.Opened.{IsFoundIn, IsLeft, Opened, Opens, opened_memory}
 use Rattle.py_process.proofs.Dumped.{backed_once}
 use Rattle.py_process.proofs.ReportLaws.{found_by}
 use Rattle.core_stacks.proofs.PlainFaults.{Fails, IsPlain, locals_plain, owner_plain}
@@ -30,14 +30,14 @@ limit_none m f config fault (inl e) = subst (λ x. Fails IsPlain x) e (owner_pla
 limit_none m f config fault (inr (asked, h)) = locals_plain f.layout m h.member fault h.first
 
 module _ (o : Opened) (config : Config) (found : IsFoundIn o) where
-  rest : (fault : Fault) → MeetsFault (memory_in o) o.finding config fault
-      → IsRestFault (memory_in o) o.finding config fault
-  rest fault h = rest_fault (memory_in o) o.finding config fault found.is.first.is.is h.first
+  rest : (fault : Fault) → MeetsFault (opened_memory o) o.finding config fault
+      → IsRestFault (opened_memory o) o.finding config fault
+  rest fault h = rest_fault (opened_memory o) o.finding config fault found.is.first.is.is h.first
 
-  no_limit : (fault : Fault) → MeetsFault (memory_in o) o.finding config fault → IsPlain fault
-  no_limit fault h = limit_none (memory_in o) o.finding config fault (rest fault h)
+  no_limit : (fault : Fault) → MeetsFault (opened_memory o) o.finding config fault → IsPlain fault
+  no_limit fault h = limit_none (opened_memory o) o.finding config fault (rest fault h)
 
-  left : (e : CoreError) → StacksSay (memory_in o) o.finding config (Err e) → IsLeft o config e
+  left : (e : CoreError) → StacksSay (opened_memory o) o.finding config (Err e) → IsLeft o config e
   left core.NativeUnsupported h = tt
   left core.SubprocessesUnsupported h = tt
   left core.OutOfMemory h = tt
@@ -50,13 +50,13 @@ module _ (o : Opened) (config : Config) (found : IsFoundIn o) where
   left _ h = absurd h
 
 pub found_left : (o : Opened) (config : Config) (r : Result (Vec StackTrace Global) CoreError) → IsFoundIn o
-    → StacksSay (memory_in o) o.finding config (traces_in r) → IfErr r (IsLeft o config)
+    → StacksSay (opened_memory o) o.finding config (traces_in r) → IfErr r (IsLeft o config)
 found_left o config (Ok v) found h = tt
 found_left o config (Err e) found h = left o config found e h
 
 pub footprint_left : (o : Opened) (config : Config) (r : Result (Vec StackTrace Global × Vec Span Global) CoreError)
     → IsFoundIn o
-    → StacksSay (memory_in o) o.finding config (traces_with r) → IfErr r (IsLeft o config)
+    → StacksSay (opened_memory o) o.finding config (traces_with r) → IfErr r (IsLeft o config)
 footprint_left o config (Ok x) found h = tt
 footprint_left o config (Err e) found h = left o config found e h
 

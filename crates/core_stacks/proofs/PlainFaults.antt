@@ -10,7 +10,7 @@ use Rattle.process_memory.specs.Faults.{faults_then}
 use Rattle.process_memory.specs.Walk.{first_fault}
 use Rattle.py_fields.specs.declared.layout.GilAt.{GilAt}
 use Rattle.py_fields.specs.declared.layout.Layout.{Layout}
-use Rattle.py_stacks.specs.Locals.{count_of, each_faults, local_at, locals_faults, name_fault, named, names_at, variable_name_at}
+use Rattle.py_stacks.specs.Locals.{count_of, each_faults, local_at, locals_faults, name_fault, named_local, names_tuple_of, variable_name_at}
 use Rattle.py_stacks.specs.Member.{MemberAt}
 use Rattle.py_stacks.specs.Owner.{gil_holder_at, holder_at, holder_through, id_of, owner_at, thread_id_at}
 
@@ -115,7 +115,7 @@ name_plain : (frame : ℕ) (f : Fault) → IsPlain (name_fault frame f)
 name_plain frame (Missing addr len) = tt
 name_plain frame _ = tt
 
-named_plain : (frame : ℕ) (text : Found (List ℕ)) → FailsPlainly (named frame text)
+named_plain : (frame : ℕ) (text : Found (List ℕ)) → FailsPlainly (named_local frame text)
 named_plain frame (Ok text) = tt
 named_plain frame (Err f) = name_plain frame f
 
@@ -126,7 +126,7 @@ variable_plain l m frame a = named_plain frame _
 local_plain : (l : Layout) (m : Memory) (r : MemberAt) (index : ℕ) → FailsPlainly (local_at l m r index)
 unfolding local_at
 local_plain l m r index =
-    next_fails IsPlain (word_at m (names_at l r + l.tuple.at + 8 * index)) _ (word_fails IsPlain (λ a n. tt) m _)
+    next_fails IsPlain (word_at m (names_tuple_of l r + l.tuple.at + 8 * index)) _ (word_fails IsPlain (λ a n. tt) m _)
     (λ name_at. next_fails IsPlain (variable_name_at l m r.frame_at name_at) _ (variable_plain l m r.frame_at name_at)
     (λ name. next_fails IsPlain (word_at m (r.frame_at + l.frame.locals + 8 * index)) _
     (word_fails IsPlain (λ a n. tt) m _) (λ slot. tt)))
@@ -147,8 +147,8 @@ pub locals_plain : (l : Layout) (m : Memory) (r : MemberAt) (f : Fault) → firs
 unfolding locals_faults
 locals_plain l m r f h =
     first_fails IsPlain (count_of l r)
-    (λ count. faults_then (record_at m (names_at l r) l.tuple.size) (λ names. each_faults l m r 0 count)) f
+    (λ count. faults_then (record_at m (names_tuple_of l r) l.tuple.size) (λ names. each_faults l m r 0 count)) f
     (count_plain l r)
-    (λ count. first_fails IsPlain (record_at m (names_at l r) l.tuple.size) (λ names. each_faults l m r 0 count) f
+    (λ count. first_fails IsPlain (record_at m (names_tuple_of l r) l.tuple.size) (λ names. each_faults l m r 0 count) f
     (record_fails IsPlain (λ a n. tt) m _ _)
     (λ names. each_plain l m r count 0 f)) h

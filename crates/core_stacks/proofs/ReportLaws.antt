@@ -21,7 +21,7 @@ use Rattle.py_process.proofs.Agreement.{IsKept, err_kept, kept_or, ok_is, ok_not
 use Rattle.py_process.proofs.FindingLaws.{finding_agree}
 use Rattle.py_process.proofs.ReportLaws.{core_agree, finds, found_by}
 use Rattle.py_process.proofs.StackCauses.{stacks_only}
-use Rattle.core_stacks.specs.Opened.{Opened, memory_in}
+use Rattle.core_stacks.specs.Opened.{Opened, opened_memory}
 use Rattle.core_stacks.proofs.Layouts.{NoneClash, chooses_once}
 use Rattle.core_stacks.proofs.Unfaulted.{unfaulted}
 
@@ -73,11 +73,11 @@ report_complete bytes images layouts config apart good e h kept =
     by (inr (traces, has, (r, tells, is))) = absurd (ok_not_err r e (sym is))
 
 -- where the process was found, nothing else is asked for and no fault is met, what is left is want of memory
-pub left_memory : (o : Opened) (config : Config) → AsksNoOther config → fault_on (memory_in o) o.finding config ≡ None → (e : CoreError)
-    → StacksSay (memory_in o) o.finding config (Err e) → e ≡ core.OutOfMemory
+pub left_memory : (o : Opened) (config : Config) → AsksNoOther config → fault_on (opened_memory o) o.finding config ≡ None → (e : CoreError)
+    → StacksSay (opened_memory o) o.finding config (Err e) → e ≡ core.OutOfMemory
 left_memory o config asks none e h =
     ⊎_elim (λ same. of_err e core.OutOfMemory same)
-    (λ kept. absurd (stacks_only (memory_in o) o.finding config asks none e h kept)) (kept_or {T = List Trace} (Err e))
+    (λ kept. absurd (stacks_only (opened_memory o) o.finding config asks none e h kept)) (kept_or {T = List Trace} (Err e))
   where
     of_err : (e d : CoreError) → ◌≡◌ {A = Result (List Trace) CoreError} (Err e) (Err d) → e ≡ d
     of_err e d same = cc

@@ -17,7 +17,7 @@ use Rattle.py_process.specs.Facts.{Known}
 use Rattle.py_process.specs.Findings.{AfterImages, AfterMaps, Finding, FindingIs, IsFound}
 use Rattle.py_process.specs.Programs.{ImagesSay, IsKnown, MapsSay, Programs}
 use Rattle.py_process.specs.Sources.{FirstTells, sources_of}
-use Rattle.py_process.specs.Reports.{AfterCore, AfterFinding, AsksNoOther, CoreSays, Dumped, IsDumped, IsReadable, IsTold, ReportIs, Reported, StacksSay, Tells, fault_on, memory_in}
+use Rattle.py_process.specs.Reports.{AfterCore, AfterFinding, AsksNoOther, CoreSays, Dumped, IsDumped, IsReadable, IsTold, ReportIs, Reported, StacksSay, TellsReport, fault_on, memory_in}
 use Rattle.py_process.specs.Steps.{Then}
 use Rattle.py_process.specs.declared.core_error.CoreError.{CoreError}
 use Rattle.py_process.specs.declared.core_error.CoreError.TheVariants as core
@@ -98,7 +98,7 @@ pub lost : (m : Memory) (bytes : List ℕ) (f : Finding) (config : Config) (e : 
 lost m bytes f config e r is says = settles_err (StacksSay m f config) (IsTold bytes f) (stacks_agree m f config) e r says is
 
 pub told : (m : Memory) (bytes : List ℕ) (f : Finding) (config : Config) (traces : List Trace) (reported : Reported) (r : Result Reported CoreError)
-    → Tells bytes f traces reported → r ≡ Ok reported → StacksSay m f config (Ok traces) → Settles (Then (StacksSay m f config) (IsTold bytes f)) r
+    → TellsReport bytes f traces reported → r ≡ Ok reported → StacksSay m f config (Ok traces) → Settles (Then (StacksSay m f config) (IsTold bytes f)) r
 told m bytes f config traces reported r tells is says =
     settles_ok (StacksSay m f config) (IsTold bytes f) (stacks_agree m f config) traces r says
     (settles_agree (IsTold bytes f traces) (told_agree bytes f traces) r (reported, tells, is))

@@ -6,7 +6,7 @@ use Rattle.process_memory.specs.Memory.{Memory, Region, byte_at}
 use Rattle.process_memory.proofs.Reading.{reading_here}
 use Rattle.process_memory.specs.Seen.{Reading, ReadingBelow, Seen}
 use Rattle.process_memory.specs.Faults.{IsFirst}
-use Rattle.py_stacks.specs.StackError.{fault_of}
+use Rattle.py_stacks.specs.StackError.{stack_fault}
 use Rattle.py_stacks.specs.StacksOver.{AreStacksOver}
 use Rattle.py_stacks.specs.Threads.{Trace}
 use Rattle.py_stacks.specs.declared.config.Config.{Config}
@@ -39,7 +39,7 @@ module _ {n j : ℕ} {s0 s1 : Seen} (f : Finding) (config : Config) (asks : Asks
       reading_both _ faults are cost (λ m none is. record { asks = asks; faultless = none; are = is })
 
   pub stacks_lost : (e : StackError) (error : CoreError) (r : Result (List Trace) CoreError) → error ≡ cause_of_stacks e
-      → Reading n s0 s1 (λ m. IsFirst (fault_on m f config) (fault_of e)) → r ≡ Err error → s1.reads ≤ s0.reads + j
+      → Reading n s0 s1 (λ m. IsFirst (fault_on m f config) (stack_fault e)) → r ≡ Err error → s1.reads ≤ s0.reads + j
       → Reading j s0 s1 (λ m. StacksSay m f config r)
   stacks_lost e error r cause faults is cost =
       reading_both _ faults faults cost (λ m first again. stack_fails m m f config e error r asks refl cause first is)

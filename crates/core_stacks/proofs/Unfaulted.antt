@@ -18,7 +18,7 @@ use Rattle.py_stacks.specs.Detail.{detail_faults}
 use Rattle.py_stacks.specs.Member.{MemberAt}
 use Rattle.py_stacks.specs.Frames.{Call, back_of, frame_faults, frame_limit, frame_next, frames_faults, member_limit, part_faults, plain_by, records_at}
 use Rattle.py_stacks.specs.Interpreter.{IsInterpreter}
-use Rattle.py_stacks.specs.Locals.{asked_faults, count_of, each_faults, local_at, locals_faults, names_at}
+use Rattle.py_stacks.specs.Locals.{asked_faults, count_of, each_faults, local_at, locals_faults, names_tuple_of}
 use Rattle.py_stacks.specs.Owner.{owner_at}
 use Rattle.py_stacks.specs.Stacks.{stacks_faults}
 use Rattle.py_stacks.specs.Threads.{first_frame_at, thread_after, thread_faults, thread_limit, thread_next, traces_faults}
@@ -232,7 +232,7 @@ locals_there l m r has =
     let n = u32_in r.code l.code.nlocals in
     let small : ltb n (2 ^ 31) ≡ true = lt-ltb n (2 ^ 31) (omega (arith, has.few)) in
     let few : leb n 65535 ≡ true = le-leb n 65535 has.few in
-    rw (small, few) (rest_there (record_at m (names_at l r) l.tuple.size) (each_faults l m r 0 n) has.tuple
+    rw (small, few) (rest_there (record_at m (names_tuple_of l r) l.tuple.size) (each_faults l m r 0 n) has.tuple
     (each_there l m r n 0 (λ k lt. subst (λ i. IsOk (local_at l m r i)) (omega arith) (has.each k lt))))
 
 rest_none : (m : Memory) (f : Finding) (config : Config) (fault : Fault) → HasRest m f config → IsRestFault m f config fault → ⊥

@@ -1,7 +1,7 @@
 -- A walk over a core, step by step, and that it has one right answer.
 use Rattle.std.proofs.Common.{◌≡◌, ℕ, List, [], ◌∷◌, refl, sym, ap, subst, ◌∙◌, inl, inr, rules}
 use Rattle.std.specs.Prelude.{Option, Some, None, Result, Ok, Err}
-use Rattle.image_memory.specs.Cores.{IsCore, Refuses}
+use Rattle.image_memory.specs.Cores.{IsCore, RefusesCore}
 use Rattle.image_memory.specs.declared.dump_error.DumpError.{DumpError}
 use Rattle.image_memory.specs.declared.dump_error.DumpError.TheVariants as dump
 use Rattle.image_memory.proofs.Refusals.{no_core, one_refusal}
@@ -14,7 +14,7 @@ use Rattle.py_fields.specs.Sound.{IsSound}
 use Rattle.py_version.specs.declared.version.Version.{Version}
 use Rattle.py_layout.specs.Lists.{AreSound}
 use Rattle.py_stacks.specs.Asking.{nothing}
-use Rattle.py_stacks.specs.StackError.{fault_of}
+use Rattle.py_stacks.specs.StackError.{stack_fault}
 use Rattle.py_stacks.specs.Stacks.{AreStacks}
 use Rattle.py_stacks.specs.Threads.{Trace}
 use Rattle.py_stacks.specs.declared.error.StackError.{StackError}
@@ -26,7 +26,7 @@ use Rattle.py_process.specs.Findings.{IsChosen, LayoutSays}
 use Rattle.py_process.specs.Steps.{Then}
 use Rattle.py_process.specs.declared.core_error.CoreError.{CoreError}
 use Rattle.py_process.specs.declared.core_error.CoreError.TheVariants as core
-use Rattle.core_stacks.specs.Answer.{FaultsSay, FileSays, IsWalkable, Means, WalkSays, core_memory, fault_by}
+use Rattle.core_stacks.specs.Answer.{FaultsSay, CoreFileSays, IsWalkable, Means, WalkSays, core_memory, fault_by}
 use Rattle.core_stacks.specs.Sole.{Settles}
 use Rattle.py_process.proofs.Agreement.{Agree, IsKept, then_agree, then_value}
 use Rattle.py_process.proofs.FindingLaws.{layout_agree}
@@ -38,10 +38,10 @@ use Rattle.core_stacks.proofs.PlainWalks.{IsWalkFault, stacks_walk}
 
 module _ (bytes : List ℕ) where
   data FileCause (r : Result (Unit {0}) CoreError) : Type 0 where
-    refused : (e : DumpError) → r ≡ Err (cause_of_dump e) → Refuses bytes e → FileCause r
+    refused : (e : DumpError) → r ≡ Err (cause_of_dump e) → RefusesCore bytes e → FileCause r
     taken : r ≡ Ok tt → IsCore bytes → FileCause r
 
-  file_cause : (r : Result (Unit {0}) CoreError) → FileSays bytes r → IsKept r → FileCause r
+  file_cause : (r : Result (Unit {0}) CoreError) → CoreFileSays bytes r → IsKept r → FileCause r
   file_cause (Ok x) h kept = taken refl h
   file_cause (Err core.NotElf64) h kept = refused dump.NotElf64 refl h
   file_cause (Err core.BadHeader) h kept = refused dump.BadHeader refl h
@@ -60,10 +60,10 @@ module _ (bytes : List ℕ) where
   file_one a b na nb (taken is c) (refused e is' h) = absurd (no_core bytes e h (not_memory e b is' nb) c)
   file_one a b na nb (taken is c) (taken is' c') = is ∙ sym is'
 
-  file_agree : Agree (FileSays bytes)
+  file_agree : Agree (CoreFileSays bytes)
   file_agree a b one two na nb = file_one a b na nb (file_cause a one na) (file_cause b two nb)
 
-  file_says : (e : DumpError) → Refuses bytes e → FileSays bytes (Err (cause_of_dump e))
+  file_says : (e : DumpError) → RefusesCore bytes e → CoreFileSays bytes (Err (cause_of_dump e))
   file_says dump.NotElf64 h = h
   file_says dump.BadHeader h = h
   file_says dump.NoNotes h = h
@@ -118,7 +118,7 @@ module _ {T : Type 0} (first : Option Fault) (Has : T → Type 0) where
       by (has t is g j) = absurd (cc)
 
   -- an error of the readers is the first fault
-  faults_say : ((f : Fault) → first ≡ Some f → IsWalkFault f) → (e : StackError) → IsFirst first (fault_of e)
+  faults_say : ((f : Fault) → first ≡ Some f → IsWalkFault f) → (e : StackError) → IsFirst first (stack_fault e)
       → FaultsSay first Has (Err (cause_of_stacks e))
   faults_say walks (stack.Unreadable addr len) h = h
   faults_say walks (stack.BadValue frame) h = walks (BadValue frame) h
@@ -147,15 +147,15 @@ module _ (bytes : List ℕ) (layouts : List Layout) (version : Version) (address
       (sym (stacks_whole nothing l (core_memory bytes) addresses.lock addresses.interpreter t h)
       ∙ stacks_whole nothing l (core_memory bytes) addresses.lock addresses.interpreter u g))
 
-  pub refused_walk : (e : DumpError) (error : CoreError) (r : Result (List Trace) CoreError) → Refuses bytes e → error ≡ cause_of_dump e → r ≡ Err error
+  pub refused_walk : (e : DumpError) (error : CoreError) (r : Result (List Trace) CoreError) → RefusesCore bytes e → error ≡ cause_of_dump e → r ≡ Err error
       → Settles (Means bytes layouts version addresses) r
   refused_walk e error r h cause is =
-      settles_err (FileSays bytes) rest (file_agree bytes) error r (subst (λ x. FileSays bytes (Err x)) (sym cause) (file_says bytes e h)) is
+      settles_err (CoreFileSays bytes) rest (file_agree bytes) error r (subst (λ x. CoreFileSays bytes (Err x)) (sym cause) (file_says bytes e h)) is
 
   pub uncovered_walk : (r : Result (List Trace) CoreError) → IsCore bytes → ((l : Layout) → ¬ IsChosen layouts version l) → r ≡ Err (core.UnsupportedVersion version)
       → Settles (Means bytes layouts version addresses) r
   uncovered_walk r accepted none is =
-      settles_ok (FileSays bytes) rest (file_agree bytes) tt r accepted
+      settles_ok (CoreFileSays bytes) rest (file_agree bytes) tt r accepted
       (settles_err (LayoutSays layouts version) (WalkSays bytes addresses) (layout_agree layouts version (λ a b x y. absurd (none a x)))
       (core.UnsupportedVersion version) r (refl, none) is)
 
@@ -166,22 +166,22 @@ module _ (bytes : List ℕ) (layouts : List Layout) (version : Version) (address
   pub layout_walk : (l : Layout) (r : Result (List Trace) CoreError) → IsCore bytes → IsChosen layouts version l
       → ((other : Layout) → IsChosen layouts version other → other ≡ l) → WalkSays bytes addresses l r → Settles (Means bytes layouts version addresses) r
   layout_walk l r accepted chosen once says =
-      settles_ok (FileSays bytes) rest (file_agree bytes) tt r accepted
+      settles_ok (CoreFileSays bytes) rest (file_agree bytes) tt r accepted
       (settles_ok (LayoutSays layouts version) (WalkSays bytes addresses) (layout_agree layouts version (λ a b x y. once a x ∙ sym (once b y))) l r chosen
       (settles_agree (WalkSays bytes addresses l) (walk_says_agree l) r says))
 
-  pub lost_says : (l : Layout) (e : StackError) → IsFirst (fault_by l bytes addresses) (fault_of e) → WalkSays bytes addresses l (Err (cause_of_stacks e))
+  pub lost_says : (l : Layout) (e : StackError) → IsFirst (fault_by l bytes addresses) (stack_fault e) → WalkSays bytes addresses l (Err (cause_of_stacks e))
   lost_says l e h = faults_say (fault_by l bytes addresses) (AreStacks nothing l (core_memory bytes) addresses.lock addresses.interpreter)
       (stacks_walk l (core_memory bytes) addresses.lock addresses.interpreter) e h
 
   pub walk_agree : NoneClash layouts → Agree (Means bytes layouts version addresses)
-  walk_agree apart = then_agree (FileSays bytes) rest (file_agree bytes)
+  walk_agree apart = then_agree (CoreFileSays bytes) rest (file_agree bytes)
       (λ x h. then_agree (LayoutSays layouts version) (WalkSays bytes addresses) (layout_agree layouts version (chooses_once layouts apart version)) (λ l h. walk_says_agree l))
 
   -- where there is nothing to complain of, no cause is right
   pub walk_complete : NoneClash layouts → IsWalkable bytes layouts version addresses → (e : CoreError) → Means bytes layouts version addresses (Err e)
       → IsKept {T = List Trace} (Err e) → ⊥
   walk_complete apart good e h kept =
-      let one = then_value (FileSays bytes) rest (file_agree bytes) tt good.core (Err e) kept h in
+      let one = then_value (CoreFileSays bytes) rest (file_agree bytes) tt good.core (Err e) kept h in
       let two = then_value (LayoutSays layouts version) (WalkSays bytes addresses) (layout_agree layouts version (chooses_once layouts apart version)) good.layout good.chosen (Err e) kept one in
       no_fault (fault_by good.layout bytes addresses) (AreStacks nothing good.layout (core_memory bytes) addresses.lock addresses.interpreter) good.faultless e two kept

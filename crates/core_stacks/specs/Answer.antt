@@ -2,7 +2,7 @@
 -- looked at first, then the version, then the lock's owner and the chain of threads.
 use Rattle.std.specs.Prelude.{◌≡◌, ℕ, List, Option, Some, None, Result, Ok, Err, ⊤, map}
 use Rattle.std.specs.Global.{Vec}
-use Rattle.image_memory.specs.Cores.{IsCore, Refuses}
+use Rattle.image_memory.specs.Cores.{IsCore, RefusesCore}
 use Rattle.image_memory.specs.declared.dump_error.DumpError.TheVariants as dump
 use Rattle.process_memory.specs.Memory.{Memory, Fault, byte_at}
 use Rattle.process_memory.specs.Memory.Fault.{Missing, ThreadLimit as ManyThreads, FrameLimit as ManyFrames, ChainLimit as ManyMembers}
@@ -32,14 +32,14 @@ fault_by layout bytes addresses =
 -- ---- the steps
 
 -- the bytes are those of a core, or why they are none
-abbrev pub FileSays : List ℕ → Result (Unit {0}) CoreError → Type 0
-FileSays bytes (Ok _) = IsCore bytes
-FileSays bytes (Err NotElf64) = Refuses bytes dump.NotElf64
-FileSays bytes (Err BadHeader) = Refuses bytes dump.BadHeader
-FileSays bytes (Err NoNotes) = Refuses bytes dump.NoNotes
-FileSays bytes (Err BadNote) = Refuses bytes dump.BadNote
-FileSays bytes (Err OutOfMemory) = ⊤
-FileSays bytes (Err _) = ⊥
+abbrev pub CoreFileSays : List ℕ → Result (Unit {0}) CoreError → Type 0
+CoreFileSays bytes (Ok _) = IsCore bytes
+CoreFileSays bytes (Err NotElf64) = RefusesCore bytes dump.NotElf64
+CoreFileSays bytes (Err BadHeader) = RefusesCore bytes dump.BadHeader
+CoreFileSays bytes (Err NoNotes) = RefusesCore bytes dump.NoNotes
+CoreFileSays bytes (Err BadNote) = RefusesCore bytes dump.BadNote
+CoreFileSays bytes (Err OutOfMemory) = ⊤
+CoreFileSays bytes (Err _) = ⊥
 
 -- a value where there is no fault, and else the first one: a missing range, or a limit. No fault of locals comes,
 -- since a walk asks for none
@@ -60,7 +60,7 @@ WalkSays bytes addresses layout = FaultsSay (fault_by layout bytes addresses)
 -- the traces, or the first cause: of the file, of the layouts, of the walk
 abbrev pub Means : List ℕ → List Layout → Version → Addresses → Result (List Trace) CoreError → Type 0
 Means bytes layouts version addresses =
-    Then (FileSays bytes) (λ _. Then (LayoutSays layouts version) (WalkSays bytes addresses))
+    Then (CoreFileSays bytes) (λ _. Then (LayoutSays layouts version) (WalkSays bytes addresses))
 
 abbrev pub traced : {E : Type 0} → Result (Vec StackTrace) E → Result (List Trace) E
 traced (Ok v) = Ok (map trace_of v.items)

@@ -23,8 +23,8 @@ pub record Opened : Type 0 where
   pub pieces : List Region
   pub finding : Finding
 
-abbrev pub memory_in : Opened → Memory
-memory_in o = byte_at o.pieces
+abbrev pub opened_memory : Opened → Memory
+opened_memory o = byte_at o.pieces
 
 -- it is of this core and these images, and what is found of it is right
 pub record IsOpened (bytes : List ℕ) (images : Pushed) (layouts : List Layout) (o : Opened) : Type 0 where
@@ -64,15 +64,15 @@ pub record IsFoundIn (o : Opened) : Type 0 where
   pub maps : List CoreMapRange
   pub images : Pushed
   pub layouts : List Layout
-  pub is : IsFound (memory_in o) machine maps images layouts o.finding
+  pub is : IsFound (opened_memory o) machine maps images layouts o.finding
 
 -- the errors that stacks may have all the same: what is asked for and can't be given, a part of the lock's owner that
 -- isn't in memory, and the locals of a kept frame, where they are asked for
 abbrev pub IsLeft : Opened → Config → CoreError → Type 0
 IsLeft o config NativeUnsupported = ⊤
 IsLeft o config SubprocessesUnsupported = ⊤
-IsLeft o config (Unreadable addr len) = IsRestFault (memory_in o) o.finding config (Missing addr len)
-IsLeft o config (BadValue frame) = IsRestFault (memory_in o) o.finding config (IsBadValue frame)
-IsLeft o config (LocalsLimit count) = IsRestFault (memory_in o) o.finding config (ManyLocals count)
+IsLeft o config (Unreadable addr len) = IsRestFault (opened_memory o) o.finding config (Missing addr len)
+IsLeft o config (BadValue frame) = IsRestFault (opened_memory o) o.finding config (IsBadValue frame)
+IsLeft o config (LocalsLimit count) = IsRestFault (opened_memory o) o.finding config (ManyLocals count)
 IsLeft o config OutOfMemory = ⊤
 IsLeft o config _ = ⊥

@@ -20,7 +20,7 @@ use Rattle.py_process.specs.declared.core_error.CoreError.{CoreError}
 use Rattle.py_process.specs.declared.core_error.CoreError.TheVariants.{NotElf64, BadHeader, NoNotes, BadNote, NoBinary, NoImage, BadImage, UnreadableVersion, NoVersion, UnsupportedVersion, NoInterpreter, Unreadable, NativeUnsupported, SubprocessesUnsupported, BadValue, LocalsLimit, ThreadLimit, FrameLimit, ChainLimit, OutOfMemory}
 
 -- the interpreter is found, and these bytes of the pointer to its lock aren't in memory
-pub record LacksLock (bytes : List ℕ) (images : Pushed) (layouts : List Layout) (addr len : ℕ) : Type 0 where
+pub record ReportLacksLock (bytes : List ℕ) (images : Pushed) (layouts : List Layout) (addr len : ℕ) : Type 0 where
   pub dumped : Dumped
   pub is_dumped : IsDumped bytes images dumped
   pub programs : Programs
@@ -62,7 +62,7 @@ IsReportCause bytes images layouts config NoVersion = ⊤
 IsReportCause bytes images layouts config (UnsupportedVersion named) = ⊤
 IsReportCause bytes images layouts config NoInterpreter = ⊤
 IsReportCause bytes images layouts config (Unreadable addr len) =
-    LacksLock bytes images layouts addr len ⊎ MeetsRest bytes images layouts config (Missing addr len)
+    ReportLacksLock bytes images layouts addr len ⊎ MeetsRest bytes images layouts config (Missing addr len)
 IsReportCause bytes images layouts config NativeUnsupported = config.native ≡ true
 IsReportCause bytes images layouts config SubprocessesUnsupported = config.subprocesses ≡ true
 IsReportCause bytes images layouts config (BadValue frame) = MeetsRest bytes images layouts config (IsBadValue frame)

@@ -7,7 +7,7 @@ ghost use Rattle.py_stacks.specs.Threads.{trace_of};
 ghost use Rattle.py_process.specs.Reports.{StacksSay, traces_in};
 ghost use Rattle.core_stacks.specs.Footprints.{IsFootprint, traces_with};
 ghost use Rattle.core_stacks.specs.Sole.{IsSole, Settles};
-ghost use Rattle.core_stacks.specs.Opened.{IsFoundIn, IsLeft, Opened, Opens, OpensAt, memory_in};
+ghost use Rattle.core_stacks.specs.Opened.{IsFoundIn, IsLeft, Opened, Opens, OpensAt, opened_memory};
 ghost use Rattle.core_stacks.specs.Printing.{IsPrintedBy, IsTextOf};
 ghost use Rattle.core_stacks.specs.Seen.{finding_of};
 
@@ -160,11 +160,11 @@ impl PythonCoreDump {
     /// `SubprocessesUnsupported` where other processes are; and then those of `get_stack_over`. Else it is want of
     /// memory.
     pub fn get_stack(&self, config: &Config) -> Result<Vec<StackTrace>, CoreError>
-        ensures right { StacksSay (memory_in self.now) self.now.finding config.now (traces_in result) }
+        ensures right { StacksSay (opened_memory self.now) self.now.finding config.now (traces_in result) }
         // what is right is the answer, want of memory aside
-        ensures only { IsSole (StacksSay (memory_in self.now) self.now.finding config.now) (traces_in result) }
+        ensures only { IsSole (StacksSay (opened_memory self.now) self.now.finding config.now) (traces_in result) }
         // the answer is right over every memory with the same bytes
-        ensures equal { (m : Memory) → ((a : ℕ) → m a ≡ memory_in self.now a)
+        ensures equal { (m : Memory) → ((a : ℕ) → m a ≡ opened_memory self.now a)
             → StacksSay m self.now.finding config.now (traces_in result) }
         // where the process was found, neither a limit nor a record of a thread or a frame is in the way: the lock's
         // owner may be, and the locals of a kept frame, where they are asked for
@@ -178,10 +178,10 @@ impl PythonCoreDump {
     /// 65536 bytes, in order: the same traces are right over every part of the memory that holds all of these. The
     /// errors are those of `get_stack`.
     pub fn footprint(&self, config: &Config) -> Result<(Vec<StackTrace>, Vec<Span>), CoreError>
-        ensures right { StacksSay (memory_in self.now) self.now.finding config.now (traces_with result) }
+        ensures right { StacksSay (opened_memory self.now) self.now.finding config.now (traces_with result) }
         // what is right is the answer, want of memory aside
-        ensures only { IsSole (StacksSay (memory_in self.now) self.now.finding config.now) (traces_with result) }
-        ensures footprint { IfOk result (λ answer. IsFootprint (memory_in self.now) self.now.finding config.now
+        ensures only { IsSole (StacksSay (opened_memory self.now) self.now.finding config.now) (traces_with result) }
+        ensures footprint { IfOk result (λ answer. IsFootprint (opened_memory self.now) self.now.finding config.now
             (map trace_of answer.0.items) answer.1.items) }
         ensures found { IsFoundIn self.now → IfErr result (IsLeft self.now config.now) }
     {

@@ -80,8 +80,8 @@ abbrev pub is_set : List ℕ → List Row → Bool
 is_set name rows = option_map_or (λ value. bytes_eq value (codes "true")) (first_of name rows) false
 
 -- the value of an option; clap takes no words without those that must be given
-abbrev pub value_of : List ℕ → List Row → List ℕ
-value_of name rows = unwrap_or (first_of name rows) []
+abbrev pub option_value_of : List ℕ → List Row → List ℕ
+option_value_of name rows = unwrap_or (first_of name rows) []
 
 abbrev pub config_of : List Row → Config
 config_of rows = record default_config {
@@ -102,8 +102,8 @@ pub record Dump : Type 0 where
 abbrev pub dump_by : List Row → List (List ℕ × List ℕ) → Dump
 dump_by rows images = record {
   config = config_of rows;
-  core = value_of (codes "core") rows;
-  layouts = value_of (codes "layouts") rows;
+  core = option_value_of (codes "core") rows;
+  layouts = option_value_of (codes "layouts") rows;
   images = images;
 }
 

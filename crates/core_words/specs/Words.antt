@@ -18,8 +18,8 @@ abbrev pub digits_in : ℕ → ℕ → List ℕ → Option ℕ
 digits_in radix most ds = if is_numeral radix most ds then Some (digits_value radix ds) else None
 
 -- 1 to 20 decimal digits, or 0x and 1 to 16 hexadecimal digits of either case
-abbrev pub number_of : List ℕ → Option ℕ
-number_of word = if starts_with nat_eq word (codes "0x") then digits_in 16 16 (drop 2 word) else digits_in 10 20 word
+abbrev pub word_number : List ℕ → Option ℕ
+word_number word = if starts_with nat_eq word (codes "0x") then digits_in 16 16 (drop 2 word) else digits_in 10 20 word
 
 abbrev pub release_by : Option ℕ → Option ℕ → Option ℕ → Option Version
 release_by (Some major) (Some minor) (Some patch) = Some (release major minor patch)
@@ -72,7 +72,7 @@ walk_by core layouts _ _ _ = None
 -- CORE LAYOUTS VERSION INTERP LOCK
 abbrev pub walk_words : List (List ℕ) → Option Walk
 walk_words (core ∷ layouts ∷ version ∷ interp ∷ lock ∷ []) =
-    walk_by core (source_of layouts) (release_of version) (number_of interp) (number_of lock)
+    walk_by core (source_of layouts) (release_of version) (word_number interp) (word_number lock)
 walk_words _ = None
 
 -- the command's name, and then its words

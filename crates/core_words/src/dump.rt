@@ -2,7 +2,7 @@
 ghost use Rattle.std.specs.Prelude.{◌≡◌, map, option_map, Some};
 ghost use Rattle.clap.specs.Words.{found_of, rows_of};
 ghost use Rattle.core_words.specs.Answers.{Answers};
-ghost use Rattle.core_words.specs.Dump.{config_of, dump_found, dump_words, image_words, images_of, is_dump, is_dump_name, is_set, split_image, value_of};
+ghost use Rattle.core_words.specs.Dump.{config_of, dump_found, dump_words, image_words, images_of, is_dump, is_dump_name, is_set, split_image, option_value_of};
 ghost use Rattle.core_words.specs.Seen.{asked_dump};
 ghost use Rattle.core_words.specs.Words.{texts};
 
@@ -71,8 +71,8 @@ fn dump_by(alloc: Global, matches: &ArgMatches<'_>) -> Result<DumpWords, ArgsErr
     ensures { Answers asked_dump (dump_found (rows_of (found_of matches.now))) result }
 {
     let config = config_of(matches);
-    let core = value_of(alloc, matches, "core")?;
-    let layouts = value_of(alloc, matches, "layouts")?;
+    let core = option_value_of(alloc, matches, "core")?;
+    let layouts = option_value_of(alloc, matches, "layouts")?;
     let images = images_of(alloc, image_words(matches))?;
     Ok(DumpWords {
         config,
@@ -106,8 +106,8 @@ fn is_set(matches: &ArgMatches<'_>, name: &str) -> bool
 }
 
 /// The value of an option.
-fn value_of(alloc: Global, matches: &ArgMatches<'_>, name: &str) -> Result<Name, ArgsError>
-    ensures { Answers (λ value. value) (Some (value_of name.now (rows_of (found_of matches.now)))) result }
+fn option_value_of(alloc: Global, matches: &ArgMatches<'_>, name: &str) -> Result<Name, ArgsError>
+    ensures { Answers (λ value. value) (Some (option_value_of name.now (rows_of (found_of matches.now)))) result }
 {
     let value = text_of(matches, name);
     Ok(Name::of(alloc, value.as_bytes())?)
@@ -115,7 +115,7 @@ fn value_of(alloc: Global, matches: &ArgMatches<'_>, name: &str) -> Result<Name,
 
 /// The same, as text.
 fn text_of<'a>(matches: &ArgMatches<'a>, name: &str) -> &'a str
-    ensures { result.now ≡ value_of name.now (rows_of (found_of matches.now)) }
+    ensures { result.now ≡ option_value_of name.now (rows_of (found_of matches.now)) }
 {
     match matches.get_str(name) {
         Some(value) => value,

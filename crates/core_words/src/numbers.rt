@@ -1,6 +1,6 @@
 //! Numbers in words, and versions of three of them.
 ghost use Rattle.std.specs.Prelude.{◌≡◌, ◌≤◌, option_map};
-ghost use Rattle.core_words.specs.Words.{digits_in, number_of, release_by, release_of, split_at_dot};
+ghost use Rattle.core_words.specs.Words.{digits_in, word_number, release_by, release_of, split_at_dot};
 ghost use Rattle.core_words.specs.Seen.{asked_version};
 
 /// A version of three numbers alone.
@@ -24,8 +24,8 @@ fn digits_in(radix: u32, most: usize, digits: &str) -> Option<u64>
 }
 
 /// 1 to 20 decimal digits, or `0x` and 1 to 16 hexadecimal digits.
-pub(crate) fn number_of(word: &str) -> Option<u64>
-    ensures { result ≡ number_of word.now }
+pub(crate) fn word_number(word: &str) -> Option<u64>
+    ensures { result ≡ word_number word.now }
 {
     match word.strip_prefix("0x") {
         Some(digits) => digits_in(16, 16, digits),

@@ -3,7 +3,7 @@ ghost use Rattle.std.specs.Prelude.{◌≡◌, ◌∷◌, [], option_map};
 ghost use Rattle.core_words.specs.Words.{source_of, texts, walk_by, walk_words};
 ghost use Rattle.core_words.specs.Seen.{asked_source, asked_version, asked_walk};
 
-use crate::numbers::{Release, number_of, release_of};
+use crate::numbers::{Release, word_number, release_of};
 use py_stacks::Addresses;
 
 /// The words of a walk.
@@ -71,8 +71,8 @@ fn walk_of<'a>(
         core,
         source_of(layouts),
         release_of(version),
-        number_of(interp),
-        number_of(lock),
+        word_number(interp),
+        word_number(lock),
     )
 }
 

@@ -18,8 +18,8 @@ pub record SymbolEntry : Type 0 where
   pub size : ℕ
 
 -- what a symbol says
-abbrev pub entry_of : Symbol → SymbolEntry
-entry_of symbol = record {
+abbrev pub symbol_entry_of : Symbol → SymbolEntry
+symbol_entry_of symbol = record {
   name = option_copied symbol.name;
   info = symbol.info;
   section = symbol.section;
@@ -28,8 +28,8 @@ entry_of symbol = record {
 }
 
 -- the entry at an offset of a symbol section; its name stands in the strings, where those hold it
-unfoldable pub entry_in : Option (List ℕ) → List ℕ → ℕ → SymbolEntry
-entry_in strings table at = record {
+unfoldable pub symbol_entry_in : Option (List ℕ) → List ℕ → ℕ → SymbolEntry
+symbol_entry_in strings table at = record {
   name = string_in strings (u32_in table at);
   info = u8_in table (at + 4);
   section = u16_in table (at + 6);
@@ -39,7 +39,7 @@ entry_in strings table at = record {
 
 -- the whole entries of a symbol section, 24 bytes each
 abbrev pub entries_in : Option (List ℕ) → List ℕ → List SymbolEntry
-entries_in strings table = map (λ k. entry_in strings table (24 * k)) (range_with_len 0 (length table / 24))
+entries_in strings table = map (λ k. symbol_entry_in strings table (24 * k)) (range_with_len 0 (length table / 24))
 
 -- the kind of section that has such symbols
 abbrev pub section_kind : SymbolKind → ℕ

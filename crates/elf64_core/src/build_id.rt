@@ -1,6 +1,6 @@
 //! Build ids: which build a file is from.
 ghost use Rattle.std.specs.Prelude.{◌≡◌, ◌⊎◌, List, ℕ, IsErrOf};
-ghost use Rattle.elf64_core.specs.BuildIds.{Found, found, NotesSay, SectionSays, SectionsSay, BuildIdIs, FileSays};
+ghost use Rattle.elf64_core.specs.BuildIds.{FoundBuildId, found, NotesHoldBuildId, SectionSays, SectionsSay, BuildIdIs, FileHoldsBuildId};
 ghost use Rattle.elf64_core.specs.Rest.{sections_left};
 
 use crate::note::{HEADER_SIZE, first_note};
@@ -19,7 +19,7 @@ pub type BuildId = Name;
 
 /// The build id in the bytes of a note section.
 fn build_id_in(bytes: &[u8]) -> Result<Option<&[u8]>, ElfError>
-    ensures { NotesSay bytes.now (found result) }
+    ensures { NotesHoldBuildId bytes.now (found result) }
 {
     let mut rest = bytes;
     while rest.len() >= HEADER_SIZE {
@@ -68,7 +68,7 @@ fn build_id_among<'a>(bytes: &'a [u8], sections: Sections<'a>) -> Result<Option<
 /// else does.
 pub fn read_build_id<'a>(elf: &Elf64<'a>) -> Result<Option<&'a [u8]>, ElfError>
     ensures right { BuildIdIs elf.now (found result) }
-    ensures only { (other : Found) → BuildIdIs elf.now other → other ≡ found result }
+    ensures only { (other : FoundBuildId) → BuildIdIs elf.now other → other ≡ found result }
 {
     let sections = elf.sections()?;
     build_id_among(elf.bytes(), sections)
@@ -79,8 +79,8 @@ pub fn read_build_id<'a>(elf: &Elf64<'a>) -> Result<Option<&'a [u8]>, ElfError>
 /// It comes, and `NotElf64`, `BadHeader` and `BadNote` come, as from `Elf64::parse` and then
 /// `read_build_id`. Else the one error is want of memory.
 pub fn read_elf_build_id(alloc: Global, bytes: &[u8]) -> Result<Option<BuildId>, ElfError>
-    ensures right { IsErrOf result ElfError.OutOfMemory ⊎ FileSays bytes.now result }
-    ensures only { (other : Found) → FileSays bytes.now other → IsErrOf result ElfError.OutOfMemory ⊎ (other ≡ result) }
+    ensures right { IsErrOf result ElfError.OutOfMemory ⊎ FileHoldsBuildId bytes.now result }
+    ensures only { (other : FoundBuildId) → FileHoldsBuildId bytes.now other → IsErrOf result ElfError.OutOfMemory ⊎ (other ≡ result) }
 {
     let elf = Elf64::parse(bytes)?;
     match read_build_id(&elf)? {

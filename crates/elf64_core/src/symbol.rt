@@ -1,7 +1,7 @@
 //! Symbols: names of addresses.
 ghost use Rattle.std.specs.Prelude.{◌≡◌, ◌↔◌, ◌⊎◌, ◌+◌, ◌≤◌, List, ℕ, IfOk, IfErr, IsErrOf, length, map, option_map, option_copied};
 ghost use Rattle.elf64_core.specs.Sections.{HasSections};
-ghost use Rattle.elf64_core.specs.Symbols.{HasSymbols, entry_of, entry_in, entries_in, first_section, section_kind, symbols_of};
+ghost use Rattle.elf64_core.specs.Symbols.{HasSymbols, symbol_entry_of, symbol_entry_in, entries_in, first_section, section_kind, symbols_of};
 ghost use Rattle.elf64_core.specs.Rest.{sections_left};
 
 use crate::fields::{u16_in, u32_in, u64_in};
@@ -35,10 +35,10 @@ pub struct Symbol<'a> {
 }
 
 /// The symbol that the entry at an offset of a symbol section describes.
-#[tactic(auto, unfolding(crate::specs::Symbols::entry_in, crate::specs::Fields::u8_in))]
+#[tactic(auto, unfolding(crate::specs::Symbols::symbol_entry_in, crate::specs::Fields::u8_in))]
 fn symbol_in<'a>(strings: Option<&'a [u8]>, table: &[u8], at: usize) -> Symbol<'a>
     requires { at + 24 ≤ length table.now }
-    ensures { entry_of result ≡ entry_in (option_copied strings.entry) table.now at }
+    ensures { symbol_entry_of result ≡ symbol_entry_in (option_copied strings.entry) table.now at }
 {
     let name = match strings {
         Some(strings) => string_at(strings, u32_in(table, at)),
@@ -59,7 +59,7 @@ fn symbols_in<'a>(
     strings: Option<&'a [u8]>,
     table: &[u8],
 ) -> Result<Vec<Symbol<'a>>, AllocError>
-    ensures { IfOk result (λ symbols. map entry_of symbols.items ≡ entries_in (option_copied strings.entry) table.now) }
+    ensures { IfOk result (λ symbols. map symbol_entry_of symbols.items ≡ entries_in (option_copied strings.entry) table.now) }
 {
     let count = table.len() / ENTRY_SIZE;
     let mut symbols = Vec::with_capacity(alloc, count)?;
@@ -98,7 +98,7 @@ impl<'a> Elf64<'a> {
     pub fn symbols(&self, alloc: Global, kind: SymbolKind) -> Result<Vec<Symbol<'a>>, ElfError>
         ensures bad { IsErrOf result ElfError.BadHeader ↔ (¬ HasSymbols self.now kind) }
         ensures only { IfErr result (λ error. (error ≡ ElfError.BadHeader) ⊎ (error ≡ ElfError.OutOfMemory)) }
-        ensures symbols { IfOk result (λ symbols. map entry_of symbols.items ≡ symbols_of self.now kind) }
+        ensures symbols { IfOk result (λ symbols. map symbol_entry_of symbols.items ≡ symbols_of self.now kind) }
     {
         let bytes = self.bytes();
         let sections = self.sections()?;

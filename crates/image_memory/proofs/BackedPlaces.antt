@@ -14,7 +14,7 @@ use Rattle.process_memory.proofs.Records.{byte_at-above}
 use Rattle.image_memory.specs.declared.backed_dump.FileRange.{FileRange}
 use Rattle.image_memory.specs.Backed.{Backed, file_bytes, file_ranges, region_in, regions_of}
 use Rattle.image_memory.specs.BackedPlaces.{IsFilePiece, IsFileRun, IsFileStretch, IsInFile, all_ranges, place_by, range_of_file, spans_file, stands_in}
-use Rattle.image_memory.specs.Overlays.{ArePieces, IsRange, found_by, owner_of, spans}
+use Rattle.image_memory.specs.Overlays.{ArePieces, IsBoundedRange, found_by, owner_of, spans}
 use Rattle.image_memory.proofs.Lists.{find-map}
 use Rattle.image_memory.proofs.Overlays.{IsWithin, find_none, piece_within, spans_from}
 use Rattle.image_memory.proofs.Stretches.{found_below, span_region}
@@ -34,8 +34,8 @@ first_stands dump (f ∷ fs) addr held =
     ∙ elim (spans_file addr f) as (λ b. first_of (cond b (Some byte) None) (option_map (byte_in dump) (option_map (place_by addr) (find (spans_file addr) fs)))
     ≡ option_map (byte_in dump) (option_map (place_by addr) (cond b (Some f) (find (spans_file addr) fs)))) [ true ↦ refl | false ↦ refl ]
 
-pub ranges_fit : (dump : Backed) (fs : List FileRange) → All (IsInFile dump) fs → All IsRange (map range_of_file fs)
-ranges_fit dump fs held = All-map IsRange range_of_file fs (λ k d less. (held k d less).fits)
+pub ranges_fit : (dump : Backed) (fs : List FileRange) → All (IsInFile dump) fs → All IsBoundedRange (map range_of_file fs)
+ranges_fit dump fs held = All-map IsBoundedRange range_of_file fs (λ k d less. (held k d less).fits)
 
 unmapped : {A B : Type 0} (f : A → B) (o : Option A) → option_map f o ≡ None → o ≡ None
 unmapped f None h = refl

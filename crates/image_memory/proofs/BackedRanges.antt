@@ -19,9 +19,9 @@ use Rattle.image_memory.specs.BackedPlaces.{AreFilesOf, IsInFile, IsInImage, IsK
 use Rattle.image_memory.specs.Cores.{IsCore}
 use Rattle.image_memory.specs.FileTables.{Entry}
 use Rattle.image_memory.specs.Images.{Pushed, first_under, images_shown, is_under}
-use Rattle.image_memory.specs.Maps.{AreMaps, ArePlaces, entry_for, map_by, place_by}
+use Rattle.image_memory.specs.Maps.{AreMaps, ArePlaces, entry_for, map_by, file_place_by}
 use Rattle.image_memory.specs.Mmap.{Mapped, shown_bytes}
-use Rattle.image_memory.specs.Laid.{AreLaid, entry_of}
+use Rattle.image_memory.specs.Laid.{AreLaid, table_entry_of}
 use Rattle.image_memory.specs.Overlays.{ArePieces, IsPieceOf}
 use Rattle.image_memory.specs.Pieces.{loads_of, memory_of}
 use Rattle.image_memory.specs.Places.{IsHeld}
@@ -52,7 +52,7 @@ ranges_from-all images maps places k made whole le is =
 
 -- those of the load segments, by the entries of the file tables
 ranges_of_loads : (images : Pushed) (entries : List Entry) (loads : List Segment)
-    → ranges_from images (map (map_by entries) loads) (map (place_by entries) loads) ≡ filter_map (image_range images entries) loads
+    → ranges_from images (map (map_by entries) loads) (map (file_place_by entries) loads) ≡ filter_map (image_range images entries) loads
 ranges_of_loads images entries [] = refl
 ranges_of_loads images entries (s ∷ loads) = ap (cons_option (image_range images entries s)) (ranges_of_loads images entries loads)
 
@@ -65,7 +65,7 @@ AreImageRanges-from bytes images maps places ranges m p is =
       entries = m.entries;
       found = m.found;
       says = is ∙ ap (λ ms. ranges_from images ms places) m.says
-          ∙ ap (ranges_from images (map (map_by m.entries) (loads_of bytes))) (p.says ∙ ap (λ es. map (place_by es) (loads_of bytes)) same)
+          ∙ ap (ranges_from images (map (map_by m.entries) (loads_of bytes))) (p.says ∙ ap (λ es. map (file_place_by es) (loads_of bytes)) same)
           ∙ ranges_of_loads images m.entries (loads_of bytes);
     }
 
@@ -88,7 +88,7 @@ places_counted bytes maps places m p =
       ap length m.says,
       ap length p.says,
       length-map (loads_of bytes) (map_by m.entries),
-      length-map (loads_of bytes) (place_by p.entries),
+      length-map (loads_of bytes) (file_place_by p.entries),
     )
 
 pub map_twice : {A B C : Type 0} (g : B → C) (f : A → B) (xs : List A) → map g (map f xs) ≡ map (λ x. g (f x)) xs
@@ -211,17 +211,17 @@ no_owned = record { entry = record { start = 0; len = 0; offset = 0 }; owner = 0
 -- what is kept for look-ups
 pub IsKept-of : (dump : Backed) (laid : List Owned) (table : List TableEntry) (files : List ℕ) → IsCore dump.core
     → All (IsInFile dump) (file_ranges dump)
-    → AreLaid (all_ranges dump) laid → table ≡ map entry_of laid → AreFilesOf (file_ranges dump) laid files → IsKept dump table files
+    → AreLaid (all_ranges dump) laid → table ≡ map table_entry_of laid → AreFilesOf (file_ranges dump) laid files → IsKept dump table files
 IsKept-of dump laid table files core held are is of = record {
   core = core;
   held = held;
   pieces = subst (ArePieces (all_ranges dump)) (sym is) (ArePieces-laid (all_ranges dump) laid are);
-  counted = omega (arith, of.counted, ap length is, length-map laid entry_of);
+  counted = omega (arith, of.counted, ap length is, length-map laid table_entry_of);
   files_are = λ k piece get.
-      let inside : k < length laid = omega (arith, slice_get_within table k piece get, ap length is, length-map laid entry_of) in
+      let inside : k < length laid = omega (arith, slice_get_within table k piece get, ap length is, length-map laid table_entry_of) in
       let own = get_or laid k no_owned in
       let same : own.entry ≡ piece =
-      sym (get_or-map entry_of laid k no_owned piece inside) ∙ ap (λ es. get_or es k piece) (sym is) ∙ get_or_from_slice_get table k piece piece get in
+      sym (get_or-map table_entry_of laid k no_owned piece inside) ∙ ap (λ es. get_or es k piece) (sym is) ∙ get_or_from_slice_get table k piece piece get in
       let each = All-from_recursion (IsPieceAt (all_ranges dump)) laid are.each k no_owned inside in
       record {
         owner = own.owner;

@@ -9,8 +9,8 @@ use Rattle.std.proofs.lemmas.List.Elements.{All-from_recursion, All-head, All-ma
 use Rattle.elf64_core.specs.SpanTables.{AreSpans, IsSpan, StandsBefore}
 use Rattle.elf64_core.specs.declared.span_table.TableEntry.{TableEntry}
 use Rattle.image_memory.specs.declared.overlay.Owned.{Owned}
-use Rattle.image_memory.specs.Overlays.{ArePieces, IsPiece, IsPieceOf, IsRange, owner_of, spans}
-use Rattle.image_memory.specs.Laid.{AnyHolds, AreLaid, HaveRoom, Holds, Rises, end_of, entry_of}
+use Rattle.image_memory.specs.Overlays.{ArePieces, IsPiece, IsPieceOf, IsBoundedRange, owner_of, spans}
+use Rattle.image_memory.specs.Laid.{AnyHolds, AreLaid, HaveRoom, Holds, Rises, piece_end, table_entry_of}
 use Rattle.image_memory.proofs.Overlays.{IsPieceAt, first_below, owner_spans, pieces_room, piece_within, spans_from, spans_within}
 
 abbrev IsIn : ℕ → List ℕ → Type 0
@@ -160,50 +160,50 @@ pieces_few ranges pieces h =
     )
 
 -- pieces as a table's entries
-far : (low : ℕ) (ps : List Owned) (k : ℕ) (d : TableEntry) → Rises low ps → k < length (map entry_of ps) → low ≤ (get_or (map entry_of ps) k d).start
+far : (low : ℕ) (ps : List Owned) (k : ℕ) (d : TableEntry) → Rises low ps → k < length (map table_entry_of ps) → low ≤ (get_or (map table_entry_of ps) k d).start
 far low [] k d rise less = absurd (omega arith)
 far low (p ∷ ps) zero d rise less = rise.0
-far low (p ∷ ps) (suc k) d rise less = omega (arith, rise.0, far (end_of p) ps k d rise.1 (omega arith))
+far low (p ∷ ps) (suc k) d rise less = omega (arith, rise.0, far (piece_end p) ps k d rise.1 (omega arith))
 
-pub laid_ascend : (low : ℕ) (ps : List Owned) → Rises low ps → AllPairs StandsBefore (map entry_of ps)
+pub laid_ascend : (low : ℕ) (ps : List Owned) → Rises low ps → AllPairs StandsBefore (map table_entry_of ps)
 laid_ascend low [] rise i j d ij less = absurd (omega arith)
 laid_ascend low (p ∷ ps) rise i zero d ij less = absurd (omega arith)
-laid_ascend low (p ∷ ps) rise zero (suc j) d ij less = far (end_of p) ps j d rise.1 (omega arith)
-laid_ascend low (p ∷ ps) rise (suc i) (suc j) d ij less = laid_ascend (end_of p) ps rise.1 i j d (omega arith) (omega arith)
+laid_ascend low (p ∷ ps) rise zero (suc j) d ij less = far (piece_end p) ps j d rise.1 (omega arith)
+laid_ascend low (p ∷ ps) rise (suc i) (suc j) d ij less = laid_ascend (piece_end p) ps rise.1 i j d (omega arith) (omega arith)
 
-laid_any : (addr : ℕ) (ps : List Owned) → AnyHolds addr ps → list_any (spans addr) (map entry_of ps) ≡ true
+laid_any : (addr : ℕ) (ps : List Owned) → AnyHolds addr ps → list_any (spans addr) (map table_entry_of ps) ≡ true
 laid_any addr [] any = absurd any
 laid_any addr (p ∷ ps) any =
     ⊎_elim
-    (λ (here : Holds addr p). ap (λ b. b || list_any (spans addr) (map entry_of ps)) (spans_within addr p.entry here.0 here.1))
+    (λ (here : Holds addr p). ap (λ b. b || list_any (spans addr) (map table_entry_of ps)) (spans_within addr p.entry here.0 here.1))
     (λ (further : AnyHolds addr ps).
     let rest = laid_any addr ps further in
-    elim (spans addr p.entry) as (λ b. (b || list_any (spans addr) (map entry_of ps)) ≡ true) [ true ↦ refl | false ↦ rest ])
+    elim (spans addr p.entry) as (λ b. (b || list_any (spans addr) (map table_entry_of ps)) ≡ true) [ true ↦ refl | false ↦ rest ])
     any
 
 laid_spans : (ranges : List TableEntry) (ps : List Owned) → HaveRoom 0 ps → AllByRecursion (IsPieceAt ranges) ps
-    → AllByRecursion (λ p. IsSpan (entry_of p)) ps
+    → AllByRecursion (λ p. IsSpan (table_entry_of p)) ps
 laid_spans ranges [] room h = tt
 laid_spans ranges (p ∷ ps) room h = (record { some = h.0.some; ends = room.0.ends }, laid_spans ranges ps room.1 h.1)
 
 laid_pieces : (ranges : List TableEntry) (ps : List Owned) → AllByRecursion (IsPieceAt ranges) ps
-    → AllByRecursion (λ p. IsPiece ranges (entry_of p)) ps
+    → AllByRecursion (λ p. IsPiece ranges (table_entry_of p)) ps
 laid_pieces ranges [] h = tt
 laid_pieces ranges (p ∷ ps) h = ((p.owner, h.0), laid_pieces ranges ps h.1)
 
-pub AreSpans-laid : (ranges : List TableEntry) (ps : List Owned) → All IsRange ranges → length ranges ≤ 2 ^ 64 → length ps < 2 ^ 32
-    → AreLaid ranges ps → AreSpans (map entry_of ps)
+pub AreSpans-laid : (ranges : List TableEntry) (ps : List Owned) → All IsBoundedRange ranges → length ranges ≤ 2 ^ 64 → length ps < 2 ^ 32
+    → AreLaid ranges ps → AreSpans (map table_entry_of ps)
 AreSpans-laid ranges ps fits many few laid = record {
-  each = All-map IsSpan entry_of ps (All-from_recursion (λ p. IsSpan (entry_of p)) ps
+  each = All-map IsSpan table_entry_of ps (All-from_recursion (λ p. IsSpan (table_entry_of p)) ps
       (laid_spans ranges ps (pieces_room ranges 0 ps fits (omega arith) laid.each) laid.each));
   ascend = laid_ascend 0 ps laid.rise;
-  few = omega (arith, length-map ps entry_of);
+  few = omega (arith, length-map ps table_entry_of);
 }
 
-pub ArePieces-laid : (ranges : List TableEntry) (ps : List Owned) → AreLaid ranges ps → ArePieces ranges (map entry_of ps)
+pub ArePieces-laid : (ranges : List TableEntry) (ps : List Owned) → AreLaid ranges ps → ArePieces ranges (map table_entry_of ps)
 ArePieces-laid ranges ps laid = record {
-  each = All-map (IsPiece ranges) entry_of ps
-      (All-from_recursion (λ p. IsPiece ranges (entry_of p)) ps (laid_pieces ranges ps laid.each));
+  each = All-map (IsPiece ranges) table_entry_of ps
+      (All-from_recursion (λ p. IsPiece ranges (table_entry_of p)) ps (laid_pieces ranges ps laid.each));
   ascend = laid_ascend 0 ps laid.rise;
   whole = λ addr less. laid_any addr ps (laid.whole addr less);
 }

@@ -14,7 +14,7 @@ use Rattle.elf64_core.specs.declared.span_table.TableEntry.{TableEntry}
 use Rattle.image_memory.specs.declared.maps.CoreMapRange.{CoreMapRange}
 use Rattle.image_memory.specs.MapTables.{MapSpans, last_addr, map_range_of, past_last, past_of, tests}
 use Rattle.image_memory.specs.Maps.{holds_addr, in_maps}
-use Rattle.image_memory.specs.Overlays.{ArePieces, IsPiece, IsRange, spans}
+use Rattle.image_memory.specs.Overlays.{ArePieces, IsPiece, IsBoundedRange, spans}
 use Rattle.image_memory.proofs.Overlays.{first_below, owner_spans, spans_from}
 
 -- the pieces of ranges hold the addresses that the ranges hold
@@ -92,17 +92,17 @@ past_more m addr past starts over =
     ]
 
 -- a map that starts at 2^64 - 1 or below holds the first addresses from there on
-past_any : (maps : List CoreMapRange) (addr past : ℕ) → All IsRange (map map_range_of maps) → last_addr ≤ addr
+past_any : (maps : List CoreMapRange) (addr past : ℕ) → All IsBoundedRange (map map_range_of maps) → last_addr ≤ addr
     → ltb (addr - last_addr) (fold (λ past m. max (past_of m) past) past maps) ≡ (ltb (addr - last_addr) past || in_maps maps addr)
 past_any [] addr past fit over = sym (or-none (ltb (addr - last_addr) past))
 past_any (m ∷ maps) addr past fit over =
-    let here : IsRange (map_range_of m) = All-head IsRange (map_range_of m) (map map_range_of maps) fit in
+    let here : IsBoundedRange (map_range_of m) = All-head IsBoundedRange (map_range_of m) (map map_range_of maps) fit in
     let starts : m.segment.addr ≤ last_addr = omega (arith, here.ends) in
-    past_any maps addr (max (past_of m) past) (All-tail IsRange (map_range_of m) (map map_range_of maps) fit) over
+    past_any maps addr (max (past_of m) past) (All-tail IsBoundedRange (map_range_of m) (map map_range_of maps) fit) over
     ∙ ap (λ b. b || in_maps maps addr) (past_more m addr past starts over)
     ∙ or-twice (ltb (addr - last_addr) past) (holds_addr addr m.segment) (in_maps maps addr)
 
-pub tests_are : (maps : List CoreMapRange) (m : MapSpans) → All IsRange (map map_range_of maps) → ArePieces (map map_range_of maps) m.table
+pub tests_are : (maps : List CoreMapRange) (m : MapSpans) → All IsBoundedRange (map map_range_of maps) → ArePieces (map map_range_of maps) m.table
     → m.past ≡ past_last maps → tests m ≡ in_maps maps
 tests_are maps m fit are past =
     λ i addr. at addr i

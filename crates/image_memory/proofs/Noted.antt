@@ -7,8 +7,8 @@ use Rattle.elf64_core.specs.Notes.{Noted, AreNotes, AreNoNotes, bytes_of_range}
 use Rattle.elf64_core.specs.declared.segment.Segment.{Segment}
 use Rattle.elf64_core.proofs.Notes.{AreNotes-once}
 use Rattle.image_memory.specs.FileTables.{Entry}
-use Rattle.image_memory.specs.Maps.{AreMaps, ArePlaces, IsFilePlace, entry_for, is_named, map_by, place_by}
-use Rattle.image_memory.specs.Notes.{AreCoreNotes, AreStatuses, IsProcess, NotesOf, TablesSay, is_table, last_process, note_segments, status_of}
+use Rattle.image_memory.specs.Maps.{AreMaps, ArePlaces, IsFilePlace, entry_for, is_named, map_by, file_place_by}
+use Rattle.image_memory.specs.Notes.{AreCoreNotes, AreStatuses, IsProcess, NotesOf, TablesSay, is_table, last_process, note_segments, status_noted}
 use Rattle.image_memory.specs.Pieces.{loads_of}
 use Rattle.image_memory.specs.declared.file_table.FilePlace.{FilePlace}
 use Rattle.image_memory.specs.declared.maps.CoreMapRange.{CoreMapRange}
@@ -58,7 +58,7 @@ AreMaps-once bytes one other h k =
 pub AreStatuses-once : (bytes : List ℕ) (one other : List elf_prstatus) → AreStatuses bytes one → AreStatuses bytes other
     → one ≡ other
 AreStatuses-once bytes one other h k =
-    h.says ∙ ap (filter_map status_of) (notes_same bytes h.notes k.notes h.entries k.entries h.found k.found) ∙ sym k.says
+    h.says ∙ ap (filter_map status_noted) (notes_same bytes h.notes k.notes h.entries k.entries h.found k.found) ∙ sym k.says
 
 pub IsProcess-once : (bytes : List ℕ) (one other : Option elf_prpsinfo) → IsProcess bytes one → IsProcess bytes other
     → one ≡ other
@@ -76,14 +76,14 @@ IsFilePlace-of bytes index places h = record {
   entries = h.entries;
   found = h.found;
   says = ap (λ ps. option_and_then (λ place. place) (slice_get ps index)) h.says
-      ∙ ap (option_and_then (λ place. place)) (slice_get-map (place_by h.entries) (loads_of bytes) index)
-      ∙ then-map (λ place. place) (place_by h.entries) (slice_get (loads_of bytes) index);
+      ∙ ap (option_and_then (λ place. place)) (slice_get-map (file_place_by h.entries) (loads_of bytes) index)
+      ∙ then-map (λ place. place) (file_place_by h.entries) (slice_get (loads_of bytes) index);
 }
 
 pub IsFilePlace-once : (bytes : List ℕ) (index : ℕ) (one other : Option FilePlace) → IsFilePlace bytes index one → IsFilePlace bytes index other
     → one ≡ other
 IsFilePlace-once bytes index one other h k =
-    h.says ∙ ap (λ es. option_and_then (place_by es) (slice_get (loads_of bytes) index)) (entries_same bytes h.notes k.notes h.entries k.entries h.found k.found)
+    h.says ∙ ap (λ es. option_and_then (file_place_by es) (slice_get (loads_of bytes) index)) (entries_same bytes h.notes k.notes h.entries k.entries h.found k.found)
     ∙ sym k.says
 
 -- a map has a place exactly where it has a name
@@ -91,7 +91,7 @@ both_or_none : {A B C : Type 0} (f : A → B) (g : A → C) (o : Option A) → i
 both_or_none f g None = refl
 both_or_none f g (Some x) = refl
 
-placed_named : (entries : List Entry) (o : Option Segment) → is_some (option_and_then (place_by entries) o)
+placed_named : (entries : List Entry) (o : Option Segment) → is_some (option_and_then (file_place_by entries) o)
     ≡ is_some (option_and_then (λ s. (map_by entries s).pathname) o)
 placed_named entries None = refl
 placed_named entries (Some s) = both_or_none (λ e. e.place) (λ e. e.name) (entry_for entries s.addr)
@@ -101,7 +101,7 @@ pub place_is_named : (bytes : List ℕ) (index : ℕ) (place : Option FilePlace)
 place_is_named bytes index place maps h m =
     let same = entries_same bytes h.notes m.notes h.entries m.entries h.found m.found in
     let loads = loads_of bytes in
-    ap is_some (h.says ∙ ap (λ es. option_and_then (place_by es) (slice_get loads index)) same)
+    ap is_some (h.says ∙ ap (λ es. option_and_then (file_place_by es) (slice_get loads index)) same)
     ∙ placed_named m.entries (slice_get loads index)
     ∙ ap is_some (sym (ap (λ ms. option_and_then (λ n. n.pathname) (slice_get ms index)) m.says
     ∙ ap (option_and_then (λ n. n.pathname)) (slice_get-map (map_by m.entries) loads index)

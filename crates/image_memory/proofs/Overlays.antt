@@ -10,8 +10,8 @@ use Rattle.std.proofs.lemmas.List.Sums.{fails_before_first, passes_at_first}
 use Rattle.std.proofs.lemmas.Option.{same_Some, slice_get-get_or, slice_get_past}
 use Rattle.elf64_core.specs.declared.span_table.TableEntry.{TableEntry}
 use Rattle.image_memory.specs.declared.overlay.Owned.{Owned}
-use Rattle.image_memory.specs.Overlays.{IsPieceOf, IsRange, found_at, found_by, owner_of, spans}
-use Rattle.image_memory.specs.Laid.{AnyHolds, AreLaid, HasRoom, HaveRoom, Holds, Rises, end_of, overlaid, part_between, parts_between}
+use Rattle.image_memory.specs.Overlays.{IsPieceOf, IsBoundedRange, found_at, found_by, owner_of, spans}
+use Rattle.image_memory.specs.Laid.{AnyHolds, AreLaid, HasPieceRoom, HaveRoom, Holds, Rises, piece_end, overlaid, part_between, parts_between}
 
 pub spans_within : (addr : ℕ) (r : TableEntry) → r.start ≤ addr → addr < r.start + r.len → spans addr r ≡ true
 spans_within addr r le less = grind (arith, nat_tests)
@@ -119,7 +119,7 @@ abbrev pub IsPieceAt : List TableEntry → Owned → Type 0
 IsPieceAt ranges p = IsPieceOf ranges p.owner p.entry
 
 -- no sum over a piece of ranges passes 2^64 - 1
-piece_room : (ranges : List TableEntry) (shift : ℕ) (p : Owned) → All IsRange ranges → length ranges + shift ≤ 2 ^ 64 → IsPieceAt ranges p → HasRoom shift p
+piece_room : (ranges : List TableEntry) (shift : ℕ) (p : Owned) → All IsBoundedRange ranges → length ranges + shift ≤ 2 ^ 64 → IsPieceAt ranges p → HasPieceRoom shift p
 piece_room ranges shift p fits few h =
     let within = piece_within ranges p.owner p.entry p.entry h in
     let range = fits p.owner p.entry h.owned in
@@ -133,7 +133,7 @@ piece_room ranges shift p fits few h =
       owner_fits = omega (arith, h.owned);
     }
 
-pub pieces_room : (ranges : List TableEntry) (shift : ℕ) (ps : List Owned) → All IsRange ranges → length ranges + shift ≤ 2 ^ 64
+pub pieces_room : (ranges : List TableEntry) (shift : ℕ) (ps : List Owned) → All IsBoundedRange ranges → length ranges + shift ≤ 2 ^ 64
     → AllByRecursion (IsPieceAt ranges) ps → HaveRoom shift ps
 pieces_room ranges shift [] fits few h = tt
 pieces_room ranges shift (p ∷ ps) fits few h = (piece_room ranges shift p fits few h.0, pieces_room ranges shift ps fits few h.1)
@@ -163,50 +163,50 @@ record IsGap (xs : List TableEntry) (low high : ℕ) : Type 0 where
 
 -- the part of a piece in a gap
 record IsPart (low high shift : ℕ) (p q : Owned) : Type 0 where
-  some : max p.entry.start low < min (end_of p) high
+  some : max p.entry.start low < min (piece_end p) high
   starts : q.entry.start ≡ max p.entry.start low
-  ends : end_of q ≡ min (end_of p) high
+  ends : piece_end q ≡ min (piece_end p) high
   found : q.entry.offset ≡ found_by q.entry.start p.entry
   owner : q.owner ≡ p.owner + shift
 
 part_is : (low high shift : ℕ) (p q : Owned) → part_between low high shift p ≡ Some q → IsPart low high shift p q
 unfolding part_between
 part_is low high shift p q is =
-    go (leb (min (end_of p) high) (max p.entry.start low)) refl is
+    go (leb (min (piece_end p) high) (max p.entry.start low)) refl is
   where
     start : ℕ
     start = max p.entry.start low
 
     part : Owned
     part = record {
-      entry = record { start = max p.entry.start low; len = min (end_of p) high - max p.entry.start low; offset = found_by (max p.entry.start low) p.entry };
+      entry = record { start = max p.entry.start low; len = min (piece_end p) high - max p.entry.start low; offset = found_by (max p.entry.start low) p.entry };
       owner = p.owner + shift;
     }
 
-    go : (b : Bool) → leb (min (end_of p) high) (max p.entry.start low) ≡ b → cond b None (Some part) ≡ Some q → IsPart low high shift p q
+    go : (b : Bool) → leb (min (piece_end p) high) (max p.entry.start low) ≡ b → cond b None (Some part) ≡ Some q → IsPart low high shift p q
     go true e h = absurd (cc)
     go false e h =
         let same : part ≡ q = same_Some _ _ h in
-        let less = leb-false (min (end_of p) high) (max p.entry.start low) e in
+        let less = leb-false (min (piece_end p) high) (max p.entry.start low) e in
         subst (IsPart low high shift p) same (record { some = less; starts = refl; ends = omega arith; found = refl; owner = refl })
 
-part-none : (low high shift : ℕ) (p : Owned) → part_between low high shift p ≡ None → min (end_of p) high ≤ max p.entry.start low
+part-none : (low high shift : ℕ) (p : Owned) → part_between low high shift p ≡ None → min (piece_end p) high ≤ max p.entry.start low
 unfolding part_between
 part-none low high shift p is =
-    go (leb (min (end_of p) high) (max p.entry.start low)) refl _ is
+    go (leb (min (piece_end p) high) (max p.entry.start low)) refl _ is
   where
-    go : (b : Bool) → leb (min (end_of p) high) (max p.entry.start low) ≡ b → (part : Owned) → cond b None (Some part) ≡ None
-        → min (end_of p) high ≤ max p.entry.start low
+    go : (b : Bool) → leb (min (piece_end p) high) (max p.entry.start low) ≡ b → (part : Owned) → cond b None (Some part) ≡ None
+        → min (piece_end p) high ≤ max p.entry.start low
     go true e part h = leb-true _ _ e
     go false e part h = absurd (cc)
 
 -- the part that a piece of the other ranges has in a gap is one of all
-part_piece : (xs ys : List TableEntry) (low high : ℕ) (p q : Owned) → IsGap xs low high → end_of p ≤ 2 ^ 64 - 1 → IsPieceAt ys p
+part_piece : (xs ys : List TableEntry) (low high : ℕ) (p q : Owned) → IsGap xs low high → piece_end p ≤ 2 ^ 64 - 1 → IsPieceAt ys p
     → part_between low high (length xs) p ≡ Some q → IsPieceAt (xs ++ ys) q
 part_piece xs ys low high p q gap ends h is =
     let n = length xs in
     let part = part_is low high n p q is in
-    let whose = λ (addr : ℕ) (le : q.entry.start ≤ addr) (less : addr < end_of q).
+    let whose = λ (addr : ℕ) (le : q.entry.start ≤ addr) (less : addr < piece_end q).
     let is : owner_of ys addr ≡ p.owner = h.each addr (omega (arith, part.starts)) (omega (arith, part.ends)) in
     let free : n ≤ owner_of xs addr = gap.free addr (omega (arith, part.starts)) (omega (arith, part.ends)) in
     let both : owner_of (xs ++ ys) addr ≡ q.owner = omega (arith, owner-back xs ys addr free, is, part.owner) in
@@ -232,18 +232,18 @@ part_piece xs ys low high p q gap ends h is =
             (λ other. inr (λ is. other (subst (λ a. owner_of ys (a - 1) ≡ p.owner) at (only (q.entry.start - 1) is).0)))
             h.begins
       ];
-      ends = λ is. elim (cases_lt high (end_of p)) [
+      ends = λ is. elim (cases_lt high (piece_end p)) [
         | inl past ↦
-            let at : end_of q ≡ high = omega (arith, part.ends) in
+            let at : piece_end q ≡ high = omega (arith, part.ends) in
             ⊎_elim (λ (last : high ≡ 2 ^ 64 - 1). absurd (omega arith))
             (λ (taken : owner_of xs high < n).
-            let free = (only (end_of q) is).1 in
-            let taken' : owner_of xs (end_of q) < n = subst (λ a. owner_of xs a < n) (sym at) taken in
+            let free = (only (piece_end q) is).1 in
+            let taken' : owner_of xs (piece_end q) < n = subst (λ a. owner_of xs a < n) (sym at) taken in
             absurd (omega arith))
             gap.before
         | inr within ↦
-            let at : end_of q ≡ end_of p = omega (arith, part.ends) in
-            h.ends (subst (λ a. owner_of ys a ≡ p.owner) at (only (end_of q) is).0)
+            let at : piece_end q ≡ piece_end p = omega (arith, part.ends) in
+            h.ends (subst (λ a. owner_of ys a ≡ p.owner) at (only (piece_end q) is).0)
       ];
       found =
           let start = q.entry.start in
@@ -271,7 +271,7 @@ All-joined P (p ∷ ps) qs h k = (h.0, All-joined P ps qs h.1 k)
 
 any_above : (low addr : ℕ) (ps : List Owned) → Rises low ps → AnyHolds addr ps → low ≤ addr
 any_above low addr [] rise any = absurd any
-any_above low addr (p ∷ ps) rise any = ⊎_elim (λ here. omega (arith, rise.0, here.0)) (λ further. omega (arith, rise.0, any_above (end_of p) addr ps rise.1 further)) any
+any_above low addr (p ∷ ps) rise any = ⊎_elim (λ here. omega (arith, rise.0, here.0)) (λ further. omega (arith, rise.0, any_above (piece_end p) addr ps rise.1 further)) any
 
 any_below : (addr : ℕ) (ps : List Owned) → HaveRoom 0 ps → AnyHolds addr ps → addr < 2 ^ 64 - 1
 any_below addr [] room any = absurd any
@@ -303,58 +303,58 @@ overlaid_each xs ys low (top ∷ over) under left room h =
       after = left.after;
       before = inr (omega (arith, piece.each start (omega arith) (omega (arith, piece.some)), piece.owned));
     } in
-    let last : owner_of xs (end_of top - 1) ≡ top.owner = piece.each (end_of top - 1) (omega (arith, piece.some)) (omega (arith, piece.some)) in
-    let next : IsRest xs (end_of top) over = record {
+    let last : owner_of xs (piece_end top - 1) ≡ top.owner = piece.each (piece_end top - 1) (omega (arith, piece.some)) (omega (arith, piece.some)) in
+    let next : IsRest xs (piece_end top) over = record {
       rest = λ addr le taken. ⊎_elim (λ here. absurd (omega (arith, here.1))) (λ further. further) (left.rest addr (omega (arith, left.rise.0)) taken);
       after = inr (omega (arith, last, piece.owned));
       each = left.each.1;
       rise = left.rise.1;
     } in
-    All-joined (IsPieceAt (xs ++ ys)) (parts_between low start (length xs) under) (top ∷ overlaid (length xs) (end_of top) over under)
+    All-joined (IsPieceAt (xs ++ ys)) (parts_between low start (length xs) under) (top ∷ overlaid (length xs) (piece_end top) over under)
     (parts_pieces xs ys low start under gap room h)
-    (piece-front xs ys top.owner top.entry piece, overlaid_each xs ys (end_of top) over under next room h)
+    (piece-front xs ys top.owner top.entry piece, overlaid_each xs ys (piece_end top) over under next room h)
 
 -- what is laid over each other ascends
 Rises-lower : (low high : ℕ) (ps : List Owned) → low ≤ high → Rises high ps → Rises low ps
 Rises-lower low high [] le rise = tt
 Rises-lower low high (p ∷ ps) le rise = (omega (arith, rise.0), rise.1)
 
-Rises-joined : (low high : ℕ) (ps qs : List Owned) → Rises low ps → AllByRecursion (λ p. end_of p ≤ high) ps → low ≤ high → Rises high qs
+Rises-joined : (low high : ℕ) (ps qs : List Owned) → Rises low ps → AllByRecursion (λ p. piece_end p ≤ high) ps → low ≤ high → Rises high qs
     → Rises low (ps ++ qs)
 Rises-joined low high [] qs h ends le k = Rises-lower low high qs le k
-Rises-joined low high (p ∷ ps) qs h ends le k = (h.0, Rises-joined (end_of p) high ps qs h.1 ends.1 ends.0 k)
+Rises-joined low high (p ∷ ps) qs h ends le k = (h.0, Rises-joined (piece_end p) high ps qs h.1 ends.1 ends.0 k)
 
 parts_rise : (low high shift from least : ℕ) (ps : List Owned) → Rises from ps → (least ≤ low) ⊎ (least ≤ from)
     → Rises least (parts_between low high shift ps)
 parts_rise low high shift from least [] rise le = tt
 parts_rise low high shift from least (p ∷ ps) rise le =
-    go (λ m l. parts_rise low high shift (end_of p) m ps rise.1 l) (part_between low high shift p) refl
+    go (λ m l. parts_rise low high shift (piece_end p) m ps rise.1 l) (part_between low high shift p) refl
   where
-    go : ((m : ℕ) → (m ≤ low) ⊎ (m ≤ end_of p) → Rises m (parts_between low high shift ps)) → (o : Option Owned)
+    go : ((m : ℕ) → (m ≤ low) ⊎ (m ≤ piece_end p) → Rises m (parts_between low high shift ps)) → (o : Option Owned)
         → part_between low high shift p ≡ o → Rises least (cons_option o (parts_between low high shift ps))
     go rest None e = rest least (⊎_elim (λ l. inl l) (λ l. inr (omega (arith, rise.0))) le)
     go rest (Some q) e =
         let part = part_is low high shift p q e in (
           ⊎_elim (λ l. omega (arith, part.starts)) (λ l. omega (arith, part.starts, rise.0)) le,
-          rest (end_of q) (inr (omega (arith, part.ends))),
+          rest (piece_end q) (inr (omega (arith, part.ends))),
         )
 
-parts_end : (low high shift : ℕ) (ps : List Owned) → AllByRecursion (λ p. end_of p ≤ high) (parts_between low high shift ps)
+parts_end : (low high shift : ℕ) (ps : List Owned) → AllByRecursion (λ p. piece_end p ≤ high) (parts_between low high shift ps)
 parts_end low high shift [] = tt
 parts_end low high shift (p ∷ ps) =
     go (parts_end low high shift ps) (part_between low high shift p) refl
   where
-    go : AllByRecursion (λ p. end_of p ≤ high) (parts_between low high shift ps) → (o : Option Owned) → part_between low high shift p ≡ o
-        → AllByRecursion (λ p. end_of p ≤ high) (cons_option o (parts_between low high shift ps))
+    go : AllByRecursion (λ p. piece_end p ≤ high) (parts_between low high shift ps) → (o : Option Owned) → part_between low high shift p ≡ o
+        → AllByRecursion (λ p. piece_end p ≤ high) (cons_option o (parts_between low high shift ps))
     go rest None e = rest
     go rest (Some q) e = (omega (arith, (part_is low high shift p q e).ends), rest)
 
 overlaid_rises : (shift low : ℕ) (over under : List Owned) → Rises low over → Rises 0 under → Rises low (overlaid shift low over under)
 overlaid_rises shift low [] under rise k = parts_rise low (2 ^ 64 - 1) shift 0 low under k (inl (omega arith))
 overlaid_rises shift low (top ∷ over) under rise k =
-    Rises-joined low top.entry.start (parts_between low top.entry.start shift under) (top ∷ overlaid shift (end_of top) over under)
+    Rises-joined low top.entry.start (parts_between low top.entry.start shift under) (top ∷ overlaid shift (piece_end top) over under)
     (parts_rise low top.entry.start shift 0 low under k (inl (omega arith))) (parts_end low top.entry.start shift under) rise.0
-    (omega arith, overlaid_rises shift (end_of top) over under rise.1 k)
+    (omega arith, overlaid_rises shift (piece_end top) over under rise.1 k)
 
 -- and no address is lost
 any_left : (addr : ℕ) (ps qs : List Owned) → AnyHolds addr ps → AnyHolds addr (ps ++ qs)
@@ -385,17 +385,17 @@ overlaid_holds addr shift low [] under le rise room (inl any) = absurd any
 overlaid_holds addr shift low [] under le rise room (inr any) =
     parts_hold addr low (2 ^ 64 - 1) shift under le (any_below addr under room any) any
 overlaid_holds addr shift low (top ∷ over) under le rise room any =
-    go (λ past any. overlaid_holds addr shift (end_of top) over under past rise.1 room any) (cases_lt addr top.entry.start)
-    (cases_lt addr (end_of top)) any
+    go (λ past any. overlaid_holds addr shift (piece_end top) over under past rise.1 room any) (cases_lt addr top.entry.start)
+    (cases_lt addr (piece_end top)) any
   where
     parts : List Owned
     parts = parts_between low top.entry.start shift under
 
     rest : List Owned
-    rest = top ∷ overlaid shift (end_of top) over under
+    rest = top ∷ overlaid shift (piece_end top) over under
 
-    go : (end_of top ≤ addr → AnyHolds addr over ⊎ AnyHolds addr under → AnyHolds addr (overlaid shift (end_of top) over under))
-        → (addr < top.entry.start) ⊎ (top.entry.start ≤ addr) → (addr < end_of top) ⊎ (end_of top ≤ addr)
+    go : (piece_end top ≤ addr → AnyHolds addr over ⊎ AnyHolds addr under → AnyHolds addr (overlaid shift (piece_end top) over under))
+        → (addr < top.entry.start) ⊎ (top.entry.start ≤ addr) → (addr < piece_end top) ⊎ (piece_end top ≤ addr)
         → AnyHolds addr (top ∷ over) ⊎ AnyHolds addr under → AnyHolds addr (parts ++ rest)
     go more (inl before) c (inl any) = absurd (omega (arith, any_above top.entry.start addr (top ∷ over) (omega arith, rise.1) any))
     go more (inl before) c (inr any) = any_left addr parts rest (parts_hold addr low top.entry.start shift under le before any)
@@ -405,7 +405,7 @@ overlaid_holds addr shift low (top ∷ over) under le rise room any =
     go more (inr from) (inr past) (inr any) = any_right addr parts rest (inr (more past (inr any)))
 
 -- the pieces of some ranges, laid over those of others, are those of all
-pub AreLaid-joined : (xs ys : List TableEntry) (over under : List Owned) → All IsRange ys → length ys ≤ 2 ^ 64 → AreLaid xs over → AreLaid ys under
+pub AreLaid-joined : (xs ys : List TableEntry) (over under : List Owned) → All IsBoundedRange ys → length ys ≤ 2 ^ 64 → AreLaid xs over → AreLaid ys under
     → AreLaid (xs ++ ys) (overlaid (length xs) 0 over under)
 AreLaid-joined xs ys over under fits few one other =
     let room = pieces_room ys 0 under fits (omega arith) other.each in

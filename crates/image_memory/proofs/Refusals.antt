@@ -3,8 +3,8 @@ use Rattle.std.proofs.Common.{◌≡◌, ◌≢◌, ◌⊎◌, ℕ, List, Result
 use Rattle.std.specs.Prelude.{IsErrOf, IfErr, IfOk}
 use Rattle.elf64_core.specs.declared.error.ElfError.{ElfError}
 use Rattle.elf64_core.specs.declared.error.ElfError.TheVariants as elf
-use Rattle.image_memory.specs.Cores.{IsCore, Refuses}
-use Rattle.image_memory.specs.Dumps.{refusal_of}
+use Rattle.image_memory.specs.Cores.{IsCore, RefusesCore}
+use Rattle.image_memory.specs.Dumps.{dump_refusal_of}
 use Rattle.image_memory.specs.declared.dump_error.DumpError.{DumpError}
 use Rattle.image_memory.specs.declared.dump_error.DumpError.TheVariants.{NotElf64, BadHeader, NoNotes, BadNote, OutOfMemory}
 
@@ -15,20 +15,20 @@ pub error_is : {T E : Type 0} (r : Result T E) (e d : E) → r ≡ Err e → IsE
 error_is {T} r e d is h = same_error {T = T} e d (sym is ∙ h)
 
 -- a bad note of a core is one of its file
-pub bad_note_from : (e : ElfError) → refusal_of e ≡ BadNote → e ≡ elf.BadNote
+pub bad_note_from : (e : ElfError) → dump_refusal_of e ≡ BadNote → e ≡ elf.BadNote
 bad_note_from elf.NotElf64 h = absurd (cc)
 bad_note_from elf.BadHeader h = absurd (cc)
 bad_note_from elf.BadNote h = refl
 bad_note_from elf.OutOfMemory h = absurd (cc)
 
-pub note_errors : (e : ElfError) → e ≢ elf.NotElf64 → e ≢ elf.BadHeader → (refusal_of e ≡ BadNote) ⊎ (refusal_of e ≡ OutOfMemory)
+pub note_errors : (e : ElfError) → e ≢ elf.NotElf64 → e ≢ elf.BadHeader → (dump_refusal_of e ≡ BadNote) ⊎ (dump_refusal_of e ≡ OutOfMemory)
 note_errors elf.NotElf64 n b = absurd (n refl)
 note_errors elf.BadHeader n b = absurd (b refl)
 note_errors elf.BadNote n b = inl refl
 note_errors elf.OutOfMemory n b = inr refl
 
 -- bytes that are refused are no core's
-pub no_core : (bytes : List ℕ) (e : DumpError) → Refuses bytes e → e ≢ OutOfMemory → IsCore bytes → ⊥
+pub no_core : (bytes : List ℕ) (e : DumpError) → RefusesCore bytes e → e ≢ OutOfMemory → IsCore bytes → ⊥
 no_core bytes NotElf64 h ne is = h is.accepted.header
 no_core bytes BadHeader h ne is = h.1 is.accepted.readable
 no_core bytes NoNotes h ne is = is.noted h.1
@@ -36,7 +36,7 @@ no_core bytes BadNote h ne is = h.1 is.notes is.entries is.found
 no_core bytes OutOfMemory h ne is = ne refl
 
 -- and by one error alone, but for want of memory
-pub one_refusal : (bytes : List ℕ) (e f : DumpError) → Refuses bytes e → Refuses bytes f → e ≢ OutOfMemory
+pub one_refusal : (bytes : List ℕ) (e f : DumpError) → RefusesCore bytes e → RefusesCore bytes f → e ≢ OutOfMemory
     → f ≢ OutOfMemory → e ≡ f
 one_refusal bytes NotElf64 NotElf64 h g ne nf = refl
 one_refusal bytes NotElf64 BadHeader h g ne nf = absurd (h g.0)
@@ -68,8 +68,8 @@ is_memory BadNote = inr (λ e. absurd (cc))
 is_memory OutOfMemory = inl refl
 
 -- a right answer about some bytes is the one that they call for, or want of memory
-pub only_refusal : {T : Type 0} (bytes : List ℕ) (r : Result T DumpError) → IfErr r (Refuses bytes) → IfOk r (λ _. IsCore bytes)
-    → (e : DumpError) → Refuses bytes e → (r ≡ Err e) ⊎ (r ≡ Err OutOfMemory) ⊎ (e ≡ OutOfMemory)
+pub only_refusal : {T : Type 0} (bytes : List ℕ) (r : Result T DumpError) → IfErr r (RefusesCore bytes) → IfOk r (λ _. IsCore bytes)
+    → (e : DumpError) → RefusesCore bytes e → (r ≡ Err e) ⊎ (r ≡ Err OutOfMemory) ⊎ (e ≡ OutOfMemory)
 only_refusal {T} bytes (Ok x) right core e h =
     or_memory (is_memory e) (λ ne. absurd (no_core bytes e h ne core))
   where

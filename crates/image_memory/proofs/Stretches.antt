@@ -14,7 +14,7 @@ use Rattle.process_memory.specs.Memory.{byte_at, first_byte, first_of, region_by
 use Rattle.process_memory.proofs.Stretch.{byte_below}
 use Rattle.process_memory.proofs.Records.{byte_at-above}
 use Rattle.image_memory.specs.Lookups.{IsHit}
-use Rattle.image_memory.specs.Overlays.{ArePieces, IsPiece, IsRange, found_at, found_by, owner_of, spans}
+use Rattle.image_memory.specs.Overlays.{ArePieces, IsPiece, IsBoundedRange, found_at, found_by, owner_of, spans}
 use Rattle.image_memory.specs.Pieces.{loads_of, memory_of, range_of, ranges_of, segment_region}
 use Rattle.image_memory.specs.Places.{IsHeld, IsRun, IsStretch, holds_byte, place_in, stands_at}
 use Rattle.image_memory.proofs.Held.{held_loads}
@@ -22,16 +22,16 @@ use Rattle.image_memory.proofs.Lists.{find-map}
 use Rattle.image_memory.proofs.Overlays.{IsWithin, find_none, piece_found, piece_within, spans_from, spans_within}
 
 -- the segments' ranges are in bounds
-pub held_range : (bytes : List ℕ) (s : Segment) → length bytes ≤ 2 ^ 64 - 1 → IsHeld bytes s → IsRange (range_of s)
+pub held_range : (bytes : List ℕ) (s : Segment) → length bytes ≤ 2 ^ 64 - 1 → IsHeld bytes s → IsBoundedRange (range_of s)
 held_range bytes s few h = record {
   ends = omega (arith, h.ends);
   found_ends = ⊎_elim (λ (empty : s.file_size ≡ 0). inl (omega arith))
       (λ (inside : s.offset + s.file_size ≤ length bytes). inr (omega arith)) h.inside;
 }
 
-pub ranges_held : (bytes : List ℕ) → length bytes ≤ 2 ^ 64 - 1 → HasSegments bytes → All IsRange (ranges_of bytes)
+pub ranges_held : (bytes : List ℕ) → length bytes ≤ 2 ^ 64 - 1 → HasSegments bytes → All IsBoundedRange (ranges_of bytes)
 ranges_held bytes few h =
-    All-map IsRange range_of (loads_of bytes) (λ k d less. held_range bytes (get_or (loads_of bytes) k d) few (held_loads bytes h k d less))
+    All-map IsBoundedRange range_of (loads_of bytes) (λ k d less. held_range bytes (get_or (loads_of bytes) k d) few (held_loads bytes h k d less))
 
 -- an address is found by the segments as by their ranges
 option_map-map : {A B C : Type 0} (f : A → B) (g : B → C) (o : Option A) → option_map (λ x. g (f x)) o ≡ option_map g (option_map f o)
@@ -94,12 +94,12 @@ first_there bytes (s ∷ loads) addr held =
     ∙ elim (holds_byte addr s) as (λ b. first_of (cond b (Some (get_or bytes (stands_at addr s) 0)) None) (option_map (byte_there bytes) (place_in loads addr))
     ≡ option_map (byte_there bytes) (option_map (stands_at addr) (cond b (Some s) (find (holds_byte addr) loads)))) [ true ↦ refl | false ↦ refl ]
 
-pub found_below : (ranges : List TableEntry) (addr : ℕ) → All IsRange ranges → 2 ^ 64 - 1 ≤ addr → find (spans addr) ranges ≡ None
+pub found_below : (ranges : List TableEntry) (addr : ℕ) → All IsBoundedRange ranges → 2 ^ 64 - 1 ≤ addr → find (spans addr) ranges ≡ None
 found_below [] addr fits high = refl
 found_below (r ∷ ranges) addr fits high =
-    let here : IsRange r = All-head IsRange r ranges fits in
+    let here : IsBoundedRange r = All-head IsBoundedRange r ranges fits in
     let no = past r here.ends in
-    ap (λ b. cond b (Some r) (find (spans addr) ranges)) no ∙ found_below ranges addr (All-tail IsRange r ranges fits) high
+    ap (λ b. cond b (Some r) (find (spans addr) ranges)) no ∙ found_below ranges addr (All-tail IsBoundedRange r ranges fits) high
   where
     past : (r : TableEntry) → r.start + r.len ≤ 2 ^ 64 - 1 → spans addr r ≡ false
     past r ends = grind (arith, nat_tests)

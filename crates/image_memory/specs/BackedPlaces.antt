@@ -3,7 +3,7 @@ use Rattle.std.specs.Prelude.{◌≡◌, ◌≢◌, ◌⊎◌, ℕ, ◌+◌, ◌
 use Rattle.elf64_core.specs.declared.span_table.TableEntry.{TableEntry}
 use Rattle.image_memory.specs.Backed.{Backed, file_bytes, file_ranges}
 use Rattle.image_memory.specs.Cores.{IsCore}
-use Rattle.image_memory.specs.Overlays.{ArePieces, IsPieceOf, IsRange, found_by, spans}
+use Rattle.image_memory.specs.Overlays.{ArePieces, IsPieceOf, IsBoundedRange, found_by, spans}
 use Rattle.image_memory.specs.declared.backed_dump.FileRange.{FileRange}
 use Rattle.image_memory.specs.declared.overlay.Owned.{Owned}
 
@@ -44,7 +44,7 @@ pub record IsFileStretch (dump : Backed) (addr most file start size : ℕ) : Typ
 pub record IsInFile (dump : Backed) (f : FileRange) : Type 0 where
   pub known : f.file ≤ length dump.images
   pub inside : (f.range.len ≡ 0) ⊎ (f.range.offset + f.range.len ≤ length (file_bytes dump f.file))
-  pub fits : IsRange f.range
+  pub fits : IsBoundedRange f.range
 
 -- a range whose bytes an image has
 pub record IsInImage (images : List (List ℕ)) (f : FileRange) : Type 0 where
@@ -52,7 +52,7 @@ pub record IsInImage (images : List (List ℕ)) (f : FileRange) : Type 0 where
   pub file_is : f.file ≡ number + 1
   pub known : number < length images
   pub inside : f.range.offset + f.range.len ≤ length (slice_index_or images number [])
-  pub fits : IsRange f.range
+  pub fits : IsBoundedRange f.range
 
 -- a piece of memory, and the file of its bytes
 pub record IsFilePiece (dump : Backed) (file : ℕ) (piece : TableEntry) : Type 0 where

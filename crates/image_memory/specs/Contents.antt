@@ -5,7 +5,7 @@ use Rattle.elf64_core.specs.Notes.{Noted}
 use Rattle.image_memory.specs.Cores.{IsCore}
 use Rattle.image_memory.specs.FileTables.{Entry}
 use Rattle.image_memory.specs.Maps.{AreMaps, ArePlaces}
-use Rattle.image_memory.specs.Notes.{AreCoreNotes, AreStatuses, IsProcess, last_process, status_of}
+use Rattle.image_memory.specs.Notes.{AreCoreNotes, AreStatuses, IsProcess, last_process, status_noted}
 use Rattle.image_memory.specs.Overlays.{ArePieces}
 use Rattle.image_memory.specs.Pieces.{loads_of, ranges_of}
 use Rattle.image_memory.specs.declared.records.elf_prstatus.{elf_prstatus}
@@ -16,7 +16,7 @@ use Rattle.image_memory.specs.declared.contents.Contents.{Contents}
 pub record NotesSay (bytes : List ℕ) (statuses : List elf_prstatus) (process : Option elf_prpsinfo) (entries : List Entry) : Type 0 where
   pub notes : List Noted
   pub found : AreCoreNotes bytes notes entries
-  pub statuses_are : statuses ≡ filter_map status_of notes
+  pub statuses_are : statuses ≡ filter_map status_noted notes
   pub process_is : process ≡ last_process notes
 
 -- what is read of these bytes

@@ -25,12 +25,12 @@ abbrev pub HasBadNote : List ℕ → Type 0
 HasBadNote bytes = (notes : List Noted) (entries : List Entry) → AreCoreNotes bytes notes entries → ⊥
 
 -- the bytes are refused by this error, in the order of the errors; want of memory may always be answered
-abbrev pub Refuses : List ℕ → DumpError → Type 0
-Refuses bytes NotElf64 = ¬ IsElf64 bytes
-Refuses bytes BadHeader = IsElf64 bytes × ¬ HasSegments bytes
-Refuses bytes NoNotes = IsAccepted bytes × (note_segments bytes ≡ [])
-Refuses bytes BadNote = HasNotes bytes × HasBadNote bytes
-Refuses bytes OutOfMemory = ⊤
+abbrev pub RefusesCore : List ℕ → DumpError → Type 0
+RefusesCore bytes NotElf64 = ¬ IsElf64 bytes
+RefusesCore bytes BadHeader = IsElf64 bytes × ¬ HasSegments bytes
+RefusesCore bytes NoNotes = IsAccepted bytes × (note_segments bytes ≡ [])
+RefusesCore bytes BadNote = HasNotes bytes × HasBadNote bytes
+RefusesCore bytes OutOfMemory = ⊤
 
 -- the errors that come before any memory is taken
 abbrev pub IsEarly : DumpError → Type 0

@@ -4,8 +4,8 @@ use Rattle.elf64_core.specs.declared.error.ElfError.TheVariants as elf
 use Rattle.image_memory.specs.declared.dump_error.DumpError.{DumpError}
 use Rattle.image_memory.specs.declared.dump_error.DumpError.TheVariants.{NotElf64, BadHeader, BadNote, OutOfMemory}
 
-abbrev pub refusal_of : ElfError → DumpError
-refusal_of elf.NotElf64 = NotElf64
-refusal_of elf.BadHeader = BadHeader
-refusal_of elf.BadNote = BadNote
-refusal_of elf.OutOfMemory = OutOfMemory
+abbrev pub dump_refusal_of : ElfError → DumpError
+dump_refusal_of elf.NotElf64 = NotElf64
+dump_refusal_of elf.BadHeader = BadHeader
+dump_refusal_of elf.BadNote = BadNote
+dump_refusal_of elf.OutOfMemory = OutOfMemory

@@ -13,8 +13,8 @@ pub record Entry : Type 0 where
   pub place : FilePlace
   pub name : List ℕ
 
-abbrev pub entry_of : FileEntry → Entry
-entry_of e = record { start = e.start; place = e.place; name = e.name.now }
+abbrev pub file_entry_of : FileEntry → Entry
+file_entry_of e = record { start = e.start; place = e.place; name = e.name.now }
 
 abbrev pub is_nul : ℕ → Bool
 is_nul byte = nat_eq byte 0

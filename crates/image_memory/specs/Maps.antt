@@ -30,8 +30,8 @@ map_by entries s = named_by (entry_for entries s.addr) s
 abbrev pub placed_by : Option Entry → Option FilePlace
 placed_by entry = option_map (λ e. e.place) entry
 
-abbrev pub place_by : List Entry → Segment → Option FilePlace
-place_by entries s = placed_by (entry_for entries s.addr)
+abbrev pub file_place_by : List Entry → Segment → Option FilePlace
+file_place_by entries s = placed_by (entry_for entries s.addr)
 
 -- the maps of a core
 pub record AreMaps (bytes : List ℕ) (maps : List CoreMapRange) : Type 0 where
@@ -45,14 +45,14 @@ pub record ArePlaces (bytes : List ℕ) (places : List (Option FilePlace)) : Typ
   pub notes : List Noted
   pub entries : List Entry
   pub found : AreCoreNotes bytes notes entries
-  pub says : places ≡ map (place_by entries) (loads_of bytes)
+  pub says : places ≡ map (file_place_by entries) (loads_of bytes)
 
 -- where the file of the map of a number is mapped from, if there is such a map and it has a name
 pub record IsFilePlace (bytes : List ℕ) (index : ℕ) (place : Option FilePlace) : Type 0 where
   pub notes : List Noted
   pub entries : List Entry
   pub found : AreCoreNotes bytes notes entries
-  pub says : place ≡ option_and_then (place_by entries) (slice_get (loads_of bytes) index)
+  pub says : place ≡ option_and_then (file_place_by entries) (slice_get (loads_of bytes) index)
 
 -- whether the map of a number has a name
 abbrev pub is_named : List CoreMapRange → ℕ → Bool

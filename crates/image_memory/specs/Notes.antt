@@ -79,8 +79,8 @@ process_in desc = record {
 }
 
 -- what a note says, if it is a status record
-abbrev pub status_of : Noted → Option elf_prstatus
-status_of note = if is_of_kind status_kind note && nat_le 112 (length note.desc) then Some (status_in note.desc) else None
+abbrev pub status_noted : Noted → Option elf_prstatus
+status_noted note = if is_of_kind status_kind note && nat_le 112 (length note.desc) then Some (status_in note.desc) else None
 
 -- what a note says, if it is a process record
 abbrev pub process_of : Noted → Option elf_prpsinfo
@@ -95,7 +95,7 @@ pub record AreStatuses (bytes : List ℕ) (statuses : List elf_prstatus) : Type 
   pub notes : List Noted
   pub entries : List Entry
   pub found : AreCoreNotes bytes notes entries
-  pub says : statuses ≡ filter_map status_of notes
+  pub says : statuses ≡ filter_map status_noted notes
 
 -- the last process record of a core, if there is one
 pub record IsProcess (bytes : List ℕ) (process : Option elf_prpsinfo) : Type 0 where

@@ -22,7 +22,7 @@ abbrev pub found_at : List TableEntry → ℕ → Option ℕ
 found_at ranges addr = option_map (found_by addr) (find (spans addr) ranges)
 
 -- a range that ends at 2^64 - 1 at most, as does where it is found, unless it is empty
-pub record IsRange (range : TableEntry) : Type 0 where
+pub record IsBoundedRange (range : TableEntry) : Type 0 where
   pub ends : range.start + range.len ≤ 2 ^ 64 - 1
   pub found_ends : (range.len ≡ 0) ⊎ (range.offset + range.len ≤ 2 ^ 64 - 1)
 

@@ -5,7 +5,7 @@ ghost use Rattle.image_memory.specs.BackedPlaces.{AreFilesOf, IsFilePiece, IsFil
 ghost use Rattle.image_memory.specs.Cores.{IsCore};
 ghost use Rattle.image_memory.specs.Images.{images_shown};
 ghost use Rattle.image_memory.specs.Mmap.{shown_bytes};
-ghost use Rattle.image_memory.specs.Overlays.{IsRange, spans};
+ghost use Rattle.image_memory.specs.Overlays.{IsBoundedRange, spans};
 ghost use Rattle.image_memory.specs.Pieces.{loads_of};
 ghost use Rattle.process_memory.specs.Layers.{plain};
 ghost use Rattle.process_memory.specs.Memory.{byte_at};
@@ -72,7 +72,7 @@ fn range_in(segment: &Segment, place: FilePlace, size: u64) -> TableEntry
     requires { segment.now.addr + segment.now.mem_size ≤ 2 ^ 64 - 1 }
     ensures is { result ≡ range_in segment.now place size }
     ensures inside { result.offset + result.len ≤ size }
-    ensures fits { IsRange result }
+    ensures fits { IsBoundedRange result }
 {
     let offset = place.pages.saturating_mul(place.page_size).min(size);
     TableEntry {

@@ -4,8 +4,8 @@ ghost use Rattle.std.specs.Bool.{MatchBool};
 ghost use Rattle.elf64_core.specs.Header.{IsAccepted};
 ghost use Rattle.image_memory.specs.Notes.{note_segments};
 ghost use Rattle.image_memory.specs.Contents.{NotesSay, AreContents};
-ghost use Rattle.image_memory.specs.Cores.{HasNotes, HasBadNote, IsEarly, Refuses};
-ghost use Rattle.image_memory.specs.FileTables.{entry_of};
+ghost use Rattle.image_memory.specs.Cores.{HasNotes, HasBadNote, IsEarly, RefusesCore};
+ghost use Rattle.image_memory.specs.FileTables.{file_entry_of};
 ghost use Rattle.image_memory.specs.Pieces.{loads_of};
 ghost use Rattle.image_memory.specs.declared.dump_error.DumpError.{DumpError as Refusal};
 
@@ -58,9 +58,9 @@ fn has_notes(elf: &Elf64) -> bool
 
 /// The file, if its segments can be read and one of them has notes. It takes no memory.
 fn accept(bytes: &[u8]) -> Result<Elf64<'_>, DumpError>
-    ensures right { IfErr result (Refuses bytes.now) }
+    ensures right { IfErr result (RefusesCore bytes.now) }
     ensures only { IfErr result IsEarly }
-    ensures early { (error : Refusal) → IsEarly error → Refuses bytes.now error → result ≡ Err error }
+    ensures early { (error : Refusal) → IsEarly error → RefusesCore bytes.now error → result ≡ Err error }
     ensures same { IfOk result (λ elf. elf ≡ bytes.now) }
     ensures noted { IfOk result (λ elf. HasNotes bytes.now) }
 {
@@ -76,7 +76,7 @@ fn read_notes<'a>(alloc: Global, elf: &Elf64<'a>) -> Result<Said<'a>, DumpError>
     requires { IsAccepted elf.now }
     ensures bad { IsErrOf result DumpError.BadNote → HasBadNote elf.now }
     ensures only { IfErr result (λ error. (error ≡ DumpError.BadNote) ⊎ (error ≡ DumpError.OutOfMemory)) }
-    ensures say { IfOk result (λ said. NotesSay elf.now said.statuses.items said.process (map entry_of said.entries.items)) }
+    ensures say { IfOk result (λ said. NotesSay elf.now said.statuses.items said.process (map file_entry_of said.entries.items)) }
 {
     let notes = core_notes(alloc, elf)?;
     if !are_whole(&notes) {
@@ -103,8 +103,8 @@ fn load_segments(alloc: Global, elf: &Elf64) -> Result<Vec<Segment>, AllocError>
 
 /// What is read of some bytes, if they are those of a core.
 pub(crate) fn read_core(alloc: Global, bytes: &[u8]) -> Result<Contents, DumpError>
-    ensures right { IfErr result (Refuses bytes.now) }
-    ensures early { (error : Refusal) → IsEarly error → Refuses bytes.now error → result ≡ Err error }
+    ensures right { IfErr result (RefusesCore bytes.now) }
+    ensures early { (error : Refusal) → IsEarly error → RefusesCore bytes.now error → result ≡ Err error }
     ensures are { IfOk result (AreContents bytes.now) }
 {
     let elf = accept(bytes)?;

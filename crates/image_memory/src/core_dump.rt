@@ -2,7 +2,7 @@
 ghost use Rattle.std.specs.Prelude.{◌≡◌, ◌≢◌, ◌⊎◌, ◌↔◌, ◌<◌, ◌≤◌, ◌*◌, List, ℕ, IfOk, IfErr, IfSome, IsTrue, is_some, Err, None, Option, Some, ◌+◌, length, option_and_then, option_copied, slice_get, slice_index, slice_range};
 ghost use Rattle.elf64_core.specs.Header.{machine_of};
 ghost use Rattle.image_memory.specs.Contents.{AreContents};
-ghost use Rattle.image_memory.specs.Cores.{IsCore, IsEarly, Refuses};
+ghost use Rattle.image_memory.specs.Cores.{IsCore, IsEarly, RefusesCore};
 ghost use Rattle.elf64_core.specs.Header.{HasSegments};
 ghost use Rattle.image_memory.specs.Maps.{AreMaps, ArePlaces, IsFilePlace, in_core, is_named};
 ghost use Rattle.image_memory.specs.declared.file_table.FilePlace.{FilePlace as Place};
@@ -78,9 +78,9 @@ impl CoreDump {
     /// table is shorter, or has fewer names, than its count says; and there no other error comes but want of
     /// memory. Else the one error is want of memory.
     pub fn new(alloc: Global, bytes: Vec<u8>) -> Result<CoreDump, DumpError>
-        ensures right { IfErr result (Refuses bytes.items) }
-        ensures early { (error : Refusal) → IsEarly error → Refuses bytes.items error → result ≡ Err error }
-        ensures only { (error : Refusal) → Refuses bytes.items error
+        ensures right { IfErr result (RefusesCore bytes.items) }
+        ensures early { (error : Refusal) → IsEarly error → RefusesCore bytes.items error → result ≡ Err error }
+        ensures only { (error : Refusal) → RefusesCore bytes.items error
             → (result ≡ Err error) ⊎ (result ≡ Err DumpError.OutOfMemory) ⊎ (error ≡ DumpError.OutOfMemory) }
         ensures same { IfOk result (λ core. core ≡ bytes.items) }
         ensures core { IfOk result (λ core. IsCore bytes.items) }

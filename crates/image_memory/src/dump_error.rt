@@ -1,5 +1,5 @@
 //! Why a file is no core dump.
-ghost use Rattle.image_memory.specs.Dumps.{refusal_of};
+ghost use Rattle.image_memory.specs.Dumps.{dump_refusal_of};
 ghost use Rattle.image_memory.specs.declared.dump_error.DumpError.TheVariants.{OutOfMemory};
 ghost use Rattle.std.specs.Prelude.{◌≡◌};
 
@@ -29,7 +29,7 @@ pub enum DumpError {
 }
 
 impl From<ElfError> for DumpError {
-    ghost from_gives = { λ error refusal. refusal ≡ refusal_of error };
+    ghost from_gives = { λ error refusal. refusal ≡ dump_refusal_of error };
 
     fn from(error: ElfError) -> Self {
         match error {

@@ -1,6 +1,6 @@
 //! File tables: which files a process had mapped.
 ghost use Rattle.std.specs.Prelude.{◌≡◌, ◌⊎◌, ◌+◌, ◌*◌, ◌<◌, ◌≤◌, IfOk, IfErr, IsErrOf, IfSome, MatchOption, length, map, position};
-ghost use Rattle.image_memory.specs.FileTables.{IsFileTable, IsFirstName, IsNoFileTable, entry_at, entry_of, is_nul};
+ghost use Rattle.image_memory.specs.FileTables.{IsFileTable, IsFirstName, IsNoFileTable, entry_at, file_entry_of, is_nul};
 
 use crate::DumpError;
 use elf64_core::u64_in;
@@ -54,7 +54,7 @@ fn first_name(bytes: &[u8]) -> Option<(&[u8], &[u8])>
 /// The entry of a number, with its name.
 fn entry_at<'a>(table: &[u8], number: usize, name: &'a [u8]) -> FileEntry<'a>
     requires { 40 + 24 * number ≤ length table.now }
-    ensures { entry_of result ≡ entry_at table.now number name.now }
+    ensures { file_entry_of result ≡ entry_at table.now number name.now }
 {
     let at = HEADER_SIZE + ENTRY_SIZE * number;
     FileEntry {
@@ -75,7 +75,7 @@ fn entry_at<'a>(table: &[u8], number: usize, name: &'a [u8]) -> FileEntry<'a>
 pub(crate) fn table_entries(alloc: Global, table: &[u8]) -> Result<Vec<FileEntry<'_>>, DumpError>
     ensures bad { IsErrOf result DumpError.BadNote → IsNoFileTable table.now }
     ensures only { IfErr result (λ error. (error ≡ DumpError.BadNote) ⊎ (error ≡ DumpError.OutOfMemory)) }
-    ensures entries { IfOk result (λ entries. IsFileTable table.now (map entry_of entries.items)) }
+    ensures entries { IfOk result (λ entries. IsFileTable table.now (map file_entry_of entries.items)) }
 {
     if table.len() < HEADER_SIZE {
         return Err(DumpError::BadNote);

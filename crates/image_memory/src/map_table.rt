@@ -2,7 +2,7 @@
 ghost use Rattle.std.specs.Prelude.{◌≡◌, All, IfOk, map};
 ghost use Rattle.image_memory.specs.MapTables.{MapSpans, map_range_of, past_last, past_of, tests};
 ghost use Rattle.image_memory.specs.Maps.{in_maps};
-ghost use Rattle.image_memory.specs.Overlays.{IsRange};
+ghost use Rattle.image_memory.specs.Overlays.{IsBoundedRange};
 
 use crate::lookup::look_up;
 use crate::overlay::table_of;
@@ -31,7 +31,7 @@ impl Model for MapTable {
 /// The addresses of a map below 2^64 - 1.
 fn map_range_of(map: &CoreMapRange) -> TableEntry
     ensures is { result ≡ map_range_of map.now }
-    ensures fits { IsRange result }
+    ensures fits { IsBoundedRange result }
 {
     let segment = &map.segment;
     TableEntry {
@@ -44,7 +44,7 @@ fn map_range_of(map: &CoreMapRange) -> TableEntry
 /// Those of some maps, in order.
 fn map_ranges_of(alloc: Global, maps: &[CoreMapRange]) -> Result<Vec<TableEntry>, AllocError>
     ensures are { IfOk result (λ ranges. ranges.items ≡ map map_range_of maps.now) }
-    ensures fit { IfOk result (λ ranges. All IsRange ranges.items) }
+    ensures fit { IfOk result (λ ranges. All IsBoundedRange ranges.items) }
 {
     let mut ranges = Vec::new(alloc);
     for map in maps {

@@ -3,7 +3,7 @@ ghost use Rattle.std.specs.Prelude.{◌≡◌, ◌↔◌, ℕ, Bool, IsTrue, IfO
 ghost use Rattle.std.specs.Ordering.{nat_cmp};
 ghost use Rattle.std.specs.BTreeMap.{get};
 ghost use Rattle.std.specs.Int.{IsBitSet};
-ghost use Rattle.image_memory.specs.FileTables.{entry_of};
+ghost use Rattle.image_memory.specs.FileTables.{file_entry_of};
 ghost use Rattle.image_memory.specs.Maps.{entry_for, named_by, placed_by, holds_addr, in_maps};
 
 use crate::file_table::{FileEntry, FilePlace};
@@ -105,7 +105,7 @@ pub(crate) fn last_entries<'a>(
     entries: Vec<FileEntry<'a>>,
 ) -> Result<BTreeMap<u64, FileEntry<'a>>, AllocError>
     ensures { IfOk result (λ last. (addr : ℕ)
-        → option_map entry_of (get nat_cmp last addr) ≡ entry_for (map entry_of entries.entry.items) addr) }
+        → option_map file_entry_of (get nat_cmp last addr) ≡ entry_for (map file_entry_of entries.entry.items) addr) }
 {
     let mut last = BTreeMap::new(alloc);
     for entry in entries {
@@ -120,7 +120,7 @@ fn map_with(
     segment: Segment,
     entry: Option<FileEntry<'_>>,
 ) -> Result<CoreMapRange, AllocError>
-    ensures { IfOk result (λ map. map ≡ named_by (option_map entry_of entry.entry) segment) }
+    ensures { IfOk result (λ map. map ≡ named_by (option_map file_entry_of entry.entry) segment) }
 {
     let pathname = match entry {
         Some(entry) => Some(Name::of(alloc, entry.name)?),
@@ -136,7 +136,7 @@ pub(crate) fn maps_of(
     last: &BTreeMap<u64, FileEntry<'_>>,
 ) -> Result<Vec<CoreMapRange>, AllocError>
     ensures { IfOk result (λ maps. maps.items
-        ≡ map (λ s. named_by (option_map entry_of (get nat_cmp last.now s.addr)) s) loads.now) }
+        ≡ map (λ s. named_by (option_map file_entry_of (get nat_cmp last.now s.addr)) s) loads.now) }
 {
     let mut maps = Vec::new(alloc);
     for segment in loads.iter().copied() {
@@ -153,7 +153,7 @@ pub(crate) fn places_of(
     last: &BTreeMap<u64, FileEntry<'_>>,
 ) -> Result<Vec<Option<FilePlace>>, AllocError>
     ensures { IfOk result (λ places. places.items
-        ≡ map (λ s. placed_by (option_map entry_of (get nat_cmp last.now s.addr))) loads.now) }
+        ≡ map (λ s. placed_by (option_map file_entry_of (get nat_cmp last.now s.addr))) loads.now) }
 {
     let mut places = Vec::new(alloc);
     for segment in loads.iter().copied() {

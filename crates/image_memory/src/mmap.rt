@@ -1,6 +1,6 @@
 //! The bytes of a file in memory, and views of them.
 ghost use Rattle.std.specs.Prelude.{◌≡◌, ◌≤◌, ◌⊎◌, IsErrOf, SomeIff, Ok, length, max};
-ghost use Rattle.elf64_core.specs.BuildIds.{Found, FileSays};
+ghost use Rattle.elf64_core.specs.BuildIds.{FoundBuildId, FileHoldsBuildId};
 ghost use Rattle.image_memory.specs.Mmap.{Mapped, IsInView, narrowed, shown_bytes, whole_view};
 
 use elf64_core::{BuildId, ElfError, read_elf_build_id};
@@ -83,8 +83,8 @@ impl Mmap {
 
 /// A copy of the build id of the bytes that a view shows: see `read_elf_build_id`.
 pub fn read_elf_build_id_from_mmap(alloc: Global, mmap: &Mmap) -> Result<Option<BuildId>, ElfError>
-    ensures right { IsErrOf result ElfError.OutOfMemory ⊎ FileSays (shown_bytes mmap.now) result }
-    ensures only { (other : Found) → FileSays (shown_bytes mmap.now) other
+    ensures right { IsErrOf result ElfError.OutOfMemory ⊎ FileHoldsBuildId (shown_bytes mmap.now) result }
+    ensures only { (other : FoundBuildId) → FileHoldsBuildId (shown_bytes mmap.now) other
         → IsErrOf result ElfError.OutOfMemory ⊎ (other ≡ result) }
 {
     read_elf_build_id(alloc, mmap.as_slice())

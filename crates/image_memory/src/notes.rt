@@ -2,11 +2,11 @@
 ghost use Rattle.std.specs.Prelude.{◌≡◌, ◌⊎◌, ◌↔◌, List, IfOk, IfErr, IsErrOf, IsTrue, All, filter, filter_map, find, map, nat_eq, option_and_then, reverse};
 ghost use Rattle.elf64_core.specs.Header.{IsAccepted};
 ghost use Rattle.elf64_core.specs.Notes.{Noted, noted};
-ghost use Rattle.image_memory.specs.FileTables.{Entry, entry_of};
-ghost use Rattle.image_memory.specs.Notes.{NotesOf, TablesSay, IsWhole, note_segments, is_table, process_kind, process_of, status_of};
+ghost use Rattle.image_memory.specs.FileTables.{Entry, file_entry_of};
+ghost use Rattle.image_memory.specs.Notes.{NotesOf, TablesSay, IsWhole, note_segments, is_table, process_kind, process_of, status_noted};
 
 use crate::file_table::{FileEntry, table_entries};
-use crate::records::{PROCESS, PROCESS_SIZE, STATUS, STATUS_SIZE, process_of, status_of};
+use crate::records::{PROCESS, PROCESS_SIZE, STATUS, STATUS_SIZE, process_of, status_noted};
 use crate::{DumpError, elf_prpsinfo, elf_prstatus};
 use elf64_core::{Elf64, NOTE, Note};
 use std::alloc::{AllocError, Global};
@@ -55,11 +55,11 @@ pub(crate) fn are_whole(notes: &[Note]) -> bool
 
 /// What the status records among some notes say, in order.
 pub(crate) fn statuses_of(alloc: Global, notes: &[Note]) -> Result<Vec<elf_prstatus>, AllocError>
-    ensures { IfOk result (λ statuses. statuses.items ≡ filter_map (λ note. status_of (noted note)) notes.now) }
+    ensures { IfOk result (λ statuses. statuses.items ≡ filter_map (λ note. status_noted (noted note)) notes.now) }
 {
     notes
         .iter()
-        .filter_map(|note| status_of(note))
+        .filter_map(|note| status_noted(note))
         .collect(alloc)
 }
 
@@ -88,7 +88,7 @@ pub(crate) fn file_entries<'a>(
         → (entries : List Entry) → TablesSay (filter is_table (map noted notes.entry.items)) entries → ⊥ }
     ensures only { IfErr result (λ error. (error ≡ DumpError.BadNote) ⊎ (error ≡ DumpError.OutOfMemory)) }
     ensures entries { IfOk result (λ entries.
-        TablesSay (filter is_table (map noted notes.entry.items)) (map entry_of entries.items)) }
+        TablesSay (filter is_table (map noted notes.entry.items)) (map file_entry_of entries.items)) }
 {
     let mut entries = Vec::new(alloc);
     for note in notes {

@@ -1,8 +1,8 @@
 //! Ranges of addresses laid over each other: the first that holds an address wins.
 ghost use Rattle.std.specs.Prelude.{◌≡◌, ◌+◌, ◌-◌, ◌<◌, ◌≤◌, ◌^◌, ◌++◌, ◌⊎◌, All, IfOk, List, [], ◌∷◌, length, drop, map};
 ghost use Rattle.elf64_core.specs.SpanTables.{AreSpans};
-ghost use Rattle.image_memory.specs.Laid.{AreBelow, AreLaid, HasRoom, HaveRoom, Rises, entry_of, overlaid, part_between, parts_between};
-ghost use Rattle.image_memory.specs.Overlays.{ArePieces, IsRange};
+ghost use Rattle.image_memory.specs.Laid.{AreBelow, AreLaid, HasPieceRoom, HaveRoom, Rises, table_entry_of, overlaid, part_between, parts_between};
+ghost use Rattle.image_memory.specs.Overlays.{ArePieces, IsBoundedRange};
 
 use elf64_core::{SpanTable, TableEntry};
 use std::alloc::{AllocError, Global};
@@ -27,7 +27,7 @@ struct Gap {
 /// The part of a piece that lies in a gap, if any does.
 #[tactic(auto, unfolding(crate::specs::Laid::part_between))]
 fn part_between(piece: Owned, gap: Gap) -> Option<Owned>
-    requires { HasRoom gap.shift piece }
+    requires { HasPieceRoom gap.shift piece }
     ensures { result ≡ part_between gap.low gap.high gap.shift piece }
 {
     let entry = piece.entry;
@@ -118,7 +118,7 @@ fn lay_one(alloc: Global, range: TableEntry) -> Result<Vec<Owned>, AllocError>
 /// The pieces of ranges, each the longest interval of addresses of which its range is the first that holds
 /// them. Those of one half are laid over those of the other, so that time goes by n log n, which no clause says.
 pub(crate) fn lay(alloc: Global, ranges: &[TableEntry]) -> Result<Vec<Owned>, AllocError>
-    requires { All IsRange ranges.now }
+    requires { All IsBoundedRange ranges.now }
     ensures { IfOk result (λ laid. AreLaid ranges.now laid.items) }
 {
     match ranges {
@@ -135,15 +135,15 @@ pub(crate) fn lay(alloc: Global, ranges: &[TableEntry]) -> Result<Vec<Owned>, Al
 
 /// The addresses of pieces.
 fn entries_of(alloc: Global, laid: &[Owned]) -> Result<Vec<TableEntry>, AllocError>
-    ensures { IfOk result (λ entries. entries.items ≡ map entry_of laid.now) }
+    ensures { IfOk result (λ entries. entries.items ≡ map table_entry_of laid.now) }
 {
     laid.iter().map(|piece| piece.entry).collect(alloc)
 }
 
 /// Pieces as a table. More than 2^32 - 1 are refused for want of memory.
 pub(crate) fn table_of_laid(alloc: Global, laid: &[Owned]) -> Result<SpanTable, AllocError>
-    requires { length laid.now < 2 ^ 32 → AreSpans (map entry_of laid.now) }
-    ensures { IfOk result (λ table. table ≡ map entry_of laid.now) }
+    requires { length laid.now < 2 ^ 32 → AreSpans (map table_entry_of laid.now) }
+    ensures { IfOk result (λ table. table ≡ map table_entry_of laid.now) }
 {
     if laid.len() > u32::MAX as usize {
         return Err(AllocError);
@@ -154,7 +154,7 @@ pub(crate) fn table_of_laid(alloc: Global, laid: &[Owned]) -> Result<SpanTable, 
 
 /// The pieces of ranges as a table: see `lay`.
 pub(crate) fn table_of(alloc: Global, ranges: &[TableEntry]) -> Result<SpanTable, AllocError>
-    requires { All IsRange ranges.now }
+    requires { All IsBoundedRange ranges.now }
     ensures { IfOk result (λ table. ArePieces ranges.now table) }
 {
     let laid = lay(alloc, ranges)?;

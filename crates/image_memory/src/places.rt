@@ -1,6 +1,6 @@
 //! Where the bytes of a core's memory stand in its file.
 ghost use Rattle.std.specs.Prelude.{◌≡◌, ◌≤◌, All, IfOk, length, map, slice_range};
-ghost use Rattle.image_memory.specs.Overlays.{ArePieces, IsRange};
+ghost use Rattle.image_memory.specs.Overlays.{ArePieces, IsBoundedRange};
 ghost use Rattle.image_memory.specs.Pieces.{range_of};
 
 use crate::overlay::table_of;
@@ -27,7 +27,7 @@ fn ranges_of(alloc: Global, loads: &[Segment]) -> Result<Vec<TableEntry>, AllocE
 
 /// The pieces of memory that the bytes of load segments are.
 pub(crate) fn pieces_of(alloc: Global, loads: &[Segment]) -> Result<SpanTable, AllocError>
-    requires { All IsRange (map range_of loads.now) }
+    requires { All IsBoundedRange (map range_of loads.now) }
     ensures { IfOk result (λ table. ArePieces (map range_of loads.now) table) }
 {
     let ranges = ranges_of(alloc, loads)?;

@@ -1,7 +1,7 @@
 //! What a core's notes say of the process and its threads.
 ghost use Rattle.std.specs.Prelude.{◌≡◌, ◌≤◌, length};
 ghost use Rattle.elf64_core.specs.Notes.{noted};
-ghost use Rattle.image_memory.specs.Notes.{status_in, process_in, status_of, process_of};
+ghost use Rattle.image_memory.specs.Notes.{status_in, process_in, status_noted, process_of};
 
 use elf64_core::{Note, u16_in, u32_in};
 
@@ -67,8 +67,8 @@ fn process_in(desc: &[u8]) -> elf_prpsinfo
 }
 
 /// What a note says, if it is a status record that is long enough.
-pub(crate) fn status_of(note: &Note) -> Option<elf_prstatus>
-    ensures { result ≡ status_of (noted note.now) }
+pub(crate) fn status_noted(note: &Note) -> Option<elf_prstatus>
+    ensures { result ≡ status_noted (noted note.now) }
 {
     if note.kind == STATUS && note.desc.len() >= STATUS_SIZE {
         Some(status_in(note.desc))

@@ -27,8 +27,8 @@ abbrev pub after_inode : List ℕ → List ℕ
 after_inode line = behind (after_device line)
 
 -- START-END
-abbrev pub range_of : List ℕ → Range ℕ
-range_of line = record {
+abbrev pub line_range_of : List ℕ → Range ℕ
+line_range_of line = record {
   start = digits_value 16 (before_dash (field line));
   end = digits_value 16 (after_dash (field line));
 }
@@ -36,20 +36,20 @@ range_of line = record {
 abbrev pub perm_in_line : List ℕ → Perm
 perm_in_line line = perm_of (field (after_range line))
 
-abbrev pub offset_of : List ℕ → ℕ
-offset_of line = digits_value 16 (field (after_mode line))
+abbrev pub map_offset_of : List ℕ → ℕ
+map_offset_of line = digits_value 16 (field (after_mode line))
 
 -- what stands behind the inode, without the white space at its ends; nothing where no white space follows it
-abbrev pub path_of : List ℕ → List ℕ
-path_of line = trimmed (after_inode line)
+abbrev pub line_path_of : List ℕ → List ℕ
+line_path_of line = trimmed (after_inode line)
 
 -- the entry of a line without a fault
-abbrev pub entry_of : ℕ → List ℕ → MapsEntry
-entry_of pid line = record {
-  range = range_of line;
+abbrev pub line_entry_of : ℕ → List ℕ → MapsEntry
+line_entry_of pid line = record {
+  range = line_range_of line;
   perm = perm_in_line line;
-  offset = offset_of line;
-  path_name = path_name_of pid (range_of line) (path_of line);
+  offset = map_offset_of line;
+  path_name = path_name_of pid (line_range_of line) (line_path_of line);
   build_id = None;
 }
 
@@ -73,8 +73,8 @@ abbrev pub device_faults : List ℕ → List (Bool × MapsError)
 device_faults rest = (not (has_white rest), NoDevice) ∷ []
 
 -- what may be wrong with a line, in the order in which it is looked for
-abbrev pub faults : List ℕ → List (Bool × MapsError)
-faults line = range_faults line ++ (mode_faults (after_range line)
+abbrev pub line_faults : List ℕ → List (Bool × MapsError)
+line_faults line = range_faults line ++ (mode_faults (after_range line)
     ++ (offset_faults (after_mode line) ++ device_faults (after_offset line)))
 
 -- the first cause that is so
@@ -88,8 +88,8 @@ entry_or None entry = Ok entry
 entry_or (Some error) entry = Err error
 
 -- what a line says of a map of a process: its entry, or its first fault
-abbrev pub line_of : ℕ → List ℕ → Result MapsEntry MapsError
-line_of pid line = entry_or (first_fault (faults line)) (entry_of pid line)
+abbrev pub maps_line_of : ℕ → List ℕ → Result MapsEntry MapsError
+maps_line_of pid line = entry_or (first_fault (line_faults line)) (line_entry_of pid line)
 
 -- the right answer, or want of memory
 abbrev pub IsAnswer : Result MapsEntry MapsError → Result MapsEntry MapsError → Type 0

@@ -10,13 +10,13 @@ abbrev pub is_relevant : MapsEntry → Bool
 is_relevant entry = has_bits entry.perm.0 4 || has_bits entry.perm.0 1
 
 -- a relevant entry, or an error
-abbrev pub is_kept : Result MapsEntry MapsError → Bool
-is_kept (Ok entry) = is_relevant entry
-is_kept (Err error) = true
+abbrev pub is_relevant_line : Result MapsEntry MapsError → Bool
+is_relevant_line (Ok entry) = is_relevant entry
+is_relevant_line (Err error) = true
 
 -- an answer came for a line and is kept; `right` is the line's right answer
 abbrev pub KeptFor : Result MapsEntry MapsError → Option (Result MapsEntry MapsError) → Type 0
-KeptFor right item = IsSomeAnd item (λ result. IsAnswer right result × (is_kept result ≡ true))
+KeptFor right item = IsSomeAnd item (λ result. IsAnswer right result × (is_relevant_line result ≡ true))
 
 -- Of lines with these right answers, the first that was kept came, and some lines are left behind it; or none
 -- was kept, and none is left
@@ -24,4 +24,4 @@ abbrev pub KeptFirst : List (Result MapsEntry MapsError) → Option (Result Maps
     → List (Result MapsEntry MapsError) → Type 0
 KeptFirst [] item left = (item ≡ None) × (left ≡ [])
 KeptFirst (right ∷ others) item left =
-    (KeptFor right item × (left ≡ others)) ⊎ ((is_kept right ≡ false) × KeptFirst others item left)
+    (KeptFor right item × (left ≡ others)) ⊎ ((is_relevant_line right ≡ false) × KeptFirst others item left)

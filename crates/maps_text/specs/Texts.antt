@@ -3,7 +3,7 @@ use Rattle.std.specs.Prelude.{ℕ, ◌==◌, Bool, if◌then◌else◌, List, []
 use Rattle.std.specs.List.{onto_first}
 use Rattle.maps_text.specs.declared.entry.MapsEntry.{MapsEntry}
 use Rattle.maps_text.specs.declared.error.MapsError.{MapsError}
-use Rattle.maps_text.specs.Lines.{line_of}
+use Rattle.maps_text.specs.Lines.{maps_line_of}
 
 abbrev pub is_newline : ℕ → Bool
 is_newline byte = byte == 10
@@ -15,4 +15,4 @@ lines_of (byte ∷ text) = if is_newline byte then [] ∷ lines_of text else ont
 
 -- what the lines say of the maps of a process, in order
 abbrev pub answers_of : ℕ → List ℕ → List (Result MapsEntry MapsError)
-answers_of pid text = map (line_of pid) (lines_of text)
+answers_of pid text = map (maps_line_of pid) (lines_of text)

@@ -1,6 +1,6 @@
 //! The entries that matter for addresses.
 ghost use Rattle.std.specs.Prelude.{◌≡◌};
-ghost use Rattle.maps_text.specs.Relevance.{is_relevant, is_kept};
+ghost use Rattle.maps_text.specs.Relevance.{is_relevant, is_relevant_line};
 ghost use Rattle.maps_text.specs.Rest.{answers_left};
 ghost use Rattle.maps_text.specs.RestKept.{unfiltered};
 
@@ -14,8 +14,8 @@ pub fn filter_relevant(entry: &MapsEntry) -> bool
 }
 
 /// Whether an answer is kept: a relevant entry, or an error.
-fn is_kept(answer: &Result<MapsEntry, MapsError>) -> bool
-    ensures { result ≡ is_kept answer.now }
+fn is_relevant_line(answer: &Result<MapsEntry, MapsError>) -> bool
+    ensures { result ≡ is_relevant_line answer.now }
 {
     match answer {
         Ok(entry) => filter_relevant(entry),
@@ -51,7 +51,7 @@ impl<'a> Iterator for FilteredEntries<'a> {
     fn next(&mut self) -> Option<Result<MapsEntry, MapsError>> {
         loop {
             let answer = self.entries.next()?;
-            if is_kept(&answer) {
+            if is_relevant_line(&answer) {
                 return Some(answer);
             }
         }

@@ -1,6 +1,6 @@
 //! One line.
 ghost use Rattle.std.specs.Prelude.{◌≡◌, Some, None, MatchResult};
-ghost use Rattle.maps_text.specs.Lines.{range_of, perm_in_line, offset_of, path_of, first_fault, range_faults, mode_faults, offset_faults, device_faults, faults, line_of, IsAnswer};
+ghost use Rattle.maps_text.specs.Lines.{line_range_of, perm_in_line, map_offset_of, line_path_of, first_fault, range_faults, mode_faults, offset_faults, device_faults, line_faults, maps_line_of, IsAnswer};
 ghost use Rattle.maps_text.specs.Fields.{behind, field, trimmed};
 ghost use Rattle.maps_text.specs.Perms.{perm_of};
 ghost use Rattle.std.specs.Str.Parse.{digits_value};
@@ -24,7 +24,7 @@ struct Fields<'a> {
 /// The range that a line begins with, and what stands behind it.
 fn range_in(line: &[u8]) -> Result<(Range<u64>, &[u8]), MapsError>
     ensures { MatchResult result (λ parts. (first_fault (range_faults line.now) ≡ None)
-        × (parts.0 ≡ range_of line.now) × (parts.1.now ≡ behind line.now))
+        × (parts.0 ≡ line_range_of line.now) × (parts.1.now ≡ behind line.now))
         (λ error. first_fault (range_faults line.now) ≡ Some error) }
 {
     let Some((range, rest)) = cut_field(line) else {
@@ -89,10 +89,10 @@ fn path_in(bytes: &[u8]) -> Result<&[u8], MapsError>
 
 /// The fields of a line.
 fn fields_in(line: &[u8]) -> Result<Fields<'_>, MapsError>
-    ensures { MatchResult result (λ fields. (first_fault (faults line.now) ≡ None)
-        × (fields.range ≡ range_of line.now) × (fields.perm ≡ perm_in_line line.now)
-        × (fields.offset ≡ offset_of line.now) × (fields.path.now ≡ path_of line.now))
-        (λ error. first_fault (faults line.now) ≡ Some error) }
+    ensures { MatchResult result (λ fields. (first_fault (line_faults line.now) ≡ None)
+        × (fields.range ≡ line_range_of line.now) × (fields.perm ≡ perm_in_line line.now)
+        × (fields.offset ≡ map_offset_of line.now) × (fields.path.now ≡ line_path_of line.now))
+        (λ error. first_fault (line_faults line.now) ≡ Some error) }
 {
     let (range, rest) = range_in(line)?;
     let (perm, rest) = mode_in(rest)?;
@@ -113,7 +113,7 @@ pub(crate) fn parse_line(
     line: &[u8],
     pid: u32,
 ) -> Result<MapsEntry, MapsError>
-    ensures { IsAnswer (line_of pid line.now) result }
+    ensures { IsAnswer (maps_line_of pid line.now) result }
 {
     let fields = fields_in(line)?;
     let path_name = path_name(alloc, text, pid, &fields.range, fields.path)?;

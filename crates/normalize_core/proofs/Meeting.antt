@@ -11,10 +11,10 @@ use Rattle.normalize_core.specs.declared.meta.Reason.{Reason}
 use Rattle.normalize_core.specs.declared.meta.Reason.TheVariants.{Unmapped, MissingComponent, Unsupported}
 use Rattle.normalize_core.specs.declared.meta.UserMeta.{UserMeta}
 use Rattle.normalize_core.specs.declared.metas.Metas.{Metas}
-use Rattle.normalize_core.specs.Met.{HasMet, has_target, number_of, output_by}
-use Rattle.normalize_core.specs.Normal.{Asked, Normal, IsMetaAt, IsNormal, first_addrs, number_at, output_at}
+use Rattle.normalize_core.specs.Met.{HasMet, has_target, meta_number_of, output_by}
+use Rattle.normalize_core.specs.Normal.{Asked, Normal, IsMetaAt, IsNormal, first_addrs, meta_number_at, output_at}
 use Rattle.normalize_core.specs.Numbered.{number_in}
-use Rattle.normalize_core.specs.Targets.{Target, same_target, same_reason, target_at, value_at, meets}
+use Rattle.normalize_core.specs.Targets.{Target, same_target, same_reason, target_at, normal_value_at, meets}
 
 -- targets that are the same are equal
 reason-refl : (r : Reason) → same_reason r r ≡ true
@@ -325,10 +325,10 @@ output-met asked ascending metas h [] = refl
 output-met asked ascending metas h (a ∷ rest) =
     let t = key asked a in
     let count = each-length (IsMetaAt asked) (first_addrs asked ascending) metas.list.items h.list in
-    let number : number_of metas t ≡ number_at asked ascending a =
+    let number : meta_number_of metas t ≡ meta_number_at asked ascending a =
     ap (λ o. unwrap_or o (length metas.list.items)) (h.numbers t)
     ∙ position-or (has_target asked t) (first_addrs asked ascending) (length metas.list.items) count in
-    ap (λ n. (value_at asked.entries a, n) ∷ map (output_by asked metas) rest) number
+    ap (λ n. (normal_value_at asked.entries a, n) ∷ map (output_by asked metas) rest) number
     ∙ ap (λ os. output_at asked ascending a ∷ os) (output-met asked ascending metas h rest)
 
 -- each output has the number of a meta
@@ -341,7 +341,7 @@ numbered asked addrs n h =
     firsts_of : List ℕ
     firsts_of = first_addrs asked h.ascending
 
-    each : (k d : ℕ) → k < length addrs → number_at asked h.ascending (get_or addrs k d) < length n.metas
+    each : (k d : ℕ) → k < length addrs → meta_number_at asked h.ascending (get_or addrs k d) < length n.metas
     each k d lt =
         let p = has_target asked (key asked (get_or addrs k d)) in
         let here = list_any_at p addrs k d lt (same-refl (key asked (get_or addrs k d))) in

@@ -2,7 +2,7 @@
 use Rattle.std.proofs.Common.{◌≡◌, ℕ, Bool, true, false, List, [], ◌∷◌, Option, Some, None, Result, Ok, Err, inl, inr, refl, sym, ap, subst, ◌∙◌}
 use Rattle.std.specs.Prelude.{map}
 use Rattle.std.specs.List.{AllZip}
-use Rattle.elf64_core.specs.BuildIds.{Found, FileSays}
+use Rattle.elf64_core.specs.BuildIds.{FoundBuildId, FileHoldsBuildId}
 use Rattle.elf64_core.proofs.Found.{BuildIdIs-once}
 use Rattle.image_memory.specs.Images.{Pushed, first_under}
 use Rattle.image_memory.specs.Mmap.{Mapped, shown_bytes}
@@ -11,11 +11,11 @@ use Rattle.normalize_core.specs.declared.error.NormalizeError.{NormalizeError}
 use Rattle.normalize_core.specs.declared.meta.UserMeta.{UserMeta}
 use Rattle.normalize_core.specs.declared.meta.UserMeta.TheVariants as meta
 use Rattle.normalize_core.specs.BuildIds.{id_in, FileHasId, ImageHasId, SoughtId, IsBuildId, own_id}
-use Rattle.normalize_core.specs.Normal.{Asked, Normal, IsMetaOf, IsMetaAt, IsNormal, IsRight, first_addrs, output_at}
+use Rattle.normalize_core.specs.Normal.{Asked, Normal, IsMetaOf, IsMetaAt, IsNormal, IsNormalOrFault, first_addrs, output_at}
 use Rattle.normalize_core.specs.Targets.{Target, covering, target_at}
 use Rattle.normalize_core.proofs.Orders.{ascending-once}
 
-FileSays-once : (bytes : List ℕ) (r s : Found) → FileSays bytes r → FileSays bytes s → r ≡ s
+FileSays-once : (bytes : List ℕ) (r s : FoundBuildId) → FileHoldsBuildId bytes r → FileHoldsBuildId bytes s → r ≡ s
 FileSays-once bytes r s (inl h) (inl k) = h.1 ∙ sym k.1
 FileSays-once bytes r s (inl h) (inr (inl k)) = absurd (h.0 k.0)
 FileSays-once bytes r s (inl h) (inr (inr k)) = absurd (h.0 k.0.header)
@@ -75,7 +75,7 @@ normal-once asked addrs x y h k =
     ap (λ os. normal_with os x.metas) outputs ∙ ap (λ ms. normal_with y.outputs ms) metas
 
 pub right-once : (asked : Asked) (sorted : Bool) (addrs : List ℕ) (x y : Result Normal NormalizeError)
-    → IsRight asked sorted addrs x → IsRight asked sorted addrs y → x ≡ y
+    → IsNormalOrFault asked sorted addrs x → IsNormalOrFault asked sorted addrs y → x ≡ y
 right-once asked sorted addrs (Ok x) (Ok y) h k = ap (λ (n : Normal). Ok n) (normal-once asked addrs x y h.1 k.1)
 right-once asked sorted addrs (Ok x) (Err d) h k = let both : None ≡ Some d = sym h.0 ∙ k in cc
 right-once asked sorted addrs (Err e) (Ok y) h k = let both : None ≡ Some e = sym k.0 ∙ h in cc

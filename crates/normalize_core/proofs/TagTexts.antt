@@ -6,7 +6,7 @@ use Rattle.std.specs.Prelude.{All}
 use Rattle.std.proofs.lemmas.Bool.{agree_below_at, eqb-true, lt-ltb, cond-true, cond-false, eq-eqb}
 use Rattle.std.proofs.lemmas.List.{take_more}
 use Rattle.std.proofs.lemmas.List.Elements.{All-head, All-tail}
-use Rattle.normalize_core.specs.Tags.{tag_text, hex_value, first_value, joined, pair_value, before, pairs_of, tag_of}
+use Rattle.normalize_core.specs.Tags.{tag_text, hex_value, first_value, joined_digits, pair_value, before, pairs_of, tag_of}
 
 -- the value of the digit that is written for a number
 glyph_value : (d : ℕ) → d < 16 → digit_value (digit_glyph false d) ≡ d
@@ -32,8 +32,8 @@ pair_back b lt =
     let high : b / 16 < 16 = omega arith in
     let low : b % 16 < 16 = omega arith in
     let whole : 16 * (b / 16) + b % 16 ≡ b = omega arith in
-    ap (λ h. joined h (hex_value (digit_glyph false (b % 16)))) (glyph_first (b / 16) high)
-    ∙ ap (λ l. joined (Some (b / 16)) l) (glyph_hex (b % 16) low)
+    ap (λ h. joined_digits h (hex_value (digit_glyph false (b % 16)))) (glyph_first (b / 16) high)
+    ∙ ap (λ l. joined_digits (Some (b / 16)) l) (glyph_hex (b % 16) low)
     ∙ ap (λ n. Some n) whole
 
 abbrev IsByte : ℕ → Type 0

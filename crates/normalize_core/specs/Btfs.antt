@@ -16,5 +16,5 @@ strings_in header bytes = if nat_le (strings_end header) (length bytes)
     then Some (slice_range bytes (strings_start header) (strings_end header)) else None
 
 -- the name at an offset of the strings: up to the next nul
-abbrev pub name_in : btf_header → List ℕ → ℕ → Option (List ℕ)
-name_in header bytes offset = string_in (strings_in header bytes) offset
+abbrev pub btf_name_in : btf_header → List ℕ → ℕ → Option (List ℕ)
+btf_name_in header bytes offset = string_in (strings_in header bytes) offset

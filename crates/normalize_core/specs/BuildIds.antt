@@ -1,19 +1,19 @@
 -- The build id that a file is reported with.
 use Rattle.std.specs.Prelude.{◌≡◌, ℕ, Bool, true, false, List, Option, Some, None, Ok, Err}
-use Rattle.elf64_core.specs.BuildIds.{Found, FileSays}
+use Rattle.elf64_core.specs.BuildIds.{FoundBuildId, FileHoldsBuildId}
 use Rattle.image_memory.specs.Images.{Pushed, first_under}
 use Rattle.image_memory.specs.Mmap.{Mapped, shown_bytes}
 use Rattle.maps_text.specs.declared.entry.MapsEntry.{MapsEntry}
 
 -- none where the file is bad
-abbrev pub id_in : Found → Option (List ℕ)
+abbrev pub id_in : FoundBuildId → Option (List ℕ)
 id_in (Ok id) = id
 id_in (Err error) = None
 
 -- the build id in the bytes of a file; none where they have none or are bad
 pub record FileHasId (bytes : List ℕ) (id : Option (List ℕ)) : Type 0 where
-  pub found : Found
-  pub says : FileSays bytes found
+  pub found : FoundBuildId
+  pub says : FileHoldsBuildId bytes found
   pub is : id ≡ id_in found
 
 abbrev pub ImageHasId : Option Mapped → Option (List ℕ) → Type 0

@@ -4,7 +4,7 @@ use Rattle.std.specs.List.{AllZip, position}
 use Rattle.normalize_core.specs.declared.metas.Metas.{Metas}
 use Rattle.normalize_core.specs.Normal.{Asked, IsMetaAt, first_addrs}
 use Rattle.normalize_core.specs.Numbered.{number_in}
-use Rattle.normalize_core.specs.Targets.{Target, same_target, target_at, value_at}
+use Rattle.normalize_core.specs.Targets.{Target, same_target, target_at, normal_value_at}
 
 -- an address has a target
 abbrev pub has_target : Asked → Target → ℕ → Bool
@@ -17,10 +17,10 @@ pub record HasMet (asked : Asked) (met : List ℕ) (metas : Metas) : Type 0 wher
   pub list : AllZip (IsMetaAt asked) (first_addrs asked met) metas.list.items
 
 -- the number of a target; that of the metas where it was not met
-abbrev pub number_of : Metas → Target → ℕ
-number_of metas target = unwrap_or (number_in metas.numbers target) (length metas.list.items)
+abbrev pub meta_number_of : Metas → Target → ℕ
+meta_number_of metas target = unwrap_or (number_in metas.numbers target) (length metas.list.items)
 
 -- the output of an address by what has been met
 abbrev pub output_by : Asked → Metas → ℕ → ℕ × ℕ
 output_by asked metas addr =
-    (value_at asked.entries addr, number_of metas (target_at asked.entries asked.map_files addr))
+    (normal_value_at asked.entries addr, meta_number_of metas (target_at asked.entries asked.map_files addr))

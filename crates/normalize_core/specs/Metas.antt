@@ -11,6 +11,6 @@ elf_in (meta.Elf elf) = Some elf
 elf_in (meta.Unknown unknown) = None
 
 -- why it is no file
-abbrev pub unknown_in : UserMeta → Option Unknown
-unknown_in (meta.Elf elf) = None
-unknown_in (meta.Unknown unknown) = Some unknown
+abbrev pub unknown_of_meta : UserMeta → Option Unknown
+unknown_of_meta (meta.Elf elf) = None
+unknown_of_meta (meta.Unknown unknown) = Some unknown

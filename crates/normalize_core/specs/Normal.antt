@@ -11,7 +11,7 @@ use Rattle.normalize_core.specs.declared.meta.UserMeta.TheVariants as meta
 use Rattle.normalize_core.specs.BuildIds.{IsBuildId, own_id}
 use Rattle.normalize_core.specs.Firsts.{firsts}
 use Rattle.normalize_core.specs.Order.{ascends, in_order}
-use Rattle.normalize_core.specs.Targets.{Target, covering, target_at, value_at, overflows, meets}
+use Rattle.normalize_core.specs.Targets.{Target, covering, target_at, normal_value_at, overflows, meets}
 
 -- what a call is given besides the addresses: the entries, the images, and whether build ids are on and files
 -- are reported by their ranges
@@ -21,8 +21,8 @@ pub record Asked : Type 0 where
   pub build_ids : Bool
   pub map_files : Bool
 
-abbrev pub asked_by : Bool → List MapsEntry → Pushed → Bool → Asked
-asked_by build_ids entries images map_files = record {
+abbrev pub normalizing_by : Bool → List MapsEntry → Pushed → Bool → Asked
+normalizing_by build_ids entries images map_files = record {
   entries = entries;
   images = images;
   build_ids = build_ids;
@@ -46,12 +46,12 @@ abbrev pub first_addrs : Asked → List ℕ → List ℕ
 first_addrs asked ascending = firsts (meets asked.entries asked.map_files) ascending
 
 -- the number, among those, of the one that has the target of an address
-abbrev pub number_at : Asked → List ℕ → ℕ → ℕ
-number_at asked ascending addr =
+abbrev pub meta_number_at : Asked → List ℕ → ℕ → ℕ
+meta_number_at asked ascending addr =
     position_or_len (meets asked.entries asked.map_files addr) (first_addrs asked ascending)
 
 abbrev pub output_at : Asked → List ℕ → ℕ → ℕ × ℕ
-output_at asked ascending addr = (value_at asked.entries addr, number_at asked ascending addr)
+output_at asked ascending addr = (normal_value_at asked.entries addr, meta_number_at asked ascending addr)
 
 -- an output as plain lists
 pub record Normal : Type 0 where
@@ -72,8 +72,8 @@ is_empty [] = true
 is_empty (entry ∷ entries) = false
 
 -- what may be wrong, in the order in which it is looked for; each cause stands with whether it is so
-abbrev pub faults : Asked → Bool → List ℕ → List (Bool × NormalizeError)
-faults asked sorted_addrs addrs =
+abbrev pub normalizing_faults : Asked → Bool → List ℕ → List (Bool × NormalizeError)
+normalizing_faults asked sorted_addrs addrs =
     (is_empty asked.entries, NoEntries)
     ∷ (not (in_order asked.entries), EntriesUnsorted)
     ∷ (sorted_addrs && not (ascends addrs), AddrsUnsorted)
@@ -85,7 +85,7 @@ first_fault [] = None
 first_fault (fault ∷ others) = if fault.0 then Some fault.1 else first_fault others
 
 -- the right answer: the first fault, or else what the addresses are normalized to
-abbrev pub IsRight : Asked → Bool → List ℕ → Result Normal NormalizeError → Type 0
-IsRight asked sorted_addrs addrs (Ok normal) =
-    (first_fault (faults asked sorted_addrs addrs) ≡ None) × IsNormal asked addrs normal
-IsRight asked sorted_addrs addrs (Err error) = first_fault (faults asked sorted_addrs addrs) ≡ Some error
+abbrev pub IsNormalOrFault : Asked → Bool → List ℕ → Result Normal NormalizeError → Type 0
+IsNormalOrFault asked sorted_addrs addrs (Ok normal) =
+    (first_fault (normalizing_faults asked sorted_addrs addrs) ≡ None) × IsNormal asked addrs normal
+IsNormalOrFault asked sorted_addrs addrs (Err error) = first_fault (normalizing_faults asked sorted_addrs addrs) ≡ Some error

@@ -14,10 +14,10 @@ abbrev pub hex_value : ℕ → Option ℕ
 hex_value byte = if nat_lt (digit_value byte) 16 then Some (digit_value byte) else None
 
 -- two digits, of which the first may be 0
-abbrev pub joined : Option ℕ → Option ℕ → Option ℕ
-joined None low = None
-joined (Some high) None = None
-joined (Some high) (Some low) = Some (16 * high + low)
+abbrev pub joined_digits : Option ℕ → Option ℕ → Option ℕ
+joined_digits None low = None
+joined_digits (Some high) None = None
+joined_digits (Some high) (Some low) = Some (16 * high + low)
 
 -- `+` in place of the first of two digits says 0
 abbrev pub first_value : ℕ → Option ℕ
@@ -25,7 +25,7 @@ first_value byte = if byte == 43 then Some 0 else hex_value byte
 
 -- the byte of two digits
 abbrev pub pair_value : ℕ → ℕ → Option ℕ
-pair_value first second = joined (first_value first) (hex_value second)
+pair_value first second = joined_digits (first_value first) (hex_value second)
 
 abbrev pub before : Option ℕ → Option (List ℕ) → Option (List ℕ)
 before None bytes = None

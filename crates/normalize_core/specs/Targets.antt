@@ -48,12 +48,12 @@ abbrev pub value_in : ℕ → Option MapsEntry → ℕ
 value_in addr None = addr
 value_in addr (Some entry) = named_value addr entry entry.path_name
 
-abbrev pub value_at : List MapsEntry → ℕ → ℕ
-value_at entries addr = value_in addr (covering entries addr)
+abbrev pub normal_value_at : List MapsEntry → ℕ → ℕ
+normal_value_at entries addr = value_in addr (covering entries addr)
 
 -- that place passes 2^64 - 1
 abbrev pub overflows : List MapsEntry → ℕ → Bool
-overflows entries addr = not (nat_lt (value_at entries addr) (2 ^ 64))
+overflows entries addr = not (nat_lt (normal_value_at entries addr) (2 ^ 64))
 
 abbrev pub same_reason : Reason → Reason → Bool
 same_reason Unmapped Unmapped = true

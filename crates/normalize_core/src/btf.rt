@@ -1,7 +1,7 @@
 //! What is read of BPF's type information.
 ghost use Rattle.std.specs.Prelude.{◌≡◌, ◌/◌, ◌%◌, ◌^◌, option_copied};
 ghost use Rattle.elf64_core.specs.Sections.{string_at, until_nul};
-ghost use Rattle.normalize_core.specs.Btfs.{name_in};
+ghost use Rattle.normalize_core.specs.Btfs.{btf_name_in};
 
 /// The header of type information (`include/uapi/linux/btf.h`).
 #[derive(Clone, Copy, Debug)]
@@ -43,7 +43,7 @@ impl<'a> Btf<'a> {
     /// The name that begins at an offset of the strings, without its nul. None exactly where the strings don't
     /// lie in the bytes, or no nul stands in them from the offset on.
     pub fn name(&self, offset: u32) -> Option<&'a [u8]>
-        ensures { option_copied result ≡ name_in self.now.header self.now.bytes.now offset }
+        ensures { option_copied result ≡ btf_name_in self.now.header self.now.bytes.now offset }
     {
         let start = self.header.hdr_len as usize + self.header.str_off as usize;
         let end = start + self.header.str_len as usize;

@@ -1,6 +1,6 @@
 //! What an address belongs to.
 ghost use Rattle.std.specs.Prelude.{◌≡◌, option_copied};
-ghost use Rattle.normalize_core.specs.Metas.{elf_in, unknown_in};
+ghost use Rattle.normalize_core.specs.Metas.{elf_in, unknown_of_meta};
 ghost use Rattle.normalize_core.specs.declared.meta.UserMeta.{UserMeta};
 
 use elf64_core::{BuildId, Name};
@@ -54,7 +54,7 @@ impl UserMeta {
 
     /// Why it is no file; none exactly where it is a file.
     pub fn as_unknown(&self) -> Option<&Unknown>
-        ensures { option_copied result ≡ unknown_in self.now }
+        ensures { option_copied result ≡ unknown_of_meta self.now }
     {
         match self {
             UserMeta::Elf(_) => None,

@@ -1,6 +1,6 @@
 //! What the addresses belong to, numbered as it is met.
 ghost use Rattle.std.specs.Prelude.{◌≡◌, ℕ, List, [], ◌∷◌, ◌++◌, IfOk, OnOk, option_copied, true};
-ghost use Rattle.normalize_core.specs.Met.{HasMet, number_of};
+ghost use Rattle.normalize_core.specs.Met.{HasMet, meta_number_of};
 ghost use Rattle.normalize_core.specs.Normal.{IsMetaOf};
 ghost use Rattle.normalize_core.specs.Order.{in_order};
 ghost use Rattle.normalize_core.specs.Shown.{target_shown};
@@ -85,7 +85,7 @@ impl<'a> Metas<'a> {
 
     /// The number of the meta of a target; that of the metas where it was not met.
     pub(crate) fn number(&self, target: Target<'_>) -> usize
-        ensures { result ≡ number_of self.now (target_shown target.entry) }
+        ensures { result ≡ meta_number_of self.now (target_shown target.entry) }
     {
         self.numbers.get(target).unwrap_or(self.list.len())
     }

@@ -1,7 +1,7 @@
 //! Normalizing addresses.
 ghost use Rattle.std.specs.Prelude.{◌≡◌, ◌⊎◌, ◌<◌, true, false, length, All, Result, IfOk, MatchResult, IsErrOf};
 ghost use Rattle.std.specs.List.{list_any};
-ghost use Rattle.normalize_core.specs.Normal.{Asked, Normal, IsNormal, IsRight, asked_by};
+ghost use Rattle.normalize_core.specs.Normal.{Asked, Normal, IsNormal, IsNormalOrFault, normalizing_by};
 ghost use Rattle.normalize_core.specs.Answers.{answer_of, normal_of};
 ghost use Rattle.normalize_core.specs.Order.{in_order};
 ghost use Rattle.normalize_core.specs.Targets.{overflows};
@@ -107,11 +107,11 @@ impl Normalizer {
         images: &Images,
         addrs: &[u64],
     ) -> Result<UserOutput, NormalizeError>
-        ensures right { let asked : Asked = asked_by self.now.build_ids entries.now images.now false in
-            IsErrOf result NormalizeError.OutOfMemory ⊎ IsRight asked false addrs.now (answer_of result) }
+        ensures right { let asked : Asked = normalizing_by self.now.build_ids entries.now images.now false in
+            IsErrOf result NormalizeError.OutOfMemory ⊎ IsNormalOrFault asked false addrs.now (answer_of result) }
         ensures numbers { IfOk result (λ output. All (λ o. o.1 < length output.meta.items) output.outputs.items) }
-        ensures only { let asked : Asked = asked_by self.now.build_ids entries.now images.now false in
-            (answer : Result Normal NormalizeError) → IsRight asked false addrs.now answer
+        ensures only { let asked : Asked = normalizing_by self.now.build_ids entries.now images.now false in
+            (answer : Result Normal NormalizeError) → IsNormalOrFault asked false addrs.now answer
             → IsErrOf result NormalizeError.OutOfMemory ⊎ (answer ≡ answer_of result) }
     {
         self.normalize_user_addrs_opts(alloc, entries, images, addrs, &NormalizeOpts::default())
@@ -147,12 +147,12 @@ impl Normalizer {
         addrs: &[u64],
         opts: &NormalizeOpts,
     ) -> Result<UserOutput, NormalizeError>
-        ensures right { let asked : Asked = asked_by self.now.build_ids entries.now images.now opts.now.map_files in
+        ensures right { let asked : Asked = normalizing_by self.now.build_ids entries.now images.now opts.now.map_files in
             IsErrOf result NormalizeError.OutOfMemory
-            ⊎ IsRight asked opts.now.sorted_addrs addrs.now (answer_of result) }
+            ⊎ IsNormalOrFault asked opts.now.sorted_addrs addrs.now (answer_of result) }
         ensures numbers { IfOk result (λ output. All (λ o. o.1 < length output.meta.items) output.outputs.items) }
-        ensures only { let asked : Asked = asked_by self.now.build_ids entries.now images.now opts.now.map_files in
-            (answer : Result Normal NormalizeError) → IsRight asked opts.now.sorted_addrs addrs.now answer
+        ensures only { let asked : Asked = normalizing_by self.now.build_ids entries.now images.now opts.now.map_files in
+            (answer : Result Normal NormalizeError) → IsNormalOrFault asked opts.now.sorted_addrs addrs.now answer
             → IsErrOf result NormalizeError.OutOfMemory ⊎ (answer ≡ answer_of result) }
     {
         let query = Query {
@@ -189,7 +189,7 @@ fn normalized(
     addrs: &[u64],
     sorted_addrs: bool,
 ) -> Result<UserOutput, NormalizeError>
-    ensures { IsErrOf result NormalizeError.OutOfMemory ⊎ IsRight query.now sorted_addrs addrs.now (answer_of result) }
+    ensures { IsErrOf result NormalizeError.OutOfMemory ⊎ IsNormalOrFault query.now sorted_addrs addrs.now (answer_of result) }
 {
     if query.entries.is_empty() {
         return Err(NormalizeError::NoEntries);

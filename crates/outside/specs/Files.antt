@@ -20,12 +20,12 @@ abbrev pub Told : Type 0
 Told = Option (List (List ℕ × List ℕ))
 
 -- the bytes of a name; its first entry counts
-abbrev pub bytes_of : List (List ℕ × List ℕ) → List ℕ → Option (List ℕ)
-bytes_of files name = lookup (λ held. bytes_eq held name) files
+abbrev pub held_bytes : List (List ℕ × List ℕ) → List ℕ → Option (List ℕ)
+held_bytes files name = lookup (λ held. bytes_eq held name) files
 
 -- these are the bytes of the name, where the object tells them
 abbrev pub Gives : Told → List ℕ → List ℕ → Type 0
-Gives told name bytes = IfSome told (λ files. bytes_of files name ≡ Some bytes)
+Gives told name bytes = IfSome told (λ files. held_bytes files name ≡ Some bytes)
 
 -- names that could not be read, each with its fault
 abbrev pub FailedNames : Type 0
@@ -55,7 +55,7 @@ gained name (Err fault) = failed_name name fault
 
 -- the name has more bytes than the limit where they are told; else more were taken
 abbrev pub IsTooLong : Told → List ℕ → ℕ → ℕ → Type 0
-IsTooLong (Some files) name before now = (bytes : List ℕ) × (bytes_of files name ≡ Some bytes)
+IsTooLong (Some files) name before now = (bytes : List ℕ) × (held_bytes files name ≡ Some bytes)
     × (file_limit < length bytes)
 IsTooLong None name before now = RoseByMore before now
 
@@ -91,7 +91,7 @@ held_file (Some bytes) = if nat_lt file_limit (length bytes) then Err TooLong el
 
 -- what a call answers where there is memory
 abbrev pub file_answer : HeldFiles → List ℕ → Result (List ℕ) FileFault
-file_answer held name = if is_listed held.failing held.calls then Err Failed else held_file (bytes_of held.files name)
+file_answer held name = if is_listed held.failing held.calls then Err Failed else held_file (held_bytes held.files name)
 
 -- the bytes taken after an answer
 abbrev pub taken_after : ℕ → Result (Vec ℕ Global) FileFault → ℕ

@@ -1,6 +1,6 @@
 //! Files in memory.
 ghost use Rattle.std.specs.Prelude.{◌≡◌, ◌≢◌, ◌++◌, ◌≤◌, ◌<◌, ◌⊎◌, length, option_map, MatchResult, IfOk, Some, IsErrOf, Ok, Err};
-ghost use Rattle.outside.specs.Files.{Gives, HasRead, HeldFiles, IsTooLong, bytes_of, entries, failed_name, file_answer, file_limit, gained, held_seen, is_listed, unread_files};
+ghost use Rattle.outside.specs.Files.{Gives, HasRead, HeldFiles, IsTooLong, held_bytes, entries, failed_name, file_answer, file_limit, gained, held_seen, is_listed, unread_files};
 
 use crate::files::FILE_LIMIT;
 use crate::{FileFault, Files};
@@ -73,7 +73,7 @@ fn note(
 
 /// The bytes of a name.
 fn find<'a>(files: &'a [(Name, Vec<u8>)], name: &[u8]) -> Option<&'a [u8]>
-    ensures { option_map (λ bytes. bytes.now) result ≡ bytes_of (entries files.now) name.now }
+    ensures { option_map (λ bytes. bytes.now) result ≡ held_bytes (entries files.now) name.now }
 {
     let mut rest = files;
     while let [file, after @ ..] = rest {

@@ -9,7 +9,7 @@ use Rattle.process_memory.specs.declared.memory.ReadFault.{ReadFault}
 use Rattle.process_memory.specs.declared.memory.ReadFault.TheVariants.{Unreadable, OutOfMemory}
 use Rattle.process_memory.specs.Memory.Fault.{Missing}
 use Rattle.process_memory.specs.Memory.{Memory, byte_at, record_at, Found, Fault, ◌>>=◌, word_at}
-use Rattle.process_memory.specs.Seen.{Seen, Extends, HoldsRead, ReadingBelow, OneRead, Answers, FaultIs, fault_of, ranges_after, with_range, IsPartWith, AddsShort, with_bytes}
+use Rattle.process_memory.specs.Seen.{Seen, Extends, HoldsRead, ReadingBelow, OneRead, Answers, FaultIs, read_fault, ranges_after, with_range, IsPartWith, AddsShort, with_bytes}
 use Rattle.process_memory.proofs.Ranges.{slice_get-end, holds-before, holds-after, extends-trans, extends-self, holds-both, holds-self, short-both, short-self}
 use Rattle.process_memory.proofs.Records.{Within, record_kept, record_lost, record_all}
 
@@ -45,7 +45,7 @@ read_extends : (r0 : Option (List Span)) (s : Span) → Extends r0 (with_range r
 read_extends None s = tt
 read_extends (Some xs) s = (s ∷ [], refl)
 
-read_answers : (r : Result (List ℕ) ReadFault) (s : Span) (r0 : Option (List Span)) (w m : Memory) → Within m w → HoldsRead r0 (ranges_after r r0 s) w m → Answers fault_of (record_at w s.start s.len) r → Answers fault_of (record_at m s.start s.len) r
+read_answers : (r : Result (List ℕ) ReadFault) (s : Span) (r0 : Option (List Span)) (w m : Memory) → Within m w → HoldsRead r0 (ranges_after r r0 s) w m → Answers read_fault (record_at w s.start s.len) r → Answers read_fault (record_at m s.start s.len) r
 read_answers (Ok bs) s r0 w m i h e = record { is = record_kept m w s.start s.len bs i (read_spans r0 s w m h) e.is }
 read_answers (Err (Unreadable a n)) s r0 w m i h e = record { is = record_lost m w s.start s.len (Missing a n) i e.is }
 read_answers (Err OutOfMemory) s r0 w m i h e = record { is = tt }
@@ -55,7 +55,7 @@ read_ranges (Ok bs) s r0 = read_extends r0 s
 read_ranges (Err e) s r0 = extends-self r0
 
 -- the memory that was read holds what was read
-read_here : (r : Result (List ℕ) ReadFault) (s : Span) (r0 : Option (List Span)) (w : Memory) → Answers fault_of (record_at w s.start s.len) r → HoldsRead r0 (ranges_after r r0 s) w w
+read_here : (r : Result (List ℕ) ReadFault) (s : Span) (r0 : Option (List Span)) (w : Memory) → Answers read_fault (record_at w s.start s.len) r → HoldsRead r0 (ranges_after r r0 s) w w
 read_here r s None w p = elim r as (λ v. HoldsRead None (ranges_after v None s) w w) [ Ok bs ↦ λ a h. h | Err e ↦ λ a h. h ]
 read_here (Err e) s (Some xs) w p = holds-self (Some xs) w
 read_here (Ok bs) s (Some xs) w p = λ k t above at.
@@ -76,7 +76,7 @@ read_short limit (Ok bs) s (Some xs) lt = λ k t above at.
     rw (← t_is2) lt
 
 -- one read, as a clause of a reader
-pub reading_one : {limit : ℕ} {old new : Seen} {a n : ℕ} {r : Result (List ℕ) ReadFault} → n < limit → OneRead old new a n r → ReadingBelow limit 1 old new (λ m. Answers fault_of (record_at m a n) r)
+pub reading_one : {limit : ℕ} {old new : Seen} {a n : ℕ} {r : Result (List ℕ) ReadFault} → n < limit → OneRead old new a n r → ReadingBelow limit 1 old new (λ m. Answers read_fault (record_at m a n) r)
 reading_one {old} {new} {a} {n} {r} lt o = let s : Span = record { start = a; len = n } in record {
   pieces = o.pieces;
   counter = o.counter;
@@ -111,15 +111,15 @@ reads_stop {fault' = fault'} n k e' f p same = reading_gives (n + k) _ p (omega 
 pub reads_none : {limit : ℕ} {T E : Type 0} {fault : E → Option Fault} (k : ℕ) {s : Seen} {x : T} → ReadingBelow limit k s s (λ m. Answers fault (Ok x) (Ok x))
 reads_none k {s} {x} = reading_none k s _ (λ m. record { is = refl })
 
-pub word_stops : (m : Memory) (a : ℕ) (bytes : List ℕ) (e : ReadFault) → Answers fault_of (record_at m a 8) (with_bytes bytes (Err e)) → Answers {T = ℕ} fault_of (word_at m a) (Err e)
+pub word_stops : (m : Memory) (a : ℕ) (bytes : List ℕ) (e : ReadFault) → Answers read_fault (record_at m a 8) (with_bytes bytes (Err e)) → Answers {T = ℕ} read_fault (word_at m a) (Err e)
 unfolding word_at
-word_stops m a bytes e p = answers_stop fault_of e (λ bytes. Ok (from_le_bytes w64 bytes)) p refl
+word_stops m a bytes e p = answers_stop read_fault e (λ bytes. Ok (from_le_bytes w64 bytes)) p refl
 
-pub word_is : (m : Memory) (a : ℕ) (bytes : List ℕ) (n : ℕ) → n ≡ from_le_bytes w64 bytes → Answers fault_of (record_at m a 8) (with_bytes bytes (Ok tt)) → Answers {E = ReadFault} fault_of (word_at m a) (Ok n)
+pub word_is : (m : Memory) (a : ℕ) (bytes : List ℕ) (n : ℕ) → n ≡ from_le_bytes w64 bytes → Answers read_fault (record_at m a 8) (with_bytes bytes (Ok tt)) → Answers {E = ReadFault} read_fault (word_at m a) (Ok n)
 unfolding word_at
 word_is m a bytes n v p = answers_then (λ bytes. Ok (from_le_bytes w64 bytes)) p (record { is = rw v refl })
 
-pub word_outside : (m : Memory) (a : ℕ) → 2 ^ 64 ≤ a → Answers {T = ℕ} fault_of (word_at m a) (Err (Unreadable (2 ^ 64 - 1) 8))
+pub word_outside : (m : Memory) (a : ℕ) → 2 ^ 64 ≤ a → Answers {T = ℕ} read_fault (word_at m a) (Err (Unreadable (2 ^ 64 - 1) 8))
 unfolding word_at record_at
 word_outside m a h = let past : ltb a (2 ^ 64) ≡ false = grind (arith, nat_tests) in record { is = rw past refl }
 

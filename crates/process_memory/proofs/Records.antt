@@ -7,7 +7,7 @@ use Rattle.std.proofs.Math.Seq.{take-append_seam}
 use Rattle.process_memory.specs.declared.memory.ReadFault.{ReadFault}
 use Rattle.process_memory.specs.Memory.Fault.{Missing}
 use Rattle.process_memory.specs.Memory.{Memory, Region, byte_at, bytes_at, in_front, found_or, outside, record_at, Fault}
-use Rattle.process_memory.specs.Seen.{Answers, fault_of, items_of}
+use Rattle.process_memory.specs.Seen.{Answers, read_fault, items_of}
 
 -- each byte of `m` is that of `w`
 abbrev pub Within : Memory → Memory → Type 0
@@ -146,7 +146,7 @@ record_length m a n bs =
     outside_length zero bs e = let h : [] ≡ bs = cc in rw (← h) refl
     outside_length (suc n) bs e = absurd (cc)
 
-pub answer_length : (m : Memory) (a n : ℕ) (r : Result (Vec ℕ) ReadFault) → Answers fault_of (record_at m a n) (items_of r) → IfOk r (λ v. vec_len v ≡ n)
+pub answer_length : (m : Memory) (a n : ℕ) (r : Result (Vec ℕ) ReadFault) → Answers read_fault (record_at m a n) (items_of r) → IfOk r (λ v. vec_len v ≡ n)
 answer_length m a n (Ok v) p = rw (v.ok.0) (record_length m a n v.items p.is)
 answer_length m a n (Err e) p = tt
 

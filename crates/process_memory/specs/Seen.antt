@@ -31,9 +31,9 @@ ranges_after (Ok x) rs s = with_range rs s
 ranges_after (Err e) rs s = rs
 
 -- the fault that an error names; want of memory names none
-abbrev pub fault_of : ReadFault → Option Fault
-fault_of (Unreadable a n) = Some (Missing a n)
-fault_of OutOfMemory = None
+abbrev pub read_fault : ReadFault → Option Fault
+read_fault (Unreadable a n) = Some (Missing a n)
+read_fault OutOfMemory = None
 
 abbrev pub FaultIs : {T : Type 0} → Found T → Option Fault → Type 0
 FaultIs d None = ⊤
@@ -54,7 +54,7 @@ pub record OneRead (old new : Seen) (addr len : ℕ) (result : Result (List ℕ)
   pub memory : new.may_want_memory ≡ old.may_want_memory
   pub cost : new.reads ≤ old.reads + 1
   pub ranges : new.ranges ≡ ranges_after result old.ranges (record { start = addr; len = len })
-  pub answer : Answers fault_of (record_at (byte_at old.pieces) addr len) result
+  pub answer : Answers read_fault (record_at (byte_at old.pieces) addr len) result
 
 abbrev pub with_bytes : {E : Type 0} → List ℕ → Result Unit E → Result (List ℕ) E
 with_bytes bytes (Ok u) = Ok bytes

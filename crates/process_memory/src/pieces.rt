@@ -2,7 +2,7 @@
 ghost use Rattle.std.specs.Prelude.{◌≡◌, ℕ, ◌+◌, ◌<◌, List, length, slice_index, EachIndex, IsSome, IfSome, Some, None, OnErr, IsErrOf};
 ghost use Rattle.std.specs.Bool.{OnTrue, OnFalse};
 ghost use Rattle.process_memory.specs.Memory.{Region, byte_at, record_at};
-ghost use Rattle.process_memory.specs.Seen.{Answers, fault_of, items_of, with_bytes};
+ghost use Rattle.process_memory.specs.Seen.{Answers, read_fault, items_of, with_bytes};
 
 use crate::ReadFault;
 use std::alloc::Global;
@@ -77,7 +77,7 @@ fn read_whole<P: Pieces>(pieces: &P, addr: u64, buf: &mut [u8]) -> bool
 /// as it was. It takes no memory. A range in one run is copied from it; any other is looked at whole before
 /// anything is copied, run by run.
 pub fn read_pieces<P: Pieces>(pieces: &P, addr: u64, buf: &mut [u8]) -> Result<(), ReadFault>
-    ensures gives { Answers fault_of
+    ensures gives { Answers read_fault
         (record_at (byte_at (P.regions pieces.now)) addr (length buf.old))
         (with_bytes buf.new result) }
     ensures left { OnErr result (buf.new ≡ buf.old) }
@@ -106,7 +106,7 @@ pub fn copy_pieces<P: Pieces>(
     addr: u64,
     len: u64,
 ) -> Result<Vec<u8>, ReadFault>
-    ensures gives { Answers fault_of (record_at (byte_at (P.regions pieces.now)) addr len) (items_of result) }
+    ensures gives { Answers read_fault (record_at (byte_at (P.regions pieces.now)) addr len) (items_of result) }
     ensures held { IsErrOf result ReadFault.OutOfMemory
         → (k : ℕ) → k < len → IsSome (byte_at (P.regions pieces.now) (addr + k)) }
 {

@@ -25,7 +25,7 @@ use Rattle.py_builtins.specs.declared.error.ObjectError.{ObjectError}
 use Rattle.py_builtins.specs.declared.error.ObjectError.TheVariants.{NoText as HasNoText}
 use Rattle.py_builtins.specs.declared.coding.TextKind.{TextKind}
 use Rattle.py_builtins.specs.declared.coding.TextKind.TheVariants.{Utf8, Latin1, Utf16, Utf32}
-use Rattle.py_builtins.specs.ObjectError.{fault_of}
+use Rattle.py_builtins.specs.ObjectError.{object_fault}
 use Rattle.py_builtins.specs.TextKind.{coded, decoded, IsCodingOf, read_as, is_coding_of, numbers_of}
 
 both : (p q : Bool) → (p && q) ≡ true → (p ≡ true) × (q ≡ true)
@@ -196,10 +196,10 @@ decoded_none k bytes none =
 
 -- ---- what decoders owe
 
-pub answers_coding : (k : TextKind) (cs bytes : List ℕ) → IsCodingOf k cs bytes → Answers {E = ObjectError} fault_of (found_or (decoded k bytes) NoText) (Ok cs)
+pub answers_coding : (k : TextKind) (cs bytes : List ℕ) → IsCodingOf k cs bytes → Answers {E = ObjectError} object_fault (found_or (decoded k bytes) NoText) (Ok cs)
 answers_coding k cs bytes h = record { is = ap (λ o. found_or o NoText) (decoded_is k cs bytes h) }
 
-pub answers_none : (k : TextKind) (bytes : List ℕ) → ((cs : List ℕ) → IsCodingOf k cs bytes → ⊥) → Answers {T = List ℕ} fault_of (found_or (decoded k bytes) NoText) (Err HasNoText)
+pub answers_none : (k : TextKind) (bytes : List ℕ) → ((cs : List ℕ) → IsCodingOf k cs bytes → ⊥) → Answers {T = List ℕ} object_fault (found_or (decoded k bytes) NoText) (Err HasNoText)
 answers_none k bytes none = record { is = ap (λ o. found_or o NoText) (decoded_none k bytes none) }
 
 -- ---- what each decoder found
@@ -228,14 +228,14 @@ latin1_coding bytes h = record { scalars = scalars_below bytes (all_below 256 by
 pub text_is : (text bytes cs : List ℕ) → text ≡ chars bytes → bytes ≡ encode_utf8_all cs → all_scalars cs ≡ true → text ≡ cs
 text_is text bytes cs is of scalars = is ∙ ap chars of ∙ chars-encodes cs scalars
 
-pub answers_latin1 : (text bytes spelled : List ℕ) → text ≡ chars spelled → spelled ≡ encode_utf8_all bytes → AreBytes bytes → Answers {E = ObjectError} fault_of (found_or (decoded Latin1 bytes) NoText) (Ok text)
+pub answers_latin1 : (text bytes spelled : List ℕ) → text ≡ chars spelled → spelled ≡ encode_utf8_all bytes → AreBytes bytes → Answers {E = ObjectError} object_fault (found_or (decoded Latin1 bytes) NoText) (Ok text)
 answers_latin1 text bytes spelled is of small =
     let h = latin1_coding bytes small in
     let same : text ≡ bytes = text_is text spelled bytes is of h.scalars in
     answers_coding Latin1 text bytes (rw same h)
 
 module _ (bytes units : List ℕ) (read : units ≡ numbers_of w16 2 bytes) where
-  pub answers_utf16 : (text spelled : List ℕ) → text ≡ chars spelled → IsUtf8 spelled → IsUtf16Of units spelled → length bytes % 2 ≡ 0 → AreBytes bytes → Answers {E = ObjectError} fault_of (found_or (decoded Utf16 bytes) NoText) (Ok text)
+  pub answers_utf16 : (text spelled : List ℕ) → text ≡ chars spelled → IsUtf8 spelled → IsUtf16Of units spelled → length bytes % 2 ≡ 0 → AreBytes bytes → Answers {E = ObjectError} object_fault (found_or (decoded Utf16 bytes) NoText) (Ok text)
   unfolding coded
   answers_utf16 text spelled is utf8 (cs, of, as_utf8) even small =
       let chars_same : utf8.0 ≡ cs = encodes_same utf8.0 cs (utf8.1.1 ∙ as_utf8) in
@@ -253,7 +253,7 @@ module _ (bytes units : List ℕ) (read : units ≡ numbers_of w16 2 bytes) wher
       let paired2 : has_unpaired_surrogate units ≡ false = rw units_same at paired in
       cc
 
-  pub no_utf16 : has_unpaired_surrogate units ≡ true → Answers {T = List ℕ} fault_of (found_or (decoded Utf16 bytes) NoText) (Err HasNoText)
+  pub no_utf16 : has_unpaired_surrogate units ≡ true → Answers {T = List ℕ} object_fault (found_or (decoded Utf16 bytes) NoText) (Err HasNoText)
   no_utf16 unpaired = answers_none Utf16 bytes (none_unpaired unpaired)
 
 scalar_in : (cs : List ℕ) (i : ℕ) → all_scalars cs ≡ true → i < length cs → scalar (get_or cs i 0) ≡ true
@@ -276,7 +276,7 @@ module _ (bytes : List ℕ) (codes : List (List ℕ)) (read : codes ≡ first_ch
   numbers_same : map (from_le_bytes w32) codes ≡ numbers_of w32 4 bytes
   numbers_same = ap (λ xs. map (from_le_bytes w32) xs) read
 
-  pub answers_utf32 : (text spelled : List ℕ) → text ≡ chars spelled → spelled ≡ encode_utf8_all (map (from_le_bytes w32) codes) → all_scalars (map (from_le_bytes w32) codes) ≡ true → length bytes % 4 ≡ 0 → AreBytes bytes → Answers {E = ObjectError} fault_of (found_or (decoded Utf32 bytes) NoText) (Ok text)
+  pub answers_utf32 : (text spelled : List ℕ) → text ≡ chars spelled → spelled ≡ encode_utf8_all (map (from_le_bytes w32) codes) → all_scalars (map (from_le_bytes w32) codes) ≡ true → length bytes % 4 ≡ 0 → AreBytes bytes → Answers {E = ObjectError} object_fault (found_or (decoded Utf32 bytes) NoText) (Ok text)
   unfolding coded
   answers_utf32 text spelled is of scalars even small =
       let cs = map (from_le_bytes w32) codes in
@@ -292,5 +292,5 @@ module _ (bytes : List ℕ) (codes : List (List ℕ)) (read : codes ≡ first_ch
       let here : get_or cs i 0 ≡ code = ap (λ xs. get_or xs i 0) same ∙ get_or-map (from_le_bytes w32) codes i [] 0 lt ∙ sym is in
       none (rw here at (scalar_in cs i h.scalars (omega arith)))
 
-  pub no_utf32 : (i : ℕ) (code : ℕ) → i < length codes → code ≡ from_le_bytes w32 (get_or codes i []) → (scalar code ≡ true → ⊥) → Answers {T = List ℕ} fault_of (found_or (decoded Utf32 bytes) NoText) (Err HasNoText)
+  pub no_utf32 : (i : ℕ) (code : ℕ) → i < length codes → code ≡ from_le_bytes w32 (get_or codes i []) → (scalar code ≡ true → ⊥) → Answers {T = List ℕ} object_fault (found_or (decoded Utf32 bytes) NoText) (Err HasNoText)
   no_utf32 i code lt is none = answers_none Utf32 bytes (none_foreign i code lt is none)

@@ -4,7 +4,7 @@ use Rattle.std.specs.Prelude.{Ok}
 use Rattle.elf64_core.specs.Fields.{u32_in}
 use Rattle.process_memory.specs.Memory.{Memory, ◌>>=◌, word_at}
 use Rattle.py_fields.specs.declared.layout.Layout.{Layout}
-use Rattle.py_builtins.specs.Integers.{magnitude_at, two_digits}
+use Rattle.py_builtins.specs.Integers.{magnitude_at, two_big_digits}
 
 module _ (l : Layout) (m : Memory) (a : ℕ) (object : List ℕ) where
   pub magnitude_none : (count : ℕ) → count ≡ 0 → magnitude_at l m a object count ≡ Ok 0
@@ -15,7 +15,7 @@ module _ (l : Layout) (m : Memory) (a : ℕ) (object : List ℕ) where
   unfolding magnitude_at
   magnitude_one count e = rw e refl
 
-  pub magnitude_two : (count : ℕ) → count ≡ 2 → magnitude_at l m a object count ≡ (word_at m (a + l.long.digits) >>= (λ word. Ok (two_digits word)))
+  pub magnitude_two : (count : ℕ) → count ≡ 2 → magnitude_at l m a object count ≡ (word_at m (a + l.long.digits) >>= (λ word. Ok (two_big_digits word)))
   unfolding magnitude_at
   magnitude_two count e = rw e refl
 

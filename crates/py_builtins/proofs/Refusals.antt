@@ -12,11 +12,11 @@ use Rattle.py_builtins.specs.declared.error.ObjectError.TheVariants.{TooLong, Un
 use Rattle.py_builtins.specs.declared.strings.Characters.{Characters}
 use Rattle.py_builtins.specs.TextKind.{width, decoded}
 use Rattle.py_builtins.specs.Texts.{characters_at}
-use Rattle.py_builtins.specs.ObjectError.{fault_of}
+use Rattle.py_builtins.specs.ObjectError.{object_fault}
 use Rattle.py_builtins.specs.Refusals.{RefusesEarly}
 
 -- a reader that made one read at most
-pub early_one : {T : Type 0} {old new : Seen} (d : Memory → Found T) (r : Result T ObjectError) → Reads fault_of 1 old new d r → RefusesEarly old new d r
+pub early_one : {T : Type 0} {old new : Seen} (d : Memory → Found T) (r : Result T ObjectError) → Reads object_fault 1 old new d r → RefusesEarly old new d r
 early_one d (Ok x) p = tt
 early_one d (Err (TooLong n)) p = reading_gives 1 _ p (omega arith) (λ m h. h.is)
 early_one d (Err (Unreadable a n)) p = tt
@@ -30,7 +30,7 @@ early_one d (Err (BadBool b)) p = tt
 early_one d (Err OutOfMemory) p = tt
 
 -- a definition that refuses no length
-pub no_refusal : {T U : Type 0} (old new : Seen) (d : Memory → Found U) (e : Found T) (r : Result T ObjectError) → ((n : ℤ) → e ≡ Err (IsTooLong n) → ⊥) → Answers fault_of e r → RefusesEarly old new d r
+pub no_refusal : {T U : Type 0} (old new : Seen) (d : Memory → Found U) (e : Found T) (r : Result T ObjectError) → ((n : ℤ) → e ≡ Err (IsTooLong n) → ⊥) → Answers object_fault e r → RefusesEarly old new d r
 no_refusal old new d e (Ok x) never p = tt
 no_refusal old new d e (Err (TooLong n)) never p = absurd (never n p.is)
 no_refusal old new d e (Err (Unreadable a n)) never p = tt

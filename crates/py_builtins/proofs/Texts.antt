@@ -14,7 +14,7 @@ use Rattle.py_fields.specs.declared.layout.Layout.{Layout}
 use Rattle.py_builtins.specs.declared.strings.Characters.{Characters}
 use Rattle.py_builtins.specs.declared.error.ObjectError.{ObjectError}
 use Rattle.py_builtins.specs.declared.error.ObjectError.TheVariants.{Unreadable, NoText as HasNoText, TooLong as IsTooLong, BadDict, BadType, Visits, Depth, BadCount, BadBool, OutOfMemory}
-use Rattle.py_builtins.specs.ObjectError.{fault_of}
+use Rattle.py_builtins.specs.ObjectError.{object_fault}
 use Rattle.py_builtins.specs.TextKind.{width, decoded}
 use Rattle.py_builtins.specs.Texts.{characters_of, characters_at, text_of_length, text_at, StandsAt, HasCharacters, IsText}
 use Rattle.py_builtins.proofs.Codings.{decoded_is, coding_of_decoded}
@@ -91,11 +91,11 @@ other : (f : Fault) (d : Found (List ℕ)) (cs : List ℕ) → d ≡ Err f → d
 other f d cs p q = let both : Err f ≡ Ok cs = sym p ∙ q in cc
 
 -- what an answer says of the object
-pub text_answer : (l : Layout) (m : Memory) (a : ℕ) (r : Result (List ℕ) ObjectError) → Answers fault_of (text_at l m a) r → IfOk r (IsText l m a)
+pub text_answer : (l : Layout) (m : Memory) (a : ℕ) (r : Result (List ℕ) ObjectError) → Answers object_fault (text_at l m a) r → IfOk r (IsText l m a)
 text_answer l m a (Ok cs) p = text_read l m a cs p.is
 text_answer l m a (Err e) p = tt
 
-pub found_answer : (l : Layout) (m : Memory) (a : ℕ) (r : Result (List ℕ) ObjectError) → Answers fault_of (text_at l m a) r → (cs : List ℕ) → IsText l m a cs → MatchResult r (λ text. text ≡ cs) (λ error. error ≡ OutOfMemory)
+pub found_answer : (l : Layout) (m : Memory) (a : ℕ) (r : Result (List ℕ) ObjectError) → Answers object_fault (text_at l m a) r → (cs : List ℕ) → IsText l m a cs → MatchResult r (λ text. text ≡ cs) (λ error. error ≡ OutOfMemory)
 found_answer l m a (Ok text) p cs t = let same : Ok text ≡ Ok cs = sym p.is ∙ text_stands l m a cs t in cc
 found_answer l m a (Err OutOfMemory) p cs t = refl
 found_answer l m a (Err (Unreadable addr len)) p cs t = absurd (other (Missing addr len) (text_at l m a) cs p.is (text_stands l m a cs t))

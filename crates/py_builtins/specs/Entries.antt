@@ -7,12 +7,12 @@ use Rattle.py_builtins.specs.declared.error.ObjectError.TheVariants.{OutOfMemory
 use Rattle.py_builtins.specs.declared.keys.Slots.{Slots}
 use Rattle.py_builtins.specs.declared.dicts.Slot.{Slot}
 use Rattle.py_builtins.specs.declared.dicts.Slot.TheVariants.{Empty, Entry}
-use Rattle.py_builtins.specs.ObjectError.{fault_of}
+use Rattle.py_builtins.specs.ObjectError.{object_fault}
 use Rattle.py_builtins.specs.Dicts.{Cursor, slot_at}
 
 -- a cursor at the first of the slots that were found, by at most `n` reads
 pub record StartsAt (n : ℕ) (old new : Seen) (slots : Memory → Found Slots) (cursor : Cursor) : Type 0 where
-  pub answer : Reads {E = ObjectError} fault_of n old new slots (Ok cursor.slots)
+  pub answer : Reads {E = ObjectError} object_fault n old new slots (Ok cursor.slots)
   pub start : cursor.passed ≡ 0
 
 -- every slot from one number up to another is empty
@@ -28,7 +28,7 @@ as_slot (Err e) = Err e
 abbrev pub Passes : (ℕ → Found Slot) → ℕ → ℕ → ℕ → Option (Result (ℕ × ℕ) ObjectError) → Type 0
 Passes slot count from to None = (to ≡ max from count) × AreEmpty slot from to
 Passes slot count from to (Some r) =
-    (from < to) × (to ≤ count) × AreEmpty slot from (to - 1) × Answers fault_of (slot (to - 1)) (as_slot r)
+    (from < to) × (to ≤ count) × AreEmpty slot from (to - 1) × Answers object_fault (slot (to - 1)) (as_slot r)
 
 -- one step over the entries of a dict: the next entry or fault, from a cursor on to right behind its slot, by at
 -- most two reads a slot; memory is wanted only where a read may want it

@@ -26,8 +26,8 @@ abbrev pub signed : Bool → ℕ → ℤ
 signed negative n = if negative then neg_ℤ (pos n) else pos n
 
 -- two digits of 30 bits, the lowest first, in 4 bytes each
-abbrev pub two_digits : ℕ → ℕ
-two_digits word = word % 2 ^ 32 + word / 2 ^ 32 * 2 ^ 30
+abbrev pub two_big_digits : ℕ → ℕ
+two_big_digits word = word % 2 ^ 32 + word / 2 ^ 32 * 2 ^ 30
 
 -- the magnitude that so many digits have; of more than two it is their number
 unfoldable pub magnitude_at : Layout → Memory → ℕ → List ℕ → ℕ → Found ℕ
@@ -35,7 +35,7 @@ magnitude_at l m a object zero = Ok 0
 magnitude_at l m a object (suc zero) = Ok (u32_in object l.long.digits)
 magnitude_at l m a object (suc (suc zero)) = do
   word ← word_at m (a + l.long.digits)
-  Ok (two_digits word)
+  Ok (two_big_digits word)
 magnitude_at l m a object (suc (suc (suc n))) = Ok (suc (suc (suc n)))
 
 unfoldable pub long_by : Layout → Memory → ℕ → List ℕ → Digits → Found (ℤ × Bool)

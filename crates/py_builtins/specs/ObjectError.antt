@@ -6,14 +6,14 @@ use Rattle.py_builtins.specs.declared.error.ObjectError.{ObjectError}
 use Rattle.py_builtins.specs.declared.error.ObjectError.TheVariants.{Unreadable, NoText, TooLong, BadDict, BadType, Visits, Depth, BadCount, BadBool, OutOfMemory}
 
 -- the fault that an error names; want of memory names none
-abbrev pub fault_of : ObjectError → Option Fault
-fault_of (Unreadable a n) = Some (Missing a n)
-fault_of NoText = Some HasNoText
-fault_of (TooLong n) = Some (IsTooLong n)
-fault_of BadDict = Some IsBadDict
-fault_of BadType = Some IsBadType
-fault_of Visits = Some ManyVisits
-fault_of Depth = Some ManyLevels
-fault_of (BadCount n) = Some (IsBadCount n)
-fault_of (BadBool b) = Some (IsBadBool b)
-fault_of OutOfMemory = None
+abbrev pub object_fault : ObjectError → Option Fault
+object_fault (Unreadable a n) = Some (Missing a n)
+object_fault NoText = Some HasNoText
+object_fault (TooLong n) = Some (IsTooLong n)
+object_fault BadDict = Some IsBadDict
+object_fault BadType = Some IsBadType
+object_fault Visits = Some ManyVisits
+object_fault Depth = Some ManyLevels
+object_fault (BadCount n) = Some (IsBadCount n)
+object_fault (BadBool b) = Some (IsBadBool b)
+object_fault OutOfMemory = None

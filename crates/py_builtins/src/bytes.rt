@@ -2,7 +2,7 @@
 ghost use Rattle.py_fields.specs.Sound.{IsSound};
 ghost use Rattle.process_memory.specs.Seen.{Reads, items_of};
 ghost use Rattle.py_builtins.specs.Bytes.{bytes_object_at};
-ghost use Rattle.py_builtins.specs.ObjectError.{fault_of};
+ghost use Rattle.py_builtins.specs.ObjectError.{object_fault};
 ghost use Rattle.py_builtins.specs.Refusals.{RefusesEarly};
 
 use crate::ObjectError;
@@ -26,7 +26,7 @@ pub fn copy_bytes<P: ProcessMemory>(
     addr: u64,
 ) -> Result<Vec<u8>, ObjectError>
     requires sound { IsSound layout.now }
-    ensures answer { Reads fault_of 2 (P.seen process.old) (P.seen process.new) (λ m. bytes_object_at layout.now m addr)
+    ensures answer { Reads object_fault 2 (P.seen process.old) (P.seen process.new) (λ m. bytes_object_at layout.now m addr)
         (items_of result) }
     ensures early { RefusesEarly (P.seen process.old) (P.seen process.new) (λ m. bytes_object_at layout.now m addr)
         result }

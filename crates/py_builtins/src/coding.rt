@@ -4,7 +4,7 @@ ghost use Rattle.std.specs.Int.{w16, from_le_bytes};
 ghost use Rattle.process_memory.specs.Memory.{found_or};
 ghost use Rattle.process_memory.specs.Memory.Fault.{NoText};
 ghost use Rattle.process_memory.specs.Seen.{Answers};
-ghost use Rattle.py_builtins.specs.ObjectError.{fault_of};
+ghost use Rattle.py_builtins.specs.ObjectError.{object_fault};
 ghost use Rattle.py_builtins.specs.TextKind.{width, decoded};
 
 use crate::ObjectError;
@@ -41,7 +41,7 @@ impl TextKind {
 /// The characters that bytes code; `NoText` where they code none.
 pub(crate) fn decode(alloc: Global, kind: TextKind, bytes: Vec<u8>) -> Result<Text, ObjectError>
     requires { length bytes.items % width kind ≡ 0 }
-    ensures { Answers fault_of (found_or (decoded kind bytes.items) NoText) result }
+    ensures { Answers object_fault (found_or (decoded kind bytes.items) NoText) result }
 {
     match kind {
         TextKind::Utf8 => utf8_text(bytes),
@@ -52,7 +52,7 @@ pub(crate) fn decode(alloc: Global, kind: TextKind, bytes: Vec<u8>) -> Result<Te
 }
 
 fn utf8_text(bytes: Vec<u8>) -> Result<Text, ObjectError>
-    ensures { Answers fault_of (found_or (decoded TextKind.Utf8 bytes.items) NoText) result }
+    ensures { Answers object_fault (found_or (decoded TextKind.Utf8 bytes.items) NoText) result }
 {
     match String::from_utf8(bytes) {
         Ok(text) => Ok(Text::from(text)),
@@ -61,7 +61,7 @@ fn utf8_text(bytes: Vec<u8>) -> Result<Text, ObjectError>
 }
 
 fn latin1_text(alloc: Global, bytes: &[u8]) -> Result<Text, ObjectError>
-    ensures { Answers fault_of (found_or (decoded TextKind.Latin1 bytes.now) NoText) result }
+    ensures { Answers object_fault (found_or (decoded TextKind.Latin1 bytes.now) NoText) result }
 {
     Ok(Text::from(latin1_string(alloc, bytes)?))
 }
@@ -74,7 +74,7 @@ fn latin1_string(alloc: Global, bytes: &[u8]) -> Result<String, AllocError>
 
 fn utf16_text(alloc: Global, bytes: &[u8]) -> Result<Text, ObjectError>
     requires { length bytes.now % 2 ≡ 0 }
-    ensures { Answers fault_of (found_or (decoded TextKind.Utf16 bytes.now) NoText) result }
+    ensures { Answers object_fault (found_or (decoded TextKind.Utf16 bytes.now) NoText) result }
 {
     let (pairs, _) = bytes.as_chunks::<2>();
     let units = utf16_units(alloc, pairs)?;
@@ -96,7 +96,7 @@ fn utf16_units(alloc: Global, pairs: &[[u8; 2]]) -> Result<Vec<u16>, AllocError>
 
 fn utf32_text(alloc: Global, bytes: &[u8]) -> Result<Text, ObjectError>
     requires { length bytes.now % 4 ≡ 0 }
-    ensures { Answers fault_of (found_or (decoded TextKind.Utf32 bytes.now) NoText) result }
+    ensures { Answers object_fault (found_or (decoded TextKind.Utf32 bytes.now) NoText) result }
 {
     let (codes, _) = bytes.as_chunks::<4>();
     let mut text = String::new(alloc);

@@ -1,10 +1,10 @@
 //! Cursors over the slots of dicts.
 ghost use Rattle.std.specs.Prelude.{◌≡◌, ◌+◌, ◌-◌, ◌*◌, ◌<◌, ◌≤◌, ◌^◌, IfOk, IfSome, IsErrOf, IsTrue, MatchOption, length};
 ghost use Rattle.process_memory.specs.Memory.{record_at};
-ghost use Rattle.process_memory.specs.Seen.{Reading, Reads, Answers, with_bytes, fault_of as read_fault};
+ghost use Rattle.process_memory.specs.Seen.{Reading, Reads, Answers, with_bytes, read_fault};
 ghost use Rattle.py_fields.specs.Sound.{IsSound};
 ghost use Rattle.py_builtins.specs.Dicts.{AreNear, Cursor, dict_slots, entry_width, managed_slots, slot_at, slot_by, slots_of};
-ghost use Rattle.py_builtins.specs.ObjectError.{fault_of};
+ghost use Rattle.py_builtins.specs.ObjectError.{object_fault};
 
 use crate::ObjectError;
 use crate::keys::{Slots, read_dict};
@@ -63,7 +63,7 @@ impl DictCursor {
         addr: u64,
     ) -> Result<DictCursor, ObjectError>
         requires sound { IsSound layout.now }
-        ensures answer { Reads fault_of 2 (P.seen process.old) (P.seen process.new)
+        ensures answer { Reads object_fault 2 (P.seen process.old) (P.seen process.new)
             (λ m. dict_slots layout.now m addr) (slots_of result) }
         ensures start { IfOk result (λ cursor. cursor.passed ≡ 0) }
         ensures memory { IsErrOf result ObjectError.OutOfMemory → IsTrue (P.seen process.old).may_want_memory }
@@ -90,7 +90,7 @@ impl DictCursor {
         flags: u64,
     ) -> Result<DictCursor, ObjectError>
         requires sound { IsSound layout.now }
-        ensures answer { Reads fault_of 4 (P.seen process.old) (P.seen process.new)
+        ensures answer { Reads object_fault 4 (P.seen process.old) (P.seen process.new)
             (λ m. managed_slots layout.now m addr tp_addr flags) (slots_of result) }
         ensures start { IfOk result (λ cursor. cursor.passed ≡ 0) }
         ensures memory { IsErrOf result ObjectError.OutOfMemory → IsTrue (P.seen process.old).may_want_memory }
@@ -110,7 +110,7 @@ impl DictCursor {
             ((self.new.passed ≡ self.old.passed) × (self.old.slots.count ≤ self.old.passed))
             (λ slot. (self.new.passed ≡ self.old.passed + 1) × (self.old.passed < self.old.slots.count)) }
         ensures slot { Reading (2 * (self.new.passed - self.old.passed)) (P.seen process.old) (P.seen process.new)
-            (λ m. IfSome result (Answers fault_of (slot_at m self.old.slots self.old.passed))) }
+            (λ m. IfSome result (Answers object_fault (slot_at m self.old.slots self.old.passed))) }
         ensures memory { IfSome result (λ slot. IsErrOf slot ObjectError.OutOfMemory
             → IsTrue (P.seen process.old).may_want_memory) }
     {
@@ -127,7 +127,7 @@ impl DictCursor {
     /// A slot that is not in memory is `Unreadable`, with the range of its entry, or else of its value where
     /// that stands apart. At most 2 reads; it takes no memory, as in `from`.
     pub fn slot<P: ProcessMemory>(&self, process: &mut P, number: u64) -> Result<Slot, ObjectError>
-        ensures answer { Reads fault_of 2 (P.seen process.old) (P.seen process.new)
+        ensures answer { Reads object_fault 2 (P.seen process.old) (P.seen process.new)
             (λ m. slot_at m self.now.slots number) result }
         ensures memory { IsErrOf result ObjectError.OutOfMemory → IsTrue (P.seen process.old).may_want_memory }
     {
@@ -149,7 +149,7 @@ fn read_slot<P: ProcessMemory>(
     number: u64,
 ) -> Result<Slot, ObjectError>
     requires { AreNear slots.now }
-    ensures answer { Reads fault_of 2 (P.seen process.old) (P.seen process.new) (λ m. slot_at m slots.now number)
+    ensures answer { Reads object_fault 2 (P.seen process.old) (P.seen process.new) (λ m. slot_at m slots.now number)
         result }
     ensures memory { IsErrOf result ObjectError.OutOfMemory → IsTrue (P.seen process.old).may_want_memory }
 {
@@ -179,7 +179,7 @@ fn read_entry<P: ProcessMemory>(
 ) -> Result<Slot, ObjectError>
     requires near { AreNear slots.now }
     requires entry { length entry.old ≡ entry_width slots.now.has_hash }
-    ensures answer { Reads fault_of 2 (P.seen process.old) (P.seen process.new) (λ m. slot_at m slots.now number)
+    ensures answer { Reads object_fault 2 (P.seen process.old) (P.seen process.new) (λ m. slot_at m slots.now number)
         result }
     ensures memory { IsErrOf result ObjectError.OutOfMemory → IsTrue (P.seen process.old).may_want_memory }
 {
@@ -220,7 +220,7 @@ fn read_value<P: ProcessMemory>(
     value: u64,
 ) -> Result<Slot, ObjectError>
     requires { values < 2 ^ 68 }
-    ensures answer { Reads fault_of 1 (P.seen process.old) (P.seen process.new)
+    ensures answer { Reads object_fault 1 (P.seen process.old) (P.seen process.new)
         (λ m. slot_by m values number key value) result }
     ensures memory { IsErrOf result ObjectError.OutOfMemory → IsTrue (P.seen process.old).may_want_memory }
 {

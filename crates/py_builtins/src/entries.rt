@@ -6,7 +6,7 @@ ghost use Rattle.process_memory.specs.Seen.{Reads, Answers};
 ghost use Rattle.py_fields.specs.Sound.{IsSound};
 ghost use Rattle.py_builtins.specs.Dicts.{dict_slots, managed_slots};
 ghost use Rattle.py_builtins.specs.Entries.{GivesEntry, StartsAt};
-ghost use Rattle.py_builtins.specs.ObjectError.{fault_of};
+ghost use Rattle.py_builtins.specs.ObjectError.{object_fault};
 
 use crate::{DictCursor, ObjectError, Slot};
 use process_memory::ProcessMemory;
@@ -34,7 +34,7 @@ impl<'a, P: ProcessMemory> DictIterator<'a, P> {
         ensures same_reference { IfOk result (λ it. it.process.ghost_name ≡ process.entry.ghost_name) }
         ensures memory { IsErrOf result ObjectError.OutOfMemory → IsTrue (P.seen process.old).may_want_memory }
         ensures fault { IfErr result (λ error.
-            Answers fault_of (dict_slots layout.now (byte_at (P.seen process.old).pieces) addr) (Err error)) }
+            Answers object_fault (dict_slots layout.now (byte_at (P.seen process.old).pieces) addr) (Err error)) }
     {
         let cursor = DictCursor::from(process, layout, addr)?;
         Ok(DictIterator { process, cursor })
@@ -55,7 +55,7 @@ impl<'a, P: ProcessMemory> DictIterator<'a, P> {
         ensures same_reference { IfOk result (λ it. it.process.ghost_name ≡ process.entry.ghost_name) }
         ensures memory { IsErrOf result ObjectError.OutOfMemory → IsTrue (P.seen process.old).may_want_memory }
         ensures fault { IfErr result (λ error.
-            Answers fault_of (managed_slots layout.now (byte_at (P.seen process.old).pieces) addr tp_addr flags)
+            Answers object_fault (managed_slots layout.now (byte_at (P.seen process.old).pieces) addr tp_addr flags)
             (Err error)) }
     {
         let cursor = DictCursor::from_managed_dict(process, layout, addr, tp_addr, flags)?;

@@ -42,10 +42,10 @@ pub enum ObjectError {
 }
 
 impl From<ReadFault> for ObjectError {
-    ghost use Rattle.process_memory.specs.Seen.{fault_of as read_fault};
-    ghost use Rattle.py_builtins.specs.ObjectError.{fault_of};
+    ghost use Rattle.process_memory.specs.Seen.{read_fault};
+    ghost use Rattle.py_builtins.specs.ObjectError.{object_fault};
 
-    ghost from_gives = { λ e d. fault_of d ≡ read_fault e };
+    ghost from_gives = { λ e d. object_fault d ≡ read_fault e };
 
     fn from(e: ReadFault) -> ObjectError {
         match e {

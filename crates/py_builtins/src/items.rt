@@ -1,9 +1,9 @@
 //! The items of lists and tuples.
 ghost use Rattle.std.specs.Prelude.{◌≡◌, ◌+◌, ◌≤◌, ◌<◌, ◌^◌, IsErrOf, IsTrue, length};
-ghost use Rattle.process_memory.specs.Seen.{Answers, Reads, fault_of as read_fault};
+ghost use Rattle.process_memory.specs.Seen.{Answers, Reads, read_fault};
 ghost use Rattle.py_fields.specs.Sound.{IsSound};
 ghost use Rattle.py_builtins.specs.Items.{count_at, item_at, item_count, items_at, items_by};
-ghost use Rattle.py_builtins.specs.ObjectError.{fault_of};
+ghost use Rattle.py_builtins.specs.ObjectError.{object_fault};
 
 use crate::ObjectError;
 use elf64_core::u64_in;
@@ -51,7 +51,7 @@ pub fn read_items<P: ProcessMemory>(
     addr: u64,
 ) -> Result<Items, ObjectError>
     requires sound { IsSound layout.now }
-    ensures { Reads fault_of 1 (P.seen process.old) (P.seen process.new)
+    ensures { Reads object_fault 1 (P.seen process.old) (P.seen process.new)
         (λ m. items_at layout.now m sequence addr) result }
 {
     let place = count_at(layout, sequence);
@@ -82,7 +82,7 @@ fn count_at(layout: &Layout, sequence: Sequence) -> CountAt
 /// A number of items, unless it is negative.
 #[tactic(auto, unfolding(crate::specs::Items::item_count))]
 fn item_count(stated: u64) -> Result<u64, ObjectError>
-    ensures { Answers fault_of (item_count stated) result }
+    ensures { Answers object_fault (item_count stated) result }
 {
     if stated < COUNT_LIMIT {
         return Ok(stated);

@@ -3,7 +3,7 @@ ghost use Rattle.std.specs.Prelude.{◌≡◌, ◌+◌, ◌<◌, ◌≤◌, ◌^
 ghost use Rattle.process_memory.specs.Seen.{Answers, Reads};
 ghost use Rattle.py_fields.specs.Sound.{IsSound};
 ghost use Rattle.py_builtins.specs.Dicts.{AreNear, dict_by, dict_slots, index_bytes, index_in, index_of_log2, keys_by, keys_slots, sized_index, slot_count, slots_in, stated_index};
-ghost use Rattle.py_builtins.specs.ObjectError.{fault_of};
+ghost use Rattle.py_builtins.specs.ObjectError.{object_fault};
 
 use crate::ObjectError;
 use elf64_core::u64_in;
@@ -43,7 +43,7 @@ pub fn read_dict<P: ProcessMemory>(
     addr: u64,
 ) -> Result<Slots, ObjectError>
     requires sound { IsSound layout.now }
-    ensures answer { Reads fault_of 2 (P.seen process.old) (P.seen process.new) (λ m. dict_slots layout.now m addr)
+    ensures answer { Reads object_fault 2 (P.seen process.old) (P.seen process.new) (λ m. dict_slots layout.now m addr)
         result }
     ensures memory { IsErrOf result ObjectError.OutOfMemory → IsTrue (P.seen process.old).may_want_memory }
     ensures near { IfOk result AreNear }
@@ -69,7 +69,7 @@ fn read_dict_record<P: ProcessMemory>(
     requires sound { IsSound layout.now }
     requires dict { layout.now.dict ≡ Some dict.now }
     requires object { length object.old ≡ dict.now.size }
-    ensures answer { Reads fault_of 2 (P.seen process.old) (P.seen process.new)
+    ensures answer { Reads object_fault 2 (P.seen process.old) (P.seen process.new)
         (λ m. dict_by layout.now m addr (Some dict.now)) result }
     ensures memory { IsErrOf result ObjectError.OutOfMemory → IsTrue (P.seen process.old).may_want_memory }
     ensures near { IfOk result AreNear }
@@ -89,7 +89,7 @@ pub fn read_keys<P: ProcessMemory>(
 ) -> Result<Slots, ObjectError>
     requires sound { IsSound layout.now }
     requires values { values < 2 ^ 68 }
-    ensures answer { Reads fault_of 1 (P.seen process.old) (P.seen process.new)
+    ensures answer { Reads object_fault 1 (P.seen process.old) (P.seen process.new)
         (λ m. keys_slots layout.now m addr values) result }
     ensures memory { IsErrOf result ObjectError.OutOfMemory → IsTrue (P.seen process.old).may_want_memory }
     ensures near { IfOk result AreNear }
@@ -117,7 +117,7 @@ fn read_keys_record<P: ProcessMemory>(
     requires keys { layout.now.keys ≡ Some keys.now }
     requires values { values < 2 ^ 68 }
     requires object { length object.old ≡ keys.now.size }
-    ensures answer { Reads fault_of 1 (P.seen process.old) (P.seen process.new)
+    ensures answer { Reads object_fault 1 (P.seen process.old) (P.seen process.new)
         (λ m. keys_by layout.now.dicts m addr values (Some keys.now)) result }
     ensures memory { IsErrOf result ObjectError.OutOfMemory → IsTrue (P.seen process.old).may_want_memory }
     ensures near { IfOk result AreNear }
@@ -138,7 +138,7 @@ fn slots_in(
     requires keys { layout.now.keys ≡ Some keys.now }
     requires values { values < 2 ^ 68 }
     requires object { length object.now ≡ keys.now.size }
-    ensures answer { Answers fault_of (slots_in layout.now.dicts keys.now addr values object.now) result }
+    ensures answer { Answers object_fault (slots_in layout.now.dicts keys.now addr values object.now) result }
     ensures memory { IsErrOf result ObjectError.OutOfMemory → ⊥ }
     ensures near { IfOk result AreNear }
 {
@@ -155,7 +155,7 @@ fn slots_in(
 /// A number of slots, unless it is negative.
 #[tactic(auto, unfolding(crate::specs::Dicts::slot_count))]
 fn slot_count(stated: u64) -> Result<u64, ObjectError>
-    ensures answer { Answers fault_of (slot_count stated) result }
+    ensures answer { Answers object_fault (slot_count stated) result }
     ensures memory { IsErrOf result ObjectError.OutOfMemory → ⊥ }
     ensures few { IfOk result (λ n. n < 2 ^ 63) }
 {
@@ -171,7 +171,7 @@ fn index_in(layout: &Layout, keys: &KeysAt, object: &[u8]) -> Result<Index, Obje
     requires sound { IsSound layout.now }
     requires keys { layout.now.keys ≡ Some keys.now }
     requires object { length object.now ≡ keys.now.size }
-    ensures answer { Answers fault_of (index_in layout.now.dicts keys.now object.now) result }
+    ensures answer { Answers object_fault (index_in layout.now.dicts keys.now object.now) result }
     ensures memory { IsErrOf result ObjectError.OutOfMemory → ⊥ }
     ensures short { IfOk result (λ index. index.bytes ≤ 2 ^ 66) }
 {
@@ -186,7 +186,7 @@ fn index_in(layout: &Layout, keys: &KeysAt, object: &[u8]) -> Result<Index, Obje
 #[tactic(auto, unfolding(crate::specs::Dicts::stated_index))]
 fn stated_index(slots: Option<u32>, object: &[u8]) -> Result<Index, ObjectError>
     requires { IfSome slots (λ at. at + 8 ≤ length object.now) }
-    ensures answer { Answers fault_of (stated_index slots object.now) result }
+    ensures answer { Answers object_fault (stated_index slots object.now) result }
     ensures memory { IsErrOf result ObjectError.OutOfMemory → ⊥ }
     ensures short { IfOk result (λ index. index.bytes ≤ 2 ^ 66) }
 {
@@ -223,7 +223,7 @@ fn index_bytes(slots: u64) -> u128
 fn sized_index(log2: Option<u32>, kind: Option<u32>, object: &[u8]) -> Result<Index, ObjectError>
     requires log2 { IfSome log2 (λ at. at < length object.now) }
     requires kind { IfSome kind (λ at. at < length object.now) }
-    ensures answer { Answers fault_of (sized_index log2 kind object.now) result }
+    ensures answer { Answers object_fault (sized_index log2 kind object.now) result }
     ensures memory { IsErrOf result ObjectError.OutOfMemory → ⊥ }
     ensures short { IfOk result (λ index. index.bytes ≤ 2 ^ 66) }
 {
@@ -236,7 +236,7 @@ fn sized_index(log2: Option<u32>, kind: Option<u32>, object: &[u8]) -> Result<In
 /// The index of this size, a power of 2.
 #[tactic(auto, unfolding(crate::specs::Dicts::index_of_log2))]
 fn index_of_log2(log2: u8, kind: u8) -> Result<Index, ObjectError>
-    ensures answer { Answers fault_of (index_of_log2 log2 kind) result }
+    ensures answer { Answers object_fault (index_of_log2 log2 kind) result }
     ensures memory { IsErrOf result ObjectError.OutOfMemory → ⊥ }
     ensures short { IfOk result (λ index. index.bytes ≤ 2 ^ 66) }
 {

@@ -2,7 +2,7 @@
 ghost use Rattle.std.specs.Prelude.{◌≡◌, ℕ, ◌+◌, ◌<◌, ◌≤◌, ◌^◌, List, length, IfOk, MatchResult};
 ghost use Rattle.py_fields.specs.Sound.{IsSound};
 ghost use Rattle.process_memory.specs.Seen.{Reads, Reading};
-ghost use Rattle.py_builtins.specs.ObjectError.{fault_of};
+ghost use Rattle.py_builtins.specs.ObjectError.{object_fault};
 ghost use Rattle.py_builtins.specs.Refusals.{RefusesEarly};
 ghost use Rattle.py_builtins.specs.Texts.{text_at, characters_at, IsText, characters_of, characters_by, state_at, kind_in, place_in, bit_is_set};
 
@@ -52,7 +52,7 @@ pub fn copy_string<P: ProcessMemory>(
     addr: u64,
 ) -> Result<Text, ObjectError>
     requires sound { IsSound layout.now }
-    ensures answer { Reads fault_of 2 (P.seen process.old) (P.seen process.new) (λ m. text_at layout.now m addr)
+    ensures answer { Reads object_fault 2 (P.seen process.old) (P.seen process.new) (λ m. text_at layout.now m addr)
         result }
     ensures early { RefusesEarly (P.seen process.old) (P.seen process.new) (λ m. text_at layout.now m addr) result }
     ensures text { Reading 2 (P.seen process.old) (P.seen process.new) (λ m. IfOk result (IsText layout.now m addr)) }
@@ -70,7 +70,7 @@ fn read_text<P: ProcessMemory>(
     addr: u64,
 ) -> Result<Text, ObjectError>
     requires sound { IsSound layout.now }
-    ensures answer { Reads fault_of 2 (P.seen process.old) (P.seen process.new) (λ m. text_at layout.now m addr)
+    ensures answer { Reads object_fault 2 (P.seen process.old) (P.seen process.new) (λ m. text_at layout.now m addr)
         result }
     ensures early { RefusesEarly (P.seen process.old) (P.seen process.new) (λ m. text_at layout.now m addr) result }
 {
@@ -98,7 +98,7 @@ fn read_characters<P: ProcessMemory>(
     characters: &Characters,
 ) -> Result<Text, ObjectError>
     requires { length < 4096 }
-    ensures { Reads fault_of 1 (P.seen process.old) (P.seen process.new)
+    ensures { Reads object_fault 1 (P.seen process.old) (P.seen process.new)
         (λ m. characters_at m length (Some characters.now)) result }
 {
     let len = length * characters.kind.width();

@@ -99,7 +99,7 @@ pub record HasGroups (l : Layout) : Type 0 where
   pub offsets : IsSome l.offsets ↔ (l.head ≡ Offsets)
 
 -- the versions that a layout covers: one major, and a range of minors
-pub record IsRange (l : Layout) : Type 0 where
+pub record IsVersionRange (l : Layout) : Type 0 where
   pub major : l.major ≤ 999
   pub first_minor : l.first_minor ≤ 999
   pub last_minor : l.last_minor ≤ 999
@@ -126,7 +126,7 @@ pub record AreSoundGroups (l : Layout) : Type 0 where
   pub offsets : IfSome l.offsets (λ o. IsRecord o.size (offsets_places o))
 
 pub record IsSound (l : Layout) : Type 0 where
-  pub range : IsRange l
+  pub range : IsVersionRange l
   -- an object's managed dict is a compact one
   pub managed : l.managed ≢ Unmanaged → l.dicts ≡ Compact
   pub has_groups : HasGroups l

@@ -1,7 +1,7 @@
 //! Whether a layout is sound: a test for each of its groups, over the list of its places.
 ghost use Rattle.std.specs.Prelude.{◌≡◌, ◌≢◌, ℕ, ◌+◌, ◌<◌, ◌≤◌, ◌^◌, ◌↔◌, IsTrue, IsSome, IfSome};
 ghost use Rattle.py_fields.specs.Places.{Apart, ApartFrom, AreApart, EndBy, IsGroup};
-ghost use Rattle.py_fields.specs.Sound.{IsPlain, IsRecord, IsStart, IsSoundInterpreter, IsSoundFrame, IsSoundCode, HasState, IsSoundString, IsSoundSequence, IsSoundLong, IsSoundKeys, IsSoundHeap, HasGroups, IsRange, AreSoundGroups, AreSoundObjects, IsSound};
+ghost use Rattle.py_fields.specs.Sound.{IsPlain, IsRecord, IsStart, IsSoundInterpreter, IsSoundFrame, IsSoundCode, HasState, IsSoundString, IsSoundSequence, IsSoundLong, IsSoundKeys, IsSoundHeap, HasGroups, IsVersionRange, AreSoundGroups, AreSoundObjects, IsSound};
 
 use crate::layout::{
     CodeAt, Dicts, FrameAt, Frames, Head, HeapAt, InterpreterAt, KeysAt, Lasti, Layout, Lock,
@@ -232,7 +232,7 @@ fn has_groups(layout: &Layout) -> bool
 
 /// Whether the versions are a range of minors, with numbers up to 999.
 fn is_range(layout: &Layout) -> bool
-    ensures { IsTrue result ↔ IsRange layout.now }
+    ensures { IsTrue result ↔ IsVersionRange layout.now }
 {
     layout.major <= 999
         && layout.first_minor <= 999

@@ -7,7 +7,7 @@ use Rattle.toml.specs.View.{view, items_view}
 use Rattle.toml.specs.declared.value.Value.{Value}
 use Rattle.py_fields.specs.declared.layout.Layout.{Layout}
 use Rattle.py_layout.specs.Keys.{Key}
-use Rattle.py_layout.specs.Reading.{layout_of}
+use Rattle.py_layout.specs.Reading.{layout_from}
 use Rattle.py_layout.specs.File.{element_flaw, first_flaw, layouts_in}
 
 next : (vs : List Value) (i : ℕ) → drop (i + 1) vs ≡ drop (suc i) vs
@@ -31,14 +31,14 @@ pub first_flaw-end : (keys : List Key) (vs : List Value) (i n : ℕ) → length 
 first_flaw-end keys vs i n h = sym (ap (λ ds. first_flaw keys n (items_view ds)) (drop_all i vs h))
 
 -- an element's layout, and where it is no table none
-table-layout : (d : Data) (ds : Items) (ms : Members) → Some ms ≡ as_table d → layouts_in (item d ds) ≡ layout_of ms ∷ layouts_in ds
+table-layout : (d : Data) (ds : Items) (ms : Members) → Some ms ≡ as_table d → layouts_in (item d ds) ≡ layout_from ms ∷ layouts_in ds
 table-layout (string t) ds ms h = cc
 table-layout (integer z) ds ms h = cc
 table-layout (float x) ds ms h = cc
 table-layout (boolean b) ds ms h = cc
 table-layout (datetime t) ds ms h = cc
 table-layout (array items) ds ms h = cc
-table-layout (table found) ds ms h = let same : ms ≡ found = cc in ap (λ m. layout_of m ∷ layouts_in ds) (sym same)
+table-layout (table found) ds ms h = let same : ms ≡ found = cc in ap (λ m. layout_from m ∷ layouts_in ds) (sym same)
 
 no-layout : (d : Data) (ds : Items) → None ≡ as_table d → layouts_in (item d ds) ≡ layouts_in ds
 no-layout (string t) ds h = refl
@@ -51,10 +51,10 @@ no-layout (table found) ds h = cc
 
 -- the layouts so far with those from a place on are all: after a table, after another value, and at the end
 pub layouts-pushed : (done new all : List Layout) (vs : List Value) (i : ℕ) (v : Value) (ms : Members) → i < length vs → v ≡ get_or vs i v → Some ms ≡ as_table (view v)
-    → new ≡ done ++ layout_of ms ∷ [] → done ++ layouts_in (items_view (drop i vs)) ≡ all → new ++ layouts_in (items_view (drop (i + 1) vs)) ≡ all
+    → new ≡ done ++ layout_from ms ∷ [] → done ++ layouts_in (items_view (drop i vs)) ≡ all → new ++ layouts_in (items_view (drop (i + 1) vs)) ≡ all
 layouts-pushed done new all vs i v ms h is found push inv =
     let rest : List Layout = layouts_in (items_view (drop (i + 1) vs)) in
-    ap (λ ls. ls ++ rest) push ∙ append_assoc done (layout_of ms ∷ []) rest
+    ap (λ ls. ls ++ rest) push ∙ append_assoc done (layout_from ms ∷ []) rest
     ∙ ap (λ ls. done ++ ls) (sym (ap layouts_in (items-at vs i v h is) ∙ table-layout (view v) (items_view (drop (i + 1) vs)) ms found)) ∙ inv
 
 pub layouts-kept : (done new all : List Layout) (vs : List Value) (i : ℕ) (v : Value) → i < length vs → v ≡ get_or vs i v → None ≡ as_table (view v)

@@ -6,7 +6,7 @@ use Rattle.std.specs.List.{list_any, find}
 use Rattle.std.specs.Map.{keys_of}
 use Rattle.toml.specs.View.{members_view}
 use Rattle.toml.proofs.Views.{Entry}
-use Rattle.py_layout.specs.Flaws.{is_flawed, is_key, names, unknown_in, first_of, unknown_at, path, flaw_by}
+use Rattle.py_layout.specs.Flaws.{is_flawed, is_key, names, unknown_in, first_some, unknown_at, path, flaw_by}
 use Rattle.py_layout.specs.declared.families.Families.{Families}
 use Rattle.py_layout.specs.declared.keys.Key as code
 use Rattle.py_layout.specs.Keys.{key_of}
@@ -52,24 +52,24 @@ group_flaw f keys ms key = unknown_at f (map key_of keys) ms (key_of key)
 pub flaw_by-found : (f : Families) (keys : List code.Key) (ms : Members) (o : Option code.Key)
     → o ≡ find (λ key. is_flawed f ms (key_of key)) keys
     → option_or (option_map (λ key. path key.group key.name) (option_map key_of o))
-    (option_or (option_map (path None) (unknown_in f (map key_of keys) None ms)) (first_of (unknown_at f (map key_of keys) ms) (map key_of keys)))
+    (option_or (option_map (path None) (unknown_in f (map key_of keys) None ms)) (first_some (unknown_at f (map key_of keys) ms) (map key_of keys)))
     ≡ flaw_by f (map key_of keys) ms
 flaw_by-found f keys ms o h =
-    ap (λ found. option_or (option_map (λ key. path key.group key.name) found) (option_or (option_map (path None) (unknown_in f (map key_of keys) None ms)) (first_of (unknown_at f (map key_of keys) ms) (map key_of keys))))
+    ap (λ found. option_or (option_map (λ key. path key.group key.name) found) (option_or (option_map (path None) (unknown_in f (map key_of keys) None ms)) (first_some (unknown_at f (map key_of keys) ms) (map key_of keys))))
     (ap (option_map key_of) h ∙ find-map key_of (is_flawed f ms) keys)
 
-pub first_of-map : {A B C : Type 0} (g : A → B) (f : B → Option C) (xs : List A) → first_of f (map g xs) ≡ first_of (λ x. f (g x)) xs
+pub first_of-map : {A B C : Type 0} (g : A → B) (f : B → Option C) (xs : List A) → first_some f (map g xs) ≡ first_some (λ x. f (g x)) xs
 first_of-map g f [] = refl
 first_of-map g f (x ∷ xs) = ap (option_or (f (g x))) (first_of-map g f xs)
 
 -- the first that f gives, from a place on: nothing here, something here, and the end
-pub first_of-miss : {A B : Type 0} (f : A → Option B) (xs : List A) (i : ℕ) (d : A) → i < length xs → f (get_or xs i d) ≡ None → first_of f (drop (i + 1) xs) ≡ first_of f (drop i xs)
+pub first_of-miss : {A B : Type 0} (f : A → Option B) (xs : List A) (i : ℕ) (d : A) → i < length xs → f (get_or xs i d) ≡ None → first_some f (drop (i + 1) xs) ≡ first_some f (drop i xs)
 first_of-miss f xs i d h none =
-    rw add-one (sym (ap (first_of f) (drop-cons xs i d h) ∙ ap (λ o. option_or o (first_of f (drop (suc i) xs))) none))
+    rw add-one (sym (ap (first_some f) (drop-cons xs i d h) ∙ ap (λ o. option_or o (first_some f (drop (suc i) xs))) none))
 
-pub first_of-hit : {A B : Type 0} (f : A → Option B) (xs : List A) (i : ℕ) (d : A) (y : B) → i < length xs → f (get_or xs i d) ≡ Some y → first_of f (drop i xs) ≡ Some y
+pub first_of-hit : {A B : Type 0} (f : A → Option B) (xs : List A) (i : ℕ) (d : A) (y : B) → i < length xs → f (get_or xs i d) ≡ Some y → first_some f (drop i xs) ≡ Some y
 first_of-hit f xs i d y h some =
-    ap (first_of f) (drop-cons xs i d h) ∙ ap (λ o. option_or o (first_of f (drop (suc i) xs))) some
+    ap (first_some f) (drop-cons xs i d h) ∙ ap (λ o. option_or o (first_some f (drop (suc i) xs))) some
 
-pub first_of-end : {A B : Type 0} (f : A → Option B) (xs : List A) (i : ℕ) → length xs ≤ i → first_of f (drop i xs) ≡ None
-first_of-end f xs i h = ap (first_of f) (drop_all i xs h)
+pub first_of-end : {A B : Type 0} (f : A → Option B) (xs : List A) (i : ℕ) → length xs ≤ i → first_some f (drop i xs) ≡ None
+first_of-end f xs i h = ap (first_some f) (drop_all i xs h)

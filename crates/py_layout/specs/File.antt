@@ -10,7 +10,7 @@ use Rattle.py_layout.specs.declared.error.LayoutError.TheVariants.{NotToml, Shap
 use Rattle.py_fields.specs.declared.layout.Layout.{Layout}
 use Rattle.py_layout.specs.Keys.{Key, the_keys}
 use Rattle.py_layout.specs.Flaws.{names, table_flaw}
-use Rattle.py_layout.specs.Reading.{layout_of}
+use Rattle.py_layout.specs.Reading.{layout_from}
 use Rattle.py_fields.specs.Sound.{IsSound}
 use Rattle.py_layout.specs.Lists.{AreSound, IsFirstUnsound, IsFirstClash}
 
@@ -47,7 +47,7 @@ file_flaw keys ms = flaw_among keys (other_key ms) (elements_of ms)
 -- the layouts of the tables
 abbrev pub layouts_in : Items → List Layout
 layouts_in no_items = []
-layouts_in (item (table ms) ds) = layout_of ms ∷ layouts_in ds
+layouts_in (item (table ms) ds) = layout_from ms ∷ layouts_in ds
 layouts_in (item _ ds) = layouts_in ds
 
 abbrev pub layouts_among : Option Items → List Layout

@@ -116,9 +116,9 @@ abbrev pub unknown_in : Families → List Key → Option (List ℕ) → Members 
 unknown_in f keys group ms = find (λ name. not (is_known f keys group name)) (names ms)
 
 -- the first that f gives
-abbrev pub first_of : {A B : Type 0} → (A → Option B) → List A → Option B
-first_of f [] = None
-first_of f (x ∷ xs) = option_or (f x) (first_of f xs)
+abbrev pub first_some : {A B : Type 0} → (A → Option B) → List A → Option B
+first_some f [] = None
+first_some f (x ∷ xs) = option_or (f x) (first_some f xs)
 
 -- where the key is that of a group, the first name there that is no key
 abbrev pub unknown_by : Families → List Key → Members → List ℕ → Kind → Option (List ℕ)
@@ -134,7 +134,7 @@ unknown_at f keys ms key = unknown_by f keys ms key.name key.kind
 abbrev pub flaw_by : Families → List Key → Members → Option (List ℕ)
 flaw_by f keys ms =
     option_or (option_map (λ key. path key.group key.name) (find (is_flawed f ms) keys))
-    (option_or (option_map (path None) (unknown_in f keys None ms)) (first_of (unknown_at f keys ms) keys))
+    (option_or (option_map (path None) (unknown_in f keys None ms)) (first_some (unknown_at f keys ms) keys))
 
 unfoldable pub table_flaw : List Key → Members → Option (List ℕ)
 table_flaw keys ms = flaw_by (families_of ms) keys ms

@@ -23,15 +23,15 @@ use Rattle.py_fields.specs.declared.layout.GilAt.{GilAt}
 use Rattle.py_fields.specs.declared.layout.OffsetsAt.{OffsetsAt}
 use Rattle.py_fields.specs.declared.layout.Layout.{Layout}
 
-abbrev pub interpreter_of : Members → InterpreterAt
-interpreter_of ms = record {
+abbrev pub interpreter_from : Members → InterpreterAt
+interpreter_from ms = record {
   threads = number_at ms (Some (codes "interpreter")) (codes "threads");
   modules = number_at ms (Some (codes "interpreter")) (codes "modules");
   gil = optional_at ms (Some (codes "interpreter")) (codes "gil");
 }
 
-abbrev pub thread_of : Members → ThreadAt
-thread_of ms = record {
+abbrev pub thread_from : Members → ThreadAt
+thread_from ms = record {
   size = number_at ms (Some (codes "thread")) (codes "size");
   next = number_at ms (Some (codes "thread")) (codes "next");
   interp = number_at ms (Some (codes "thread")) (codes "interp");
@@ -40,13 +40,13 @@ thread_of ms = record {
   native_id = optional_at ms (Some (codes "thread")) (codes "native_id");
 }
 
-abbrev pub cframe_of : Members → CframeAt
-cframe_of ms = record {
+abbrev pub cframe_from : Members → CframeAt
+cframe_from ms = record {
   current = number_at ms (Some (codes "cframe")) (codes "current");
 }
 
-abbrev pub frame_of : Members → FrameAt
-frame_of ms = record {
+abbrev pub frame_from : Members → FrameAt
+frame_from ms = record {
   size = number_at ms (Some (codes "frame")) (codes "size");
   code = number_at ms (Some (codes "frame")) (codes "code");
   back = number_at ms (Some (codes "frame")) (codes "back");
@@ -56,8 +56,8 @@ frame_of ms = record {
   code_tag_bits = number_at ms (Some (codes "frame")) (codes "code_tag_bits");
 }
 
-abbrev pub code_of : Members → CodeAt
-code_of ms = record {
+abbrev pub code_from : Members → CodeAt
+code_from ms = record {
   size = number_at ms (Some (codes "code")) (codes "size");
   argcount = number_at ms (Some (codes "code")) (codes "argcount");
   nlocals = number_at ms (Some (codes "code")) (codes "nlocals");
@@ -69,8 +69,8 @@ code_of ms = record {
   start = optional_at ms (Some (codes "code")) (codes "start");
 }
 
-abbrev pub string_of : Members → StringAt
-string_of ms = record {
+abbrev pub string_from : Members → StringAt
+string_from ms = record {
   size = number_at ms (Some (codes "string")) (codes "size");
   length = number_at ms (Some (codes "string")) (codes "length");
   state = optional_at ms (Some (codes "string")) (codes "state");
@@ -82,63 +82,63 @@ string_of ms = record {
   ascii_bit = optional_at ms (Some (codes "string")) (codes "ascii_bit");
 }
 
-abbrev pub bytes_of : Members → BytesAt
-bytes_of ms = record {
+abbrev pub bytes_from : Members → BytesAt
+bytes_from ms = record {
   size = number_at ms (Some (codes "bytes")) (codes "size");
   length = number_at ms (Some (codes "bytes")) (codes "length");
   at = number_at ms (Some (codes "bytes")) (codes "at");
 }
 
-abbrev pub tuple_of : Members → TupleAt
-tuple_of ms = record {
+abbrev pub tuple_from : Members → TupleAt
+tuple_from ms = record {
   size = number_at ms (Some (codes "tuple")) (codes "size");
   count = number_at ms (Some (codes "tuple")) (codes "count");
   at = number_at ms (Some (codes "tuple")) (codes "at");
 }
 
-abbrev pub list_of : Members → ListAt
-list_of ms = record {
+abbrev pub list_from : Members → ListAt
+list_from ms = record {
   size = number_at ms (Some (codes "list")) (codes "size");
   count = number_at ms (Some (codes "list")) (codes "count");
   items = number_at ms (Some (codes "list")) (codes "items");
 }
 
-abbrev pub object_of : Members → ObjectAt
-object_of ms = record {
+abbrev pub object_from : Members → ObjectAt
+object_from ms = record {
   size = number_at ms (Some (codes "object")) (codes "size");
   klass = number_at ms (Some (codes "object")) (codes "klass");
 }
 
-abbrev pub klass_of : Members → KlassAt
-klass_of ms = record {
+abbrev pub klass_from : Members → KlassAt
+klass_from ms = record {
   size = number_at ms (Some (codes "klass")) (codes "size");
   name = number_at ms (Some (codes "klass")) (codes "name");
   flags = number_at ms (Some (codes "klass")) (codes "flags");
   dict_offset = number_at ms (Some (codes "klass")) (codes "dict_offset");
 }
 
-abbrev pub long_of : Members → LongAt
-long_of ms = record {
+abbrev pub long_from : Members → LongAt
+long_from ms = record {
   size = number_at ms (Some (codes "long")) (codes "size");
   count = number_at ms (Some (codes "long")) (codes "count");
   digits = number_at ms (Some (codes "long")) (codes "digits");
 }
 
-abbrev pub value_of : Members → List ℕ → ValueAt
-value_of ms group = record {
+abbrev pub value_from : Members → List ℕ → ValueAt
+value_from ms group = record {
   size = number_at ms (Some group) (codes "size");
   value = number_at ms (Some group) (codes "value");
 }
 
-abbrev pub dict_of : Members → DictAt
-dict_of ms = record {
+abbrev pub dict_from : Members → DictAt
+dict_from ms = record {
   size = number_at ms (Some (codes "dict")) (codes "size");
   keys = number_at ms (Some (codes "dict")) (codes "keys");
   values = number_at ms (Some (codes "dict")) (codes "values");
 }
 
-abbrev pub keys_of : Members → KeysAt
-keys_of ms = record {
+abbrev pub keys_from : Members → KeysAt
+keys_from ms = record {
   size = number_at ms (Some (codes "keys")) (codes "size");
   used = number_at ms (Some (codes "keys")) (codes "used");
   slots = optional_at ms (Some (codes "keys")) (codes "slots");
@@ -146,22 +146,22 @@ keys_of ms = record {
   kind = optional_at ms (Some (codes "keys")) (codes "kind");
 }
 
-abbrev pub heap_of : Members → HeapAt
-heap_of ms = record {
+abbrev pub heap_from : Members → HeapAt
+heap_from ms = record {
   size = number_at ms (Some (codes "heap")) (codes "size");
   cached_keys = number_at ms (Some (codes "heap")) (codes "cached_keys");
   inline = number_at ms (Some (codes "heap")) (codes "inline");
 }
 
-abbrev pub gil_of : Members → GilAt
-gil_of ms = record {
+abbrev pub gil_from : Members → GilAt
+gil_from ms = record {
   size = number_at ms (Some (codes "gil")) (codes "size");
   locked = number_at ms (Some (codes "gil")) (codes "locked");
   holder = number_at ms (Some (codes "gil")) (codes "holder");
 }
 
-abbrev pub offsets_of : Members → OffsetsAt
-offsets_of ms = record {
+abbrev pub offsets_from : Members → OffsetsAt
+offsets_from ms = record {
   size = number_at ms (Some (codes "offsets")) (codes "size");
   head = number_at ms (Some (codes "offsets")) (codes "head");
 }
@@ -170,8 +170,8 @@ offsets_of ms = record {
 abbrev pub has_group : Members → List ℕ → Bool
 has_group ms name = is_some (group_at ms name)
 
-unfoldable pub layout_of : Members → Layout
-layout_of ms = record {
+unfoldable pub layout_from : Members → Layout
+layout_from ms = record {
   major = number_at ms None (codes "major");
   first_minor = number_at ms None (codes "first_minor");
   last_minor = number_at ms None (codes "last_minor");
@@ -185,23 +185,23 @@ layout_of ms = record {
   integers = (families_of ms).integers;
   dicts = (families_of ms).dicts;
   managed = (families_of ms).managed;
-  interpreter = interpreter_of ms;
-  thread = thread_of ms;
-  cframe = cond (has_group ms (codes "cframe")) (Some (cframe_of ms)) None;
-  frame = frame_of ms;
-  code = code_of ms;
-  string = string_of ms;
-  bytes = bytes_of ms;
-  tuple = tuple_of ms;
-  list = list_of ms;
-  object = object_of ms;
-  klass = klass_of ms;
-  long = long_of ms;
-  small = value_of ms (codes "small");
-  float = value_of ms (codes "float");
-  dict = cond (has_group ms (codes "dict")) (Some (dict_of ms)) None;
-  keys = cond (has_group ms (codes "keys")) (Some (keys_of ms)) None;
-  heap = cond (has_group ms (codes "heap")) (Some (heap_of ms)) None;
-  gil = cond (has_group ms (codes "gil")) (Some (gil_of ms)) None;
-  offsets = cond (has_group ms (codes "offsets")) (Some (offsets_of ms)) None;
+  interpreter = interpreter_from ms;
+  thread = thread_from ms;
+  cframe = cond (has_group ms (codes "cframe")) (Some (cframe_from ms)) None;
+  frame = frame_from ms;
+  code = code_from ms;
+  string = string_from ms;
+  bytes = bytes_from ms;
+  tuple = tuple_from ms;
+  list = list_from ms;
+  object = object_from ms;
+  klass = klass_from ms;
+  long = long_from ms;
+  small = value_from ms (codes "small");
+  float = value_from ms (codes "float");
+  dict = cond (has_group ms (codes "dict")) (Some (dict_from ms)) None;
+  keys = cond (has_group ms (codes "keys")) (Some (keys_from ms)) None;
+  heap = cond (has_group ms (codes "heap")) (Some (heap_from ms)) None;
+  gil = cond (has_group ms (codes "gil")) (Some (gil_from ms)) None;
+  offsets = cond (has_group ms (codes "offsets")) (Some (offsets_from ms)) None;
 }

@@ -12,7 +12,7 @@ ghost use Rattle.py_layout.specs.File.{elements_of, element_flaw, first_flaw, ot
 use crate::error::LayoutError;
 use crate::flaws::{Flaw, table_flaw};
 use crate::keys::{Key, keys};
-use crate::reading::layout_of;
+use crate::reading::layout_from;
 use crate::values::member;
 use elf64_core::Text;
 use py_fields::Layout;
@@ -130,7 +130,7 @@ fn layouts_in(alloc: Global, list: &[Value]) -> Result<Vec<Layout>, AllocError>
     let mut layouts = Vec::new(alloc);
     for value in list {
         if let Some(table) = value.as_table() {
-            layouts.push(layout_of(table))?;
+            layouts.push(layout_from(table))?;
         }
     }
     Ok(layouts)

@@ -6,7 +6,7 @@ ghost use Rattle.toml.specs.View.{view, table_view};
 ghost use Rattle.py_layout.specs.Keys.{key_of};
 ghost use Rattle.py_layout.specs.Words.{families_of};
 ghost use Rattle.py_layout.specs.FlawPath.{flaw_path, is_unknown_name};
-ghost use Rattle.py_layout.specs.Flaws.{may_be, must_be, is_flawed, same_group, is_key, unknown_in, first_of, unknown_at, flaw_by, table_flaw, path};
+ghost use Rattle.py_layout.specs.Flaws.{may_be, must_be, is_flawed, same_group, is_key, unknown_in, first_some, unknown_at, flaw_by, table_flaw, path};
 
 use crate::families::{Families, families_of};
 use crate::keys::{Key, Kind, Presence};
@@ -137,7 +137,7 @@ fn unknown_in<'a>(
 /// The first name of a group that is no key, by the order of the groups.
 fn unknown_in_groups<'a>(families: Families, keys: &'a [Key], table: &'a Table) -> Option<Flaw<'a>>
     ensures { option_map flaw_path result
-        ≡ first_of (unknown_at families (map key_of keys.now) (table_view table.now)) (map key_of keys.now) }
+        ≡ first_some (unknown_at families (map key_of keys.now) (table_view table.now)) (map key_of keys.now) }
 {
     for key in keys {
         if let Some(flaw) = unknown_at(families, keys, table, key) {

@@ -1,7 +1,7 @@
 //! The layout that a table without flaw says.
 ghost use Rattle.std.specs.Prelude.{◌≡◌, cond, is_some, Some, None, codes};
 ghost use Rattle.toml.specs.View.{table_view};
-ghost use Rattle.py_layout.specs.Reading.{interpreter_of, thread_of, cframe_of, frame_of, code_of, string_of, bytes_of, tuple_of, list_of, object_of, klass_of, long_of, value_of, dict_of, keys_of, heap_of, gil_of, offsets_of, has_group, layout_of};
+ghost use Rattle.py_layout.specs.Reading.{interpreter_from, thread_from, cframe_from, frame_from, code_from, string_from, bytes_from, tuple_from, list_from, object_from, klass_from, long_from, value_from, dict_from, keys_from, heap_from, gil_from, offsets_from, has_group, layout_from};
 ghost use Rattle.py_layout.specs.Words.{families_of};
 
 use crate::families::families_of;
@@ -12,8 +12,8 @@ use py_fields::{
 };
 use toml::Table;
 
-fn interpreter_of(table: &Table) -> InterpreterAt
-    ensures { result ≡ interpreter_of (table_view table.now) }
+fn interpreter_from(table: &Table) -> InterpreterAt
+    ensures { result ≡ interpreter_from (table_view table.now) }
 {
     InterpreterAt {
         threads: number_at(table, Some("interpreter"), "threads"),
@@ -22,8 +22,8 @@ fn interpreter_of(table: &Table) -> InterpreterAt
     }
 }
 
-fn thread_of(table: &Table) -> ThreadAt
-    ensures { result ≡ thread_of (table_view table.now) }
+fn thread_from(table: &Table) -> ThreadAt
+    ensures { result ≡ thread_from (table_view table.now) }
 {
     ThreadAt {
         size: number_at(table, Some("thread"), "size"),
@@ -35,16 +35,16 @@ fn thread_of(table: &Table) -> ThreadAt
     }
 }
 
-fn cframe_of(table: &Table) -> CframeAt
-    ensures { result ≡ cframe_of (table_view table.now) }
+fn cframe_from(table: &Table) -> CframeAt
+    ensures { result ≡ cframe_from (table_view table.now) }
 {
     CframeAt {
         current: number_at(table, Some("cframe"), "current"),
     }
 }
 
-fn frame_of(table: &Table) -> FrameAt
-    ensures { result ≡ frame_of (table_view table.now) }
+fn frame_from(table: &Table) -> FrameAt
+    ensures { result ≡ frame_from (table_view table.now) }
 {
     FrameAt {
         size: number_at(table, Some("frame"), "size"),
@@ -57,8 +57,8 @@ fn frame_of(table: &Table) -> FrameAt
     }
 }
 
-fn code_of(table: &Table) -> CodeAt
-    ensures { result ≡ code_of (table_view table.now) }
+fn code_from(table: &Table) -> CodeAt
+    ensures { result ≡ code_from (table_view table.now) }
 {
     CodeAt {
         size: number_at(table, Some("code"), "size"),
@@ -73,8 +73,8 @@ fn code_of(table: &Table) -> CodeAt
     }
 }
 
-fn string_of(table: &Table) -> StringAt
-    ensures { result ≡ string_of (table_view table.now) }
+fn string_from(table: &Table) -> StringAt
+    ensures { result ≡ string_from (table_view table.now) }
 {
     StringAt {
         size: number_at(table, Some("string"), "size"),
@@ -89,8 +89,8 @@ fn string_of(table: &Table) -> StringAt
     }
 }
 
-fn bytes_of(table: &Table) -> BytesAt
-    ensures { result ≡ bytes_of (table_view table.now) }
+fn bytes_from(table: &Table) -> BytesAt
+    ensures { result ≡ bytes_from (table_view table.now) }
 {
     BytesAt {
         size: number_at(table, Some("bytes"), "size"),
@@ -99,8 +99,8 @@ fn bytes_of(table: &Table) -> BytesAt
     }
 }
 
-fn tuple_of(table: &Table) -> TupleAt
-    ensures { result ≡ tuple_of (table_view table.now) }
+fn tuple_from(table: &Table) -> TupleAt
+    ensures { result ≡ tuple_from (table_view table.now) }
 {
     TupleAt {
         size: number_at(table, Some("tuple"), "size"),
@@ -109,8 +109,8 @@ fn tuple_of(table: &Table) -> TupleAt
     }
 }
 
-fn list_of(table: &Table) -> ListAt
-    ensures { result ≡ list_of (table_view table.now) }
+fn list_from(table: &Table) -> ListAt
+    ensures { result ≡ list_from (table_view table.now) }
 {
     ListAt {
         size: number_at(table, Some("list"), "size"),
@@ -119,8 +119,8 @@ fn list_of(table: &Table) -> ListAt
     }
 }
 
-fn object_of(table: &Table) -> ObjectAt
-    ensures { result ≡ object_of (table_view table.now) }
+fn object_from(table: &Table) -> ObjectAt
+    ensures { result ≡ object_from (table_view table.now) }
 {
     ObjectAt {
         size: number_at(table, Some("object"), "size"),
@@ -128,8 +128,8 @@ fn object_of(table: &Table) -> ObjectAt
     }
 }
 
-fn klass_of(table: &Table) -> KlassAt
-    ensures { result ≡ klass_of (table_view table.now) }
+fn klass_from(table: &Table) -> KlassAt
+    ensures { result ≡ klass_from (table_view table.now) }
 {
     KlassAt {
         size: number_at(table, Some("klass"), "size"),
@@ -139,8 +139,8 @@ fn klass_of(table: &Table) -> KlassAt
     }
 }
 
-fn long_of(table: &Table) -> LongAt
-    ensures { result ≡ long_of (table_view table.now) }
+fn long_from(table: &Table) -> LongAt
+    ensures { result ≡ long_from (table_view table.now) }
 {
     LongAt {
         size: number_at(table, Some("long"), "size"),
@@ -149,8 +149,8 @@ fn long_of(table: &Table) -> LongAt
     }
 }
 
-fn value_of(table: &Table, group: &str) -> ValueAt
-    ensures { result ≡ value_of (table_view table.now) group.now }
+fn value_from(table: &Table, group: &str) -> ValueAt
+    ensures { result ≡ value_from (table_view table.now) group.now }
 {
     ValueAt {
         size: number_at(table, Some(group), "size"),
@@ -158,8 +158,8 @@ fn value_of(table: &Table, group: &str) -> ValueAt
     }
 }
 
-fn dict_of(table: &Table) -> DictAt
-    ensures { result ≡ dict_of (table_view table.now) }
+fn dict_from(table: &Table) -> DictAt
+    ensures { result ≡ dict_from (table_view table.now) }
 {
     DictAt {
         size: number_at(table, Some("dict"), "size"),
@@ -168,8 +168,8 @@ fn dict_of(table: &Table) -> DictAt
     }
 }
 
-fn keys_of(table: &Table) -> KeysAt
-    ensures { result ≡ keys_of (table_view table.now) }
+fn keys_from(table: &Table) -> KeysAt
+    ensures { result ≡ keys_from (table_view table.now) }
 {
     KeysAt {
         size: number_at(table, Some("keys"), "size"),
@@ -180,8 +180,8 @@ fn keys_of(table: &Table) -> KeysAt
     }
 }
 
-fn heap_of(table: &Table) -> HeapAt
-    ensures { result ≡ heap_of (table_view table.now) }
+fn heap_from(table: &Table) -> HeapAt
+    ensures { result ≡ heap_from (table_view table.now) }
 {
     HeapAt {
         size: number_at(table, Some("heap"), "size"),
@@ -190,8 +190,8 @@ fn heap_of(table: &Table) -> HeapAt
     }
 }
 
-fn gil_of(table: &Table) -> GilAt
-    ensures { result ≡ gil_of (table_view table.now) }
+fn gil_from(table: &Table) -> GilAt
+    ensures { result ≡ gil_from (table_view table.now) }
 {
     GilAt {
         size: number_at(table, Some("gil"), "size"),
@@ -200,8 +200,8 @@ fn gil_of(table: &Table) -> GilAt
     }
 }
 
-fn offsets_of(table: &Table) -> OffsetsAt
-    ensures { result ≡ offsets_of (table_view table.now) }
+fn offsets_from(table: &Table) -> OffsetsAt
+    ensures { result ≡ offsets_from (table_view table.now) }
 {
     OffsetsAt {
         size: number_at(table, Some("offsets"), "size"),
@@ -218,10 +218,10 @@ fn has_group(table: &Table, name: &str) -> bool
 
 fn cframe_if_there(table: &Table) -> Option<CframeAt>
     ensures { result ≡ cond (has_group (table_view table.now) (codes "cframe"))
-        (Some (cframe_of (table_view table.now))) None }
+        (Some (cframe_from (table_view table.now))) None }
 {
     if has_group(table, "cframe") {
-        Some(cframe_of(table))
+        Some(cframe_from(table))
     } else {
         None
     }
@@ -229,10 +229,10 @@ fn cframe_if_there(table: &Table) -> Option<CframeAt>
 
 fn dict_if_there(table: &Table) -> Option<DictAt>
     ensures { result ≡ cond (has_group (table_view table.now) (codes "dict"))
-        (Some (dict_of (table_view table.now))) None }
+        (Some (dict_from (table_view table.now))) None }
 {
     if has_group(table, "dict") {
-        Some(dict_of(table))
+        Some(dict_from(table))
     } else {
         None
     }
@@ -240,10 +240,10 @@ fn dict_if_there(table: &Table) -> Option<DictAt>
 
 fn keys_if_there(table: &Table) -> Option<KeysAt>
     ensures { result ≡ cond (has_group (table_view table.now) (codes "keys"))
-        (Some (keys_of (table_view table.now))) None }
+        (Some (keys_from (table_view table.now))) None }
 {
     if has_group(table, "keys") {
-        Some(keys_of(table))
+        Some(keys_from(table))
     } else {
         None
     }
@@ -251,10 +251,10 @@ fn keys_if_there(table: &Table) -> Option<KeysAt>
 
 fn heap_if_there(table: &Table) -> Option<HeapAt>
     ensures { result ≡ cond (has_group (table_view table.now) (codes "heap"))
-        (Some (heap_of (table_view table.now))) None }
+        (Some (heap_from (table_view table.now))) None }
 {
     if has_group(table, "heap") {
-        Some(heap_of(table))
+        Some(heap_from(table))
     } else {
         None
     }
@@ -262,10 +262,10 @@ fn heap_if_there(table: &Table) -> Option<HeapAt>
 
 fn gil_if_there(table: &Table) -> Option<GilAt>
     ensures { result ≡ cond (has_group (table_view table.now) (codes "gil"))
-        (Some (gil_of (table_view table.now))) None }
+        (Some (gil_from (table_view table.now))) None }
 {
     if has_group(table, "gil") {
-        Some(gil_of(table))
+        Some(gil_from(table))
     } else {
         None
     }
@@ -273,19 +273,19 @@ fn gil_if_there(table: &Table) -> Option<GilAt>
 
 fn offsets_if_there(table: &Table) -> Option<OffsetsAt>
     ensures { result ≡ cond (has_group (table_view table.now) (codes "offsets"))
-        (Some (offsets_of (table_view table.now))) None }
+        (Some (offsets_from (table_view table.now))) None }
 {
     if has_group(table, "offsets") {
-        Some(offsets_of(table))
+        Some(offsets_from(table))
     } else {
         None
     }
 }
 
 /// The layout that a table says; of a table with a flaw, one with zeros for what is not there.
-#[tactic(auto, unfolding(crate::specs::Reading::layout_of))]
-pub fn layout_of(table: &Table) -> Layout
-    ensures { result ≡ layout_of (table_view table.now) }
+#[tactic(auto, unfolding(crate::specs::Reading::layout_from))]
+pub fn layout_from(table: &Table) -> Layout
+    ensures { result ≡ layout_from (table_view table.now) }
 {
     let families = families_of(table);
     Layout {
@@ -302,20 +302,20 @@ pub fn layout_of(table: &Table) -> Layout
         integers: families.integers,
         dicts: families.dicts,
         managed: families.managed,
-        interpreter: interpreter_of(table),
-        thread: thread_of(table),
+        interpreter: interpreter_from(table),
+        thread: thread_from(table),
         cframe: cframe_if_there(table),
-        frame: frame_of(table),
-        code: code_of(table),
-        string: string_of(table),
-        bytes: bytes_of(table),
-        tuple: tuple_of(table),
-        list: list_of(table),
-        object: object_of(table),
-        klass: klass_of(table),
-        long: long_of(table),
-        small: value_of(table, "small"),
-        float: value_of(table, "float"),
+        frame: frame_from(table),
+        code: code_from(table),
+        string: string_from(table),
+        bytes: bytes_from(table),
+        tuple: tuple_from(table),
+        list: list_from(table),
+        object: object_from(table),
+        klass: klass_from(table),
+        long: long_from(table),
+        small: value_from(table, "small"),
+        float: value_from(table, "float"),
         dict: dict_if_there(table),
         keys: keys_if_there(table),
         heap: heap_if_there(table),

@@ -14,9 +14,9 @@ use Rattle.py_lines.specs.declared.lines.LineFamily.TheVariants.{Pairs, Ranges, 
 use Rattle.py_lines.specs.declared.lines.LineRange.{LineRange}
 use Rattle.py_lines.specs.declared.lines.Place.{Place}
 use Rattle.py_lines.specs.declared.entry.Entry.{Entry}
-use Rattle.py_lines.specs.Entries.{first_entry, entries_within, entries_of, HasRoom, IsSmall, IsWithin}
-use Rattle.py_lines.specs.Lines.{ranges_behind, ranges_of, last_range, line_under, in_i32, covered, moved, delta_of, kept, line_in, holds, shown, AscendFrom}
-use Rattle.py_lines.specs.Places.{laid, line_with, range_at, past, last_at, kept_last, IsNear}
+use Rattle.py_lines.specs.Entries.{first_entry, entries_within, entries_of, HasEntryRoom, IsSmall, IsWithin}
+use Rattle.py_lines.specs.Lines.{ranges_behind, ranges_of, last_range, line_under, in_i32, covered, moved, delta_of, kept, line_among, holds, shown_line, AscendFrom}
+use Rattle.py_lines.specs.Places.{laid, line_with, line_range_at, past, last_at, kept_last, IsNear}
 
 -- ---- the entries
 
@@ -65,7 +65,7 @@ module _ (first : ℤ) where
   laid_is family p before (e ∷ es) start line =
       let later : laid family (past p e) es ≡ ranges_behind family first (before ++ e ∷ []) es =
       laid_is family (past p e) (before ++ e ∷ []) es (ap (λ n. n + e.covers) start ∙ sym (covered-one before e)) (sym (behind_one p.line before e line)) in
-      ap (kept (range_at family p e)) later
+      ap (kept (line_range_at family p e)) later
       ∙ ap (λ n. kept (record { start = n; end = n + e.covers; line = line_with family p.line e.delta }) (ranges_behind family first (before ++ e ∷ []) es)) start
       ∙ ap (λ z. kept (record { start = covered before; end = covered before + e.covers; line = z }) (ranges_behind family first (before ++ e ∷ []) es)) (line_is family p.line before e line)
 
@@ -85,7 +85,7 @@ low_moves left size line d some room near low = omega (arith, ints)
 high_moves : (left size : ℕ) (line d : ℤ) → 1 ≤ size → size ≤ left → (line +ℤ pos (2 ^ 35 * left)) ≤ℤ pos (2 ^ 52) → d ≤ℤ pos (2 ^ 35) → ((line +ℤ d) +ℤ pos (2 ^ 35 * (left - size))) ≤ℤ pos (2 ^ 52)
 high_moves left size line d some room near high = omega (arith, ints)
 
-pub nearer : (left : ℕ) (p : Place) (e : Entry) → IsNear left p → HasRoom left e → IsSmall e → IsNear (left - e.size) (past p e)
+pub nearer : (left : ℕ) (p : Place) (e : Entry) → IsNear left p → HasEntryRoom left e → IsSmall e → IsNear (left - e.size) (past p e)
 nearer left p e near room small = record {
   start = omega (arith, near.start, room.begins, room.ends, small.covers);
   low = low_moves left e.size p.line (delta_of e.delta) room.begins room.ends near.low (delta_low e.delta small.delta);
@@ -121,10 +121,10 @@ unfolding laid
 laid_ascend Pairs p [] = last_ascend p.start (record { start = p.start; end = 2 ^ 31; line = in_i32 p.line }) (omega arith)
 laid_ascend Ranges p [] = tt
 laid_ascend Locations p [] = tt
-laid_ascend family p (e ∷ es) = kept_ascend p.start (range_at family p e) (laid family (past p e) es) (omega arith) (omega arith) (laid_ascend family (past p e) es)
+laid_ascend family p (e ∷ es) = kept_ascend p.start (line_range_at family p e) (laid family (past p e) es) (omega arith) (omega arith) (laid_ascend family (past p e) es)
 
-pub kept_line : (offset : ℕ) (r : LineRange) (rs : List LineRange) → line_in (kept r rs) offset ≡ cond (holds offset r) (shown r.line) (line_in rs offset)
-unfolding line_in
+pub kept_line : (offset : ℕ) (r : LineRange) (rs : List LineRange) → line_among (kept r rs) offset ≡ cond (holds offset r) (shown_line r.line) (line_among rs offset)
+unfolding line_among
 kept_line offset r rs = elim (cases_lt r.start r.end) [
   | inl lt ↦ let is : ltb r.start r.end ≡ true = grind (arith, nat_tests) in rw is refl
   | inr ge ↦
@@ -154,8 +154,8 @@ walk_begins family line first table is fits short = record {
 
 module _ (family : LineFamily) (rest : List ℕ) (p : Place) (ahead : List LineRange) (e : Entry) where
   passes : (most : ℕ) → length rest ≤ most → laid family p (entries_within most family rest) ≡ ahead
-      → IsNear (length rest) p → first_entry family rest ≡ Some e → HasRoom (length rest) e → IsSmall e
-      → (later : List LineRange) × (kept (range_at family p e) later ≡ ahead) × IsAhead family (drop e.size rest) (past p e) later
+      → IsNear (length rest) p → first_entry family rest ≡ Some e → HasEntryRoom (length rest) e → IsSmall e
+      → (later : List LineRange) × (kept (line_range_at family p e) later ≡ ahead) × IsAhead family (drop e.size rest) (past p e) later
   unfolding laid
   passes zero enough is near first room small = absurd (omega (arith, room.begins, room.ends))
   passes (suc most) enough is near first room small = (
@@ -164,8 +164,8 @@ module _ (family : LineFamily) (rest : List ℕ) (p : Place) (ahead : List LineR
     record { near = rw length-drop (nearer (length rest) p e near room small); most = most; enough = rw length-drop (omega (arith, room.begins)); is = refl },
   )
 
-  pub walk_passes : IsAhead family rest p ahead → first_entry family rest ≡ Some e → HasRoom (length rest) e → IsSmall e
-      → (later : List LineRange) × (kept (range_at family p e) later ≡ ahead) × IsAhead family (drop e.size rest) (past p e) later
+  pub walk_passes : IsAhead family rest p ahead → first_entry family rest ≡ Some e → HasEntryRoom (length rest) e → IsSmall e
+      → (later : List LineRange) × (kept (line_range_at family p e) later ≡ ahead) × IsAhead family (drop e.size rest) (past p e) later
   walk_passes at first room small = passes at.most at.enough at.is at.near first room small
 
 pub walk_ends : (family : LineFamily) (rest : List ℕ) (p : Place) (ahead : List LineRange) → IsAhead family rest p ahead → first_entry family rest ≡ None → kept_last (last_at family p) ≡ ahead
@@ -175,15 +175,15 @@ walk_ends family rest p ahead at none = ap (laid family p) (sym (entries_end at.
 -- ---- the line at an offset
 
 -- the range that holds an offset has its line
-pub held_line : (offset : ℕ) (r : LineRange) (later ahead : List LineRange) → kept r later ≡ ahead → holds offset r ≡ true → line_in ahead offset ≡ shown r.line
-held_line offset r later ahead is held = ap (λ rs. line_in rs offset) (sym is) ∙ kept_line offset r later ∙ rw held refl
+pub held_line : (offset : ℕ) (r : LineRange) (later ahead : List LineRange) → kept r later ≡ ahead → holds offset r ≡ true → line_among ahead offset ≡ shown_line r.line
+held_line offset r later ahead is held = ap (λ rs. line_among rs offset) (sym is) ∙ kept_line offset r later ∙ rw held refl
 
 -- another has no say in it
-pub passed_line : (offset : ℕ) (r : LineRange) (later ahead : List LineRange) → kept r later ≡ ahead → holds offset r ≡ false → line_in later offset ≡ line_in ahead offset
-passed_line offset r later ahead is free = sym (ap (λ rs. line_in rs offset) (sym is) ∙ kept_line offset r later ∙ rw free refl)
+pub passed_line : (offset : ℕ) (r : LineRange) (later ahead : List LineRange) → kept r later ≡ ahead → holds offset r ≡ false → line_among later offset ≡ line_among ahead offset
+passed_line offset r later ahead is free = sym (ap (λ rs. line_among rs offset) (sym is) ∙ kept_line offset r later ∙ rw free refl)
 
-pub no_line_left : (offset : ℕ) → line_in [] offset ≡ pos 0
-unfolding line_in
+pub no_line_left : (offset : ℕ) → line_among [] offset ≡ pos 0
+unfolding line_among
 no_line_left offset = refl
 
 -- ---- the list

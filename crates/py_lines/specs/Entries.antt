@@ -34,12 +34,12 @@ abbrev pub range_entry : List ℕ → Option Entry
 range_entry table = option_map without_line (pair_entry table)
 
 -- what a location's number says of its line, which moves by so much
-abbrev pub moved_by : Number → LocationLine
-moved_by delta = record { size = delta.size; delta = Some (signed_of delta.value) }
+abbrev pub line_moved_by : Number → LocationLine
+line_moved_by delta = record { size = delta.size; delta = Some (signed_of delta.value) }
 
 -- where a number ends that begins at an offset
-abbrev pub end_of : List ℕ → ℕ → Option ℕ
-end_of rest at = option_map (λ v. at + v.size) (varint (drop at rest))
+abbrev pub entry_end : List ℕ → ℕ → Option ℕ
+entry_end rest at = option_map (λ v. at + v.size) (varint (drop at rest))
 
 -- what goes on with a value, if there is one
 infixl 1 ◌>>=◌
@@ -51,9 +51,9 @@ Some x >>= f = f x
 abbrev pub long_line : List ℕ → Option LocationLine
 long_line rest = do
   delta ← varint rest
-  end_line ← end_of rest delta.size
-  column ← end_of rest end_line
-  end_column ← end_of rest column
+  end_line ← entry_end rest delta.size
+  column ← entry_end rest end_line
+  end_column ← entry_end rest column
   Some (record { size = end_column; delta = Some (signed_of delta.value) })
 
 -- so many bytes more, and a delta
@@ -66,7 +66,7 @@ abbrev pub location_line : ℕ → List ℕ → Option LocationLine
 location_line code rest =
     if code == 15 then Some (record { size = 0; delta = None })
     else if code == 14 then long_line rest
-    else if code == 13 then option_map moved_by (varint rest)
+    else if code == 13 then option_map line_moved_by (varint rest)
     else if nat_le 10 code then short_line rest 2 (code - 10)
     else short_line rest 1 0
 
@@ -86,15 +86,15 @@ first_entry Pairs table = pair_entry table
 first_entry Ranges table = range_entry table
 first_entry Locations table = location_entry table
 
-abbrev pub entries_from : Option Entry → (Entry → List Entry) → List Entry
-entries_from None rest = []
-entries_from (Some e) rest = e ∷ rest e
+abbrev pub line_entries_from : Option Entry → (Entry → List Entry) → List Entry
+line_entries_from None rest = []
+line_entries_from (Some e) rest = e ∷ rest e
 
 -- the entries of a table, one behind the other; each has a byte at least, so there are no more than bytes
 unfoldable pub entries_within : ℕ → LineFamily → List ℕ → List Entry
 entries_within zero family table = []
 entries_within (suc most) family table =
-    entries_from (first_entry family table) (λ e. entries_within most family (drop e.size table))
+    line_entries_from (first_entry family table) (λ e. entries_within most family (drop e.size table))
 
 unfoldable pub entries_of : LineFamily → List ℕ → List Entry
 entries_of family table = entries_within (length table) family table
@@ -105,7 +105,7 @@ IsWithin None = Unit {0}
 IsWithin (Some d) = (negsuc (2 ^ 35) <ℤ d) × (d ≤ℤ pos (2 ^ 35))
 
 -- an entry that a table of so many bytes has room for
-pub record HasRoom (len : ℕ) (e : Entry) : Type 0 where
+pub record HasEntryRoom (len : ℕ) (e : Entry) : Type 0 where
   pub begins : 1 ≤ e.size
   pub ends : e.size ≤ len
 

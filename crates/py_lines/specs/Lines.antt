@@ -72,16 +72,16 @@ abbrev pub holds : ℕ → LineRange → Bool
 holds offset r = nat_le r.start offset && nat_lt offset r.end
 
 -- a line as it is shown: 0 for none
-abbrev pub shown : Option ℤ → ℤ
-shown line = unwrap_or line (pos 0)
+abbrev pub shown_line : Option ℤ → ℤ
+shown_line line = unwrap_or line (pos 0)
 
 -- the line at an offset: that of the range that holds it, and 0 where none does
-unfoldable pub line_in : List LineRange → ℕ → ℤ
-line_in [] offset = pos 0
-line_in (r ∷ rs) offset = if holds offset r then shown r.line else line_in rs offset
+unfoldable pub line_among : List LineRange → ℕ → ℤ
+line_among [] offset = pos 0
+line_among (r ∷ rs) offset = if holds offset r then shown_line r.line else line_among rs offset
 
 abbrev pub line_of : List LineRange → ℤ → ℤ
-line_of rs (pos offset) = line_in rs offset
+line_of rs (pos offset) = line_among rs offset
 line_of rs (negsuc n) = pos 0
 
 -- ranges that ascend and don't meet, from an offset on; none is empty

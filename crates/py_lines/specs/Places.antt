@@ -15,8 +15,8 @@ line_with Pairs line delta = in_i32 line
 line_with Ranges line delta = option_and_then (λ d. in_i32 (line +ℤ d)) delta
 line_with Locations line delta = option_and_then (λ d. in_i32 (line +ℤ d)) delta
 
-abbrev pub range_at : LineFamily → Place → Entry → LineRange
-range_at family p e = record { start = p.start; end = p.start + e.covers; line = line_with family p.line e.delta }
+abbrev pub line_range_at : LineFamily → Place → Entry → LineRange
+line_range_at family p e = record { start = p.start; end = p.start + e.covers; line = line_with family p.line e.delta }
 
 -- the place behind an entry
 abbrev pub past : Place → Entry → Place
@@ -35,7 +35,7 @@ kept_last (Some r) = kept r []
 -- the ranges of entries from a place on
 unfoldable pub laid : LineFamily → Place → List Entry → List LineRange
 laid family p [] = kept_last (last_at family p)
-laid family p (e ∷ es) = kept (range_at family p e) (laid family (past p e) es)
+laid family p (e ∷ es) = kept (line_range_at family p e) (laid family (past p e) es)
 
 -- a place in a table of fewer than 65536 bytes, of which so many are left: an entry has a byte at least,
 -- covers at most 255 bytes of code, and moves the line by at most 2^35

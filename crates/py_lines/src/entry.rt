@@ -1,6 +1,6 @@
 //! The entries of the tables, one by one.
 ghost use Rattle.std.specs.Prelude.{◌≡◌, ◌+◌, ◌≤◌, ◌<◌, ◌^◌, ℕ, pos, negsuc, ◌≤ℤ◌, length, IfSome};
-ghost use Rattle.py_lines.specs.Entries.{first_entry, pair_entry, range_entry, location_entry, location_line, long_line, IsWithin, IsSmall, HasRoom};
+ghost use Rattle.py_lines.specs.Entries.{first_entry, pair_entry, range_entry, location_entry, location_line, long_line, IsWithin, IsSmall, HasEntryRoom};
 
 use crate::LineFamily;
 use crate::varint::{Number, varint, varint_end};
@@ -31,7 +31,7 @@ const NO_LINE: i64 = -128;
 /// The entry that a table begins with, if it begins with a whole one.
 pub(crate) fn first_entry(family: LineFamily, table: &[u8]) -> Option<Entry>
     ensures value { result ≡ first_entry family table.now }
-    ensures size { IfSome result (HasRoom (length table.now)) }
+    ensures size { IfSome result (HasEntryRoom (length table.now)) }
     ensures small { IfSome result IsSmall }
 {
     match family {
@@ -44,7 +44,7 @@ pub(crate) fn first_entry(family: LineFamily, table: &[u8]) -> Option<Entry>
 /// Two bytes: how many bytes of code, and by how much the line moves behind them.
 fn pair_entry(table: &[u8]) -> Option<Entry>
     ensures value { result ≡ pair_entry table.now }
-    ensures size { IfSome result (HasRoom (length table.now)) }
+    ensures size { IfSome result (HasEntryRoom (length table.now)) }
     ensures small { IfSome result IsSmall }
 {
     if table.len() < 2 {
@@ -60,7 +60,7 @@ fn pair_entry(table: &[u8]) -> Option<Entry>
 /// Two bytes: how many bytes of code, and by how much the line moves in front of them.
 fn range_entry(table: &[u8]) -> Option<Entry>
     ensures value { result ≡ range_entry table.now }
-    ensures size { IfSome result (HasRoom (length table.now)) }
+    ensures size { IfSome result (HasEntryRoom (length table.now)) }
     ensures small { IfSome result IsSmall }
 {
     let entry = pair_entry(table)?;
@@ -77,7 +77,7 @@ fn range_entry(table: &[u8]) -> Option<Entry>
 /// 2; and what else its code asks for.
 fn location_entry(table: &[u8]) -> Option<Entry>
     ensures value { result ≡ location_entry table.now }
-    ensures size { IfSome result (HasRoom (length table.now)) }
+    ensures size { IfSome result (HasEntryRoom (length table.now)) }
     ensures small { IfSome result IsSmall }
 {
     if table.is_empty() || table[0] < 0x80 {

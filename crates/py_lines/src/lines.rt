@@ -1,8 +1,8 @@
 //! What a line table says: which line stands at which offset into the code.
 ghost use Rattle.std.specs.Prelude.{◌≡◌, ◌<◌, ◌++◌, [], ℕ, ◌-◌, ℤ, pos, negsuc, ◌≤ℤ◌, ◌+ℤ◌, length, IfOk, IfErr, OnOk};
 ghost use Rattle.py_lines.specs.Entries.{IsSmall, IsWithin};
-ghost use Rattle.py_lines.specs.Lines.{ranges_of, line_of, line_in, AscendFrom, kept, holds};
-ghost use Rattle.py_lines.specs.Places.{line_with, range_at, past, last_at, IsNear};
+ghost use Rattle.py_lines.specs.Lines.{ranges_of, line_of, line_among, AscendFrom, kept, holds};
+ghost use Rattle.py_lines.specs.Places.{line_with, line_range_at, past, last_at, IsNear};
 
 use crate::entry::{Entry, first_entry};
 use std::alloc::{AllocError, Global};
@@ -65,7 +65,7 @@ impl Place {
     fn range_under(&self, family: LineFamily, entry: &Entry) -> LineRange
         requires near { IsNear 0 self.now }
         requires small { IsSmall entry.now }
-        ensures { result ≡ range_at family self.now entry.now }
+        ensures { result ≡ line_range_at family self.now entry.now }
     {
         LineRange {
             start: self.start,
@@ -158,7 +158,7 @@ pub fn line_at(family: LineFamily, first: i32, table: &[u8], offset: i64) -> i32
 
 fn line_held(family: LineFamily, first: i32, table: &[u8], offset: u64) -> i32
     requires short { length table.now < 65536 }
-    ensures { result ≡ line_in (ranges_of family first table.now) offset }
+    ensures { result ≡ line_among (ranges_of family first table.now) offset }
 {
     let mut rest = table;
     let mut place = Place {

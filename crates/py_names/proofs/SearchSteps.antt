@@ -9,20 +9,20 @@ use Rattle.process_memory.proofs.Reading.{reading_here, reading_then, reading_gi
 use Rattle.py_fields.specs.declared.layout.Layout.{Layout}
 use Rattle.py_builtins.specs.declared.keys.Slots.{Slots}
 use Rattle.py_names.specs.declared.search.Looked.{Looked}
-use Rattle.py_names.specs.Search.{find_from, find_looked, looked, looked_behind, or_go_on, value_at}
+use Rattle.py_names.specs.Search.{find_from, find_looked, looked, looked_behind, or_go_on, named_value_at}
 
 module _ (l : Layout) (m : Memory) (name : List ℕ) (s : Slots) (number n left : ℕ) where
   find_step : (j k : ℕ) → n ≡ suc j → left ≡ suc k
-      → find_from l m name s n number left ≡ (value_at l m name s number >>= (λ value. or_go_on value k (find_from l m name s j (number + 1) k)))
+      → find_from l m name s n number left ≡ (named_value_at l m name s number >>= (λ value. or_go_on value k (find_from l m name s j (number + 1) k)))
   unfolding find_from
   find_step j k n_is left_is = rw (n_is, left_is) refl
 
   looked_step : (j k : ℕ) → n ≡ suc j → left ≡ suc k
-      → find_looked l m name s n number left ≡ 1 + looked_behind (value_at l m name s number) (find_looked l m name s j (number + 1) k)
+      → find_looked l m name s n number left ≡ 1 + looked_behind (named_value_at l m name s number) (find_looked l m name s j (number + 1) k)
   unfolding find_looked
   looked_step j k n_is left_is = rw (n_is, left_is) refl
 
-  looked_none : (j k : ℕ) → n ≡ suc j → left ≡ suc k → value_at l m name s number ≡ Ok None
+  looked_none : (j k : ℕ) → n ≡ suc j → left ≡ suc k → named_value_at l m name s number ≡ Ok None
       → find_looked l m name s n number left ≡ 1 + find_looked l m name s j (number + 1) k
   looked_none j k n_is left_is e = looked_step j k n_is left_is ∙ rw e refl
 
@@ -50,7 +50,7 @@ searching_init l name s seen limit = record { spent = 0; counted = rw sub-zero (
 
 module _ {l : Layout} {name : List ℕ} {s : Slots} {s0 s1 : Seen} {limit number left : ℕ} where
   pub searching_more : {E : Type 0} {fault : E → Option Fault} {s2 : Seen} → Searching l name s s0 s1 limit number left
-      → number < s.count → 0 < left → Reads {E = E} fault 4 s1 s2 (λ m. value_at l m name s number) (Ok None)
+      → number < s.count → 0 < left → Reads {E = E} fault 4 s1 s2 (λ m. named_value_at l m name s number) (Ok None)
       → Searching l name s s0 s2 limit (number + 1) (left - 1)
   searching_more t some room a =
       let n_is : s.count - number ≡ suc (s.count - (number + 1)) = omega arith in
@@ -72,7 +72,7 @@ module _ {l : Layout} {name : List ℕ} {s : Slots} {s0 s1 : Seen} {limit number
       omega (arith, t.counted, looked_one l (byte_at s0.pieces) name s number (s.count - number) left (s.count - (number + 1)) (left - 1) (omega arith) (omega arith))
 
   pub searching_found : {E : Type 0} {fault : E → Option Fault} {s2 : Seen} (value : ℕ) → Searching l name s s0 s1 limit number left
-      → number < s.count → 0 < left → Reads {E = E} fault 4 s1 s2 (λ m. value_at l m name s number) (Ok (Some value))
+      → number < s.count → 0 < left → Reads {E = E} fault 4 s1 s2 (λ m. named_value_at l m name s number) (Ok (Some value))
       → ReadsBy {E = E} fault (λ m. 4 * find_looked l m name s s.count 0 limit) s0 s2 (λ m. find_from l m name s s.count 0 limit) (Ok (looked (Some value) (left - 1)))
   searching_found value t some room a =
       let n_is : s.count - number ≡ suc (s.count - (number + 1)) = omega arith in
@@ -95,14 +95,14 @@ module _ {l : Layout} {name : List ℕ} {s : Slots} {s0 s1 : Seen} {limit number
 
   pub searching_stop : {E E' : Type 0} {fault : E → Option Fault} {fault' : E' → Option Fault} {s2 : Seen} {e : E} (e' : E')
       → Searching l name s s0 s1 limit number left → number < s.count → 0 < left
-      → Reads {T = Option ℕ} fault 4 s1 s2 (λ m. value_at l m name s number) (Err e) → fault' e' ≡ fault e
+      → Reads {T = Option ℕ} fault 4 s1 s2 (λ m. named_value_at l m name s number) (Err e) → fault' e' ≡ fault e
       → ReadsBy {T = Looked} fault' (λ m. 4 * find_looked l m name s s.count 0 limit) s0 s2 (λ m. find_from l m name s s.count 0 limit) (Err e')
   searching_stop {fault = fault} {fault' = fault'} {e = e} e' t some room a same =
       let n_is : s.count - number ≡ suc (s.count - (number + 1)) = omega arith in
       let left_is : left ≡ suc (left - 1) = omega arith in
       reading_gives _ _
       (reading_then (λ m. FaultIs (find_from l m name s s.count 0 limit) (fault e)) t.reading a
-      (λ m d x. elim (fault e) as (λ o. FaultIs (value_at l m name s number) o → FaultIs (find_from l m name s s.count 0 limit) o)
+      (λ m d x. elim (fault e) as (λ o. FaultIs (named_value_at l m name s number) o → FaultIs (find_from l m name s s.count 0 limit) o)
       [ None ↦ λ h. tt | Some f ↦ λ h. d ∙ find_step l m name s number (s.count - number) left (s.count - (number + 1)) (left - 1) n_is left_is ∙ rw h refl ] x.is))
       (omega (arith, one_more t some room))
       (λ m h. record { is = rw same h })

@@ -12,8 +12,8 @@ use Rattle.py_builtins.specs.Dicts.{dict_slots, slot_at}
 use Rattle.py_builtins.specs.Integers.{long_at}
 use Rattle.py_names.specs.declared.names.Given.{Given}
 use Rattle.py_names.specs.declared.search.Looked.{Looked}
-use Rattle.py_names.specs.Names.{each_looked, entry_in, entry_looked, given, module_looked, module_slots, modules_slots, name_at, slot_limit, slot_looked, slots_looked_at, thread_at, thread_in, thread_looked, thread_slots, threads_looked}
-use Rattle.py_names.specs.Search.{find_from, find_looked, looked, looked_behind, looked_in, or_go_on, value_at}
+use Rattle.py_names.specs.Names.{each_looked, entry_in, entry_looked, given, module_looked, module_slots, modules_slots, given_name_at, slot_limit, slot_looked, slots_looked_at, thread_at, thread_in, thread_looked, thread_slots, threads_looked}
+use Rattle.py_names.specs.Search.{find_from, find_looked, looked, looked_behind, looked_in, or_go_on, named_value_at}
 use Rattle.py_builtins.specs.Types.{type_at}
 use Rattle.py_names.specs.Typed.{typed_slots}
 
@@ -35,14 +35,14 @@ module _ (l : Layout) (m : Memory) where
     find_most zero number left = omega arith
     find_most (suc n) number zero = omega arith
     find_most (suc n) number (suc left) =
-        omega (arith, behind_most (value_at l m name s number) (find_looked l m name s n (number + 1) left), find_most n (number + 1) left)
+        omega (arith, behind_most (named_value_at l m name s number) (find_looked l m name s n (number + 1) left), find_most n (number + 1) left)
 
     find_sum : (n number left : ℕ) (r : Looked) → find_from l m name s n number left ≡ Ok r → find_looked l m name s n number left + r.left ≤ left
     unfolding find_from find_looked
     find_sum zero number left r e = let is = ok_same (looked None left) r e in omega (arith, ap (λ (x : Looked). x.left) is)
     find_sum (suc n) number zero r e = absurd (cc)
     find_sum (suc n) number (suc left) r e =
-        let v = bound (value_at l m name s number) _ r e in
+        let v = bound (named_value_at l m name s number) _ r e in
         rw v.1 (go_on_sum v.0 (find_from l m name s n (number + 1) left) (find_looked l m name s n (number + 1) left) left r v.2
         (λ h. find_sum n (number + 1) left r h))
 
@@ -61,7 +61,7 @@ module _ (l : Layout) (m : Memory) where
       let t = bound (type_at l m value) _ g id.2 in
       let slots = bound (typed_slots l m value t.0) _ g t.2 in
       let search = bound (find_from l m (codes "_name") slots.0 slots.0.count 0 left) _ g slots.2 in
-      let name = bound (name_at l m (cast_unsigned w64 id.0.0) search.0.found) _ g search.2 in
+      let name = bound (given_name_at l m (cast_unsigned w64 id.0.0) search.0.found) _ g search.2 in
       let is = ok_same (given name.0 search.0.left) g name.2 in
       rw (id.1, t.1, slots.1) (omega (arith, ap (λ (x : Given). x.left) is, find_sum (codes "_name") slots.0 slots.0.count 0 left search.0 search.1))
 

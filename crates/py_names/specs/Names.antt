@@ -30,17 +30,17 @@ use Rattle.py_names.specs.Typed.{plain_slots, typed_slots}
 abbrev pub slot_limit : ℕ
 slot_limit = 65536
 
-abbrev pub named : ℕ → List ℕ → Named
-named id name = record { id = id; name = name }
+abbrev pub named_thread : ℕ → List ℕ → Named
+named_thread id name = record { id = id; name = name }
 
 -- what a slot gives, and how many slots may be looked at then
 abbrev pub given : Option Named → ℕ → Given
 given n left = record { named = n; left = left }
 
 -- the name at an address, under an id; none where there is none
-unfoldable pub name_at : Layout → Memory → ℕ → Option ℕ → Found (Option Named)
-name_at l m id None = Ok None
-name_at l m id (Some a) = text_at l m a >>= (λ name. Ok (Some (named id name)))
+unfoldable pub given_name_at : Layout → Memory → ℕ → Option ℕ → Found (Option Named)
+given_name_at l m id None = Ok None
+given_name_at l m id (Some a) = text_at l m a >>= (λ name. Ok (Some (named_thread id name)))
 
 -- an entry of the dict of threads: its key is the thread's id, as 8 bytes, and its value the thread, whose dict
 -- has its name
@@ -50,7 +50,7 @@ entry_in l m key value left = do
   t ← type_at l m value
   slots ← typed_slots l m value t
   search ← find_from l m (codes "_name") slots slots.count 0 left
-  name ← name_at l m (cast_unsigned w64 id.0) search.found
+  name ← given_name_at l m (cast_unsigned w64 id.0) search.found
   Ok (given name search.left)
 
 unfoldable pub thread_in : Layout → Memory → ℕ → Slot → Found Given
@@ -75,9 +75,9 @@ names_from l m s (suc n) number (suc left) = do
   Ok (kept_name thread.named ++ rest)
 
 -- those of the dict of threads at an address, where there is one
-unfoldable pub threads_at : Layout → Memory → Option ℕ → ℕ → Found (List Named)
-threads_at l m None left = Ok []
-threads_at l m (Some dict) left = do
+unfoldable pub named_threads_at : Layout → Memory → Option ℕ → ℕ → Found (List Named)
+named_threads_at l m None left = Ok []
+named_threads_at l m (Some dict) left = do
   slots ← dict_slots l m dict
   names_from l m slots slots.count 0 left
 
@@ -88,7 +88,7 @@ module_names_at l m (Some a) left = do
   t ← type_at l m a
   slots ← plain_slots l m a t
   search ← find_from l m (codes "_active") slots slots.count 0 left
-  threads_at l m search.found search.left
+  named_threads_at l m search.found search.left
 
 -- those of an interpreter's threads, in the order of their dict
 unfoldable pub interpreter_names_at : Layout → Memory → ℕ → Found (List Named)

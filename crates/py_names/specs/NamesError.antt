@@ -2,7 +2,7 @@
 use Rattle.std.specs.Prelude.{◌≡◌, ◌≢◌, Option, Some, None}
 use Rattle.process_memory.specs.Memory.{Fault}
 use Rattle.process_memory.specs.Memory.Fault.{NoDicts as HasNoDicts, Entries as ManyEntries}
-use Rattle.py_builtins.specs.ObjectError.{fault_of as object_fault}
+use Rattle.py_builtins.specs.ObjectError.{object_fault}
 use Rattle.py_builtins.specs.declared.error.ObjectError.TheVariants.{OutOfMemory as HasNoMemory}
 use Rattle.py_names.specs.declared.names_error.NamesError.{NamesError}
 use Rattle.py_names.specs.declared.names_error.NamesError.TheVariants.{NoDicts, Entries, Object, OutOfMemory}
@@ -15,5 +15,5 @@ names_fault (Object e) = object_fault e
 names_fault OutOfMemory = None
 
 -- the error of a fault, or of want of memory, which has a variant of its own
-abbrev pub Tells : NamesError → Option Fault → Type 0
-Tells e fault = (names_fault e ≡ fault) × (e ≢ Object HasNoMemory)
+abbrev pub TellsName : NamesError → Option Fault → Type 0
+TellsName e fault = (names_fault e ≡ fault) × (e ≢ Object HasNoMemory)

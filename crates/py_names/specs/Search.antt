@@ -19,8 +19,8 @@ value_named l m name (Entry key value) = do
   Ok (if bytes_eq (encode_utf8_all text) name then Some value else None)
 
 -- the same of the slot of a number
-unfoldable pub value_at : Layout → Memory → List ℕ → Slots → ℕ → Found (Option ℕ)
-value_at l m name s number = slot_at m s number >>= value_named l m name
+unfoldable pub named_value_at : Layout → Memory → List ℕ → Slots → ℕ → Found (Option ℕ)
+named_value_at l m name s number = slot_at m s number >>= value_named l m name
 
 -- what was found, and how many slots may be looked at then
 abbrev pub looked : Option ℕ → ℕ → Looked
@@ -35,7 +35,7 @@ unfoldable pub find_from : Layout → Memory → List ℕ → Slots → ℕ → 
 find_from l m name s zero number left = Ok (looked None left)
 find_from l m name s (suc n) number zero = Err Entries
 find_from l m name s (suc n) number (suc left) = do
-  value ← value_at l m name s number
+  value ← named_value_at l m name s number
   or_go_on value left (find_from l m name s n (number + 1) left)
 
 -- ---- how many slots are looked at
@@ -51,7 +51,7 @@ unfoldable pub find_looked : Layout → Memory → List ℕ → Slots → ℕ �
 find_looked l m name s zero number left = 0
 find_looked l m name s (suc n) number zero = 0
 find_looked l m name s (suc n) number (suc left) =
-    1 + looked_behind (value_at l m name s number) (find_looked l m name s n (number + 1) left)
+    1 + looked_behind (named_value_at l m name s number) (find_looked l m name s n (number + 1) left)
 
 -- what was found of what comes first has so many
 abbrev pub looked_in : {T : Type 0} → Found T → (T → ℕ) → ℕ

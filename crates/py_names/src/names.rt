@@ -4,7 +4,7 @@ ghost use Rattle.process_memory.specs.Memory.{byte_at};
 ghost use Rattle.process_memory.specs.Seen.{Reads, ReadsBy, ReadingBy, items_of};
 ghost use Rattle.py_fields.specs.Sound.{IsSound};
 ghost use Rattle.py_names.specs.NamesError.{names_fault};
-ghost use Rattle.py_names.specs.Names.{AnswersNames, HasNames, each_looked, entry_in, entry_looked, interpreter_names_at, kept_name, module_looked, module_names_at, name_at, names_at, names_cost, names_from, slot_looked, slots_looked_at, thread_at, thread_in, thread_looked, threads_at, threads_looked};
+ghost use Rattle.py_names.specs.Names.{AnswersNames, HasNames, each_looked, entry_in, entry_looked, interpreter_names_at, kept_name, module_looked, module_names_at, given_name_at, names_at, names_cost, names_from, slot_looked, slots_looked_at, thread_at, thread_in, thread_looked, named_threads_at, threads_looked};
 
 use crate::NamesError;
 use crate::search::find_in;
@@ -34,7 +34,7 @@ struct Given {
 }
 
 /// The name at an address, under an id; none where there is none. At most 2 reads.
-#[tactic(auto, unfolding(crate::specs::Names::name_at))]
+#[tactic(auto, unfolding(crate::specs::Names::given_name_at))]
 fn read_name<P: ProcessMemory>(
     alloc: Global,
     process: &mut P,
@@ -43,7 +43,7 @@ fn read_name<P: ProcessMemory>(
     found: Option<u64>,
 ) -> Result<Option<Named>, NamesError>
     requires sound { IsSound layout.now }
-    ensures answer { Reads names_fault 2 (P.seen process.old) (P.seen process.new) (λ m. name_at layout.now m id found) result }
+    ensures answer { Reads names_fault 2 (P.seen process.old) (P.seen process.new) (λ m. given_name_at layout.now m id found) result }
     ensures memory { result ≢ Err (NamesError.Object ObjectError.OutOfMemory) }
 {
     match found {
@@ -160,7 +160,7 @@ fn read_each<P: ProcessMemory>(
 
 /// The names of the threads that a dict has, where there is one. At most 2 reads, and 12 for each slot that is
 /// looked at.
-#[tactic(auto, unfolding(crate::specs::Names::threads_at))]
+#[tactic(auto, unfolding(crate::specs::Names::named_threads_at))]
 fn read_threads<P: ProcessMemory>(
     alloc: Global,
     process: &mut P,
@@ -170,7 +170,7 @@ fn read_threads<P: ProcessMemory>(
 ) -> Result<Vec<Named>, NamesError>
     requires sound { IsSound layout.now }
     ensures answer { ReadsBy names_fault (λ m. 2 + 12 * threads_looked layout.now m found left)
-        (P.seen process.old) (P.seen process.new) (λ m. threads_at layout.now m found left) (items_of result) }
+        (P.seen process.old) (P.seen process.new) (λ m. named_threads_at layout.now m found left) (items_of result) }
     ensures memory { result ≢ Err (NamesError.Object ObjectError.OutOfMemory) }
 {
     match found {

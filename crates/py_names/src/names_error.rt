@@ -24,10 +24,10 @@ pub enum NamesError {
 }
 
 impl From<ObjectError> for NamesError {
-    ghost use Rattle.py_builtins.specs.ObjectError.{fault_of as object_fault};
-    ghost use Rattle.py_names.specs.NamesError.{Tells};
+    ghost use Rattle.py_builtins.specs.ObjectError.{read_fault as object_fault};
+    ghost use Rattle.py_names.specs.NamesError.{TellsName};
 
-    ghost from_gives = { λ e d. Tells d (object_fault e) };
+    ghost from_gives = { λ e d. TellsName d (object_fault e) };
 
     fn from(e: ObjectError) -> NamesError {
         match e {
@@ -38,10 +38,10 @@ impl From<ObjectError> for NamesError {
 }
 
 impl From<ReadFault> for NamesError {
-    ghost use Rattle.process_memory.specs.Seen.{fault_of as read_fault};
-    ghost use Rattle.py_names.specs.NamesError.{Tells};
+    ghost use Rattle.process_memory.specs.Seen.{read_fault};
+    ghost use Rattle.py_names.specs.NamesError.{TellsName};
 
-    ghost from_gives = { λ e d. Tells d (read_fault e) };
+    ghost from_gives = { λ e d. TellsName d (read_fault e) };
 
     fn from(e: ReadFault) -> NamesError {
         match e {

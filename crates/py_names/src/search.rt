@@ -3,7 +3,7 @@ ghost use Rattle.std.specs.Prelude.{◌≡◌, ◌≢◌, ◌*◌};
 ghost use Rattle.process_memory.specs.Seen.{Reads, ReadsBy};
 ghost use Rattle.py_fields.specs.Sound.{IsSound};
 ghost use Rattle.py_names.specs.NamesError.{names_fault};
-ghost use Rattle.py_names.specs.Search.{find_from, find_looked, value_at, value_named};
+ghost use Rattle.py_names.specs.Search.{find_from, find_looked, named_value_at, value_named};
 
 use crate::NamesError;
 use process_memory::ProcessMemory;
@@ -55,7 +55,7 @@ fn read_value<P: ProcessMemory>(
 ) -> Result<Option<u64>, NamesError>
     requires sound { IsSound layout.now }
     ensures answer { Reads names_fault 4 (P.seen process.old) (P.seen process.new)
-        (λ m. value_at layout.now m name.now dict.now.slots number) result }
+        (λ m. named_value_at layout.now m name.now dict.now.slots number) result }
     ensures memory { result ≢ Err (NamesError.Object ObjectError.OutOfMemory) }
 {
     let slot = dict.slot(process, number)?;

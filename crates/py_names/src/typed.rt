@@ -1,7 +1,7 @@
 //! The dict that an object's type says the object has.
 ghost use Rattle.std.specs.Prelude.{◌≡◌, ◌≢◌, IfOk};
 ghost use Rattle.process_memory.specs.Memory.{word_at};
-ghost use Rattle.process_memory.specs.Seen.{Reads, fault_of as read_fault};
+ghost use Rattle.process_memory.specs.Seen.{Reads, read_fault};
 ghost use Rattle.py_fields.specs.Sound.{IsSound};
 ghost use Rattle.py_builtins.specs.Dicts.{slots_of};
 ghost use Rattle.py_names.specs.NamesError.{names_fault};

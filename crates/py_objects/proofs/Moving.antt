@@ -4,7 +4,7 @@ use Rattle.std.proofs.lemmas.Bool.Decides.{nat_tests}
 use Rattle.std.specs.Prelude.{Option, Some, None, Result, Ok, Err, nat_le, nat_lt}
 use Rattle.process_memory.specs.Memory.{Found, Fault}
 use Rattle.process_memory.specs.Memory.Fault.{Depth, Visits}
-use Rattle.py_objects.specs.Shown.{Shown, goes_on, ◌>>=◌, give, consult, visit, Tells}
+use Rattle.py_objects.specs.Shown.{Shown, goes_on_shown, ◌>>=◌, give, consult, visit, TellsShown}
 use Rattle.py_objects.specs.ShownTexts.{dots}
 use Rattle.py_objects.specs.Shows.{Brackets, Node, Child, Source, looked_at, part_then, parts_at, child_shown, part_at, parts_shown, node_shown, show_at}
 use Rattle.py_objects.specs.Shows.Brackets.{Square, Round, Curly}
@@ -15,7 +15,7 @@ use Rattle.py_objects.proofs.Steps.{tells_least}
 abbrev pub Moves : (R : ℕ → ℕ → Type 0) {T : Type 0} → Shown T → Type 0
 Moves R c = (v : ℕ) → R v (c v).1
 
-goes_on_moves : (R : ℕ → ℕ → Type 0) (trans : (a b c : ℕ) → R a b → R b c → R a c) {T U : Type 0} (a : ℕ) (p : Found T × ℕ) (f : T → Shown U) → R a p.1 → ((x : T) (v : ℕ) → R v (f x v).1) → R a (goes_on p f).1
+goes_on_moves : (R : ℕ → ℕ → Type 0) (trans : (a b c : ℕ) → R a b → R b c → R a c) {T U : Type 0} (a : ℕ) (p : Found T × ℕ) (f : T → Shown U) → R a p.1 → ((x : T) (v : ℕ) → R v (f x v).1) → R a (goes_on_shown p f).1
 goes_on_moves R trans a (Ok x, v) f p r = trans a v (f x v).1 p (r x v)
 goes_on_moves R trans a (Err e, v) f p r = p
 
@@ -89,5 +89,5 @@ module _ (R : ℕ → ℕ → Type 0) (same : (v : ℕ) → R v v) (trans : (a b
 pub show_within : {V P : Type 0} (s : Source V P) (levels w : ℕ) (a : V) (v : ℕ) → (show_at s levels w a v).1 ≤ max v 4096
 show_within s levels w a v = show_moves (λ v n. n ≤ max v 4096) (λ v. omega arith) (λ a b c p q. omega arith) (λ v lt. omega arith) s levels w a v
 
-pub told_within : {E : Type 0} {fault : E → Option Fault} {V P : Type 0} (s : Source V P) (levels w : ℕ) (a : V) (v : ℕ) (r : Result (List ℕ) E) {n : ℕ} → Tells fault (show_at s levels w a v) r n → n ≤ max v 4096
+pub told_within : {E : Type 0} {fault : E → Option Fault} {V P : Type 0} (s : Source V P) (levels w : ℕ) (a : V) (v : ℕ) (r : Result (List ℕ) E) {n : ℕ} → TellsShown fault (show_at s levels w a v) r n → n ≤ max v 4096
 told_within s levels w a v r t = let p = tells_least (show_at s levels w a v) r t in let q = show_within s levels w a v in omega (arith, p, q)

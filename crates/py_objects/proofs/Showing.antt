@@ -6,7 +6,7 @@ use Rattle.std.proofs.lemmas.Bool.Decides.{nat_tests}
 use Rattle.process_memory.specs.Memory.{Memory, Found, Fault}
 use Rattle.process_memory.specs.Seen.{Seen, Reading}
 use Rattle.process_memory.proofs.Reading.{reading_then, reading_gives, reading_none}
-use Rattle.py_objects.specs.Shown.{Shown, goes_on, ◌>>=◌, give, Tells}
+use Rattle.py_objects.specs.Shown.{Shown, goes_on_shown, ◌>>=◌, give, TellsShown}
 use Rattle.py_objects.specs.ShownTexts.{dots}
 use Rattle.py_objects.specs.Shows.{Brackets, part_then, parts_at, enclosed, joined, joined_after, separator, opening, closing}
 use Rattle.py_objects.proofs.Steps.{Rises, tells_ok, tells_is, tells_then, tells_stop, tells_lost, tells_err, bind_is, pair_is}
@@ -21,7 +21,7 @@ before_none : (p : Found (List (List ℕ)) × ℕ) → p ≡ before [] p
 before_none (Ok us, v) = refl
 before_none (Err f, v) = refl
 
-before_more : (ts : List (List ℕ)) (t : List ℕ) (p : Found (List (List ℕ)) × ℕ) → before ts (goes_on p (λ us. give (t ∷ us))) ≡ before (ts ++ t ∷ []) p
+before_more : (ts : List (List ℕ)) (t : List ℕ) (p : Found (List (List ℕ)) × ℕ) → before ts (goes_on_shown p (λ us. give (t ∷ us))) ≡ before (ts ++ t ∷ []) p
 before_more ts t (Ok us, v) = ap (λ u. (Ok u, v)) (sym (append_assoc ts (t ∷ []) us))
 before_more ts t (Err f, v) = refl
 
@@ -35,7 +35,7 @@ module _ (part : ℕ → ℕ → Shown (Option (List ℕ))) (n k w v : ℕ) wher
   unfolding parts_at part_then
   step_skip v2 e = bind_is (part k w) v (part_then w (λ left. parts_at part n (k + 1) left)) e
 
-  step_more : (t : List ℕ) (v2 left : ℕ) → part k w v ≡ (Ok (Some t), v2) → left ≡ w - (length t + 2) → 5 < left → parts_at part (suc n) k w v ≡ goes_on (parts_at part n (k + 1) left v2) (λ us. give (t ∷ us))
+  step_more : (t : List ℕ) (v2 left : ℕ) → part k w v ≡ (Ok (Some t), v2) → left ≡ w - (length t + 2) → 5 < left → parts_at part (suc n) k w v ≡ goes_on_shown (parts_at part n (k + 1) left v2) (λ us. give (t ∷ us))
   unfolding parts_at part_then
   step_more t v2 left e is more =
       let over : nat_le (w - (length t + 2)) 5 ≡ false = rw (← is) (grind (arith, nat_tests)) in
@@ -79,9 +79,9 @@ whole_is part b n w v v2 ts e = bind_is (parts_at part n 0 w) v (λ ts. give (en
 enclosed_push : (b : Brackets) (ts : List (List ℕ)) (t text : List ℕ) → text ≡ opening b ++ joined ts → opening b ++ joined (ts ++ t ∷ []) ≡ text ++ (separator (is_empty ts) ++ t)
 enclosed_push b ts t text e = rw (joined_push, e) (sym (append_assoc (opening b) (joined ts) (separator (is_empty ts) ++ t)))
 
-tells_before : {E : Type 0} (fault : E → Option Fault) (ts : List (List ℕ)) (p : Found (List (List ℕ)) × ℕ) (e : E) (v : ℕ) → Tells fault p (Err e) v → Tells fault (before ts p) (Err e) v
+tells_before : {E : Type 0} (fault : E → Option Fault) (ts : List (List ℕ)) (p : Found (List (List ℕ)) × ℕ) (e : E) (v : ℕ) → TellsShown fault p (Err e) v → TellsShown fault (before ts p) (Err e) v
 tells_before fault ts p e v t =
-    elim (fault e) as (λ o. fault e ≡ o → Tells fault (before ts p) (Err e) v) [
+    elim (fault e) as (λ o. fault e ≡ o → TellsShown fault (before ts p) (Err e) v) [
       | None ↦ λ is. let le : v ≤ p.1 = rw is at t.count in tells_lost e is (rw before_count le)
       | Some f ↦ λ is. let a : p.0 ≡ Err f = rw is at t.answer in let b : v ≡ p.1 = rw is at t.count in
           let q : p ≡ (Err f, v) = pair_is a (sym b) in tells_err e f is (ap (before ts) q)
@@ -89,28 +89,28 @@ tells_before fault ts p e v t =
 
 -- the parts before the k-th stand in front of the rest
 module _ (part : ℕ → ℕ → Shown (Option (List ℕ))) (b : Brackets) (n w0 v0 : ℕ) (texts : List (List ℕ)) (k w v : ℕ) (e : parts_at part n 0 w0 v0 ≡ before texts (parts_at part (n - k) k w v)) where
-  part_stops : {E E' : Type 0} {fault : E → Option Fault} (fault' : E' → Option Fault) (x : E) (x' : E') (v2 : ℕ) → k < n → Tells fault (part k w v) (Err x) v2 → fault' x' ≡ fault x → ((k w : ℕ) → Rises (part k w)) → Tells fault' (whole part b n w0 v0) (Err x') v2
+  part_stops : {E E' : Type 0} {fault : E → Option Fault} (fault' : E' → Option Fault) (x : E) (x' : E') (v2 : ℕ) → k < n → TellsShown fault (part k w v) (Err x) v2 → fault' x' ≡ fault x → ((k w : ℕ) → Rises (part k w)) → TellsShown fault' (whole part b n w0 v0) (Err x') v2
   unfolding parts_at
   part_stops fault' x x' v2 below t same r =
       let j : n - k ≡ suc (n - (k + 1)) = omega arith in
       let e2 : parts_at part n 0 w0 v0 ≡ before texts (parts_at part (suc (n - (k + 1))) k w v) = rw j at e in
       let go = λ (left : ℕ). parts_at part (n - (k + 1)) (k + 1) left in
-      let p : Tells fault' (parts_at part (suc (n - (k + 1))) k w v) (Err x') v2 = tells_stop fault' (part k w) v (part_then w go) x' t same (λ o. part_then_rises w go o (λ left. parts_rises part (n - (k + 1)) (k + 1) left r)) in
-      let q : Tells fault' (parts_at part n 0 w0 v0) (Err x') v2 = rw e2 (tells_before fault' texts (parts_at part (suc (n - (k + 1))) k w v) x' v2 p) in
+      let p : TellsShown fault' (parts_at part (suc (n - (k + 1))) k w v) (Err x') v2 = tells_stop fault' (part k w) v (part_then w go) x' t same (λ o. part_then_rises w go o (λ left. parts_rises part (n - (k + 1)) (k + 1) left r)) in
+      let q : TellsShown fault' (parts_at part n 0 w0 v0) (Err x') v2 = rw e2 (tells_before fault' texts (parts_at part (suc (n - (k + 1))) k w v) x' v2 p) in
       tells_stop fault' (parts_at part n 0 w0) v0 (λ ts. give (enclosed b ts)) x' q refl (λ ts v. le_refl v)
 
-  part_lost : {E E' : Type 0} {fault : E → Option Fault} (fault' : E' → Option Fault) (x' : E') (o : Option (List ℕ)) (v2 : ℕ) → k < n → Tells {E = E} fault (part k w v) (Ok o) v2 → fault' x' ≡ None → ((k w : ℕ) → Rises (part k w)) → Tells fault' (whole part b n w0 v0) (Err x') v2
+  part_lost : {E E' : Type 0} {fault : E → Option Fault} (fault' : E' → Option Fault) (x' : E') (o : Option (List ℕ)) (v2 : ℕ) → k < n → TellsShown {E = E} fault (part k w v) (Ok o) v2 → fault' x' ≡ None → ((k w : ℕ) → Rises (part k w)) → TellsShown fault' (whole part b n w0 v0) (Err x') v2
   unfolding parts_at
   part_lost fault' x' o v2 below t none r =
       let j : n - k ≡ suc (n - (k + 1)) = omega arith in
       let e2 : parts_at part n 0 w0 v0 ≡ before texts (parts_at part (suc (n - (k + 1))) k w v) = rw j at e in
       let go = λ (left : ℕ). parts_at part (n - (k + 1)) (k + 1) left in
       let least = part_then_rises w go o (λ left. parts_rises part (n - (k + 1)) (k + 1) left r) v2 in
-      let p : Tells fault' (parts_at part (suc (n - (k + 1))) k w v) (Err x') v2 = tells_then (part k w) v (part_then w go) t (tells_lost x' none least) in
-      let q : Tells fault' (parts_at part n 0 w0 v0) (Err x') v2 = rw e2 (tells_before fault' texts (parts_at part (suc (n - (k + 1))) k w v) x' v2 p) in
+      let p : TellsShown fault' (parts_at part (suc (n - (k + 1))) k w v) (Err x') v2 = tells_then (part k w) v (part_then w go) t (tells_lost x' none least) in
+      let q : TellsShown fault' (parts_at part n 0 w0 v0) (Err x') v2 = rw e2 (tells_before fault' texts (parts_at part (suc (n - (k + 1))) k w v) x' v2 p) in
       tells_stop fault' (parts_at part n 0 w0) v0 (λ ts. give (enclosed b ts)) x' q refl (λ ts v. le_refl v)
 
-  part_cuts : {E : Type 0} {fault : E → Option Fault} (t : List ℕ) (v2 : ℕ) → k < n → Tells {E = E} fault (part k w v) (Ok (Some t)) v2 → w - (length t + 2) ≤ 5 → whole part b n w0 v0 ≡ (Ok (enclosed b (texts ++ dots ∷ [])), v2)
+  part_cuts : {E : Type 0} {fault : E → Option Fault} (t : List ℕ) (v2 : ℕ) → k < n → TellsShown {E = E} fault (part k w v) (Ok (Some t)) v2 → w - (length t + 2) ≤ 5 → whole part b n w0 v0 ≡ (Ok (enclosed b (texts ++ dots ∷ [])), v2)
   part_cuts t v2 below p few =
       let j : n - k ≡ suc (n - (k + 1)) = omega arith in
       let e2 : parts_at part n 0 w0 v0 ≡ before texts (parts_at part (suc (n - (k + 1))) k w v) = rw j at e in
@@ -136,7 +136,7 @@ showing_init part b n w0 v0 s text e = record {
 
 module _ {part : Memory → ℕ → ℕ → Shown (Option (List ℕ))} {b : Brackets} {n w0 v0 : ℕ} {s0 s1 : Seen} {text : List ℕ} {is_first : Bool} {k w v : ℕ} where
   -- an empty slot
-  pub showing_skip : {E : Type 0} {fault : E → Option Fault} {s2 : Seen} {v2 : ℕ} → Showing part b n w0 v0 s0 s1 text is_first k w v → k < n → v < v2 → Reading (max 1 (8 * (v2 - v))) s1 s2 (λ m. Tells {E = E} fault (part m k w v) (Ok None) v2) → Showing part b n w0 v0 s0 s2 text is_first (k + 1) w v2
+  pub showing_skip : {E : Type 0} {fault : E → Option Fault} {s2 : Seen} {v2 : ℕ} → Showing part b n w0 v0 s0 s1 text is_first k w v → k < n → v < v2 → Reading (max 1 (8 * (v2 - v))) s1 s2 (λ m. TellsShown {E = E} fault (part m k w v) (Ok None) v2) → Showing part b n w0 v0 s0 s2 text is_first (k + 1) w v2
   showing_skip {v2 = v2} s below more r =
       let j : n - k ≡ suc (n - (k + 1)) = omega arith in
       record {
@@ -149,7 +149,7 @@ module _ {part : Memory → ℕ → ℕ → Shown (Option (List ℕ))} {b : Brac
       }
 
   -- a part that leaves room for more
-  pub showing_more : {E : Type 0} {fault : E → Option Fault} {s2 : Seen} {v2 : ℕ} (t text2 : List ℕ) (left : ℕ) → Showing part b n w0 v0 s0 s1 text is_first k w v → k < n → v < v2 → Reading (max 1 (8 * (v2 - v))) s1 s2 (λ m. Tells {E = E} fault (part m k w v) (Ok (Some t)) v2) → left ≡ w - (length t + 2) → 5 < left → text2 ≡ text ++ (separator is_first ++ t) → Showing part b n w0 v0 s0 s2 text2 false (k + 1) left v2
+  pub showing_more : {E : Type 0} {fault : E → Option Fault} {s2 : Seen} {v2 : ℕ} (t text2 : List ℕ) (left : ℕ) → Showing part b n w0 v0 s0 s1 text is_first k w v → k < n → v < v2 → Reading (max 1 (8 * (v2 - v))) s1 s2 (λ m. TellsShown {E = E} fault (part m k w v) (Ok (Some t)) v2) → left ≡ w - (length t + 2) → 5 < left → text2 ≡ text ++ (separator is_first ++ t) → Showing part b n w0 v0 s0 s2 text2 false (k + 1) left v2
   showing_more {v2 = v2} t text2 left s below more r is room written =
       let j : n - k ≡ suc (n - (k + 1)) = omega arith in
       record {
@@ -162,19 +162,19 @@ module _ {part : Memory → ℕ → ℕ → Shown (Option (List ℕ))} {b : Brac
       }
 
   -- a part that can't be shown
-  pub showing_stop : {E E' : Type 0} {fault : E → Option Fault} {fault' : E' → Option Fault} {s2 : Seen} {v2 : ℕ} {x : E} (x' : E') → Showing part b n w0 v0 s0 s1 text is_first k w v → k < n → v ≤ v2 → ((m : Memory) (k w : ℕ) → Rises (part m k w)) → Reading (max 1 (8 * (v2 - v))) s1 s2 (λ m. Tells {T = Option (List ℕ)} fault (part m k w v) (Err x) v2) → fault' x' ≡ fault x → Reading (8 * (v2 - v0) + 1) s0 s2 (λ m. Tells fault' (whole (part m) b n w0 v0) (Err x') v2)
+  pub showing_stop : {E E' : Type 0} {fault : E → Option Fault} {fault' : E' → Option Fault} {s2 : Seen} {v2 : ℕ} {x : E} (x' : E') → Showing part b n w0 v0 s0 s1 text is_first k w v → k < n → v ≤ v2 → ((m : Memory) (k w : ℕ) → Rises (part m k w)) → Reading (max 1 (8 * (v2 - v))) s1 s2 (λ m. TellsShown {T = Option (List ℕ)} fault (part m k w v) (Err x) v2) → fault' x' ≡ fault x → Reading (8 * (v2 - v0) + 1) s0 s2 (λ m. TellsShown fault' (whole (part m) b n w0 v0) (Err x') v2)
   showing_stop {fault' = fault'} {v2 = v2} {x = x} x' s below more rises r same =
       reading_gives (8 * (v2 - v0) + 1) _ (reading_then _ s.reading r
       (λ m e t. part_stops (part m) b n w0 v0 s.texts k w v e fault' x x' v2 below t same (rises m))) (omega (arith, s.rises)) (λ m e. e)
 
   -- memory is wanting after a part
-  pub showing_lost : {E E' : Type 0} {fault : E → Option Fault} {fault' : E' → Option Fault} {s2 : Seen} {v2 : ℕ} {o : Option (List ℕ)} (x' : E') → Showing part b n w0 v0 s0 s1 text is_first k w v → k < n → v ≤ v2 → ((m : Memory) (k w : ℕ) → Rises (part m k w)) → Reading (max 1 (8 * (v2 - v))) s1 s2 (λ m. Tells {E = E} fault (part m k w v) (Ok o) v2) → fault' x' ≡ None → Reading (8 * (v2 - v0) + 1) s0 s2 (λ m. Tells fault' (whole (part m) b n w0 v0) (Err x') v2)
+  pub showing_lost : {E E' : Type 0} {fault : E → Option Fault} {fault' : E' → Option Fault} {s2 : Seen} {v2 : ℕ} {o : Option (List ℕ)} (x' : E') → Showing part b n w0 v0 s0 s1 text is_first k w v → k < n → v ≤ v2 → ((m : Memory) (k w : ℕ) → Rises (part m k w)) → Reading (max 1 (8 * (v2 - v))) s1 s2 (λ m. TellsShown {E = E} fault (part m k w v) (Ok o) v2) → fault' x' ≡ None → Reading (8 * (v2 - v0) + 1) s0 s2 (λ m. TellsShown fault' (whole (part m) b n w0 v0) (Err x') v2)
   showing_lost {fault' = fault'} {v2 = v2} {o = o} x' s below more rises r none =
       reading_gives (8 * (v2 - v0) + 1) _ (reading_then _ s.reading r
       (λ m e t. part_lost (part m) b n w0 v0 s.texts k w v e fault' x' o v2 below t none (rises m))) (omega (arith, s.rises)) (λ m e. e)
 
   -- a part that leaves no room for more
-  pub showing_cut : {E E' : Type 0} {fault : E → Option Fault} {fault' : E' → Option Fault} {s2 : Seen} {v2 : ℕ} (t out : List ℕ) → Showing part b n w0 v0 s0 s1 text is_first k w v → k < n → v ≤ v2 → Reading (max 1 (8 * (v2 - v))) s1 s2 (λ m. Tells {E = E} fault (part m k w v) (Ok (Some t)) v2) → w - (length t + 2) ≤ 5 → out ≡ (text ++ (separator is_first ++ dots)) ++ closing b → Reading (8 * (v2 - v0) + 1) s0 s2 (λ m. Tells {E = E'} fault' (whole (part m) b n w0 v0) (Ok out) v2)
+  pub showing_cut : {E E' : Type 0} {fault : E → Option Fault} {fault' : E' → Option Fault} {s2 : Seen} {v2 : ℕ} (t out : List ℕ) → Showing part b n w0 v0 s0 s1 text is_first k w v → k < n → v ≤ v2 → Reading (max 1 (8 * (v2 - v))) s1 s2 (λ m. TellsShown {E = E} fault (part m k w v) (Ok (Some t)) v2) → w - (length t + 2) ≤ 5 → out ≡ (text ++ (separator is_first ++ dots)) ++ closing b → Reading (8 * (v2 - v0) + 1) s0 s2 (λ m. TellsShown {E = E'} fault' (whole (part m) b n w0 v0) (Ok out) v2)
   unfolding enclosed
   showing_cut {v2 = v2} t out s below more r few is =
       let out_is : out ≡ enclosed b (s.texts ++ dots ∷ []) = is ∙ rw s.first (ap (λ u. u ++ closing b) (sym (enclosed_push b s.texts dots text s.written))) in
@@ -182,12 +182,12 @@ module _ {part : Memory → ℕ → ℕ → Shown (Option (List ℕ))} {b : Brac
       (λ m e a. tells_is (rw out_is (part_cuts (part m) b n w0 v0 s.texts k w v e t v2 below a few)))) (omega (arith, s.rises)) (λ m e. e)
 
   -- no part is left
-  pub showing_done : {E' : Type 0} {fault' : E' → Option Fault} (out : List ℕ) → Showing part b n w0 v0 s0 s1 text is_first k w v → n ≤ k → out ≡ text ++ closing b → Reading (8 * (v - v0) + 1) s0 s1 (λ m. Tells {E = E'} fault' (whole (part m) b n w0 v0) (Ok out) v)
+  pub showing_done : {E' : Type 0} {fault' : E' → Option Fault} (out : List ℕ) → Showing part b n w0 v0 s0 s1 text is_first k w v → n ≤ k → out ≡ text ++ closing b → Reading (8 * (v - v0) + 1) s0 s1 (λ m. TellsShown {E = E'} fault' (whole (part m) b n w0 v0) (Ok out) v)
   unfolding enclosed
   showing_done out s over is =
       let out_is : out ≡ enclosed b s.texts = is ∙ ap (λ u. u ++ closing b) s.written in
       reading_gives (8 * (v - v0) + 1) _ s.reading (omega arith) (λ m e. tells_is (rw out_is (parts_done (part m) b n w0 v0 s.texts k w v e over)))
 
-  pub showing_unclosed : {E' : Type 0} {fault' : E' → Option Fault} (x' : E') → Showing part b n w0 v0 s0 s1 text is_first k w v → n ≤ k → fault' x' ≡ None → Reading (8 * (v - v0) + 1) s0 s1 (λ m. Tells fault' (whole (part m) b n w0 v0) (Err x') v)
+  pub showing_unclosed : {E' : Type 0} {fault' : E' → Option Fault} (x' : E') → Showing part b n w0 v0 s0 s1 text is_first k w v → n ≤ k → fault' x' ≡ None → Reading (8 * (v - v0) + 1) s0 s1 (λ m. TellsShown fault' (whole (part m) b n w0 v0) (Err x') v)
   showing_unclosed x' s over none =
       reading_gives (8 * (v - v0) + 1) _ s.reading (omega arith) (λ m e. tells_lost x' none (rw (parts_done (part m) b n w0 v0 s.texts k w v e over) (le_refl v)))

@@ -36,9 +36,9 @@ use Rattle.py_objects.specs.Shows.Node.{Whole, Quoted, Many}
 use Rattle.py_objects.specs.Shows.Child.{Item, Empty, Entry}
 
 -- where the parts of a value stand: the items of a list or a tuple, or the slots of a dict
-pub data Place : Type 0 where
-  ItemsAt : ItemsOf → Place
-  SlotsAt : SlotsOf → Place
+pub data PartsPlace : Type 0 where
+  ItemsAt : ItemsOf → PartsPlace
+  SlotsAt : SlotsOf → PartsPlace
 
 -- the flags and the name of the type of the value at an address
 unfoldable pub class_at : Layout → Memory → ℕ → Found (ℕ × List ℕ)
@@ -48,17 +48,17 @@ class_at l m a = do
   name ← text_or (before_nul chars) BadType
   Ok (class.flags, name)
 
-unfoldable pub small_node : Layout → Memory → ℕ → List ℕ → Found (Node Place)
+unfoldable pub small_node : Layout → Memory → ℕ → List ℕ → Found (Node PartsPlace)
 small_node l m a name = do
   z ← small_at l m a
   Ok (Whole (number_text name z))
 
-unfoldable pub long_node : Layout → Memory → ℕ → List ℕ → Found (Node Place)
+unfoldable pub long_node : Layout → Memory → ℕ → List ℕ → Found (Node PartsPlace)
 long_node l m a name = do
   number ← long_at l m a
   Ok (Whole (long_text name number))
 
-unfoldable pub text_node : Layout → Memory → ℕ → Found (Node Place)
+unfoldable pub text_node : Layout → Memory → ℕ → Found (Node PartsPlace)
 text_node l m a = do
   text ← text_at l m a
   Ok (Quoted (encode_utf8_all text))
@@ -67,33 +67,33 @@ abbrev pub brackets_by : Sequence → Brackets
 brackets_by ListItems = Square
 brackets_by TupleItems = Round
 
-unfoldable pub items_node : Layout → Memory → Sequence → ℕ → Found (Node Place)
+unfoldable pub items_node : Layout → Memory → Sequence → ℕ → Found (Node PartsPlace)
 items_node l m s a = do
   items ← items_at l m s a
   Ok (Many (brackets_by s) items.count (ItemsAt items))
 
-unfoldable pub slots_node : Layout → Memory → ℕ → Found (Node Place)
+unfoldable pub slots_node : Layout → Memory → ℕ → Found (Node PartsPlace)
 slots_node l m a = do
   slots ← dict_slots l m a
   Ok (Many Curly slots.count (SlotsAt slots))
 
-abbrev pub dict_node : Dicts → Layout → Memory → ℕ → Found (Node Place)
+abbrev pub dict_node : Dicts → Layout → Memory → ℕ → Found (Node PartsPlace)
 dict_node Absent l m a = Ok (Whole (codes "dict"))
 dict_node General l m a = slots_node l m a
 dict_node Compact l m a = slots_node l m a
 
-unfoldable pub float_node : Layout → Memory → ℕ → Found (Node Place)
+unfoldable pub float_node : Layout → Memory → ℕ → Found (Node PartsPlace)
 float_node l m a = do
   float ← record_at m a l.float.size
   Ok (Whole (float_text 16 (u64_in float l.float.value)))
 
-unfoldable pub scalar_node : Layout → Memory → ℕ → Scalar → Found (Node Place)
+unfoldable pub scalar_node : Layout → Memory → ℕ → Scalar → Found (Node PartsPlace)
 scalar_node l m a s = do
   bytes ← record_at m (a + l.object.size) (scalar_width s)
   text ← scalar_text s bytes
   Ok (Whole text)
 
-abbrev pub kind_node : Layout → Memory → ℕ → List ℕ → Kind → Found (Node Place)
+abbrev pub kind_node : Layout → Memory → ℕ → List ℕ → Kind → Found (Node PartsPlace)
 kind_node l m a name Small = small_node l m a name
 kind_node l m a name Long = long_node l m a name
 kind_node l m a name Text = text_node l m a
@@ -106,7 +106,7 @@ kind_node l m a name (Number s) = scalar_node l m a s
 kind_node l m a name Other = Ok (Whole (other_text name a))
 
 -- what the value at an address is: its text, or how many parts it has and where they stand
-unfoldable pub node_at : Layout → Memory → ℕ → Found (Node Place)
+unfoldable pub node_at : Layout → Memory → ℕ → Found (Node PartsPlace)
 node_at l m a = do
   class ← class_at l m a
   kind_node l m a class.1 (kind_of l.bytes_text class.0 class.1)
@@ -116,7 +116,7 @@ child_of EmptySlot = Empty
 child_of (EntrySlot key value) = Entry key value
 
 -- the part of a number at a place
-unfoldable pub child_at : Memory → Place → ℕ → Found (Child ℕ)
+unfoldable pub child_at : Memory → PartsPlace → ℕ → Found (Child ℕ)
 child_at m (ItemsAt items) k = do
   item ← item_at m items k
   Ok (Item item)
@@ -125,7 +125,7 @@ child_at m (SlotsAt slots) k = do
   Ok (child_of slot)
 
 -- the values of a memory
-abbrev pub values_in : Layout → Memory → Source ℕ Place
+abbrev pub values_in : Layout → Memory → Source ℕ PartsPlace
 values_in l m = record { node = node_at l m; child = child_at m }
 
 -- what was read of a value
@@ -133,16 +133,16 @@ abbrev pub brackets_of : Parts → Brackets
 brackets_of (ItemParts sequence items) = brackets_by sequence
 brackets_of (SlotParts cursor) = Curly
 
-abbrev pub place_of : Parts → Place
-place_of (ItemParts sequence items) = ItemsAt items
-place_of (SlotParts cursor) = SlotsAt cursor.slots
+abbrev pub parts_place_of : Parts → PartsPlace
+parts_place_of (ItemParts sequence items) = ItemsAt items
+parts_place_of (SlotParts cursor) = SlotsAt cursor.slots
 
-abbrev pub node_of : NodeRead → Node Place
+abbrev pub node_of : NodeRead → Node PartsPlace
 node_of (WholeRead text) = Whole (string_bytes text)
 node_of (QuotedRead text) = Quoted (encode_utf8_all text)
-node_of (ManyRead count parts) = Many (brackets_of parts) count (place_of parts)
+node_of (ManyRead count parts) = Many (brackets_of parts) count (parts_place_of parts)
 
-abbrev pub nodes_of : {E : Type 0} → Result NodeRead E → Result (Node Place) E
+abbrev pub nodes_of : {E : Type 0} → Result NodeRead E → Result (Node PartsPlace) E
 nodes_of (Ok n) = Ok (node_of n)
 nodes_of (Err e) = Err e
 

@@ -8,14 +8,14 @@ use Rattle.process_memory.specs.Seen.{AnswerIs}
 abbrev pub Shown : Type 0 → Type 0
 Shown T = ℕ → Found T × ℕ
 
-abbrev pub goes_on : {T U : Type 0} → Found T × ℕ → (T → Shown U) → Found U × ℕ
-goes_on (Ok x, v) f = f x v
-goes_on (Err e, v) f = (Err e, v)
+abbrev pub goes_on_shown : {T U : Type 0} → Found T × ℕ → (T → Shown U) → Found U × ℕ
+goes_on_shown (Ok x, v) f = f x v
+goes_on_shown (Err e, v) f = (Err e, v)
 
 -- goes on with a value, or stops at a fault
 infixl 10 ◌>>=◌
 unfoldable pub ◌>>=◌ : {T U : Type 0} → Shown T → (T → Shown U) → Shown U
-c >>= f = λ v. goes_on (c v) f
+c >>= f = λ v. goes_on_shown (c v) f
 
 -- a value, with nothing counted
 abbrev pub give : {T : Type 0} → T → Shown T
@@ -38,7 +38,7 @@ CountIs fault (Ok x) v n = n ≡ v
 CountIs fault (Err e) v n = CountOf (fault e) v n
 
 -- a result and a count are what the definition says. Want of memory is free, and leaves a part of the count
-pub record Tells {T E : Type 0} (fault : E → Option Fault) (definition : Found T × ℕ) (result : Result T E)
+pub record TellsShown {T E : Type 0} (fault : E → Option Fault) (definition : Found T × ℕ) (result : Result T E)
     (visits : ℕ) : Type 0 where
   pub answer : AnswerIs fault definition.0 result
   pub count : CountIs fault result definition.1 visits

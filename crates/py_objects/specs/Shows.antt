@@ -152,6 +152,6 @@ part_of (Ok o) = Ok (maybe_of o)
 part_of (Err e) = Err e
 
 -- the bytes of a text of characters
-abbrev pub bytes_of : {E : Type 0} → Result (List ℕ) E → Result (List ℕ) E
-bytes_of (Ok cs) = Ok (encode_utf8_all cs)
-bytes_of (Err e) = Err e
+abbrev pub bytes_shown : {E : Type 0} → Result (List ℕ) E → Result (List ℕ) E
+bytes_shown (Ok cs) = Ok (encode_utf8_all cs)
+bytes_shown (Err e) = Err e

@@ -3,10 +3,10 @@ ghost use Rattle.std.specs.Prelude.{◌≡◌, ◌+◌, ◌-◌, ◌*◌, ◌<�
 ghost use Rattle.std.specs.Str.{chars};
 ghost use Rattle.process_memory.specs.Seen.{Reading};
 ghost use Rattle.py_fields.specs.Sound.{IsSound};
-ghost use Rattle.py_builtins.specs.ObjectError.{fault_of};
-ghost use Rattle.py_objects.specs.Nodes.{brackets_of, node_of, part_read, place_of, slot_visits, texts_of, values_in};
-ghost use Rattle.py_objects.specs.Shown.{Tells, visit};
-ghost use Rattle.py_objects.specs.Shows.{AnswerShows, bytes_of, child_shown, closing, looked_at, node_shown, opening, part_at, part_of, parts_shown, separator, show_at, text_of, width_of};
+ghost use Rattle.py_builtins.specs.ObjectError.{object_fault};
+ghost use Rattle.py_objects.specs.Nodes.{brackets_of, node_of, part_read, parts_place_of, slot_visits, texts_of, values_in};
+ghost use Rattle.py_objects.specs.Shown.{TellsShown, visit};
+ghost use Rattle.py_objects.specs.Shows.{AnswerShows, bytes_shown, child_shown, closing, looked_at, node_shown, opening, part_at, part_of, parts_shown, separator, show_at, text_of, width_of};
 
 use crate::nodes::{Child, Node, Parts, read_child, read_node};
 use crate::texts;
@@ -62,7 +62,7 @@ pub fn format_variable<P: ProcessMemory>(
     ensures few { visits.new ≤ max visits.old 4096 }
     ensures characters { IfOk result (λ text. text ≡ chars (encode_utf8_all text)) }
     ensures shown { Reading (8 * (visits.new - visits.old)) (P.seen process.old) (P.seen process.new)
-        (λ m. AnswerShows fault_of (values_in layout.now m) addr (width_of max_length) visits.old (bytes_of result)
+        (λ m. AnswerShows object_fault (values_in layout.now m) addr (width_of max_length) visits.old (bytes_shown result)
         visits.new) }
 {
     let width = width_of(max_length);
@@ -92,7 +92,7 @@ fn show_value<P: ProcessMemory>(
     ensures rises { visits.old ≤ visits.new }
     ensures begins { 5 < width → OnOk result (visits.old < visits.new) }
     ensures shown { Reading (8 * (visits.new - visits.old) - 1) (P.seen process.old) (P.seen process.new)
-        (λ m. Tells fault_of (show_at (values_in layout.now m) levels width addr visits.old) (text_of result)
+        (λ m. TellsShown object_fault (show_at (values_in layout.now m) levels width addr visits.old) (text_of result)
         visits.new) }
 {
     if width <= NARROW {
@@ -109,7 +109,7 @@ fn show_value<P: ProcessMemory>(
 /// Counts a visit, if there may be one more.
 #[tactic(auto, unfolding(crate::specs::Shown::visit))]
 fn count_visit(visits: &mut u32) -> Result<(), ObjectError>
-    ensures told { Tells fault_of (visit visits.old) result visits.new }
+    ensures told { TellsShown object_fault (visit visits.old) result visits.new }
     ensures rises { visits.old ≤ visits.new }
     ensures begins { OnOk result (visits.new ≡ visits.old + 1) }
     ensures ends { visits.new ≤ visits.old + 1 }
@@ -136,7 +136,7 @@ fn show_node<P: ProcessMemory>(
     requires wide { 5 < width }
     ensures rises { visits.old ≤ visits.new }
     ensures shown { Reading (8 * (visits.new - visits.old) + 1) (P.seen process.old) (P.seen process.new)
-        (λ m. Tells fault_of (node_shown (values_in layout.now m) (λ w a. show_at (values_in layout.now m) levels w a)
+        (λ m. TellsShown object_fault (node_shown (values_in layout.now m) (λ w a. show_at (values_in layout.now m) levels w a)
         width (node_of node) visits.old) (text_of result) visits.new) }
 {
     match node {
@@ -170,8 +170,8 @@ fn show_parts<P: ProcessMemory>(
     requires sound { IsSound layout.now }
     ensures rises { visits.old ≤ visits.new }
     ensures shown { Reading (8 * (visits.new - visits.old) + 1) (P.seen process.old) (P.seen process.new)
-        (λ m. Tells fault_of (parts_shown (values_in layout.now m) (λ w a. show_at (values_in layout.now m) levels w a)
-        (brackets_of parts.now) count (place_of parts.now) width visits.old) (text_of result) visits.new) }
+        (λ m. TellsShown object_fault (parts_shown (values_in layout.now m) (λ w a. show_at (values_in layout.now m) levels w a)
+        (brackets_of parts.now) count (parts_place_of parts.now) width visits.old) (text_of result) visits.new) }
 {
     let mut text = open(alloc, parts)?;
     let mut is_first = true;
@@ -254,8 +254,8 @@ fn show_part<P: ProcessMemory>(
     ensures begins { 5 < width → OnOk result (visits.old < visits.new) }
     ensures skips { IfOk result (λ o. o ≡ None → visits.old < visits.new) }
     ensures shown { Reading (max 1 (8 * (visits.new - visits.old))) (P.seen process.old) (P.seen process.new)
-        (λ m. Tells fault_of (part_at (values_in layout.now m) (λ w a. show_at (values_in layout.now m) levels w a)
-        (brackets_of parts.now) (place_of parts.now) number width visits.old) (part_of result) visits.new) }
+        (λ m. TellsShown object_fault (part_at (values_in layout.now m) (λ w a. show_at (values_in layout.now m) levels w a)
+        (brackets_of parts.now) (parts_place_of parts.now) number width visits.old) (part_of result) visits.new) }
 {
     look(parts, visits)?;
     let child = read_child(process, parts, number)?;
@@ -265,7 +265,7 @@ fn show_part<P: ProcessMemory>(
 /// Counts a visit where the parts are slots, if there may be one more.
 #[tactic(auto, unfolding(crate::specs::Shows::looked_at))]
 fn look(parts: &Parts, visits: &mut u32) -> Result<(), ObjectError>
-    ensures told { Tells fault_of (looked_at (brackets_of parts.now) visits.old) result visits.new }
+    ensures told { TellsShown object_fault (looked_at (brackets_of parts.now) visits.old) result visits.new }
     ensures rises { visits.old ≤ visits.new }
     ensures counts { OnOk result (visits.new ≡ visits.old + slot_visits parts.now) }
 {
@@ -291,7 +291,7 @@ fn show_child<P: ProcessMemory>(
     ensures begins { 5 < width → OnOk result (visits.old + texts_of (part_read child) ≤ visits.new) }
     ensures skips { IfOk result (λ o. o ≡ None → texts_of (part_read child) ≡ 0) }
     ensures shown { Reading (8 * (visits.new - visits.old) - 1) (P.seen process.old) (P.seen process.new)
-        (λ m. Tells fault_of (child_shown (λ w a. show_at (values_in layout.now m) levels w a) width (part_read child)
+        (λ m. TellsShown object_fault (child_shown (λ w a. show_at (values_in layout.now m) levels w a) width (part_read child)
         visits.old) (part_of result) visits.new) }
 {
     match child {

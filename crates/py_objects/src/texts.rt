@@ -6,7 +6,7 @@ ghost use Rattle.std.specs.Str.{chars};
 ghost use Rattle.std.specs.Char.{encode_utf8};
 ghost use Rattle.process_memory.specs.Memory.Fault.{BadType};
 ghost use Rattle.process_memory.specs.Seen.{Answers};
-ghost use Rattle.py_builtins.specs.ObjectError.{fault_of};
+ghost use Rattle.py_builtins.specs.ObjectError.{object_fault};
 ghost use Rattle.py_objects.specs.Kinds.{scalar_width};
 ghost use Rattle.py_objects.specs.ShownTexts.{before_nul, byte_truth, dots, escape, escaped, float_text, long_text, number_text, other_text, quoted, scalar_text, text_or};
 ghost use Rattle.py_objects.specs.Shows.{text_of};
@@ -73,7 +73,7 @@ fn padded_single(alloc: Global, bits: u32) -> Result<String, AllocError>
 /// One of numpy's numbers by its bytes.
 pub fn scalar(alloc: Global, scalar: Scalar, bytes: &[u8]) -> Result<String, ObjectError>
     requires { scalar_width scalar ≤ length bytes.now }
-    ensures { Answers fault_of (scalar_text scalar bytes.now) (text_of result) }
+    ensures { Answers object_fault (scalar_text scalar bytes.now) (text_of result) }
 {
     let text = match scalar {
         Scalar::Truth => return truth(alloc, bytes[0]),
@@ -94,7 +94,7 @@ pub fn scalar(alloc: Global, scalar: Scalar, bytes: &[u8]) -> Result<String, Obj
 /// A truth value of one byte.
 #[tactic(auto, unfolding(crate::specs::ShownTexts::byte_truth))]
 fn truth(alloc: Global, byte: u8) -> Result<String, ObjectError>
-    ensures { Answers fault_of (byte_truth byte) (text_of result) }
+    ensures { Answers object_fault (byte_truth byte) (text_of result) }
 {
     match byte {
         0 => Ok(String::from_str(alloc, "false")?),
@@ -113,7 +113,7 @@ pub fn other(alloc: Global, name: &str, addr: u64) -> Result<String, AllocError>
 
 /// The name of a type, by the bytes that begin with it.
 pub fn type_name(alloc: Global, chars: &[u8]) -> Result<String, ObjectError>
-    ensures { Answers fault_of (text_or (before_nul chars.now) BadType) (text_of result) }
+    ensures { Answers object_fault (text_or (before_nul chars.now) BadType) (text_of result) }
 {
     let name = before_nul(chars);
     match str::from_utf8(name) {

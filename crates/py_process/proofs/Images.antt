@@ -13,7 +13,7 @@ use Rattle.py_process.specs.declared.ranges.Ranges.{Ranges}
 use Rattle.py_process.specs.Binary.{HasInfo, IsInfo, SaysFacts, SaySame}
 use Rattle.py_process.specs.Facts.{Facts}
 use Rattle.py_process.specs.Ranges.{AreRanges, bss_range, moved_by, runtime_range, runtime_section}
-use Rattle.py_process.specs.Refusals.{HasBadBss, HasBadHeader, HasNoBss, HasNoExecutable, HasRanges, Refuses}
+use Rattle.py_process.specs.Refusals.{HasBadBss, HasBadHeader, HasNoBss, HasNoExecutable, HasRanges, RefusesImage}
 use Rattle.py_process.specs.SymbolMap.{address_of}
 use Rattle.py_process.proofs.Bss.{no_bss, one_bss}
 
@@ -55,7 +55,7 @@ bss_bad_bss bytes addr h g = no_bss bytes (sections_of bytes) g.bss h.none g.is_
 
 -- ---- one refusal alone
 
-pub one_refusal : (bytes : List ℕ) (addr : ℕ) (e f : BinaryError) → Refuses bytes addr e → Refuses bytes addr f → e ≢ OutOfMemory
+pub one_refusal : (bytes : List ℕ) (addr : ℕ) (e f : BinaryError) → RefusesImage bytes addr e → RefusesImage bytes addr f → e ≢ OutOfMemory
     → f ≢ OutOfMemory → e ≡ f
 one_refusal bytes addr OutOfMemory f h g ne nf = absurd (ne refl)
 one_refusal bytes addr NotElf64 OutOfMemory h g ne nf = absurd (nf refl)
@@ -89,7 +89,7 @@ one_refusal bytes addr BadBss NoBss h g ne nf = absurd (bss_bad_bss bytes addr g
 one_refusal bytes addr BadBss NoExecutable h g ne nf = absurd (no_executable_bad_bss bytes addr g.1 h.1)
 one_refusal bytes addr BadBss BadBss h g ne nf = refl
 
-pub no_info : (bytes : List ℕ) (addr : ℕ) (e : BinaryError) → Refuses bytes addr e → e ≢ OutOfMemory → HasInfo bytes addr → ⊥
+pub no_info : (bytes : List ℕ) (addr : ℕ) (e : BinaryError) → RefusesImage bytes addr e → e ≢ OutOfMemory → HasInfo bytes addr → ⊥
 no_info bytes addr NotElf64 h ne info = h info.accepted.header
 no_info bytes addr BadHeader h ne info = ⊎_elim (λ s. s.1 info.accepted.readable) (λ s. ⊎_elim (λ t. t.1 info.ranges.1.held) (λ t. t.2 info.both) s) h
 no_info bytes addr NoBss h ne info = ranges_no_bss bytes addr info.ranges h.1
@@ -103,10 +103,10 @@ has_info : (bytes : List ℕ) (addr size : ℕ) (info : BinaryInfo) → IsInfo b
 has_info bytes addr size info is = record { accepted = is.accepted; ranges = (is.ranges, is.are_ranges); both = is.both }
 
 abbrev IsRight : List ℕ → ℕ → ℕ → Result BinaryInfo BinaryError → Type 0
-IsRight bytes addr size result = MatchResult result (IsInfo bytes addr size) (Refuses bytes addr)
+IsRight bytes addr size result = MatchResult result (IsInfo bytes addr size) (RefusesImage bytes addr)
 
 pub only_right : (bytes : List ℕ) (addr size : ℕ) (result : Result BinaryInfo BinaryError) → IsRight bytes addr size result
-    → (error : BinaryError) → error ≢ OutOfMemory → Refuses bytes addr error → IsErrOf result OutOfMemory ⊎ (result ≡ Err error)
+    → (error : BinaryError) → error ≢ OutOfMemory → RefusesImage bytes addr error → IsErrOf result OutOfMemory ⊎ (result ≡ Err error)
 only_right bytes addr size (Ok info) right error ne refuses = absurd (no_info bytes addr error refuses ne (has_info bytes addr size info right))
 only_right bytes addr size (Err OutOfMemory) right error ne refuses = inl refl
 only_right bytes addr size (Err NotElf64) right error ne refuses = inr (ap Err (one_refusal bytes addr NotElf64 error right refuses (λ e. absurd (cc)) ne))
@@ -115,7 +115,7 @@ only_right bytes addr size (Err NoBss) right error ne refuses = inr (ap Err (one
 only_right bytes addr size (Err NoExecutable) right error ne refuses = inr (ap Err (one_refusal bytes addr NoExecutable error right refuses (λ e. absurd (cc)) ne))
 only_right bytes addr size (Err BadBss) right error ne refuses = inr (ap Err (one_refusal bytes addr BadBss error right refuses (λ e. absurd (cc)) ne))
 
-wants_memory : (bytes : List ℕ) (addr : ℕ) (e : BinaryError) → Refuses bytes addr e → HasInfo bytes addr → e ≡ OutOfMemory
+wants_memory : (bytes : List ℕ) (addr : ℕ) (e : BinaryError) → RefusesImage bytes addr e → HasInfo bytes addr → e ≡ OutOfMemory
 wants_memory bytes addr OutOfMemory h info = refl
 wants_memory bytes addr NotElf64 h info = absurd (no_info bytes addr NotElf64 h (λ e. absurd (cc)) info)
 wants_memory bytes addr BadHeader h info = absurd (no_info bytes addr BadHeader h (λ e. absurd (cc)) info)

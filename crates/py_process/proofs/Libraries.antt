@@ -10,7 +10,7 @@ use Rattle.std.proofs.lemmas.List.{take-append-drop}
 use Rattle.std.proofs.lemmas.Slice.Eq.{starts_is}
 use Rattle.std.proofs.Math.Seq.{drop-append_seam}
 use Rattle.py_process.specs.Library.{IsDigit, IsDigitOrNone, IsFlagOrNone, IsLibrary, IsLibraryName, IsMark}
-use Rattle.py_process.specs.LibraryFronts.{begins_library, begins_so, digit_end, end_behind, flag_end, has_end, has_flag_end, has_minor, has_minor_end, has_version, is_flag, minor_behind, past_mark}
+use Rattle.py_process.specs.LibraryFronts.{begins_library, begins_so, digit_end, end_behind, flag_end, has_version_end, has_flag_end, has_minor, has_minor_end, has_version, is_flag, minor_behind, past_mark}
 use Rattle.py_process.proofs.Marks.{Marked, mark_read, mark_spells}
 
 or_right : (a b : Bool) → b ≡ true → (a || b) ≡ true
@@ -38,7 +38,7 @@ same_number a b e = grind (arith, nat_tests)
 abbrev ending : ℕ → List ℕ → List ℕ
 ending last after = encode_utf8 last ++ (115 ∷ 111 ∷ after)
 
-end_read : (last : ℕ) (after : List ℕ) → IsMark last → has_end (ending last after) ≡ true
+end_read : (last : ℕ) (after : List ℕ) → IsMark last → has_version_end (ending last after) ≡ true
 end_read last after is = ap end_behind (mark_read last (115 ∷ 111 ∷ after) is)
 
 flag_read : (flag : List ℕ) (last : ℕ) (after : List ℕ) → IsFlagOrNone flag → IsMark last → has_flag_end (flag ++ ending last after) ≡ true
@@ -95,7 +95,7 @@ so_spells (s ∷ o ∷ rest) e =
     let second : o ≡ 111 = same_number o 111 both.1 in
     (rest, cc)
 
-end_spells : (bytes : List ℕ) → has_end bytes ≡ true → Ending bytes
+end_spells : (bytes : List ℕ) → has_version_end bytes ≡ true → Ending bytes
 end_spells bytes e = by (past_mark bytes) refl e
   where
     by : (r : Option (List ℕ)) → past_mark bytes ≡ r → end_behind r ≡ true → Ending bytes
@@ -121,13 +121,13 @@ flag_letter c e =
 flagged_spells : (bytes : List ℕ) → flag_end bytes ≡ true → FlagEnding bytes
 flagged_spells [] e = absurd (cc)
 flagged_spells (c ∷ rest) e =
-    let both = and_parts (is_flag c) (has_end rest) e in
+    let both = and_parts (is_flag c) (has_version_end rest) e in
     record { flag = c ∷ []; is_flag = flag_letter c both.0; rest = rest; ends = end_spells rest both.1; parts = refl }
 
 flag_spells : (bytes : List ℕ) → has_flag_end bytes ≡ true → FlagEnding bytes
 flag_spells bytes e =
     ⊎_elim (λ ends. record { flag = []; is_flag = inl refl; rest = bytes; ends = end_spells bytes ends; parts = refl })
-    (flagged_spells bytes) (or_cases (has_end bytes) (flag_end bytes) e)
+    (flagged_spells bytes) (or_cases (has_version_end bytes) (flag_end bytes) e)
 
 record MinorEnding (bytes : List ℕ) : Type 0 where
   pub more : List ℕ

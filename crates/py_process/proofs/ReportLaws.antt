@@ -3,7 +3,7 @@ use Rattle.std.proofs.Common.{◌≡◌, ℕ, List, refl, sym, ap, subst, ◌∙
 use Rattle.std.specs.Prelude.{ℤ, Option, Result, Ok, Err, option_map}
 use Rattle.elf64_core.specs.Header.{machine_of}
 use Rattle.elf64_core.specs.declared.header.Machine.{Machine}
-use Rattle.image_memory.specs.Cores.{IsCore, Refuses}
+use Rattle.image_memory.specs.Cores.{IsCore, RefusesCore}
 use Rattle.image_memory.specs.Images.{Pushed}
 use Rattle.image_memory.specs.Maps.{in_maps}
 use Rattle.image_memory.specs.declared.dump_error.DumpError.{DumpError}
@@ -18,7 +18,7 @@ use Rattle.py_stacks.specs.declared.config.Config.{Config}
 use Rattle.py_process.specs.Causes.{cause_of_dump}
 use Rattle.py_process.specs.Findings.{AfterImages, AfterLayout, AfterMaps, AfterSearch, AfterVersion, Finding, FindingIs, IsFound, IsMade, LayoutSays, LockSays, SearchSays, VersionSays, finding}
 use Rattle.py_process.specs.Programs.{ImagesSay, MapsSay}
-use Rattle.py_process.specs.Reports.{AfterCore, AfterFinding, CoreSays, IsTold, NotesTell, ReportIs, Reported, StacksSay, Tells, Dumped, IsDumped, memory_in, first_signal, process_told}
+use Rattle.py_process.specs.Reports.{AfterCore, AfterFinding, CoreSays, IsTold, NotesTell, ReportIs, Reported, StacksSay, TellsReport, Dumped, IsDumped, memory_in, first_signal, process_told}
 use Rattle.py_process.specs.declared.core_error.CoreError.{CoreError}
 use Rattle.py_process.specs.declared.core_error.CoreError.TheVariants as core
 use Rattle.py_process.proofs.Agreement.{Agree, IsKept, ok_is, then_agree, then_ok}
@@ -30,7 +30,7 @@ use Rattle.py_process.proofs.StackCauses.{stacks_agree}
 
 module _ (bytes : List ℕ) (images : Pushed) where
   data CoreCause (r : Result Dumped CoreError) : Type 0 where
-    refused : (e : DumpError) → r ≡ Err (cause_of_dump e) → Refuses bytes e → CoreCause r
+    refused : (e : DumpError) → r ≡ Err (cause_of_dump e) → RefusesCore bytes e → CoreCause r
     dumped : (d : Dumped) → r ≡ Ok d → IsCore bytes → IsDumped bytes images d → CoreCause r
 
   core_cause : (r : Result Dumped CoreError) → CoreSays bytes images r → IsKept r → CoreCause r
@@ -57,7 +57,7 @@ module _ (bytes : List ℕ) (images : Pushed) where
   core_agree a b one two na nb = core_one a b na nb (core_cause a one na) (core_cause b two nb)
 
 -- a refusal of the core
-pub core_says : (bytes : List ℕ) (images : Pushed) (e : DumpError) → Refuses bytes e → CoreSays bytes images (Err (cause_of_dump e))
+pub core_says : (bytes : List ℕ) (images : Pushed) (e : DumpError) → RefusesCore bytes e → CoreSays bytes images (Err (cause_of_dump e))
 core_says bytes images dump.NotElf64 h = h
 core_says bytes images dump.BadHeader h = h
 core_says bytes images dump.NoNotes h = h
@@ -72,7 +72,7 @@ notes_same bytes s t p q one two = (
   one.process_is ∙ ap (option_map process_told) (IsProcess-once bytes one.last two.last one.is_last two.is_last) ∙ sym two.process_is,
 )
 
-told_same : (bytes : List ℕ) (f : Finding) (traces : List Trace) (r q : Reported) → Tells bytes f traces r → Tells bytes f traces q → r ≡ q
+told_same : (bytes : List ℕ) (f : Finding) (traces : List Trace) (r q : Reported) → TellsReport bytes f traces r → TellsReport bytes f traces q → r ≡ q
 told_same bytes f traces r q one two = λ i. record {
   signal = (notes_same bytes r.signal q.signal r.process q.process one.notes two.notes).0 i;
   process = (notes_same bytes r.signal q.signal r.process q.process one.notes two.notes).1 i;

@@ -7,7 +7,7 @@ use Rattle.std.proofs.lemmas.List.Folds.{find-append}
 use Rattle.elf64_core.specs.Fields.{u64_in}
 use Rattle.process_memory.specs.Memory.{Memory, byte_at, record_at}
 use Rattle.process_memory.specs.Memory.Fault.{Missing}
-use Rattle.process_memory.specs.Seen.{Answers, FaultIs, ReadingBelow, Seen, fault_of}
+use Rattle.process_memory.specs.Seen.{Answers, FaultIs, ReadingBelow, Seen, read_fault}
 use Rattle.process_memory.specs.declared.memory.ReadFault.{ReadFault}
 use Rattle.process_memory.specs.declared.memory.ReadFault.TheVariants as read
 use Rattle.process_memory.proofs.Reading.{reading_gives, reading_here, reading_none, reading_then, reads_within}
@@ -206,13 +206,13 @@ one_lost c l n xs o a e d same is p q =
 
 -- ---- the words of a section
 
-pub section_missing : (m : Memory) (addr size : ℕ) (e : ReadFault) (a n : ℕ) → e ≡ read.Unreadable a n → Answers {T = List ℕ} fault_of (record_at m addr size) (Err e) → section_words m addr size ≡ []
+pub section_missing : (m : Memory) (addr size : ℕ) (e : ReadFault) (a n : ℕ) → e ≡ read.Unreadable a n → Answers {T = List ℕ} read_fault (record_at m addr size) (Err e) → section_words m addr size ≡ []
 section_missing m addr size e a n is h =
-    let lost : record_at m addr size ≡ Err (Missing a n) = subst (λ x. FaultIs (record_at m addr size) (fault_of x)) is h.is in
+    let lost : record_at m addr size ≡ Err (Missing a n) = subst (λ x. FaultIs (record_at m addr size) (read_fault x)) is h.is in
     ap words_in lost
 
 pub section_then : {s0 s1 s2 : Seen} (c : ℕ → Bool) (l : Layout) (addr size : ℕ) (bytes read : List ℕ) (r : Result (Option ℕ) SearchError) → read ≡ bytes
-    → ReadingBelow (2 ^ 64) 1 s0 s1 (λ m. Answers {E = ReadFault} fault_of (record_at m addr size) (Ok bytes)) → Seeking c l 0 (λ m. words_of read) s1 s2 r
+    → ReadingBelow (2 ^ 64) 1 s0 s1 (λ m. Answers {E = ReadFault} read_fault (record_at m addr size) (Ok bytes)) → Seeking c l 0 (λ m. words_of read) s1 s2 r
     → Seeking c l 1 (λ m. section_words m addr size) s0 s2 r
 section_then {s0 = s0} {s1 = s1} c l addr size bytes read r whole p q =
     let words : section_words (byte_at s0.pieces) addr size ≡ words_of read = ap words_in (reading_here p).is ∙ ap words_of (sym whole) in

@@ -5,7 +5,7 @@ use Rattle.process_memory.specs.Memory.{Memory, Fault}
 use Rattle.process_memory.specs.Memory.Fault.{Missing, BadValue, LocalsLimit, ThreadLimit, FrameLimit, ChainLimit}
 use Rattle.process_memory.specs.Faults.{IsFirst}
 use Rattle.process_memory.proofs.Founds.{ok_same}
-use Rattle.py_stacks.specs.StackError.{fault_of}
+use Rattle.py_stacks.specs.StackError.{stack_fault}
 use Rattle.py_stacks.specs.Threads.{Trace}
 use Rattle.py_stacks.specs.declared.config.Config.{Config}
 use Rattle.py_stacks.specs.declared.error.StackError.{StackError}
@@ -20,7 +20,7 @@ use Rattle.py_process.proofs.Agreement.{Agree, IsKept}
 
 -- an error of the readers is the first fault
 stack_says : (m : Memory) (f : Finding) (config : Config) (e : StackError) → AsksNoOther config
-    → IsFirst (fault_on m f config) (fault_of e) → StacksSay m f config (Err (cause_of_stacks e))
+    → IsFirst (fault_on m f config) (stack_fault e) → StacksSay m f config (Err (cause_of_stacks e))
 stack_says m f config (stack.Unreadable addr len) asks h = record { asks = asks; first = h }
 stack_says m f config (stack.BadValue frame) asks h = record { asks = asks; first = h }
 stack_says m f config (stack.LocalsLimit count) asks h = record { asks = asks; first = h }
@@ -32,10 +32,10 @@ stack_says m f config stack.OutOfMemory asks h = tt
 -- the same over an equal memory, with the error that came of it
 pub stack_fails : (m n : Memory) (f : Finding) (config : Config) (e : StackError) (error : CoreError)
     (r : Result (List Trace) CoreError) → AsksNoOther config → n ≡ m → error ≡ cause_of_stacks e
-    → IsFirst (fault_on n f config) (fault_of e) → r ≡ Err error → StacksSay m f config r
+    → IsFirst (fault_on n f config) (stack_fault e) → r ≡ Err error → StacksSay m f config r
 stack_fails m n f config e error r asks same cause first is =
     subst (λ x. StacksSay m f config x) (sym is) (subst (λ x. StacksSay m f config (Err x)) (sym cause)
-    (stack_says m f config e asks (subst (λ x. IsFirst (fault_on x f config) (fault_of e)) same first)))
+    (stack_says m f config e asks (subst (λ x. IsFirst (fault_on x f config) (stack_fault e)) same first)))
 
 -- ---- one answer
 

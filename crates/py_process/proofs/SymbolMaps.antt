@@ -15,9 +15,9 @@ use Rattle.std.proofs.lemmas.Bool.{cases_Bool, cond-true, cond-false}
 use Rattle.std.proofs.lemmas.List.{reverse-append, take_more}
 use Rattle.std.proofs.lemmas.List.Folds.{find-append}
 use Rattle.std.proofs.lemmas.Map.Text.{is_eq-slice_cmp}
-use Rattle.elf64_core.specs.Symbols.{SymbolEntry, entry_of}
+use Rattle.elf64_core.specs.Symbols.{SymbolEntry, symbol_entry_of}
 use Rattle.elf64_core.specs.declared.symbol.Symbol.{Symbol}
-use Rattle.py_process.specs.Ranges.{is_named}
+use Rattle.py_process.specs.Ranges.{is_section_named}
 use Rattle.py_process.specs.SymbolMap.{address_in, address_of, is_kept}
 use Rattle.py_process.specs.declared.symbols.Place.{Place}
 
@@ -52,12 +52,12 @@ inserted old new key w h =
 -- ---- one symbol more
 
 address_more : (place : Place) (name : List ℕ) (es : List SymbolEntry) (x : SymbolEntry)
-    → address_of place name (es ++ x ∷ []) ≡ cond (is_kept place x && is_named name x.name) (Some (x.value + place.offset)) (address_of place name es)
+    → address_of place name (es ++ x ∷ []) ≡ cond (is_kept place x && is_section_named name x.name) (Some (x.value + place.offset)) (address_of place name es)
 address_more place name es x =
-    ap (λ l. option_map (λ (s : SymbolEntry). s.value + place.offset) (find (λ s. is_kept place s && is_named name s.name) l)) (reverse-append es (x ∷ []))
-    ∙ by (is_kept place x && is_named name x.name)
+    ap (λ l. option_map (λ (s : SymbolEntry). s.value + place.offset) (find (λ s. is_kept place s && is_section_named name s.name) l)) (reverse-append es (x ∷ []))
+    ∙ by (is_kept place x && is_section_named name x.name)
   where
-    by : (t : Bool) → option_map (λ (s : SymbolEntry). s.value + place.offset) (cond t (Some x) (find (λ s. is_kept place s && is_named name s.name) (reverse es)))
+    by : (t : Bool) → option_map (λ (s : SymbolEntry). s.value + place.offset) (cond t (Some x) (find (λ s. is_kept place s && is_section_named name s.name) (reverse es)))
         ≡ cond t (Some (x.value + place.offset)) (address_of place name es)
     by true = refl
     by false = refl
@@ -66,7 +66,7 @@ abbrev pub Says : Place → List SymbolEntry → Kept → Kept → Type 0
 Says place es base kept = (name : List ℕ) → address_in kept name ≡ option_or (address_of place name es) (address_in base name)
 
 pub skipped : (place : Place) (es : List SymbolEntry) (x : SymbolEntry) (base kept : Kept)
-    → ((name : List ℕ) → (is_kept place x && is_named name x.name) ≡ false) → Says place es base kept → Says place (es ++ x ∷ []) base kept
+    → ((name : List ℕ) → (is_kept place x && is_section_named name x.name) ≡ false) → Says place es base kept → Says place (es ++ x ∷ []) base kept
 skipped place es x base kept not says name =
     says name ∙ ap (λ a. option_or a (address_in base name)) (sym (address_more place name es x ∙ cond-false _ _ _ (not name)))
 
@@ -81,22 +81,22 @@ stored place es x base old new key text named is kept updates says name =
     ∙ by (bytes_eq text name)
     ∙ ap (λ a. option_or a (address_in base name)) (sym (address_more place name es x ∙ test))
   where
-    test : cond (is_kept place x && is_named name x.name) (Some (x.value + place.offset)) (address_of place name es)
+    test : cond (is_kept place x && is_section_named name x.name) (Some (x.value + place.offset)) (address_of place name es)
         ≡ cond (bytes_eq text name) (Some (x.value + place.offset)) (address_of place name es)
-    test = ap (λ k. cond (k && is_named name x.name) (Some (x.value + place.offset)) (address_of place name es)) kept
-        ∙ ap (λ n. cond (is_named name n) (Some (x.value + place.offset)) (address_of place name es)) named
+    test = ap (λ k. cond (k && is_section_named name x.name) (Some (x.value + place.offset)) (address_of place name es)) kept
+        ∙ ap (λ n. cond (is_section_named name n) (Some (x.value + place.offset)) (address_of place name es)) named
 
     by : (t : Bool) → cond t (Some (x.value + place.offset)) (option_or (address_of place name es) (address_in base name))
         ≡ option_or (cond t (Some (x.value + place.offset)) (address_of place name es)) (address_in base name)
     by true = refl
     by false = refl
 
-map_append : (xs ys : List Symbol) → map entry_of (xs ++ ys) ≡ map entry_of xs ++ map entry_of ys
+map_append : (xs ys : List Symbol) → map symbol_entry_of (xs ++ ys) ≡ map symbol_entry_of xs ++ map symbol_entry_of ys
 map_append [] ys = refl
-map_append (x ∷ xs) ys = ap (λ l. entry_of x ∷ l) (map_append xs ys)
+map_append (x ∷ xs) ys = ap (λ l. symbol_entry_of x ∷ l) (map_append xs ys)
 
-pub taken : (xs : List Symbol) (i : ℕ) (d : Symbol) → i < length xs → map entry_of (take (i + 1) xs) ≡ map entry_of (take i xs) ++ entry_of (get_or xs i d) ∷ []
-taken xs i d lt = ap (map entry_of) (take_more xs i d lt) ∙ map_append (take i xs) (get_or xs i d ∷ [])
+pub taken : (xs : List Symbol) (i : ℕ) (d : Symbol) → i < length xs → map symbol_entry_of (take (i + 1) xs) ≡ map symbol_entry_of (take i xs) ++ symbol_entry_of (get_or xs i d) ∷ []
+taken xs i d lt = ap (map symbol_entry_of) (take_more xs i d lt) ∙ map_append (take i xs) (get_or xs i d ∷ [])
 
 -- ---- one list behind another
 
@@ -109,7 +109,7 @@ joined place name xs ys = sym (ap (λ l. option_map address (find test l)) (reve
     address s = s.value + place.offset
 
     test : SymbolEntry → Bool
-    test s = is_kept place s && is_named name s.name
+    test s = is_kept place s && is_section_named name s.name
 
     by : (r : Option SymbolEntry) → option_map address (option_or r (find test (reverse xs))) ≡ option_or (option_map address r) (option_map address (find test (reverse xs)))
     by None = refl
@@ -120,14 +120,14 @@ or_none None = refl
 or_none (Some x) = refl
 
 pub both_lists : (place : Place) (name : List ℕ) (xs ys : List SymbolEntry) (plain dynamic : List Symbol) (base first second : Kept)
-    → map entry_of plain ≡ xs → map entry_of dynamic ≡ ys → base.entries ≡ []
-    → Says place (map entry_of plain) base first → Says place (map entry_of dynamic) first second
+    → map symbol_entry_of plain ≡ xs → map symbol_entry_of dynamic ≡ ys → base.entries ≡ []
+    → Says place (map symbol_entry_of plain) base first → Says place (map symbol_entry_of dynamic) first second
     → address_in second name ≡ address_of place name (xs ++ ys)
 both_lists place name xs ys plain dynamic base first second is_plain is_dynamic empty one two =
     two name
-    ∙ ap (λ a. option_or (address_of place name (map entry_of dynamic)) a) (one name
-    ∙ ap (λ es. option_or (address_of place name (map entry_of plain)) (lookup (λ (k : Vec ℕ Global). is_eq (slice_cmp nat_cmp name k.items)) es)) empty
-    ∙ or_none (address_of place name (map entry_of plain)))
-    ∙ joined place name (map entry_of plain) (map entry_of dynamic)
-    ∙ ap (λ l. address_of place name (l ++ map entry_of dynamic)) is_plain
+    ∙ ap (λ a. option_or (address_of place name (map symbol_entry_of dynamic)) a) (one name
+    ∙ ap (λ es. option_or (address_of place name (map symbol_entry_of plain)) (lookup (λ (k : Vec ℕ Global). is_eq (slice_cmp nat_cmp name k.items)) es)) empty
+    ∙ or_none (address_of place name (map symbol_entry_of plain)))
+    ∙ joined place name (map symbol_entry_of plain) (map symbol_entry_of dynamic)
+    ∙ ap (λ l. address_of place name (l ++ map symbol_entry_of dynamic)) is_plain
     ∙ ap (λ l. address_of place name (xs ++ l)) is_dynamic

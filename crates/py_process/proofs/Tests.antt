@@ -8,7 +8,7 @@ use Rattle.process_memory.proofs.Founds.{ok_same}
 use Rattle.process_memory.proofs.Reading.{reading_here, reading_then, reads_within}
 use Rattle.py_fields.specs.declared.layout.Layout.{Layout}
 use Rattle.py_stacks.specs.declared.error.StackError.{StackError}
-use Rattle.py_stacks.specs.StackError.{fault_of}
+use Rattle.py_stacks.specs.StackError.{stack_fault}
 use Rattle.py_stacks.specs.Interpreter.{IsInterpreter, bound_from, passes, passes_from, threads_head}
 use Rattle.py_stacks.proofs.Candidates.{members_split, passes_law, passes_split, threads_split}
 use Rattle.py_process.specs.Candidates.{IsInterpreterIn, ListIs, SearchIs, candidate_cost, candidate_of, head_lies, passes_in}
@@ -41,9 +41,9 @@ no_head contains (Ok h) e = absurd (cc)
 no_head contains (Err f) e = refl
 
 -- the reader of the first thread
-pub thread_refused : (d : Found ℕ) (e : StackError) (r : Result (Option ℕ) SearchError) → Answers {T = ℕ} fault_of d (Err e)
-    → MatchOption (fault_of e) (r ≡ Err OutOfMemory) (λ f. r ≡ Ok None) → ListIs (candidate_of d) r
-thread_refused d e r h is = by (fault_of e) h.is is
+pub thread_refused : (d : Found ℕ) (e : StackError) (r : Result (Option ℕ) SearchError) → Answers {T = ℕ} stack_fault d (Err e)
+    → MatchOption (stack_fault e) (r ≡ Err OutOfMemory) (λ f. r ≡ Ok None) → ListIs (candidate_of d) r
+thread_refused d e r h is = by (stack_fault e) h.is is
   where
     by : (o : Option Fault) → FaultIs d o → MatchOption o (r ≡ Err OutOfMemory) (λ f. r ≡ Ok None) → ListIs (candidate_of d) r
     by None f same = rw same tt
@@ -92,7 +92,7 @@ tested {s0 = s0} contains l a head o R one two some h r f =
     let same = ap (λ ps. bound_from l (byte_at ps) a head) h.pieces in
     reads_within _ (reading_then R h (reading_wider (2 ^ 64) r (omega arith)) (λ m x y. f m (passes_whole contains l m a head one two (known m x)) y)) (omega (arith, budget, same))
 
-pub answer_is : (l : Layout) (m : Memory) (a head : ℕ) (b : Bool) (t : Bool) → Answers {E = StackError} fault_of (Ok (passes_from l m a head)) (Ok b) → t ≡ passes_from l m a head → t ≡ b
+pub answer_is : (l : Layout) (m : Memory) (a head : ℕ) (b : Bool) (t : Bool) → Answers {E = StackError} stack_fault (Ok (passes_from l m a head)) (Ok b) → t ≡ passes_from l m a head → t ≡ b
 answer_is l m a head b t r e = e ∙ ok_same (passes_from l m a head) b r.is
 
 -- ---- the law of the test

@@ -47,8 +47,8 @@ version_unread (read.Unreadable addr len) = version.Unreadable addr len
 version_unread read.OutOfMemory = version.OutOfMemory
 
 -- notes of images aren't read
-abbrev pub refusal_of : ElfError → BinaryError
-refusal_of elf.NotElf64 = binary.NotElf64
-refusal_of elf.BadHeader = binary.BadHeader
-refusal_of elf.BadNote = binary.BadHeader
-refusal_of elf.OutOfMemory = binary.OutOfMemory
+abbrev pub image_refusal_of : ElfError → BinaryError
+image_refusal_of elf.NotElf64 = binary.NotElf64
+image_refusal_of elf.BadHeader = binary.BadHeader
+image_refusal_of elf.BadNote = binary.BadHeader
+image_refusal_of elf.OutOfMemory = binary.OutOfMemory

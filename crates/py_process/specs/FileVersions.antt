@@ -20,21 +20,21 @@ decimal_of digits =
     then Some (digits_value 10 digits) else None
 
 -- a version of two numbers, where both are there
-abbrev pub release_by : Option ℕ → Option ℕ → Option Version
-release_by (Some major) (Some minor) = Some (release major minor 0)
-release_by _ _ = None
+abbrev pub minor_release_by : Option ℕ → Option ℕ → Option Version
+minor_release_by (Some major) (Some minor) = Some (release major minor 0)
+minor_release_by _ _ = None
 
 -- the version that the first two parts of a name tell
 abbrev pub parts_version : List (List ℕ) → Option Version
-parts_version (major ∷ minor ∷ rest) = release_by (decimal_of major) (decimal_of minor)
+parts_version (major ∷ minor ∷ rest) = minor_release_by (decimal_of major) (decimal_of minor)
 parts_version _ = None
 
 -- what stands behind a word, where a text begins with it
-abbrev pub behind : List ℕ → List ℕ → Option (List ℕ)
-behind word text = if starts_with nat_eq text word then Some (drop (length word) text) else None
+abbrev pub behind_front : List ℕ → List ℕ → Option (List ℕ)
+behind_front word text = if starts_with nat_eq text word then Some (drop (length word) text) else None
 
 -- the version that a path tells: its last part is `python` and then parts between dots, of which the first two are
 -- numbers
 unfoldable pub file_version : List ℕ → Option Version
 file_version path = option_and_then (λ numbers. parts_version (slice_split is_dot numbers))
-    (behind (codes "python") (after_last is_slash path))
+    (behind_front (codes "python") (after_last is_slash path))

@@ -22,19 +22,19 @@ end_behind None = false
 end_behind (Some rest) = begins_so rest
 
 -- such a character, and `so`
-abbrev pub has_end : List ℕ → Bool
-has_end bytes = end_behind (past_mark bytes)
+abbrev pub has_version_end : List ℕ → Bool
+has_version_end bytes = end_behind (past_mark bytes)
 
 abbrev pub is_flag : ℕ → Bool
 is_flag c = c == 109 || c == 100 || c == 117
 
 abbrev pub flag_end : List ℕ → Bool
 flag_end [] = false
-flag_end (c ∷ rest) = is_flag c && has_end rest
+flag_end (c ∷ rest) = is_flag c && has_version_end rest
 
 -- the same, maybe behind a flag
 abbrev pub has_flag_end : List ℕ → Bool
-has_flag_end bytes = has_end bytes || flag_end bytes
+has_flag_end bytes = has_version_end bytes || flag_end bytes
 
 abbrev pub digit_end : List ℕ → Bool
 digit_end [] = false

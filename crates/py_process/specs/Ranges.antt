@@ -15,9 +15,9 @@ abbrev pub last_address : ℕ
 last_address = 2 ^ 64 - 1
 
 -- whether a section's name is this one; none is readable where it has no end
-abbrev pub is_named : List ℕ → Option (List ℕ) → Bool
-is_named wanted None = false
-is_named wanted (Some name) = pointwise nat_eq name wanted
+abbrev pub is_section_named : List ℕ → Option (List ℕ) → Bool
+is_section_named wanted None = false
+is_section_named wanted (Some name) = pointwise nat_eq name wanted
 
 abbrev pub is_bss_name : Option (List ℕ) → Bool
 is_bss_name None = true
@@ -67,7 +67,7 @@ bss_range bss offset =
 
 -- the first section of the runtime's name
 abbrev pub is_runtime : List ℕ → Section → Bool
-is_runtime bytes section = is_named (codes ".PyRuntime") (section_name_of bytes section)
+is_runtime bytes section = is_section_named (codes ".PyRuntime") (section_name_of bytes section)
 
 abbrev pub runtime_section : List ℕ → Option Section
 runtime_section bytes = find (is_runtime bytes) (sections_of bytes)

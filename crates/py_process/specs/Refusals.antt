@@ -57,10 +57,10 @@ HasBadHeader bytes addr =
     ⊎ ((IsAccepted bytes × ¬ HasSections bytes) ⊎ (IsAccepted bytes × HasRanges bytes addr × ¬ HasBoth bytes))
 
 -- why an image that is mapped at an address says nothing; want of memory may always be answered
-abbrev pub Refuses : List ℕ → ℕ → BinaryError → Type 0
-Refuses bytes addr NotElf64 = ¬ IsElf64 bytes
-Refuses bytes addr BadHeader = HasBadHeader bytes addr
-Refuses bytes addr NoBss = IsAccepted bytes × HasNoBss bytes
-Refuses bytes addr NoExecutable = IsAccepted bytes × HasNoExecutable bytes
-Refuses bytes addr BadBss = IsAccepted bytes × HasBadBss bytes addr
-Refuses bytes addr OutOfMemory = ⊤
+abbrev pub RefusesImage : List ℕ → ℕ → BinaryError → Type 0
+RefusesImage bytes addr NotElf64 = ¬ IsElf64 bytes
+RefusesImage bytes addr BadHeader = HasBadHeader bytes addr
+RefusesImage bytes addr NoBss = IsAccepted bytes × HasNoBss bytes
+RefusesImage bytes addr NoExecutable = IsAccepted bytes × HasNoExecutable bytes
+RefusesImage bytes addr BadBss = IsAccepted bytes × HasBadBss bytes addr
+RefusesImage bytes addr OutOfMemory = ⊤

@@ -5,7 +5,7 @@ use Rattle.std.specs.Global.{Global}
 use Rattle.bstr.specs.Utf8.{lossy_chars}
 use Rattle.elf64_core.specs.Header.{machine_of}
 use Rattle.image_memory.specs.Backed.{IsBackedMemory}
-use Rattle.image_memory.specs.Cores.{IsCore, Refuses}
+use Rattle.image_memory.specs.Cores.{IsCore, RefusesCore}
 use Rattle.image_memory.specs.Images.{Pushed}
 use Rattle.image_memory.specs.Maps.{AreMaps, in_maps}
 use Rattle.image_memory.specs.Notes.{AreStatuses, IsProcess}
@@ -144,21 +144,21 @@ reported (Err e) = Err e
 -- what is dumped by a core and images, or why the bytes are no core's
 abbrev pub CoreSays : List ℕ → Pushed → Result Dumped CoreError → Type 0
 CoreSays bytes images (Ok d) = IsCore bytes × IsDumped bytes images d
-CoreSays bytes images (Err NotElf64) = Refuses bytes dump.NotElf64
-CoreSays bytes images (Err BadHeader) = Refuses bytes dump.BadHeader
-CoreSays bytes images (Err NoNotes) = Refuses bytes dump.NoNotes
-CoreSays bytes images (Err BadNote) = Refuses bytes dump.BadNote
+CoreSays bytes images (Err NotElf64) = RefusesCore bytes dump.NotElf64
+CoreSays bytes images (Err BadHeader) = RefusesCore bytes dump.BadHeader
+CoreSays bytes images (Err NoNotes) = RefusesCore bytes dump.NoNotes
+CoreSays bytes images (Err BadNote) = RefusesCore bytes dump.BadNote
 CoreSays bytes images (Err OutOfMemory) = ⊤
 CoreSays bytes images (Err _) = ⊥
 
 -- a report of these traces
-pub record Tells (bytes : List ℕ) (f : Finding) (traces : List Trace) (r : Reported) : Type 0 where
+pub record TellsReport (bytes : List ℕ) (f : Finding) (traces : List Trace) (r : Reported) : Type 0 where
   pub version_is : r.version ≡ f.version
   pub traces_are : r.traces ≡ traces
   pub notes : NotesTell bytes r.signal r.process
 
 abbrev pub IsTold : List ℕ → Finding → List Trace → Result Reported CoreError → Type 0
-IsTold bytes f traces result = (r : Reported) × Tells bytes f traces r × (result ≡ Ok r)
+IsTold bytes f traces result = (r : Reported) × TellsReport bytes f traces r × (result ≡ Ok r)
 
 abbrev pub AfterFinding : List ℕ → Dumped → Config → Finding → Result Reported CoreError → Type 0
 AfterFinding bytes d config f = Then (StacksSay (memory_in d) f config) (IsTold bytes f)

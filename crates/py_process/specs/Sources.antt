@@ -14,15 +14,15 @@ use Rattle.py_process.specs.declared.version_error.VersionError.{VersionError}
 use Rattle.py_process.specs.declared.version_error.VersionError.TheVariants.{Unreadable, NotFound, OutOfMemory}
 
 -- what may tell a version
-pub data Source : Type 0 where
+pub data VersionSource : Type 0 where
   -- the number at an address
-  Number : (addr : ℕ) → Source
+  Number : (addr : ℕ) → VersionSource
   -- the text among the 128 bytes at an address
-  Text : (addr : ℕ) → Source
+  Text : (addr : ℕ) → VersionSource
   -- a text somewhere in a section
-  Section : (addr size : ℕ) → Source
+  Section : (addr size : ℕ) → VersionSource
   -- the path of the program
-  Path : (path : List ℕ) → Source
+  Path : (path : List ℕ) → VersionSource
 
 -- ---- what is told there
 
@@ -45,8 +45,8 @@ version_of_number n = record {
 }
 
 -- the number of the 4 bytes at an address tells its version
-abbrev pub number_at : Memory → ℕ → Found (Option Version)
-number_at m addr = record_at m addr 4 >>= (λ bytes. Ok (Some (version_of_number (from_le_bytes w32 bytes))))
+abbrev pub version_number_at : Memory → ℕ → Found (Option Version)
+version_number_at m addr = record_at m addr 4 >>= (λ bytes. Ok (Some (version_of_number (from_le_bytes w32 bytes))))
 
 -- some bytes tell the version that is spelled leftmost in them, or none where none is spelled
 abbrev pub BytesTell : List ℕ → Option Version → Type 0
@@ -66,11 +66,11 @@ SectionTells (Ok bytes) (Err fault) = ⊥
 SectionTells (Err missing) told = told ≡ Err missing
 
 -- a source tells a version, or none, or it can't be read
-abbrev pub Tells : Memory → Source → Found (Option Version) → Type 0
-Tells m (Number addr) told = told ≡ number_at m addr
-Tells m (Text addr) told = TextTells (record_at m addr 128) told
-Tells m (Section addr size) told = SectionTells (record_at m addr size) told
-Tells m (Path path) told = told ≡ Ok (file_version path)
+abbrev pub TellsVersion : Memory → VersionSource → Found (Option Version) → Type 0
+TellsVersion m (Number addr) told = told ≡ version_number_at m addr
+TellsVersion m (Text addr) told = TextTells (record_at m addr 128) told
+TellsVersion m (Section addr size) told = SectionTells (record_at m addr size) told
+TellsVersion m (Path path) told = told ≡ Ok (file_version path)
 
 -- ---- which of them counts
 
@@ -81,22 +81,22 @@ TellsBefore (Ok (Some version)) Others told = told ≡ Ok (Some version)
 TellsBefore (Err fault) Others told = told ≡ Err fault
 
 -- what the first of some sources tells that tells a version or can't be read; none where there is no such one
-unfoldable pub FirstTells : Memory → List Source → Found (Option Version) → Type 0
+unfoldable pub FirstTells : Memory → List VersionSource → Found (Option Version) → Type 0
 FirstTells m [] told = told ≡ Ok None
 FirstTells m (source ∷ sources) told =
-    (own : Found (Option Version)) × Tells m source own × TellsBefore own (FirstTells m sources) told
+    (own : Found (Option Version)) × TellsVersion m source own × TellsBefore own (FirstTells m sources) told
 
 -- ---- the sources of a process
 
-abbrev pub text_at : Option ℕ → List Source
-text_at None = []
-text_at (Some addr) = Text addr ∷ []
+abbrev pub text_source_at : Option ℕ → List VersionSource
+text_source_at None = []
+text_source_at (Some addr) = Text addr ∷ []
 
-abbrev pub bss_of : Option Facts → List Source
+abbrev pub bss_of : Option Facts → List VersionSource
 bss_of None = []
 bss_of (Some facts) = Section facts.bss_addr facts.bss_size ∷ []
 
-abbrev pub number_or : Option ℕ → List Source → List Source
+abbrev pub number_or : Option ℕ → List VersionSource → List VersionSource
 number_or None others = others
 number_or (Some addr) others = Number addr ∷ []
 
@@ -105,32 +105,32 @@ abbrev pub text_symbol : Known → Option ℕ
 text_symbol k = option_or (symbol_known k (codes "Py_GetVersion.version")) (symbol_known k (codes "version"))
 
 -- that text; then the bss of the program; then that of the library, and the program's path
-abbrev pub library_sources : Known → List Source
+abbrev pub library_sources : Known → List VersionSource
 library_sources k = bss_of k.library ++ Path k.path ∷ []
 
-abbrev pub section_sources : Known → List Source
+abbrev pub section_sources : Known → List VersionSource
 section_sources k = bss_of k.program ++ library_sources k
 
-abbrev pub other_sources : Known → List Source
-other_sources k = text_at (text_symbol k) ++ section_sources k
+abbrev pub other_sources : Known → List VersionSource
+other_sources k = text_source_at (text_symbol k) ++ section_sources k
 
 -- `Py_Version` alone, where it is a symbol, and else those
-unfoldable pub sources_of : Known → List Source
+unfoldable pub sources_of : Known → List VersionSource
 sources_of k = number_or (symbol_known k (codes "Py_Version")) (other_sources k)
 
 -- a result of the search is what the sources tell; want of memory may always be answered
-abbrev pub VersionIs : Memory → List Source → Result Version VersionError → Type 0
+abbrev pub VersionIs : Memory → List VersionSource → Result Version VersionError → Type 0
 VersionIs m sources (Ok version) = FirstTells m sources (Ok (Some version))
 VersionIs m sources (Err (Unreadable addr len)) = FirstTells m sources (Err (Missing addr len))
 VersionIs m sources (Err NotFound) = FirstTells m sources (Ok None)
 VersionIs m sources (Err OutOfMemory) = ⊤
 
 -- a result is what was told, want of memory aside
-abbrev pub IsTold : Found (Option Version) → Result Version VersionError → Type 0
-IsTold told (Ok version) = told ≡ Ok (Some version)
-IsTold told (Err (Unreadable addr len)) = told ≡ Err (Missing addr len)
-IsTold told (Err NotFound) = told ≡ Ok None
-IsTold told (Err OutOfMemory) = ⊤
+abbrev pub IsVersionTold : Found (Option Version) → Result Version VersionError → Type 0
+IsVersionTold told (Ok version) = told ≡ Ok (Some version)
+IsVersionTold told (Err (Unreadable addr len)) = told ≡ Err (Missing addr len)
+IsVersionTold told (Err NotFound) = told ≡ Ok None
+IsVersionTold told (Err OutOfMemory) = ⊤
 
 -- a reader answers what its definition allows; it has nothing that is not found, and want of memory may always be
 -- answered

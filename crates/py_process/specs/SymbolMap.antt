@@ -10,7 +10,7 @@ use Rattle.std.specs.declared.alloc.Global.{Global}
 use Rattle.elf64_core.specs.Symbols.{SymbolEntry, symbols_of}
 use Rattle.elf64_core.specs.declared.symbol.SymbolKind.TheVariants.{Plain, Dynamic}
 use Rattle.py_process.specs.declared.symbols.Place.{Place}
-use Rattle.py_process.specs.Ranges.{is_named, last_address}
+use Rattle.py_process.specs.Ranges.{is_section_named, last_address}
 
 -- whether a range lies in another, by the test that `IsSubrange` states
 abbrev pub is_within : (start size sub_start sub_size : ℕ) → Bool
@@ -20,8 +20,8 @@ is_within start size sub_start sub_size =
     && nat_le (sub_start + sub_size) (start + size)
 
 -- the type and the binding of a symbol: 2 is a function; 1 is global, 2 weak
-abbrev pub type_of : SymbolEntry → ℕ
-type_of symbol = symbol.info % 16
+abbrev pub symbol_type_of : SymbolEntry → ℕ
+symbol_type_of symbol = symbol.info % 16
 
 abbrev pub binding_of : SymbolEntry → ℕ
 binding_of symbol = symbol.info / 16
@@ -38,7 +38,7 @@ is_past_bss place symbol = not (nat_eq place.bss_end 0) && not (nat_eq symbol.si
 
 -- it is a function, and doesn't lie in the map
 abbrev pub is_stray : Place → SymbolEntry → Bool
-is_stray place symbol = nat_eq (type_of symbol) 2
+is_stray place symbol = nat_eq (symbol_type_of symbol) 2
     && not (is_within place.addr place.size (symbol.value + place.offset) symbol.size)
 
 -- it has an address in the process
@@ -49,7 +49,7 @@ is_kept place symbol = not (is_undefined symbol) && not (is_past_bss place symbo
 -- the address of the last symbol of a name that is kept
 abbrev pub address_of : Place → List ℕ → List SymbolEntry → Option ℕ
 address_of place name symbols = option_map (λ symbol. symbol.value + place.offset)
-    (find (λ symbol. is_kept place symbol && is_named name symbol.name) (reverse symbols))
+    (find (λ symbol. is_kept place symbol && is_section_named name symbol.name) (reverse symbols))
 
 -- the address that a map has for a name
 abbrev pub address_in : BTreeMap (Vec ℕ Global) ℕ → List ℕ → Option ℕ

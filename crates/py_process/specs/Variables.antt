@@ -6,7 +6,7 @@ use Rattle.process_memory.specs.Walk.{first_fault}
 use Rattle.py_fields.specs.declared.layout.Layout.{Layout}
 use Rattle.py_stacks.specs.Asking.{asked_of}
 use Rattle.py_stacks.specs.Frames.{Call, back_of, plain_by, records_at}
-use Rattle.py_stacks.specs.Locals.{local_at, locals_faults, names_at}
+use Rattle.py_stacks.specs.Locals.{local_at, locals_faults, names_tuple_of}
 use Rattle.py_stacks.specs.Member.{MemberAt}
 use Rattle.py_stacks.specs.Owner.{owner_at}
 use Rattle.py_stacks.specs.Threads.{first_frame_at, thread_after}
@@ -41,7 +41,7 @@ pub record IsKept (l : Layout) (m : Memory) (interpreter : ℕ) (r : MemberAt) :
 -- memory, and so are of each variable the word that names it, its name, which is a text, and its slot
 pub record HasLocals (l : Layout) (m : Memory) (r : MemberAt) : Type 0 where
   pub few : u32_in r.code l.code.nlocals ≤ 65535
-  pub tuple : IsOk (record_at m (names_at l r) l.tuple.size)
+  pub tuple : IsOk (record_at m (names_tuple_of l r) l.tuple.size)
   pub each : (index : ℕ) → index < u32_in r.code l.code.nlocals → IsOk (local_at l m r index)
 
 -- all that is needed beside the chains is there: the lock's owner, and, where locals are asked for, those of each

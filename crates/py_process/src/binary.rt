@@ -1,7 +1,7 @@
 //! What the image of a binary says of the process that mapped it.
 ghost use Rattle.std.specs.Prelude.{◌≡◌, ◌≢◌, ◌+◌, ◌<◌, ◌≤◌, ◌↔◌, ◌⊎◌, IsTrue, Err, IfErr, IsErrOf, MatchResult};
 ghost use Rattle.py_process.specs.Binary.{HasInfo, IsInfo, SaySame};
-ghost use Rattle.py_process.specs.Refusals.{Refuses};
+ghost use Rattle.py_process.specs.Refusals.{RefusesImage};
 ghost use Rattle.py_process.specs.declared.binary.BinaryInfo.{BinaryInfo as Info};
 ghost use Rattle.py_process.specs.declared.binary_error.BinaryError.{BinaryError as Refusal};
 
@@ -38,7 +38,7 @@ impl BinaryInfo {
 
 /// See `parse_binary`.
 fn read_binary(alloc: Global, bytes: &[u8], addr: u64, size: u64) -> Result<BinaryInfo, BinaryError>
-    ensures { MatchResult result (IsInfo bytes.now addr size) (Refuses bytes.now addr) }
+    ensures { MatchResult result (IsInfo bytes.now addr size) (RefusesImage bytes.now addr) }
 {
     let elf = Elf64::parse(bytes)?;
     let ranges = image_ranges(alloc, &elf, addr)?;
@@ -84,8 +84,8 @@ pub fn parse_binary(
     addr: u64,
     size: u64,
 ) -> Result<BinaryInfo, BinaryError>
-    ensures right { MatchResult result (IsInfo bytes.now addr size) (Refuses bytes.now addr) }
-    ensures only { (error : Refusal) → error ≢ BinaryError.OutOfMemory → Refuses bytes.now addr error
+    ensures right { MatchResult result (IsInfo bytes.now addr size) (RefusesImage bytes.now addr) }
+    ensures only { (error : Refusal) → error ≢ BinaryError.OutOfMemory → RefusesImage bytes.now addr error
         → IsErrOf result BinaryError.OutOfMemory ⊎ (result ≡ Err error) }
     ensures complete { HasInfo bytes.now addr → IfErr result (λ error. error ≡ BinaryError.OutOfMemory) }
     ensures once { (one other : Info) → IsInfo bytes.now addr size one → IsInfo bytes.now addr size other

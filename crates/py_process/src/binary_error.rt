@@ -1,6 +1,6 @@
 //! Why an image says nothing.
 ghost use Rattle.std.specs.Prelude.{◌≡◌};
-ghost use Rattle.py_process.specs.Causes.{refusal_of};
+ghost use Rattle.py_process.specs.Causes.{image_refusal_of};
 ghost use Rattle.py_process.specs.declared.binary_error.BinaryError.TheVariants.{OutOfMemory};
 
 use elf64_core::ElfError;
@@ -31,7 +31,7 @@ pub enum BinaryError {
 }
 
 impl From<ElfError> for BinaryError {
-    ghost from_gives = { λ error refusal. refusal ≡ refusal_of error };
+    ghost from_gives = { λ error refusal. refusal ≡ image_refusal_of error };
 
     fn from(error: ElfError) -> BinaryError {
         match error {

@@ -4,7 +4,7 @@ ghost use Rattle.process_memory.specs.Memory.{byte_at};
 ghost use Rattle.process_memory.specs.Seen.{ReadingBelow};
 ghost use Rattle.py_fields.specs.Sound.{IsSound};
 ghost use Rattle.py_stacks.specs.Interpreter.{threads_head};
-ghost use Rattle.py_stacks.specs.StackError.{fault_of};
+ghost use Rattle.py_stacks.specs.StackError.{stack_fault};
 ghost use Rattle.py_process.specs.Candidates.{ListIs, Seeking, SearchIs, candidate_cost, candidate_of, passes_in, runtime_words, section_words, words_of, words_of_facts, words_of_image};
 ghost use Rattle.py_process.specs.Facts.{facts_of};
 
@@ -18,7 +18,7 @@ use std::alloc::Global;
 
 /// What is known of a first thread that can't be read; want of memory is handed on.
 fn no_thread(error: StackError) -> Result<Option<u64>, SearchError>
-    ensures { MatchOption (fault_of error) (result ≡ Err SearchError.OutOfMemory) (λ fault. result ≡ Ok None) }
+    ensures { MatchOption (stack_fault error) (result ≡ Err SearchError.OutOfMemory) (λ fault. result ≡ Ok None) }
 {
     match error {
         StackError::OutOfMemory => Err(SearchError::OutOfMemory),

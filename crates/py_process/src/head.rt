@@ -1,6 +1,6 @@
 //! The head that symbols give: the first candidate of the interpreter's address.
 ghost use Rattle.std.specs.Prelude.{◌≡◌, ◌+◌, ◌<◌, ◌≤◌, ◌^◌};
-ghost use Rattle.process_memory.specs.Seen.{Reads, ReadingBelow, fault_of};
+ghost use Rattle.process_memory.specs.Seen.{Reads, ReadingBelow, read_fault};
 ghost use Rattle.py_fields.specs.Sound.{IsSound};
 ghost use Rattle.py_process.specs.Candidates.{ListIs, Seeking, head_by, head_by_offsets, or_nothing};
 ghost use Rattle.py_process.specs.Facts.{known_of};
@@ -34,7 +34,7 @@ fn read_by_offsets<P: ProcessMemory>(
 ) -> Result<u64, ReadFault>
     requires short { offsets.now.size < 2 ^ 16 }
     requires head { offsets.now.head + 8 ≤ offsets.now.size }
-    ensures { Reads fault_of 2 (P.seen process.old) (P.seen process.new)
+    ensures { Reads read_fault 2 (P.seen process.old) (P.seen process.new)
         (λ m. head_by_offsets offsets.now m runtime) result }
 {
     let bytes = record(alloc, process, runtime, offsets.size as u64)?;

@@ -1,7 +1,7 @@
 //! Which files are Python's shared library.
 ghost use Rattle.std.specs.Prelude.{◌≡◌, ◌↔◌, ℕ, true, IsTrue, drop, option_copied};
 ghost use Rattle.py_process.specs.Library.{IsLibrary};
-ghost use Rattle.py_process.specs.LibraryFronts.{past_mark, begins_so, has_end, has_flag_end, has_minor_end, has_minor, has_version, begins_library};
+ghost use Rattle.py_process.specs.LibraryFronts.{past_mark, begins_so, has_version_end, has_flag_end, has_minor_end, has_minor, has_version, begins_library};
 
 use bstr::decode_utf8;
 
@@ -23,8 +23,8 @@ fn begins_so(bytes: &[u8]) -> bool
 }
 
 /// Whether such a character stands here, and `so` behind it.
-fn has_end(bytes: &[u8]) -> bool
-    ensures { result ≡ has_end bytes.now }
+fn has_version_end(bytes: &[u8]) -> bool
+    ensures { result ≡ has_version_end bytes.now }
 {
     match past_mark(bytes) {
         Some(rest) => begins_so(rest),
@@ -36,11 +36,11 @@ fn has_end(bytes: &[u8]) -> bool
 fn has_flag_end(bytes: &[u8]) -> bool
     ensures { result ≡ has_flag_end bytes.now }
 {
-    if has_end(bytes) {
+    if has_version_end(bytes) {
         return true;
     }
     match bytes {
-        [b'm' | b'd' | b'u', rest @ ..] => has_end(rest),
+        [b'm' | b'd' | b'u', rest @ ..] => has_version_end(rest),
         _ => false,
     }
 }

@@ -4,7 +4,7 @@ ghost use Rattle.process_memory.specs.Memory.{Found};
 ghost use Rattle.process_memory.specs.Seen.{ReadingBelow};
 ghost use Rattle.py_version.specs.declared.version.Version.{Version as Told};
 ghost use Rattle.py_process.specs.Facts.{facts_of, known_of};
-ghost use Rattle.py_process.specs.Sources.{FirstTells, IsTold, SectionTells, Tells, ToldBy, VersionIs, bss_of, flags_of, library_sources, other_sources, section_sources, sources_of, text_at, text_symbol, version_of_number};
+ghost use Rattle.py_process.specs.Sources.{FirstTells, IsVersionTold, SectionTells, TellsVersion, ToldBy, VersionIs, bss_of, flags_of, library_sources, other_sources, section_sources, sources_of, text_source_at, text_symbol, version_of_number};
 ghost use Rattle.py_process.specs.Sources.Source.{Number, Section, Text as TextSource};
 
 use crate::file_version::file_version;
@@ -51,7 +51,7 @@ fn read_number<P: ProcessMemory>(
     addr: u64,
 ) -> Result<Option<Version>, VersionError>
     ensures { ReadingBelow (2 ^ 64) 1 (P.seen process.old) (P.seen process.new)
-        (λ m. ToldBy (Tells m (Number addr)) result) }
+        (λ m. ToldBy (TellsVersion m (Number addr)) result) }
 {
     let mut number = [0; 4];
     record_in(process, addr, &mut number)?;
@@ -77,7 +77,7 @@ fn read_text<P: ProcessMemory>(
     addr: u64,
 ) -> Result<Option<Version>, VersionError>
     ensures { ReadingBelow (2 ^ 64) 1 (P.seen process.old) (P.seen process.new)
-        (λ m. ToldBy (Tells m (TextSource addr)) result) }
+        (λ m. ToldBy (TellsVersion m (TextSource addr)) result) }
 {
     let mut text = [0; 128];
     match record_in(process, addr, &mut text) {
@@ -95,7 +95,7 @@ fn read_section<P: ProcessMemory>(
     size: u64,
 ) -> Result<Option<Version>, VersionError>
     ensures { ReadingBelow (2 ^ 64) 1 (P.seen process.old) (P.seen process.new)
-        (λ m. ToldBy (Tells m (Section addr size)) result) }
+        (λ m. ToldBy (TellsVersion m (Section addr size)) result) }
 {
     let bytes = process.copy(alloc, addr, size)?;
     scan(alloc, &bytes)
@@ -108,7 +108,7 @@ fn read_symbol<P: ProcessMemory>(
     addr: Option<u64>,
 ) -> Result<Option<Version>, VersionError>
     ensures { ReadingBelow (2 ^ 64) 1 (P.seen process.old) (P.seen process.new)
-        (λ m. ToldBy (FirstTells m (text_at addr)) result) }
+        (λ m. ToldBy (FirstTells m (text_source_at addr)) result) }
 {
     match addr {
         Some(addr) => read_text(alloc, process, addr),
@@ -225,7 +225,7 @@ pub fn get_python_version<M: ContainsAddr, P: ProcessMemory>(
     ensures right { ReadingBelow (2 ^ 64) 3 (P.seen process.old) (P.seen process.new)
         (λ m. VersionIs m (sources_of (known_of info.now)) result) }
     ensures only { ReadingBelow (2 ^ 64) 3 (P.seen process.old) (P.seen process.new) (λ m.
-        (told : Found (Option Told)) → FirstTells m (sources_of (known_of info.now)) told → IsTold told result) }
+        (told : Found (Option Told)) → FirstTells m (sources_of (known_of info.now)) told → IsVersionTold told result) }
 {
     match read_sources(alloc, info, process) {
         Ok(Some(version)) => Ok(version),

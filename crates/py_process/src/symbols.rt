@@ -1,7 +1,7 @@
 //! The symbols of an image, by their names.
 ghost use Rattle.std.specs.Prelude.{◌≡◌, ◌⊎◌, ℕ, List, map, OnOk, IfOk, IfErr};
 ghost use Rattle.std.specs.Option.{option_or};
-ghost use Rattle.elf64_core.specs.Symbols.{entry_of};
+ghost use Rattle.elf64_core.specs.Symbols.{symbol_entry_of};
 ghost use Rattle.py_process.specs.Refusals.{HasBoth};
 ghost use Rattle.py_process.specs.SymbolMap.{HasAddresses, address_in, address_of, is_kept, is_past_bss, is_undefined, is_within};
 
@@ -29,14 +29,14 @@ fn is_within(start: u64, size: u64, sub_start: u64, sub_size: u64) -> bool
 
 /// Whether a symbol is not defined here, or is global or weak and has no value.
 fn is_undefined(symbol: &Symbol<'_>) -> bool
-    ensures { result ≡ is_undefined (entry_of symbol.now) }
+    ensures { result ≡ is_undefined (symbol_entry_of symbol.now) }
 {
     symbol.section == 0 || (matches!(symbol.info / 16, 1 | 2) && symbol.value == 0)
 }
 
 /// Whether a symbol has a size and does not lie below the end of the bss, where there is one.
 fn is_past_bss(place: &Place, symbol: &Symbol<'_>) -> bool
-    ensures { result ≡ is_past_bss place.now (entry_of symbol.now) }
+    ensures { result ≡ is_past_bss place.now (symbol_entry_of symbol.now) }
 {
     place.bss_end != 0
         && symbol.size != 0
@@ -46,7 +46,7 @@ fn is_past_bss(place: &Place, symbol: &Symbol<'_>) -> bool
 /// Whether a symbol is kept: it is defined, does not lie past the bss, its address does not pass 2^64 - 1, and
 /// where it is a function it lies in the map.
 fn is_kept(place: &Place, symbol: &Symbol<'_>) -> bool
-    ensures { result ≡ is_kept place.now (entry_of symbol.now) }
+    ensures { result ≡ is_kept place.now (symbol_entry_of symbol.now) }
 {
     if is_undefined(symbol) || is_past_bss(place, symbol) {
         return false;
@@ -67,7 +67,7 @@ pub(crate) fn add_symbols(
     kept: &mut BTreeMap<Vec<u8>, u64>,
 ) -> Result<(), AllocError>
     ensures { OnOk result ((name : List ℕ) → address_in kept.new name
-        ≡ option_or (address_of place.now name (map entry_of symbols.now)) (address_in kept.old name)) }
+        ≡ option_or (address_of place.now name (map symbol_entry_of symbols.now)) (address_in kept.old name)) }
 {
     for symbol in symbols {
         if let Some(name) = symbol.name {

@@ -8,11 +8,11 @@ use Rattle.process_memory.proofs.Reading.{reading_gives, reading_here, reading_t
 use Rattle.py_fields.specs.declared.layout.Layout.{Layout}
 use Rattle.py_stacks.specs.declared.error.StackError.{StackError}
 use Rattle.py_stacks.specs.declared.error.StackError.TheVariants.{OutOfMemory}
-use Rattle.py_stacks.specs.StackError.{fault_of}
+use Rattle.py_stacks.specs.StackError.{stack_fault}
 use Rattle.py_stacks.specs.Asking.{nothing}
 use Rattle.py_stacks.specs.Met.{members_met, threads_met}
 use Rattle.py_stacks.specs.Threads.{AreTraces, Trace, traces_at, traces_cost}
-use Rattle.py_stacks.specs.Interpreter.{IsInterpreter, IsInterpreterFrom, Refuses, cost_from, members_from, members_tested, named_at, named_by, passes, passes_from, passes_named, test_cost, threads_from, threads_head, threads_tested, was_found, where_named}
+use Rattle.py_stacks.specs.Interpreter.{IsInterpreter, IsInterpreterFrom, RefusesAddress, cost_from, members_from, members_tested, named_at, interpreter_named_by, passes, passes_from, passes_named, test_cost, threads_from, threads_head, threads_tested, was_found, where_named}
 use Rattle.py_stacks.proofs.Bounds.{members_met_most, threads_met_most}
 use Rattle.py_stacks.proofs.Unasked.{plain_bound}
 use Rattle.py_stacks.proofs.ThreadLaws.{traces_found}
@@ -21,18 +21,18 @@ use Rattle.process_memory.proofs.Founds.{ok_same}
 
 -- a fault of what is tested refuses
 pub reads_refused : {T : Type 0} {n : ℕ} {s0 s1 : Seen} {e : StackError} {result : Result Bool StackError} (d : Memory → Found T) (g : Memory → Found T → Bool)
-    → ((m : Memory) (f : Fault) → g m (Err f) ≡ false) → Reads {T = T} fault_of n s0 s1 d (Err e) → Refuses e result
-    → Reads fault_of n s0 s1 (λ m. Ok (g m (d m))) result
+    → ((m : Memory) (f : Fault) → g m (Err f) ≡ false) → Reads {T = T} stack_fault n s0 s1 d (Err e) → RefusesAddress e result
+    → Reads stack_fault n s0 s1 (λ m. Ok (g m (d m))) result
 reads_refused {T = T} {n = n} {e = e} {result = result} d g refuse r is = reading_gives n _ r (omega arith) (λ m a.
-    elim (fault_of e) as (λ o. FaultIs (d m) o → MatchOption o (result ≡ Err OutOfMemory) (λ f. result ≡ Ok false) → Answers fault_of (Ok (g m (d m))) result)
+    elim (stack_fault e) as (λ o. FaultIs (d m) o → MatchOption o (result ≡ Err OutOfMemory) (λ f. result ≡ Ok false) → Answers stack_fault (Ok (g m (d m))) result)
     [ None ↦ λ h same. rw same (record { is = tt }) | Some f ↦ λ h same. rw (same, h) (record { is = ap Ok (refuse m f) }) ] a.is is)
 
-from_this : (l : Layout) (m : Memory) (a head named : ℕ) → named ≡ a → named_by l m head ≡ Ok named
+from_this : (l : Layout) (m : Memory) (a head named : ℕ) → named ≡ a → interpreter_named_by l m head ≡ Ok named
     → passes_from l m a head ≡ was_found (traces_at nothing l m a)
 unfolding passes_from
 from_this l m a head named same e = let is : eqb named a ≡ true = grind (arith, nat_tests) in rw (e, is) refl
 
-pub from_other : (l : Layout) (m : Memory) (a head named : ℕ) → named ≢ a → named_by l m head ≡ Ok named
+pub from_other : (l : Layout) (m : Memory) (a head named : ℕ) → named ≢ a → interpreter_named_by l m head ≡ Ok named
     → passes_from l m a head ≡ false
 unfolding passes_from
 from_other l m a head named other e = let is : eqb named a ≡ false = grind (arith, nat_tests) in rw (e, is) refl
@@ -41,23 +41,23 @@ pub from_costs : (l : Layout) (m : Memory) (a head : ℕ) → 1 ≤ cost_from l 
 unfolding cost_from
 from_costs l m a head = omega arith
 
-from_budget : (l : Layout) (m : Memory) (a head named : ℕ) → named ≡ a → named_by l m head ≡ Ok named
+from_budget : (l : Layout) (m : Memory) (a head named : ℕ) → named ≡ a → interpreter_named_by l m head ≡ Ok named
     → 1 + traces_cost nothing l m a ≤ cost_from l m a head
 unfolding cost_from
 from_budget l m a head named same e = let is : eqb named a ≡ true = grind (arith, nat_tests) in rw (e, is) (omega arith)
 
 -- the thread names the address, and the walk is made
 pub from_then : {s0 s1 s2 : Seen} {result : Result Bool StackError} (l : Layout) (a head named : ℕ) → named ≡ a
-    → Reads {E = StackError} fault_of 1 s0 s1 (λ m. named_by l m head) (Ok named)
-    → Reads fault_of (traces_cost nothing l (byte_at s1.pieces) a) s1 s2 (λ m. Ok (was_found (traces_at nothing l m a))) result
-    → Reads fault_of (cost_from l (byte_at s0.pieces) a head) s0 s2 (λ m. Ok (passes_from l m a head)) result
+    → Reads {E = StackError} stack_fault 1 s0 s1 (λ m. interpreter_named_by l m head) (Ok named)
+    → Reads stack_fault (traces_cost nothing l (byte_at s1.pieces) a) s1 s2 (λ m. Ok (was_found (traces_at nothing l m a))) result
+    → Reads stack_fault (cost_from l (byte_at s0.pieces) a head) s0 s2 (λ m. Ok (passes_from l m a head)) result
 from_then {s0 = s0} {result = result} l a head named same r w =
     let budget = from_budget l (byte_at s0.pieces) a head named same (reading_here r).is in
-    reads_within _ (reading_then (λ m. Answers fault_of (Ok (passes_from l m a head)) result) r w (λ m x y. rw (from_this l m a head named same x.is) y)) (rw r.pieces budget)
+    reads_within _ (reading_then (λ m. Answers stack_fault (Ok (passes_from l m a head)) result) r w (λ m x y. rw (from_this l m a head named same x.is) y)) (rw r.pieces budget)
 
 -- ---- the head first
 
-named_from : (l : Layout) (m : Memory) (a head : ℕ) → threads_head l m a ≡ Ok head → named_at l m a ≡ named_by l m head
+named_from : (l : Layout) (m : Memory) (a head : ℕ) → threads_head l m a ≡ Ok head → named_at l m a ≡ interpreter_named_by l m head
 unfolding named_at
 named_from l m a head e = rw e refl
 
@@ -78,10 +78,10 @@ unfolding passes named_at
 passes_headless l m a f e = rw e refl
 
 pub reads_headless : {s0 s1 : Seen} {e : StackError} {result : Result Bool StackError} (l : Layout) (a : ℕ)
-    → Reads {T = ℕ} fault_of 1 s0 s1 (λ m. threads_head l m a) (Err e) → Refuses e result
-    → Reads fault_of 1 s0 s1 (λ m. Ok (passes l m a)) result
+    → Reads {T = ℕ} stack_fault 1 s0 s1 (λ m. threads_head l m a) (Err e) → RefusesAddress e result
+    → Reads stack_fault 1 s0 s1 (λ m. Ok (passes l m a)) result
 unfolding passes named_at
-reads_headless l a r is = reads_refused (λ m. threads_head l m a) (λ m d. passes_named l m a (d >>= named_by l m)) (λ m f. refl) r is
+reads_headless l a r is = reads_refused (λ m. threads_head l m a) (λ m d. passes_named l m a (d >>= interpreter_named_by l m)) (λ m f. refl) r is
 
 pub test_costs : (l : Layout) (m : Memory) (a : ℕ) → 1 ≤ test_cost l m a
 unfolding test_cost
@@ -93,12 +93,12 @@ cost_split l m a head e = let same = ap (where_named (traces_cost nothing l m a)
 
 -- the head was read, and then the rest of the test
 pub test_then : {s0 s1 s2 : Seen} {result : Result Bool StackError} (l : Layout) (a head : ℕ)
-    → Reads {E = StackError} fault_of 1 s0 s1 (λ m. threads_head l m a) (Ok head)
-    → Reads fault_of (cost_from l (byte_at s1.pieces) a head) s1 s2 (λ m. Ok (passes_from l m a head)) result
-    → Reads fault_of (test_cost l (byte_at s0.pieces) a) s0 s2 (λ m. Ok (passes l m a)) result
+    → Reads {E = StackError} stack_fault 1 s0 s1 (λ m. threads_head l m a) (Ok head)
+    → Reads stack_fault (cost_from l (byte_at s1.pieces) a head) s1 s2 (λ m. Ok (passes_from l m a head)) result
+    → Reads stack_fault (test_cost l (byte_at s0.pieces) a) s0 s2 (λ m. Ok (passes l m a)) result
 test_then {s0 = s0} {result = result} l a head r w =
     let budget = cost_split l (byte_at s0.pieces) a head (reading_here r).is in
-    reads_within _ (reading_then (λ m. Answers fault_of (Ok (passes l m a)) result) r w (λ m x y. rw (passes_split l m a head x.is) y)) (rw r.pieces budget)
+    reads_within _ (reading_then (λ m. Answers stack_fault (Ok (passes l m a)) result) r w (λ m x y. rw (passes_split l m a head x.is) y)) (rw r.pieces budget)
 
 -- the bound, in the numbers of threads and members that are met
 walk_within : (l : Layout) (m : Memory) (a : ℕ) (d : Found ℕ)
@@ -114,7 +114,7 @@ test_within l m a = omega (arith, walk_within l m a (named_at l m a))
 pub from_within : (l : Layout) (m : Memory) (a head : ℕ)
     → cost_from l m a head ≤ 2 + 2 * threads_from l m a head + 6 * members_from l m a head
 unfolding cost_from threads_from members_from
-from_within l m a head = omega (arith, walk_within l m a (named_by l m head))
+from_within l m a head = omega (arith, walk_within l m a (interpreter_named_by l m head))
 
 where_most : (n most a : ℕ) (d : Found ℕ) → n ≤ most → where_named n a d ≤ most
 where_most n most a (Err f) le = omega arith
@@ -132,7 +132,7 @@ pub from_most : (l : Layout) (m : Memory) (a head : ℕ)
     → 2 + 2 * threads_from l m a head + 6 * members_from l m a head ≤ 2 + 4096 * (2 + 6 * 16384)
 unfolding threads_from members_from
 from_most l m a head =
-    let named = named_by l m head in
+    let named = interpreter_named_by l m head in
     let threads = where_most (threads_met nothing l m a) 4096 a named (threads_met_most nothing l m a) in
     let members = where_most (members_met nothing l m a) (16384 * 4096) a named (members_met_most nothing l m a) in
     omega (arith, threads, members)
@@ -164,7 +164,7 @@ passing l m a d h =
     ∙ ap was_found (traces_whole nothing l m a h.traces h.are)
 
 pub passes_law : (l : Layout) (m : Memory) (a : ℕ) (r : Result Bool StackError)
-    → Answers fault_of (Ok (passes l m a)) r → IfOk r (λ b. IsTrue b ↔ IsInterpreter l m a)
+    → Answers stack_fault (Ok (passes l m a)) r → IfOk r (λ b. IsTrue b ↔ IsInterpreter l m a)
 unfolding passes
 passes_law l m a (Err e) h = tt
 passes_law l m a (Ok b) h =
@@ -174,11 +174,11 @@ passes_law l m a (Ok b) h =
     )
 
 pub from_law : (l : Layout) (m : Memory) (a head : ℕ) (r : Result Bool StackError)
-    → Answers fault_of (Ok (passes_from l m a head)) r → IfOk r (λ b. IsTrue b ↔ IsInterpreterFrom l m a head)
+    → Answers stack_fault (Ok (passes_from l m a head)) r → IfOk r (λ b. IsTrue b ↔ IsInterpreterFrom l m a head)
 unfolding passes_from
 from_law l m a head (Err e) h = tt
 from_law l m a head (Ok b) h =
-    let same : passes_named l m a (named_by l m head) ≡ b = ok_same _ b h.is in (
-      λ is. let w = passed l m a (named_by l m head) (same ∙ is) in record { named = w.named; traces = w.traces; are = w.are },
-      λ is. sym same ∙ passing l m a (named_by l m head) (record { named = is.named; traces = is.traces; are = is.are }),
+    let same : passes_named l m a (interpreter_named_by l m head) ≡ b = ok_same _ b h.is in (
+      λ is. let w = passed l m a (interpreter_named_by l m head) (same ∙ is) in record { named = w.named; traces = w.traces; are = w.are },
+      λ is. sym same ∙ passing l m a (interpreter_named_by l m head) (record { named = is.named; traces = is.traces; are = is.are }),
     )

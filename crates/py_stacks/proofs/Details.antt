@@ -10,7 +10,7 @@ use Rattle.py_stacks.specs.Asking.{nothing}
 use Rattle.py_stacks.specs.Detail.{detail_at, detail_cost, detail_faults, detail_with}
 use Rattle.py_stacks.specs.Member.{MemberAt}
 use Rattle.py_stacks.specs.Lines.{line_at, line_by}
-use Rattle.py_stacks.specs.Locals.{asked_faults, asked_locals, count_of, each_faults, kept_local, local_at, locals_at, locals_cost, locals_faults, locals_from, names_at}
+use Rattle.py_stacks.specs.Locals.{asked_faults, asked_locals, count_of, each_faults, kept_local, local_at, locals_at, locals_cost, locals_faults, locals_from, names_tuple_of}
 use Rattle.process_memory.proofs.Walks.{then_same}
 
 from_inner : {T U : Type 0} (d : Found T) (f : T → U) → fault_in d ≡ fault_in (d >>= (λ x. Ok (f x)))
@@ -25,7 +25,7 @@ each_same l m r index (suc n) = then_same (local_at l m r index) _ _ (λ local. 
 
 locals_same : (l : Layout) (m : Memory) (r : MemberAt) → first_fault (locals_faults l m r) ≡ fault_in (locals_at l m r)
 unfolding locals_faults locals_at
-locals_same l m r = then_same (count_of l r) _ _ (λ count. then_same (record_at m (names_at l r) l.tuple.size) _ _ (λ names. each_same l m r 0 count))
+locals_same l m r = then_same (count_of l r) _ _ (λ count. then_same (record_at m (names_tuple_of l r) l.tuple.size) _ _ (λ names. each_same l m r 0 count))
 
 asked_same : (asked : Bool) (l : Layout) (m : Memory) (r : MemberAt)
     → first_fault (asked_faults asked l m r) ≡ fault_in (asked_locals asked l m r)

@@ -15,7 +15,7 @@ use Rattle.py_stacks.specs.declared.asked.Asked.{Asked}
 use Rattle.py_stacks.specs.declared.trace.Frame.{Frame}
 use Rattle.py_stacks.specs.declared.error.StackError.{StackError}
 use Rattle.py_stacks.specs.declared.error.StackError.TheVariants as stack
-use Rattle.py_stacks.specs.StackError.{fault_of}
+use Rattle.py_stacks.specs.StackError.{stack_fault}
 use Rattle.py_stacks.specs.Detail.{detail_at}
 use Rattle.py_stacks.specs.Member.{MemberAt}
 use Rattle.py_stacks.specs.Frames.{Call, call_named, call_of, frame_limit, frame_step, frames_at, frames_cost, is_hidden, member_cost, member_limit, members_at, part_by, plain_at, plain_by, records_at, shown, shown_by, step_by, step_of_result, step_part, visible, with_detail, with_mark}
@@ -90,7 +90,7 @@ module _ {q : Asked} {l : Layout} {first : ℕ} {s0 s1 : Seen} {frames : List Fr
   -- one member more
   pub gather_more : {s2 : Seen} {back : ℕ} {new : List Frame} (part : Option Frame)
       → Gathering q l first s0 s1 frames met at → at ≢ 0 → met < member_limit
-      → Reads fault_of (member_cost q l (byte_at s1.pieces) (length frames) at) s1 s2 (λ m. frame_step q l m (length frames) at) (step_of_result (length frames) (Ok (back, part)))
+      → Reads stack_fault (member_cost q l (byte_at s1.pieces) (length frames) at) s1 s2 (λ m. frame_step q l m (length frames) at) (step_of_result (length frames) (Ok (back, part)))
       → Adds frames part new → Gathering q l first s0 s2 new (met + 1) back
   gather_more {s2} {back} {new} None g some below r adds =
       let walking = walking_more g.walking some below r in
@@ -125,7 +125,7 @@ frames_stop {fault = fault} q l first {n = n} e r = reading_gives n _ r (omega a
 module _ {q : Asked} {l : Layout} {first : ℕ} {s0 s1 : Seen} {frames : List Frame} {met at : ℕ} where
   -- the chain is at its end
   pub gather_done : {new : List Frame} → Gathering q l first s0 s1 frames met at → at ≡ 0 → new ≡ mark_last frames
-      → Reads fault_of (frames_cost q l (byte_at s0.pieces) first) s0 s1 (λ m. frames_at q l m first) (Ok (map call_of new))
+      → Reads stack_fault (frames_cost q l (byte_at s0.pieces) first) s0 s1 (λ m. frames_at q l m first) (Ok (map call_of new))
   unfolding frames_cost
   gather_done {new = new} g zero_at adds =
       let is : map call_of new ≡ shown g.members = ap (map call_of) adds ∙ map-mark_last frames ∙ ap mark_call g.held ∙ sym (shown-last g.members) in
@@ -133,24 +133,24 @@ module _ {q : Asked} {l : Layout} {first : ℕ} {s0 s1 : Seen} {frames : List Fr
 
   -- it goes on past the limit of members
   pub gather_full : Gathering q l first s0 s1 frames met at → at ≢ 0 → met ≡ member_limit
-      → Reads fault_of (frames_cost q l (byte_at s0.pieces) first) s0 s1 (λ m. frames_at q l m first) (Err stack.ChainLimit)
+      → Reads stack_fault (frames_cost q l (byte_at s0.pieces) first) s0 s1 (λ m. frames_at q l m first) (Err stack.ChainLimit)
   unfolding frames_cost
   gather_full g some full = frames_stop q l first stack.ChainLimit (walking_full stack.ChainLimit g.walking some full refl)
 
   -- a member can't be read, or no more may be kept, or memory is wanting
   pub gather_stop : {s2 : Seen} {e : StackError} (e' : StackError) → Gathering q l first s0 s1 frames met at → at ≢ 0
       → met < member_limit
-      → Reads {T = Step ℕ (Option Call)} fault_of (member_cost q l (byte_at s1.pieces) (length frames) at) s1 s2 (λ m. frame_step q l m (length frames) at) (Err e)
-      → fault_of e' ≡ fault_of e
-      → Reads fault_of (frames_cost q l (byte_at s0.pieces) first) s0 s2 (λ m. frames_at q l m first) (Err e')
+      → Reads {T = Step ℕ (Option Call)} stack_fault (member_cost q l (byte_at s1.pieces) (length frames) at) s1 s2 (λ m. frame_step q l m (length frames) at) (Err e)
+      → stack_fault e' ≡ stack_fault e
+      → Reads stack_fault (frames_cost q l (byte_at s0.pieces) first) s0 s2 (λ m. frames_at q l m first) (Err e')
   unfolding frames_cost
   gather_stop e' g some below r same = frames_stop q l first e' (walking_stop e' g.walking some below r same)
 
   -- memory for a frame is wanting
   pub gather_lost : {s2 : Seen} {x : Step ℕ (Option Call)} (e' : StackError) → Gathering q l first s0 s1 frames met at
       → at ≢ 0 → met < member_limit
-      → Reads {E = StackError} fault_of (member_cost q l (byte_at s1.pieces) (length frames) at) s1 s2 (λ m. frame_step q l m (length frames) at) (Ok x)
-      → fault_of e' ≡ None
-      → Reads fault_of (frames_cost q l (byte_at s0.pieces) first) s0 s2 (λ m. frames_at q l m first) (Err e')
+      → Reads {E = StackError} stack_fault (member_cost q l (byte_at s1.pieces) (length frames) at) s1 s2 (λ m. frame_step q l m (length frames) at) (Ok x)
+      → stack_fault e' ≡ None
+      → Reads stack_fault (frames_cost q l (byte_at s0.pieces) first) s0 s2 (λ m. frames_at q l m first) (Err e')
   unfolding frames_cost
   gather_lost e' g some below r same = frames_stop q l first e' (walking_lost {step = frame_step q l} e' (walking_more g.walking some below r) same)

@@ -13,7 +13,7 @@ use Rattle.py_names.specs.Names.{NamesAre, names_at, names_cost, slots_looked_at
 use Rattle.py_names.proofs.SlotBounds.{slots_most}
 use Rattle.py_stacks.specs.Frames.{cost_after}
 use Rattle.py_stacks.specs.NamedStacks.{by_name, name_by, named_cost, named_stacks_at, slots_named}
-use Rattle.py_stacks.specs.StackError.{fault_of}
+use Rattle.py_stacks.specs.StackError.{stack_fault}
 use Rattle.py_stacks.specs.Stacks.{stacks_at, stacks_cost}
 use Rattle.py_stacks.specs.Threads.{Trace}
 
@@ -43,7 +43,7 @@ module _ (q : Asked) (l : Layout) (m : Memory) (lock interpreter : ℕ) where
   unfolding named_stacks_at
   named_answer unnamed named names a same is = record { is = rw a.is (ap Ok (sym (is ∙ names_alike names (name_by (names_at l m interpreter)) same unnamed))) }
 
-pub named_lost : {d : Found (List Trace)} (e : StackError) → fault_of e ≡ None → Answers {T = List Trace} fault_of d (Err e)
+pub named_lost : {d : Found (List Trace)} (e : StackError) → stack_fault e ≡ None → Answers {T = List Trace} stack_fault d (Err e)
 named_lost e same = record { is = rw same tt }
 
 -- at most 10 reads, and 12 for each slot, where the stacks were found

@@ -18,7 +18,7 @@ use Rattle.py_stacks.specs.declared.error.StackError.{StackError}
 use Rattle.py_stacks.specs.declared.trace.StackTrace.{StackTrace}
 use Rattle.py_stacks.specs.Asking.{asked_of}
 use Rattle.py_stacks.specs.NamedStacks.{by_name, name_by, named_cost, named_stacks_at}
-use Rattle.py_stacks.specs.StackError.{fault_of}
+use Rattle.py_stacks.specs.StackError.{stack_fault}
 use Rattle.py_stacks.specs.Stacks.{stacks_at, stacks_faults}
 use Rattle.py_stacks.specs.StacksOver.{AreStacksOver, stacks_over_at, stacks_over_cost, values_met}
 use Rattle.py_stacks.specs.Threads.{Trace, trace_of, traces_of_result}
@@ -38,7 +38,7 @@ module _ (c : Config) (l : Layout) (m : Memory) (lock interpreter : ℕ) where
         tells = sym (ok_same _ traces named.2) ∙ ap (map (by_value (value_text l m (value_width c.dump_locals)))) (sym (ok_same _ named.0 plain.2));
       }
 
-  pub over_law : (r : Result (Vec StackTrace) StackError) → Answers fault_of (stacks_over_at c l m lock interpreter) (traces_of_result r)
+  pub over_law : (r : Result (Vec StackTrace) StackError) → Answers stack_fault (stacks_over_at c l m lock interpreter) (traces_of_result r)
       → IfOk r (λ traces. AreStacksOver c l m lock interpreter (map trace_of traces.items))
   over_law (Err e) a = tt
   over_law (Ok v) a = over_found (map trace_of v.items) a.is
@@ -48,8 +48,8 @@ module _ (c : Config) (l : Layout) (m : Memory) (lock interpreter : ℕ) where
   over_whole traces h = rw (stacks_whole (asked_of c) l m lock interpreter h.walked h.stacks) (ap Ok (sym h.tells))
 
   -- what is right is the answer, want of memory aside
-  pub over_only : (r : Result (Vec StackTrace) StackError) → Answers fault_of (stacks_over_at c l m lock interpreter) (traces_of_result r)
-      → (traces : List Trace) → AreStacksOver c l m lock interpreter traces → Answers fault_of (Ok traces) (traces_of_result r)
+  pub over_only : (r : Result (Vec StackTrace) StackError) → Answers stack_fault (stacks_over_at c l m lock interpreter) (traces_of_result r)
+      → (traces : List Trace) → AreStacksOver c l m lock interpreter traces → Answers stack_fault (Ok traces) (traces_of_result r)
   over_only r a traces h = let is = over_whole traces h in rw is at a
 
   over_same : first_fault (stacks_faults (asked_of c) l m lock interpreter) ≡ fault_in (stacks_over_at c l m lock interpreter)
@@ -58,10 +58,10 @@ module _ (c : Config) (l : Layout) (m : Memory) (lock interpreter : ℕ) where
       ∙ from_inner (stacks_at (asked_of c) l m lock interpreter) (map (by_name (name_by (names_at l m interpreter))))
       ∙ from_inner (named_stacks_at (asked_of c) l m lock interpreter) (map (by_value (value_text l m (value_width c.dump_locals))))
 
-  pub over_faults_law : (r : Result (Vec StackTrace) StackError) → Answers fault_of (stacks_over_at c l m lock interpreter) (traces_of_result r)
-      → FaultsAre fault_of (first_fault (stacks_faults (asked_of c) l m lock interpreter)) r
-  over_faults_law (Ok v) a = faults_from_answer fault_of (stacks_over_at c l m lock interpreter) _ (Ok (map trace_of v.items)) over_same a
-  over_faults_law (Err e) a = faults_from_answer {T = List Trace} fault_of (stacks_over_at c l m lock interpreter) _ (Err e) over_same a
+  pub over_faults_law : (r : Result (Vec StackTrace) StackError) → Answers stack_fault (stacks_over_at c l m lock interpreter) (traces_of_result r)
+      → FaultsAre stack_fault (first_fault (stacks_faults (asked_of c) l m lock interpreter)) r
+  over_faults_law (Ok v) a = faults_from_answer stack_fault (stacks_over_at c l m lock interpreter) _ (Ok (map trace_of v.items)) over_same a
+  over_faults_law (Err e) a = faults_from_answer {T = List Trace} stack_fault (stacks_over_at c l m lock interpreter) _ (Err e) over_same a
 
   pub over_costs : stacks_over_cost c l m lock interpreter ≡ named_cost (asked_of c) l m lock interpreter + 8 * values_met c l m lock interpreter
   unfolding stacks_over_cost
@@ -103,5 +103,5 @@ over_budget {s0 = s0} c l lock interpreter width named wide r =
     let met = met_found c l (byte_at s0.pieces) lock interpreter named (reading_here r).is in
     rw (r.pieces, wide) (sym met)
 
-pub over_lost : {d : Found (List Trace)} (e : StackError) → fault_of e ≡ None → Answers {T = List Trace} fault_of d (Err e)
+pub over_lost : {d : Found (List Trace)} (e : StackError) → stack_fault e ≡ None → Answers {T = List Trace} stack_fault d (Err e)
 over_lost e same = record { is = rw same tt }

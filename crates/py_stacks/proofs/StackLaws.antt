@@ -14,7 +14,7 @@ use Rattle.py_fields.specs.declared.layout.Layout.{Layout}
 use Rattle.py_stacks.specs.declared.asked.Asked.{Asked}
 use Rattle.py_stacks.specs.declared.trace.StackTrace.{StackTrace}
 use Rattle.py_stacks.specs.declared.error.StackError.{StackError}
-use Rattle.py_stacks.specs.StackError.{fault_of}
+use Rattle.py_stacks.specs.StackError.{stack_fault}
 use Rattle.py_stacks.specs.Owner.{owner_at}
 use Rattle.py_stacks.specs.Stacks.{AreStacks, by_owner, stacks_at, stacks_cost, stacks_faults}
 use Rattle.py_stacks.specs.Threads.{Trace, trace_of, traces_at, traces_cost, traces_of_result}
@@ -43,7 +43,7 @@ stacks_found q l m lock interpreter traces e =
 
 -- the traces are those of the whole chain of threads, to null, marked by the owner of the lock
 pub stacks_law : (q : Asked) (l : Layout) (m : Memory) (lock interpreter : ℕ) (r : Result (Vec StackTrace) StackError)
-    → Answers fault_of (stacks_at q l m lock interpreter) (traces_of_result r)
+    → Answers stack_fault (stacks_at q l m lock interpreter) (traces_of_result r)
     → IfOk r (λ traces. AreStacks q l m lock interpreter (map trace_of traces.items))
 stacks_law q l m lock interpreter (Err e) a = tt
 stacks_law q l m lock interpreter (Ok v) a = stacks_found q l m lock interpreter (map trace_of v.items) a.is
@@ -59,7 +59,7 @@ stacks_same q l m lock interpreter = then_same (owner_at l m lock) _ _ (λ owner
 
 -- the error is the first fault of the list
 pub stacks_faults_law : (q : Asked) (l : Layout) (m : Memory) (lock interpreter : ℕ) (r : Result (Vec StackTrace) StackError)
-    → Answers fault_of (stacks_at q l m lock interpreter) (traces_of_result r)
-    → FaultsAre fault_of (first_fault (stacks_faults q l m lock interpreter)) r
-stacks_faults_law q l m lock interpreter (Ok v) a = faults_from_answer fault_of (stacks_at q l m lock interpreter) _ (Ok (map trace_of v.items)) (stacks_same q l m lock interpreter) a
-stacks_faults_law q l m lock interpreter (Err e) a = faults_from_answer {T = List Trace} fault_of (stacks_at q l m lock interpreter) _ (Err e) (stacks_same q l m lock interpreter) a
+    → Answers stack_fault (stacks_at q l m lock interpreter) (traces_of_result r)
+    → FaultsAre stack_fault (first_fault (stacks_faults q l m lock interpreter)) r
+stacks_faults_law q l m lock interpreter (Ok v) a = faults_from_answer stack_fault (stacks_at q l m lock interpreter) _ (Ok (map trace_of v.items)) (stacks_same q l m lock interpreter) a
+stacks_faults_law q l m lock interpreter (Err e) a = faults_from_answer {T = List Trace} stack_fault (stacks_at q l m lock interpreter) _ (Err e) (stacks_same q l m lock interpreter) a

@@ -14,7 +14,7 @@ use Rattle.py_fields.specs.declared.layout.Layout.{Layout}
 use Rattle.py_stacks.specs.declared.asked.Asked.{Asked}
 use Rattle.py_stacks.specs.declared.trace.StackTrace.{StackTrace}
 use Rattle.py_stacks.specs.declared.error.StackError.{StackError}
-use Rattle.py_stacks.specs.StackError.{fault_of}
+use Rattle.py_stacks.specs.StackError.{stack_fault}
 use Rattle.py_stacks.specs.Frames.{AreFrames, Call, frames_at}
 use Rattle.py_stacks.specs.Threads.{AreTraces, AreTracesOf, IsTraceOf, Trace, first_frame_at, thread_after, thread_faults, thread_limit, thread_next, thread_step, threads_at, trace_at, trace_by, trace_of, trace_of_result, traces_at, traces_faults}
 use Rattle.py_stacks.proofs.FrameLaws.{frames_found, frames_same}
@@ -158,12 +158,12 @@ traces_same q l m interpreter =
 -- ---- the laws of one thread
 
 pub trace_law : (q : Asked) (l : Layout) (m : Memory) (a : ℕ) (r : Result StackTrace StackError)
-    → Answers fault_of (trace_at q l m a) (trace_of_result r) → IfOk r (λ t. IsTraceOf q l m a (trace_of t))
+    → Answers stack_fault (trace_at q l m a) (trace_of_result r) → IfOk r (λ t. IsTraceOf q l m a (trace_of t))
 trace_law q l m a (Err e) h = tt
 trace_law q l m a (Ok t) h = trace_found q l m a (trace_of t) h.is
 
 pub trace_faults_law : (q : Asked) (l : Layout) (m : Memory) (a : ℕ) (r : Result StackTrace StackError)
-    → Answers fault_of (trace_at q l m a) (trace_of_result r)
-    → FaultsAre fault_of (first_fault (thread_faults q l m tt a)) r
-trace_faults_law q l m a (Ok t) h = faults_from_answer fault_of (trace_at q l m a) _ (Ok (trace_of t)) (trace_same q l m a) h
-trace_faults_law q l m a (Err e) h = faults_from_answer {T = Trace} fault_of (trace_at q l m a) _ (Err e) (trace_same q l m a) h
+    → Answers stack_fault (trace_at q l m a) (trace_of_result r)
+    → FaultsAre stack_fault (first_fault (thread_faults q l m tt a)) r
+trace_faults_law q l m a (Ok t) h = faults_from_answer stack_fault (trace_at q l m a) _ (Ok (trace_of t)) (trace_same q l m a) h
+trace_faults_law q l m a (Err e) h = faults_from_answer {T = Trace} stack_fault (trace_at q l m a) _ (Err e) (trace_same q l m a) h

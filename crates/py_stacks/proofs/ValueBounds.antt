@@ -17,19 +17,19 @@ use Rattle.py_stacks.specs.Asking.{asked_of}
 use Rattle.py_stacks.specs.Detail.{Detail, detail_at, detail_with}
 use Rattle.py_stacks.specs.Frames.{AreFrames, Call, begins_hidden, cost_after, detailed, plain_by, records_at, shown_at, shown_by, with_detail, with_mark}
 use Rattle.py_stacks.specs.Lines.{line_at}
-use Rattle.py_stacks.specs.Locals.{asked_locals, count_of, count_or_zero, kept_local, local_at, locals_at, locals_from, names_at}
+use Rattle.py_stacks.specs.Locals.{asked_locals, count_of, count_or_zero, kept_local, local_at, locals_at, locals_from, names_tuple_of}
 use Rattle.py_stacks.specs.Member.{MemberAt}
 use Rattle.py_stacks.specs.Stacks.{AreStacks, by_owner, stacks_at}
 use Rattle.py_stacks.specs.StacksOver.{values_met, variables_most}
 use Rattle.py_stacks.specs.Threads.{AreTracesOf, Trace}
-use Rattle.py_stacks.specs.Values.{asked_visits, call_visits, locals_visits, trace_visits, traces_visits, value_at, value_visits, value_width}
+use Rattle.py_stacks.specs.Values.{asked_visits, call_visits, locals_visits, trace_visits, traces_visits, local_value_at, value_visits, value_width}
 use Rattle.py_stacks.proofs.DetailBounds.{count_most}
 use Rattle.py_stacks.proofs.OverLaws.{visits_kept}
 use Rattle.py_stacks.proofs.StackLaws.{stacks_found}
 
 -- a value
 value_few : (l : Layout) (m : Memory) (width a : ℕ) → value_visits l m width a ≤ 4096
-unfolding value_visits value_at
+unfolding value_visits local_value_at
 value_few l m width a = show_within (values_in l m) 256 width a 0
 
 heads : {A : Type 0} (x y : A) (xs ys : List A) → x ∷ xs ≡ y ∷ ys → x ≡ y
@@ -63,7 +63,7 @@ module _ (visits : ℕ → ℕ) (few : (a : ℕ) → visits a ≤ 4096) where
     unfolding locals_at
     locals_few r vs e =
         let count = bound (count_of l r) _ vs e in
-        let names = bound (record_at m (names_at l r) l.tuple.size) _ vs count.2 in
+        let names = bound (record_at m (names_tuple_of l r) l.tuple.size) _ vs count.2 in
         let counted : count_or_zero (Ok count.0) ≤ 65535 = rw count.1 at (count_most l r) in
         omega (arith, from_few r count.0 0 vs names.2, counted)
 

@@ -18,7 +18,7 @@ use Rattle.std.specs.Global.{Vec}
 use Rattle.process_memory.specs.Seen.{Answers}
 use Rattle.py_stacks.specs.declared.trace.StackTrace.{StackTrace}
 use Rattle.py_stacks.specs.declared.error.StackError.{StackError}
-use Rattle.py_stacks.specs.StackError.{fault_of}
+use Rattle.py_stacks.specs.StackError.{stack_fault}
 use Rattle.py_stacks.specs.Owner.{owner_at}
 use Rattle.py_stacks.specs.Stacks.{AreStacks, by_owner, stacks_at}
 use Rattle.py_stacks.proofs.Parts.{plain_is}
@@ -112,8 +112,8 @@ trace_step q l m a t h = let w = trace_whole q l m a t h in join (thread_step q 
 
 -- what is right of one thread is the answer, want of memory aside
 pub trace_only : (q : Asked) (l : Layout) (m : Memory) (a : ℕ) (r : Result StackTrace StackError)
-    → Answers fault_of (trace_at q l m a) (trace_of_result r) → (t : Trace) → IsTraceOf q l m a t
-    → Answers fault_of (Ok t) (trace_of_result r)
+    → Answers stack_fault (trace_at q l m a) (trace_of_result r) → (t : Trace) → IsTraceOf q l m a t
+    → Answers stack_fault (Ok t) (trace_of_result r)
 trace_only q l m a r h t is = let same = trace_step q l m a t is in rw same at h
 
 step_is : (d : Found (Step (Unit {0}) Trace)) (x : Step (Unit {0}) Trace) (n : ℕ) (t : Trace) → d ≡ Ok x → x.next ≡ n
@@ -160,6 +160,6 @@ stacks_whole q l m lock interpreter traces h =
 
 -- what is right is the answer, want of memory aside
 pub stacks_only : (q : Asked) (l : Layout) (m : Memory) (lock interpreter : ℕ) (r : Result (Vec StackTrace) StackError)
-    → Answers fault_of (stacks_at q l m lock interpreter) (traces_of_result r) → (traces : List Trace)
-    → AreStacks q l m lock interpreter traces → Answers fault_of (Ok traces) (traces_of_result r)
+    → Answers stack_fault (stacks_at q l m lock interpreter) (traces_of_result r) → (traces : List Trace)
+    → AreStacks q l m lock interpreter traces → Answers stack_fault (Ok traces) (traces_of_result r)
 stacks_only q l m lock interpreter r a traces h = let is = stacks_whole q l m lock interpreter traces h in rw is at a

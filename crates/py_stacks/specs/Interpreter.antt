@@ -5,7 +5,7 @@ use Rattle.process_memory.specs.Memory.{Memory, Found, ◌>>=◌, record_at, wor
 use Rattle.py_fields.specs.declared.layout.Layout.{Layout}
 use Rattle.py_stacks.specs.declared.error.StackError.{StackError}
 use Rattle.py_stacks.specs.declared.error.StackError.TheVariants.{OutOfMemory}
-use Rattle.py_stacks.specs.StackError.{fault_of}
+use Rattle.py_stacks.specs.StackError.{stack_fault}
 use Rattle.py_stacks.specs.Asking.{nothing}
 use Rattle.py_stacks.specs.Met.{members_met, threads_met}
 use Rattle.py_stacks.specs.Threads.{AreTraces, Trace, traces_at, traces_cost}
@@ -15,8 +15,8 @@ abbrev pub threads_head : Layout → Memory → ℕ → Found ℕ
 threads_head l m a = word_at m (a + l.interpreter.threads)
 
 -- the interpreter that the thread at an address names
-unfoldable pub named_by : Layout → Memory → ℕ → Found ℕ
-named_by l m head = do
+unfoldable pub interpreter_named_by : Layout → Memory → ℕ → Found ℕ
+interpreter_named_by l m head = do
   thread ← record_at m head l.thread.size
   Ok (u64_in thread l.thread.interp)
 
@@ -24,7 +24,7 @@ named_by l m head = do
 unfoldable pub named_at : Layout → Memory → ℕ → Found ℕ
 named_at l m a = do
   head ← threads_head l m a
-  named_by l m head
+  interpreter_named_by l m head
 
 abbrev pub was_found : {T : Type 0} → Found T → Bool
 was_found (Ok x) = true
@@ -39,7 +39,7 @@ passes l m a = passes_named l m a (named_at l m a)
 
 -- the same, where the first thread is known
 unfoldable pub passes_from : Layout → Memory → ℕ → ℕ → Bool
-passes_from l m a head = passes_named l m a (named_by l m head)
+passes_from l m a head = passes_named l m a (interpreter_named_by l m head)
 
 -- what is counted of the walk, where it is made
 abbrev pub where_named : ℕ → ℕ → Found ℕ → ℕ
@@ -61,20 +61,20 @@ test_bound l m a = 3 + 2 * threads_tested l m a + 6 * members_tested l m a
 
 -- the same, where the first thread is known: one read less
 unfoldable pub cost_from : Layout → Memory → ℕ → ℕ → ℕ
-cost_from l m a head = 1 + where_named (traces_cost nothing l m a) a (named_by l m head)
+cost_from l m a head = 1 + where_named (traces_cost nothing l m a) a (interpreter_named_by l m head)
 
 unfoldable pub threads_from : Layout → Memory → ℕ → ℕ → ℕ
-threads_from l m a head = where_named (threads_met nothing l m a) a (named_by l m head)
+threads_from l m a head = where_named (threads_met nothing l m a) a (interpreter_named_by l m head)
 
 unfoldable pub members_from : Layout → Memory → ℕ → ℕ → ℕ
-members_from l m a head = where_named (members_met nothing l m a) a (named_by l m head)
+members_from l m a head = where_named (members_met nothing l m a) a (interpreter_named_by l m head)
 
 abbrev pub bound_from : Layout → Memory → ℕ → ℕ → ℕ
 bound_from l m a head = 2 + 2 * threads_from l m a head + 6 * members_from l m a head
 
 -- a fault refuses the address, and want of memory is handed on
-abbrev pub Refuses : StackError → Result Bool StackError → Type 0
-Refuses e result = MatchOption (fault_of e) (result ≡ Err OutOfMemory) (λ f. result ≡ Ok false)
+abbrev pub RefusesAddress : StackError → Result Bool StackError → Type 0
+RefusesAddress e result = MatchOption (stack_fault e) (result ≡ Err OutOfMemory) (λ f. result ≡ Ok false)
 
 -- ---- in the subject's own words
 
@@ -86,6 +86,6 @@ pub record IsInterpreter (l : Layout) (m : Memory) (a : ℕ) : Type 0 where
 
 -- the same of an address and the head of its threads: the thread there names it
 pub record IsInterpreterFrom (l : Layout) (m : Memory) (a head : ℕ) : Type 0 where
-  pub named : named_by l m head ≡ Ok a
+  pub named : interpreter_named_by l m head ≡ Ok a
   pub traces : List Trace
   pub are : AreTraces nothing l m a traces

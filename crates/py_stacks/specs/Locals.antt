@@ -16,15 +16,15 @@ use Rattle.py_stacks.specs.Member.{MemberAt}
 
 -- a stated count of variables, where it can be one: neither negative, which is a number from 2^31 on, nor above
 -- 65535
-abbrev pub counted : ℕ → ℕ → Found ℕ
-counted frame n =
+abbrev pub count_of_locals : ℕ → ℕ → Found ℕ
+count_of_locals frame n =
     if nat_lt n (2 ^ 31)
     then (if nat_le n 65535 then Ok n else Err (LocalsLimit (cast_signed w32 n)))
     else Err (BadValue frame)
 
 -- how many variables a frame has
 unfoldable pub count_of : Layout → MemberAt → Found ℕ
-count_of l r = counted r.frame_at (u32_in r.code l.code.nlocals)
+count_of l r = count_of_locals r.frame_at (u32_in r.code l.code.nlocals)
 
 -- whether the variable at an index is an argument: there are more arguments. A negative count of them is a
 -- number from 2^31 on, so that it is greater than all indexes
@@ -32,21 +32,21 @@ unfoldable pub is_argument : Layout → MemberAt → ℕ → Bool
 is_argument l r index = nat_lt index (u32_in r.code l.code.argcount)
 
 -- the address of the tuple of names
-abbrev pub names_at : Layout → MemberAt → ℕ
-names_at l r = u64_in r.code l.code.varnames
+abbrev pub names_tuple_of : Layout → MemberAt → ℕ
+names_tuple_of l r = u64_in r.code l.code.varnames
 
 -- why a variable of the frame at an address has no name: a range isn't in memory, or what is there is no text
 abbrev pub name_fault : ℕ → Fault → Fault
 name_fault frame (Missing addr len) = Missing addr len
 name_fault frame _ = BadValue frame
 
-abbrev pub named : ℕ → Found (List ℕ) → Found (List ℕ)
-named frame (Ok name) = Ok name
-named frame (Err f) = Err (name_fault frame f)
+abbrev pub named_local : ℕ → Found (List ℕ) → Found (List ℕ)
+named_local frame (Ok name) = Ok name
+named_local frame (Err f) = Err (name_fault frame f)
 
 -- the name of a variable of the frame at an address, by the text that it is
 unfoldable pub variable_name_at : Layout → Memory → ℕ → ℕ → Found (List ℕ)
-variable_name_at l m frame a = named frame (text_at l m a)
+variable_name_at l m frame a = named_local frame (text_at l m a)
 
 -- the variable at an index, by its name and the address of its value; none where that is 0
 unfoldable pub local_by : Layout → MemberAt → ℕ → List ℕ → ℕ → Option LocalVariable
@@ -61,7 +61,7 @@ cleared slot = slot / 2 * 2
 -- the variable at an index, or the first fault: of the word of the tuple that names it, of its name, of its slot
 unfoldable pub local_at : Layout → Memory → MemberAt → ℕ → Found (Option LocalVariable)
 local_at l m r index = do
-  name_at ← word_at m (names_at l r + l.tuple.at + 8 * index)
+  name_at ← word_at m (names_tuple_of l r + l.tuple.at + 8 * index)
   name ← variable_name_at l m r.frame_at name_at
   slot ← word_at m (r.frame_at + l.frame.locals + 8 * index)
   Ok (local_by l r index name (cleared slot))
@@ -83,7 +83,7 @@ locals_from l m r index (suc n) = do
 unfoldable pub locals_at : Layout → Memory → MemberAt → Found (List LocalVariable)
 locals_at l m r = do
   count ← count_of l r
-  names ← record_at m (names_at l r) l.tuple.size
+  names ← record_at m (names_tuple_of l r) l.tuple.size
   locals_from l m r 0 count
 
 -- the same, where they are asked for
@@ -117,7 +117,7 @@ each_faults l m r index (suc n) =
 -- a count that can't be, the missing tuple, and the fault of each variable
 unfoldable pub locals_faults : Layout → Memory → MemberAt → List Fault
 locals_faults l m r = faults_then (count_of l r)
-    (λ count. faults_then (record_at m (names_at l r) l.tuple.size) (λ names. each_faults l m r 0 count))
+    (λ count. faults_then (record_at m (names_tuple_of l r) l.tuple.size) (λ names. each_faults l m r 0 count))
 
 abbrev pub asked_faults : Bool → Layout → Memory → MemberAt → List Fault
 asked_faults false l m r = []

@@ -6,7 +6,7 @@ use Rattle.std.specs.Str.{chars}
 use Rattle.process_memory.specs.Memory.{Memory, Found}
 use Rattle.py_fields.specs.declared.layout.Layout.{Layout}
 use Rattle.py_builtins.specs.declared.error.ObjectError.{ObjectError}
-use Rattle.py_builtins.specs.ObjectError.{fault_of}
+use Rattle.py_builtins.specs.ObjectError.{object_fault}
 use Rattle.py_objects.specs.Nodes.{values_in}
 use Rattle.py_objects.specs.Shows.{show_at}
 use Rattle.py_stacks.specs.declared.error.StackError.{StackError}
@@ -21,8 +21,8 @@ value_width levels = min (128 * levels) (2 ^ 63 - 1)
 
 -- what the value at an address shows as within a width, its text or its fault, and how many visits it takes: it has
 -- all 256 levels, and no visit is counted before it
-unfoldable pub value_at : Layout → Memory → ℕ → ℕ → Found (List ℕ) × ℕ
-value_at l m width a = show_at (values_in l m) 256 width a 0
+unfoldable pub local_value_at : Layout → Memory → ℕ → ℕ → Found (List ℕ) × ℕ
+local_value_at l m width a = show_at (values_in l m) 256 width a 0
 
 -- the characters of a text, or a question mark where there is none
 abbrev pub text_or_mark : Found (List ℕ) → List ℕ
@@ -31,10 +31,10 @@ text_or_mark (Err f) = codes "?"
 
 -- the text of the value at an address
 unfoldable pub value_text : Layout → Memory → ℕ → ℕ → List ℕ
-value_text l m width a = text_or_mark (value_at l m width a).0
+value_text l m width a = text_or_mark (local_value_at l m width a).0
 
 unfoldable pub value_visits : Layout → Memory → ℕ → ℕ → ℕ
-value_visits l m width a = (value_at l m width a).1
+value_visits l m width a = (local_value_at l m width a).1
 
 -- ---- in traces
 
@@ -77,7 +77,7 @@ IsOrLost value (Err e) = e ≡ OutOfMemory
 
 -- a question mark, for an error other than want of memory
 abbrev pub StandsFor : ObjectError → Result (List ℕ) StackError → Type 0
-StandsFor e (Ok mark) = (mark ≡ codes "?") × IsSome (fault_of e)
+StandsFor e (Ok mark) = (mark ≡ codes "?") × IsSome (object_fault e)
 StandsFor e (Err f) = f ≡ OutOfMemory
 
 -- what a shown value gives as a text: itself, or a question mark

@@ -2,8 +2,8 @@
 ghost use Rattle.std.specs.Prelude.{◌≡◌, ◌+◌, ◌*◌, ◌↔◌, IfOk, IsErrOf, IsTrue, Ok};
 ghost use Rattle.process_memory.specs.Seen.{Reads, ReadsBy, ReadingBy};
 ghost use Rattle.py_fields.specs.Sound.{IsSound};
-ghost use Rattle.py_stacks.specs.StackError.{fault_of};
-ghost use Rattle.py_stacks.specs.Interpreter.{IsInterpreter, IsInterpreterFrom, Refuses, bound_from, cost_from, named_by, passes, passes_from, test_bound, test_cost, threads_head};
+ghost use Rattle.py_stacks.specs.StackError.{stack_fault};
+ghost use Rattle.py_stacks.specs.Interpreter.{IsInterpreter, IsInterpreterFrom, RefusesAddress, bound_from, cost_from, interpreter_named_by, passes, passes_from, test_bound, test_cost, threads_head};
 
 use crate::StackError;
 use crate::asked::{Asked, LineNo};
@@ -17,7 +17,7 @@ use std::alloc::Global;
 /// What the test answers where a read or the walk fails so: a fault refuses the address, and want of memory is
 /// handed on.
 fn refused(error: StackError) -> Result<bool, StackError>
-    ensures { Refuses error result }
+    ensures { RefusesAddress error result }
 {
     match error {
         StackError::OutOfMemory => Err(StackError::OutOfMemory),
@@ -33,7 +33,7 @@ fn read_named<P: ProcessMemory>(
     head: u64,
 ) -> Result<u64, StackError>
     requires sound { IsSound layout.now }
-    ensures { Reads fault_of 1 (P.seen process.old) (P.seen process.new) (λ m. named_by layout.now m head) result }
+    ensures { Reads stack_fault 1 (P.seen process.old) (P.seen process.new) (λ m. interpreter_named_by layout.now m head) result }
 {
     let mut thread = Vec::new(alloc);
     read_bytes(process, head, layout.thread.size, &mut thread)?;
@@ -49,7 +49,7 @@ fn walk_from<P: ProcessMemory>(
     head: u64,
 ) -> Result<bool, StackError>
     requires sound { IsSound layout.now }
-    ensures { ReadsBy fault_of (λ m. cost_from layout.now m interpreter head) (P.seen process.old) (P.seen process.new)
+    ensures { ReadsBy stack_fault (λ m. cost_from layout.now m interpreter head) (P.seen process.old) (P.seen process.new)
         (λ m. Ok (passes_from layout.now m interpreter head)) result }
 {
     let named = match read_named(alloc, process, layout, head) {
@@ -78,7 +78,7 @@ fn walk_interpreter<P: ProcessMemory>(
     interpreter: u64,
 ) -> Result<bool, StackError>
     requires sound { IsSound layout.now }
-    ensures { ReadsBy fault_of (λ m. test_cost layout.now m interpreter) (P.seen process.old) (P.seen process.new)
+    ensures { ReadsBy stack_fault (λ m. test_cost layout.now m interpreter) (P.seen process.old) (P.seen process.new)
         (λ m. Ok (passes layout.now m interpreter)) result }
 {
     let head = match get_first_thread(process, layout, interpreter) {
@@ -97,7 +97,7 @@ pub fn get_first_thread<P: ProcessMemory>(
     layout: &Layout,
     interpreter: u64,
 ) -> Result<u64, StackError>
-    ensures answer { Reads fault_of 1 (P.seen process.old) (P.seen process.new)
+    ensures answer { Reads stack_fault 1 (P.seen process.old) (P.seen process.new)
         (λ m. threads_head layout.now m interpreter) result }
     ensures memory { IsErrOf result StackError.OutOfMemory → IsTrue (P.seen process.old).may_want_memory }
 {
@@ -119,12 +119,12 @@ pub fn is_interpreter_from<P: ProcessMemory>(
     head: u64,
 ) -> Result<bool, StackError>
     requires sound { IsSound layout.now }
-    ensures answer { ReadsBy fault_of (λ m. bound_from layout.now m interpreter head)
+    ensures answer { ReadsBy stack_fault (λ m. bound_from layout.now m interpreter head)
         (P.seen process.old) (P.seen process.new) (λ m. Ok (passes_from layout.now m interpreter head)) result }
     ensures exact { ReadingBy (λ m. bound_from layout.now m interpreter head)
         (P.seen process.old) (P.seen process.new)
         (λ m. IfOk result (λ is. IsTrue is ↔ IsInterpreterFrom layout.now m interpreter head)) }
-    ensures most { Reads fault_of (2 + 4096 * (2 + 6 * 16384)) (P.seen process.old) (P.seen process.new)
+    ensures most { Reads stack_fault (2 + 4096 * (2 + 6 * 16384)) (P.seen process.old) (P.seen process.new)
         (λ m. Ok (passes_from layout.now m interpreter head)) result }
 {
     walk_from(alloc, process, layout, interpreter, head)
@@ -145,12 +145,12 @@ pub fn is_interpreter<P: ProcessMemory>(
     interpreter: u64,
 ) -> Result<bool, StackError>
     requires sound { IsSound layout.now }
-    ensures answer { ReadsBy fault_of (λ m. test_bound layout.now m interpreter)
+    ensures answer { ReadsBy stack_fault (λ m. test_bound layout.now m interpreter)
         (P.seen process.old) (P.seen process.new) (λ m. Ok (passes layout.now m interpreter)) result }
     ensures exact { ReadingBy (λ m. test_bound layout.now m interpreter)
         (P.seen process.old) (P.seen process.new)
         (λ m. IfOk result (λ is. IsTrue is ↔ IsInterpreter layout.now m interpreter)) }
-    ensures most { Reads fault_of (3 + 4096 * (2 + 6 * 16384)) (P.seen process.old) (P.seen process.new)
+    ensures most { Reads stack_fault (3 + 4096 * (2 + 6 * 16384)) (P.seen process.old) (P.seen process.new)
         (λ m. Ok (passes layout.now m interpreter)) result }
 {
     walk_interpreter(alloc, process, layout, interpreter)

@@ -4,7 +4,7 @@ ghost use Rattle.process_memory.specs.Seen.{Answers, Reads, items_of};
 ghost use Rattle.py_fields.specs.Sound.{IsSound};
 ghost use Rattle.py_stacks.specs.Locals.{asked_locals, count_of, is_argument, kept_local, local_at, local_by, locals_at, locals_cost, locals_from, locals_of_result, variable_name_at};
 ghost use Rattle.py_stacks.specs.Records.{AreWhole, member_of};
-ghost use Rattle.py_stacks.specs.StackError.{fault_of};
+ghost use Rattle.py_stacks.specs.StackError.{stack_fault};
 
 use crate::records::Records;
 use crate::{LocalVariable, StackError};
@@ -20,7 +20,7 @@ use std::alloc::{AllocFailed, Global};
 fn count_of(layout: &Layout, records: &Records) -> Result<u32, StackError>
     requires sound { IsSound layout.now }
     requires whole { AreWhole layout.now records.now }
-    ensures answer { Answers fault_of (count_of layout.now (member_of records.now)) result }
+    ensures answer { Answers stack_fault (count_of layout.now (member_of records.now)) result }
     ensures few { IfOk result (λ count. count ≤ 65535) }
 {
     let count = u32_in(&records.code, layout.code.nlocals as usize);
@@ -82,7 +82,7 @@ fn read_variable_name<P: ProcessMemory>(
     addr: u64,
 ) -> Result<Text, StackError>
     requires sound { IsSound layout.now }
-    ensures { Reads fault_of 2 (P.seen process.old) (P.seen process.new)
+    ensures { Reads stack_fault 2 (P.seen process.old) (P.seen process.new)
         (λ m. variable_name_at layout.now m frame addr) result }
 {
     match copy_string(alloc, process, layout, addr) {
@@ -103,7 +103,7 @@ fn read_local<P: ProcessMemory>(
 ) -> Result<Option<LocalVariable>, StackError>
     requires sound { IsSound layout.now }
     requires whole { AreWhole layout.now records.now }
-    ensures { Reads fault_of 4 (P.seen process.old) (P.seen process.new)
+    ensures { Reads stack_fault 4 (P.seen process.old) (P.seen process.new)
         (λ m. local_at layout.now m (member_of records.now) index) result }
 {
     let offset = 8 * index as u128;
@@ -138,7 +138,7 @@ fn read_each<P: ProcessMemory>(
 ) -> Result<Vec<LocalVariable>, StackError>
     requires sound { IsSound layout.now }
     requires whole { AreWhole layout.now records.now }
-    ensures { Reads fault_of (4 * count) (P.seen process.old) (P.seen process.new)
+    ensures { Reads stack_fault (4 * count) (P.seen process.old) (P.seen process.new)
         (λ m. locals_from layout.now m (member_of records.now) 0 count) (items_of result) }
 {
     let mut locals = Vec::new(alloc);
@@ -158,7 +158,7 @@ fn read_known<P: ProcessMemory>(
 ) -> Result<Vec<LocalVariable>, StackError>
     requires sound { IsSound layout.now }
     requires whole { AreWhole layout.now records.now }
-    ensures { Reads fault_of (locals_cost true layout.now (member_of records.now))
+    ensures { Reads stack_fault (locals_cost true layout.now (member_of records.now))
         (P.seen process.old) (P.seen process.new)
         (λ m. locals_at layout.now m (member_of records.now)) (items_of result) }
 {
@@ -184,7 +184,7 @@ pub(crate) fn read_locals<P: ProcessMemory>(
 ) -> Result<Option<Vec<LocalVariable>>, StackError>
     requires sound { IsSound layout.now }
     requires whole { AreWhole layout.now records.now }
-    ensures { Reads fault_of (locals_cost asked layout.now (member_of records.now))
+    ensures { Reads stack_fault (locals_cost asked layout.now (member_of records.now))
         (P.seen process.old) (P.seen process.new)
         (λ m. asked_locals asked layout.now m (member_of records.now)) (locals_of_result result) }
 {

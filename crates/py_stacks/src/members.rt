@@ -2,7 +2,7 @@
 ghost use Rattle.std.specs.Prelude.{◌≡◌, ◌+◌, ◌*◌, ◌/◌, ◌^◌, ◌≤◌, length, ℕ, Some, OnOk};
 ghost use Rattle.process_memory.specs.Seen.{Reads, ReadsBy};
 ghost use Rattle.py_fields.specs.Sound.{IsSound};
-ghost use Rattle.py_stacks.specs.StackError.{fault_of};
+ghost use Rattle.py_stacks.specs.StackError.{stack_fault};
 ghost use Rattle.py_stacks.specs.Frames.{call_of_option, code_of, frame_step, is_entered, is_hidden, member_cost, name_at, part_by, part_cost, part_of_result, plain_at, step_of_result, visible};
 ghost use Rattle.py_stacks.specs.Records.{AreWhole, member_of};
 
@@ -90,7 +90,7 @@ fn read_name<P: ProcessMemory>(
     addr: u64,
 ) -> Result<Option<Text>, StackError>
     requires sound { IsSound layout.now }
-    ensures { Reads fault_of 2 (P.seen process.old) (P.seen process.new) (λ m. name_at layout.now m addr) result }
+    ensures { Reads stack_fault 2 (P.seen process.old) (P.seen process.new) (λ m. name_at layout.now m addr) result }
 {
     match copy_string(alloc, process, layout, addr) {
         Ok(text) => Ok(Some(text)),
@@ -109,7 +109,7 @@ fn read_plain<P: ProcessMemory>(
 ) -> Result<Option<Frame>, StackError>
     requires sound { IsSound layout.now }
     requires whole { AreWhole layout.now records.now }
-    ensures { Reads fault_of 4 (P.seen process.old) (P.seen process.new)
+    ensures { Reads stack_fault 4 (P.seen process.old) (P.seen process.new)
         (λ m. plain_at layout.now m (member_of records.now)) (part_of_result result) }
 {
     let file_at = u64_in(&records.code, layout.code.filename as usize);
@@ -133,7 +133,7 @@ fn read_part<P: ProcessMemory>(
 ) -> Result<Option<Frame>, StackError>
     requires sound { IsSound layout.now }
     requires whole { AreWhole layout.now records.now }
-    ensures { ReadsBy fault_of (λ m. part_cost asked layout.now m kept (member_of records.now) (call_of_option plain))
+    ensures { ReadsBy stack_fault (λ m. part_cost asked layout.now m kept (member_of records.now) (call_of_option plain))
         (P.seen process.old) (P.seen process.new)
         (λ m. part_by asked layout.now m kept (member_of records.now) (call_of_option plain)) (part_of_result result) }
 {
@@ -168,7 +168,7 @@ pub(crate) fn read_member<P: ProcessMemory>(
     records: &mut Records,
 ) -> Result<(u64, Option<Frame>), StackError>
     requires sound { IsSound layout.now }
-    ensures { ReadsBy fault_of (λ m. member_cost asked layout.now m kept at) (P.seen process.old) (P.seen process.new)
+    ensures { ReadsBy stack_fault (λ m. member_cost asked layout.now m kept at) (P.seen process.old) (P.seen process.new)
         (λ m. frame_step asked layout.now m kept at) (step_of_result kept result) }
 {
     read_records(process, layout, at, records)?;

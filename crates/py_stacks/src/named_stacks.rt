@@ -5,7 +5,7 @@ ghost use Rattle.py_fields.specs.Sound.{IsSound};
 ghost use Rattle.py_stacks.specs.Asking.{asked_of};
 ghost use Rattle.py_names.specs.Names.{names_at, names_cost};
 ghost use Rattle.py_stacks.specs.NamedStacks.{GivesNames, by_name, name_in, named_cost, named_stacks_at};
-ghost use Rattle.py_stacks.specs.StackError.{fault_of};
+ghost use Rattle.py_stacks.specs.StackError.{stack_fault};
 ghost use Rattle.py_stacks.specs.Threads.{trace_of, traces_of_result};
 
 use crate::config::Config;
@@ -79,7 +79,7 @@ pub(crate) fn read_named<P: ProcessMemory>(
     config: &Config,
 ) -> Result<Vec<StackTrace>, StackError>
     requires sound { IsSound layout.now }
-    ensures { ReadsBy fault_of
+    ensures { ReadsBy stack_fault
         (λ m. named_cost (asked_of config.now) layout.now m addresses.now.lock addresses.now.interpreter)
         (P.seen process.old) (P.seen process.new)
         (λ m. named_stacks_at (asked_of config.now) layout.now m addresses.now.lock addresses.now.interpreter)

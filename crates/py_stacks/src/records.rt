@@ -4,7 +4,7 @@ ghost use Rattle.std.specs.Vec.{vec_len};
 ghost use Rattle.process_memory.specs.Memory.{record_at};
 ghost use Rattle.process_memory.specs.Seen.{Reads, with_bytes};
 ghost use Rattle.py_fields.specs.Sound.{IsSound};
-ghost use Rattle.py_stacks.specs.StackError.{fault_of};
+ghost use Rattle.py_stacks.specs.StackError.{stack_fault};
 ghost use Rattle.py_stacks.specs.Frames.{records_at};
 ghost use Rattle.py_stacks.specs.Records.{AreWhole, with_member};
 
@@ -54,7 +54,7 @@ pub(crate) fn read_bytes<P: ProcessMemory>(
     buf: &mut Vec<u8>,
 ) -> Result<(), StackError>
     requires { len < 2 ^ 16 }
-    ensures answer { Reads fault_of 1 (P.seen process.old) (P.seen process.new)
+    ensures answer { Reads stack_fault 1 (P.seen process.old) (P.seen process.new)
         (λ m. record_at m at len) (with_bytes buf.new.items result) }
     ensures whole { OnOk result (length buf.new.items ≡ len) }
 {
@@ -71,7 +71,7 @@ pub(crate) fn read_records<P: ProcessMemory>(
     records: &mut Records,
 ) -> Result<(), StackError>
     requires sound { IsSound layout.now }
-    ensures answer { Reads fault_of 2 (P.seen process.old) (P.seen process.new)
+    ensures answer { Reads stack_fault 2 (P.seen process.old) (P.seen process.new)
         (λ m. records_at layout.now m at) (with_member records.new result) }
     ensures whole { OnOk result (AreWhole layout.now records.new) }
 {

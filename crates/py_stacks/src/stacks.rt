@@ -5,7 +5,7 @@ ghost use Rattle.process_memory.specs.Seen.{Answers, ReadsBy, ReadingBy};
 ghost use Rattle.process_memory.specs.Walk.{first_fault};
 ghost use Rattle.process_memory.specs.Faults.{FaultsAre};
 ghost use Rattle.py_fields.specs.Sound.{IsSound};
-ghost use Rattle.py_stacks.specs.StackError.{fault_of};
+ghost use Rattle.py_stacks.specs.StackError.{stack_fault};
 ghost use Rattle.py_stacks.specs.Asking.{asked_by, asks};
 ghost use Rattle.py_stacks.specs.Met.{details_walked, locals_most, locals_walked, members_walked, stacks_bound};
 ghost use Rattle.py_stacks.specs.Met.{thread_bound, thread_details, thread_locals, thread_members};
@@ -42,7 +42,7 @@ fn walk_stack_traces<P: ProcessMemory>(
     interpreter: u64,
 ) -> Result<Vec<StackTrace>, StackError>
     requires sound { IsSound layout.now }
-    ensures { ReadsBy fault_of (λ m. stacks_cost asked layout.now m lock interpreter)
+    ensures { ReadsBy stack_fault (λ m. stacks_cost asked layout.now m lock interpreter)
         (P.seen process.old) (P.seen process.new)
         (λ m. stacks_at asked layout.now m lock interpreter) (traces_of_result result) }
 {
@@ -95,7 +95,7 @@ pub fn get_stack_traces<P: ProcessMemory>(
     config: Option<&Config>,
 ) -> Result<Vec<StackTrace>, StackError>
     requires sound { IsSound layout.now }
-    ensures answer { ReadsBy fault_of (λ m. stacks_cost (asked_by config.entry) layout.now m lock interpreter)
+    ensures answer { ReadsBy stack_fault (λ m. stacks_cost (asked_by config.entry) layout.now m lock interpreter)
         (P.seen process.old) (P.seen process.new)
         (λ m. stacks_at (asked_by config.entry) layout.now m lock interpreter) (traces_of_result result) }
     ensures traces { ReadingBy (λ m. stacks_cost (asked_by config.entry) layout.now m lock interpreter)
@@ -106,10 +106,10 @@ pub fn get_stack_traces<P: ProcessMemory>(
     ensures only { ReadingBy (λ m. stacks_cost (asked_by config.entry) layout.now m lock interpreter)
         (P.seen process.old) (P.seen process.new)
         (λ m. (traces : List Trace) → AreStacks (asked_by config.entry) layout.now m lock interpreter traces
-        → Answers fault_of (Ok traces) (traces_of_result result)) }
+        → Answers stack_fault (Ok traces) (traces_of_result result)) }
     ensures faults { ReadingBy (λ m. stacks_cost (asked_by config.entry) layout.now m lock interpreter)
         (P.seen process.old) (P.seen process.new)
-        (λ m. FaultsAre fault_of
+        (λ m. FaultsAre stack_fault
         (first_fault (stacks_faults (asked_by config.entry) layout.now m lock interpreter)) result) }
     ensures bound { (P.seen process.new).reads ≤ (P.seen process.old).reads
         + stacks_bound (asked_by config.entry) layout.now (byte_at (P.seen process.old).pieces) lock interpreter }
@@ -134,7 +134,7 @@ fn walk_stack_trace<P: ProcessMemory>(
     thread: u64,
 ) -> Result<StackTrace, StackError>
     requires sound { IsSound layout.now }
-    ensures { ReadsBy fault_of (λ m. thread_cost asked layout.now m tt thread) (P.seen process.old) (P.seen process.new)
+    ensures { ReadsBy stack_fault (λ m. thread_cost asked layout.now m tt thread) (P.seen process.old) (P.seen process.new)
         (λ m. trace_at asked layout.now m thread) (trace_of_result result) }
 {
     let mut scratch = Scratch::new(alloc);
@@ -159,7 +159,7 @@ pub fn get_stack_trace<P: ProcessMemory>(
     lineno: LineNo,
 ) -> Result<StackTrace, StackError>
     requires sound { IsSound layout.now }
-    ensures answer { ReadsBy fault_of (λ m. thread_cost (asks lineno copy_locals) layout.now m tt thread)
+    ensures answer { ReadsBy stack_fault (λ m. thread_cost (asks lineno copy_locals) layout.now m tt thread)
         (P.seen process.old) (P.seen process.new)
         (λ m. trace_at (asks lineno copy_locals) layout.now m thread) (trace_of_result result) }
     ensures trace { ReadingBy (λ m. thread_cost (asks lineno copy_locals) layout.now m tt thread)
@@ -169,10 +169,10 @@ pub fn get_stack_trace<P: ProcessMemory>(
     ensures only { ReadingBy (λ m. thread_cost (asks lineno copy_locals) layout.now m tt thread)
         (P.seen process.old) (P.seen process.new)
         (λ m. (trace : Trace) → IsTraceOf (asks lineno copy_locals) layout.now m thread trace
-        → Answers fault_of (Ok trace) (trace_of_result result)) }
+        → Answers stack_fault (Ok trace) (trace_of_result result)) }
     ensures faults { ReadingBy (λ m. thread_cost (asks lineno copy_locals) layout.now m tt thread)
         (P.seen process.old) (P.seen process.new)
-        (λ m. FaultsAre fault_of
+        (λ m. FaultsAre stack_fault
         (first_fault (thread_faults (asks lineno copy_locals) layout.now m tt thread)) result) }
     ensures bound { (P.seen process.new).reads ≤ (P.seen process.old).reads
         + thread_bound (asks lineno copy_locals) layout.now (byte_at (P.seen process.old).pieces) thread }

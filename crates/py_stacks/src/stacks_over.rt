@@ -8,7 +8,7 @@ ghost use Rattle.py_fields.specs.Sound.{IsSound};
 ghost use Rattle.py_stacks.specs.Asking.{asked_of};
 ghost use Rattle.py_stacks.specs.Met.{details_walked, locals_most, locals_walked, members_walked, stacks_bound};
 ghost use Rattle.py_stacks.specs.NamedStacks.{slots_named};
-ghost use Rattle.py_stacks.specs.StackError.{fault_of};
+ghost use Rattle.py_stacks.specs.StackError.{stack_fault};
 ghost use Rattle.py_stacks.specs.Stacks.{stacks_faults};
 ghost use Rattle.py_stacks.specs.StacksOver.{AreStacksOver, stacks_over_at, stacks_over_cost, values_met, variables_most};
 ghost use Rattle.py_stacks.specs.Threads.{Trace, trace_of, traces_of_result};
@@ -30,7 +30,7 @@ fn read_stacks<P: ProcessMemory>(
     config: &Config,
 ) -> Result<Vec<StackTrace>, StackError>
     requires sound { IsSound layout.now }
-    ensures { ReadsBy fault_of
+    ensures { ReadsBy stack_fault
         (λ m. stacks_over_cost config.now layout.now m addresses.now.lock addresses.now.interpreter)
         (P.seen process.old) (P.seen process.new)
         (λ m. stacks_over_at config.now layout.now m addresses.now.lock addresses.now.interpreter)
@@ -62,7 +62,7 @@ pub fn get_stack_over<P: ProcessMemory>(
     config: &Config,
 ) -> Result<Vec<StackTrace>, StackError>
     requires sound { IsSound layout.now }
-    ensures answer { ReadsBy fault_of
+    ensures answer { ReadsBy stack_fault
         (λ m. stacks_over_cost config.now layout.now m addresses.now.lock addresses.now.interpreter)
         (P.seen process.old) (P.seen process.new)
         (λ m. stacks_over_at config.now layout.now m addresses.now.lock addresses.now.interpreter)
@@ -79,11 +79,11 @@ pub fn get_stack_over<P: ProcessMemory>(
         (P.seen process.old) (P.seen process.new)
         (λ m. (traces : List Trace)
         → AreStacksOver config.now layout.now m addresses.now.lock addresses.now.interpreter traces
-        → Answers fault_of (Ok traces) (traces_of_result result)) }
+        → Answers stack_fault (Ok traces) (traces_of_result result)) }
     ensures faults { ReadingBy
         (λ m. stacks_over_cost config.now layout.now m addresses.now.lock addresses.now.interpreter)
         (P.seen process.old) (P.seen process.new)
-        (λ m. FaultsAre fault_of (first_fault
+        (λ m. FaultsAre stack_fault (first_fault
         (stacks_faults (asked_of config.now) layout.now m addresses.now.lock addresses.now.interpreter)) result) }
     ensures bound { (P.seen process.new).reads ≤ (P.seen process.old).reads
         + (stacks_bound (asked_of config.now) layout.now (byte_at (P.seen process.old).pieces) addresses.now.lock

@@ -2,7 +2,7 @@
 ghost use Rattle.std.specs.Prelude.{◌≡◌, ◌≤◌, ◌+◌, ℕ, Some, length};
 ghost use Rattle.process_memory.specs.Seen.{Reads, ReadsBy};
 ghost use Rattle.py_fields.specs.Sound.{IsSound};
-ghost use Rattle.py_stacks.specs.StackError.{fault_of};
+ghost use Rattle.py_stacks.specs.StackError.{stack_fault};
 ghost use Rattle.py_stacks.specs.Threads.{first_frame_at, native_id, thread_cost, thread_of_result, thread_step};
 ghost use Rattle.py_stacks.specs.Threads.{threads_at, threads_cost, traces_at, traces_cost, traces_of_result};
 
@@ -38,7 +38,7 @@ fn first_frame<P: ProcessMemory>(
     thread: &[u8],
 ) -> Result<u64, StackError>
     requires { layout.now.thread.frame + 8 ≤ length thread.now }
-    ensures { Reads fault_of 1 (P.seen process.old) (P.seen process.new)
+    ensures { Reads stack_fault 1 (P.seen process.old) (P.seen process.new)
         (λ m. first_frame_at layout.now m thread.now) result }
 {
     let named = u64_in(thread, layout.thread.frame as usize);
@@ -62,7 +62,7 @@ pub(crate) fn read_thread<P: ProcessMemory>(
     scratch: &mut Scratch,
 ) -> Result<(u64, StackTrace), StackError>
     requires sound { IsSound layout.now }
-    ensures { ReadsBy fault_of (λ m. thread_cost asked layout.now m tt at) (P.seen process.old) (P.seen process.new)
+    ensures { ReadsBy stack_fault (λ m. thread_cost asked layout.now m tt at) (P.seen process.old) (P.seen process.new)
         (λ m. thread_step asked layout.now m tt at) (thread_of_result result) }
 {
     read_bytes(process, at, layout.thread.size, &mut scratch.thread)?;
@@ -92,7 +92,7 @@ fn walk_threads<P: ProcessMemory>(
     head: u64,
 ) -> Result<Vec<StackTrace>, StackError>
     requires sound { IsSound layout.now }
-    ensures { ReadsBy fault_of (λ m. threads_cost asked layout.now m head) (P.seen process.old) (P.seen process.new)
+    ensures { ReadsBy stack_fault (λ m. threads_cost asked layout.now m head) (P.seen process.old) (P.seen process.new)
         (λ m. threads_at asked layout.now m head) (traces_of_result result) }
 {
     let mut scratch = Scratch::new(alloc);
@@ -119,7 +119,7 @@ pub(crate) fn read_traces<P: ProcessMemory>(
     interpreter: u64,
 ) -> Result<Vec<StackTrace>, StackError>
     requires sound { IsSound layout.now }
-    ensures { ReadsBy fault_of (λ m. traces_cost asked layout.now m interpreter)
+    ensures { ReadsBy stack_fault (λ m. traces_cost asked layout.now m interpreter)
         (P.seen process.old) (P.seen process.new)
         (λ m. traces_at asked layout.now m interpreter) (traces_of_result result) }
 {

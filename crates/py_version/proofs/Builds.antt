@@ -8,7 +8,7 @@ use Rattle.std.proofs.lemmas.List.Elements.{All-append, All-cons, All-from_get_o
 use Rattle.std.proofs.lemmas.List.Folds.{length-prefix_len}
 use Rattle.std.proofs.lemmas.List.Sums.{prefix_len_passes}
 use Rattle.std.proofs.Math.Seq.{take-append_seam, drop-append_seam}
-use Rattle.py_version.specs.Spelling.{IsMetadata, IsRun, dotted, dotted_after, is_metadata}
+use Rattle.py_version.specs.Spelling.{IsMetadata, IsMetadataRun, dotted, dotted_after, is_metadata}
 use Rattle.py_version.specs.Fronts.{are_runs, are_runs_after, is_dotted, metadata_front, metadata_len}
 use Rattle.py_version.proofs.Numbers.{chose}
 
@@ -19,7 +19,7 @@ abbrev pub IsOfDotted : ℕ → Type 0
 IsOfDotted c = IsTrue (is_dotted c)
 
 abbrev pub AreRuns : List (List ℕ) → Type 0
-AreRuns runs = All IsRun runs
+AreRuns runs = All IsMetadataRun runs
 
 -- ---- where the metadata ends
 
@@ -62,31 +62,31 @@ runs_pass : (before : Bool) (cs : List ℕ) (runs : List (List ℕ)) → All IsO
 runs_pass before [] [] all each some = passes_run before [] (λ is. some is refl) (λ run more e. absurd (cc))
 runs_pass true [] (run ∷ runs) all each some = absurd (some refl refl)
 runs_pass false [] (run ∷ runs) all each some =
-    let first : IsRun run = All-head IsRun run runs each in
-    runs_pass true run runs first.all (All-tail IsRun run runs each) (λ _. first.some)
+    let first : IsMetadataRun run = All-head IsMetadataRun run runs each in
+    runs_pass true run runs first.all (All-tail IsMetadataRun run runs each) (λ _. first.some)
 runs_pass before (c ∷ cs) runs all each some =
     passes_byte before c (cs ++ dotted_after runs) (no_dot c (All-head IsOf c cs all))
     (runs_pass false cs runs (All-tail IsOf c cs all) each (λ e. absurd (cc)))
 
-run_passes : (run : List ℕ) (runs : List (List ℕ)) → IsRun run → AreRuns runs → are_runs (run ++ dotted_after runs) ≡ true
+run_passes : (run : List ℕ) (runs : List (List ℕ)) → IsMetadataRun run → AreRuns runs → are_runs (run ++ dotted_after runs) ≡ true
 run_passes [] runs is each = absurd (is.some refl)
 run_passes (c ∷ cs) runs is each = runs_pass true (c ∷ cs) runs is.all each (λ _. is.some)
 
 are_runs_dotted : (runs : List (List ℕ)) → AreRuns runs → are_runs (dotted runs) ≡ true
 are_runs_dotted [] each = refl
-are_runs_dotted (run ∷ runs) each = run_passes run runs (All-head IsRun run runs each) (All-tail IsRun run runs each)
+are_runs_dotted (run ∷ runs) each = run_passes run runs (All-head IsMetadataRun run runs each) (All-tail IsMetadataRun run runs each)
 
 after_dotted : (runs : List (List ℕ)) → AreRuns runs → All IsOfDotted (dotted_after runs)
 after_dotted [] each = All-nil IsOfDotted
 after_dotted (run ∷ runs) each =
-    let first = All-weaker IsOf IsOfDotted of_dotted run (All-head IsRun run runs each).all in
-    All-cons IsOfDotted 46 _ refl (All-append IsOfDotted run (dotted_after runs) first (after_dotted runs (All-tail IsRun run runs each)))
+    let first = All-weaker IsOf IsOfDotted of_dotted run (All-head IsMetadataRun run runs each).all in
+    All-cons IsOfDotted 46 _ refl (All-append IsOfDotted run (dotted_after runs) first (after_dotted runs (All-tail IsMetadataRun run runs each)))
 
 pub are_dotted : (runs : List (List ℕ)) → AreRuns runs → All IsOfDotted (dotted runs)
 are_dotted [] each = All-nil IsOfDotted
 are_dotted (run ∷ runs) each =
-    let first = All-weaker IsOf IsOfDotted of_dotted run (All-head IsRun run runs each).all in
-    All-append IsOfDotted run (dotted_after runs) first (after_dotted runs (All-tail IsRun run runs each))
+    let first = All-weaker IsOf IsOfDotted of_dotted run (All-head IsMetadataRun run runs each).all in
+    All-append IsOfDotted run (dotted_after runs) first (after_dotted runs (All-tail IsMetadataRun run runs each))
 
 -- bytes that pass are what is left of a run, and the runs after it
 record Splits (before : Bool) (cs : List ℕ) : Type 0 where
@@ -115,7 +115,7 @@ splits_dot before cs is s = record {
   all = All-nil IsOf;
   some = λ e. absurd (cc (e, is));
   runs = s.run ∷ s.runs;
-  each = All-cons IsRun s.run s.runs (record { some = s.some refl; all = s.all }) s.each;
+  each = All-cons IsMetadataRun s.run s.runs (record { some = s.some refl; all = s.all }) s.each;
   parts = ap (λ r. 46 ∷ r) s.parts;
 }
 
@@ -131,7 +131,7 @@ splits_byte before c cs is s = record {
 
 splits : (before : Bool) (cs : List ℕ) → All IsOfDotted cs → are_runs_after before cs ≡ true → Splits before cs
 splits true [] all passes = absurd (cc)
-splits false [] all passes = record { run = []; all = All-nil IsOf; some = λ e. absurd (cc); runs = []; each = All-nil IsRun; parts = refl }
+splits false [] all passes = record { run = []; all = All-nil IsOf; some = λ e. absurd (cc); runs = []; each = All-nil IsMetadataRun; parts = refl }
 splits before (c ∷ cs) all passes =
     let tail = All-tail IsOfDotted c cs all in
     by_dot (c == 46) refl (λ is two. splits true cs tail two) (λ is two. splits false cs tail two)
@@ -145,10 +145,10 @@ splits before (c ∷ cs) all passes =
 
 -- bytes that pass are runs joined by dots
 are_joined : (cs : List ℕ) → All IsOfDotted cs → are_runs cs ≡ true → (runs : List (List ℕ)) × AreRuns runs × (cs ≡ dotted runs)
-are_joined [] all passes = ([], All-nil IsRun, refl)
+are_joined [] all passes = ([], All-nil IsMetadataRun, refl)
 are_joined (c ∷ cs) all passes =
     let s = splits true (c ∷ cs) all passes in
-    (s.run ∷ s.runs, All-cons IsRun s.run s.runs (record { some = s.some refl; all = s.all }) s.each, s.parts)
+    (s.run ∷ s.runs, All-cons IsMetadataRun s.run s.runs (record { some = s.some refl; all = s.all }) s.each, s.parts)
 
 -- ---- the whole
 

@@ -3,7 +3,7 @@ use Rattle.std.proofs.Common.{◌≡◌, ℕ, List, ap, ◌∙◌}
 use Rattle.std.specs.Prelude.{None, drop}
 use Rattle.py_version.specs.declared.version.Version.{Version}
 use Rattle.py_version.specs.Spelling.{IsLeftmost, SpellsAt, SpellsNone}
-use Rattle.py_version.specs.Fronts.{IsFirst, spelled}
+use Rattle.py_version.specs.Fronts.{IsFirstVersion, spelled}
 use Rattle.py_version.proofs.Spellings.{spelled_read, spelled_spells}
 
 -- where the reader takes nothing no version stands
@@ -13,7 +13,7 @@ taken_none bytes text place v none at = absurd (cc (none, ap spelled at.parts �
 pub spells_none : (bytes : List ℕ) → ((place : ℕ) → spelled (drop place bytes) ≡ None) → SpellsNone bytes
 spells_none bytes none place text v at = taken_none bytes text place v (none place) at
 
-pub leftmost : (bytes : List ℕ) (v : Version) → IsFirst bytes v → IsLeftmost bytes v
+pub leftmost : (bytes : List ℕ) (v : Version) → IsFirstVersion bytes v → IsLeftmost bytes v
 leftmost bytes v is =
     let begins = spelled_spells (drop is.place bytes) v is.here in
     record {

@@ -145,7 +145,7 @@ abbrev pub version_of : Spelling → Version
 version_of s = version_by s.major s.minor s.patch s.flags.now (borrowed s.metadata)
 
 -- the version that stands first, by the place
-pub record IsFirst (bytes : List ℕ) (v : Version) : Type 0 where
+pub record IsFirstVersion (bytes : List ℕ) (v : Version) : Type 0 where
   pub place : ℕ
   pub here : spelled (drop place bytes) ≡ Some v
   pub before : (k : ℕ) → k < place → spelled (drop k bytes) ≡ None

@@ -48,7 +48,7 @@ abbrev pub is_metadata : ℕ → Bool
 is_metadata c = is_ascii_digit c || is_in_range 97 122 c || c == 45
 
 -- a run of these, not empty
-pub record IsRun (run : List ℕ) : Type 0 where
+pub record IsMetadataRun (run : List ℕ) : Type 0 where
   pub some : run ≢ []
   pub all : All (λ c. IsTrue (is_metadata c)) run
 
@@ -65,7 +65,7 @@ dotted (run ∷ runs) = run ++ dotted_after runs
 -- `+` and runs joined by dots, or by none nothing
 pub record IsBuild (text metadata : List ℕ) : Type 0 where
   pub runs : List (List ℕ)
-  pub each : All IsRun runs
+  pub each : All IsMetadataRun runs
   pub are : metadata ≡ dotted runs
   pub parts : text ≡ codes "+" ++ metadata
 

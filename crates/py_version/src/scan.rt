@@ -1,7 +1,7 @@
 //! The scan for a version.
 ghost use Rattle.std.specs.Prelude.{◌≡◌, ◌↔◌, ℕ, IfOk, IfSome, Err, None, MatchOption, IsAscii, drop};
 ghost use Rattle.py_version.specs.Spelling.{IsLeftmost, SpellsNone, SpellsOnce};
-ghost use Rattle.py_version.specs.Fronts.{IsFirst, borrowed, spelled, version_of};
+ghost use Rattle.py_version.specs.Fronts.{IsFirstVersion, borrowed, spelled, version_of};
 
 use crate::spelling::{Spelling, spelling_at};
 use crate::{ScanError, Version};
@@ -11,7 +11,7 @@ use std::alloc::{AllocError, Global};
 /// The spelling that stands first.
 fn first_spelling(bytes: &[u8]) -> Option<Spelling<'_>>
     ensures { MatchOption result ((place : ℕ) → spelled (drop place bytes.now) ≡ None)
-        (λ s. IsFirst bytes.now (version_of s)) }
+        (λ s. IsFirstVersion bytes.now (version_of s)) }
 {
     for place in 0..bytes.len() {
         if let Some(spelling) = spelling_at(&bytes[place..]) {

@@ -1,12 +1,12 @@
 use Rattle.core_words.specs.Words.{command_of, texts}
-use Rattle.core_report.specs.Run.{end_of}
+use Rattle.core_report.specs.Run.{end_after}
 use Rattle.core_report.proofs.Ends.{run_all_read, run_asked, run_complete, run_nothing_out, run_only, run_printed, run_refused, run_silent, run_status, run_unread}
 use Rattle.core_report.proofs.Headline.{reported_of_run}
 use Rattle.core_report.proofs.command.run.Goals as goal
 
 pub returns-clause-right : goal.returns-clause-right
 returns-clause-right g c = record {
-  end = end_of c.execute-ended.result;
+  end = end_after c.execute-ended.result;
   is = c.tell.ensures.status;
   ended = c.execute-ended.ensures.ends (command_of (texts c.args.words.now)) c.read_words-asked.ensures;
   said = c.tell.ensures.said;

@@ -1,12 +1,12 @@
 use Rattle.std.proofs.Common.{ℕ, List, [], subst, ◌≡◌, Bool, true, false}
 use Rattle.std.specs.Bool.{MatchBool}
-use Rattle.image_memory.specs.Cores.{Refuses, IsEarly, HasNotes}
+use Rattle.image_memory.specs.Cores.{RefusesCore, IsEarly, HasNotes}
 use Rattle.image_memory.specs.Notes.{note_segments}
 use Rattle.image_memory.specs.declared.dump_error.DumpError.{DumpError as Refusal}
 use Rattle.image_memory.specs.declared.dump_error.DumpError.TheVariants.{NotElf64, BadHeader, NoNotes, BadNote, OutOfMemory}
 use Rattle.image_memory.proofs.contents.accept.Goals as goal
 
-early_refused : (bytes : List ℕ) (e : Refusal) → HasNotes bytes → IsEarly e → Refuses bytes e → ⊥
+early_refused : (bytes : List ℕ) (e : Refusal) → HasNotes bytes → IsEarly e → RefusesCore bytes e → ⊥
 early_refused bytes NotElf64 is early h = h is.accepted.header
 early_refused bytes BadHeader is early h = h.1 is.accepted.readable
 early_refused bytes NoNotes is early h = is.noted h.1

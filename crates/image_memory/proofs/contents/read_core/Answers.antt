@@ -2,9 +2,9 @@ use Rattle.std.proofs.Common.{◌≡◌, map, ap, subst, sym, arith, ◌∙◌}
 use Rattle.elf64_core.specs.Header.{machine_of}
 use Rattle.elf64_core.specs.declared.segment.Segment.{Segment}
 use Rattle.image_memory.specs.Contents.{NotesSay}
-use Rattle.image_memory.specs.FileTables.{entry_of}
-use Rattle.image_memory.specs.Maps.{map_by, named_by, place_by, placed_by}
-use Rattle.image_memory.specs.Overlays.{ArePieces, IsRange}
+use Rattle.image_memory.specs.FileTables.{file_entry_of}
+use Rattle.image_memory.specs.Maps.{map_by, named_by, file_place_by, placed_by}
+use Rattle.image_memory.specs.Overlays.{ArePieces, IsBoundedRange}
 use Rattle.image_memory.specs.Pieces.{loads_of, range_of}
 use Rattle.std.specs.Prelude.{All}
 use Rattle.image_memory.proofs.Lists.{map-same}
@@ -17,7 +17,7 @@ returns-clause-are c =
     let said = c.in_ok-said.said in
     let same : c.in_ok-elf.elf ≡ bytes = c.in_ok-elf.ensures.same in
     let noted = c.in_ok-elf.ensures.noted in
-    let entries = map entry_of said.entries.items in
+    let entries = map file_entry_of said.entries.items in
     let says : NotesSay bytes said.statuses.items said.process entries = subst (λ bs. NotesSay bs said.statuses.items said.process entries) same c.in_ok-said.ensures.say in
     let loads : c.in_ok-loads.loads.items ≡ loads_of bytes = c.in_ok-loads.ensures ∙ ap loads_of same in
     let named = λ (s : Segment). ap (λ e. named_by e s) (c.in_ok-last.ensures s.addr) in
@@ -38,7 +38,7 @@ returns-clause-are c =
         notes = says.notes;
         entries = entries;
         found = says.found;
-        says = c.in_ok-places.ensures ∙ map-same _ (place_by entries) _ placed ∙ ap (map (place_by entries)) (c.deref-3.ensures.value ∙ loads);
+        says = c.in_ok-places.ensures ∙ map-same _ (file_place_by entries) _ placed ∙ ap (map (file_place_by entries)) (c.deref-3.ensures.value ∙ loads);
       };
       statuses_are = record { notes = says.notes; entries = entries; found = says.found; says = says.statuses_are };
       process_is = record { notes = says.notes; entries = entries; found = says.found; says = says.process_is };
@@ -49,4 +49,4 @@ pieces_of-requires c =
     let bytes = c.args.bytes.now in
     let same : c.in_ok-elf.elf ≡ bytes = c.in_ok-elf.ensures.same in
     let loads = c.deref.ensures.value ∙ c.in_ok-loads.ensures ∙ ap loads_of same in
-    subst (λ ls. All IsRange (map range_of ls)) (sym loads) (ranges_held bytes (omega arith) c.in_ok-elf.ensures.noted.accepted.readable)
+    subst (λ ls. All IsBoundedRange (map range_of ls)) (sym loads) (ranges_held bytes (omega arith) c.in_ok-elf.ensures.noted.accepted.readable)

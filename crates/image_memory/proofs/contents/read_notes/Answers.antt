@@ -3,7 +3,7 @@ use Rattle.std.specs.Prelude.{All, IsTrue, filter, filter_map, find, option_and_
 use Rattle.std.proofs.lemmas.List.Elements.{All-map}
 use Rattle.std.proofs.lemmas.Result.{err_from_is_err_and}
 use Rattle.elf64_core.specs.Notes.{noted}
-use Rattle.image_memory.specs.Notes.{IsWhole, TablesSay, is_of_kind, is_table, note_segments, process_kind, process_of, status_of}
+use Rattle.image_memory.specs.Notes.{IsWhole, TablesSay, is_of_kind, is_table, note_segments, process_kind, process_of, status_noted}
 use Rattle.image_memory.specs.declared.dump_error.DumpError.TheVariants.{BadNote}
 use Rattle.image_memory.proofs.Lists.{All-unmap, filter_map-map, last-map}
 use Rattle.image_memory.proofs.Noted.{NotesOf-once}
@@ -40,8 +40,8 @@ returns-clause-say c =
         whole = All-map IsWhole noted items each;
         tables = c.in_ok-entries.ensures.entries;
       };
-      statuses_are = c.in_ok-statuses.ensures ∙ ap (filter_map (λ note. status_of (noted note))) c.deref-2.ensures.value
-          ∙ sym (filter_map-map status_of noted items);
+      statuses_are = c.in_ok-statuses.ensures ∙ ap (filter_map (λ note. status_noted (noted note))) c.deref-2.ensures.value
+          ∙ sym (filter_map-map status_noted noted items);
       process_is = c.last_process-process.ensures
           ∙ ap (λ ns. option_and_then (λ note. process_of (noted note)) (find (λ note. is_of_kind process_kind (noted note)) (reverse ns))) c.deref-3.ensures.value
           ∙ last-map process_of (is_of_kind process_kind) noted items;

@@ -1,6 +1,6 @@
 use Rattle.std.proofs.Common.{◌≡◌, ◌+◌, ◌∷◌, ◌++◌, [], length, drop, map, ap, subst, sym, ◌∙◌, arith, zero-add, length-append}
 use Rattle.std.proofs.lemmas.List.{map-append, length-map}
-use Rattle.image_memory.specs.FileTables.{NamesThen, entries_from, entry_at, entry_of, names_start}
+use Rattle.image_memory.specs.FileTables.{NamesThen, entries_from, entry_at, file_entry_of, names_start}
 use Rattle.image_memory.proofs.Tables.{NamesThen-more, entries_from-more, name_of, no_table}
 use Rattle.image_memory.proofs.file_table.table_entries.Goals as goal
 
@@ -37,8 +37,8 @@ loop-number-preserved c =
     record {
       named = subst (λ ns. NamesThen (drop (names_start c.u64_in-count.result) table) ns c.in-Some.after.now) (sym names)
           (NamesThen-more _ (map name_of items) c.loop-number.rest.now c.in-Some.name.now c.in-Some.after.now c.loop-number.invariant.named c.in-Some.ensures);
-      says = ap (map entry_of) all ∙ map-append entry_of items (entry ∷ [])
-          ∙ ap (λ es. es ++ entry_of entry ∷ []) c.loop-number.invariant.says
+      says = ap (map file_entry_of) all ∙ map-append file_entry_of items (entry ∷ [])
+          ∙ ap (λ es. es ++ file_entry_of entry ∷ []) c.loop-number.invariant.says
           ∙ ap (λ e. entries_from table 0 (map name_of items) ++ e ∷ []) (c.entry_at.ensures ∙ ap (λ n. entry_at table n c.in-Some.name.now) (sym (zero-add (length (map name_of items)) ∙ number)))
           ∙ sym (entries_from-more table 0 (map name_of items) c.in-Some.name.now)
           ∙ ap (entries_from table 0) (sym names);

@@ -3,7 +3,7 @@ use Rattle.std.proofs.lemmas.Iterator.Adapters.{YieldsList-from_vec}
 use Rattle.std.proofs.lemmas.List.{map-append}
 use Rattle.std.proofs.lemmas.Result.{err_from_is_err_and}
 use Rattle.elf64_core.specs.Notes.{noted}
-use Rattle.image_memory.specs.FileTables.{entry_of}
+use Rattle.image_memory.specs.FileTables.{file_entry_of}
 use Rattle.image_memory.specs.Notes.{TablesSay, is_table}
 use Rattle.image_memory.specs.declared.dump_error.DumpError.TheVariants.{BadNote}
 use Rattle.image_memory.proofs.Refusals.{error_is}
@@ -32,9 +32,9 @@ loop-note-preserved-then-note-eq-FILE_TABLE c =
     let xs = c.loop-note.yielded in
     let all = c.loop-note.entries.items in
     let own = c.in_ok-own.own.items in
-    let entries : map entry_of c.extend_from_slice.new.self.items ≡ map entry_of all ++ map entry_of own = ap (map entry_of) (c.in_ok-extend_from_slice.ensures.items ∙ ap (λ es. all ++ es) c.deref.ensures.value) ∙ map-append entry_of all own in
+    let entries : map file_entry_of c.extend_from_slice.new.self.items ≡ map file_entry_of all ++ map file_entry_of own = ap (map file_entry_of) (c.in_ok-extend_from_slice.ensures.items ∙ ap (λ es. all ++ es) c.deref.ensures.value) ∙ map-append file_entry_of all own in
     let those : filter is_table (map noted (xs ++ note ∷ [])) ≡ filter is_table (map noted xs) ++ noted note ∷ [] = ap (filter is_table) (map-append noted xs (note ∷ []))
     ∙ filter_at is_table (map noted xs) [] (noted note) (eq-eqb _ _ c.if-note-eq-FILE_TABLE.true) in
-    subst (λ ts. TablesSay ts (map entry_of c.extend_from_slice.new.self.items)) (sym those)
+    subst (λ ts. TablesSay ts (map file_entry_of c.extend_from_slice.new.self.items)) (sym those)
     (subst (TablesSay (filter is_table (map noted xs) ++ noted note ∷ [])) (sym entries)
-    (TablesSay-more (filter is_table (map noted xs)) (map entry_of all) (noted note) (map entry_of own) c.loop-note.invariant c.in_ok-own.ensures.entries))
+    (TablesSay-more (filter is_table (map noted xs)) (map file_entry_of all) (noted note) (map file_entry_of own) c.loop-note.invariant c.in_ok-own.ensures.entries))

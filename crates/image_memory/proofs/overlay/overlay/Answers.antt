@@ -1,6 +1,6 @@
 use Rattle.std.proofs.Common.{◌++◌, ◌∷◌, ◌+◌, ◌^◌, ◌-◌, [], drop, get_or, ap, sym, ◌∙◌, arith}
 use Rattle.image_memory.specs.declared.overlay.Owned.{Owned}
-use Rattle.image_memory.specs.Laid.{end_of, overlaid}
+use Rattle.image_memory.specs.Laid.{piece_end, overlaid}
 use Rattle.std.proofs.lemmas.List.{drop_all}
 use Rattle.image_memory.proofs.Laid.{AreBelow-wider, Rises-at, overlaid_more, parts_gone, room_at}
 use Rattle.image_memory.proofs.overlay.overlay.Goals as goal
@@ -13,9 +13,9 @@ loop-top-preserved c =
     let rise = Rises-at c.loop-top.low c.loop-top.top-index c.args.over.now d c.loop-top-test.true i.rise in
     let pushed = c.in_ok-push.ensures.items ∙ ap (λ items. items ++ top ∷ []) c.in_ok-next.ensures.made in
     record {
-      made = ap (λ items. items ++ overlaid c.args.shift (end_of top) (drop (c.loop-top.top-index + 1) c.args.over.now) c.args.under.now) pushed
+      made = ap (λ items. items ++ overlaid c.args.shift (piece_end top) (drop (c.loop-top.top-index + 1) c.args.over.now) c.args.under.now) pushed
           ∙ overlaid_more c.loop-top.made.items c.args.under.now c.args.over.now c.args.shift c.loop-top.low c.loop-top.next c.loop-top.top-index d _ c.loop-top-test.true i.below i.made;
-      below = AreBelow-wider top.entry.start (end_of top) _ c.in_ok-next.ensures.below (omega arith);
+      below = AreBelow-wider top.entry.start (piece_end top) _ c.in_ok-next.ensures.below (omega arith);
       rise = rise.1;
       ends = (room_at 0 c.loop-top.top-index c.args.over.now d c.requires.ends c.loop-top-test.true).ends;
     }

@@ -1,16 +1,16 @@
 use Rattle.std.proofs.Common.{◌≡◌, ◌∙◌, ◌≤◌, ◌-◌, ℕ, List, [], ◌∷◌, length, take, drop, false, cond, bytes_eq, sym, ap, arith, Vec, get_or, take_all, Some}
 use Rattle.std.specs.Global.{Global}
-use Rattle.outside.specs.Files.{bytes_of, entries}
+use Rattle.outside.specs.Files.{held_bytes, entries}
 use Rattle.outside.proofs.memory_files.find.Goals as goal
 
 skips : (files : List (List ℕ × Vec ℕ Global)) (name : List ℕ) (file : List ℕ × Vec ℕ Global)
     → 1 ≤ length files → file ≡ get_or files 0 file → bytes_eq file.0 name ≡ false
-    → bytes_of (entries (take (length files - 1) (drop 1 files))) name ≡ bytes_of (entries files) name
+    → held_bytes (entries (take (length files - 1) (drop 1 files))) name ≡ held_bytes (entries files) name
 skips [] name file some is other = absurd (omega arith)
 skips (first ∷ rest) name file some is other =
     let same : take (length (first ∷ rest) - 1) rest ≡ rest = take_all _ rest (omega arith) in
-    ap (λ files. bytes_of (entries files) name) same
-    ∙ sym (ap (λ b. cond b (Some first.1.items) (bytes_of (entries rest) name)) (ap (λ f. bytes_eq f.0 name) (sym is) ∙ other))
+    ap (λ files. held_bytes (entries files) name) same
+    ∙ sym (ap (λ b. cond b (Some first.1.items) (held_bytes (entries rest) name)) (ap (λ f. bytes_eq f.0 name) (sym is) ∙ other))
 
 pub loop-rest-preserved : goal.loop-rest-preserved
 loop-rest-preserved c =

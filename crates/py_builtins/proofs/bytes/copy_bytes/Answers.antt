@@ -8,14 +8,14 @@ use Rattle.process_memory.proofs.Reading.{reading_gives, reads_halt, reads_next}
 use Rattle.py_fields.proofs.ObjectFields.{bytes_fits}
 use Rattle.py_builtins.specs.Bytes.{bytes_object_at, bytes_of_length}
 use Rattle.process_memory.specs.declared.memory.ReadFault.{ReadFault}
-use Rattle.process_memory.specs.Seen.{Answers, fault_of as read_fault}
+use Rattle.process_memory.specs.Seen.{Answers, read_fault}
 use Rattle.py_builtins.specs.declared.error.ObjectError.{ObjectError}
-use Rattle.py_builtins.specs.ObjectError.{fault_of}
+use Rattle.py_builtins.specs.ObjectError.{object_fault}
 use Rattle.py_builtins.proofs.BytesRead.{bytes_long, bytes_fine}
 use Rattle.py_builtins.proofs.bytes.copy_bytes.Goals as goal
 
 -- an error that names the same fault
-fails : {T : Type 0} (d e : Found T) (x : ObjectError) {y : ReadFault} → fault_of x ≡ read_fault y → d ≡ e → Answers {T = T} read_fault e (Err y) → Answers {T = T} fault_of d (Err x)
+fails : {T : Type 0} (d e : Found T) (x : ObjectError) {y : ReadFault} → object_fault x ≡ read_fault y → d ≡ e → Answers {T = T} read_fault e (Err y) → Answers {T = T} object_fault d (Err x)
 fails d e x {y} same is h = record { is = rw (is, same) h.is }
 
 pub u64_in-length-requires : goal.u64_in-length-requires

@@ -7,7 +7,7 @@ use Rattle.std.proofs.lemmas.Result.{err_from_is_err_and}
 use Rattle.elf64_core.specs.Fields.{u64_in}
 use Rattle.process_memory.proofs.Reading.{reads_end, reads_halt, reads_next, reads_same}
 use Rattle.py_fields.proofs.ObjectFields.{long_fits}
-use Rattle.py_builtins.specs.ObjectError.{fault_of}
+use Rattle.py_builtins.specs.ObjectError.{object_fault}
 use Rattle.py_builtins.specs.Integers.{digits_of, long_at, long_by, signed}
 use Rattle.py_builtins.proofs.Buffers.{front_read, front_short}
 use Rattle.py_builtins.proofs.integers.copy_long.Goals as goal
@@ -42,7 +42,7 @@ returns-in_err-magnitude-clause-answer g c =
     rw p.1
     (reads_next 2 _ one
     (reads_same _ (λ m. long_by l m c.args.addr object digits) (λ m. ap (long_by l m c.args.addr object) digits_is)
-    (reads_halt 1 p.0 (λ m n. Ok (signed digits.negative n, nat_lt 2 digits.count)) c.in_err-magnitude.ensures.answer (ap fault_of p.2) (omega arith)))
+    (reads_halt 1 p.0 (λ m n. Ok (signed digits.negative n, nat_lt 2 digits.count)) c.in_err-magnitude.ensures.answer (ap object_fault p.2) (omega arith)))
     (omega arith))
 
 pub returns-clause-answer : goal.returns-clause-answer

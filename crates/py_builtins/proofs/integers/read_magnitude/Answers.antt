@@ -3,7 +3,7 @@ use Rattle.std.specs.Prelude.{Ok}
 use Rattle.std.proofs.lemmas.Result.{err_from_is_err_and}
 use Rattle.process_memory.proofs.Reading.{reading_gives, reads_end, reads_halt, reads_known, reads_next}
 use Rattle.py_fields.proofs.ObjectFields.{long_fits}
-use Rattle.py_builtins.specs.Integers.{two_digits}
+use Rattle.py_builtins.specs.Integers.{two_big_digits}
 use Rattle.py_builtins.proofs.Numbers.{magnitude_none, magnitude_one, magnitude_two, magnitude_more}
 use Rattle.py_builtins.proofs.integers.read_magnitude.Goals as goal
 
@@ -24,12 +24,12 @@ pub returns-in_err-digits-in-2-clause-answer : goal.returns-in_err-digits-in-2-c
 returns-in_err-digits-in-2-clause-answer g c =
     let is : c.args.count ≡ 2 = omega arith in
     let p = err_from_is_err_and c.from_residual.result c.from_residual.ensures.1 in
-    rw p.1 (reading_gives 1 _ (reads_halt 1 p.0 (λ m word. Ok (two_digits word)) c.in_err-digits-in-2.ensures.answer p.2 (omega arith)) (omega arith) (λ m h. rw (magnitude_two c.args.layout.now m c.args.addr c.args.object.now c.args.count is) h))
+    rw p.1 (reading_gives 1 _ (reads_halt 1 p.0 (λ m word. Ok (two_big_digits word)) c.in_err-digits-in-2.ensures.answer p.2 (omega arith)) (omega arith) (λ m h. rw (magnitude_two c.args.layout.now m c.args.addr c.args.object.now c.args.count is) h))
 
 pub returns-in_ok-digits-in-2-clause-answer : goal.returns-in_ok-digits-in-2-clause-answer
 returns-in_ok-digits-in-2-clause-answer g c =
     let is : c.args.count ≡ 2 = omega arith in
-    reading_gives 1 _ (reads_next 1 (λ m word. Ok (two_digits word)) c.in_ok-digits-in-2.ensures.answer (reads_end 0 refl) (omega arith)) (omega arith) (λ m h. rw (magnitude_two c.args.layout.now m c.args.addr c.args.object.now c.args.count is) h)
+    reading_gives 1 _ (reads_next 1 (λ m word. Ok (two_big_digits word)) c.in_ok-digits-in-2.ensures.answer (reads_end 0 refl) (omega arith)) (omega arith) (λ m h. rw (magnitude_two c.args.layout.now m c.args.addr c.args.object.now c.args.count is) h)
 
 pub returns-in_default-clause-answer : goal.returns-in_default-clause-answer
 returns-in_default-clause-answer g c =

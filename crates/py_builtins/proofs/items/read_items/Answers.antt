@@ -3,7 +3,7 @@ use Rattle.std.specs.Prelude.{Ok}
 use Rattle.std.proofs.lemmas.Result.{err_from_is_err_and}
 use Rattle.elf64_core.specs.Fields.{u64_in}
 use Rattle.process_memory.proofs.Reading.{reads_end, reads_halt, reads_known, reads_next}
-use Rattle.py_builtins.specs.ObjectError.{fault_of}
+use Rattle.py_builtins.specs.ObjectError.{object_fault}
 use Rattle.py_builtins.specs.Items.{item_count, items_at, items_by}
 use Rattle.py_builtins.proofs.items.read_items.Goals as goal
 
@@ -20,7 +20,7 @@ returns-in_err-count g c =
     let p = err_from_is_err_and c.from_residual-in_err-count.result c.from_residual-in_err-count.ensures.1 in
     let object = rw c.count_at-place.ensures.place at c.in_ok-object.ensures.answer in
     let count = rw (c.u64_in.ensures, c.deref.ensures.value, c.count_at-place.ensures.place) at c.in_err-count.ensures in
-    rw p.1 (reads_next 1 _ object (reads_halt 0 p.0 _ (reads_known 0 _ _ (λ m. count)) (ap fault_of p.2) (omega arith)) (omega arith))
+    rw p.1 (reads_next 1 _ object (reads_halt 0 p.0 _ (reads_known 0 _ _ (λ m. count)) (ap object_fault p.2) (omega arith)) (omega arith))
 
 pub returns : goal.returns
 unfolding items_at

@@ -6,8 +6,8 @@ use Rattle.std.proofs.lemmas.Int.{to_z-of_z}
 use Rattle.std.proofs.lemmas.List.{take_rest}
 use Rattle.py_lines.specs.declared.lines.Place.{Place}
 use Rattle.py_lines.specs.Entries.{first_entry}
-use Rattle.py_lines.specs.Lines.{ranges_of, line_in, holds}
-use Rattle.py_lines.specs.Places.{range_at, last_at, kept_last}
+use Rattle.py_lines.specs.Lines.{ranges_of, line_among, holds}
+use Rattle.py_lines.specs.Places.{line_range_at, last_at, kept_last}
 use Rattle.py_lines.proofs.Places.{IsAhead, walk_begins, walk_passes, walk_ends, near_still, held_line, passed_line, no_line_left}
 use Rattle.py_lines.proofs.lines.line_held.Goals as goal
 
@@ -23,14 +23,14 @@ returns-then-holds c =
     let walk = c.loop-entry.invariant.walk in
     let first : first_entry c.args.family c.loop-entry.rest.now ≡ Some c.in-Some.entry = sym c.first_entry.ensures.value ∙ c.in-Some.is in
     let passed = walk_passes c.args.family c.loop-entry.rest.now place walk.0 c.in-Some.entry walk.2 first c.in-Some.ensures.size c.in-Some.ensures.small in
-    let here = range_at c.args.family place c.in-Some.entry in
+    let here = line_range_at c.args.family place c.in-Some.entry in
     let held : holds c.args.offset here ≡ true = ap (holds c.args.offset) (sym c.range_under-range.ensures) ∙ sym c.holds.ensures ∙ c.if-holds.true in
     to_z-of_z w32 c.unwrap_or.result (search rules)
     ∙ c.unwrap_or.ensures
     ∙ ap (λ r. unwrap_or r.line (pos 0)) c.range_under-range.ensures
     ∙ sym (held_line c.args.offset here passed.0 walk.0 passed.1 held)
     ∙ walk.1
-    ∙ ap (λ z. line_in (ranges_of c.args.family z c.args.table.now) c.args.offset) (to_z-of_z w32 c.args.first c.ranges.first)
+    ∙ ap (λ z. line_among (ranges_of c.args.family z c.args.table.now) c.args.offset) (to_z-of_z w32 c.args.first c.ranges.first)
 
 pub loop-entry-preserved : goal.loop-entry-preserved
 loop-entry-preserved c =
@@ -40,7 +40,7 @@ loop-entry-preserved c =
     let walk = c.loop-entry.invariant.walk in
     let first : first_entry c.args.family rest ≡ Some entry = sym c.first_entry.ensures.value ∙ c.in-Some.is in
     let passed = walk_passes c.args.family rest place walk.0 entry walk.2 first c.in-Some.ensures.size c.in-Some.ensures.small in
-    let here = range_at c.args.family place entry in
+    let here = line_range_at c.args.family place entry in
     let free : holds c.args.offset here ≡ false = ap (holds c.args.offset) (sym c.range_under-range.ensures) ∙ sym c.holds.ensures ∙ c.if-holds.false in
     let ahead : IsAhead c.args.family (drop entry.size rest) c.past-place.result passed.0 = subst (λ (p : Place). IsAhead c.args.family (drop entry.size rest) p passed.0) (sym c.past-place.ensures) passed.2 in
     record {
@@ -60,7 +60,7 @@ returns-in-Some-last c =
     ∙ c.unwrap_or-in-Some-last.ensures
     ∙ sym (held_line c.args.offset c.in-Some-last.range [] walk.0 is held)
     ∙ walk.1
-    ∙ ap (λ z. line_in (ranges_of c.args.family z c.args.table.now) c.args.offset) (to_z-of_z w32 c.args.first c.ranges.first)
+    ∙ ap (λ z. line_among (ranges_of c.args.family z c.args.table.now) c.args.offset) (to_z-of_z w32 c.args.first c.ranges.first)
 
 pub returns-in_default-last : goal.returns-in_default-last
 returns-in_default-last c =
@@ -73,7 +73,7 @@ returns-in_default-last c =
     sym (no_line_left c.args.offset)
     ∙ passed_line c.args.offset c.in-Some-last.range [] walk.0 is free
     ∙ walk.1
-    ∙ ap (λ z. line_in (ranges_of c.args.family z c.args.table.now) c.args.offset) (to_z-of_z w32 c.args.first c.ranges.first)
+    ∙ ap (λ z. line_among (ranges_of c.args.family z c.args.table.now) c.args.offset) (to_z-of_z w32 c.args.first c.ranges.first)
 
 pub returns-in_default-last-2 : goal.returns-in_default-last-2
 returns-in_default-last-2 c =
@@ -83,6 +83,6 @@ returns-in_default-last-2 c =
     let last : last_at c.args.family place ≡ None = sym c.last.ensures ∙ c.in_default-last.is in
     let is : [] ≡ walk.0 = ap kept_last (sym last) ∙ walk_ends c.args.family c.loop-entry.rest.now place walk.0 walk.2 none in
     sym (no_line_left c.args.offset)
-    ∙ ap (λ rs. line_in rs c.args.offset) is
+    ∙ ap (λ rs. line_among rs c.args.offset) is
     ∙ walk.1
-    ∙ ap (λ z. line_in (ranges_of c.args.family z c.args.table.now) c.args.offset) (to_z-of_z w32 c.args.first c.ranges.first)
+    ∙ ap (λ z. line_among (ranges_of c.args.family z c.args.table.now) c.args.offset) (to_z-of_z w32 c.args.first c.ranges.first)

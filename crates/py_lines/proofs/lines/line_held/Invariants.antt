@@ -1,6 +1,6 @@
 use Rattle.std.proofs.Common.{◌≡◌, List, length}
 use Rattle.py_lines.specs.declared.lines.LineRange.{LineRange}
-use Rattle.py_lines.specs.Lines.{ranges_of, line_in}
+use Rattle.py_lines.specs.Lines.{ranges_of, line_among}
 use Rattle.py_lines.specs.Places.{IsNear}
 use Rattle.py_lines.proofs.Places.{IsAhead}
 use Rattle.py_lines.proofs.lines.line_held.Given as goal
@@ -9,7 +9,7 @@ use Rattle.py_lines.proofs.lines.line_held.Given as goal
 abbrev pub invariant-loop-entry : goal.invariant-loop-entry
 invariant-loop-entry l = record {
   near : IsNear 0 l.place;
-  walk : (ahead : List LineRange) × (line_in ahead l.offset ≡ line_in (ranges_of l.family l.first l.table) l.offset) × IsAhead l.family l.rest l.place ahead;
+  walk : (ahead : List LineRange) × (line_among ahead l.offset ≡ line_among (ranges_of l.family l.first l.table) l.offset) × IsAhead l.family l.rest l.place ahead;
 }
 
 abbrev pub decreases-loop-entry : goal.decreases-loop-entry

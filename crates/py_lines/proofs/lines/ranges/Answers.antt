@@ -8,7 +8,7 @@ use Rattle.py_lines.specs.declared.lines.LineRange.{LineRange}
 use Rattle.py_lines.specs.declared.lines.Place.{Place}
 use Rattle.py_lines.specs.Entries.{first_entry}
 use Rattle.py_lines.specs.Lines.{ranges_of, kept, AscendFrom}
-use Rattle.py_lines.specs.Places.{range_at, kept_last}
+use Rattle.py_lines.specs.Places.{line_range_at, kept_last}
 use Rattle.py_lines.proofs.Places.{IsAhead, walk_begins, walk_passes, walk_ends, near_still, found_more, ranges_ascend}
 use Rattle.py_lines.proofs.lines.ranges.Goals as goal
 use Rattle.py_lines.proofs.lines.ranges.Goals.{in-Some-last+in_ok-keep-2, in_default-last}
@@ -27,7 +27,7 @@ loop-entry-preserved c =
     let walk = c.loop-entry.invariant.walk in
     let first : first_entry c.args.family rest ≡ Some entry = sym c.first_entry.ensures.value ∙ c.in-Some.is in
     let passed = walk_passes c.args.family rest place walk.0 entry walk.2 first c.in-Some.ensures.size c.in-Some.ensures.small in
-    let here = range_at c.args.family place entry in
+    let here = line_range_at c.args.family place entry in
     let more : c.keep.new.found.items ≡ c.loop-entry.found.items ++ kept here [] = c.in_ok-keep.ensures ∙ ap (λ r. c.loop-entry.found.items ++ kept r []) c.range_under.ensures in
     let ahead : IsAhead c.args.family (drop entry.size rest) c.past-place.result passed.0 = subst (λ (p : Place). IsAhead c.args.family (drop entry.size rest) p passed.0) (sym c.past-place.ensures) passed.2 in
     record {

@@ -1,7 +1,7 @@
 use Rattle.std.proofs.Common.{refl, ap, arith}
 use Rattle.std.proofs.lemmas.Result.{err_from_is_err_and}
 use Rattle.process_memory.proofs.Reading.{reads_end, reads_halt, reads_known, reads_next}
-use Rattle.py_builtins.specs.ObjectError.{fault_of}
+use Rattle.py_builtins.specs.ObjectError.{object_fault}
 use Rattle.py_objects.specs.Nodes.{class_at}
 use Rattle.py_objects.proofs.nodes.read_class.Goals as goal
 
@@ -9,7 +9,7 @@ pub returns-in_err-class : goal.returns-in_err-class
 unfolding class_at
 returns-in_err-class g c =
     let p = err_from_is_err_and c.from_residual.result c.from_residual.ensures.1 in
-    rw p.1 (reads_halt 3 p.0 _ c.in_err-class.ensures (ap fault_of p.2) (omega arith))
+    rw p.1 (reads_halt 3 p.0 _ c.in_err-class.ensures (ap object_fault p.2) (omega arith))
 
 pub returns-in_err-chars : goal.returns-in_err-chars
 unfolding class_at
@@ -22,7 +22,7 @@ unfolding class_at
 returns-in_err-name g c =
     let p = err_from_is_err_and c.from_residual-in_err-name.result c.from_residual-in_err-name.ensures.1 in
     let name = rw c.deref.ensures.value at c.in_err-name.ensures in
-    rw p.1 (reads_next 3 _ c.in_ok-class.ensures (reads_next 1 _ c.in_ok-chars.ensures.answer (reads_halt 0 p.0 _ (reads_known 0 _ _ (λ m. name)) (ap fault_of p.2) (omega arith)) (omega arith)) (omega arith))
+    rw p.1 (reads_next 3 _ c.in_ok-class.ensures (reads_next 1 _ c.in_ok-chars.ensures.answer (reads_halt 0 p.0 _ (reads_known 0 _ _ (λ m. name)) (ap object_fault p.2) (omega arith)) (omega arith)) (omega arith))
 
 pub returns : goal.returns
 unfolding class_at

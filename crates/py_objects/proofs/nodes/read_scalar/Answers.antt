@@ -1,7 +1,7 @@
 use Rattle.std.proofs.Common.{refl, ap, arith}
 use Rattle.std.proofs.lemmas.Result.{err_from_is_err_and}
 use Rattle.process_memory.proofs.Reading.{reads_end, reads_halt, reads_known, reads_next}
-use Rattle.py_builtins.specs.ObjectError.{fault_of}
+use Rattle.py_builtins.specs.ObjectError.{object_fault}
 use Rattle.py_objects.specs.Nodes.{scalar_node}
 use Rattle.py_objects.proofs.nodes.read_scalar.Goals as goal
 
@@ -16,7 +16,7 @@ unfolding scalar_node
 returns-in_err-scalar g c =
     let p = err_from_is_err_and c.from_residual-in_err-scalar.result c.from_residual-in_err-scalar.ensures.1 in
     let text = rw c.deref.ensures.value at c.in_err-scalar.ensures in
-    rw p.1 (reads_next 1 _ (rw c.width.ensures at c.in_ok-bytes.ensures.answer) (reads_halt 0 p.0 _ (reads_known 0 _ _ (λ m. text)) (ap fault_of p.2) (omega arith)) (omega arith))
+    rw p.1 (reads_next 1 _ (rw c.width.ensures at c.in_ok-bytes.ensures.answer) (reads_halt 0 p.0 _ (reads_known 0 _ _ (λ m. text)) (ap object_fault p.2) (omega arith)) (omega arith))
 
 pub returns : goal.returns
 unfolding scalar_node

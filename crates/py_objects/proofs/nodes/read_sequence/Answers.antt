@@ -1,7 +1,7 @@
 use Rattle.std.proofs.Common.{refl, ap, arith}
 use Rattle.std.proofs.lemmas.Result.{err_from_is_err_and}
 use Rattle.process_memory.proofs.Reading.{reads_end, reads_halt, reads_next}
-use Rattle.py_builtins.specs.ObjectError.{fault_of}
+use Rattle.py_builtins.specs.ObjectError.{object_fault}
 use Rattle.py_objects.specs.Nodes.{items_node}
 use Rattle.py_objects.proofs.nodes.read_sequence.Goals as goal
 
@@ -9,7 +9,7 @@ pub returns-in_err-items : goal.returns-in_err-items
 unfolding items_node
 returns-in_err-items g c =
     let p = err_from_is_err_and c.from_residual.result c.from_residual.ensures.1 in
-    rw p.1 (reads_halt 1 p.0 _ c.in_err-items.ensures (ap fault_of p.2) (omega arith))
+    rw p.1 (reads_halt 1 p.0 _ c.in_err-items.ensures (ap object_fault p.2) (omega arith))
 
 pub returns : goal.returns
 unfolding items_node

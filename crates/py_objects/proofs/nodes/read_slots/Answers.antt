@@ -1,7 +1,7 @@
 use Rattle.std.proofs.Common.{◌≡◌, ap, arith}
 use Rattle.std.proofs.lemmas.Result.{err_from_is_err_and}
 use Rattle.process_memory.proofs.Reading.{reads_end, reads_halt, reads_next}
-use Rattle.py_builtins.specs.ObjectError.{fault_of}
+use Rattle.py_builtins.specs.ObjectError.{object_fault}
 use Rattle.py_objects.specs.Nodes.{slots_node}
 use Rattle.py_objects.specs.Nodes.Place.{SlotsAt}
 use Rattle.py_objects.specs.Shows.Brackets.{Curly}
@@ -12,7 +12,7 @@ pub returns-in_err-cursor : goal.returns-in_err-cursor
 unfolding slots_node
 returns-in_err-cursor g c =
     let p = err_from_is_err_and c.from_residual.result c.from_residual.ensures.1 in
-    rw p.1 (reads_halt 2 p.0 _ c.in_err-cursor.ensures.answer (ap fault_of p.2) (omega arith))
+    rw p.1 (reads_halt 2 p.0 _ c.in_err-cursor.ensures.answer (ap object_fault p.2) (omega arith))
 
 pub returns : goal.returns
 unfolding slots_node

@@ -6,7 +6,7 @@ use Rattle.std.proofs.lemmas.Result.{err_from_is_err_and}
 use Rattle.std.proofs.lemmas.Str.{encodes-chars, IsUtf8-string_bytes}
 use Rattle.process_memory.proofs.Reading.{reading_here, reading_gives}
 use Rattle.py_objects.specs.Shows.{width_of}
-use Rattle.py_builtins.specs.ObjectError.{fault_of}
+use Rattle.py_builtins.specs.ObjectError.{object_fault}
 use Rattle.py_objects.specs.Nodes.{values_in}
 use Rattle.py_objects.proofs.Moving.{told_within}
 use Rattle.py_objects.proofs.Steps.{told_ok, told_err}
@@ -27,11 +27,11 @@ returns-clause-shown g c =
     let spelled : string_bytes c.in_ok-text.text ≡ encode_utf8_all c.from.result = sym (ap encode_utf8_all c.from.ensures ∙ encodes-chars (string_bytes c.in_ok-text.text) (IsUtf8-string_bytes c.in_ok-text.text)) in
     let width = c.width_of-width.ensures ∙ ap width_of (to_z-of_z w64 c.args.max_length (search rules)) in
     let shown = rw (width, spelled) at c.in_ok-text.ensures.shown in
-    reading_gives _ _ shown (omega arith) (λ m a. told_ok fault_of (values_in c.args.layout.now m) c.args.addr (width_of c.args.max_length) c.args.visits.now _ _ a)
+    reading_gives _ _ shown (omega arith) (λ m a. told_ok object_fault (values_in c.args.layout.now m) c.args.addr (width_of c.args.max_length) c.args.visits.now _ _ a)
 
 pub returns-in_err-text-clause-shown : goal.returns-in_err-text-clause-shown
 returns-in_err-text-clause-shown g c =
     let p = err_from_is_err_and c.from_residual.result c.from_residual.ensures.1 in
     let width = c.width_of-width.ensures ∙ ap width_of (to_z-of_z w64 c.args.max_length (search rules)) in
     let shown = rw width at c.in_err-text.ensures.shown in
-    rw (p.1, p.2) (reading_gives _ _ shown (omega arith) (λ m a. told_err fault_of (values_in c.args.layout.now m) c.args.addr (width_of c.args.max_length) c.args.visits.now _ _ a))
+    rw (p.1, p.2) (reading_gives _ _ shown (omega arith) (λ m a. told_err object_fault (values_in c.args.layout.now m) c.args.addr (width_of c.args.max_length) c.args.visits.now _ _ a))

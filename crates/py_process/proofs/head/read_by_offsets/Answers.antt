@@ -1,7 +1,7 @@
 use Rattle.std.proofs.Common.{arith, ap, ◌∙◌, sym, ◌+◌}
 use Rattle.std.proofs.lemmas.Result.{err_from_is_err_and}
 use Rattle.process_memory.specs.Memory.{word_at}
-use Rattle.process_memory.specs.Seen.{fault_of}
+use Rattle.process_memory.specs.Seen.{read_fault}
 use Rattle.process_memory.proofs.Reading.{reads_halt, reads_next, reads_same}
 use Rattle.elf64_core.specs.Fields.{u64_in}
 use Rattle.py_process.specs.Candidates.{head_by_offsets}
@@ -11,7 +11,7 @@ pub returns-in_err-bytes : goal.returns-in_err-bytes
 unfolding head_by_offsets
 returns-in_err-bytes g c =
     let p = err_from_is_err_and c.from_residual.result c.from_residual.ensures.1 in
-    rw p.1 (reads_halt 2 p.0 _ c.in_err-bytes.ensures.answer (ap fault_of p.2) (omega arith))
+    rw p.1 (reads_halt 2 p.0 _ c.in_err-bytes.ensures.answer (ap read_fault p.2) (omega arith))
 
 pub returns : goal.returns
 unfolding head_by_offsets

@@ -1,8 +1,8 @@
 use Rattle.std.proofs.Common.{◌≡◌, ◌∙◌, Bool, true, false, [], ◌∷◌, ◌++◌, ap, sym, subst, take, map, get_or, refl}
 use Rattle.std.specs.Prelude.{None, option_copied, ◌&&◌}
-use Rattle.elf64_core.specs.Symbols.{entry_of}
+use Rattle.elf64_core.specs.Symbols.{symbol_entry_of}
 use Rattle.elf64_core.specs.declared.symbol.Symbol.{Symbol}
-use Rattle.py_process.specs.Ranges.{is_named}
+use Rattle.py_process.specs.Ranges.{is_section_named}
 use Rattle.py_process.specs.SymbolMap.{is_kept}
 use Rattle.py_process.proofs.SymbolMaps.{Says, skipped, stored, taken}
 use Rattle.py_process.proofs.symbols.add_symbols.Goals as goal
@@ -21,8 +21,8 @@ loop-symbol-preserved c =
     let xs = c.args.symbols.now in
     let place = c.args.place.now in
     let base = c.args.kept.now in
-    let es = map entry_of (take i xs) in
-    let x = entry_of (get_or xs i no_symbol) in
+    let es = map symbol_entry_of (take i xs) in
+    let x = symbol_entry_of (get_or xs i no_symbol) in
     let more = taken xs i no_symbol c.loop-symbol-test.true in
     elim c.match-symbol.branch [
       | in-Some+then-is_kept+in_ok-from_slice+in_ok-insert w ↦
@@ -31,8 +31,8 @@ loop-symbol-preserved c =
           (ap option_copied w.in-Some.is) w.in_ok-from_slice.ensures.items (sym w.is_kept.ensures ∙ w.if-is_kept.true) w.in_ok-insert.ensures.updates c.loop-symbol.invariant))
       | in-Some+else-is_kept w ↦
           subst (λ l. Says place l base c.match-symbol.kept) (sym more) (subst (λ kept. Says place (es ++ x ∷ []) base kept) (sym w.kept-is)
-          (skipped place es x base c.loop-symbol.kept (λ name. ap (λ b. b && is_named name x.name) (sym w.is_kept.ensures ∙ w.if-is_kept.false)) c.loop-symbol.invariant))
+          (skipped place es x base c.loop-symbol.kept (λ name. ap (λ b. b && is_section_named name x.name) (sym w.is_kept.ensures ∙ w.if-is_kept.false)) c.loop-symbol.invariant))
       | in_default w ↦
           subst (λ l. Says place l base c.match-symbol.kept) (sym more) (subst (λ kept. Says place (es ++ x ∷ []) base kept) (sym w.kept-is)
-          (skipped place es x base c.loop-symbol.kept (λ name. ap (λ n. is_kept place x && is_named name (option_copied n)) w.in_default.is ∙ and_false (is_kept place x)) c.loop-symbol.invariant))
+          (skipped place es x base c.loop-symbol.kept (λ name. ap (λ n. is_kept place x && is_section_named name (option_copied n)) w.in_default.is ∙ and_false (is_kept place x)) c.loop-symbol.invariant))
     ]

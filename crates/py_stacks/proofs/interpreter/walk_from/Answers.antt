@@ -3,7 +3,7 @@ use Rattle.std.proofs.Math.Nat.{le_refl}
 use Rattle.std.specs.Prelude.{Ok}
 use Rattle.process_memory.proofs.Reading.{reading_gives, reads_within}
 use Rattle.py_stacks.specs.Asking.{nothing}
-use Rattle.py_stacks.specs.Interpreter.{named_by, passes_from, passes_named, was_found}
+use Rattle.py_stacks.specs.Interpreter.{interpreter_named_by, passes_from, passes_named, was_found}
 use Rattle.py_stacks.specs.Threads.{traces_at}
 use Rattle.py_stacks.proofs.Candidates.{from_costs, from_other, from_then, reads_refused}
 use Rattle.py_stacks.proofs.interpreter.walk_from.Goals as goal
@@ -11,7 +11,7 @@ use Rattle.py_stacks.proofs.interpreter.walk_from.Goals as goal
 pub returns-in-Err : goal.returns-in-Err
 unfolding passes_from
 returns-in-Err g c =
-    reads_within _ (reads_refused (λ m. named_by c.args.layout.now m c.args.head) (λ m. passes_named c.args.layout.now m c.args.interpreter) (λ m f. refl) c.in-Err.ensures c.refused.ensures) (from_costs _ _ _ _)
+    reads_within _ (reads_refused (λ m. interpreter_named_by c.args.layout.now m c.args.head) (λ m. passes_named c.args.layout.now m c.args.interpreter) (λ m f. refl) c.in-Err.ensures c.refused.ensures) (from_costs _ _ _ _)
 
 pub returns-then-named-interpreter : goal.returns-then-named-interpreter
 returns-then-named-interpreter g c =

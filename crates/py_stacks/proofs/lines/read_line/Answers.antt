@@ -6,7 +6,7 @@ use Rattle.std.proofs.lemmas.Result.{err_from_is_err_and}
 use Rattle.std.specs.Prelude.{Ok}
 use Rattle.process_memory.proofs.Reading.{reads_next, reads_halt, reads_end}
 use Rattle.py_fields.proofs.Fields.{code_fits}
-use Rattle.py_stacks.specs.StackError.{fault_of}
+use Rattle.py_stacks.specs.StackError.{stack_fault}
 use Rattle.py_stacks.specs.Lines.{line_at, line_by, line_in, table_at}
 use Rattle.py_stacks.specs.Records.{member_of}
 use Rattle.py_stacks.proofs.lines.read_line.Goals as goal
@@ -19,7 +19,7 @@ unfolding line_at line_by table_at
 returns-in_err-table-in-LastInstruction g c =
     let p = err_from_is_err_and c.from_residual.result c.from_residual.ensures.1 in
     let table = rw (c.u64_in-table_at.ensures, c.deref.ensures.value) at c.in_err-table-in-LastInstruction.ensures.answer in
-    rw (c.in-LastInstruction.is, p.1) (reads_halt 2 p.0 (λ m t. Ok (line_in c.args.layout.now (member_of c.args.records.now) t)) table (ap fault_of p.2) (le_refl 2))
+    rw (c.in-LastInstruction.is, p.1) (reads_halt 2 p.0 (λ m t. Ok (line_in c.args.layout.now (member_of c.args.records.now) t)) table (ap stack_fault p.2) (le_refl 2))
 
 pub returns-in-NoLine : goal.returns-in-NoLine
 unfolding line_at line_by

@@ -2,7 +2,7 @@ use Rattle.std.proofs.Common.{sym, arith, ap, length}
 use Rattle.std.proofs.lemmas.Result.{err_from_is_err_and}
 use Rattle.process_memory.proofs.Reading.{reads_next, reads_halt, reads_end}
 use Rattle.py_fields.proofs.Fields.{code_fits}
-use Rattle.py_stacks.specs.StackError.{fault_of}
+use Rattle.py_stacks.specs.StackError.{stack_fault}
 use Rattle.py_stacks.specs.Locals.{local_at}
 use Rattle.py_stacks.proofs.locals.read_local.Goals as goal
 
@@ -21,7 +21,7 @@ unfolding local_at
 returns-in_err-name g c =
     let p = err_from_is_err_and c.from_residual-in_err-name.result c.from_residual-in_err-name.ensures.1 in
     let first = rw (c.u64_in-names_at.ensures, c.deref.ensures.value) at c.in_ok-name_at.ensures.answer in
-    rw p.1 (reads_next 4 _ first (reads_halt 3 p.0 _ c.in_err-name.ensures (ap fault_of p.2) (omega arith)) (omega arith))
+    rw p.1 (reads_next 4 _ first (reads_halt 3 p.0 _ c.in_err-name.ensures (ap stack_fault p.2) (omega arith)) (omega arith))
 
 pub returns-in_err-slot : goal.returns-in_err-slot
 unfolding local_at

@@ -3,11 +3,11 @@ use Rattle.std.specs.Prelude.{IsSome, codes}
 use Rattle.std.specs.Str.{chars}
 use Rattle.py_builtins.specs.declared.error.ObjectError.{ObjectError}
 use Rattle.py_builtins.specs.declared.error.ObjectError.TheVariants.{Unreadable, NoText, TooLong, BadDict, BadType, Visits, Depth, BadCount, BadBool, OutOfMemory}
-use Rattle.py_builtins.specs.ObjectError.{fault_of}
+use Rattle.py_builtins.specs.ObjectError.{object_fault}
 use Rattle.py_stacks.proofs.values.mark_for.Goals as goal
 
 -- each error but want of memory names a fault
-is_fault : (e : ObjectError) → e ≢ OutOfMemory → IsSome (fault_of e)
+is_fault : (e : ObjectError) → e ≢ OutOfMemory → IsSome (object_fault e)
 is_fault (Unreadable addr len) h = refl
 is_fault NoText h = refl
 is_fault (TooLong len) h = refl

@@ -1,4 +1,4 @@
-use Rattle.core_stacks.specs.Opened.{memory_in}
+use Rattle.core_stacks.specs.Opened.{opened_memory}
 use Rattle.core_stacks.specs.Footprints.{traces_with}
 use Rattle.py_process.specs.Reports.{StacksSay}
 use Rattle.std.proofs.Common.{subst}
@@ -10,12 +10,12 @@ use Rattle.core_stacks.proofs.python_core.PythonCoreDump.footprint.Goals as goal
 
 pub returns-clause-right : goal.returns-clause-right
 returns-clause-right c =
-    subst (λ (o : Opened). StacksSay (memory_in o) o.finding c.args.config.now (traces_with c.read_footprint.result)) c.self.view_is c.read_footprint.ensures.says
+    subst (λ (o : Opened). StacksSay (opened_memory o) o.finding c.args.config.now (traces_with c.read_footprint.result)) c.self.view_is c.read_footprint.ensures.says
 
 pub returns-clause-only : goal.returns-clause-only
 returns-clause-only c =
     let o = c.args.self.now in
-    sole_of (StacksSay (memory_in o) o.finding c.args.config.now) (stacks_agree (memory_in o) o.finding c.args.config.now)
+    sole_of (StacksSay (opened_memory o) o.finding c.args.config.now) (stacks_agree (opened_memory o) o.finding c.args.config.now)
     (traces_with c.read_footprint.result) (returns-clause-right c)
 
 pub returns-clause-found : goal.returns-clause-found

@@ -2,7 +2,7 @@ use Rattle.std.proofs.Common.{◌≡◌, ap, sym, subst, ◌∙◌, map, None, S
 use Rattle.std.proofs.lemmas.Result.{err_from_is_err_and}
 use Rattle.elf64_core.specs.Header.{IsInside}
 use Rattle.elf64_core.specs.Sections.{contents_of, strings_of}
-use Rattle.elf64_core.specs.Symbols.{entry_of, entries_in, first_section, symbol_section}
+use Rattle.elf64_core.specs.Symbols.{symbol_entry_of, entries_in, first_section, symbol_section}
 use Rattle.elf64_core.proofs.Symbols.{HasSymbols-none, HasSymbols-some, HasSymbols-inside, symbols_of-none, symbols_of-some}
 use Rattle.elf64_core.proofs.header.Elf64.symbols.Goals as goal
 
@@ -16,7 +16,7 @@ pub returns-in_default-clause-symbols : goal.returns-in_default-clause-symbols
 returns-in_default-clause-symbols c =
     let none : symbol_section c.args.self.now c.args.kind ≡ None =
     ap (first_section c.args.kind) (sym c.in_ok-sections.ensures.sections) ∙ sym c.first_of_kind.ensures ∙ c.in_default.is in
-    ap (map entry_of) c.new.ensures.items ∙ sym (symbols_of-none c.args.self.now c.args.kind none)
+    ap (map symbol_entry_of) c.new.ensures.items ∙ sym (symbols_of-none c.args.self.now c.args.kind none)
 
 pub returns-in_default-contents-clause-bad : goal.returns-in_default-contents-clause-bad
 returns-in_default-contents-clause-bad c =

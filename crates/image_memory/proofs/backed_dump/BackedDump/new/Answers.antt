@@ -4,9 +4,9 @@ use Rattle.elf64_core.specs.SpanTables.{AreSpans}
 use Rattle.image_memory.specs.Backed.{Backed, core_range, file_ranges}
 use Rattle.image_memory.specs.BackedPlaces.{AreFilesOf, IsInFile, IsKept, all_ranges, range_of_file}
 use Rattle.image_memory.specs.Images.{images_shown}
-use Rattle.image_memory.specs.Laid.{AreLaid, entry_of}
+use Rattle.image_memory.specs.Laid.{AreLaid, table_entry_of}
 use Rattle.image_memory.specs.Mmap.{shown_bytes}
-use Rattle.image_memory.specs.Overlays.{IsRange}
+use Rattle.image_memory.specs.Overlays.{IsBoundedRange}
 use Rattle.image_memory.specs.Pieces.{loads_of}
 use Rattle.image_memory.proofs.BackedPlaces.{ranges_fit}
 use Rattle.image_memory.proofs.BackedRanges.{IsKept-of, map_twice, ranges_in_files, regions_are}
@@ -28,8 +28,8 @@ all_is c = c.in_ok-all.ensures ∙ ap (λ rs. map core_range (loads_of c.args.co
 addresses_are : (c : After-deref-3) → c.deref-3.result.now ≡ all_ranges (so_far c)
 addresses_are c = c.deref-3.ensures.value ∙ c.in_ok-addresses.ensures ∙ ap (map range_of_file) (c.deref-2.ensures.value ∙ all_is c)
 
-fits : (c : After-deref-3) → All IsRange c.deref-3.result.now
-fits c = subst (All IsRange) (sym (addresses_are c)) (ranges_fit (so_far c) (file_ranges (so_far c)) (held c))
+fits : (c : After-deref-3) → All IsBoundedRange c.deref-3.result.now
+fits c = subst (All IsBoundedRange) (sym (addresses_are c)) (ranges_fit (so_far c) (file_ranges (so_far c)) (held c))
 
 pub lay-requires : goal.lay-requires
 lay-requires c = fits c
@@ -38,7 +38,7 @@ pub table_of_laid-requires : goal.table_of_laid-requires
 table_of_laid-requires c = λ few.
     let laid = c.in_ok-laid.laid.items in
     let same = c.deref-4.ensures.value in
-    subst (λ ps. AreSpans (map entry_of ps)) (sym same)
+    subst (λ ps. AreSpans (map table_entry_of ps)) (sym same)
     (AreSpans-laid c.deref-3.result.now laid (fits (goal.at.table_of_laid-requires c).After-deref-3) (omega arith) (omega (arith, ap length same)) c.in_ok-laid.ensures)
 
 pub invariant_of-result-2 : goal.invariant_of-result-2
@@ -47,7 +47,7 @@ invariant_of-result-2 c =
     let laid = c.in_ok-laid.laid.items in
     let shown : map shown_bytes c.in_ok-shares.field-0.items ≡ images_shown c.args.images.now =
     ap (map shown_bytes) c.in_ok-shares.ensures ∙ map_twice shown_bytes (λ image. image.1) c.args.images.now in
-    let is = c.in_ok-table.ensures ∙ ap (map entry_of) c.deref-4.ensures.value in
+    let is = c.in_ok-table.ensures ∙ ap (map table_entry_of) c.deref-4.ensures.value in
     let are = subst (λ rs. AreLaid rs laid) (addresses_are before) c.in_ok-laid.ensures in
     let of = subst (λ ps. AreFilesOf (file_ranges (so_far before)) ps c.in_ok-files.files.items) c.deref-5.ensures.value
     (subst (λ fs. AreFilesOf fs c.deref-5.result.now c.in_ok-files.files.items) (c.deref-6.ensures.value ∙ all_is before) c.in_ok-files.ensures) in
