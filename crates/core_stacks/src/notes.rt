@@ -2,10 +2,10 @@
 ghost use Rattle.std.specs.Prelude.{◌≡◌, ◌<◌, IfOk, IfSome, length};
 ghost use Rattle.std.specs.List.{position};
 ghost use Rattle.bstr.specs.Utf8.{lossy_chars};
-ghost use Rattle.py_process.specs.Reports.{NotesTell, is_nul, up_to_nul};
+ghost use Rattle.py_process.specs.Reports.{NotesTell, up_to_nul};
 ghost use Rattle.core_stacks.specs.Notes.{IsProcessTold, IsSignal};
 
-use elf64_core::{Name, Text};
+use elf64_core::{Name, Text, until_nul};
 use image_memory::{CoreDump, elf_prpsinfo};
 use std::alloc::{AllocError, Global};
 
@@ -18,20 +18,12 @@ pub(crate) struct Notes {
     pub(crate) process: Option<(i32, Text)>,
 }
 
-/// Where the first nul is.
-fn first_nul(bytes: &[u8]) -> Option<usize>
-    ensures value { result ≡ position is_nul bytes.now }
-    ensures bound { IfSome result (λ size. size < length bytes.now) }
-{
-    bytes.iter().position(|byte| *byte == 0)
-}
-
 /// The bytes up to the first nul, or all of them.
 fn front(bytes: &[u8]) -> &[u8]
     ensures { result.now ≡ up_to_nul bytes.now }
 {
-    match first_nul(bytes) {
-        Some(end) => &bytes[..end],
+    match until_nul(bytes) {
+        Some(front) => front,
         None => bytes,
     }
 }

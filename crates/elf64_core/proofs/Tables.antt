@@ -19,12 +19,6 @@ section_missing bytes at zero k le = refl
 section_missing bytes at (suc n) zero le = absurd (omega arith)
 section_missing bytes at (suc n) (suc k) le = section_missing bytes (at + 64) n k (omega arith)
 
--- the front up to a place that a test finds
-pub front_found : (found : Bool) (place : ℕ) (bytes : List ℕ) (r : Option ℕ) → r ≡ cond found (Some place) None
-    → option_map (λ k. take k bytes) r ≡ cond found (Some (take place bytes)) None
-front_found true place bytes r e = ap (option_map (λ k. take k bytes)) e
-front_found false place bytes r e = ap (option_map (λ k. take k bytes)) e
-
 some_of : (test : Bool) (part range : List ℕ) → Some part ≡ cond test (Some range) None → part ≡ range
 some_of true part range e = cc
 some_of false part range e = cc

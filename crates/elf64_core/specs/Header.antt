@@ -3,6 +3,7 @@
 -- lies in the file, so that nothing is found missing then.
 use Rattle.std.specs.Prelude.{◌≡◌, ◌≢◌, ◌⊎◌, ℕ, zero, suc, ◌+◌, ◌-◌, ◌*◌, ◌≤◌, ◌^◌, nat_eq, if◌then◌else◌, List, [], ◌∷◌, length, take, All}
 use Rattle.elf64_core.specs.Fields.{u64_in, u32_in, u16_in}
+use Rattle.elf64_core.specs.Offsets.{e_machine, e_phentsize, e_phnum, e_phoff, p_filesz, p_flags, p_memsz, p_offset, p_vaddr}
 use Rattle.elf64_core.specs.declared.segment.Segment.{Segment}
 use Rattle.elf64_core.specs.declared.header.Machine.{Machine}
 use Rattle.elf64_core.specs.declared.header.Machine.TheVariants.{X86_64, Aarch64, Other}
@@ -18,30 +19,30 @@ pub record IsElf64 (bytes : List ℕ) : Type 0 where
 
 -- where the program headers are, how long each is, and how many there are
 abbrev pub program_table : List ℕ → ℕ
-program_table bytes = u64_in bytes 32
+program_table bytes = u64_in bytes e_phoff
 
 abbrev pub entry_size : List ℕ → ℕ
-entry_size bytes = u16_in bytes 54
+entry_size bytes = u16_in bytes e_phentsize
 
 abbrev pub segment_count : List ℕ → ℕ
-segment_count bytes = u16_in bytes 56
+segment_count bytes = u16_in bytes e_phnum
 
 -- the machine that the header names
 abbrev pub machine_named : ℕ → Machine
 machine_named number = if nat_eq number 62 then X86_64 else (if nat_eq number 183 then Aarch64 else Other)
 
 abbrev pub machine_of : List ℕ → Machine
-machine_of bytes = machine_named (u16_in bytes 18)
+machine_of bytes = machine_named (u16_in bytes e_machine)
 
 -- the segment that the program header at an offset describes
 unfoldable pub segment_in : List ℕ → ℕ → Segment
 segment_in bytes at = record {
   kind = u32_in bytes at;
-  flags = u32_in bytes (at + 4);
-  offset = u64_in bytes (at + 8);
-  addr = u64_in bytes (at + 16);
-  file_size = u64_in bytes (at + 32);
-  mem_size = u64_in bytes (at + 40);
+  flags = u32_in bytes (at + p_flags);
+  offset = u64_in bytes (at + p_offset);
+  addr = u64_in bytes (at + p_vaddr);
+  file_size = u64_in bytes (at + p_filesz);
+  mem_size = u64_in bytes (at + p_memsz);
 }
 
 -- those of program headers that follow each other, 56 bytes each

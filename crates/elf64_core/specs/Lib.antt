@@ -2,6 +2,9 @@ pub mod BuildIds
 pub mod Fields
 pub mod Header
 pub mod Notes
+pub mod Nul
+pub mod Offsets
+pub mod Outcomes
 pub mod Rest
 pub mod Sections
 pub mod SpanTables

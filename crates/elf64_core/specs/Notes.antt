@@ -4,6 +4,7 @@
 -- is this project's own rule.
 use Rattle.std.specs.Prelude.{◌≡◌, ◌⊎◌, ℕ, ◌+◌, ◌*◌, ◌/◌, ◌≤◌, List, [], ◌∷◌, ◌++◌, length, slice_range}
 use Rattle.elf64_core.specs.Fields.{u32_in}
+use Rattle.elf64_core.specs.Offsets.{n_descsz, n_type}
 use Rattle.elf64_core.specs.Header.{IsInside}
 use Rattle.elf64_core.specs.declared.note.Note.{Note}
 
@@ -33,8 +34,8 @@ pub record IsNote (bytes rest : List ℕ) (note : Noted) : Type 0 where
   pub together : bytes ≡ header ++ name ++ name_padding ++ note.desc ++ desc_padding ++ rest
   pub header_size : length header ≡ 12
   pub name_size : u32_in header 0 ≡ length name
-  pub desc_size : u32_in header 4 ≡ length note.desc
-  pub kind : u32_in header 8 ≡ note.kind
+  pub desc_size : u32_in header n_descsz ≡ length note.desc
+  pub kind : u32_in header n_type ≡ note.kind
   pub name_padded : length name + length name_padding ≡ padded (length name)
   pub desc_padded : IsDescPadding (length note.desc) desc_padding rest
 

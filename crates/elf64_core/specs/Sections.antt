@@ -1,24 +1,25 @@
 -- Section headers, by the System V gABI, for 64-bit little-endian files: the sections of a file, their bytes
 -- and their names. They are looked at only by calls that need them, so a file whose section headers can't be
 -- read is accepted all the same. That their number stands in the header is this project's own rule.
-use Rattle.std.specs.Prelude.{◌≡◌, ◌⊎◌, ℕ, zero, suc, ◌+◌, ◌*◌, nat_eq, nat_lt, nat_le, ◌||◌, if◌then◌else◌, List, [], ◌∷◌, length, take, drop, slice_range, slice_get, Option, Some, None, option_and_then}
-use Rattle.std.specs.List.{position_or_len}
+use Rattle.std.specs.Prelude.{◌≡◌, ◌⊎◌, ℕ, zero, suc, ◌+◌, ◌*◌, nat_eq, nat_le, ◌||◌, if◌then◌else◌, List, [], ◌∷◌, length, slice_range, slice_get, Option, Some, None, option_and_then}
 use Rattle.elf64_core.specs.Fields.{u64_in, u32_in, u16_in}
 use Rattle.elf64_core.specs.Header.{IsInside}
+use Rattle.elf64_core.specs.Nul.{string_at}
+use Rattle.elf64_core.specs.Offsets.{e_shentsize, e_shnum, e_shoff, e_shstrndx, sh_addr, sh_link, sh_offset, sh_size, sh_type}
 use Rattle.elf64_core.specs.declared.section.Section.{Section}
 
 -- where the section headers are, how long each is, how many there are, and which section has their names
 abbrev pub section_table : List ℕ → ℕ
-section_table bytes = u64_in bytes 40
+section_table bytes = u64_in bytes e_shoff
 
 abbrev pub section_entry_size : List ℕ → ℕ
-section_entry_size bytes = u16_in bytes 58
+section_entry_size bytes = u16_in bytes e_shentsize
 
 abbrev pub section_count : List ℕ → ℕ
-section_count bytes = u16_in bytes 60
+section_count bytes = u16_in bytes e_shnum
 
 abbrev pub names_section : List ℕ → ℕ
-names_section bytes = u16_in bytes 62
+names_section bytes = u16_in bytes e_shstrndx
 
 -- section headers that can be read: none, or such of 64 bytes, and they lie in the file
 pub record HasSections (bytes : List ℕ) : Type 0 where
@@ -29,11 +30,11 @@ pub record HasSections (bytes : List ℕ) : Type 0 where
 unfoldable pub section_in : List ℕ → ℕ → Section
 section_in bytes at = record {
   name = u32_in bytes at;
-  kind = u32_in bytes (at + 4);
-  addr = u64_in bytes (at + 16);
-  offset = u64_in bytes (at + 24);
-  size = u64_in bytes (at + 32);
-  link = u32_in bytes (at + 40);
+  kind = u32_in bytes (at + sh_type);
+  addr = u64_in bytes (at + sh_addr);
+  offset = u64_in bytes (at + sh_offset);
+  size = u64_in bytes (at + sh_size);
+  link = u32_in bytes (at + sh_link);
 }
 
 -- those of section headers that follow each other, 64 bytes each
@@ -60,18 +61,7 @@ range_at bytes start size =
 abbrev pub contents_of : List ℕ → Section → Option (List ℕ)
 contents_of bytes section = range_at bytes section.offset section.size
 
--- the bytes before the first nul, where there is one
-abbrev pub first_nul : List ℕ → ℕ
-first_nul bytes = position_or_len (λ byte. nat_eq byte 0) bytes
-
-unfoldable pub until_nul : List ℕ → Option (List ℕ)
-until_nul bytes = if nat_lt (first_nul bytes) (length bytes) then Some (take (first_nul bytes) bytes) else None
-
--- the string that begins at an offset of a string section
-unfoldable pub string_at : List ℕ → ℕ → Option (List ℕ)
-string_at strings at = until_nul (drop at strings)
-
--- the same, where the string section may be missing
+-- the string at an offset of a string section, which may be missing
 abbrev pub string_in : Option (List ℕ) → ℕ → Option (List ℕ)
 string_in strings at = option_and_then (λ bytes. string_at bytes at) strings
 

@@ -2,6 +2,7 @@
 use Rattle.std.specs.Prelude.{ℕ, ◌+◌, ◌*◌, ◌/◌, nat_eq, List, [], length, map, Option, Some, None, option_copied, MatchOption, ⊤}
 use Rattle.std.specs.List.{find, range_with_len}
 use Rattle.elf64_core.specs.Fields.{u64_in, u32_in, u16_in, u8_in}
+use Rattle.elf64_core.specs.Offsets.{st_info, st_shndx, st_size, st_value}
 use Rattle.elf64_core.specs.Header.{IsInside}
 use Rattle.elf64_core.specs.Sections.{HasSections, sections_of, contents_of, strings_of, string_in}
 use Rattle.elf64_core.specs.declared.section.Section.{Section}
@@ -31,10 +32,10 @@ symbol_entry_of symbol = record {
 unfoldable pub symbol_entry_in : Option (List ℕ) → List ℕ → ℕ → SymbolEntry
 symbol_entry_in strings table at = record {
   name = string_in strings (u32_in table at);
-  info = u8_in table (at + 4);
-  section = u16_in table (at + 6);
-  value = u64_in table (at + 8);
-  size = u64_in table (at + 16);
+  info = u8_in table (at + st_info);
+  section = u16_in table (at + st_shndx);
+  value = u64_in table (at + st_value);
+  size = u64_in table (at + st_size);
 }
 
 -- the whole entries of a symbol section, 24 bytes each

@@ -5,6 +5,7 @@ ghost use Rattle.elf64_core.specs.Rest.{segments_left};
 
 use crate::ElfError;
 use crate::fields::{u16_in, u64_in};
+use crate::offsets::{E_MACHINE, E_PHENTSIZE, E_PHNUM, E_PHOFF};
 use crate::segment::{ENTRY_SIZE, Segments, fits_file, is_inside};
 use std::marker::Model;
 
@@ -45,10 +46,10 @@ fn has_program_table(bytes: &[u8]) -> bool
     requires { 64 ≤ length bytes.now }
     ensures { IsTrue result ↔ HasProgramTable bytes.now }
 {
-    let count = u16_in(bytes, 56);
+    let count = u16_in(bytes, E_PHNUM);
     count != 0xffff
-        && (count == 0 || u16_in(bytes, 54) == 56)
-        && is_inside(bytes, u64_in(bytes, 32), 56 * count as u64)
+        && (count == 0 || u16_in(bytes, E_PHENTSIZE) == 56)
+        && is_inside(bytes, u64_in(bytes, E_PHOFF), 56 * count as u64)
 }
 
 /// The segments of a file whose program headers lie in it.
@@ -58,11 +59,11 @@ fn table(bytes: &[u8]) -> Segments<'_>
     requires held { HasProgramTable bytes.now }
     ensures { segments_left result ≡ segments_of bytes.now }
 {
-    let count = u16_in(bytes, 56) as usize;
+    let count = u16_in(bytes, E_PHNUM) as usize;
     if count == 0 {
         return Segments::new(bytes, 0, 0);
     }
-    Segments::new(bytes, u64_in(bytes, 32) as usize, count)
+    Segments::new(bytes, u64_in(bytes, E_PHOFF) as usize, count)
 }
 
 /// Whether all segments fit the file.
@@ -108,7 +109,7 @@ impl<'a> Elf64<'a> {
     pub fn machine(&self) -> Machine
         ensures { result ≡ machine_of self.now }
     {
-        match u16_in(self.bytes, 18) {
+        match u16_in(self.bytes, E_MACHINE) {
             62 => Machine::X86_64,
             183 => Machine::Aarch64,
             _ => Machine::Other,

@@ -4,6 +4,7 @@ ghost use Rattle.elf64_core.specs.Header.{IsInside};
 ghost use Rattle.elf64_core.specs.Notes.{IsNote, BeginsNoNote, AreNotes, AreNoNotes, AreNotesOnce, IsBadRange, bytes_of_range, noted, padded};
 
 use crate::fields::u32_in;
+use crate::offsets::{N_DESCSZ, N_TYPE};
 use crate::section_table::range_at;
 use crate::{Elf64, ElfError};
 use std::alloc::Global;
@@ -35,13 +36,13 @@ pub(crate) fn first_note(bytes: &[u8]) -> Option<(Note<'_>, &[u8])>
         return None;
     }
     let start = HEADER_SIZE + padded(u32_in(bytes, 0));
-    let size = u32_in(bytes, 4);
+    let size = u32_in(bytes, N_DESCSZ);
     let end = start + size as usize;
     if bytes.len() < end {
         return None;
     }
     let note = Note {
-        kind: u32_in(bytes, 8),
+        kind: u32_in(bytes, N_TYPE),
         desc: &bytes[start..end],
     };
     let after = bytes.len().min(start + padded(size));

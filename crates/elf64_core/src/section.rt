@@ -4,6 +4,7 @@ ghost use Rattle.std.specs.Iterator.{YieldsFirst, item_count};
 ghost use Rattle.elf64_core.specs.Sections.{section_in, sections_from};
 
 use crate::fields::{u32_in, u64_in};
+use crate::offsets::{SH_ADDR, SH_LINK, SH_OFFSET, SH_SIZE, SH_TYPE};
 
 /// The length of a section header, in bytes.
 pub(crate) const ENTRY_SIZE: usize = 64;
@@ -33,11 +34,11 @@ pub(crate) fn section_in(bytes: &[u8], at: usize) -> Section
 {
     Section {
         name: u32_in(bytes, at),
-        kind: u32_in(bytes, at + 4),
-        addr: u64_in(bytes, at + 16),
-        offset: u64_in(bytes, at + 24),
-        size: u64_in(bytes, at + 32),
-        link: u32_in(bytes, at + 40),
+        kind: u32_in(bytes, at + SH_TYPE),
+        addr: u64_in(bytes, at + SH_ADDR),
+        offset: u64_in(bytes, at + SH_OFFSET),
+        size: u64_in(bytes, at + SH_SIZE),
+        link: u32_in(bytes, at + SH_LINK),
     }
 }
 

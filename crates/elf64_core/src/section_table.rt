@@ -1,10 +1,12 @@
 //! The sections of a file, their bytes and their names.
 ghost use Rattle.std.specs.Prelude.{◌≡◌, ◌↔◌, ◌≤◌, List, ℕ, None, IsTrue, IsSome, IfOk, IfErr, IsErrOf, length, option_copied};
 ghost use Rattle.elf64_core.specs.Header.{IsInside};
-ghost use Rattle.elf64_core.specs.Sections.{HasSections, section_at, sections_of, section_name_of, range_at, contents_of, until_nul, string_at, strings_of};
+ghost use Rattle.elf64_core.specs.Sections.{HasSections, section_at, sections_of, section_name_of, range_at, contents_of, strings_of};
 ghost use Rattle.elf64_core.specs.Rest.{sections_left};
 
 use crate::fields::{u16_in, u64_in};
+use crate::nul::string_at;
+use crate::offsets::{E_SHENTSIZE, E_SHNUM, E_SHOFF, E_SHSTRNDX};
 use crate::section::{ENTRY_SIZE, section_in};
 use crate::segment::is_inside;
 use crate::{Elf64, ElfError, Section, Sections};
@@ -14,9 +16,9 @@ fn has_sections(bytes: &[u8]) -> bool
     requires { 64 ≤ length bytes.now }
     ensures { IsTrue result ↔ HasSections bytes.now }
 {
-    let count = u16_in(bytes, 60);
-    (count == 0 || u16_in(bytes, 58) == 64)
-        && is_inside(bytes, u64_in(bytes, 40), 64 * count as u64)
+    let count = u16_in(bytes, E_SHNUM);
+    (count == 0 || u16_in(bytes, E_SHENTSIZE) == 64)
+        && is_inside(bytes, u64_in(bytes, E_SHOFF), 64 * count as u64)
 }
 
 /// The sections of a file whose section headers can be read.
@@ -26,11 +28,11 @@ fn table(bytes: &[u8]) -> Sections<'_>
     requires held { HasSections bytes.now }
     ensures { sections_left result ≡ sections_of bytes.now }
 {
-    let left = u16_in(bytes, 60) as usize;
+    let left = u16_in(bytes, E_SHNUM) as usize;
     if left == 0 {
         return Sections::new(bytes, 0, 0);
     }
-    Sections::new(bytes, u64_in(bytes, 40) as usize, left)
+    Sections::new(bytes, u64_in(bytes, E_SHOFF) as usize, left)
 }
 
 /// The section of a number, from 0 on, of a file whose section headers can be read.
@@ -39,9 +41,9 @@ fn section_at(bytes: &[u8], number: usize) -> Option<Section>
     requires held { HasSections bytes.now }
     ensures { result ≡ section_at bytes.now number }
 {
-    let count = u16_in(bytes, 60) as usize;
+    let count = u16_in(bytes, E_SHNUM) as usize;
     if number < count {
-        Some(section_in(bytes, u64_in(bytes, 40) as usize + ENTRY_SIZE * number))
+        Some(section_in(bytes, u64_in(bytes, E_SHOFF) as usize + ENTRY_SIZE * number))
     } else {
         None
     }
@@ -68,27 +70,6 @@ pub(crate) fn contents<'a>(bytes: &'a [u8], section: &Section) -> Option<&'a [u8
     ensures inside { IsSome result ↔ IsInside bytes.now section.now.offset section.now.size }
 {
     range_at(bytes, section.offset, section.size)
-}
-
-/// The bytes before the first nul, where there is one.
-#[tactic(auto, unfolding(crate::specs::Sections::until_nul))]
-fn until_nul(bytes: &[u8]) -> Option<&[u8]>
-    ensures { option_copied result ≡ until_nul bytes.now }
-{
-    let end = bytes.iter().position(|byte| *byte == 0)?;
-    Some(&bytes[..end])
-}
-
-/// The string that begins at an offset of a string section, where it has an end there.
-#[tactic(auto, unfolding(crate::specs::Sections::string_at))]
-pub(crate) fn string_at(strings: &[u8], at: u32) -> Option<&[u8]>
-    ensures { option_copied result ≡ string_at strings.now at }
-{
-    let at = at as usize;
-    if strings.len() < at {
-        return None;
-    }
-    until_nul(&strings[at..])
 }
 
 /// The bytes of the section of a number, where there is one and they lie in the file.
@@ -134,7 +115,7 @@ impl<'a> Elf64<'a> {
         if !has_sections(bytes) {
             return None;
         }
-        let strings = strings_of(bytes, u16_in(bytes, 62) as usize)?;
-        string_at(strings, section.name)
+        let strings = strings_of(bytes, u16_in(bytes, E_SHSTRNDX) as usize)?;
+        string_at(strings, section.name as usize)
     }
 }

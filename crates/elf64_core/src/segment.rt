@@ -4,6 +4,7 @@ ghost use Rattle.std.specs.Iterator.{YieldsFirst, item_count};
 ghost use Rattle.elf64_core.specs.Header.{segment_in, segments_from, IsInside, FitsFile};
 
 use crate::fields::{u32_in, u64_in};
+use crate::offsets::{P_FILESZ, P_FLAGS, P_MEMSZ, P_OFFSET, P_VADDR};
 
 /// The length of a program header, in bytes.
 pub(crate) const ENTRY_SIZE: usize = 56;
@@ -39,11 +40,11 @@ fn segment_in(bytes: &[u8], at: usize) -> Segment
 {
     Segment {
         kind: u32_in(bytes, at),
-        flags: u32_in(bytes, at + 4),
-        offset: u64_in(bytes, at + 8),
-        addr: u64_in(bytes, at + 16),
-        file_size: u64_in(bytes, at + 32),
-        mem_size: u64_in(bytes, at + 40),
+        flags: u32_in(bytes, at + P_FLAGS),
+        offset: u64_in(bytes, at + P_OFFSET),
+        addr: u64_in(bytes, at + P_VADDR),
+        file_size: u64_in(bytes, at + P_FILESZ),
+        mem_size: u64_in(bytes, at + P_MEMSZ),
     }
 }
 

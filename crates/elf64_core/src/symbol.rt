@@ -5,7 +5,9 @@ ghost use Rattle.elf64_core.specs.Symbols.{HasSymbols, symbol_entry_of, symbol_e
 ghost use Rattle.elf64_core.specs.Rest.{sections_left};
 
 use crate::fields::{u16_in, u32_in, u64_in};
-use crate::section_table::{contents, string_at, strings_of};
+use crate::nul::string_at;
+use crate::offsets::{ST_INFO, ST_SHNDX, ST_SIZE, ST_VALUE};
+use crate::section_table::{contents, strings_of};
 use crate::{Elf64, ElfError, Section, Sections};
 use std::alloc::{AllocError, Global};
 
@@ -41,15 +43,15 @@ fn symbol_in<'a>(strings: Option<&'a [u8]>, table: &[u8], at: usize) -> Symbol<'
     ensures { symbol_entry_of result ≡ symbol_entry_in (option_copied strings.entry) table.now at }
 {
     let name = match strings {
-        Some(strings) => string_at(strings, u32_in(table, at)),
+        Some(strings) => string_at(strings, u32_in(table, at) as usize),
         None => None,
     };
     Symbol {
         name,
-        info: table[at + 4],
-        section: u16_in(table, at + 6),
-        value: u64_in(table, at + 8),
-        size: u64_in(table, at + 16),
+        info: table[at + ST_INFO],
+        section: u16_in(table, at + ST_SHNDX),
+        value: u64_in(table, at + ST_VALUE),
+        size: u64_in(table, at + ST_SIZE),
     }
 }
 

@@ -4,7 +4,8 @@ use Rattle.std.specs.Prelude.{position}
 use Rattle.std.proofs.lemmas.List.{append-nil}
 use Rattle.elf64_core.specs.Fields.{u64_in}
 use Rattle.elf64_core.specs.Notes.{Noted}
-use Rattle.image_memory.specs.FileTables.{Entry, IsFileTable, IsFirstName, IsNoFileTable, NamesThen, entries_from, entry_at, is_nul, names_start}
+use Rattle.elf64_core.specs.Nul.{is_nul}
+use Rattle.image_memory.specs.FileTables.{Entry, IsFileTable, IsFirstName, IsNoFileTable, NamesThen, entries_from, entry_at, names_start}
 use Rattle.image_memory.specs.Notes.{TablesSay}
 use Rattle.image_memory.specs.declared.file_table.FileEntry.{FileEntry}
 

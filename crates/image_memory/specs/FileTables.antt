@@ -2,8 +2,9 @@
 -- many entries there are, the size of a page in bytes, three numbers of 8 bytes for each entry, where its
 -- mapping starts, where that ends, and where it begins in the file, in pages; then the files' names, each ended
 -- by a nul. What follows the names isn't looked at.
-use Rattle.std.specs.Prelude.{◌≡◌, ℕ, ◌+◌, ◌*◌, ◌≤◌, nat_eq, Bool, List, [], ◌∷◌, length, take, drop, Some, position}
+use Rattle.std.specs.Prelude.{◌≡◌, ℕ, ◌+◌, ◌*◌, ◌≤◌, List, [], ◌∷◌, length, take, drop, Some, position}
 use Rattle.elf64_core.specs.Fields.{u64_in}
+use Rattle.elf64_core.specs.Nul.{is_nul}
 use Rattle.image_memory.specs.declared.file_table.FilePlace.{FilePlace}
 use Rattle.image_memory.specs.declared.file_table.FileEntry.{FileEntry}
 
@@ -15,9 +16,6 @@ pub record Entry : Type 0 where
 
 abbrev pub file_entry_of : FileEntry → Entry
 file_entry_of e = record { start = e.start; place = e.place; name = e.name.now }
-
-abbrev pub is_nul : ℕ → Bool
-is_nul byte = nat_eq byte 0
 
 -- the bytes are a name, up to the first nul that comes, that nul, and then the rest
 pub record IsFirstName (bytes name rest : List ℕ) : Type 0 where

@@ -1,9 +1,10 @@
 //! File tables: which files a process had mapped.
 ghost use Rattle.std.specs.Prelude.{◌≡◌, ◌⊎◌, ◌+◌, ◌*◌, ◌<◌, ◌≤◌, IfOk, IfErr, IsErrOf, IfSome, MatchOption, length, map, position};
-ghost use Rattle.image_memory.specs.FileTables.{IsFileTable, IsFirstName, IsNoFileTable, entry_at, file_entry_of, is_nul};
+ghost use Rattle.elf64_core.specs.Nul.{is_nul};
+ghost use Rattle.image_memory.specs.FileTables.{IsFileTable, IsFirstName, IsNoFileTable, entry_at, file_entry_of};
 
 use crate::DumpError;
-use elf64_core::u64_in;
+use elf64_core::{first_nul, u64_in};
 use std::alloc::Global;
 
 /// Where a mapping begins in its file, as Linux's file tables tell it.
@@ -31,14 +32,6 @@ const HEADER_SIZE: usize = 16;
 
 /// How many bytes the numbers of an entry have.
 const ENTRY_SIZE: usize = 24;
-
-/// Where the first nul is.
-fn first_nul(bytes: &[u8]) -> Option<usize>
-    ensures value { result ≡ position is_nul bytes.now }
-    ensures bound { IfSome result (λ size. size < length bytes.now) }
-{
-    bytes.iter().position(|byte| *byte == 0)
-}
 
 /// The name at the front of some bytes, up to the first nul, and what follows that; none where there is no nul.
 fn first_name(bytes: &[u8]) -> Option<(&[u8], &[u8])>

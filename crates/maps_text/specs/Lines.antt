@@ -1,10 +1,11 @@
 -- What a line says, or why it is refused.
-use Rattle.std.specs.Prelude.{◌≡◌, ◌⊎◌, ℕ, ◌&&◌, Bool, not, if◌then◌else◌, List, [], ◌∷◌, ◌++◌, Option, Some, None, Result, Ok, Err}
+use Rattle.std.specs.Prelude.{◌≡◌, ℕ, ◌&&◌, Bool, not, List, [], ◌∷◌, ◌++◌, Option, Some, None, Result, Ok, Err}
 use Rattle.std.specs.Str.Parse.{digits_value}
 use Rattle.std.specs.declared.ops.Range.{Range}
+use Rattle.elf64_core.specs.Outcomes.{first_cause}
 use Rattle.maps_text.specs.declared.entry.MapsEntry.{MapsEntry}
 use Rattle.maps_text.specs.declared.error.MapsError.{MapsError}
-use Rattle.maps_text.specs.declared.error.MapsError.TheVariants.{NoRange, BadStart, BadEnd, NoMode, BadMode, NoOffset, BadOffset, NoDevice, OutOfMemory}
+use Rattle.maps_text.specs.declared.error.MapsError.TheVariants.{NoRange, BadStart, BadEnd, NoMode, BadMode, NoOffset, BadOffset, NoDevice}
 use Rattle.maps_text.specs.declared.perm.Perm.{Perm}
 use Rattle.maps_text.specs.Fields.{field, behind, has_white, has_dash, before_dash, after_dash, is_number, trimmed}
 use Rattle.maps_text.specs.Paths.{path_name_of}
@@ -77,11 +78,6 @@ abbrev pub line_faults : List ℕ → List (Bool × MapsError)
 line_faults line = range_faults line ++ (mode_faults (after_range line)
     ++ (offset_faults (after_mode line) ++ device_faults (after_offset line)))
 
--- the first cause that is so
-abbrev pub first_fault : List (Bool × MapsError) → Option MapsError
-first_fault [] = None
-first_fault (fault ∷ others) = if fault.0 then Some fault.1 else first_fault others
-
 -- an entry, or the first fault
 abbrev pub entry_or : Option MapsError → MapsEntry → Result MapsEntry MapsError
 entry_or None entry = Ok entry
@@ -89,8 +85,4 @@ entry_or (Some error) entry = Err error
 
 -- what a line says of a map of a process: its entry, or its first fault
 abbrev pub maps_line_of : ℕ → List ℕ → Result MapsEntry MapsError
-maps_line_of pid line = entry_or (first_fault (line_faults line)) (line_entry_of pid line)
-
--- the right answer, or want of memory
-abbrev pub IsAnswer : Result MapsEntry MapsError → Result MapsEntry MapsError → Type 0
-IsAnswer right result = (result ≡ right) ⊎ (result ≡ Err OutOfMemory)
+maps_line_of pid line = entry_or (first_cause (line_faults line)) (line_entry_of pid line)

@@ -1,8 +1,9 @@
 -- The entries that matter for addresses.
 use Rattle.std.specs.Prelude.{◌≡◌, ◌⊎◌, ◌||◌, Bool, true, false, List, [], ◌∷◌, Option, None, Result, Ok, Err, IsSomeAnd}
+use Rattle.elf64_core.specs.Outcomes.{IsUnless}
 use Rattle.maps_text.specs.declared.entry.MapsEntry.{MapsEntry}
 use Rattle.maps_text.specs.declared.error.MapsError.{MapsError}
-use Rattle.maps_text.specs.Lines.{IsAnswer}
+use Rattle.maps_text.specs.declared.error.MapsError.TheVariants.{OutOfMemory}
 use Rattle.maps_text.specs.Perms.{has_bits}
 
 -- the map may be read or executed
@@ -16,7 +17,7 @@ is_relevant_line (Err error) = true
 
 -- an answer came for a line and is kept; `right` is the line's right answer
 abbrev pub KeptFor : Result MapsEntry MapsError → Option (Result MapsEntry MapsError) → Type 0
-KeptFor right item = IsSomeAnd item (λ result. IsAnswer right result × (is_relevant_line result ≡ true))
+KeptFor right item = IsSomeAnd item (λ result. IsUnless OutOfMemory right result × (is_relevant_line result ≡ true))
 
 -- Of lines with these right answers, the first that was kept came, and some lines are left behind it; or none
 -- was kept, and none is left

@@ -1,6 +1,7 @@
 //! One line.
 ghost use Rattle.std.specs.Prelude.{◌≡◌, Some, None, MatchResult};
-ghost use Rattle.maps_text.specs.Lines.{line_range_of, perm_in_line, map_offset_of, line_path_of, first_fault, range_faults, mode_faults, offset_faults, device_faults, line_faults, maps_line_of, IsAnswer};
+ghost use Rattle.elf64_core.specs.Outcomes.{IsUnless, first_cause};
+ghost use Rattle.maps_text.specs.Lines.{line_range_of, perm_in_line, map_offset_of, line_path_of, range_faults, mode_faults, offset_faults, device_faults, line_faults, maps_line_of};
 ghost use Rattle.maps_text.specs.Fields.{behind, field, trimmed};
 ghost use Rattle.maps_text.specs.Perms.{perm_of};
 ghost use Rattle.std.specs.Str.Parse.{digits_value};
@@ -23,9 +24,9 @@ struct Fields<'a> {
 
 /// The range that a line begins with, and what stands behind it.
 fn range_in(line: &[u8]) -> Result<(Range<u64>, &[u8]), MapsError>
-    ensures { MatchResult result (λ parts. (first_fault (range_faults line.now) ≡ None)
+    ensures { MatchResult result (λ parts. (first_cause (range_faults line.now) ≡ None)
         × (parts.0 ≡ line_range_of line.now) × (parts.1.now ≡ behind line.now))
-        (λ error. first_fault (range_faults line.now) ≡ Some error) }
+        (λ error. first_cause (range_faults line.now) ≡ Some error) }
 {
     let Some((range, rest)) = cut_field(line) else {
         return Err(MapsError::NoRange);
@@ -44,9 +45,9 @@ fn range_in(line: &[u8]) -> Result<(Range<u64>, &[u8]), MapsError>
 
 /// What the mode allows that some bytes begin with, and what stands behind it.
 fn mode_in(bytes: &[u8]) -> Result<(Perm, &[u8]), MapsError>
-    ensures { MatchResult result (λ parts. (first_fault (mode_faults bytes.now) ≡ None)
+    ensures { MatchResult result (λ parts. (first_cause (mode_faults bytes.now) ≡ None)
         × (parts.0 ≡ perm_of (field bytes.now)) × (parts.1.now ≡ behind bytes.now))
-        (λ error. first_fault (mode_faults bytes.now) ≡ Some error) }
+        (λ error. first_cause (mode_faults bytes.now) ≡ Some error) }
 {
     let Some((mode, rest)) = cut_field(bytes) else {
         return Err(MapsError::NoMode);
@@ -59,9 +60,9 @@ fn mode_in(bytes: &[u8]) -> Result<(Perm, &[u8]), MapsError>
 
 /// The offset that some bytes begin with, and what stands behind it.
 fn offset_in(bytes: &[u8]) -> Result<(u64, &[u8]), MapsError>
-    ensures { MatchResult result (λ parts. (first_fault (offset_faults bytes.now) ≡ None)
+    ensures { MatchResult result (λ parts. (first_cause (offset_faults bytes.now) ≡ None)
         × (parts.0 ≡ digits_value 16 (field bytes.now)) × (parts.1.now ≡ behind bytes.now))
-        (λ error. first_fault (offset_faults bytes.now) ≡ Some error) }
+        (λ error. first_cause (offset_faults bytes.now) ≡ Some error) }
 {
     let Some((offset, rest)) = cut_field(bytes) else {
         return Err(MapsError::NoOffset);
@@ -74,9 +75,9 @@ fn offset_in(bytes: &[u8]) -> Result<(u64, &[u8]), MapsError>
 
 /// The path behind the device that some bytes begin with, and the inode.
 fn path_in(bytes: &[u8]) -> Result<&[u8], MapsError>
-    ensures { MatchResult result (λ path. (first_fault (device_faults bytes.now) ≡ None)
+    ensures { MatchResult result (λ path. (first_cause (device_faults bytes.now) ≡ None)
         × (path.now ≡ trimmed (behind (behind bytes.now))))
-        (λ error. first_fault (device_faults bytes.now) ≡ Some error) }
+        (λ error. first_cause (device_faults bytes.now) ≡ Some error) }
 {
     let Some((_device, rest)) = cut_field(bytes) else {
         return Err(MapsError::NoDevice);
@@ -89,10 +90,10 @@ fn path_in(bytes: &[u8]) -> Result<&[u8], MapsError>
 
 /// The fields of a line.
 fn fields_in(line: &[u8]) -> Result<Fields<'_>, MapsError>
-    ensures { MatchResult result (λ fields. (first_fault (line_faults line.now) ≡ None)
+    ensures { MatchResult result (λ fields. (first_cause (line_faults line.now) ≡ None)
         × (fields.range ≡ line_range_of line.now) × (fields.perm ≡ perm_in_line line.now)
         × (fields.offset ≡ map_offset_of line.now) × (fields.path.now ≡ line_path_of line.now))
-        (λ error. first_fault (line_faults line.now) ≡ Some error) }
+        (λ error. first_cause (line_faults line.now) ≡ Some error) }
 {
     let (range, rest) = range_in(line)?;
     let (perm, rest) = mode_in(rest)?;
@@ -113,7 +114,7 @@ pub(crate) fn parse_line(
     line: &[u8],
     pid: u32,
 ) -> Result<MapsEntry, MapsError>
-    ensures { IsAnswer (maps_line_of pid line.now) result }
+    ensures { IsUnless MapsError.OutOfMemory (maps_line_of pid line.now) result }
 {
     let fields = fields_in(line)?;
     let path_name = path_name(alloc, text, pid, &fields.range, fields.path)?;

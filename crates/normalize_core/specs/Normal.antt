@@ -2,6 +2,7 @@
 use Rattle.std.specs.Prelude.{◌≡◌, ℕ, Bool, true, false, not, ◌&&◌, if◌then◌else◌, List, [], ◌∷◌, map, Option, Some, None, Result, Ok, Err}
 use Rattle.std.specs.List.{AllZip, list_any, position_or_len}
 use Rattle.std.specs.List.Sorted.{IsPermutation}
+use Rattle.elf64_core.specs.Outcomes.{first_cause}
 use Rattle.image_memory.specs.Images.{Pushed}
 use Rattle.maps_text.specs.declared.entry.MapsEntry.{MapsEntry}
 use Rattle.normalize_core.specs.declared.error.NormalizeError.{NormalizeError}
@@ -79,13 +80,8 @@ normalizing_faults asked sorted_addrs addrs =
     ∷ (sorted_addrs && not (ascends addrs), AddrsUnsorted)
     ∷ (list_any (overflows asked.entries) addrs, OffsetOverflow) ∷ []
 
--- the first cause that is so
-abbrev pub first_fault : List (Bool × NormalizeError) → Option NormalizeError
-first_fault [] = None
-first_fault (fault ∷ others) = if fault.0 then Some fault.1 else first_fault others
-
 -- the right answer: the first fault, or else what the addresses are normalized to
 abbrev pub IsNormalOrFault : Asked → Bool → List ℕ → Result Normal NormalizeError → Type 0
 IsNormalOrFault asked sorted_addrs addrs (Ok normal) =
-    (first_fault (normalizing_faults asked sorted_addrs addrs) ≡ None) × IsNormal asked addrs normal
-IsNormalOrFault asked sorted_addrs addrs (Err error) = first_fault (normalizing_faults asked sorted_addrs addrs) ≡ Some error
+    (first_cause (normalizing_faults asked sorted_addrs addrs) ≡ None) × IsNormal asked addrs normal
+IsNormalOrFault asked sorted_addrs addrs (Err error) = first_cause (normalizing_faults asked sorted_addrs addrs) ≡ Some error

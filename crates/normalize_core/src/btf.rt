@@ -1,7 +1,8 @@
 //! What is read of BPF's type information.
 ghost use Rattle.std.specs.Prelude.{◌≡◌, ◌/◌, ◌%◌, ◌^◌, option_copied};
-ghost use Rattle.elf64_core.specs.Sections.{string_at, until_nul};
 ghost use Rattle.normalize_core.specs.Btfs.{btf_name_in};
+
+use elf64_core::string_at;
 
 /// The header of type information (`include/uapi/linux/btf.h`).
 #[derive(Clone, Copy, Debug)]
@@ -52,26 +53,6 @@ impl<'a> Btf<'a> {
         }
         string_at(&self.bytes[start..end], offset as usize)
     }
-}
-
-/// The bytes before the first nul, where there is one.
-#[tactic(auto, unfolding(elf64_core::specs::Sections::until_nul))]
-fn until_nul(bytes: &[u8]) -> Option<&[u8]>
-    ensures { option_copied result ≡ until_nul bytes.now }
-{
-    let end = bytes.iter().position(|byte| *byte == 0)?;
-    Some(&bytes[..end])
-}
-
-/// The string that begins at an offset of some strings, where it has an end there.
-#[tactic(auto, unfolding(elf64_core::specs::Sections::string_at))]
-fn string_at(strings: &[u8], at: usize) -> Option<&[u8]>
-    ensures { option_copied result ≡ string_at strings.now at }
-{
-    if strings.len() < at {
-        return None;
-    }
-    until_nul(&strings[at..])
 }
 
 /// Where an instruction of a BPF program comes from (`include/uapi/linux/bpf.h`).

@@ -8,7 +8,8 @@ use Rattle.py_fields.specs.declared.layout.Layout.{Layout}
 use Rattle.py_fields.specs.Sound.{IsSound}
 use Rattle.py_layout.specs.Lists.{AreSound, IsFirstUnsound, IsFirstClash, IsOfList}
 use Rattle.py_layout.specs.Keys.{the_keys}
-use Rattle.py_layout.specs.File.{IsToml, FileSays, HasFlaw, HasUnsound, HasClash, HasLayouts, IsErrorFor, IsRightFor, IsUnlessMemory, IsOfText, file_flaw, layouts_of}
+use Rattle.elf64_core.specs.Outcomes.{IsUnless}
+use Rattle.py_layout.specs.File.{IsToml, FileSays, HasFlaw, HasUnsound, HasClash, HasLayouts, IsErrorFor, IsRightFor, IsOfText, file_flaw, layouts_of}
 use Rattle.py_layout.proofs.Judging.{unsound-not_all, unsound-unique, clash-not_apart, clash-unique}
 
 abbrev refused : LayoutError → Result (List Layout) LayoutError
@@ -71,7 +72,7 @@ same_clash text i j x y one other =
     rw (same.0, same.1) refl
 
 -- any right answer is the result, unless memory ran out
-pub right-unique : (text : List ℕ) (result answer : Result (List Layout) LayoutError) → IsRightFor text result → IsRightFor text answer → answer ≢ Err OutOfMemory → IsUnlessMemory answer result
+pub right-unique : (text : List ℕ) (result answer : Result (List Layout) LayoutError) → IsRightFor text result → IsRightFor text answer → answer ≢ Err OutOfMemory → IsUnless OutOfMemory answer result
 right-unique text (Ok l) (Ok m) h g ne = inl (ap Ok (says-unique text l m h.says g.says))
 right-unique text (Ok l) (Err NotToml) h g ne = absurd (g (h.says.members, h.says.toml))
 right-unique text (Ok l) (Err (Shape p name)) h g ne = absurd (says-no_flaw text l p name h.says g)

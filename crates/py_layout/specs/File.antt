@@ -1,5 +1,5 @@
 -- What a layout file says, and its first flaw.
-use Rattle.std.specs.Prelude.{◌≡◌, ◌⊎◌, ⊤, ℕ, ◌+◌, List, [], ◌∷◌, Bool, not, Option, Some, None, Result, Ok, Err, All, codes, bytes_eq, option_map, option_and_then}
+use Rattle.std.specs.Prelude.{◌≡◌, ⊤, ℕ, ◌+◌, List, [], ◌∷◌, Bool, not, Option, Some, None, Result, Ok, Err, All, codes, bytes_eq, option_map, option_and_then}
 use Rattle.std.specs.Option.{option_or}
 use Rattle.std.specs.List.{find}
 use Rattle.std.specs.Str.{IsUtf8, chars}
@@ -103,10 +103,6 @@ IsErrorFor text OutOfMemory = ⊤
 abbrev pub IsRightFor : List ℕ → Result (List Layout) LayoutError → Type 0
 IsRightFor text (Ok list) = HasLayouts text list
 IsRightFor text (Err error) = IsErrorFor text error
-
--- the answer, unless memory ran out
-abbrev pub IsUnlessMemory : Result (List Layout) LayoutError → Result (List Layout) LayoutError → Type 0
-IsUnlessMemory answer result = (result ≡ answer) ⊎ (result ≡ Err OutOfMemory)
 
 -- what the parts of the reader tell: the first flaw, where there is one, and else the layouts
 abbrev pub IsShapeOf : ℕ → List ℕ → LayoutError → Type 0

@@ -2,8 +2,9 @@
 ghost use Rattle.std.specs.Prelude.{◌≡◌, ◌≢◌, ℕ, List, Result, Ok, Err, ◌↔◌, IsTrue, IsOk, IsNone, MatchOption, IfOk, IfErr, IfSome, All, AllPairs, Contains, length};
 ghost use Rattle.std.specs.List.{AllWithin};
 ghost use Rattle.py_fields.specs.Sound.{Covers, IsSound};
+ghost use Rattle.elf64_core.specs.Outcomes.{IsUnless};
 ghost use Rattle.py_layout.specs.Lists.{AreSound, Clash, IsFirstUnsound, IsFirstFrom, IsFirstClash, IsOfList};
-ghost use Rattle.py_layout.specs.File.{IsRightFor, IsUnlessMemory};
+ghost use Rattle.py_layout.specs.File.{IsRightFor};
 ghost use Rattle.py_layout.specs.declared.error.LayoutError.{LayoutError};
 ghost use Rattle.py_fields.specs.declared.layout.Layout.{Layout};
 
@@ -132,7 +133,7 @@ impl Layouts {
         ensures only { (answer : Result (List Layout) LayoutError)
             → IsRightFor text.now answer
             → answer ≢ Err LayoutError.OutOfMemory
-            → IsUnlessMemory answer result }
+            → IsUnless LayoutError.OutOfMemory answer result }
     {
         Layouts::of(alloc, layouts_from_toml(alloc, text)?)
     }

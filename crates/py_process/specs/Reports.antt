@@ -1,9 +1,9 @@
 -- What a report says of a core and its images, and why there is none.
-use Rattle.std.specs.Prelude.{◌≡◌, ℕ, ◌==◌, ℤ, Bool, true, false, List, [], ◌∷◌, map, take, Option, Some, None, option_map, Result, Ok, Err, ⊤, Vec}
-use Rattle.std.specs.List.{position}
+use Rattle.std.specs.Prelude.{◌≡◌, ℕ, ℤ, true, false, List, [], ◌∷◌, map, Option, Some, None, option_map, unwrap_or, Result, Ok, Err, ⊤, Vec}
 use Rattle.std.specs.Global.{Global}
 use Rattle.bstr.specs.Utf8.{lossy_chars}
 use Rattle.elf64_core.specs.Header.{machine_of}
+use Rattle.elf64_core.specs.Nul.{until_nul}
 use Rattle.image_memory.specs.Backed.{IsBackedMemory}
 use Rattle.image_memory.specs.Cores.{IsCore, RefusesCore}
 use Rattle.image_memory.specs.Images.{Pushed}
@@ -96,16 +96,9 @@ abbrev pub first_signal : List elf_prstatus → Option ℤ
 first_signal [] = None
 first_signal (status ∷ rest) = Some status.pr_cursig
 
-abbrev pub is_nul : ℕ → Bool
-is_nul byte = byte == 0
-
-abbrev pub front_to : Option ℕ → List ℕ → List ℕ
-front_to None bytes = bytes
-front_to (Some n) bytes = take n bytes
-
 -- what stands before the first nul, or all
 abbrev pub up_to_nul : List ℕ → List ℕ
-up_to_nul bytes = front_to (position is_nul bytes) bytes
+up_to_nul bytes = unwrap_or (until_nul bytes) bytes
 
 -- the process's id, and its arguments up to the first nul, as characters
 abbrev pub process_told : elf_prpsinfo → ℤ × List ℕ

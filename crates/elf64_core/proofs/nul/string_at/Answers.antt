@@ -1,7 +1,7 @@
 use Rattle.std.proofs.Common.{ap, sym, arith}
 use Rattle.std.proofs.lemmas.List.{drop_all}
-use Rattle.elf64_core.specs.Sections.{string_at, until_nul}
-use Rattle.elf64_core.proofs.section_table.string_at.Goals as goal
+use Rattle.elf64_core.specs.Nul.{string_at, until_nul}
+use Rattle.elf64_core.proofs.nul.string_at.Goals as goal
 
 pub returns-then-strings-at : goal.returns-then-strings-at
 unfolding string_at until_nul
