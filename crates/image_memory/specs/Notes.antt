@@ -66,16 +66,33 @@ i32_in bytes at = cast_signed w32 (u32_in bytes at)
 abbrev pub i16_in : List ℕ → ℕ → ℤ
 i16_in bytes at = cast_signed w16 (u16_in bytes at)
 
+-- where pr_cursig and pr_pid stand in a status record (Linux' elf_prstatus of 64-bit processes), in bytes
+abbrev pub cursig_place : ℕ
+cursig_place = 12
+
+abbrev pub status_pid_place : ℕ
+status_pid_place = 32
+
+-- and pr_pid, pr_fname and pr_psargs in a process record (elf_prpsinfo), in which the last of them ends it
+abbrev pub process_pid_place : ℕ
+process_pid_place = 24
+
+abbrev pub fname_place : ℕ
+fname_place = 40
+
+abbrev pub psargs_place : ℕ
+psargs_place = 56
+
 -- what a status record says
 unfoldable pub status_in : List ℕ → elf_prstatus
-status_in desc = record { pr_cursig = i16_in desc 12; pr_pid = i32_in desc 32 }
+status_in desc = record { pr_cursig = i16_in desc cursig_place; pr_pid = i32_in desc status_pid_place }
 
 -- what a process record says
 unfoldable pub process_in : List ℕ → elf_prpsinfo
 process_in desc = record {
-  pr_pid = i32_in desc 24;
-  pr_fname = slice_range desc 40 56;
-  pr_psargs = slice_range desc 56 136;
+  pr_pid = i32_in desc process_pid_place;
+  pr_fname = slice_range desc fname_place psargs_place;
+  pr_psargs = slice_range desc psargs_place 136;
 }
 
 -- what a note says, if it is a status record

@@ -17,6 +17,18 @@ pub(crate) const STATUS_SIZE: usize = 112;
 /// How many bytes a process record has at least.
 pub(crate) const PROCESS_SIZE: usize = 136;
 
+/// Where `pr_cursig` and `pr_pid` stand in a status record of a 64-bit process, in bytes.
+const PR_CURSIG: usize = 12;
+
+const STATUS_PR_PID: usize = 32;
+
+/// Where `pr_pid`, `pr_fname` and `pr_psargs` stand in a process record, which the last of them ends.
+const PROCESS_PR_PID: usize = 24;
+
+const PR_FNAME: usize = 40;
+
+const PR_PSARGS: usize = 56;
+
 /// A status record, of a thread (Linux's `elf_prstatus`): the fields that are read.
 #[derive(Clone, Copy, Debug)]
 pub struct elf_prstatus {
@@ -44,8 +56,8 @@ fn status_in(desc: &[u8]) -> elf_prstatus
     ensures { result ≡ status_in desc.now }
 {
     elf_prstatus {
-        pr_cursig: u16_in(desc, 12).cast_signed(),
-        pr_pid: u32_in(desc, 32).cast_signed(),
+        pr_cursig: u16_in(desc, PR_CURSIG).cast_signed(),
+        pr_pid: u32_in(desc, STATUS_PR_PID).cast_signed(),
     }
 }
 
@@ -56,11 +68,11 @@ fn process_in(desc: &[u8]) -> elf_prpsinfo
     ensures { result ≡ process_in desc.now }
 {
     let mut pr_fname = [0; 16];
-    pr_fname.copy_from_slice(&desc[40..56]);
+    pr_fname.copy_from_slice(&desc[PR_FNAME..PR_PSARGS]);
     let mut pr_psargs = [0; 80];
-    pr_psargs.copy_from_slice(&desc[56..136]);
+    pr_psargs.copy_from_slice(&desc[PR_PSARGS..PROCESS_SIZE]);
     elf_prpsinfo {
-        pr_pid: u32_in(desc, 24).cast_signed(),
+        pr_pid: u32_in(desc, PROCESS_PR_PID).cast_signed(),
         pr_fname,
         pr_psargs,
     }
