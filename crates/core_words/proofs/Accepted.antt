@@ -5,7 +5,7 @@ use Rattle.clap.specs.declared.error.Error.{Error}
 use Rattle.clap.specs.declared.error.ErrorKind.{ErrorKind}
 use Rattle.clap.specs.declared.error.ErrorKind.TheVariants as kind
 use Rattle.clap.proofs.OnLiterals.{clap_on_literals}
-use Rattle.core_words.specs.Answers.{Answers}
+use Rattle.core_words.specs.Answers.{AnswersWords}
 use Rattle.core_words.specs.Dump.{dump_app, rows_without, taken_rows}
 use Rattle.core_words.specs.declared.args_error.ArgsError.{ArgsError}
 use Rattle.core_words.specs.declared.args_error.ArgsError.TheVariants.{Refused, OutOfMemory}
@@ -37,6 +37,6 @@ unfolding taken_rows
 not_taken words k among = none_with (fault_of dump_app words) k (matches_of dump_app words) among
 
 pub refused : {S T : Type 0} (seen : S → T) (asked : Option T) (e : ArgsError) (k : ErrorKind)
-    → (e ≡ OutOfMemory) ↔ (k ≡ kind.OutOfMemory) → (k ≢ kind.OutOfMemory → asked ≡ None) → Answers seen asked (Err e)
+    → (e ≡ OutOfMemory) ↔ (k ≡ kind.OutOfMemory) → (k ≢ kind.OutOfMemory → asked ≡ None) → AnswersWords seen asked (Err e)
 refused seen asked Refused k both none = none (λ is. absurd (let h : Refused ≡ OutOfMemory = both.1 is in cc))
 refused seen asked OutOfMemory k both none = tt

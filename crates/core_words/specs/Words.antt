@@ -4,7 +4,7 @@ use Rattle.std.specs.List.{list_all, position_or_len, starts_with, before_first,
 use Rattle.std.specs.Char.{digit_value}
 use Rattle.std.specs.Str.Parse.{digits_value}
 use Rattle.std.specs.Global.{Global}
-use Rattle.py_version.specs.Version.{release}
+use Rattle.py_version.specs.Version.{is_dot, release}
 use Rattle.py_version.specs.declared.version.Version.{Version}
 use Rattle.py_stacks.specs.declared.trace.Addresses.{Addresses}
 use Rattle.core_words.specs.Dump.{Dump, dump_words}
@@ -24,9 +24,6 @@ word_number word = if starts_with nat_eq word (codes "0x") then digits_in 16 16 
 abbrev pub release_by : Option ℕ → Option ℕ → Option ℕ → Option Version
 release_by (Some major) (Some minor) (Some patch) = Some (release major minor patch)
 release_by _ _ _ = None
-
-abbrev pub is_dot : ℕ → Bool
-is_dot c = c == 46
 
 -- the parts round the first dot
 abbrev pub split_at_dot : List ℕ → Option (List ℕ × List ℕ)

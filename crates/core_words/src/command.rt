@@ -1,6 +1,6 @@
 //! What words ask for.
 ghost use Rattle.std.specs.Prelude.{◌≡◌, ◌++◌, IfOk, OnOk, map, option_map};
-ghost use Rattle.core_words.specs.Answers.{Answers};
+ghost use Rattle.core_words.specs.Answers.{AnswersWords};
 ghost use Rattle.core_words.specs.Words.{command_of, dump, kept_files, texts, walk, walk_words};
 ghost use Rattle.core_words.specs.Seen.{asked_command, asked_dump, asked_walk};
 
@@ -29,7 +29,7 @@ pub enum Command<'a> {
 /// - `Refused` exactly where the words are no such words.
 /// - `OutOfMemory` where there was no memory left.
 pub fn read_words(alloc: Global, words: &[String]) -> Result<Command<'_>, ArgsError>
-    ensures { Answers asked_command (command_of (texts words.now)) result }
+    ensures { AnswersWords asked_command (command_of (texts words.now)) result }
 {
     let [name, rest @ ..] = words else {
         return Err(ArgsError::Refused);
@@ -45,7 +45,7 @@ pub fn read_words(alloc: Global, words: &[String]) -> Result<Command<'_>, ArgsEr
 
 /// A walk, by the words behind its name.
 fn walk_command(words: &[String]) -> Result<Command<'_>, ArgsError>
-    ensures { Answers asked_command (option_map (λ w. walk w) (walk_words (texts words.now))) result }
+    ensures { AnswersWords asked_command (option_map (λ w. walk w) (walk_words (texts words.now))) result }
 {
     match walk_words(words) {
         Some(words) => Ok(Command::Walk(words)),

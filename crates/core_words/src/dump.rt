@@ -1,7 +1,7 @@
 //! The words of a report: `dump -c CORE --layouts FILE [OPTION].. [PATH=FILE]..`.
 ghost use Rattle.std.specs.Prelude.{◌≡◌, map, option_map, Some};
 ghost use Rattle.clap.specs.Words.{found_of, rows_of};
-ghost use Rattle.core_words.specs.Answers.{Answers};
+ghost use Rattle.core_words.specs.Answers.{AnswersWords};
 ghost use Rattle.core_words.specs.Dump.{config_of, dump_found, dump_words, image_words, images_of, is_dump, is_dump_name, is_set, split_image, option_value_of};
 ghost use Rattle.core_words.specs.Seen.{asked_dump};
 ghost use Rattle.core_words.specs.Words.{texts};
@@ -41,7 +41,7 @@ pub struct DumpWords {
 ///   sign. So are the words `-h` and `--help`.
 /// - `OutOfMemory` where there was no memory left.
 pub fn config_from_args(alloc: Global, words: &[String]) -> Result<DumpWords, ArgsError>
-    ensures { Answers asked_dump (dump_words (texts words.now)) result }
+    ensures { AnswersWords asked_dump (dump_words (texts words.now)) result }
 {
     if !is_dump(words) {
         return Err(ArgsError::Refused);
@@ -68,7 +68,7 @@ fn is_dump_name(name: &str) -> bool
 
 /// What is asked for by what clap found.
 fn dump_by(alloc: Global, matches: &ArgMatches<'_>) -> Result<DumpWords, ArgsError>
-    ensures { Answers asked_dump (dump_found (rows_of (found_of matches.now))) result }
+    ensures { AnswersWords asked_dump (dump_found (rows_of (found_of matches.now))) result }
 {
     let config = config_of(matches);
     let core = option_value_of(alloc, matches, "core")?;
@@ -107,7 +107,7 @@ fn is_set(matches: &ArgMatches<'_>, name: &str) -> bool
 
 /// The value of an option.
 fn option_value_of(alloc: Global, matches: &ArgMatches<'_>, name: &str) -> Result<Name, ArgsError>
-    ensures { Answers (λ value. value) (Some (option_value_of name.now (rows_of (found_of matches.now)))) result }
+    ensures { AnswersWords (λ value. value) (Some (option_value_of name.now (rows_of (found_of matches.now)))) result }
 {
     let value = text_of(matches, name);
     Ok(Name::of(alloc, value.as_bytes())?)
@@ -135,7 +135,7 @@ fn image_words<'m>(matches: &'m ArgMatches<'_>) -> &'m [&'m str]
 
 /// The images of some words; `Refused` where one of them has no equals sign.
 fn images_of(alloc: Global, words: &[&str]) -> Result<Vec<(Name, Name)>, ArgsError>
-    ensures { Answers (λ images. images.items) (images_of (map (λ word. word.now) words.now)) result }
+    ensures { AnswersWords (λ images. images.items) (images_of (map (λ word. word.now) words.now)) result }
 {
     let mut images = Vec::new(alloc);
     for word in words {

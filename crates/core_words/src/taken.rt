@@ -1,7 +1,7 @@
 //! The words of a report, as clap takes them.
 ghost use Rattle.std.specs.Prelude.{◌≡◌, ◌↔◌, false, IfOk};
 ghost use Rattle.clap.specs.Words.{app_of, found_of, rows_of, rule_of};
-ghost use Rattle.core_words.specs.Answers.{Answers};
+ghost use Rattle.core_words.specs.Answers.{AnswersWords};
 ghost use Rattle.core_words.specs.Dump.{dump_app, flag_rule, images_rule, locals_rule, taken_rows, wanted_rule};
 ghost use Rattle.core_words.specs.Words.{texts};
 
@@ -77,7 +77,7 @@ pub(crate) fn dump_matches<'a>(
     alloc: Global,
     words: &'a [String],
 ) -> Result<ArgMatches<'a>, ArgsError>
-    ensures { Answers (λ matches. rows_of (found_of matches)) (taken_rows (texts words.now)) result }
+    ensures { AnswersWords (λ matches. rows_of (found_of matches)) (taken_rows (texts words.now)) result }
 {
     let command = dump_command(alloc)?;
     match command.try_get_matches_from(words) {

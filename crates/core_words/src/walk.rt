@@ -3,7 +3,7 @@ ghost use Rattle.std.specs.Prelude.{◌≡◌, ◌∷◌, [], option_map};
 ghost use Rattle.core_words.specs.Words.{source_of, texts, walk_by, walk_words};
 ghost use Rattle.core_words.specs.Seen.{asked_source, asked_version, asked_walk};
 
-use crate::numbers::{Release, word_number, release_of};
+use crate::numbers::{Release, release_of, word_number};
 use py_stacks::Addresses;
 
 /// The words of a walk.

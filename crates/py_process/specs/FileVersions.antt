@@ -4,14 +4,11 @@ use Rattle.std.specs.Prelude.{ℕ, ◌^◌, ◌==◌, ◌&&◌, nat_eq, nat_lt, 
 use Rattle.std.specs.Char.{is_ascii_digit}
 use Rattle.std.specs.List.{after_last, list_all, slice_split, starts_with}
 use Rattle.std.specs.Str.Parse.{digits_value}
-use Rattle.py_version.specs.Version.{release}
+use Rattle.py_version.specs.Version.{is_dot, release}
 use Rattle.py_version.specs.declared.version.Version.{Version}
 
 abbrev pub is_slash : ℕ → Bool
 is_slash c = c == 47
-
-abbrev pub is_dot : ℕ → Bool
-is_dot c = c == 46
 
 -- the number that one or more ASCII digits write, where it is below 2^64
 abbrev pub decimal_of : List ℕ → Option ℕ

@@ -2,7 +2,8 @@
 ghost use Rattle.std.specs.Prelude.{◌≡◌, ◌<◌, ◌≤◌, ◌-◌, ◌∷◌, [], ℕ, true, false, length, slice_index, IfOk, MatchOption, option_map};
 ghost use Rattle.std.specs.List.{after_last, slice_split};
 ghost use Rattle.py_version.specs.Version.{release};
-ghost use Rattle.py_process.specs.FileVersions.{decimal_of, file_version, is_dot, is_slash};
+ghost use Rattle.py_process.specs.FileVersions.{decimal_of, file_version, is_slash};
+ghost use Rattle.py_version.specs.Version.{is_dot};
 
 use py_version::Version;
 use std::alloc::{AllocError, Global};

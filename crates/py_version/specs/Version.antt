@@ -1,7 +1,11 @@
 -- Versions of three numbers alone, and how a version is written.
-use Rattle.std.specs.Prelude.{ℕ, List, [], ◌++◌, Option, Some, None, codes, encode_utf8_all}
+use Rattle.std.specs.Prelude.{ℕ, ◌==◌, Bool, List, [], ◌++◌, Option, Some, None, codes, encode_utf8_all}
 use Rattle.std.specs.Fmt.{decimal}
 use Rattle.py_version.specs.declared.version.Version.{Version}
+
+-- a dot, which stands between the numbers of a version
+abbrev pub is_dot : ℕ → Bool
+is_dot c = c == 46
 
 -- the version of three numbers alone, with no flags and no metadata
 abbrev pub release : (major minor patch : ℕ) → Version
