@@ -24,7 +24,7 @@ pub enum NamesError {
 }
 
 impl From<ObjectError> for NamesError {
-    ghost use Rattle.py_builtins.specs.ObjectError.{read_fault as object_fault};
+    ghost use Rattle.py_builtins.specs.ObjectError.{object_fault};
     ghost use Rattle.py_names.specs.NamesError.{TellsName};
 
     ghost from_gives = { λ e d. TellsName d (object_fault e) };

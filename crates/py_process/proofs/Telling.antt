@@ -16,7 +16,7 @@ use Rattle.py_version.proofs.Unique.{spells_once}
 use Rattle.py_process.specs.Causes.{version_unread}
 use Rattle.py_process.specs.Facts.{facts_of}
 use Rattle.py_process.specs.Sources.{BytesTell, FirstTells, IsVersionTold, SectionTells, VersionSource, TellsVersion, TellsBefore, TextTells, ToldBy, VersionIs, bss_of, version_number_at, text_source_at, version_of_number}
-use Rattle.py_process.specs.Sources.Source.{Number, Text, Section, Path}
+use Rattle.py_process.specs.Sources.VersionSource.{Number, Text, Section, Path}
 use Rattle.py_process.specs.declared.binary.BinaryInfo.{BinaryInfo}
 use Rattle.py_process.specs.declared.version_error.VersionError.{VersionError}
 use Rattle.py_process.specs.declared.version_error.VersionError.TheVariants.{Unreadable, NotFound, OutOfMemory}

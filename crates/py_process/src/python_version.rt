@@ -5,7 +5,7 @@ ghost use Rattle.process_memory.specs.Seen.{ReadingBelow};
 ghost use Rattle.py_version.specs.declared.version.Version.{Version as Told};
 ghost use Rattle.py_process.specs.Facts.{facts_of, known_of};
 ghost use Rattle.py_process.specs.Sources.{FirstTells, IsVersionTold, SectionTells, TellsVersion, ToldBy, VersionIs, bss_of, flags_of, library_sources, other_sources, section_sources, sources_of, text_source_at, text_symbol, version_of_number};
-ghost use Rattle.py_process.specs.Sources.Source.{Number, Section, Text as TextSource};
+ghost use Rattle.py_process.specs.Sources.VersionSource.{Number, Section, Text as TextSource};
 
 use crate::file_version::file_version;
 use crate::{BinaryInfo, PythonProcessInfo, VersionError};

@@ -3,7 +3,7 @@ use Rattle.std.proofs.lemmas.Result.{err_from_is_err_and}
 use Rattle.process_memory.proofs.Reading.{reads_end, reads_halt, reads_next}
 use Rattle.py_builtins.specs.ObjectError.{object_fault}
 use Rattle.py_objects.specs.Nodes.{slots_node}
-use Rattle.py_objects.specs.Nodes.Place.{SlotsAt}
+use Rattle.py_objects.specs.Nodes.PartsPlace.{SlotsAt}
 use Rattle.py_objects.specs.Shows.Brackets.{Curly}
 use Rattle.py_objects.specs.Shows.Node.{Many}
 use Rattle.py_objects.proofs.nodes.read_slots.Goals as goal

@@ -2,7 +2,7 @@ use Rattle.std.proofs.Common.{arith, ap, [], ◌∷◌, ◌∙◌}
 use Rattle.std.proofs.lemmas.Result.{err_from_is_err_and}
 use Rattle.std.specs.Prelude.{Ok, Err, option_map}
 use Rattle.process_memory.proofs.Reading.{reading_none}
-use Rattle.py_process.specs.Sources.Source.{Path}
+use Rattle.py_process.specs.Sources.VersionSource.{Path}
 use Rattle.py_process.specs.FileVersions.{file_version}
 use Rattle.py_process.specs.declared.version_error.VersionError.TheVariants.{OutOfMemory}
 use Rattle.py_process.specs.Facts.{facts_of}

@@ -3,7 +3,7 @@ use Rattle.std.proofs.Math.Nat.{le_refl}
 use Rattle.process_memory.proofs.Reading.{reading_gives}
 use Rattle.py_process.specs.Facts.{known_of}
 use Rattle.py_process.specs.Sources.{FirstTells, ToldBy, number_or, other_sources, sources_of}
-use Rattle.py_process.specs.Sources.Source.{Number}
+use Rattle.py_process.specs.Sources.VersionSource.{Number}
 use Rattle.py_process.proofs.Telling.{told_one}
 use Rattle.py_process.proofs.python_version.read_sources.Goals as goal
 
