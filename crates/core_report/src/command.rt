@@ -2,7 +2,7 @@
 ghost use Rattle.std.specs.Prelude.{◌≡◌, ◌≢◌, ◌≤◌, ◌↔◌, ◌⊎◌, List, ℕ, Option, None, Some, Ok, Err};
 ghost use Rattle.std.specs.Io.KnownBytes.{Appends};
 ghost use Rattle.outside.specs.Counts.{Rose};
-ghost use Rattle.core_words.specs.Answers.{Answers};
+ghost use Rattle.core_words.specs.Answers.{AnswersWords};
 ghost use Rattle.core_words.specs.Dump.{Dump};
 ghost use Rattle.core_words.specs.Words.{Command as Asked, command_of, dump, texts};
 ghost use Rattle.core_words.specs.Seen.{asked_command};
@@ -48,7 +48,7 @@ fn execute<'a, F: Files, S: Sink>(
     files: &mut F,
     out: &mut S,
 ) -> Result<(), Trouble<'a>>
-    ensures ends { (asks : Option Asked) → Answers asked_command asks asked.now → HasEnded asks
+    ensures ends { (asks : Option Asked) → AnswersWords asked_command asks asked.now → HasEnded asks
         (ran (F.seen files.old) (F.seen files.new) (S.seen out.old) (S.seen out.new)) (end_after result) }
     ensures told { (F.seen files.new).told ≡ (F.seen files.old).told }
 {
