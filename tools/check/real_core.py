@@ -9,8 +9,9 @@ started and leaves some cores, and the program walks those that have all private
 functions and files must be those that the child printed. Then the program reports each core, usual ones too, with the
 images that it needs, and the whole text, byte by byte, must be the one that the child's own words give: signal,
 process, version, threads and their names, functions, files and lines. Names are left out where the layout that was
-derived has no dicts. What can't be tried here has one line that says why. The status is 0 exactly where nothing that
-was tried failed.
+derived has no dicts. Where the program `listing` is built, a core in which only those bytes of its memory are left that
+are read for the stacks must have the same stacks. What can't be tried here has one line that says why. The status is 0
+exactly where nothing that was tried failed.
 """
 
 import argparse
@@ -28,7 +29,7 @@ from dataclasses import dataclass, replace
 from functools import lru_cache
 from itertools import takewhile, zip_longest
 from pathlib import Path
-from typing import Dict, Iterator, List, Sequence, Tuple
+from typing import Dict, Iterator, List, Optional, Sequence, Tuple
 
 from rooms import ROOT  # (first: it makes the other rooms known)
 
@@ -38,6 +39,7 @@ from core_maps import machine_of, wanted_files
 from derive_layout import Build, Derived, DeriveError, How, build_of, derive, same_version, told_of
 from dump_core import image_words
 from find_pythons import pythons
+from footprints import Footprint, blotted, footprint_of
 from layout_plan import plan_of
 from layout_swaps import swaps
 
@@ -265,6 +267,18 @@ def check_dump(program: Path, core: Core, layouts: Path, derived: Derived) -> No
         check_report(run, json_of(core.told, derived, run.out))
 
 
+def check_footprint(program: Path, listing: Path, core: Core, layouts: Path, build: Build) -> Footprint:
+    """Walks a core once more, with no bytes of its memory left but those that its stacks are read from."""
+    footprint = footprint_of(listing, core.path, layouts, images_of(core.path))
+    part = replace(core, path=core.path.with_name("part"))
+    part.path.write_bytes(blotted(core.path, footprint))
+    runs = [walk(program, it, layouts, build, core.told.lock) for it in (core, part)]
+    part.path.unlink()
+    if runs[0].out != runs[1].out or runs[1].status != 0:
+        raise Failure(f"of the bytes of its footprint alone the walk says {runs[1].err!r}, and prints {runs[1].out[:200]!r}")
+    return footprint
+
+
 def notice_wrong(program: Path, core: Core, room: Path, derived: Derived) -> None:
     """Fails where a wrong layout isn't noticed: one in which functions and files have changed places, and, over a core
     whose lock is free, one that takes another number for the mark of a lock that is held."""
@@ -371,33 +385,36 @@ def cores_of(derived: Derived, names: str, room: Path) -> Iterator[Core]:
             core.path.unlink()
 
 
-def what_of(cores: Sequence[Core], derived: Derived, stored: str) -> str:
+def what_of(cores: Sequence[Core], derived: Derived, stored: str, footprints: Sequence[Footprint]) -> str:
     """Tells what was tried of a Python, where nothing failed."""
     usual = sum(it.case.is_usual for it in cores)
     threads = [thread for it in cores for thread in it.told.threads]
     counts = f"{len(threads)} threads, {sum(len(it.frames) for it in threads)} frames agree"
     holders = "holders agree" if all(it.told.lock for it in cores) else "holders not tried"
     names = "with names" if derived.with_dicts else "without names"
-    return f"{len(cores)} cores ({usual} usual): {counts}; {holders}; reports agree {names}; {stored}"
+    read = f"{footprints[0].reads} reads of {footprints[0].size} bytes suffice" if footprints else "footprints not tried"
+    return f"{len(cores)} cores ({usual} usual): {counts}; {holders}; reports agree {names}; {read}; {stored}"
 
 
-def tried(program: Path, python: str, names: str) -> str:
+def tried(program: Path, python: str, names: str, listing: Optional[Path] = None) -> str:
     """Derives the layout of one Python, and tries it on some cores. Returns the line that tells of it."""
     build = build_of(python)
     derived = derived_for(build)
     stored = as_stored(derived, ROOT / "layouts")
-    cores, runs, sizes = [], [], []
+    cores, runs, sizes, footprints = [], [], [], []
     with tempfile.TemporaryDirectory(prefix="real-core-") as name:
         for core in cores_of(derived, names, Path(name)):
             cores.append(core)
             sizes.append(core.path.stat().st_size)
             try:
                 runs.append(over_core(program, derived, core, Path(name)))
+                if listing and not core.case.is_usual:
+                    footprints.append(check_footprint(program, listing, core, Path(name) / "layout.toml", build))
             except Failure as reason:
                 usual = " (usual)" if core.case.is_usual else ""
                 raise Failure(f"core '{core.case.who}'{usual}: {reason}") from reason
     size, memory = f"{sizes[0] / 2**20:.1f}", f"{runs[0].kilobytes / 1024:.1f}"
-    return row(build.dotted, size, f"{runs[0].seconds:.3f}", memory, what_of(cores, derived, stored))
+    return row(build.dotted, size, f"{runs[0].seconds:.3f}", memory, what_of(cores, derived, stored, footprints))
 
 
 def is_noticed(program: Path, derived: Derived, cores: Sequence[Core], wrong: Path) -> bool:
@@ -484,12 +501,15 @@ def try_all(words: argparse.Namespace) -> int:
         told_of(sys.executable)
     except DeriveError as error:
         raise Failure(f"the Python that runs this tells nothing: {error.brief}") from error
+    listing = Path(words.listing or ROOT / "crates" / "listing" / "out" / "listing").resolve()
     failed = 0
     if not words.swaps:
         print(row("Python", "core, MiB", "walk, s", "walk, MiB", "result"), flush=True)
     for python in found:
         try:
-            print((swapped if words.swaps else tried)(program, python, names), flush=True)
+            told = swapped(program, python, names) if words.swaps else tried(
+                program, python, names, listing if listing.is_file() else None)
+            print(told, flush=True)
         except (Skip, DeriveError) as reason:
             print(f"skipped: {python}: {getattr(reason, 'brief', reason)}", flush=True)
         except Failure as reason:
@@ -503,6 +523,7 @@ def main() -> int:
     parser = argparse.ArgumentParser(description=__doc__.splitlines()[0])
     parser.add_argument("python", nargs="*", help="the interpreters (default: all that are found)")
     parser.add_argument("--program", help="the built program (default: rt builds it)")
+    parser.add_argument("--listing", help="the built program `listing` (default: that of crates/listing, if it is built)")
     parser.add_argument("--swaps", action="store_true", help="tell which wrong numbers of a layout are noticed")
     words = parser.parse_args()
     try:

@@ -1,9 +1,10 @@
 #!/usr/bin/env python3
 """Runs the built program on rows: the words, the files, and what it must print, say and answer, byte by byte.
 
-    tools/check/rows.py --program crates/pystacks/out/pystacks [--only WORD] [--list]
+    tools/check/rows.py --program crates/pystacks/out/pystacks [--listing FILE] [--only WORD] [--list]
 
-Each row runs in a folder of its own that holds its files. The status is 0 exactly where each row came out as it says.
+Each row runs in a folder of its own that holds its files. The rows of `listing` run where that is built. The status is 0
+exactly where each row came out as it says.
 """
 
 import argparse
@@ -17,8 +18,10 @@ from pathlib import Path
 from typing import List, Optional
 
 import rows_dump
+import rows_listing
 import rows_search
 import rows_walk
+from rooms import ROOT
 from row import Row
 
 SECONDS = 60
@@ -77,20 +80,25 @@ def failures(program: str, rows: List[Row]) -> int:
 def main() -> int:
     parser = argparse.ArgumentParser(description=__doc__, formatter_class=argparse.RawDescriptionHelpFormatter)
     parser.add_argument("--program", required=True, help="the built program")
+    parser.add_argument("--listing", default=str(ROOT / "crates" / "listing" / "out" / "listing"), help="the built `listing`")
     parser.add_argument("--only", default="", help="the rows in whose name this stands")
     parser.add_argument("--list", action="store_true", help="print the names of the rows, and run none")
     words = parser.parse_args()
-    rows = [row for row in [*rows_walk.rows(), *rows_dump.rows(), *rows_search.rows()] if words.only in row.what]
-    names = [row.what for row in rows]
+    lists = [(words.program, [*rows_walk.rows(), *rows_dump.rows(), *rows_search.rows()]), (words.listing, rows_listing.rows())]
+    chosen = [(program, [row for row in rows if words.only in row.what]) for program, rows in lists]
+    names = [row.what for _, rows in chosen for row in rows]
     assert len(set(names)) == len(names), "two rows of one name"
     if words.list:
         print("\n".join(names))
         return 0
-    if not os.path.isfile(words.program):
-        print(f"rows: none was run: there is no {words.program}")
-        return 0
-    count = failures(os.path.abspath(words.program), rows)
-    print(f"rows: {len(rows) - count} of {len(rows)} come out as they say")
+    count = 0
+    for program, rows in chosen:
+        if not os.path.isfile(program):
+            print(f"rows: {len(rows)} were not run: there is no {program}")
+            continue
+        failed = failures(os.path.abspath(program), rows)
+        print(f"rows: {len(rows) - failed} of {len(rows)} of {os.path.basename(program)} come out as they say")
+        count += failed
     return 1 if count else 0
 
 

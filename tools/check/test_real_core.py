@@ -17,9 +17,11 @@ from rooms import ROOT  # (first: it makes the other rooms known)
 import real_core
 from child_cores import USUAL, Case, Core, Failure, Skip, Thread, Told, names_by
 from derive_layout import Build, Derived, DeriveError, fault_of, settled, values_of
+from footprints import Footprint, blotted, footprint_of, joined
 from layout_plan import VERSIONS, Field, Group, Plan, plan_of
 from layout_sources import Answers, Place, faults_of
 from layout_swaps import numbers_in, swaps
+from made import Segment, core_file, status_record
 from real_core import Walk, as_stored, check_report, compare, derived_for, directions, over_core, printed, ran
 from real_core import report_of, try_all
 
@@ -306,6 +308,35 @@ class Programs(unittest.TestCase):
             self.assertIn("status -9", str(caught.exception))
 
 
+class Footprints(unittest.TestCase):
+    """What is left of a core, and which footprints are none."""
+
+    def test_joined(self):
+        self.assertEqual(joined([(8, 12), (0, 4), (4, 6), (20, 20), (9, 10)]), ((0, 6), (8, 12)))
+
+    def test_blotted(self):
+        segments = [Segment(0x1000, b"abcdefgh"), Segment(0x1004, b"ABCDEFGH"), Segment(0x2000, b"xyz")]
+        data = core_file(segments, [status_record(11, 4)])
+        with tempfile.TemporaryDirectory(prefix="real-core-") as name:
+            core = Path(name) / "core"
+            core.write_bytes(data)
+            left = blotted(core, Footprint(2, ((0x1002, 0x1006), (0x2001, 0x2002))))
+        at = data.index(b"abcdefgh")
+        self.assertEqual(left[at : at + 19], b"\xaa\xaacdef\xaa\xaaAB" + b"\xaa" * 6 + b"\xaay\xaa")
+        self.assertEqual(left[:at] + left[at + 19 :], data[:at] + data[at + 19 :])
+
+    def test_listing(self):
+        with tempfile.TemporaryDirectory(prefix="real-core-") as name:
+            listing = Path(name) / "listing"
+            for said in ("", "refused", "10 8\nrefused"):
+                listing.write_text(f"#!/bin/sh\nprintf '{said}'\n")
+                listing.chmod(0o700)
+                with self.assertRaises(Failure):
+                    footprint_of(listing, Path("core"), Path("layouts"), [])
+            listing.write_text("#!/bin/sh\nprintf '10 8\\na 2\\n14 8\\n'\n")
+            self.assertEqual(footprint_of(listing, Path("core"), Path("layouts"), []), Footprint(3, ((10, 12), (16, 28))))
+
+
 class Derivations(unittest.TestCase):
     """Which builds are passed over, and which fail."""
 
@@ -332,7 +363,7 @@ class Derivations(unittest.TestCase):
             self.tried(self.ALL, at_hand=True)
 
     def test_nothing_asked(self):
-        words = argparse.Namespace(python=["/python"], program="/bin/true", swaps=False)
+        words = argparse.Namespace(python=["/python"], program="/bin/true", listing="/none", swaps=False)
         with patch("real_core.core_names"), patch("real_core.told_of", side_effect=DeriveError("why")):
             with self.assertRaises(Failure):
                 try_all(words)

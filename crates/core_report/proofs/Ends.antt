@@ -19,7 +19,7 @@ use Rattle.core_report.specs.declared.cause.Cause.TheVariants.{Core, Layouts, Ou
 use Rattle.core_report.specs.declared.trouble.Trouble.{Trouble}
 use Rattle.core_report.specs.declared.trouble.Trouble.TheVariants.{Cause as Caused, Words, File, Write}
 use Rattle.core_report.specs.Outcome.{IsFaultless, IsOutcome, Outcome, cause_status, core_status, layouts_status, outcome_status}
-use Rattle.core_report.specs.Run.{ComesTo, End, HasEnded, Ran, Reaches, SaysEnd, TellsContents, cut, end_at, end_parts, printed, refused, end_status, stopped, unread}
+use Rattle.core_report.specs.Run.{ComesTo, End, HasEnded, HasRun, Ran, Reaches, SaysEnd, TellsContents, cut, end_at, end_parts, printed, refused, end_status, stopped, unread}
 use Rattle.core_report.proofs.Turns.{same_contents}
 use Rattle.core_report.proofs.Agreement.{cases_five, cause_own, no_cause, outcomes_agree}
 
@@ -158,3 +158,40 @@ module _ (asked : Option Command) (r : Ran) where
   complete_of refused ended command contents tells good same quiet = absurd (none-some _ (sym ended.0 ∙ tells.is_asked))
   complete_of (unread name why) ended command contents tells good same quiet = absurd (one_more r.files.failed (name, why) (sym ended.unread.failed ∙ same))
   complete_of cut ended command contents tells good same quiet = absurd (quiet ended.cut.rose)
+
+-- ---- what a run tells
+
+module _ {asked : Option Command} {r : Ran} {err err_after : SinkSeen} {status : ℕ} (run : HasRun asked r err err_after status) where
+  pub run_status : status ≤ 6
+  run_status = subst (λ n. n ≤ 6) (sym run.is) (status_within run.end)
+
+  pub run_printed : status ≡ 0 → (text : List ℕ) × Reaches asked r.files.told (Ok text) × Appends r.out.written r.out_after.written text
+  run_printed is = printed_of asked r run.end run.ended (sym run.is ∙ is)
+
+  pub run_silent : status ≡ 0 → err_after ≡ err
+  run_silent is = silent_of err err_after run.end run.said (sym run.is ∙ is)
+
+  pub run_nothing_out : status ≢ 0 → status ≢ 4 → r.out_after ≡ r.out
+  run_nothing_out n0 n4 = nothing_out_of asked r run.end run.ended (λ is. n0 (run.is ∙ is)) (λ is. n4 (run.is ∙ is))
+
+  pub run_refused : status ≡ 2 → asked ≡ None
+  run_refused is = refused_of asked r run.end run.ended (sym run.is ∙ is)
+
+  pub run_asked : asked ≡ None → (status ≡ 2) ⊎ (status ≡ 5)
+  run_asked none = subst (λ n. (n ≡ 2) ⊎ (n ≡ 5)) (sym run.is) (asked_of asked r run.end run.ended none)
+
+  pub run_unread : (status ≡ 3) ↔ (r.files_after.failed ≢ r.files.failed)
+  run_unread = subst (λ n. (n ≡ 3) ↔ (r.files_after.failed ≢ r.files.failed)) (sym run.is) (unread_of asked r run.end run.ended)
+
+  pub run_all_read : status ≢ 3 → r.files_after.failed ≡ r.files.failed
+  run_all_read ne = all_read_of asked r run.end run.ended (λ is. ne (run.is ∙ is))
+
+  pub run_only : (command : Command) (contents : List (List ℕ)) (cause : Cause) → TellsContents asked r.files.told command contents
+      → IsOutcome command contents (Err cause) → cause_status cause ≢ 5 → r.files_after.failed ≡ r.files.failed → (status ≡ cause_status cause) ⊎ (status ≡ 5)
+  run_only command contents cause tells is ne same = subst (λ n. (n ≡ cause_status cause) ⊎ (n ≡ 5)) (sym run.is)
+      (only_of asked r run.end run.ended command contents cause tells is ne same)
+
+  pub run_complete : (command : Command) (contents : List (List ℕ)) → TellsContents asked r.files.told command contents → IsFaultless command contents
+      → r.files_after.failed ≡ r.files.failed → (Rose r.out.faults r.out_after.faults → ⊥) → (status ≡ 0) ⊎ (status ≡ 5)
+  run_complete command contents tells good same quiet = subst (λ n. (n ≡ 0) ⊎ (n ≡ 5)) (sym run.is)
+      (complete_of asked r run.end run.ended command contents tells good same quiet)

@@ -1,17 +1,23 @@
 -- Files read in turn: one file more, and that the contents are the same where the files tell them.
-use Rattle.std.proofs.Common.{◌≡◌, ◌<◌, ◌≤◌, ◌+◌, ◌-◌, take, drop, ℕ, zero, suc, List, [], ◌∷◌, ◌++◌, length, get_or, map, refl, sym, ap, subst, ◌∙◌, arith, ⊎_elim, append_assoc, Some, None, length-append}
-use Rattle.std.specs.Prelude.{slice_get, IsSome, Vec, option_map}
+use Rattle.std.proofs.Common.{◌≡◌, ◌≢◌, ◌<◌, ◌≤◌, ◌+◌, ℕ, zero, suc, List, [], ◌∷◌, ◌++◌, length, get_or, map, refl, sym, ap, subst, ◌∙◌, arith, inl, ⊎_elim, append_assoc, length-append, Some, None, Ok, Err}
+use Rattle.std.specs.Prelude.{slice_get, IsSome, Option, Result, Vec, option_map}
 use Rattle.std.specs.Global.{Global}
-use Rattle.std.specs.Borrow.{Bor}
-use Rattle.std.proofs.lemmas.Option.{same_Some, slice_get_within, slice_get-get_or, slice_get-map, none-some}
-use Rattle.std.proofs.lemmas.List.{append-nil, map-append, length-map, take_rest}
+use Rattle.std.proofs.lemmas.Option.{same_Some, slice_get_past, slice_get_read, slice_get_within, slice_get-map, none-some}
+use Rattle.std.proofs.lemmas.List.{append-nil, map-append, length-map}
 use Rattle.outside.specs.Files.{FilesSeen, Told, Gives}
+use Rattle.py_fields.specs.declared.layout.Layout.{Layout}
+use Rattle.py_layout.specs.declared.error.LayoutError.{LayoutError}
 use Rattle.core_report.specs.declared.cause.Cause.TheVariants.{OutOfMemory}
 use Rattle.core_report.specs.declared.trouble.Trouble.{Trouble}
 use Rattle.core_report.specs.declared.trouble.Trouble.TheVariants.{Cause as Caused, File}
-use Rattle.core_report.specs.Run.{IsReadTrouble, IsTroubled}
-use Rattle.core_words.specs.Words.{Command, dump, walk, kept_files, later_files}
-use Rattle.core_report.specs.Reading.{Stops, IsNext, IsAll, AreFiles, IsRead, contents}
+use Rattle.core_report.specs.declared.cause.Cause.{Cause}
+use Rattle.core_report.specs.declared.walk_command.WalkFiles.{WalkFiles}
+use Rattle.core_report.specs.declared.dump_command.DumpFiles.{DumpFiles}
+use Rattle.core_report.specs.Outcome.{IsOutcome, SourceSays, TextSays, cause_status}
+use Rattle.core_report.specs.Run.{Comes, HasAll, HasDumpFiles, HasWalkFiles, IsReadTrouble, IsTroubled}
+use Rattle.core_words.specs.Dump.{Dump}
+use Rattle.core_words.specs.Words.{Command, LayoutSource, Walk, dump, walk, kept_files, later_files, source_files, sample, file as named}
+use Rattle.core_report.specs.Reading.{Stops, IsNext, IsAll, AreFiles, IsRead, contents, dump_contents, text_contents, walk_contents}
 
 -- one file more
 more_after : (told : Told) (command : Command) (before read : List (List ℕ)) (name bytes : List ℕ)
@@ -25,9 +31,10 @@ more_after told command before (x ∷ read) name bytes are next gives = (
       (subst (λ c. IsNext command c name) (sym (append_assoc before (x ∷ []) read)) next) gives,
 )
 
-pub more : (told : Told) (command : Command) (read : List (List ℕ)) (name bytes : List ℕ)
-    → IsRead told command read → IsNext command read name → Gives told name bytes → IsRead told command (read ++ bytes ∷ [])
-more told command read name bytes are next gives = more_after told command [] read name bytes are next gives
+pub more : (told now : Told) (command : Command) (read : List (List ℕ)) (name bytes : List ℕ) → IsRead told command read
+    → IsNext command read name → now ≡ told → Gives now name bytes → IsRead told command (read ++ bytes ∷ [])
+more told now command read name bytes are next same gives =
+    more_after told command [] read name bytes are next (subst (λ t. Gives t name bytes) same gives)
 
 -- while fewer are read than are kept, no command stops
 pub goes_on : (command : Command) (contents : List (List ℕ)) → length contents < length (kept_files command) → ¬ Stops command contents
@@ -94,44 +101,96 @@ is_unread old mid new command read name (File n why) are next same h = record {
 }
 is_unread old mid new command read name _ are next same h = absurd h
 
--- ---- one place of a list of names
+-- ---- the files of each command
 
-pub next_in_list : (command : Command) (names : List (Bor (List ℕ))) (read : List (Vec ℕ Global)) (i : ℕ) (d : Bor (List ℕ))
-    → map (λ (name : Bor (List ℕ)). name.now) names ≡ kept_files command → length read ≡ i → i < length names → IsNext command (contents read) (get_or names i d).now
-next_in_list command names read i d listed count lt =
-    let now : Bor (List ℕ) → List ℕ = λ name. name.now in
-    let here : slice_get (map now names) i ≡ Some (now (get_or names i d)) =
-    slice_get-map now names i ∙ ap (λ o. option_map now o) (slice_get-get_or names i d lt) in
-    let place : length (contents read) ≡ i = length-map read (λ (f : Vec ℕ Global). f.items) ∙ count in
-    next_kept command (contents read) (get_or names i d).now
-    (ap (λ k. slice_get (kept_files command) k) place ∙ ap (λ l. slice_get l i) (sym listed) ∙ here)
+-- where as many were read as are kept, none is left
+past : (names contents : List (List ℕ)) → length contents ≡ length names → slice_get (names ++ []) (length contents) ≡ None
+past names contents count =
+    subst (λ l. slice_get l (length contents) ≡ None) (sym (append-nil names)) (slice_get_past names (length contents) (omega (arith, count)))
 
-pub contents_more : (read next : List (Vec ℕ Global)) (bytes : Vec ℕ Global) → next ≡ read ++ bytes ∷ [] → contents next ≡ contents read ++ bytes.items ∷ []
-contents_more read next bytes is = ap contents is ∙ map-append (λ (f : Vec ℕ Global). f.items) read (bytes ∷ [])
+all_kept : (command : Command) (contents : List (List ℕ)) → length contents ≡ length (kept_files command) → IsAll command contents
+all_kept (walk w) contents count = inl (past (kept_files (walk w)) contents count)
+all_kept (dump d) contents count = inl (past (kept_files (dump d)) contents count)
 
-pub more_read : (told now : Told) (command : Command) (read next : List (Vec ℕ Global)) (name : List ℕ) (bytes : Vec ℕ Global)
-    → IsRead told command (contents read) → IsNext command (contents read) name → now ≡ told → Gives now name bytes.items
-    → next ≡ read ++ bytes ∷ [] → IsRead told command (contents next)
-more_read told now command read next name bytes are next-is same gives is =
-    subst (λ c. IsRead told command c) (sym (contents_more read next bytes is))
-    (more told command (contents read) name bytes.items are next-is (subst (λ t. Gives t name bytes.items) same gives))
+has_all : (old new : FilesSeen) (command : Command) (contents : List (List ℕ)) → IsRead old.told command contents
+    → length contents ≡ length (kept_files command) → new.failed ≡ old.failed → HasAll old new command contents
+has_all old new command contents read count failed =
+    record { read = read; all = all_kept command contents count; failed = failed }
+
+-- a walk asks for its core, and then for the layout file, where its words name one
+pub walk_core : (w : Walk) (name : List ℕ) → name ≡ w.core → IsNext (walk w) [] name
+walk_core w name is = next_kept (walk w) [] name (ap Some (sym is))
+
+pub walk_layouts : (w : Walk) (core name file : List ℕ) → w.layouts ≡ named file → name ≡ file → IsNext (walk w) (core ∷ []) name
+walk_layouts w core name file source is =
+    next_kept (walk w) (core ∷ []) name (ap (λ s. slice_get (source_files s) 0) source ∙ ap Some (sym is))
+
+pub has_walk : (old new : FilesSeen) (w : Walk) (source : LayoutSource) (files : WalkFiles) → w.layouts ≡ source
+    → length (text_contents files.layouts) ≡ length (source_files source) → IsRead old.told (walk w) (walk_contents files)
+    → new.failed ≡ old.failed → HasWalkFiles old new w (Ok files)
+has_walk old new w source files is count read failed =
+    let kept : length (walk_contents files) ≡ length (kept_files (walk w)) =
+    ap suc (count ∙ ap (λ s. length (source_files s)) (sym is)) in
+    (has_all old new (walk w) (walk_contents files) read kept failed, kept)
+
+-- what a text of layouts says is what the words' source says of it
+pub source_says : (w : Walk) (files : WalkFiles) → length (walk_contents files) ≡ length (kept_files (walk w))
+    → (answer : Result (List Layout) LayoutError) → TextSays files.layouts answer → SourceSays w.layouts (text_contents files.layouts) answer
+source_says w files kept answer h = by w.layouts files.layouts (omega (arith, kept)) h
+  where
+    by : (source : LayoutSource) (text : Option (Vec ℕ Global)) → length (text_contents text) ≡ length (source_files source)
+        → TextSays text answer → SourceSays source (text_contents text) answer
+    by sample None same says = says
+    by sample (Some text) same says = absurd (omega (arith, same))
+    by (named file) None same says = absurd (omega (arith, same))
+    by (named file) (Some text) same says = says
+
+-- a report asks for its core, for the layout file, and then for the file of each image
+pub dump_core : (d : Dump) (name : List ℕ) → name ≡ d.core → IsNext (dump d) [] name
+dump_core d name is = next_kept (dump d) [] name (ap Some (sym is))
+
+pub dump_layouts : (d : Dump) (core name : List ℕ) → name ≡ d.layouts → IsNext (dump d) (core ∷ []) name
+dump_layouts d core name is = next_kept (dump d) (core ∷ []) name (ap Some (sym is))
+
+pub dump_image : (d : Dump) (core text : List ℕ) (images : List (Vec ℕ Global)) (items : List (List ℕ × List ℕ)) (i : ℕ) (image : List ℕ × List ℕ) (name : List ℕ)
+    → items ≡ d.images → length images ≡ i → i < length items → image ≡ get_or items i image → name ≡ image.1
+    → IsNext (dump d) (core ∷ text ∷ contents images) name
+dump_image d core text images items i image name listed count lt at is =
+    let file : List ℕ × List ℕ → List ℕ = λ (image : List ℕ × List ℕ). image.1 in
+    let here : slice_get (map file items) i ≡ Some name =
+    slice_get-map file items i ∙ ap (λ o. option_map file o) (slice_get_read items (length items) i image refl lt at) ∙ ap Some (sym is) in
+    let place : length (contents images) ≡ i = length-map images (λ (f : Vec ℕ Global). f.items) ∙ count in
+    next_kept (dump d) (core ∷ text ∷ contents images) name
+    (ap (λ k. slice_get (kept_files (dump d)) (suc (suc k))) place ∙ subst (λ l. slice_get (map file l) i ≡ Some name) listed here)
+
+pub more_image : (told now : Told) (d : Dump) (core text : List ℕ) (images next : List (Vec ℕ Global)) (name : List ℕ) (bytes : Vec ℕ Global)
+    → IsRead told (dump d) (core ∷ text ∷ contents images) → IsNext (dump d) (core ∷ text ∷ contents images) name → now ≡ told
+    → Gives now name bytes.items → next ≡ images ++ bytes ∷ [] → IsRead told (dump d) (core ∷ text ∷ contents next)
+more_image told now d core text images next name bytes are next-is same gives is =
+    subst (λ c. IsRead told (dump d) (core ∷ text ∷ c))
+    (sym (ap contents is ∙ map-append (λ (f : Vec ℕ Global). f.items) images (bytes ∷ [])))
+    (more told now (dump d) (core ∷ text ∷ contents images) name bytes.items are next-is same gives)
+
+pub has_dump : (old new : FilesSeen) (d : Dump) (files : DumpFiles) (items : List (List ℕ × List ℕ)) (i : ℕ) → items ≡ d.images
+    → length files.images.items ≡ i → length items ≤ i → i ≤ length items → IsRead old.told (dump d) (dump_contents files)
+    → new.failed ≡ old.failed → HasDumpFiles old new d (Ok files)
+has_dump old new d files items i listed count ge le read failed =
+    let all : i ≡ length d.images = omega (arith, ap length listed, ge, le) in
+    let images : length (contents files.images.items) ≡ length (map (λ (image : List ℕ × List ℕ). image.1) d.images) =
+    length-map files.images.items (λ (f : Vec ℕ Global). f.items) ∙ count ∙ all ∙ sym (length-map d.images (λ (image : List ℕ × List ℕ). image.1)) in
+    has_all old new (dump d) (dump_contents files) read (ap (λ n. suc (suc n)) images) failed
 
 pub count_more : (read next : List (Vec ℕ Global)) (bytes : Vec ℕ Global) (i : ℕ) → length read ≡ i → next ≡ read ++ bytes ∷ [] → length next ≡ i + 1
 count_more read next bytes i count is = omega (arith, ap length is, length-append read (bytes ∷ []), count)
 
--- ---- the first of some contents
+-- ---- a command's work over what its files hold
 
-pub one_up : (read : List (Vec ℕ Global)) (a : Vec ℕ Global) → 1 ≤ length read → a ≡ get_or read 0 a
-    → contents read ≡ a.items ∷ contents (take (length read - 1) (drop 1 read))
-one_up [] a le is = absurd (omega (arith, le))
-one_up (x ∷ xs) a le is =
-    ap (λ (v : Vec ℕ Global). v.items ∷ contents xs) (sym is) ∙ ap (λ l. a.items ∷ contents l) (sym (take_rest (x ∷ xs) 1))
+pub comes_of : (old new : FilesSeen) (command : Command) (contents : List (List ℕ)) (text : Vec ℕ Global) → HasAll old new command contents
+    → IsOutcome command contents (Ok text.items) → Comes old new command (Ok text)
+comes_of old new command contents text has is =
+    (record { contents = contents; read = has.read; all = has.all; is = is }, has.failed)
 
-pub length-contents : (read : List (Vec ℕ Global)) → length (contents read) ≡ length read
-length-contents read = length-map read (λ (f : Vec ℕ Global). f.items)
-
--- the first of some contents is taken out
-pub first_out : (read rest : List (Vec ℕ Global)) (a : Vec ℕ Global) → 1 ≤ length read → a ≡ get_or read 0 a → rest ≡ take 0 read ++ drop 1 read
-    → contents read ≡ a.items ∷ contents rest
-first_out [] rest a le is out = absurd (omega (arith, le))
-first_out (x ∷ xs) rest a le is out = ap (λ (v : Vec ℕ Global). v.items ∷ contents xs) (sym is) ∙ ap (λ l. a.items ∷ contents l) (sym out)
+pub caused_of : (old new : FilesSeen) (command : Command) (contents : List (List ℕ)) (cause : Cause) → HasAll old new command contents
+    → (cause_status cause ≢ 5 → IsOutcome command contents (Err cause)) → IsTroubled old new command (Caused cause)
+caused_of old new command contents cause has is =
+    (λ ne. record { contents = contents; read = has.read; all = has.all; is = is ne }, has.failed)

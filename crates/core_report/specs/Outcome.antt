@@ -1,5 +1,5 @@
 -- What a command comes to over the contents of its files.
-use Rattle.std.specs.Prelude.{◌≡◌, ◌≢◌, ◌⊎◌, ℕ, List, [], ◌∷◌, Result, Ok, Err, Vec, if◌then◌else◌}
+use Rattle.std.specs.Prelude.{◌≡◌, ◌≢◌, ◌⊎◌, ℕ, List, [], ◌∷◌, Option, Some, None, Result, Ok, Err, Vec, if◌then◌else◌}
 use Rattle.std.specs.Global.{Global}
 use Rattle.py_fields.specs.declared.layout.Layout.{Layout}
 use Rattle.py_fields.specs.Samples.{sample_layout}
@@ -39,6 +39,11 @@ abbrev pub SourceSays : LayoutSource → List (List ℕ) → Result (List Layout
 SourceSays sample [] answer = answer ≡ Ok (sample_layout ∷ [])
 SourceSays (file name) (text ∷ []) answer = IsRightFor text answer
 SourceSays _ _ answer = ⊥
+
+-- the same, of the text of a layout file, or of none
+abbrev pub TextSays : Option (Vec ℕ Global) → Result (List Layout) LayoutError → Type 0
+TextSays None answer = answer ≡ Ok (sample_layout ∷ [])
+TextSays (Some text) answer = IsRightFor text.items answer
 
 -- the traces of a walk over a core's bytes, or the cause why there are none
 abbrev pub WalkAnswers : Walk → List ℕ → List Layout → Result (Vec StackTrace Global) CoreError → Type 0

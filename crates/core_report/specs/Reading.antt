@@ -1,8 +1,10 @@
 -- Which files a command asks for, in which order, and what they hold.
-use Rattle.std.specs.Prelude.{◌≡◌, ◌⊎◌, ⊤, ℕ, List, [], ◌∷◌, ◌++◌, length, map, slice_get, Some, None, Vec}
+use Rattle.std.specs.Prelude.{◌≡◌, ◌⊎◌, ⊤, ℕ, List, [], ◌∷◌, ◌++◌, length, map, slice_get, Option, Some, None, Vec}
 use Rattle.std.specs.Global.{Global}
 use Rattle.outside.specs.Files.{Told, Gives}
 use Rattle.core_words.specs.Words.{Command, dump, files_of, walk}
+use Rattle.core_report.specs.declared.walk_command.WalkFiles.{WalkFiles}
+use Rattle.core_report.specs.declared.dump_command.DumpFiles.{DumpFiles}
 
 -- The command asks for none of its later files: its layouts were judged after these contents, and are at fault. No
 -- command of today judges them before it has read all.
@@ -38,3 +40,15 @@ IsRead told command contents = AreFiles told command [] contents
 -- the bytes of some files
 abbrev pub contents : List (Vec ℕ Global) → List (List ℕ)
 contents files = map (λ file. file.items) files
+
+-- what the files of a walk hold, in the order in which they are asked for
+abbrev pub text_contents : Option (Vec ℕ Global) → List (List ℕ)
+text_contents None = []
+text_contents (Some text) = text.items ∷ []
+
+abbrev pub walk_contents : WalkFiles → List (List ℕ)
+walk_contents files = files.core.items ∷ text_contents files.layouts
+
+-- and the files of a report
+abbrev pub dump_contents : DumpFiles → List (List ℕ)
+dump_contents files = files.core.items ∷ files.layouts.items ∷ contents files.images.items

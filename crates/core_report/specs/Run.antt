@@ -1,19 +1,22 @@
 -- What a run of the top call means.
-use Rattle.std.specs.Prelude.{◌≡◌, ◌≢◌, ◌++◌, ℕ, List, [], ◌∷◌, Option, Some, None, IsSome, Result, Ok, Err, codes, Vec}
+use Rattle.std.specs.Prelude.{◌≡◌, ◌≢◌, ◌++◌, ℕ, List, [], ◌∷◌, length, Option, Some, None, IsSome, Result, Ok, Err, codes, Vec}
 use Rattle.std.specs.Global.{Global}
 use Rattle.std.specs.List.{concat}
 use Rattle.outside.specs.Files.{FailedNames, FilesSeen, Told}
 use Rattle.outside.specs.Streams.{SinkSeen}
 use Rattle.outside.specs.declared.faults.FileFault.{FileFault}
 use Rattle.outside.specs.declared.faults.FileFault.TheVariants as fault
-use Rattle.core_words.specs.Words.{Command}
+use Rattle.core_words.specs.Dump.{Dump}
+use Rattle.core_words.specs.Words.{Command, Walk, dump, kept_files, walk}
 use Rattle.core_texts.specs.Parts.{line}
 use Rattle.core_texts.specs.Says.{IsAdded, IsCutOff, Says}
 use Rattle.core_report.specs.declared.cause.Cause.{Cause}
 use Rattle.core_report.specs.declared.cause.Cause.TheVariants as cause
 use Rattle.core_report.specs.declared.trouble.Trouble.{Trouble}
 use Rattle.core_report.specs.declared.trouble.Trouble.TheVariants.{Cause as Caused, Words, File, Write}
-use Rattle.core_report.specs.Reading.{IsAll, IsNext, IsRead}
+use Rattle.core_report.specs.declared.walk_command.WalkFiles.{WalkFiles}
+use Rattle.core_report.specs.declared.dump_command.DumpFiles.{DumpFiles}
+use Rattle.core_report.specs.Reading.{IsAll, IsNext, IsRead, dump_contents, walk_contents}
 use Rattle.core_report.specs.Outcome.{IsOutcome, Outcome, cause_status}
 use Rattle.core_report.specs.Lines.{cause_parts, file_parts}
 
@@ -143,6 +146,23 @@ IsTroubled old new command _ = ⊥
 abbrev pub Comes : FilesSeen → FilesSeen → Command → Result (Vec ℕ Global) Trouble → Type 0
 Comes old new command (Ok text) = ComesTo old.told command (Ok text.items) × (new.failed ≡ old.failed)
 Comes old new command (Err trouble) = IsTroubled old new command trouble
+
+-- the files that a command asks for hold these contents, and none failed
+pub record HasAll (old new : FilesSeen) (command : Command) (contents : List (List ℕ)) : Type 0 where
+  pub read : IsRead old.told command contents
+  pub all : IsAll command contents
+  pub failed : new.failed ≡ old.failed
+
+-- what reading the files of a walk answers; there is a text of layouts exactly where the words name a layout file
+abbrev pub HasWalkFiles : FilesSeen → FilesSeen → Walk → Result WalkFiles Trouble → Type 0
+HasWalkFiles old new w (Ok files) = HasAll old new (walk w) (walk_contents files)
+    × (length (walk_contents files) ≡ length (kept_files (walk w)))
+HasWalkFiles old new w (Err trouble) = IsTroubled old new (walk w) trouble
+
+-- and the files of a report
+abbrev pub HasDumpFiles : FilesSeen → FilesSeen → Dump → Result DumpFiles Trouble → Type 0
+HasDumpFiles old new d (Ok files) = HasAll old new (dump d) (dump_contents files)
+HasDumpFiles old new d (Err trouble) = IsTroubled old new (dump d) trouble
 
 -- what the reading of one file may leave
 abbrev pub IsReadTrouble : FailedNames → FailedNames → List ℕ → Trouble → Type 0

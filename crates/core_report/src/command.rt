@@ -1,7 +1,8 @@
 //! The top call.
-ghost use Rattle.std.specs.Prelude.{◌≡◌, ◌≢◌, ◌≤◌, ◌↔◌, ◌⊎◌, List, ℕ, None, Some, Ok, Err};
+ghost use Rattle.std.specs.Prelude.{◌≡◌, ◌≢◌, ◌≤◌, ◌↔◌, ◌⊎◌, List, ℕ, Option, None, Some, Ok, Err};
 ghost use Rattle.std.specs.Io.KnownBytes.{Appends};
 ghost use Rattle.outside.specs.Counts.{Rose};
+ghost use Rattle.core_words.specs.Answers.{AnswersWords};
 ghost use Rattle.core_words.specs.Dump.{Dump};
 ghost use Rattle.core_words.specs.Words.{Command as Asked, command_of, dump, texts};
 ghost use Rattle.core_words.specs.Seen.{asked_command};
@@ -11,11 +12,10 @@ ghost use Rattle.core_report.specs.Outcome.{IsFaultless, IsOutcome, cause_status
 ghost use Rattle.core_report.specs.Run.{Comes, HasEnded, HasRun, Reaches, TellsContents, end_after, ran};
 
 use crate::cause::Cause;
-use crate::dump_command::dump_files;
+use crate::dump_command::{DumpFiles, dump_over};
 use crate::lines::tell;
-use crate::reading::read_kept;
 use crate::trouble::Trouble;
-use crate::walk_command::walk_files;
+use crate::walk_command::{WalkFiles, walk_over};
 use core_words::{ArgsError, Command, read_words};
 use outside::{Files, Sink};
 use std::alloc::Global;
@@ -29,67 +29,38 @@ fn text_of<'a, F: Files>(
     ensures told { (F.seen files.new).told ≡ (F.seen files.old).told }
     ensures comes { Comes (F.seen files.old) (F.seen files.new) (asked_command command.now) result }
 {
-    let read = read_kept(alloc, command, files)?;
     match command {
-        Command::Walk(words) => Ok(walk_files(alloc, words, read)?),
-        Command::Dump(words) => Ok(dump_files(alloc, words, read)?),
+        Command::Walk(words) => {
+            let read = WalkFiles::read(alloc, words, files)?;
+            Ok(walk_over(alloc, words, read)?)
+        }
+        Command::Dump(words) => {
+            let read = DumpFiles::read(alloc, words, files)?;
+            Ok(dump_over(alloc, words, read)?)
+        }
     }
 }
 
-/// Does what is asked for.
+/// Does what was asked for, if anything was: its whole text is written to `out`.
 fn execute<'a, F: Files, S: Sink>(
     alloc: Global,
-    command: &'a Command<'_>,
+    asked: &'a Result<Command<'_>, ArgsError>,
     files: &mut F,
     out: &mut S,
 ) -> Result<(), Trouble<'a>>
-    ensures ends { HasEnded (Some (asked_command command.now))
+    ensures ends { (asks : Option Asked) → AnswersWords asked_command asks asked.now → HasEnded asks
         (ran (F.seen files.old) (F.seen files.new) (S.seen out.old) (S.seen out.new)) (end_after result) }
     ensures told { (F.seen files.new).told ≡ (F.seen files.old).told }
 {
+    let command = match asked {
+        Ok(command) => command,
+        Err(ArgsError::Refused) => return Err(Trouble::Words),
+        Err(ArgsError::OutOfMemory) => return Err(Trouble::Cause(Cause::OutOfMemory)),
+    };
     let text = text_of(alloc, command, files)?;
     match out.write(&text) {
         Ok(()) => Ok(()),
         Err(_) => Err(Trouble::Write),
-    }
-}
-
-/// Does what is asked for, and says what was wrong.
-fn conclude<F: Files, S: Sink, E: Sink>(
-    alloc: Global,
-    command: &Command<'_>,
-    files: &mut F,
-    out: &mut S,
-    err: &mut E,
-) -> u8
-    ensures right { HasRun (Some (asked_command command.now))
-        (ran (F.seen files.old) (F.seen files.new) (S.seen out.old) (S.seen out.new))
-        (E.seen err.old) (E.seen err.new) result }
-    ensures told { (F.seen files.new).told ≡ (F.seen files.old).told }
-{
-    match execute(alloc, command, files, out) {
-        Ok(()) => 0,
-        Err(trouble) => tell(err, &trouble),
-    }
-}
-
-/// Does what the words ask for, and says what was wrong.
-fn obey<F: Files, S: Sink, E: Sink>(
-    alloc: Global,
-    words: &[String],
-    files: &mut F,
-    out: &mut S,
-    err: &mut E,
-) -> u8
-    ensures right { HasRun (command_of (texts words.now))
-        (ran (F.seen files.old) (F.seen files.new) (S.seen out.old) (S.seen out.new))
-        (E.seen err.old) (E.seen err.new) result }
-    ensures told { (F.seen files.new).told ≡ (F.seen files.old).told }
-{
-    match read_words(alloc, words) {
-        Ok(command) => conclude(alloc, &command, files, out, err),
-        Err(ArgsError::Refused) => tell(err, &Trouble::Words),
-        Err(ArgsError::OutOfMemory) => tell(err, &Trouble::Cause(Cause::OutOfMemory)),
     }
 }
 
@@ -161,5 +132,7 @@ pub fn run<F: Files, S: Sink, E: Sink>(
         → ¬ Rose (S.seen out.old).faults (S.seen out.new).faults
         → (result ≡ 0) ⊎ (result ≡ 5) }
 {
-    obey(alloc, words, files, out, err)
+    let asked = read_words(alloc, words);
+    let ended = execute(alloc, &asked, files, out);
+    tell(err, &ended)
 }

@@ -1,19 +1,61 @@
 //! `dump -c CORE --layouts FILE [OPTION].. [PATH=FILE]..`
-ghost use Rattle.std.specs.Prelude.{◌≡◌, ◌≤◌, ◌∷◌, IfOk, length};
-ghost use Rattle.core_words.specs.Words.{dump, kept_files};
+ghost use Rattle.std.specs.Prelude.{◌≡◌, IfOk};
+ghost use Rattle.core_words.specs.Words.{dump};
 ghost use Rattle.core_words.specs.Seen.{asked_dump};
-ghost use Rattle.core_report.specs.Reading.{contents};
-ghost use Rattle.core_report.specs.Outcome.{IsAnswer, IsDumpOutcome, IsDumpedBy, IsOutcome, images_read, shown_report};
+ghost use Rattle.core_report.specs.Reading.{contents, dump_contents};
+ghost use Rattle.core_report.specs.Outcome.{IsAnswer, IsOutcome, images_read, shown_report};
+ghost use Rattle.core_report.specs.Run.{HasDumpFiles};
 
 use crate::cause::Cause;
+use crate::reading::read_file;
+use crate::trouble::Trouble;
 use core_stacks::report;
 use core_texts::{report_json, report_text};
 use core_words::DumpWords;
 use elf64_core::Name;
 use image_memory::{Images, Mmap};
+use outside::Files;
 use py_layout::Layouts;
 use py_process::Report;
 use std::alloc::{AllocError, Global};
+
+/// What the files of a report hold.
+#[derive(Drop)]
+pub(crate) struct DumpFiles {
+    core: Vec<u8>,
+    /// The text of the layout file.
+    layouts: Vec<u8>,
+    /// The files of the images, in the order of the words.
+    images: Vec<Vec<u8>>,
+}
+
+impl DumpFiles {
+    /// Reads the files in the order in which the command asks for them.
+    pub(crate) fn read<'a, F: Files>(
+        alloc: Global,
+        words: &'a DumpWords,
+        files: &mut F,
+    ) -> Result<DumpFiles, Trouble<'a>>
+        ensures told { (F.seen files.new).told ≡ (F.seen files.old).told }
+        ensures read { HasDumpFiles (F.seen files.old) (F.seen files.new) (asked_dump words.now) result }
+    {
+        let core = read_file(alloc, words.core.as_bytes(), files)?;
+        let layouts = read_file(alloc, words.layouts.as_bytes(), files)?;
+        let mut images = Vec::new(alloc);
+        for image in &words.images {
+            let bytes = read_file(alloc, image.1.as_bytes(), files)?;
+            match images.push(bytes) {
+                Ok(()) => {}
+                Err(_) => return Err(Trouble::Cause(Cause::OutOfMemory)),
+            }
+        }
+        Ok(DumpFiles {
+            core,
+            layouts,
+            images,
+        })
+    }
+}
 
 /// The images of a report: each file's bytes under the path of its word.
 fn dump_images(alloc: Global, words: &DumpWords, files: Vec<Vec<u8>>) -> Result<Images, AllocError>
@@ -48,59 +90,22 @@ fn shown(alloc: Global, words: &DumpWords, report: &Report) -> Result<Vec<u8>, A
     )
 }
 
-/// The text of a report of a core and its images, by these layouts.
-fn text_by(
+/// The text of a report, over what its files hold.
+pub(crate) fn dump_over(
     alloc: Global,
     words: &DumpWords,
-    core: Vec<u8>,
-    images: &Images,
-    layouts: &Layouts,
+    files: DumpFiles,
 ) -> Result<Vec<u8>, Cause>
-    ensures { IsAnswer (IsDumpedBy (asked_dump words.now) core.items images.now layouts.now) result }
+    ensures { IsAnswer (IsOutcome (dump (asked_dump words.now)) (dump_contents files)) result }
 {
-    let report = report(alloc, core, images, layouts, &words.config)?;
+    let DumpFiles {
+        core,
+        layouts,
+        images,
+    } = files;
+    let layouts = Layouts::from_toml(alloc, &layouts)?;
+    let images = dump_images(alloc, words, images)?;
+    let report = report(alloc, core, &images, &layouts, &words.config)?;
     let text = shown(alloc, words, &report)?;
     Ok(text)
-}
-
-/// The text of a report over the contents of its files: of the core, of the layout file, and of the images.
-fn dump_parts(
-    alloc: Global,
-    words: &DumpWords,
-    core: Vec<u8>,
-    text: &[u8],
-    files: Vec<Vec<u8>>,
-) -> Result<Vec<u8>, Cause>
-    ensures { IsAnswer (IsDumpOutcome (asked_dump words.now) (core.items ∷ text.now ∷ contents files.items)) result }
-{
-    let layouts = Layouts::from_toml(alloc, text)?;
-    let images = dump_images(alloc, words, files)?;
-    text_by(alloc, words, core, &images, &layouts)
-}
-
-/// The same, where the core's bytes were taken out of the contents.
-fn dump_rest(
-    alloc: Global,
-    words: &DumpWords,
-    core: Vec<u8>,
-    mut rest: Vec<Vec<u8>>,
-) -> Result<Vec<u8>, Cause>
-    requires { 1 ≤ length rest.items }
-    ensures { IsAnswer (IsDumpOutcome (asked_dump words.now) (core.items ∷ contents rest.items)) result }
-{
-    let text = rest.remove(0);
-    dump_parts(alloc, words, core, &text, rest)
-}
-
-/// The text of a report over the contents of its files.
-pub(crate) fn dump_files(
-    alloc: Global,
-    words: &DumpWords,
-    mut read: Vec<Vec<u8>>,
-) -> Result<Vec<u8>, Cause>
-    requires kept { length read.items ≡ length (kept_files (dump (asked_dump words.now))) }
-    ensures { IsAnswer (IsOutcome (dump (asked_dump words.now)) (contents read.items)) result }
-{
-    let core = read.remove(0);
-    dump_rest(alloc, words, core, read)
 }

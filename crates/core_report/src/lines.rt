@@ -4,7 +4,7 @@ ghost use Rattle.std.specs.List.{concat};
 ghost use Rattle.py_version.specs.Version.{version_text};
 ghost use Rattle.core_texts.specs.Parts.{said};
 ghost use Rattle.core_report.specs.Lines.{cause_parts, core_parts, file_parts, layout_parts, range_parts};
-ghost use Rattle.core_report.specs.Run.{SaysEnd, end_at, end_parts, end_status};
+ghost use Rattle.core_report.specs.Run.{SaysEnd, end_at, end_after, end_parts, end_status};
 
 use crate::cause::Cause;
 use crate::trouble::Trouble;
@@ -171,11 +171,16 @@ fn end_status(trouble: &Trouble<'_>) -> u8
     }
 }
 
-/// Writes the line of a run that printed nothing, or not all, and answers its status.
-pub(crate) fn tell<E: Sink>(err: &mut E, trouble: &Trouble<'_>) -> u8
-    ensures status { result ≡ end_status (end_at trouble.now) }
-    ensures said { SaysEnd (end_at trouble.now) (E.seen err.old) (E.seen err.new) }
+/// Writes the line of a run that printed nothing, or not all, and answers the status of a run that ended so.
+pub(crate) fn tell<E: Sink>(err: &mut E, ended: &Result<(), Trouble<'_>>) -> u8
+    ensures status { result ≡ end_status (end_after ended.now) }
+    ensures said { SaysEnd (end_after ended.now) (E.seen err.old) (E.seen err.new) }
 {
-    say_line(err, &trouble_parts(trouble));
-    end_status(trouble)
+    match ended {
+        Ok(()) => 0,
+        Err(trouble) => {
+            say_line(err, &trouble_parts(trouble));
+            end_status(trouble)
+        }
+    }
 }

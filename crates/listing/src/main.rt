@@ -1,16 +1,20 @@
-//! What is read in a file, line by line, for comparison with other readers: `listing elf FILE [ADDR SIZE]`
-//! and `listing maps FILE`.
+//! What is read in a file, line by line, for comparison with other readers: `listing elf FILE [ADDR SIZE]`,
+//! `listing maps FILE` and `listing footprint LAYOUTS CORE [PATH=FILE]..`.
 //!
 //! Of an ELF file the machine, each segment, each section, each symbol and the build id have a line; with
 //! ADDR and SIZE, decimal numbers, also what the file says as an image that is mapped there. Of maps text,
-//! which is read as that of the process 1, each line has one. All numbers are decimal. A name that is no text
-//! is `?`, and `-` stands for none. This is a tool of the repository, and no command of `pystacks`.
+//! which is read as that of the process 1, each line has one. All these numbers are decimal. A name that is no
+//! text is `?`, and `-` stands for none. Of a core each read of its stacks, by a layout file and the files that its
+//! process had mapped, has a line in order: the start and the size of the range, in hexadecimal digits. This is a
+//! tool of the repository, and no command of `pystacks`.
 #![tactic(auto)]
 
 mod elf_file;
+mod footprint;
 mod maps_file;
 
 use elf_file::list_elf;
+use footprint::list_footprint;
 use maps_file::list_maps;
 use std::alloc::Global;
 use std::env::Env;
@@ -38,14 +42,15 @@ fn map_of(words: &[String]) -> Option<(u64, u64)> {
 
 fn run<R: Env + Files + Print + Alloc<A = Global>>(rt: &R) -> io::Result<()> {
     let words = words(rt)?;
-    let [kind, path, map @ ..] = words.as_slice() else {
+    let [kind, path, rest @ ..] = words.as_slice() else {
         return Ok(());
     };
     let bytes = fs::read(rt, path.as_str())?;
     let mut out = BufWriter::new(rt.alloc(), io::writer(rt))?;
     match kind.as_str() {
-        "elf" => list_elf(&mut out, rt.alloc(), &bytes, map_of(map))?,
+        "elf" => list_elf(&mut out, rt.alloc(), &bytes, map_of(rest))?,
         "maps" => list_maps(&mut out, rt.alloc(), &bytes)?,
+        "footprint" => list_footprint(&mut out, rt, &bytes, rest)?,
         _ => writeln!(out, "refused")?,
     }
     out.flush()
