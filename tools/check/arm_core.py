@@ -24,6 +24,7 @@ from typing import Dict, Iterator, List, Tuple
 
 from rooms import ROOT, TOOLS  # (first: it makes the other rooms known)
 
+from carry_layouts import numbers_in
 from child_cores import SECONDS, Case, Core, Failure, Skip, leave_core
 from core_maps import Use, machine_of, wanted_files
 from core_tables import TableError, add_file_table, mapped_in
@@ -78,13 +79,10 @@ def emulated(root: Path, room: Path) -> Build:
     return replace(build, executable=str(runner))
 
 
-def numbers_in(text: str) -> Dict[str, int]:
-    """The numbers of a stored layout, by keys such as thread.next, and the place in _PyRuntime that its head tells."""
-    layout = layout_of(text)
-    groups = {name: group for name, group in layout.items() if isinstance(group, dict)}
-    numbers = {f"{name}.{key}": number for name, group in groups.items() for key, number in group.items()}
+def places_in(text: str) -> Dict[str, int]:
+    """The place in _PyRuntime that the head of a stored layout tells."""
     current = re.search(r"^# _PyRuntime holds that of the current thread at (\d+)$", text, re.MULTILINE)
-    return {**numbers, **({"runtime.current": int(current.group(1))} if current else {})}
+    return {"runtime.current": int(current.group(1))} if current else {}
 
 
 def stored(build: Build) -> Derived:
@@ -94,7 +92,8 @@ def stored(build: Build) -> Derived:
         raise Skip(f"there is no layouts/{path.name}")
     text = path.read_text(encoding="utf-8")
     layout = layout_of(text)
-    return Derived(build, text, numbers_in(text), str(layout["lock"]), layout["dicts"] != "none")
+    numbers = {**numbers_in(text), **places_in(text)}
+    return Derived(build, text, numbers, str(layout["lock"]), layout["dicts"] != "none")
 
 
 def check_machine(program: Path, core: Core, layouts: Path, derived: Derived) -> None:

@@ -15,6 +15,7 @@ from typing import List, Optional, Tuple
 
 from rooms import TOOLS  # (first: it makes the other rooms known)
 
+from carry_layouts import FIRST
 from core_maps import is_library, maps_of, segments_of
 from core_tables import TableError, add_file_table, mapped_in
 from dump_core import LAYOUTS, PROGRAM
@@ -351,6 +352,17 @@ class Layouts(unittest.TestCase):
         self.assertEqual(text, joined(files, "x86_64"), "tools/layouts/join_layouts.py -o layouts/cpython-x86_64.toml")
         self.assertNotIn(LAYOUTS, files)
         self.assertEqual([path.name for path in files], [f"cpython-{a}.{b}-x86_64.toml" for a, b in VERSIONS])
+
+    def test_carried(self):
+        # (each layout of the other machine is its own, or that of x86-64 under a head of its own)
+        path = LAYOUTS.with_name("cpython-aarch64.toml")
+        parts = path.read_text(encoding="utf-8").split("\n[[layout]]\n")[1:]
+        versions = [it for it in VERSIONS if it >= FIRST]
+        self.assertEqual(len(parts), len(versions))
+        for (major, minor), part in zip(versions, parts):
+            files = [path.with_name(f"cpython-{major}.{minor}-{it}.toml") for it in ("aarch64", "x86_64")]
+            stored = next(it for it in files if it.is_file()).read_text(encoding="utf-8")
+            self.assertEqual(part.split("\n#")[0].rstrip("\n"), stored.split("\n[[layout]]\n")[1].rstrip("\n"), (major, minor))
 
     def test_tables(self):
         try:
