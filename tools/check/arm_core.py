@@ -15,7 +15,6 @@ import argparse
 import os
 import re
 import shutil
-import subprocess
 import sys
 import tempfile
 from dataclasses import replace
@@ -25,12 +24,12 @@ from typing import Dict, Iterator, List, Tuple
 from rooms import ROOT, TOOLS  # (first: it makes the other rooms known)
 
 from carry_layouts import numbers_in
-from child_cores import SECONDS, Case, Core, Failure, Skip, leave_core
+from child_cores import Case, Core, Failure, Skip, leave_core
 from core_maps import Use, machine_of, wanted_files
 from core_tables import TableError, add_file_table, mapped_in
 from derive_layout import Build, Derived, DeriveError, build_of
 from made import AARCH64, X86_64, layout_of
-from real_core import check_report, dump, over_core, report_of
+from real_core import check_report, dump, over_core, ran, report_of
 
 EMULATOR = "qemu-aarch64"
 
@@ -113,6 +112,12 @@ def check_machine(program: Path, core: Core, layouts: Path, derived: Derived) ->
             file.write(AARCH64.to_bytes(2, "little"))
 
 
+def check_tool(program: Path, core: Core, derived: Derived) -> None:
+    """Fails where the tool, which finds layouts and images by itself, doesn't show the same."""
+    wanted = report_of(core.told, str(core.path), derived.with_dicts, with_holder=True)
+    check_report(ran([sys.executable, "-B", TOOLS / "dump_core.py", core.path, "--program", program]), wanted)
+
+
 def check_other_images(program: Path, core: Core, room: Path) -> None:
     """Fails where the tool takes an image of the machine at hand for that of a core of another one."""
     own = os.path.realpath(sys.executable)
@@ -123,12 +128,11 @@ def check_other_images(program: Path, core: Core, room: Path) -> None:
     other = room / "other" / needed[1:]
     other.parent.mkdir(parents=True)
     shutil.copyfile(own, other)
-    words = [core.path, "--program", program, "--layouts", room / "layout.toml", "--root", room / "other"]
-    command = [sys.executable, "-B", *(str(it) for it in (TOOLS / "dump_core.py", *words))]
-    ran = subprocess.run(command, stdin=subprocess.DEVNULL, capture_output=True, text=True, timeout=SECONDS)
-    wanted = f"dump_core: no image of {needed} (needed; {other} is of another machine)\npystacks: image not given: {needed}\n"
-    if (ran.returncode, ran.stdout, ran.stderr) != (1, "", wanted):
-        raise Failure(f"over images of another machine the tool ended with status {ran.returncode}: {ran.stderr.strip()}")
+    words = [core.path, "--program", program, "--root", room / "other"]
+    run = ran([sys.executable, "-B", TOOLS / "dump_core.py", *words])
+    wanted = f"dump_core: no image of {needed} (needed; {other} is of another machine)\npystacks: image not given: {needed}"
+    if (run.status, run.out, run.err) != (1, "", wanted):
+        raise Failure(f"over images of another machine the tool ended with status {run.status}: {run.err}")
 
 
 def cores_of(derived: Derived, room: Path) -> Iterator[Core]:
@@ -152,6 +156,7 @@ def tried(program: Path, derived: Derived, room: Path) -> Tuple[int, int]:
         try:
             over_core(program, derived, core, room)
             check_machine(program, core, room / "layout.toml", derived)
+            check_tool(program, core, derived)
             if not threads:
                 check_other_images(program, core, room)
         except Failure as reason:

@@ -300,10 +300,14 @@ class Faults(Case):
 
     def test_machine(self):
         whole = core_file([])
-        core = self.put("core", whole[:18] + b"\xb7" + whole[19:])
+        for number, layouts in ((b"\x3e", LAYOUTS), (b"\xb7", LAYOUTS.with_name("cpython-aarch64.toml"))):
+            _, out, said = self.tool(self.put("core", whole[:18] + number + whole[19:]))
+            self.assertEqual((out.split(b"\0")[2:], said), ([b"--layouts=" + os.fsencode(layouts)], ""))
+            self.assertTrue(layouts.is_file())
+        core = self.put("core", whole[:18] + b"\x28" + whole[19:])
         status, out, said = self.tool(core)
         self.assertEqual((status, out, said.count("\n")), (2, b"", 1))
-        self.assertTrue(said.startswith("dump_core: layouts/ has none of the core's machine, 183: "), said)
+        self.assertTrue(said.startswith("dump_core: layouts/ has none of the core's machine, 40: "), said)
         self.assertEqual(self.tool(core, "--layouts", LAYOUTS)[::2], (0, ""))
 
 
