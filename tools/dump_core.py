@@ -6,9 +6,9 @@
     tools/dump_core.py CORE --root FOLDER    # where the core is that of a container, whose files are below FOLDER
 
 The text and the status are those of the program. Handed over are the layouts of all versions on the core's machine and
-the images of the files that the process had mapped: that of Python's library and that of the program that ran, into which the program
-looks, and those from which it reads bytes that the core leaves out; each under the path that the core has for it.
-One line on the standard error names those of the first two that are missing. Nothing is written.
+the images of the files that the process had mapped: that of Python's library and that of the program that ran, into
+which the program looks, and those from which it reads bytes that the core leaves out; each under the path that the core
+has for it. One line on the standard error names those of the first two that are missing. Nothing is written.
 """
 
 import argparse
@@ -178,7 +178,7 @@ def main() -> int:
     parser.add_argument("-j", "--json", action="store_true", help="as JSON")
     parser.add_argument("--root", metavar="DIR", default="", help="look for the mapped files below this folder")
     parser.add_argument("--program", metavar="P", help="the built program (default: the one in crates/pystacks/out)")
-    parser.add_argument("--layouts", metavar="FILE", help="the layout file (default: that of the core's machine in layouts/)")
+    parser.add_argument("--layouts", metavar="FILE", help="the layout file (default: the core's machine's in layouts/)")
     try:
         run(parser.parse_args())
     except Fault as fault:

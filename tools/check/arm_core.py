@@ -23,7 +23,7 @@ from typing import Dict, Iterator, List, Tuple
 
 from rooms import ROOT, TOOLS  # (first: it makes the other rooms known)
 
-from carry_layouts import numbers_in
+from carry_layouts import numbers_by_key
 from child_cores import Case, Core, Failure, Skip, leave_core
 from core_maps import Use, machine_of, wanted_files
 from core_tables import TableError, add_file_table, mapped_in
@@ -91,7 +91,7 @@ def stored(build: Build) -> Derived:
         raise Skip(f"there is no layouts/{path.name}")
     text = path.read_text(encoding="utf-8")
     layout = layout_of(text)
-    numbers = {**numbers_in(text), **places_in(text)}
+    numbers = {**numbers_by_key(text), **places_in(text)}
     return Derived(build, text, numbers, str(layout["lock"]), layout["dicts"] != "none")
 
 
@@ -130,8 +130,9 @@ def check_other_images(program: Path, core: Core, room: Path) -> None:
     shutil.copyfile(own, other)
     words = [core.path, "--program", program, "--root", room / "other"]
     run = ran([sys.executable, "-B", TOOLS / "dump_core.py", *words])
-    wanted = f"dump_core: no image of {needed} (needed; {other} is of another machine)\npystacks: image not given: {needed}"
-    if (run.status, run.out, run.err) != (1, "", wanted):
+    lines = [f"dump_core: no image of {needed} (needed; {other} is of another machine)"]
+    lines.append(f"pystacks: image not given: {needed}")
+    if (run.status, run.out, run.err.splitlines()) != (1, "", lines):
         raise Failure(f"over images of another machine the tool ended with status {run.status}: {run.err}")
 
 
@@ -177,7 +178,8 @@ def try_root(words: argparse.Namespace) -> str:
     with tempfile.TemporaryDirectory(prefix="arm-core-") as name:
         derived = stored(emulated(root, Path(name)))
         threads, frames = tried(program, derived, Path(name))
-    return f"{derived.build.dotted} on {derived.build.machine}: {len(CASES)} cores: {threads} threads, {frames} frames agree"
+    build = derived.build
+    return f"{build.dotted} on {build.machine}: {len(CASES)} cores: {threads} threads, {frames} frames agree"
 
 
 def main() -> int:

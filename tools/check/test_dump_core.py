@@ -365,8 +365,8 @@ class Layouts(unittest.TestCase):
         self.assertEqual(len(parts), len(versions))
         for (major, minor), part in zip(versions, parts):
             files = [path.with_name(f"cpython-{major}.{minor}-{it}.toml") for it in ("aarch64", "x86_64")]
-            stored = next(it for it in files if it.is_file()).read_text(encoding="utf-8")
-            self.assertEqual(part.split("\n#")[0].rstrip("\n"), stored.split("\n[[layout]]\n")[1].rstrip("\n"), (major, minor))
+            stored = next(it for it in files if it.is_file()).read_text(encoding="utf-8").split("\n[[layout]]\n")[1]
+            self.assertEqual(part.split("\n#")[0].rstrip("\n"), stored.rstrip("\n"), (major, minor))
 
     def test_tables(self):
         try:

@@ -2,7 +2,7 @@
 """Writes the joined layouts of another machine: those of its own builds as they stand, and those of x86-64 where the
 headers of the same build give the same numbers for both machines.
 
-    tools/layouts/carry_layouts.py --cc ./cc -o layouts/cpython-aarch64.toml
+    tools/layouts/carry_layouts.py --cc "$PWD/cc" -o layouts/cpython-aarch64.toml
 
 For each version from 3.7 on that has no layout of that machine, the Python from which that of x86-64 was read has to be
 installed. Its headers are compiled twice, by this machine's compiler and by `--cc`, whose programs have to run here
@@ -24,6 +24,9 @@ from layout_sources import Answers, from_headers
 
 FROM = "x86_64"
 """The machine whose layouts are carried."""
+
+OWN = "cc"
+"""The compiler of this machine."""
 
 FIRST: Version = (3, 7)
 """The first version for which the program knows the places of another machine."""
@@ -65,7 +68,7 @@ class Compared:
         return [it.key for it in self.plan.wanted if it.key not in both]
 
 
-def numbers_in(text: str) -> Dict[str, int]:
+def numbers_by_key(text: str) -> Dict[str, int]:
     """The numbers of a layout's groups as a stored file has them, by keys such as thread.next."""
     groups = re.findall(r"^(\w+) = \{(.*)\}$", text, re.MULTILINE)
     fields = [(name, field) for name, inside in groups for field in re.findall(r"(\w+)=(\d+)", inside)]
@@ -88,7 +91,7 @@ def compared(build: Build, cc: str) -> Compared:
     """What the headers of a build tell for this machine and by the other compiler."""
     plan = plan_of(build.minor)
     fields = [*plan.wanted, *plan.extra]
-    own, other = (from_headers(fields, build.includes, build.flags, it) for it in ("cc", cc))
+    own, other = (from_headers(fields, build.includes, build.flags, it) for it in (OWN, cc))
     return Compared(plan, own, other)
 
 
@@ -98,7 +101,7 @@ def check(found: Compared, text: str) -> None:
         raise CarryError(next(iter(found.other.reasons.values()), "nothing was told"))
     if found.differing:
         raise CarryError(f"these numbers differ: {', '.join(found.differing)}")
-    stored = numbers_in(text)
+    stored = numbers_by_key(text)
     told = {it.key: it.number_of(found.own.places[it.key].number) for it in found.plan.wanted if it.key in found.both}
     wrong = [key for key, number in told.items() if stored.get(key) != number]
     if wrong:
@@ -114,10 +117,11 @@ def carried(text: str, machine: str, cc: str) -> str:
     check(found, text)
     places = {it.key: found.other.places[it.key].number for it in found.plan.extra if it.key in found.other.places}
     said = "all" if not found.left else "all but these"
+    by = f"{version_of(OWN)} for {FROM} and {version_of(cc)} for {machine}"
     lines = [
         f"The layout of CPython {dotted} on {FROM}, which stands here for {machine}",
         f"build: {build.build}",
-        f"headers of that build, by {version_of('cc')} for {FROM} and {version_of(cc)} for {machine}, which agree: {said}",
+        f"headers of that build, by {by}, which agree: {said}",
     ]
     if found.left:
         lines.append(f"not compared, since no header tells them: {', '.join(found.left)}")
