@@ -6,9 +6,9 @@
 ROOT is a folder of unpacked arm64 packages with a Python 3 (docs/LAYOUTS.md has their names); where none is given the
 environment's PYSTACKS_ARM_ROOT names it. The emulator qemu-aarch64 runs real_core_child.py by that Python and leaves
 its cores. These have no file table, so it is written from the maps that the child told. Then each core is walked and
-reported, by the stored layout of the Python's version, and compared like those of real_core.py. Nothing is fetched
-and nothing changed. What can't be tried here has one line that says why. The status is 0 exactly where nothing that
-was tried failed.
+reported, by the stored layout of the Python's version, and compared like those of real_core.py; where the program
+`listing` is built, with those bytes alone that are read, too. Nothing is fetched and nothing changed. What can't be
+tried here has one line that says why. The status is 0 exactly where nothing that was tried failed.
 """
 
 import argparse
@@ -19,7 +19,7 @@ import sys
 import tempfile
 from dataclasses import replace
 from pathlib import Path
-from typing import Dict, Iterator, List, Tuple
+from typing import Dict, Iterator, List, Optional, Tuple
 
 from rooms import ROOT, TOOLS  # (first: it makes the other rooms known)
 
@@ -29,7 +29,7 @@ from core_maps import Use, machine_of, wanted_files
 from core_tables import TableError, add_file_table, mapped_in
 from derive_layout import Build, Derived, DeriveError, build_of
 from made import AARCH64, X86_64, layout_of
-from real_core import check_report, dump, over_core, ran, report_of
+from real_core import check_footprint, check_report, dump, over_core, ran, report_of
 
 EMULATOR = "qemu-aarch64"
 
@@ -149,7 +149,7 @@ def cores_of(derived: Derived, room: Path) -> Iterator[Core]:
             core.path.unlink()
 
 
-def tried(program: Path, derived: Derived, room: Path) -> Tuple[int, int]:
+def tried(program: Path, listing: Optional[Path], derived: Derived, room: Path) -> Tuple[int, int]:
     """Tries the layout on the cores. Returns how many threads and frames agree."""
     (room / "layout.toml").write_text(derived.text, encoding="utf-8")
     threads: List[int] = []
@@ -158,6 +158,8 @@ def tried(program: Path, derived: Derived, room: Path) -> Tuple[int, int]:
             over_core(program, derived, core, room)
             check_machine(program, core, room / "layout.toml", derived)
             check_tool(program, core, derived)
+            if listing:
+                check_footprint(program, listing, core, room / "layout.toml", derived.build)
             if not threads:
                 check_other_images(program, core, room)
         except Failure as reason:
@@ -175,11 +177,14 @@ def try_root(words: argparse.Namespace) -> str:
         raise Skip(f"there is no folder {root}")
     if not program.is_file():
         raise Failure(f"there is no program {program}")
+    listing = Path(words.listing or ROOT / "crates" / "listing" / "out" / "listing").resolve()
+    found = listing if listing.is_file() else None
     with tempfile.TemporaryDirectory(prefix="arm-core-") as name:
         derived = stored(emulated(root, Path(name)))
-        threads, frames = tried(program, derived, Path(name))
+        threads, frames = tried(program, found, derived, Path(name))
     build = derived.build
-    return f"{build.dotted} on {build.machine}: {len(CASES)} cores: {threads} threads, {frames} frames agree"
+    read = "footprints agree" if found else "footprints not tried"
+    return f"{build.dotted} on {build.machine}: {len(CASES)} cores: {threads} threads, {frames} frames agree; {read}"
 
 
 def main() -> int:
@@ -188,6 +193,7 @@ def main() -> int:
     default = os.environ.get(VARIABLE, "")
     parser.add_argument("root", nargs="?", default=default, help=f"the unpacked packages (default: by {VARIABLE})")
     parser.add_argument("--program", required=True, help="the built program")
+    parser.add_argument("--listing", help="the built program `listing` (default: that of crates/listing, if built)")
     try:
         print(f"arm_core: {try_root(parser.parse_args())}")
     except Skip as reason:

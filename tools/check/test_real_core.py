@@ -14,6 +14,7 @@ from unittest.mock import patch
 
 from rooms import ROOT  # (first: it makes the other rooms known)
 
+import arm_core
 import real_core
 from carry_layouts import CarryError, Compared, check, numbers_by_key
 from child_cores import USUAL, Case, Core, Failure, Skip, Thread, Told, names_by
@@ -458,6 +459,28 @@ class Carried(unittest.TestCase):
         self.assertIn("other numbers than the stored layout: thread.id", self.refused(*both))
         nothing = Answers("headers").none(self.PLAN.wanted, "no compiler there")
         self.assertEqual(self.refused(self.answers(), nothing), "no compiler there")
+
+
+class Emulated(unittest.TestCase):
+    """Where cores of another machine can't be made."""
+
+    def test_nothing_there(self):
+        with tempfile.TemporaryDirectory(prefix="arm-core-") as name:
+            for root, line in (("", "is named"), (f"{name}/none", "there is no folder"), (name, "usr/bin/python3.N")):
+                words = argparse.Namespace(root=root, program=sys.executable, listing=None)
+                with patch("shutil.which", return_value="/emulator"), self.assertRaisesRegex(Skip, line):
+                    arm_core.try_root(words)
+            (Path(name) / "usr" / "bin").mkdir(parents=True)
+            (Path(name) / "usr" / "bin" / "python3.11").touch()
+            with patch("shutil.which", return_value=None), self.assertRaisesRegex(Skip, "there is no qemu-aarch64"):
+                arm_core.try_root(words)
+
+    def test_stored(self):
+        derived = arm_core.stored(replace(BUILD, version=(3, 11, 2), machine="aarch64"))
+        numbers = [derived.numbers[key] for key in ("runtime.current", "thread.native_id", "frame.code")]
+        self.assertEqual((numbers, derived.lock, derived.with_dicts), ([592, 160, 32], "runtime", True))
+        with self.assertRaises(Skip):
+            arm_core.stored(replace(BUILD, machine="aarch64"))
 
 
 class Swaps(unittest.TestCase):
