@@ -5,10 +5,10 @@
     tools/dump_core.py CORE -l -j            # with locals, as JSON: words of the program
     tools/dump_core.py CORE --root FOLDER    # where the core is that of a container, whose files are below FOLDER
 
-The text and the status are those of the program. Handed over are the layouts of all versions and the images of the
-files that the process had mapped: that of Python's library and that of the program that ran, into which the program
-looks, and those from which it reads bytes that the core leaves out; each under the path that the core has for it.
-One line on the standard error names those of the first two that are missing. Nothing is written.
+The text and the status are those of the program. Handed over are the layouts of all versions on the core's machine and
+the images of the files that the process had mapped: that of Python's library and that of the program that ran, into
+which the program looks, and those from which it reads bytes that the core leaves out; each under the path that the core
+has for it. One line on the standard error names those of the first two that are missing. Nothing is written.
 """
 
 import argparse
@@ -24,10 +24,11 @@ from core_maps import Use, Wanted, build_id, is_text, machine_of, wanted_files
 
 ROOT = Path(__file__).resolve().parent.parent
 PROGRAM = ROOT / "crates" / "pystacks" / "out" / "pystacks"
-LAYOUTS = ROOT / "layouts" / "cpython-x86_64.toml"
+MACHINES = {62: "x86_64", 183: "aarch64"}
+"""The machines that have layouts, by the numbers that ELF files have for them."""
 
-MACHINE = 62
-"""The number that ELF files have for x86-64, the machine of those layouts."""
+LAYOUTS = ROOT / "layouts" / "cpython-x86_64.toml"
+"""Those of the first of them, which the program is handed where a core is none."""
 
 BUILD = "(cd crates/pystacks && rt run -- walk data/core sample 3.9.0 0x10000 0)"
 """What builds the program."""
@@ -139,6 +140,15 @@ def read_core(path: str) -> Tuple[Optional[int], List[Wanted]]:
         return None, []
 
 
+def layouts_of(machine: Optional[int]) -> Path:
+    """The layouts of a core's machine, of all versions."""
+    if machine is None:
+        return LAYOUTS
+    if machine not in MACHINES:
+        raise Fault(f"layouts/ has none of the core's machine, {machine}: name a file by --layouts", BAD_WORDS)
+    return LAYOUTS.with_name(f"cpython-{MACHINES[machine]}.toml")
+
+
 def run(words: argparse.Namespace) -> None:
     """Becomes the program."""
     program = words.program or PROGRAM
@@ -147,9 +157,7 @@ def run(words: argparse.Namespace) -> None:
     if words.root and not os.path.isdir(words.root):
         raise Fault(f"there is no folder {shown(os.fsencode(words.root))}", BAD_WORDS)
     machine, files = read_core(words.core)
-    if not words.layouts and machine not in (None, MACHINE):
-        raise Fault(f"layouts/ has none of the core's machine, {machine}: name a file by --layouts", BAD_WORDS)
-    layouts = os.fspath(words.layouts or LAYOUTS)
+    layouts = os.fspath(words.layouts or layouts_of(machine))
     command = [os.fsencode(it) for it in (program, "dump", f"--core={words.core}", f"--layouts={layouts}")]
     command += [b"-l"] * words.locals + [b"-j"] * words.json
     for word in command[1:]:
@@ -170,7 +178,7 @@ def main() -> int:
     parser.add_argument("-j", "--json", action="store_true", help="as JSON")
     parser.add_argument("--root", metavar="DIR", default="", help="look for the mapped files below this folder")
     parser.add_argument("--program", metavar="P", help="the built program (default: the one in crates/pystacks/out)")
-    parser.add_argument("--layouts", metavar="FILE", help=f"the layout file (default: layouts/{LAYOUTS.name})")
+    parser.add_argument("--layouts", metavar="FILE", help="the layout file (default: the core's machine's in layouts/)")
     try:
         run(parser.parse_args())
     except Fault as fault:

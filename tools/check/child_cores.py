@@ -86,6 +86,8 @@ class Told:
     """The lines of a report between that of the signal and the threads."""
     held: Optional[int] = None
     """The address of what was handed to the function `hold`, where a thread is in it."""
+    maps: str = ""
+    """What /proc/self/maps had shortly before."""
 
 
 @dataclass(frozen=True)
@@ -166,7 +168,7 @@ def told_from(line: str, derived: Derived) -> Told:
     # (the child lists threads from the first of the chain on, and they are printed from the last)
     pid, arguments = told["process"]
     head = f"Process {pid}: {arguments}\nPython v{told['version']}\n\n"
-    return Told(told["interpreter"], lock_told(told, derived), threads[::-1], head, told["held"])
+    return Told(told["interpreter"], lock_told(told, derived), threads[::-1], head, told["held"], told["maps"])
 
 
 def ended(command: List[str], folder: Path) -> Tuple[int, str]:

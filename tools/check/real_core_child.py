@@ -166,6 +166,12 @@ def arguments():
         return file.read()[:79].replace(b"\0", b" ").decode("utf-8", "replace")
 
 
+def maps():
+    """What is mapped, as the system tells it: a core may have no table of files."""
+    with open("/proc/self/maps", "rb") as file:
+        return file.read().decode("utf-8", "replace")
+
+
 def names_of_threads():
     """The name of each thread, by its id."""
     return {it.ident: it.name for it in threading.enumerate()}
@@ -235,6 +241,7 @@ def report(natives, names, gil, leave, is_free):
         "held": HELD[0] if HELD else None,
         "version": sys.version.split()[0],
         "process": [os.getpid(), arguments()],
+        "maps": maps(),
         "threads": [],
     }
     for ident, frames in stacks(natives):

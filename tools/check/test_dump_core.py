@@ -15,7 +15,9 @@ from typing import List, Optional, Tuple
 
 from rooms import TOOLS  # (first: it makes the other rooms known)
 
-from core_maps import is_library
+from carry_layouts import FIRST
+from core_maps import is_library, maps_of, segments_of
+from core_tables import TableError, add_file_table, mapped_in
 from dump_core import LAYOUTS, PROGRAM
 from join_layouts import joined, single_files
 from layout_plan import VERSIONS
@@ -298,11 +300,51 @@ class Faults(Case):
 
     def test_machine(self):
         whole = core_file([])
-        core = self.put("core", whole[:18] + b"\xb7" + whole[19:])
+        for number, layouts in ((b"\x3e", LAYOUTS), (b"\xb7", LAYOUTS.with_name("cpython-aarch64.toml"))):
+            _, out, said = self.tool(self.put("core", whole[:18] + number + whole[19:]))
+            self.assertEqual((out.split(b"\0")[2:], said), ([b"--layouts=" + os.fsencode(layouts)], ""))
+            self.assertTrue(layouts.is_file())
+        core = self.put("core", whole[:18] + b"\x28" + whole[19:])
         status, out, said = self.tool(core)
         self.assertEqual((status, out, said.count("\n")), (2, b"", 1))
-        self.assertTrue(said.startswith("dump_core: layouts/ has none of the core's machine, 183: "), said)
+        self.assertTrue(said.startswith("dump_core: layouts/ has none of the core's machine, 40: "), said)
         self.assertEqual(self.tool(core, "--layouts", LAYOUTS)[::2], (0, ""))
+
+
+MAPS = b"""\
+400000-402000 r-xp 00003000 fe:00 17                         /a b/python3.9 (deleted)
+402000-403000 rw-p 00000000 00:00 0
+5500001000-5500801000 rw-p 00000000 00:00 0                  [stack]
+ffff00000000-ffff00001000 r--p 00000000 00:01 5              /\xff
+"""
+"""Such lines as /proc/PID/maps has."""
+
+
+class Tables(Case):
+    """A file table that is written into a core."""
+
+    def test_written(self):
+        segments = [mapped(0x400000, size=0x2000), mapped(0x402000, data=b"text"), mapped(0xFFFF00000000, data=b"more")]
+        for more in (b"", b"odd"):
+            path = Path(os.fsdecode(self.put("core", core_file(segments, [note(b"CORE\0", 1, b"abc")]) + more)))
+            with open(path, "rb") as file:
+                before, headers = file.read(), segments_of(file)
+            add_file_table(path, mapped_in(MAPS))
+            with open(path, "rb") as file:
+                self.assertEqual(segments_of(file)[:-1], headers)
+                found = [(it.segment.start, it.name, it.pages) for it in maps_of(file)]
+                file.seek(64)
+                self.assertEqual(file.read(len(before) - 64), before[64:])
+            self.assertEqual(found, [(0x400000, b"/a b/python3.9 (deleted)", 3), (0xFFFF00000000, b"/\xff", 0)])
+
+    def test_refused(self):
+        with self.assertRaises(TableError):
+            mapped_in(b"4-x r-xp 0 0 0 /a")
+        whole = core_file([])
+        for data in (b"", b"text", whole[:70], whole[:56] + b"\xfe\xff" + whole[58:]):
+            with self.assertRaises(TableError):
+                add_file_table(Path(os.fsdecode(self.put("core", data))), [])
+            self.assertEqual((self.folder / "core").read_bytes(), data)
 
 
 class Layouts(unittest.TestCase):
@@ -314,6 +356,17 @@ class Layouts(unittest.TestCase):
         self.assertEqual(text, joined(files, "x86_64"), "tools/layouts/join_layouts.py -o layouts/cpython-x86_64.toml")
         self.assertNotIn(LAYOUTS, files)
         self.assertEqual([path.name for path in files], [f"cpython-{a}.{b}-x86_64.toml" for a, b in VERSIONS])
+
+    def test_carried(self):
+        # (each layout of the other machine is its own, or that of x86-64 under a head of its own)
+        path = LAYOUTS.with_name("cpython-aarch64.toml")
+        parts = path.read_text(encoding="utf-8").split("\n[[layout]]\n")[1:]
+        versions = [it for it in VERSIONS if it >= FIRST]
+        self.assertEqual(len(parts), len(versions))
+        for (major, minor), part in zip(versions, parts):
+            files = [path.with_name(f"cpython-{major}.{minor}-{it}.toml") for it in ("aarch64", "x86_64")]
+            stored = next(it for it in files if it.is_file()).read_text(encoding="utf-8").split("\n[[layout]]\n")[1]
+            self.assertEqual(part.split("\n#")[0].rstrip("\n"), stored.rstrip("\n"), (major, minor))
 
     def test_tables(self):
         try:

@@ -14,7 +14,9 @@ from unittest.mock import patch
 
 from rooms import ROOT  # (first: it makes the other rooms known)
 
+import arm_core
 import real_core
+from carry_layouts import CarryError, Compared, check, numbers_by_key
 from child_cores import USUAL, Case, Core, Failure, Skip, Thread, Told, names_by
 from derive_layout import Build, Derived, DeriveError, fault_of, settled, values_of
 from footprints import Footprint, blotted, footprint_of, joined
@@ -424,6 +426,61 @@ class Stored(unittest.TestCase):
                     as_stored(derived, Path(folder))
             stored.write_text(wrong.replace("3.12.1", "3.12.2"), encoding="utf-8")
             self.assertEqual(as_stored(derived, Path(folder)), f"not layouts/{name}, which is of 3.12.2")
+
+
+class Carried(unittest.TestCase):
+    """When a layout of one machine stands for another."""
+
+    PLAN = plan_of((3, 12))
+    TEXT = (ROOT / "layouts" / "cpython-3.12-x86_64.toml").read_text(encoding="utf-8")
+
+    def answers(self, **changes):
+        """What headers tell that give the stored numbers, but for these; one below 0 is not told."""
+        stored = {**numbers_by_key(self.TEXT), **{key.replace("_", ".", 1): it for key, it in changes.items()}}
+        places = {it.key: Place(stored[it.key] - it.number_of(0), it.width) for it in self.PLAN.wanted}
+        told = {key: it for key, it in places.items() if changes.get(key.replace(".", "_", 1), 0) >= 0}
+        return Answers("headers", told)
+
+    def refused(self, own, other):
+        """The message by which two machines' answers are refused."""
+        with self.assertRaises(CarryError) as caught:
+            check(Compared(self.PLAN, own, other), self.TEXT)
+        return str(caught.exception)
+
+    def test_same(self):
+        check(Compared(self.PLAN, self.answers(), self.answers()), self.TEXT)
+        found = Compared(self.PLAN, self.answers(), self.answers(keys_used=-1))
+        check(found, self.TEXT)
+        self.assertEqual(found.left, ["keys.used"])
+
+    def test_refused(self):
+        self.assertEqual(self.refused(self.answers(), self.answers(thread_id=7)), "these numbers differ: thread.id")
+        both = self.answers(thread_id=7), self.answers(thread_id=7)
+        self.assertIn("other numbers than the stored layout: thread.id", self.refused(*both))
+        nothing = Answers("headers").none(self.PLAN.wanted, "no compiler there")
+        self.assertEqual(self.refused(self.answers(), nothing), "no compiler there")
+
+
+class Emulated(unittest.TestCase):
+    """Where cores of another machine can't be made."""
+
+    def test_nothing_there(self):
+        with tempfile.TemporaryDirectory(prefix="arm-core-") as name:
+            for root, line in (("", "is named"), (f"{name}/none", "there is no folder"), (name, "usr/bin/python3.N")):
+                words = argparse.Namespace(root=root, program=sys.executable, listing=None)
+                with patch("shutil.which", return_value="/emulator"), self.assertRaisesRegex(Skip, line):
+                    arm_core.try_root(words)
+            (Path(name) / "usr" / "bin").mkdir(parents=True)
+            (Path(name) / "usr" / "bin" / "python3.11").touch()
+            with patch("shutil.which", return_value=None), self.assertRaisesRegex(Skip, "there is no qemu-aarch64"):
+                arm_core.try_root(words)
+
+    def test_stored(self):
+        derived = arm_core.stored(replace(BUILD, version=(3, 11, 2), machine="aarch64"))
+        numbers = [derived.numbers[key] for key in ("runtime.current", "thread.native_id", "frame.code")]
+        self.assertEqual((numbers, derived.lock, derived.with_dicts), ([592, 160, 32], "runtime", True))
+        with self.assertRaises(Skip):
+            arm_core.stored(replace(BUILD, machine="aarch64"))
 
 
 class Swaps(unittest.TestCase):
