@@ -17,7 +17,7 @@ from rooms import TOOLS  # (first: it makes the other rooms known)
 
 from carry_layouts import FIRST
 from core_maps import is_library, maps_of, segments_of
-from core_tables import TableError, add_file_table, mapped_in
+from file_tables import TableError, add_file_table, mapped_in
 from dump_core import LAYOUTS, PROGRAM
 from join_layouts import joined, single_files
 from layout_plan import VERSIONS
