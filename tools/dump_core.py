@@ -15,12 +15,14 @@ import argparse
 import os
 import sys
 from pathlib import Path
-from typing import Dict, List, Optional, Tuple
+from typing import BinaryIO, Dict, List, Optional, Tuple
 
 # (what only looks at a core leaves nothing behind)
 sys.dont_write_bytecode = True
 
 from core_maps import Use, Wanted, build_id, is_text, machine_of, wanted_files
+from core_prepare import Prepared, Unprepared, Wishes, available, prepared
+from core_run import run_over
 
 ROOT = Path(__file__).resolve().parent.parent
 PROGRAM = ROOT / "crates" / "pystacks" / "out" / "pystacks"
@@ -42,6 +44,7 @@ MOST = 1000
 """The most images that are handed over beside the two that the program looks into."""
 
 BAD_WORDS = 2
+NO_ROOM = 5
 NO_PROGRAM = 127
 
 
@@ -130,33 +133,83 @@ def image_words(files: List[Wanted], root: bytes, machine: Optional[int]) -> Lis
     return words
 
 
-def read_core(path: str) -> Tuple[Optional[int], List[Wanted]]:
+def read_core(file: Optional[BinaryIO]) -> Tuple[Optional[int], List[Wanted]]:
     """The machine and the files of a core. Where it can't be read there are none; the program has a line for it."""
+    if file is None:
+        return None, []
     try:
-        with open(path, "rb") as file:
-            return machine_of(file), wanted_files(file)
+        return machine_of(file), wanted_files(file)
     except OSError:
         return None, []
 
 
-def run(words: argparse.Namespace) -> None:
-    """Becomes the program."""
+def opened(path: str) -> Optional[BinaryIO]:
+    """The core's file, where it can be read; the program has a line for another."""
+    try:
+        return open(path, "rb")
+    except OSError:
+        return None
+
+
+def free_memory() -> Optional[int]:
+    """How much memory the system has free, where it tells."""
+    try:
+        return available(Path("/proc/meminfo").read_text(encoding="ascii", errors="replace"))
+    except OSError:
+        return None
+
+
+def ready(core: Optional[BinaryIO], words: argparse.Namespace) -> Optional[Prepared]:
+    """The core that is prepared, if it has to be. One that stays longer than half of the memory that is free is
+    refused, before the program asks for that much."""
+    if core is None:
+        return None
+    free = None if words.anyway else free_memory()
+    room = None if free is None else free // 2
+    try:
+        new = prepared(core, Wishes(words.keep, room))
+    except Unprepared as reason:
+        raise Fault(str(reason), NO_ROOM) from None
+    if new:
+        print(f"dump_core: {'; '.join(new.said)}", file=sys.stderr, flush=True)
+    elif words.keep:
+        print(f"dump_core: the core needs no preparing, and {words.keep} isn't written", file=sys.stderr, flush=True)
+    length = os.fstat((new.file if new else core).fileno()).st_size
+    if room is not None and room < length <= LONGEST:
+        line = f"{shown(os.fsencode(words.core))} has {length} bytes, more than half of the {free} that are free"
+        raise Fault(f"{line} (--anyway tries it)", NO_ROOM)
+    return new
+
+
+def command_of(words: argparse.Namespace, core: str, machine: Optional[int]) -> List[bytes]:
+    """The program's words without those of images."""
+    if not words.layouts and machine not in (None, MACHINE):
+        raise Fault(f"layouts/ has none of the core's machine, {machine}: name a file by --layouts", BAD_WORDS)
+    layouts = os.fspath(words.layouts or LAYOUTS)
+    program = words.program or PROGRAM
+    command = [os.fsencode(it) for it in (program, "dump", f"--core={core}", f"--layouts={layouts}")]
+    command += [b"-l"] * words.locals + [b"-j"] * words.json
+    for word in [os.fsencode(words.core), *command[1:]]:
+        if not is_text(word):
+            raise Fault(f"a name that is not UTF-8 can't be handed over: {shown(word)}", BAD_WORDS)
+    return command
+
+
+def run(words: argparse.Namespace) -> int:
+    """Becomes the program, or runs it over the core that was prepared, and returns its status."""
     program = words.program or PROGRAM
     if not os.path.isfile(program):
         raise Fault(f"there is no program {shown(os.fsencode(program))}: {BUILD} builds it", NO_PROGRAM)
     if words.root and not os.path.isdir(words.root):
         raise Fault(f"there is no folder {shown(os.fsencode(words.root))}", BAD_WORDS)
-    machine, files = read_core(words.core)
-    if not words.layouts and machine not in (None, MACHINE):
-        raise Fault(f"layouts/ has none of the core's machine, {machine}: name a file by --layouts", BAD_WORDS)
-    layouts = os.fspath(words.layouts or LAYOUTS)
-    command = [os.fsencode(it) for it in (program, "dump", f"--core={words.core}", f"--layouts={layouts}")]
-    command += [b"-l"] * words.locals + [b"-j"] * words.json
-    for word in command[1:]:
-        if not is_text(word):
-            raise Fault(f"a name that is not UTF-8 can't be handed over: {shown(word)}", BAD_WORDS)
+    core = opened(words.core)
+    new = ready(core, words)
+    machine, files = read_core(new.file if new else core)
+    command = command_of(words, f"/proc/self/fd/{new.file.fileno()}" if new else words.core, machine)
     command += image_words(files, os.fsencode(words.root), machine)
     try:
+        if new:
+            return run_over(command, new.file.fileno(), os.fsencode(words.core))
         os.execv(command[0], command)
     except OSError as error:
         raise Fault(f"cannot run {shown(command[0])}: {error.strerror}", NO_PROGRAM) from None
@@ -171,12 +224,13 @@ def main() -> int:
     parser.add_argument("--root", metavar="DIR", default="", help="look for the mapped files below this folder")
     parser.add_argument("--program", metavar="P", help="the built program (default: the one in crates/pystacks/out)")
     parser.add_argument("--layouts", metavar="FILE", help=f"the layout file (default: layouts/{LAYOUTS.name})")
+    parser.add_argument("--keep", metavar="FILE", default="", help="keep the core that was prepared in this new file")
+    parser.add_argument("--anyway", action="store_true", help="read a core that is longer than half of the free memory")
     try:
-        run(parser.parse_args())
+        return run(parser.parse_args())
     except Fault as fault:
         print(f"dump_core: {fault}", file=sys.stderr)
         return fault.status
-    return 0
 
 
 if __name__ == "__main__":

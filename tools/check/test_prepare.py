@@ -1,0 +1,252 @@
+#!/usr/bin/env python3
+"""That a core which dump_core.py prepares has the same bytes at the same addresses, the same notes and the same maps.
+
+A reader of the tests' own (core_reader.py) compares them. Where the program is built, what it prints over a prepared
+core is compared with what it prints over the core itself.
+"""
+
+import os
+import random
+import subprocess
+import sys
+import tempfile
+import unittest
+from pathlib import Path
+from typing import List, Optional, Tuple
+
+from rooms import TOOLS  # (first: it makes the other rooms known)
+
+import core_sparse
+from core_prepare import Prepared, Unprepared, Wishes, prepared
+from core_reader import Reader, reader
+from dump_core import PROGRAM as BUILT
+from made import EXAMPLE, Segment, core_file, note
+from row import TEXT, heap
+from rows_dump import PROGRAM as IMAGE, bss
+from test_dump_core import mapped, small_core
+
+PAGE = 4096
+PROGRAM = Path(os.environ.get("PYSTACKS", BUILT))
+"""The built program; another one can be named."""
+
+FORCED = Wishes(is_forced=True)
+
+
+class Case(unittest.TestCase):
+    """A folder with cores."""
+
+    def setUp(self):
+        folder = tempfile.TemporaryDirectory(prefix="prepare-")
+        self.addCleanup(folder.cleanup)
+        self.folder = Path(os.path.realpath(folder.name))
+
+    def put(self, name: str, data: bytes) -> Path:
+        """Writes a file below the folder."""
+        path = self.folder / name
+        path.parent.mkdir(parents=True, exist_ok=True)
+        path.write_bytes(data)
+        return path
+
+    def prepare(self, data: bytes, wishes: Wishes = FORCED) -> Optional[Prepared]:
+        """What a core comes to."""
+        with open(self.put("core", data), "rb") as file:
+            new = prepared(file, wishes)
+        if new:
+            self.addCleanup(new.file.close)
+        return new
+
+    def new(self, data: bytes, wishes: Wishes = FORCED) -> Tuple[bytes, str]:
+        """The bytes of a core that was prepared, and what is said."""
+        new = self.prepare(data, wishes)
+        assert new is not None
+        new.file.seek(0)
+        return new.file.read(), "; ".join(new.said)
+
+    def same(self, old: bytes, new: bytes) -> Reader:
+        """Fails where two cores differ; returns the reader of the second."""
+        one, other = reader(old), reader(new)
+        self.assertEqual(one.bytes_at(), other.bytes_at())
+        self.assertEqual(one.addresses(), other.addresses())
+        self.assertEqual((one.notes, one.names()), (other.notes, other.names()))
+        return other
+
+    def tool(self, *words, stdin: int = subprocess.DEVNULL) -> Tuple[int, bytes, str]:
+        """What the tool comes to: status, output, and what was said."""
+        command = [sys.executable, "-B", TOOLS / "dump_core.py", "--program", PROGRAM, *words]
+        ran = subprocess.run(command, timeout=60, stdin=stdin, stdout=subprocess.PIPE, stderr=subprocess.PIPE)
+        return ran.returncode, ran.stdout, ran.stderr.decode("utf-8", "replace")
+
+
+def pages(*used: int) -> bytes:
+    """Pages of which those have bytes whose number isn't 0."""
+    return b"".join(bytes(100) + bytes([it]) + bytes(PAGE - 101) if it else bytes(PAGE) for it in used)
+
+
+class Sparse(Case):
+    """Cores of zero pages."""
+
+    def test_pieces(self):
+        zero = [0] * 6
+        data = pages(1, *zero, 2, 0, 3, *zero) + bytes(77)
+        old = core_file([mapped(0x10000, None, 6, data), mapped(0x100000, None, 6, bytes(5 * PAGE), size=9 * PAGE)])
+        new, said = self.new(old)
+        found = self.same(old, new)
+        spans = [(it.start, len(it.data), it.memory) for it in found.loads]
+        first = [(0x10000, PAGE), (0x11000, 6 * PAGE), (0x17000, 3 * PAGE), (0x1A000, 6 * PAGE + 77)]
+        self.assertEqual(spans, [(at, size, size) for at, size in first] + [(0x100000, 5 * PAGE, 9 * PAGE)])
+        self.assertLess(len(new), 12 * PAGE)
+        self.assertEqual(said, "0.1 MB of 0.1 MB are zero pages, and left out")
+
+    def test_names(self):
+        data = pages(1) + bytes(20 * PAGE) + pages(2)
+        at = [0x11000, 0x12000, 0x14000]
+        shadows = [mapped(it, b"/other", 4, b"", size=1) for it in at]
+        for flags, name in ((6, b"/data"), (4, b"/data"), (5, b"/bin/python3.9"), (6, None)):
+            for size in (None, 30 * PAGE):
+                old = core_file([*shadows, mapped(0x10000, name, flags, data, size=size), mapped(0x50000, None, 6, data)])
+                found = self.same(old, self.new(old)[0])
+                is_whole = name is not None and (flags == 5 or flags == 4 and size is not None)
+                self.assertEqual(len([it for it in found.loads if it.start < 0x50000]) == 4, is_whole)
+                self.assertFalse({it.start for it in found.loads[3:]} & set(at))
+
+    def test_order(self):
+        # (of two segments that meet the first one's bytes count)
+        one, other = pages(1) + bytes(9 * PAGE), pages(*[7] * 20)
+        old = core_file([mapped(0x12000, None, 6, one), mapped(0x10000, None, 4, other), mapped(0x10000, None, 6, one)])
+        self.same(old, self.new(old)[0])
+
+    def test_random(self):
+        chance = random.Random(58)
+        for _ in range(15):
+            segments = [self.segment(chance) for _ in range(chance.randrange(1, 6))]
+            old = core_file([*segments, mapped(0x900000, None, 6, bytes(5 * PAGE))], [note(b"CORE\0", 1, b"n" * 336)])
+            self.same(old, self.new(old)[0])
+
+    def segment(self, chance: random.Random) -> Segment:
+        """A segment, most of it zero."""
+        used = [chance.choice([0, 0, 0, 0, 0, 0, 0, 1]) * chance.randrange(256) for _ in range(chance.randrange(16))]
+        data = pages(*used) + bytes(chance.choice([0, 5]))
+        start, size = 0x100000 + PAGE * chance.randrange(30), len(data) + chance.choice([0, 0, 1, PAGE])
+        return mapped(start, chance.choice([None, None, b"/a"]), chance.choice([4, 5, 6]), data, size=size)
+
+    def test_shares(self):
+        # (a long run has several headers, none of which begins at a named address)
+        for name, value in (("ZEROS", 4 * PAGE), ("MOST_SHARES", 8)):
+            self.addCleanup(setattr, core_sparse, name, getattr(core_sparse, name))
+            setattr(core_sparse, name, value)
+        data = pages(1) + bytes(30 * PAGE) + pages(2)
+        shadow = mapped(0x10000 + 5 * PAGE, b"/other", 4, b"", size=1)
+        old = core_file([shadow, mapped(0x10000, None, 6, data)])
+        new, _ = self.new(old)
+        self.same(old, new)
+        self.assertLess(len(new), 8 * PAGE)
+
+    def test_most(self):
+        self.addCleanup(setattr, core_sparse, "MOST_HEADERS", core_sparse.MOST_HEADERS)
+        core_sparse.MOST_HEADERS = core_sparse.MOST_SHARES + 2 + 2 * 2
+        runs = [4, 9, 5, 8, 6]
+        old = core_file([mapped(0x10000, None, 6, b"".join(pages(1) + bytes(it * PAGE) for it in runs))])
+        found = self.same(old, self.new(old)[0])
+        sizes = [len(it.data) // PAGE for it in found.loads if not any(it.data)]
+        self.assertEqual(sizes, [9, 8])
+
+    def test_rest(self):
+        # (what has few zero pages, is short, or is none, is read as it is)
+        for data in (b"", b"text", core_file([]), core_file([mapped(0x1000, None, 6, bytes(50 * PAGE))])):
+            self.assertIsNone(self.prepare(data, Wishes()))
+        self.assertIsNone(self.prepare(core_file([mapped(0x1000, None, 6, pages(1, 2, 3))])))
+        whole = bytearray(core_file([mapped(0x1000, None, 6, bytes(9 * PAGE)), mapped(0x90000, None, 6, b"")]))
+        whole[64 + 56 + 8 : 64 + 56 + 16], whole[64 + 56 + 32 : 64 + 56 + 40] = whole[72:80], whole[96:104]
+        self.assertIsNone(self.prepare(bytes(whole)), "segments that share bytes")
+
+    def test_large(self):
+        # (a file of holes)
+        path = self.put("core", core_file([mapped(0x100000, None, 6, b"")]))
+        row = bytearray(path.read_bytes())
+        at, size = PAGE, 3 << 30
+        row[72:80], row[96:112] = at.to_bytes(8, "little"), size.to_bytes(8, "little") * 2
+        with open(path, "r+b") as file:
+            file.write(row)
+            file.truncate(at + size)
+            for place in (0, 1 << 30, size - 1):
+                os.pwrite(file.fileno(), b"x", at + place)
+        with open(path, "rb") as file:
+            new = prepared(file, Wishes())
+        assert new is not None
+        with new.file as file:
+            file.seek(0)
+            found = reader(file.read())
+        self.assertEqual(sum(it.memory for it in found.loads), size)
+        for place in (0, 1 << 30, size - 1):
+            self.assertEqual(found.read(0x100000 + place, 1), b"x")
+        self.assertEqual(sum(it.data.count(b"x") for it in found.loads), 3)
+        self.assertLess(len({it.start for it in found.loads}), 800)
+
+
+@unittest.skipUnless(PROGRAM.is_file(), "the program isn't built")
+class Real(Case):
+    """The built program over cores that are prepared."""
+
+    def setUp(self):
+        super().setUp()
+        self.root = self.put("container/usr/bin/python3.9", IMAGE).parents[2]
+        self.layout = self.put("example.toml", EXAMPLE.encode())
+        self.words = ["--root", self.root, "--layouts", self.layout]
+
+    def large(self, name: str = "core") -> Path:
+        """A core of which most is zero."""
+        data = small_large()
+        path = self.put(name, b"")
+        with open(path, "r+b") as file:
+            for at in (it for it in range(0, len(data), PAGE) if data[it : it + PAGE].strip(b"\0")):
+                os.pwrite(file.fileno(), data[at : at + PAGE], at)
+            file.truncate(len(data))
+        return path
+
+    def test_same(self):
+        core = self.large()
+        status, out, said = self.tool(core, *self.words)
+        line = "dump_core: 67 MB of 67 MB are zero pages, and left out\n"
+        self.assertEqual((status, out.decode(), said), (0, TEXT, line))
+        self.assertEqual(os.listdir(self.folder).count("core"), 1)
+
+    def test_keep(self):
+        core, keep = self.large(), self.folder / "kept"
+        status, out, _ = self.tool(core, *self.words, "--keep", keep)
+        self.assertEqual((status, out), (0, TEXT.encode()))
+        self.assertLess(keep.stat().st_size, 9 << 20)
+        self.assertEqual(self.tool(keep, *self.words), (0, TEXT.encode(), ""))
+        before = core.stat()
+        for name in (core, keep):
+            status, out, said = self.tool(core, *self.words, "--keep", name)
+            self.assertEqual((status, out, said), (5, b"", f"dump_core: cannot write {name}: File exists\n"))
+        self.assertEqual((core.stat().st_size, core.stat().st_mtime), (before.st_size, before.st_mtime))
+
+    def test_no_keep(self):
+        core = self.put("core", small_core(b"/usr/bin/python3.9"))
+        status, out, said = self.tool(core, *self.words, "--keep", self.folder / "kept")
+        self.assertEqual((status, out), (0, TEXT.encode()))
+        self.assertEqual(said, f"dump_core: the core needs no preparing, and {self.folder / 'kept'} isn't written\n")
+        self.assertFalse((self.folder / "kept").exists())
+
+    def test_fault(self):
+        core = self.large()
+        status, out, said = self.tool(core, "--root", self.root, "--layouts", self.put("no.toml", b"="))
+        self.assertEqual((status, out, said.splitlines()[1:]), (6, b"", ["pystacks: layouts: not TOML"]))
+
+    def test_closed(self):
+        core = self.large()
+        command = [sys.executable, "-B", TOOLS / "dump_core.py", core, "--program", PROGRAM, *self.words]
+        with open("/dev/full", "wb") as full:
+            ran = subprocess.run(command, stdout=full, stderr=subprocess.PIPE, timeout=60)
+        self.assertEqual((ran.returncode, ran.stderr.splitlines()[1:]), (4, [b"pystacks: cannot write"]))
+
+
+def small_large() -> bytes:
+    """The small core, with as many zero pages as make it worth preparing."""
+    maps = [heap().segment(6), mapped(0x400000, b"/usr/bin/python3.9", size=0x1000), bss()]
+    return core_file([*maps, mapped(0x7F0000000000, None, 6, bytes((64 << 20) + 5))])
+
+
+if __name__ == "__main__":
+    unittest.main(verbosity=0)

@@ -1,0 +1,134 @@
+"""Prepares a core that the program can't read, or only dearly: another file, with the same bytes at the same addresses
+wherever the core has bytes. The core itself is only read.
+
+What is done is said in a line. Where a core needs nothing there is no other file.
+"""
+
+import os
+import re
+import tempfile
+from dataclasses import dataclass, field
+from typing import BinaryIO, List, Optional, Sequence, Tuple
+
+from core_headers import Header, Piece, headers_of, written
+from core_maps import LOAD
+from core_sparse import Cuts, cut_pieces, cuts_of
+from core_tables import entries_of
+
+LEAST = 64 << 20
+"""How many zero bytes make it worth writing a core anew, if they are half of it."""
+
+
+class Unprepared(Exception):
+    """Why a core can't be prepared."""
+
+
+@dataclass(frozen=True)
+class Wishes:
+    """How a core is to be prepared."""
+
+    keep: str = ""
+    """Where the new file is to be kept; else it has no name."""
+    room: Optional[int] = None
+    """How long a core may be; a longer one is made shorter wherever that is possible."""
+    is_forced: bool = False
+    """Whether it is cut at all its runs of zero pages, however few."""
+
+
+@dataclass
+class Work:
+    """A core at work."""
+
+    file: BinaryIO
+    headers: List[Header]
+    pieces: List[Piece] = field(default_factory=list)
+    said: List[str] = field(default_factory=list)
+    """What was done."""
+
+    @property
+    def length(self) -> int:
+        """How many bytes the file has."""
+        return os.fstat(self.file.fileno()).st_size
+
+
+@dataclass(frozen=True)
+class Prepared:
+    """A core that was prepared, and what was done."""
+
+    file: BinaryIO
+    said: Tuple[str, ...]
+
+
+def megabytes(size: int) -> str:
+    """A size within a line."""
+    return f"{size / 1e6:.0f} MB" if size >= 10_000_000 else f"{size / 1e6:.1f} MB"
+
+
+def available(text: str) -> Optional[int]:
+    """How much memory is free, by the text of /proc/meminfo."""
+    found = re.search(r"^MemAvailable: +(\d+) kB$", text, re.MULTILINE)
+    return int(found.group(1)) * 1024 if found else None
+
+
+def new_file(keep: str) -> BinaryIO:
+    """The file that is written. One that is there is never written over; one without a name is gone with the tool."""
+    try:
+        return open(keep, "x+b") if keep else tempfile.TemporaryFile(prefix="dump-core-")
+    except OSError as error:
+        raise Unprepared(f"cannot write {keep or 'a file in ' + tempfile.gettempdir()}: {error.strerror}") from None
+
+
+# ---- cores of zero pages
+
+
+def shares_bytes(work: Work) -> bool:
+    """Whether segments have more bytes than the file: then they share some, as in a core that was written anew."""
+    return sum(it.size for it in work.headers if it.has_bytes) > work.length
+
+
+def is_worth(cuts: Cuts, work: Work, wishes: Wishes) -> bool:
+    """Whether a core is written anew for its runs of zero pages."""
+    is_too_long = wishes.room is not None and work.length > wishes.room
+    is_sparse = cuts.zeros >= LEAST and cuts.zeros * 2 >= work.length
+    return bool(cuts.runs) and (wishes.is_forced or is_too_long or is_sparse)
+
+
+def cut_zeros(work: Work, wishes: Wishes) -> None:
+    """Cuts the segments at their runs of zero pages, where there are many."""
+    if not wishes.is_forced and work.length < LEAST:
+        return
+    named = {it.start for it in entries_of(work.file, work.headers)}
+    cuts = cuts_of(work.file.fileno(), work.headers, named)
+    if is_worth(cuts, work, wishes):
+        work.pieces = cut_pieces(work.headers, cuts, named)
+        work.said.append(f"{megabytes(cuts.zeros)} of {megabytes(work.length)} are zero pages, and left out")
+
+
+# ---- the whole
+
+
+def prepared(file: BinaryIO, wishes: Wishes) -> Optional[Prepared]:
+    """What a core comes to, or nothing where it is read as it is. What is no core is the program's to refuse."""
+    headers = headers_of(file)
+    if headers is None or not any(it.kind == LOAD for it in headers):
+        return None
+    work = Work(file, headers)
+    if shares_bytes(work):
+        return None
+    cut_zeros(work, wishes)
+    if not work.said:
+        return None
+    return finished(work, wishes)
+
+
+def finished(work: Work, wishes: Wishes) -> Prepared:
+    """Writes the core that was prepared."""
+    new = new_file(wishes.keep)
+    pieces: Sequence[Piece] = work.pieces or [Piece(it) for it in work.headers]
+    try:
+        written(work.file.fileno(), pieces, new.fileno())
+    except OSError as error:
+        new.close()
+        where = wishes.keep or f"a file in {tempfile.gettempdir()} (TMPDIR names another folder)"
+        raise Unprepared(f"cannot write {where}: {error.strerror}") from None
+    return Prepared(new, tuple(work.said))
