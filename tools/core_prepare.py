@@ -7,16 +7,19 @@ What is done is said in a line. Where a core needs nothing there is no other fil
 import os
 import re
 import tempfile
-from dataclasses import dataclass, field
+from dataclasses import dataclass, field, replace
 from typing import BinaryIO, List, Optional, Sequence, Tuple
 
 from core_headers import Header, Piece, headers_of, written
-from core_maps import LOAD
+from core_maps import LOAD, NOTE, WRITABLE, notes_of, read_at
 from core_sparse import Cuts, cut_pieces, cuts_of
 from core_tables import entries_of
 
 LEAST = 64 << 20
 """How many zero bytes make it worth writing a core anew, if they are half of it."""
+
+LARGEST = 1 << 48
+"""More bytes than a core has: headers that claim so many are wrong, and no sign of a core that was cut."""
 
 
 class Unprepared(Exception):
@@ -78,6 +81,42 @@ def new_file(keep: str) -> BinaryIO:
         raise Unprepared(f"cannot write {keep or 'a file in ' + tempfile.gettempdir()}: {error.strerror}") from None
 
 
+# ---- cores that were cut
+
+
+def whole_notes(data: bytes) -> int:
+    """How many bytes the whole notes at the front of some bytes take."""
+    at = 0
+    for owner, _, text in notes_of(data):
+        after = at + 12 + -(-len(owner) // 4) * 4 + -(-len(text) // 4) * 4
+        if after > len(data):
+            break
+        at = after
+    return at
+
+
+def shortened(work: Work, it: Header) -> Header:
+    """A header without the bytes that the file lacks. A segment that loses some gets the write flag, so that no image
+    stands in for what had been written there; of notes the whole ones stay."""
+    size = max(0, min(it.size, work.length - it.offset))
+    offset = min(it.offset, work.length)
+    if it.kind == NOTE:
+        return replace(it, offset=offset, size=whole_notes(read_at(work.file, offset, size)))
+    return replace(it, offset=offset, size=size, flags=it.flags | WRITABLE)
+
+
+def mend_cut(work: Work) -> None:
+    """Lets the segments end where the file ends, and says so."""
+    length = work.length
+    wanted = max((it.offset + it.size for it in work.headers if it.has_bytes and it.size), default=0)
+    if not length < wanted <= LARGEST:
+        return
+    work.headers = [
+        shortened(work, it) if it.has_bytes and it.size and it.offset + it.size > length else it for it in work.headers
+    ]
+    work.said.append(f"core is cut: {length} of {wanted} bytes; what is there is shown")
+
+
 # ---- cores of zero pages
 
 
@@ -113,6 +152,7 @@ def prepared(file: BinaryIO, wishes: Wishes) -> Optional[Prepared]:
     if headers is None or not any(it.kind == LOAD for it in headers):
         return None
     work = Work(file, headers)
+    mend_cut(work)
     if shares_bytes(work):
         return None
     cut_zeros(work, wishes)

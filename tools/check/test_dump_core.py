@@ -249,7 +249,7 @@ class Faults(Case):
     def test_no_core(self):
         whole = core_file([mapped(0x1000, b"/bin/no")])
         table = whole[whole.index(b"CORE") - 12 :]
-        wrong = [b"", b"text", whole[:63], whole[:100], whole[:-30], whole[:5] + b"\2" + whole[6:], table]
+        wrong = [b"", b"text", whole[:63], whole[:100], whole[:5] + b"\2" + whole[6:], table]
         wrong += [whole[:56] + b"\xff\xff" + whole[58:], whole[:32] + b"\xff" * 8 + whole[40:]]
         for data in wrong:
             self.assertEqual(self.handed(data), ([], ""))

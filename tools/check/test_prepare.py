@@ -20,7 +20,7 @@ import core_sparse
 from core_prepare import Prepared, Unprepared, Wishes, prepared
 from core_reader import Reader, reader
 from dump_core import PROGRAM as BUILT
-from made import EXAMPLE, Segment, core_file, note
+from made import EXAMPLE, NOTE, Segment, core_file, elf_file, file_table, note
 from row import TEXT, heap
 from rows_dump import PROGRAM as IMAGE, bss
 from test_dump_core import mapped, small_core
@@ -183,6 +183,56 @@ class Sparse(Case):
         self.assertLess(len({it.start for it in found.loads}), 800)
 
 
+class Cut(Case):
+    """Cores whose end is missing."""
+
+    def parts(self) -> bytes:
+        """A core whose notes stand in front."""
+        whole = [Segment(0, note(b"CORE\0", 1, b"n" * 336) + file_table([(0x10000, 0, b"/a"), (0x20000, 0, b"/b")]), 0, kind=NOTE)]
+        whole += [Segment(0x10000, pages(1, 2), 5, None), Segment(0x20000, b"", 5, PAGE), Segment(0x30000, pages(3, 4), 4)]
+        return elf_file(4, [*whole, Segment(0x40000, b"end", 4, PAGE)])
+
+    def test_cut(self):
+        whole = self.parts()
+        old = reader(whole)
+        for gone in (1, 3, 4, PAGE, 2 * PAGE + 3, 2 * PAGE + 4, 3 * PAGE, 4 * PAGE):
+            new, said = self.new(whole[:-gone], Wishes())
+            found = reader(new)
+            said_first = f"core is cut: {len(whole) - gone} of {len(whole)} bytes; what is there is shown"
+            self.assertEqual(said, said_first)
+            self.assertEqual((found.notes, found.addresses()), (old.notes, old.addresses()))
+            here = dict(list(old.bytes_at().items()))
+            there = found.bytes_at()
+            self.assertEqual(len(here) - len(there), gone)
+            self.assertTrue(there.items() <= here.items())
+            for one, other in zip(old.loads, found.loads):
+                self.assertEqual(other.flags, one.flags | (2 if len(other.data) < len(one.data) else 0))
+                self.assertEqual((other.start, other.memory), (one.start, one.memory))
+
+    def test_notes(self):
+        first, table = note(b"CORE\0", 1, b"n" * 336), file_table([(0x10000, 0, b"/a")])
+        whole = elf_file(4, [Segment(0x10000, b"x", 6), Segment(0, first + table, 0, kind=NOTE)])
+        for gone in range(1, len(table) + 1):
+            new, _ = self.new(whole[:-gone], Wishes())
+            self.assertEqual(reader(new).notes, [first])
+        new, _ = self.new(whole[: -len(table) - 1], Wishes())
+        self.assertEqual(reader(new).notes, [b""])
+
+    def test_headers(self):
+        # (a core without all its headers is the program's to refuse, and so is one whose headers are nonsense)
+        whole = self.parts()
+        for data in (whole[:64], whole[: 64 + 56 * 5 - 1], whole[:130] + b"\xff" * 6 + whole[136:]):
+            self.assertIsNone(self.prepare(data, Wishes()))
+
+    def test_sparse(self):
+        whole = elf_file(4, [Segment(0x10000, pages(1, *[0] * 20, 2, *[0] * 20), 6), Segment(0x90000, pages(3), 4)])
+        for gone in (1, PAGE, PAGE + 5, 4 * PAGE + 5):
+            new, said = self.new(whole[:-gone])
+            old, _ = self.new(whole[:-gone], Wishes())
+            self.same(old, new)
+            self.assertEqual(said.count("; "), 2)
+
+
 @unittest.skipUnless(PROGRAM.is_file(), "the program isn't built")
 class Real(Case):
     """The built program over cores that are prepared."""
@@ -233,6 +283,17 @@ class Real(Case):
         core = self.large()
         status, out, said = self.tool(core, "--root", self.root, "--layouts", self.put("no.toml", b"="))
         self.assertEqual((status, out, said.splitlines()[1:]), (6, b"", ["pystacks: layouts: not TOML"]))
+
+    def test_cut(self):
+        # (the notes stand at the end of this core, and its heap in front)
+        whole = small_core(b"/usr/bin/python3.9")
+        kinds = set()
+        for part in (1, 30, 100, len(whole) // 10, len(whole) // 2, len(whole) * 9 // 10):
+            core = self.put("core", whole[: len(whole) - part])
+            status, out, said = self.tool(core, *self.words)
+            kinds.add((status, out))
+            self.assertIn(said.count("\n"), (1, 2, 3))
+        self.assertEqual(kinds, {(1, b"")})
 
     def test_closed(self):
         core = self.large()
