@@ -10,10 +10,11 @@ import tempfile
 from dataclasses import dataclass, field, replace
 from typing import BinaryIO, List, Optional, Sequence, Tuple
 
-from core_headers import Header, Piece, headers_of, written
+from core_headers import Header, Piece, copy, headers_of, written
 from core_maps import LOAD, NOTE, WRITABLE, notes_of, read_at
 from core_sparse import Cuts, cut_pieces, cuts_of
 from core_tables import entries_of
+from core_unpack import NoSpace, NoUnpacker, unpacked
 
 LEAST = 64 << 20
 """How many zero bytes make it worth writing a core anew, if they are half of it."""
@@ -22,8 +23,16 @@ LARGEST = 1 << 48
 """More bytes than a core has: headers that claim so many are wrong, and no sign of a core that was cut."""
 
 
+NO_ROOM = 5
+NO_PROGRAM = 127
+
+
 class Unprepared(Exception):
-    """Why a core can't be prepared."""
+    """Why a core can't be prepared, and the tool's status then."""
+
+    def __init__(self, line: str, status: int = NO_ROOM) -> None:
+        super().__init__(line)
+        self.status = status
 
 
 @dataclass(frozen=True)
@@ -148,6 +157,24 @@ def cut_zeros(work: Work, wishes: Wishes) -> None:
 
 def prepared(file: BinaryIO, wishes: Wishes) -> Optional[Prepared]:
     """What a core comes to, or nothing where it is read as it is. What is no core is the program's to refuse."""
+    try:
+        plain, said = unpacked(file)
+    except NoUnpacker as reason:
+        raise Unprepared(str(reason), NO_PROGRAM) from None
+    except NoSpace as reason:
+        raise Unprepared(str(reason)) from None
+    work = mended(plain, wishes)
+    if work:
+        work.said = said + work.said
+        new = finished(work, wishes)
+        if plain is not file:
+            plain.close()
+        return new
+    return kept(Prepared(plain, tuple(said)), wishes) if said else None
+
+
+def mended(file: BinaryIO, wishes: Wishes) -> Optional[Work]:
+    """A core that has to be written anew, with its pieces."""
     headers = headers_of(file)
     if headers is None or not any(it.kind == LOAD for it in headers):
         return None
@@ -156,9 +183,21 @@ def prepared(file: BinaryIO, wishes: Wishes) -> Optional[Prepared]:
     if shares_bytes(work):
         return None
     cut_zeros(work, wishes)
-    if not work.said:
-        return None
-    return finished(work, wishes)
+    return work if work.said else None
+
+
+def kept(new: Prepared, wishes: Wishes) -> Prepared:
+    """A core that was unpacked alone, in the file that is to keep it."""
+    if not wishes.keep:
+        return new
+    file = new_file(wishes.keep)
+    length = os.fstat(new.file.fileno()).st_size
+    try:
+        copy(new.file.fileno(), 0, length, file.fileno(), 0)
+        file.truncate(length)
+    except OSError as error:
+        raise Unprepared(f"cannot write {wishes.keep}: {error.strerror}") from None
+    return Prepared(file, new.said)
 
 
 def finished(work: Work, wishes: Wishes) -> Prepared:

@@ -169,7 +169,7 @@ def ready(core: Optional[BinaryIO], words: argparse.Namespace) -> Optional[Prepa
     try:
         new = prepared(core, Wishes(words.keep, room))
     except Unprepared as reason:
-        raise Fault(str(reason), NO_ROOM) from None
+        raise Fault(str(reason), reason.status) from None
     if new:
         print(f"dump_core: {'; '.join(new.said)}", file=sys.stderr, flush=True)
     elif words.keep:

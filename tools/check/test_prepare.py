@@ -5,14 +5,19 @@ A reader of the tests' own (core_reader.py) compares them. Where the program is 
 core is compared with what it prints over the core itself.
 """
 
+import base64
+import bz2
+import gzip
+import lzma
 import os
 import random
+import shutil
 import subprocess
 import sys
 import tempfile
 import unittest
 from pathlib import Path
-from typing import List, Optional, Tuple
+from typing import Callable, Optional, Tuple
 
 from rooms import TOOLS  # (first: it makes the other rooms known)
 
@@ -183,6 +188,69 @@ class Sparse(Case):
         self.assertLess(len({it.start for it in found.loads}), 800)
 
 
+def apport(data: bytes) -> bytes:
+    """A report of apport, with this core."""
+    packed = gzip.compress(data)
+    parts = [packed[:10], *(packed[at : at + 1000] for at in range(10, len(packed), 1000))]
+    lines = b"".join(b" " + base64.b64encode(it) + b"\n" for it in parts)
+    return b"ProblemType: Crash\nArchitecture: amd64\nCoreDump: base64\n" + lines + b"Date: today\n Core: x\n"
+
+
+def by_program(name: str) -> Callable[[bytes], bytes]:
+    """What packs some bytes by a program."""
+    return lambda data: subprocess.run([name, "-c"], input=data, stdout=subprocess.PIPE, check=True, timeout=60).stdout
+
+
+PACKERS = {"gzip": gzip.compress, "xz": lzma.compress, "bzip2": bz2.compress, "apport; unpacked from gzip": apport}
+PACKERS.update({name: by_program(name) for name in ("zstd", "lz4") if shutil.which(name)})
+
+
+class Packed(Case):
+    """Cores that are packed."""
+
+    def test_packed(self):
+        old = core_file([mapped(0x10000, b"/a", 6, pages(1, *[0] * 300, 2) + bytes(77))])
+        for name, pack in PACKERS.items():
+            new, said = self.new(pack(old), Wishes())
+            self.assertEqual((new, said), (old, f"unpacked from {name}"))
+            new, said = self.new(pack(old))
+            self.assertIn(f"unpacked from {name}; ", said)
+            self.same(old, new)
+
+    def test_holes(self):
+        old = core_file([mapped(0x10000, b"/a", 6, pages(1) + bytes(40 << 20))])
+        new = self.prepare(gzip.compress(old, 1), Wishes())
+        self.assertLess(os.fstat(new.file.fileno()).st_blocks * 512, 1 << 20)
+
+    def test_broken(self):
+        chance = random.Random(1)
+        data = bytes(chance.randrange(256) for _ in range(1 << 15)) * 40
+        whole = elf_file(4, [Segment(0, note(b"CORE\0", 1, b"n" * 336), 0, kind=NOTE), Segment(0x10000, data, 6)])
+        for name, pack in PACKERS.items():
+            packed = pack(whole)
+            new, said = self.new(packed[: len(packed) * 7 // 8], Wishes())
+            self.assertIn("breaks off", said)
+            if new.startswith(b"\x7fELF"):
+                self.assertIn("; core is cut: ", said)
+                here, there = reader(whole).loads[0].data, reader(new).loads[0].data
+                self.assertEqual(here[: len(there)], there)
+
+    def test_no_program(self):
+        path = os.environ["PATH"]
+        self.addCleanup(os.environ.__setitem__, "PATH", path)
+        os.environ["PATH"] = str(self.folder)
+        for head, name in ((b"\x28\xb5\x2f\xfd", "zstd"), (b"\x04\x22\x4d\x18", "lz4")):
+            with self.assertRaises(Unprepared) as caught:
+                self.prepare(head + bytes(100))
+            self.assertIn(f"install the program {name}", str(caught.exception))
+            self.assertEqual(caught.exception.status, 127)
+
+    def test_keep(self):
+        old = core_file([mapped(0x10000, b"/a", 6, pages(1, 0, 2))])
+        self.new(gzip.compress(old), Wishes(keep=str(self.folder / "kept")))
+        self.assertEqual((self.folder / "kept").read_bytes(), old)
+
+
 class Cut(Case):
     """Cores whose end is missing."""
 
@@ -294,6 +362,16 @@ class Real(Case):
             kinds.add((status, out))
             self.assertIn(said.count("\n"), (1, 2, 3))
         self.assertEqual(kinds, {(1, b"")})
+
+    def test_pipe(self):
+        data = small_core(b"/usr/bin/python3.9")
+        for pack, more in ((bytes, ""), (gzip.compress, "; unpacked from gzip")):
+            ends = os.pipe()
+            os.write(ends[1], pack(data))
+            os.close(ends[1])
+            status, out, said = self.tool("/dev/stdin", *self.words, stdin=ends[0])
+            os.close(ends[0])
+            self.assertEqual((status, out, said), (0, TEXT.encode(), f"dump_core: unpacked from a pipe{more}\n"))
 
     def test_closed(self):
         core = self.large()
