@@ -8,8 +8,9 @@ import os
 import re
 import tempfile
 from dataclasses import dataclass, field, replace
-from typing import BinaryIO, List, Optional, Sequence, Tuple
+from typing import BinaryIO, Callable, List, Optional, Sequence, Tuple
 
+from core_gaps import Find, with_gaps
 from core_headers import Header, Piece, copy, headers_of, written
 from core_maps import LOAD, NOTE, WRITABLE, notes_of, read_at
 from core_sparse import Cuts, cut_pieces, cuts_of
@@ -45,6 +46,8 @@ class Wishes:
     """How long a core may be; a longer one is made shorter wherever that is possible."""
     is_forced: bool = False
     """Whether it is cut at all its runs of zero pages, however few."""
+    finder: Callable[[BinaryIO], Find] = lambda file: lambda name: None
+    """What finds the files that a core names."""
 
 
 @dataclass
@@ -126,6 +129,18 @@ def mend_cut(work: Work) -> None:
     work.said.append(f"core is cut: {length} of {wanted} bytes; what is there is shown")
 
 
+# ---- cores that leave out maps
+
+
+def fill_gaps(work: Work, wishes: Wishes) -> None:
+    """Adds the maps of the file table that no segment covers."""
+    headers = with_gaps(work.headers, entries_of(work.file, work.headers), wishes.finder(work.file))
+    count = len(headers) - len(work.headers)
+    if count:
+        work.headers = headers
+        work.said.append(f"{count} {'map' if count == 1 else 'maps'} of its file table added")
+
+
 # ---- cores of zero pages
 
 
@@ -182,6 +197,7 @@ def mended(file: BinaryIO, wishes: Wishes) -> Optional[Work]:
     mend_cut(work)
     if shares_bytes(work):
         return None
+    fill_gaps(work, wishes)
     cut_zeros(work, wishes)
     return work if work.said else None
 

@@ -15,12 +15,12 @@ import argparse
 import os
 import sys
 from pathlib import Path
-from typing import BinaryIO, Dict, List, Optional, Tuple
+from typing import BinaryIO, Callable, Dict, List, Optional, Tuple
 
 # (what only looks at a core leaves nothing behind)
 sys.dont_write_bytecode = True
 
-from core_maps import Use, Wanted, build_id, is_text, machine_of, wanted_files
+from core_maps import Use, Wanted, build_id, builds_in, is_text, machine_of, maps_of, wanted_files
 from core_prepare import Prepared, Unprepared, Wishes, available, prepared
 from core_run import run_over
 
@@ -159,6 +159,25 @@ def free_memory() -> Optional[int]:
         return None
 
 
+def finder_below(root: bytes) -> Callable[[BinaryIO], Callable[[bytes], Optional[bytes]]]:
+    """What finds the files of a core that are there, and of its machine and build."""
+
+    def finder(file: BinaryIO) -> Callable[[bytes], Optional[bytes]]:
+        machine, builds = machine_of(file), builds_in(file, maps_of(file))
+
+        def find(name: bytes) -> Optional[bytes]:
+            try:
+                path = path_below(root, name)
+                check_file(path, Wanted(name, frozenset(builds.get(name, ())), Use.LOOKED_INTO), machine)
+            except Missing:
+                return None
+            return path
+
+        return find
+
+    return finder
+
+
 def ready(core: Optional[BinaryIO], words: argparse.Namespace) -> Optional[Prepared]:
     """The core that is prepared, if it has to be. One that stays longer than half of the memory that is free is
     refused, before the program asks for that much."""
@@ -167,7 +186,7 @@ def ready(core: Optional[BinaryIO], words: argparse.Namespace) -> Optional[Prepa
     free = None if words.anyway else free_memory()
     room = None if free is None else free // 2
     try:
-        new = prepared(core, Wishes(words.keep, room))
+        new = prepared(core, Wishes(words.keep, room, finder=finder_below(os.fsencode(words.root))))
     except Unprepared as reason:
         raise Fault(str(reason), reason.status) from None
     if new:

@@ -8,16 +8,19 @@ core is compared with what it prints over the core itself.
 import base64
 import bz2
 import gzip
+import json
 import lzma
 import os
 import random
+import re
 import shutil
 import subprocess
 import sys
 import tempfile
 import unittest
+from dataclasses import replace
 from pathlib import Path
-from typing import Callable, Optional, Tuple
+from typing import Callable, List, Optional, Tuple
 
 from rooms import TOOLS  # (first: it makes the other rooms known)
 
@@ -25,6 +28,7 @@ import core_sparse
 from core_prepare import Prepared, Unprepared, Wishes, prepared
 from core_reader import Reader, reader
 from dump_core import PROGRAM as BUILT
+from find_pythons import pythons
 from made import EXAMPLE, NOTE, Segment, core_file, elf_file, file_table, note
 from row import TEXT, heap
 from rows_dump import PROGRAM as IMAGE, bss
@@ -299,6 +303,121 @@ class Cut(Case):
             old, _ = self.new(whole[:-gone], Wishes())
             self.same(old, new)
             self.assertEqual(said.count("; "), 2)
+
+
+def image(*loads: Segment) -> bytes:
+    """An ELF file of these load segments, each at its own place in the file."""
+    head = bytearray(elf_file(3, [replace(it, data=b"") for it in loads]))
+    for number, it in enumerate(loads):
+        place, row = 64 + 56 * number, it.pages * PAGE + it.start % PAGE
+        head[place + 8 : place + 16] = row.to_bytes(8, "little")
+    return bytes(head)
+
+
+class Gaps(Case):
+    """Cores that leave out maps of their file table."""
+
+    def setUp(self):
+        super().setUp()
+        text = [Segment(0, b"", 4, 0x900), Segment(0x1900, b"", 5, PAGE, pages=1), Segment(0x3F00, b"", 6, 3 * PAGE, pages=2)]
+        self.image = os.fsencode(self.put("image", image(*text)))
+        self.data = os.fsencode(self.put("data", b"data"))
+        self.other = os.fsencode(self.put("other", image(Segment(0, b"", 5, 9 * PAGE, pages=7))))
+
+    def gaps(self, entries: List[Tuple[int, int, bytes]], *maps: Segment) -> Tuple[Reader, str]:
+        """A core with the maps that are added, and what is said."""
+        old = core_file(list(maps), [file_table(entries)])
+
+        def finder(_):
+            return lambda name: name if os.path.isfile(name) else None
+
+        data, said = self.new(old, Wishes(finder=finder))
+        found = reader(data)
+        self.assertEqual(reader(old).bytes_at(), found.bytes_at())
+        self.assertEqual(reader(old).notes, found.notes)
+        self.assertTrue(reader(old).addresses() < found.addresses())
+        return found, said
+
+    def test_flags(self):
+        at = 0x5000000
+        entries = [(at, 0, self.image), (at + PAGE, 1, self.image), (at + 3 * PAGE, 2, self.image)]
+        found, said = self.gaps(entries, mapped(at - PAGE, None, 6, b"low"), mapped(at + PAGE * 9, None, 6, b"high"))
+        self.assertEqual(said, "3 maps of its file table added")
+        self.assertEqual(found.names(), [(at, 4, self.image), (at + PAGE, 5, self.image), (at + 3 * PAGE, 6, self.image)])
+        self.assertEqual([it.start for it in found.loads], sorted(it.start for it in found.loads))
+        self.assertEqual([len(it.data) for it in found.loads], [3, 0, 0, 0, 4])
+
+    def test_files(self):
+        # (a file that is gone may be the program's, a file of data is none, and another build's has no such place)
+        gone, at = b"/none/such", 0x5000000
+        entries = [(at, 0, gone), (at + PAGE, 0, self.data), (at + 2 * PAGE, 0, self.image), (at + 3 * PAGE, 3, self.image)]
+        entries += [(at + 5 * PAGE, 0, self.other), (at + 9 * PAGE, 1, b"")]
+        found, _ = self.gaps(entries, mapped(at - PAGE, None, 6, b"low"))
+        flags = [(name, flags) for _, flags, name in found.names()]
+        wanted = [(gone, 7), (self.data, 6), (self.image, 4), (self.image, 6), (self.other, 6)]
+        self.assertEqual(flags, wanted)
+
+    def test_covered(self):
+        # (what meets a segment is covered, also by one that has no bytes)
+        at = 0x5000000
+        maps = [mapped(at, None, 4, b"", size=2 * PAGE), mapped(at + 5 * PAGE + 5, None, 6, b"x")]
+        entries = [(at + PAGE, 0, self.image), (at + 2 * PAGE, 1, self.image), (at + 5 * PAGE, 0, self.image)]
+        found, said = self.gaps(entries, *maps)
+        self.assertEqual((said, [it.start for it in found.loads]), (
+            "1 map of its file table added", [at, at + 2 * PAGE, at + 5 * PAGE + 5]))
+
+    def test_whole(self):
+        self.assertIsNone(self.prepare(core_file([mapped(0x10000, self.image, 5, b"x")]), Wishes()))
+        bad = [file_table([]), file_table([(0, 0, b""), ((1 << 64) - 2 * PAGE, 0, b"")])]
+        self.assertIsNone(self.prepare(core_file([mapped(0x10000, None, 5, b"x")], bad), Wishes()))
+
+
+def told_by(python: str, *words: str) -> Tuple[subprocess.Popen, dict]:
+    """A child of a Python, and what it says."""
+    child = str(Path(__file__).resolve().with_name("prepare_child.py"))
+    command, environment = [python, "-E", "-S", child, *words], {**os.environ, "MALLOC_ARENA_MAX": "1"}
+    process = subprocess.Popen(command, env=environment, stdout=subprocess.PIPE, stderr=subprocess.DEVNULL)
+    assert process.stdout is not None
+    line = process.stdout.readline()
+    return process, json.loads(line) if line else {}
+
+
+def printed(text: str) -> List[List[List[str]]]:
+    """The frames of each thread in a report: functions and files."""
+    threads = [it.splitlines()[1:] for it in re.split(r"^Thread ", text, flags=re.MULTILINE)[1:]]
+    return [[list(re.fullmatch(r"    (.*?) \((.*?)(?::\d+)?\)", line).groups()) for line in its] for its in threads]
+
+
+@unittest.skipUnless(PROGRAM.is_file(), "the program isn't built")
+@unittest.skipUnless(shutil.which("gdb"), "there is no gdb")
+class Gcore(Case):
+    """Cores of gdb, of each Python that is here."""
+
+    def gcore(self, python: str) -> Optional[dict]:
+        """What a child says of whom a core is taken, or nothing where it can't be taken."""
+        process, told = told_by(python)
+        try:
+            command = ["gdb", "-nx", "-batch", "-p", str(told.get("pid", 0)), "-ex", f"gcore {self.folder / 'core'}"]
+            quiet = {"stdin": subprocess.DEVNULL, "stdout": subprocess.DEVNULL, "stderr": subprocess.DEVNULL}
+            subprocess.run(command, timeout=60, **quiet)
+        finally:
+            process.kill()
+            process.communicate()
+        return told if told and (self.folder / "core").is_file() else None
+
+    def test_gcore(self):
+        for python in pythons():
+            told = self.gcore(python)
+            if told is None:
+                print(f"test_prepare: no core of {python} was taken", flush=True)
+                continue
+            status, out, said = self.tool(self.folder / "core")
+            self.assertEqual(status, 0, (python, said))
+            self.assertIn("of its file table added", said)
+            threads = printed(out.decode())
+            self.assertEqual(threads[0], [["<module>", told["file"]]], python)
+            self.assertEqual(sorted(threads[1:]), sorted(told["others"]), python)
+            (self.folder / "core").unlink()
 
 
 @unittest.skipUnless(PROGRAM.is_file(), "the program isn't built")
