@@ -8,13 +8,13 @@ import os
 import re
 import tempfile
 from dataclasses import dataclass, field, replace
-from typing import BinaryIO, Callable, List, Optional, Sequence, Tuple
+from typing import BinaryIO, Callable, List, Optional, Tuple
 
-from core_gaps import Find, with_gaps
+from core_gaps import READABLE, Find, at_maps, table_note, with_gaps
 from core_headers import Header, Piece, copy, headers_of, written
 from core_maps import LOAD, NOTE, WRITABLE, notes_of, read_at
 from core_sparse import Cuts, cut_pieces, cuts_of
-from core_tables import entries_of
+from core_tables import Entry, entries_of
 from core_unpack import NoSpace, NoUnpacker, unpacked
 
 LEAST = 64 << 20
@@ -46,6 +46,8 @@ class Wishes:
     """How long a core may be; a longer one is made shorter wherever that is possible."""
     is_forced: bool = False
     """Whether it is cut at all its runs of zero pages, however few."""
+    maps: Tuple[Entry, ...] = ()
+    """The mappings of files by a copy of /proc/PID/maps, for a core that has no file table."""
     finder: Callable[[BinaryIO], Find] = lambda file: lambda name: None
     """What finds the files that a core names."""
 
@@ -56,6 +58,8 @@ class Work:
 
     file: BinaryIO
     headers: List[Header]
+    maps: Tuple[Entry, ...] = ()
+    """The mappings of a file table that is written beside those of the core."""
     pieces: List[Piece] = field(default_factory=list)
     said: List[str] = field(default_factory=list)
     """What was done."""
@@ -64,6 +68,20 @@ class Work:
     def length(self) -> int:
         """How many bytes the file has."""
         return os.fstat(self.file.fileno()).st_size
+
+    @property
+    def entries(self) -> List[Entry]:
+        """The entries of its file tables, the one that is written last."""
+        return [*entries_of(self.file, self.headers), *self.maps]
+
+    @property
+    def all_pieces(self) -> List[Piece]:
+        """What is written: its segments, and the file table."""
+        pieces = self.pieces or [Piece(it) for it in self.headers]
+        if not self.maps:
+            return pieces
+        table = table_note(self.maps)
+        return [*pieces, Piece(Header(NOTE, READABLE, 0, 0, 0, len(table), 0), data=table)]
 
 
 @dataclass(frozen=True)
@@ -77,6 +95,11 @@ class Prepared:
 def megabytes(size: int) -> str:
     """A size within a line."""
     return f"{size / 1e6:.0f} MB" if size >= 10_000_000 else f"{size / 1e6:.1f} MB"
+
+
+def counted(count: int) -> str:
+    """A number of maps within a line."""
+    return "1 map" if count == 1 else f"{count} maps"
 
 
 def available(text: str) -> Optional[int]:
@@ -133,12 +156,15 @@ def mend_cut(work: Work) -> None:
 
 
 def fill_gaps(work: Work, wishes: Wishes) -> None:
-    """Adds the maps of the file table that no segment covers."""
-    headers = with_gaps(work.headers, entries_of(work.file, work.headers), wishes.finder(work.file))
+    """Adds the maps of the file tables that no segment covers, of which one may be written anew."""
+    if wishes.maps:
+        work.headers, work.maps = at_maps(work.headers, wishes.maps), wishes.maps
+        work.said.append(f"a file table of {counted(len(work.maps))} written")
+    headers = with_gaps(work.headers, work.entries, wishes.finder(work.file))
     count = len(headers) - len(work.headers)
     if count:
         work.headers = headers
-        work.said.append(f"{count} {'map' if count == 1 else 'maps'} of its file table added")
+        work.said.append(f"{counted(count)} of its file table added")
 
 
 # ---- cores of zero pages
@@ -160,7 +186,7 @@ def cut_zeros(work: Work, wishes: Wishes) -> None:
     """Cuts the segments at their runs of zero pages, where there are many."""
     if not wishes.is_forced and work.length < LEAST:
         return
-    named = {it.start for it in entries_of(work.file, work.headers)}
+    named = {it.start for it in work.entries}
     cuts = cuts_of(work.file.fileno(), work.headers, named)
     if is_worth(cuts, work, wishes):
         work.pieces = cut_pieces(work.headers, cuts, named)
@@ -219,9 +245,8 @@ def kept(new: Prepared, wishes: Wishes) -> Prepared:
 def finished(work: Work, wishes: Wishes) -> Prepared:
     """Writes the core that was prepared."""
     new = new_file(wishes.keep)
-    pieces: Sequence[Piece] = work.pieces or [Piece(it) for it in work.headers]
     try:
-        written(work.file.fileno(), pieces, new.fileno())
+        written(work.file.fileno(), work.all_pieces, new.fileno())
     except OSError as error:
         new.close()
         where = wishes.keep or f"a file in {tempfile.gettempdir()} (TMPDIR names another folder)"

@@ -21,8 +21,10 @@ from typing import BinaryIO, Callable, Dict, List, Optional, Tuple
 sys.dont_write_bytecode = True
 
 from core_maps import Use, Wanted, build_id, builds_in, is_text, machine_of, maps_of, wanted_files
+from core_gaps import entries_in
 from core_prepare import Prepared, Unprepared, Wishes, available, prepared
 from core_run import run_over
+from core_tables import Entry
 
 ROOT = Path(__file__).resolve().parent.parent
 PROGRAM = ROOT / "crates" / "pystacks" / "out" / "pystacks"
@@ -178,6 +180,19 @@ def finder_below(root: bytes) -> Callable[[BinaryIO], Callable[[bytes], Optional
     return finder
 
 
+def maps_in(path: str) -> Tuple[Entry, ...]:
+    """The mappings of files in a copy of /proc/PID/maps, if one is named."""
+    if not path:
+        return ()
+    try:
+        found = tuple(entries_in(Path(path).read_bytes()))
+    except OSError as error:
+        raise Fault(f"cannot read {shown(os.fsencode(path))}: {error.strerror}", BAD_WORDS) from None
+    if not found:
+        raise Fault(f"{shown(os.fsencode(path))} has no line of a mapped file, as /proc/PID/maps has them", BAD_WORDS)
+    return found
+
+
 def ready(core: Optional[BinaryIO], words: argparse.Namespace) -> Optional[Prepared]:
     """The core that is prepared, if it has to be. One that stays longer than half of the memory that is free is
     refused, before the program asks for that much."""
@@ -186,7 +201,8 @@ def ready(core: Optional[BinaryIO], words: argparse.Namespace) -> Optional[Prepa
     free = None if words.anyway else free_memory()
     room = None if free is None else free // 2
     try:
-        new = prepared(core, Wishes(words.keep, room, finder=finder_below(os.fsencode(words.root))))
+        finder = finder_below(os.fsencode(words.root))
+        new = prepared(core, Wishes(words.keep, room, maps=maps_in(words.maps), finder=finder))
     except Unprepared as reason:
         raise Fault(str(reason), reason.status) from None
     if new:
@@ -244,6 +260,7 @@ def main() -> int:
     parser.add_argument("--program", metavar="P", help="the built program (default: the one in crates/pystacks/out)")
     parser.add_argument("--layouts", metavar="FILE", help=f"the layout file (default: layouts/{LAYOUTS.name})")
     parser.add_argument("--keep", metavar="FILE", default="", help="keep the core that was prepared in this new file")
+    parser.add_argument("--maps", metavar="FILE", default="", help="a copy of /proc/PID/maps, for a core without a file table")
     parser.add_argument("--anyway", action="store_true", help="read a core that is longer than half of the free memory")
     try:
         return run(parser.parse_args())

@@ -18,6 +18,7 @@ import subprocess
 import sys
 import tempfile
 import unittest
+from concurrent.futures import ThreadPoolExecutor
 from dataclasses import replace
 from pathlib import Path
 from typing import Callable, List, Optional, Tuple
@@ -25,6 +26,7 @@ from typing import Callable, List, Optional, Tuple
 from rooms import TOOLS  # (first: it makes the other rooms known)
 
 import core_sparse
+from core_gaps import entries_in
 from core_prepare import Prepared, Unprepared, Wishes, prepared
 from core_reader import Reader, reader
 from dump_core import PROGRAM as BUILT
@@ -372,6 +374,37 @@ class Gaps(Case):
         self.assertIsNone(self.prepare(core_file([mapped(0x10000, None, 5, b"x")], bad), Wishes()))
 
 
+class Maps(Case):
+    """Cores without a file table, and a copy of /proc/PID/maps."""
+
+    def setUp(self):
+        super().setUp()
+        loads = [Segment(0, b"", 4, 0x900), Segment(0x1900, b"", 5, PAGE, pages=1)]
+        self.image = os.fsencode(self.put("image", image(*loads)))
+
+    def test_maps(self):
+        at = 0x5000000
+        text = f"{at:x}-{at + PAGE:x} r--p 00000000 08:01 12  {self.folder}/image\n"
+        text += f"{at + PAGE:x}-{at + 2 * PAGE:x} r-xp 00001000 08:01 12        {self.folder}/image\n"
+        text += f"{at + 2 * PAGE:x}-{at + 4 * PAGE:x} rw-p 00000000 00:00 0 \n{at:x}-{at:x} r--p 0 0:0 1 /empty\n"
+        text += f"{at + 8 * PAGE:x}-{at + 9 * PAGE:x} rw-p 00000000 00:00 0 [heap]\nnonsense\n"
+        text += f"{at + 9 * PAGE:x}-{at + 10 * PAGE:x} rw-s 00003000 00:00 5 /a\\012b (deleted)\n"
+        maps = tuple(entries_in(text.encode()))
+        wanted = [(at, at + PAGE, 0, self.image), (at + PAGE, at + 2 * PAGE, PAGE, self.image)]
+        wanted.append((at + 9 * PAGE, at + 10 * PAGE, 3 * PAGE, b"/a\nb (deleted)"))
+        self.assertEqual([(it.start, it.end, it.offset, it.name) for it in maps], wanted)
+        old = core_file([mapped(at + PAGE, None, 5, pages(1, 2, 3)[:-9], size=3 * PAGE)], [note(b"CORE\0", 1, b"n" * 336)])
+        new, said = self.new(old, Wishes(maps=maps, finder=lambda _: lambda name: name if os.path.isfile(name) else None))
+        found = reader(new)
+        self.assertEqual(said, "a file table of 3 maps written; 2 maps of its file table added")
+        self.assertEqual(found.bytes_at(), reader(old).bytes_at())
+        self.assertEqual(found.notes[:1], reader(old).notes)
+        self.assertEqual([it.start for it in found.loads], [at, at + PAGE, at + 2 * PAGE, at + 9 * PAGE])
+        names = [(at, 4, self.image), (at + PAGE, 5, self.image), (at + 9 * PAGE, 7, b"/a\nb (deleted)")]
+        self.assertEqual(found.names(), names)
+        self.assertEqual([len(it.data) for it in found.loads], [0, PAGE, 2 * PAGE - 9, 0])
+
+
 def told_by(python: str, *words: str) -> Tuple[subprocess.Popen, dict]:
     """A child of a Python, and what it says."""
     child = str(Path(__file__).resolve().with_name("prepare_child.py"))
@@ -393,31 +426,42 @@ def printed(text: str) -> List[List[List[str]]]:
 class Gcore(Case):
     """Cores of gdb, of each Python that is here."""
 
-    def gcore(self, python: str) -> Optional[dict]:
+    def gcore(self, python: str, core: Path) -> Optional[dict]:
         """What a child says of whom a core is taken, or nothing where it can't be taken."""
         process, told = told_by(python)
         try:
-            command = ["gdb", "-nx", "-batch", "-p", str(told.get("pid", 0)), "-ex", f"gcore {self.folder / 'core'}"]
+            plain = ["-nx", "-batch", "--readnever", "-iex", "set auto-solib-add off"]
+            command = ["gdb", *plain, "-p", str(told.get("pid", 0)), "-ex", f"gcore {core}"]
             quiet = {"stdin": subprocess.DEVNULL, "stdout": subprocess.DEVNULL, "stderr": subprocess.DEVNULL}
             subprocess.run(command, timeout=60, **quiet)
         finally:
             process.kill()
             process.communicate()
-        return told if told and (self.folder / "core").is_file() else None
+        return told if told and core.is_file() else None
+
+    def shown(self, python: str, number: int) -> Tuple[str, Optional[dict], int, str, str]:
+        """What a core of a Python comes to, beside the process's own words."""
+        core = self.folder / str(number)
+        told = self.gcore(python, core)
+        if told is None:
+            return python, None, 0, "", ""
+        status, out, said = self.tool(core)
+        core.unlink()
+        return python, told, status, out.decode("utf-8", "replace"), said
 
     def test_gcore(self):
-        for python in pythons():
-            told = self.gcore(python)
+        found = pythons()
+        with ThreadPoolExecutor(4) as pool:
+            results = list(pool.map(self.shown, found, range(len(found))))
+        for python, told, status, out, said in results:
             if told is None:
                 print(f"test_prepare: no core of {python} was taken", flush=True)
                 continue
-            status, out, said = self.tool(self.folder / "core")
             self.assertEqual(status, 0, (python, said))
             self.assertIn("of its file table added", said)
-            threads = printed(out.decode())
+            threads = printed(out)
             self.assertEqual(threads[0], [["<module>", told["file"]]], python)
             self.assertEqual(sorted(threads[1:]), sorted(told["others"]), python)
-            (self.folder / "core").unlink()
 
 
 @unittest.skipUnless(PROGRAM.is_file(), "the program isn't built")
@@ -465,6 +509,16 @@ class Real(Case):
         self.assertEqual((status, out), (0, TEXT.encode()))
         self.assertEqual(said, f"dump_core: the core needs no preparing, and {self.folder / 'kept'} isn't written\n")
         self.assertFalse((self.folder / "kept").exists())
+
+    def test_maps(self):
+        whole = core_file([heap().segment(6), Segment(0x400000, b"", 5, 0x1000), bss()])
+        core, maps = self.put("core", whole), self.put("maps", b"400000-401000 r-xp 00000000 08:01 7 /usr/bin/python3.9\n")
+        status, out, said = self.tool(core, *self.words, "--maps", maps)
+        self.assertEqual((status, out, said), (0, TEXT.encode(), "dump_core: a file table of 1 map written\n"))
+        for name, line in (("none", "cannot read "), ("core", f"{core} has no line of a mapped file")):
+            status, out, said = self.tool(core, *self.words, "--maps", self.folder / name)
+            self.assertEqual((status, out), (2, b""))
+            self.assertTrue(said.startswith(f"dump_core: {line}"), said)
 
     def test_fault(self):
         core = self.large()
