@@ -235,7 +235,8 @@ def kept(new: Prepared, wishes: Wishes) -> Prepared:
     file = new_file(wishes.keep)
     length = os.fstat(new.file.fileno()).st_size
     try:
-        copy(new.file.fileno(), 0, length, file.fileno(), 0)
+        with new.file:
+            copy(new.file.fileno(), 0, length, file.fileno(), 0)
         file.truncate(length)
     except OSError as error:
         raise Unprepared(f"cannot write {wishes.keep}: {error.strerror}") from None

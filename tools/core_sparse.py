@@ -15,7 +15,7 @@ from core_maps import EXECUTABLE, LOAD, WRITABLE
 SHORTEST = 4 * PAGE
 """The shortest run at which a segment is cut."""
 
-ZEROS = 4 << 20
+ZEROS = 2 << 20
 """How long the block of zero bytes may be; a longer run has several headers."""
 
 MOST_HEADERS = 60_000

@@ -27,9 +27,9 @@ from rooms import TOOLS  # (first: it makes the other rooms known)
 
 import core_sparse
 from core_gaps import entries_in
-from core_prepare import Prepared, Unprepared, Wishes, prepared
+from core_prepare import Prepared, Unprepared, Wishes, available, prepared
 from core_reader import Reader, reader
-from dump_core import PROGRAM as BUILT
+from dump_core import LONGEST, PROGRAM as BUILT, free_memory
 from find_pythons import pythons
 from made import EXAMPLE, NOTE, Segment, core_file, elf_file, file_table, note
 from row import TEXT, heap
@@ -37,6 +37,7 @@ from rows_dump import PROGRAM as IMAGE, bss
 from test_dump_core import mapped, small_core
 
 PAGE = 4096
+MIB = 1 << 20
 PROGRAM = Path(os.environ.get("PYSTACKS", BUILT))
 """The built program; another one can be named."""
 
@@ -170,6 +171,18 @@ class Sparse(Case):
         whole[64 + 56 + 8 : 64 + 56 + 16], whole[64 + 56 + 32 : 64 + 56 + 40] = whole[72:80], whole[96:104]
         self.assertIsNone(self.prepare(bytes(whole)), "segments that share bytes")
 
+    def test_room(self):
+        # (what is longer than there is room for is made shorter, however little that is)
+        old = core_file([mapped(0x1000, None, 6, bytes(17000 * PAGE) + pages(*[1] * 18000))])
+        self.assertIsNone(self.prepare(old, Wishes(room=len(old))))
+        new, said = self.new(old, Wishes(room=len(old) - 1))
+        self.assertLess(len(new), len(old) - 60 * MIB)
+        self.assertEqual(said, "70 MB of 143 MB are zero pages, and left out")
+
+    def test_available(self):
+        self.assertEqual(available("MemTotal: 9 kB\nMemFree: 8 kB\nMemAvailable:    7 kB\n"), 7168)
+        self.assertIsNone(available("MemTotal: 9 kB\n"))
+
     def test_large(self):
         # (a file of holes)
         path = self.put("core", core_file([mapped(0x100000, None, 6, b"")]))
@@ -191,7 +204,7 @@ class Sparse(Case):
         for place in (0, 1 << 30, size - 1):
             self.assertEqual(found.read(0x100000 + place, 1), b"x")
         self.assertEqual(sum(it.data.count(b"x") for it in found.loads), 3)
-        self.assertLess(len({it.start for it in found.loads}), 800)
+        self.assertLess(len({it.start for it in found.loads}), 1600)
 
 
 def apport(data: bytes) -> bytes:
@@ -545,6 +558,24 @@ class Real(Case):
             status, out, said = self.tool("/dev/stdin", *self.words, stdin=ends[0])
             os.close(ends[0])
             self.assertEqual((status, out, said), (0, TEXT.encode(), f"dump_core: unpacked from a pipe{more}\n"))
+
+    def test_too_long(self):
+        free = free_memory()
+        if free is None or free // 2 >= LONGEST:
+            self.skipTest("the longest core is not too long here")
+        # (the map of an executable file stays whole)
+        core = self.put("core", core_file([mapped(0x10000, b"/usr/bin/python3.9", 5, b"")]))
+        data = bytearray(core.read_bytes())
+        data[96:112] = (LONGEST - PAGE).to_bytes(8, "little") * 2
+        core.write_bytes(data)
+        os.truncate(core, LONGEST)
+        status, out, said = self.tool(core, *self.words)
+        self.assertEqual((status, out, said.count("\n")), (5, b"", 1))
+        self.assertTrue(said.startswith(f"dump_core: {core} has {LONGEST} bytes, more than half of the "), said)
+        self.assertTrue(said.endswith(" that are free (--anyway tries it)\n"), said)
+        fake = self.put("fake", b"#!/bin/sh\necho read\n")
+        fake.chmod(0o700)
+        self.assertEqual(self.tool(core, *self.words, "--anyway", "--program", fake)[:2], (0, b"read\n"))
 
     def test_closed(self):
         core = self.large()
