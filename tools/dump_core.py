@@ -7,7 +7,7 @@
 
 The text and the status are those of the program. Handed over are the layouts of all versions and the images of the
 files that the process had mapped: that of Python's library and that of the program that ran, into which the program
-looks, and those from which it reads bytes that the core leaves out; each under the path that the core has for it.
+looks, and with -l those from which it reads bytes that the core leaves out; each under the path that the core has for it.
 One line on the standard error names those of the first two that are missing. Nothing is written.
 """
 
@@ -241,7 +241,8 @@ def run(words: argparse.Namespace) -> int:
     new = ready(core, words)
     machine, files = read_core(new.file if new else core)
     command = command_of(words, f"/proc/self/fd/{new.file.fileno()}" if new else words.core, machine)
-    command += image_words(files, os.fsencode(words.root), machine)
+    shown_files = [it for it in files if words.locals or it.use is not Use.MEMORY]
+    command += image_words(shown_files, os.fsencode(words.root), machine)
     try:
         if new:
             return run_over(command, new.file.fileno(), os.fsencode(words.core))

@@ -36,7 +36,7 @@ from rooms import ROOT  # (first: it makes the other rooms known)
 
 import child_cores
 from child_cores import CASES, Core, Failure, Skip, Thread, Told, core_names, leave_core
-from core_maps import machine_of, wanted_files
+from core_maps import Use, machine_of, wanted_files
 from core_prepare import Wishes, prepared
 from derive_layout import Build, Derived, DeriveError, How, build_of, derive, same_version, told_of
 from dump_core import image_words
@@ -125,15 +125,17 @@ def walk(program: Path, core: Core, layouts: Path, build: Build, lock: int) -> W
 
 
 @lru_cache(maxsize=16)
-def images_of(core: Path) -> Tuple[str, ...]:
-    """The words for the images of a core that are there."""
+def images_of(core: Path, with_locals: bool = True) -> Tuple[str, ...]:
+    """The words for the images of a core that are there: all, or those that a report without locals needs."""
     with open(core, "rb") as file:
-        return tuple(os.fsdecode(it) for it in image_words(wanted_files(file), b"", machine_of(file)))
+        files = [it for it in wanted_files(file) if with_locals or it.use is not Use.MEMORY]
+        return tuple(os.fsdecode(it) for it in image_words(files, b"", machine_of(file)))
 
 
 def dump(program: Path, core: Core, layouts: Path, *options: str) -> Walk:
-    """Reports a core, with the images that are there."""
-    return ran([program, "dump", "-c", core.path, "--layouts", layouts, *options, *images_of(core.path)])
+    """Reports a core, with the images that are there and that are needed."""
+    images = images_of(core.path, "-l" in options)
+    return ran([program, "dump", "-c", core.path, "--layouts", layouts, *options, *images])
 
 
 def report_of(told: Told, core: str, with_names: bool, with_holder: bool) -> str:
