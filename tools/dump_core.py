@@ -7,20 +7,25 @@
 
 The text and the status are those of the program. Handed over are the layouts of all versions on the core's machine and
 the images of the files that the process had mapped: that of Python's library and that of the program that ran, into
-which the program looks, and those from which it reads bytes that the core leaves out; each under the path that the core
-has for it. One line on the standard error names those of the first two that are missing. Nothing is written.
+which the program looks, and with -l those from which it reads bytes that the core leaves out; each under the path that
+the core has for it. One line on the standard error names those of the first two that are missing. A core that the
+program can't read as it is, or only dearly, is prepared: another file is written.
 """
 
 import argparse
 import os
 import sys
 from pathlib import Path
-from typing import Dict, List, Optional, Tuple
+from typing import BinaryIO, Callable, Dict, List, Optional, Tuple
 
 # (what only looks at a core leaves nothing behind)
 sys.dont_write_bytecode = True
 
-from core_maps import Use, Wanted, build_id, is_text, machine_of, wanted_files
+from core_maps import Use, Wanted, build_id, builds_in, is_text, machine_of, maps_of, wanted_files
+from core_gaps import entries_in
+from core_prepare import Prepared, Unprepared, Wishes, available, prepared
+from core_run import run_over
+from core_tables import Entry
 
 ROOT = Path(__file__).resolve().parent.parent
 PROGRAM = ROOT / "crates" / "pystacks" / "out" / "pystacks"
@@ -43,6 +48,7 @@ MOST = 1000
 """The most images that are handed over beside the two that the program looks into."""
 
 BAD_WORDS = 2
+NO_ROOM = 5
 NO_PROGRAM = 127
 
 
@@ -131,13 +137,85 @@ def image_words(files: List[Wanted], root: bytes, machine: Optional[int]) -> Lis
     return words
 
 
-def read_core(path: str) -> Tuple[Optional[int], List[Wanted]]:
+def read_core(file: Optional[BinaryIO]) -> Tuple[Optional[int], List[Wanted]]:
     """The machine and the files of a core. Where it can't be read there are none; the program has a line for it."""
+    if file is None:
+        return None, []
     try:
-        with open(path, "rb") as file:
-            return machine_of(file), wanted_files(file)
+        return machine_of(file), wanted_files(file)
     except OSError:
         return None, []
+
+
+def opened(path: str) -> Optional[BinaryIO]:
+    """The core's file, where it can be read; the program has a line for another."""
+    try:
+        return open(path, "rb")
+    except OSError:
+        return None
+
+
+def free_memory() -> Optional[int]:
+    """How much memory the system has free, where it tells."""
+    try:
+        return available(Path("/proc/meminfo").read_text(encoding="ascii", errors="replace"))
+    except OSError:
+        return None
+
+
+def finder_below(root: bytes) -> Callable[[BinaryIO], Callable[[bytes], Optional[bytes]]]:
+    """What finds the files of a core that are there, and of its machine and build."""
+
+    def finder(file: BinaryIO) -> Callable[[bytes], Optional[bytes]]:
+        machine, builds = machine_of(file), builds_in(file, maps_of(file))
+
+        def find(name: bytes) -> Optional[bytes]:
+            try:
+                path = path_below(root, name)
+                check_file(path, Wanted(name, frozenset(builds.get(name, ())), Use.LOOKED_INTO), machine)
+            except Missing:
+                return None
+            return path
+
+        return find
+
+    return finder
+
+
+def maps_in(path: str) -> Tuple[Entry, ...]:
+    """The mappings of files in a copy of /proc/PID/maps, if one is named."""
+    if not path:
+        return ()
+    try:
+        found = tuple(entries_in(Path(path).read_bytes()))
+    except OSError as error:
+        raise Fault(f"cannot read {shown(os.fsencode(path))}: {error.strerror}", BAD_WORDS) from None
+    if not found:
+        raise Fault(f"{shown(os.fsencode(path))} has no line of a mapped file, as /proc/PID/maps has them", BAD_WORDS)
+    return found
+
+
+def ready(core: Optional[BinaryIO], words: argparse.Namespace) -> Optional[Prepared]:
+    """The core that is prepared, if it has to be. One that stays longer than half of the memory that is free is
+    refused, before the program asks for that much."""
+    if core is None:
+        return None
+    free = None if words.anyway else free_memory()
+    room = None if free is None else free // 2
+    try:
+        finder = finder_below(os.fsencode(words.root))
+        new = prepared(core, Wishes(words.keep, room, maps=maps_in(words.maps), finder=finder))
+    except Unprepared as reason:
+        raise Fault(str(reason), reason.status) from None
+    if new:
+        print(f"dump_core: {'; '.join(new.said)}", file=sys.stderr, flush=True)
+    elif words.keep:
+        print(f"dump_core: the core needs no preparing, and {words.keep} isn't written", file=sys.stderr, flush=True)
+    length = os.fstat((new.file if new else core).fileno()).st_size
+    if room is not None and room < length <= LONGEST:
+        line = f"{shown(os.fsencode(words.core))} has {length} bytes, more than half of the {free} that are free"
+        raise Fault(f"{line} (--anyway tries it)", NO_ROOM)
+    return new
 
 
 def layouts_of(machine: Optional[int]) -> Path:
@@ -149,22 +227,34 @@ def layouts_of(machine: Optional[int]) -> Path:
     return LAYOUTS.with_name(f"cpython-{MACHINES[machine]}.toml")
 
 
-def run(words: argparse.Namespace) -> None:
-    """Becomes the program."""
+def command_of(words: argparse.Namespace, core: str, machine: Optional[int]) -> List[bytes]:
+    """The program's words without those of images."""
+    layouts = os.fspath(words.layouts or layouts_of(machine))
+    program = words.program or PROGRAM
+    command = [os.fsencode(it) for it in (program, "dump", f"--core={core}", f"--layouts={layouts}")]
+    command += [b"-l"] * words.locals + [b"-j"] * words.json
+    for word in [os.fsencode(words.core), *command[1:]]:
+        if not is_text(word):
+            raise Fault(f"a name that is not UTF-8 can't be handed over: {shown(word)}", BAD_WORDS)
+    return command
+
+
+def run(words: argparse.Namespace) -> int:
+    """Becomes the program, or runs it over the core that was prepared, and returns its status."""
     program = words.program or PROGRAM
     if not os.path.isfile(program):
         raise Fault(f"there is no program {shown(os.fsencode(program))}: {BUILD} builds it", NO_PROGRAM)
     if words.root and not os.path.isdir(words.root):
         raise Fault(f"there is no folder {shown(os.fsencode(words.root))}", BAD_WORDS)
-    machine, files = read_core(words.core)
-    layouts = os.fspath(words.layouts or layouts_of(machine))
-    command = [os.fsencode(it) for it in (program, "dump", f"--core={words.core}", f"--layouts={layouts}")]
-    command += [b"-l"] * words.locals + [b"-j"] * words.json
-    for word in command[1:]:
-        if not is_text(word):
-            raise Fault(f"a name that is not UTF-8 can't be handed over: {shown(word)}", BAD_WORDS)
-    command += image_words(files, os.fsencode(words.root), machine)
+    core = opened(words.core)
+    new = ready(core, words)
+    machine, files = read_core(new.file if new else core)
+    command = command_of(words, f"/proc/self/fd/{new.file.fileno()}" if new else words.core, machine)
+    shown_files = [it for it in files if words.locals or it.use is not Use.MEMORY]
+    command += image_words(shown_files, os.fsencode(words.root), machine)
     try:
+        if new:
+            return run_over(command, new.file.fileno(), os.fsencode(words.core))
         os.execv(command[0], command)
     except OSError as error:
         raise Fault(f"cannot run {shown(command[0])}: {error.strerror}", NO_PROGRAM) from None
@@ -179,12 +269,14 @@ def main() -> int:
     parser.add_argument("--root", metavar="DIR", default="", help="look for the mapped files below this folder")
     parser.add_argument("--program", metavar="P", help="the built program (default: the one in crates/pystacks/out)")
     parser.add_argument("--layouts", metavar="FILE", help="the layout file (default: the core's machine's in layouts/)")
+    parser.add_argument("--keep", metavar="FILE", default="", help="keep the core that was prepared in this new file")
+    parser.add_argument("--maps", metavar="FILE", default="", help="the process's maps, for a core without a file table")
+    parser.add_argument("--anyway", action="store_true", help="read a core that is longer than half of the free memory")
     try:
-        run(parser.parse_args())
+        return run(parser.parse_args())
     except Fault as fault:
         print(f"dump_core: {fault}", file=sys.stderr)
         return fault.status
-    return 0
 
 
 if __name__ == "__main__":

@@ -29,7 +29,7 @@ from core_maps import Use, machine_of, wanted_files
 from file_tables import TableError, add_file_table, mapped_in
 from derive_layout import Build, Derived, DeriveError, build_of
 from made import AARCH64, X86_64, layout_of
-from real_core import check_footprint, check_report, dump, over_core, ran, report_of
+from real_core import Walk, check_footprint, check_report, dump, over_core, ran, report_of
 
 EMULATOR = "qemu-aarch64"
 
@@ -112,10 +112,17 @@ def check_machine(program: Path, core: Core, layouts: Path, derived: Derived) ->
             file.write(AARCH64.to_bytes(2, "little"))
 
 
+def by_tool(*words: object) -> Walk:
+    """Runs the tool. Its line on zero pages, which it leaves out of a core, is no fault."""
+    run = ran([sys.executable, "-B", TOOLS / "dump_core.py", *words])
+    lines = run.err.splitlines(keepends=True)
+    return replace(run, err="".join(it for it in lines if not it.endswith("are zero pages, and left out\n")))
+
+
 def check_tool(program: Path, core: Core, derived: Derived) -> None:
     """Fails where the tool, which finds layouts and images by itself, doesn't show the same."""
     wanted = report_of(core.told, str(core.path), derived.with_dicts, with_holder=True)
-    check_report(ran([sys.executable, "-B", TOOLS / "dump_core.py", core.path, "--program", program]), wanted)
+    check_report(by_tool(core.path, "--program", program), wanted)
 
 
 def check_other_images(program: Path, core: Core, room: Path) -> None:
@@ -128,8 +135,7 @@ def check_other_images(program: Path, core: Core, room: Path) -> None:
     other = room / "other" / needed[1:]
     other.parent.mkdir(parents=True)
     shutil.copyfile(own, other)
-    words = [core.path, "--program", program, "--root", room / "other"]
-    run = ran([sys.executable, "-B", TOOLS / "dump_core.py", *words])
+    run = by_tool(core.path, "--program", program, "--root", room / "other")
     lines = [f"dump_core: no image of {needed} (needed; {other} is of another machine)"]
     lines.append(f"pystacks: image not given: {needed}")
     if (run.status, run.out, run.err.splitlines()) != (1, "", lines):

@@ -8,7 +8,8 @@ For each installed CPython of 2.7 and 3.6 to 3.13 the layout is derived (derive_
 started and leaves some cores, and the program walks those that have all private mappings. Threads, their order,
 functions and files must be those that the child printed. Then the program reports each core, usual ones too, with the
 images that it needs, and the whole text, byte by byte, must be the one that the child's own words give: signal,
-process, version, threads and their names, functions, files and lines. Names are left out where the layout that was
+process, version, threads and their names, functions, files and lines. Where it is prepared (core_prepare.py), cut at
+all its runs of zero pages, its report must be the same. Names are left out where the layout that was
 derived has no dicts. Where the program `listing` is built, a core in which only those bytes of its memory are left that
 are read for the stacks must have the same stacks. What can't be tried here has one line that says why. The status is 0
 exactly where nothing that was tried failed.
@@ -35,7 +36,8 @@ from rooms import ROOT  # (first: it makes the other rooms known)
 
 import child_cores
 from child_cores import CASES, Core, Failure, Skip, Thread, Told, core_names, leave_core
-from core_maps import machine_of, wanted_files
+from core_maps import Use, machine_of, wanted_files
+from core_prepare import Wishes, prepared
 from derive_layout import Build, Derived, DeriveError, How, build_of, derive, same_version, told_of
 from dump_core import image_words
 from find_pythons import pythons
@@ -123,15 +125,17 @@ def walk(program: Path, core: Core, layouts: Path, build: Build, lock: int) -> W
 
 
 @lru_cache(maxsize=16)
-def images_of(core: Path) -> Tuple[str, ...]:
-    """The words for the images of a core that are there."""
+def images_of(core: Path, with_locals: bool = True) -> Tuple[str, ...]:
+    """The words for the images of a core that are there: all, or those that a report without locals needs."""
     with open(core, "rb") as file:
-        return tuple(os.fsdecode(it) for it in image_words(wanted_files(file), b"", machine_of(file)))
+        files = [it for it in wanted_files(file) if with_locals or it.use is not Use.MEMORY]
+        return tuple(os.fsdecode(it) for it in image_words(files, b"", machine_of(file)))
 
 
 def dump(program: Path, core: Core, layouts: Path, *options: str) -> Walk:
-    """Reports a core, with the images that are there."""
-    return ran([program, "dump", "-c", core.path, "--layouts", layouts, *options, *images_of(core.path)])
+    """Reports a core, with the images that are there and that are needed."""
+    images = images_of(core.path, "-l" in options)
+    return ran([program, "dump", "-c", core.path, "--layouts", layouts, *options, *images])
 
 
 def report_of(told: Told, core: str, with_names: bool, with_holder: bool) -> str:
@@ -267,6 +271,20 @@ def check_dump(program: Path, core: Core, layouts: Path, derived: Derived) -> No
         check_report(run, json_of(core.told, derived, run.out))
 
 
+def check_prepared(program: Path, core: Core, layouts: Path) -> None:
+    """Fails where a core that is cut at all its runs of zero pages has another report, but for the name of its file."""
+    part = replace(core, path=core.path.with_name("prepared"))
+    with open(core.path, "rb") as file:
+        new = prepared(file, Wishes(keep=str(part.path), is_forced=True))
+    if new is None:
+        # (it has no run of zero pages; each real core has some)
+        return
+    new.file.close()
+    runs = [dump(program, it, layouts, "-l") for it in (core, part)]
+    part.path.unlink()
+    check_report(replace(runs[1], out=runs[1].out.replace(str(part.path), str(core.path), 1)), runs[0].out)
+
+
 def check_footprint(program: Path, listing: Path, core: Core, layouts: Path, build: Build) -> Footprint:
     """Walks a core once more, with no bytes of its memory left but those that its stacks are read from."""
     footprint = footprint_of(listing, core.path, layouts, images_of(core.path))
@@ -371,6 +389,7 @@ def over_core(program: Path, derived: Derived, core: Core, room: Path) -> Walk:
             check_holder(program, core, layouts, derived.build)
         notice_wrong(program, core, room, derived)
     check_dump(program, core, layouts, derived)
+    check_prepared(program, core, layouts)
     return run
 
 

@@ -85,13 +85,13 @@ class Case(unittest.TestCase):
         return ran.returncode, ran.stdout, ran.stderr.decode("utf-8", "replace")
 
     def handed(self, core: bytes, *words) -> Tuple[List[bytes], str]:
-        """The words for images that a core comes to, and what was said."""
+        """The words for images that a core comes to with locals, and what was said."""
         path = self.put("core", core)
-        status, out, said = self.tool(path, *words)
+        status, out, said = self.tool(path, "-l", *words)
         self.assertEqual(status, 0, said)
-        expected = [b"dump", b"--core=" + path, b"--layouts=" + os.fsencode(LAYOUTS)]
-        self.assertEqual(out.split(b"\0")[:3], expected)
-        return out.split(b"\0")[3:], said
+        expected = [b"dump", b"--core=" + path, b"--layouts=" + os.fsencode(LAYOUTS), b"-l"]
+        self.assertEqual(out.split(b"\0")[:4], expected)
+        return out.split(b"\0")[4:], said
 
 
 class Words(Case):
@@ -124,6 +124,13 @@ class Words(Case):
         maps += [mapped(0x103000, b"/gone.so", 4), mapped(0x104000, b"/dev/zero", 4)]
         images, said = self.handed(core_file(maps))
         self.assertEqual((images, said), (self.words(self.python, *more, self.library), ""))
+
+    def test_no_locals(self):
+        # (a report without locals reads nothing of other files)
+        maps = [mapped(0x1000, self.python), mapped(0x2000, self.other, 4), mapped(0x3000, self.library)]
+        path = self.put("core", core_file(maps))
+        _, out, said = self.tool(path)
+        self.assertEqual((out.split(b"\0")[3:], said), (self.words(self.python, self.library), ""))
 
     def test_many(self):
         # (a core may name any number of files that are there)
@@ -225,9 +232,9 @@ class Words(Case):
         self.assertIn("(needed; ", said)
         self.assertIn("is of another machine", said)
         path = self.put("core", data[:18] + b"\xb7" + data[19:])
-        status, out, said = self.tool(path, "--layouts", LAYOUTS)
+        status, out, said = self.tool(path, "-l", "--layouts", LAYOUTS)
         self.assertEqual((status, said), (0, ""))
-        self.assertEqual(out.split(b"\0")[3:], self.words(self.python, self.other))
+        self.assertEqual(out.split(b"\0")[4:], self.words(self.python, self.other))
 
     def test_tables(self):
         maps = [mapped(0x1000), mapped(0x2000)]
@@ -251,7 +258,7 @@ class Faults(Case):
     def test_no_core(self):
         whole = core_file([mapped(0x1000, b"/bin/no")])
         table = whole[whole.index(b"CORE") - 12 :]
-        wrong = [b"", b"text", whole[:63], whole[:100], whole[:-30], whole[:5] + b"\2" + whole[6:], table]
+        wrong = [b"", b"text", whole[:63], whole[:100], whole[:5] + b"\2" + whole[6:], table]
         wrong += [whole[:56] + b"\xff\xff" + whole[58:], whole[:32] + b"\xff" * 8 + whole[40:]]
         for data in wrong:
             self.assertEqual(self.handed(data), ([], ""))

@@ -1,0 +1,72 @@
+"""Runs the program over a core that was prepared, with the user's name for the core in place of the file's own.
+
+The name stands at the end of the first line of a report, and in lines of faults. All other bytes are passed on.
+"""
+
+import os
+import resource
+import signal
+import subprocess
+import tempfile
+from typing import BinaryIO, List
+
+CHUNK = 1 << 16
+
+CANNOT_WRITE = 4
+
+
+def write_all(fd: int, data: bytes) -> None:
+    """Writes all of some bytes."""
+    while data:
+        data = data[os.write(fd, data) :]
+
+
+def first_line(line: bytes, own: bytes, name: bytes) -> bytes:
+    """The first line of a report, with the user's name."""
+    end = b": " + own + b"\n"
+    return line[: -len(end)] + b": " + name + b"\n" if line.startswith(b"Signal ") and line.endswith(end) else line
+
+
+def pass_on(stream: BinaryIO, own: bytes, name: bytes) -> None:
+    """Passes the program's text on."""
+    data = first_line(stream.readline(CHUNK), own, name)
+    while data:
+        write_all(1, data)
+        data = stream.read(CHUNK)
+
+
+def end_as(status: int) -> int:
+    """The program's status; where a signal ended it, the same one ends this process."""
+    if status < 0:
+        # (the core of interest is there)
+        resource.setrlimit(resource.RLIMIT_CORE, (0, 0))
+        if -status not in (signal.SIGKILL, signal.SIGSTOP):
+            signal.signal(-status, signal.SIG_DFL)
+        os.kill(os.getpid(), -status)
+    return status
+
+
+def run_over(command: List[bytes], fd: int, name: bytes) -> int:
+    """Runs the program, which reads the core by this descriptor, and returns its status."""
+    own = b"/proc/self/fd/%d" % fd
+    # (the program ends by the same key)
+    signal.signal(signal.SIGINT, signal.SIG_DFL)
+    with tempfile.TemporaryFile() as lines:
+        process = subprocess.Popen(command, pass_fds=[fd], stdout=subprocess.PIPE, stderr=lines)
+        assert process.stdout is not None
+        is_written = True
+        try:
+            pass_on(process.stdout, own, name)
+        except OSError:
+            is_written = False
+        process.stdout.close()
+        status = process.wait()
+        lines.seek(0)
+        said = lines.read().replace(own, name)
+    if not is_written and status in (0, CANNOT_WRITE):
+        status, said = CANNOT_WRITE, b"pystacks: cannot write\n"
+    try:
+        write_all(2, said)
+    except OSError:
+        pass
+    return end_as(status)
