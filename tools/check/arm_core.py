@@ -115,8 +115,8 @@ def check_machine(program: Path, core: Core, layouts: Path, derived: Derived) ->
 def by_tool(*words: object) -> Walk:
     """Runs the tool. Its line on zero pages, which it leaves out of a core, is no fault."""
     run = ran([sys.executable, "-B", TOOLS / "dump_core.py", *words])
-    lines = run.err.splitlines(keepends=True)
-    return replace(run, err="".join(it for it in lines if not it.endswith("are zero pages, and left out\n")))
+    said = [it for it in run.err.splitlines() if not it.endswith("are zero pages, and left out")]
+    return replace(run, err="\n".join(said))
 
 
 def check_tool(program: Path, core: Core, derived: Derived) -> None:
