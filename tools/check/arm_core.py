@@ -26,8 +26,8 @@ from rooms import ROOT, TOOLS  # (first: it makes the other rooms known)
 from carry_layouts import numbers_by_key
 from child_cores import Case, Core, Failure, Skip, leave_core
 from core_maps import Use, machine_of, wanted_files
-from file_tables import TableError, add_file_table, mapped_in
 from derive_layout import Build, Derived, DeriveError, build_of
+from file_tables import TableError, add_file_table, mapped_in
 from made import AARCH64, X86_64, layout_of
 from real_core import Walk, check_footprint, check_report, dump, over_core, ran, report_of
 

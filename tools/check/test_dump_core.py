@@ -17,8 +17,8 @@ from rooms import TOOLS  # (first: it makes the other rooms known)
 
 from carry_layouts import FIRST
 from core_maps import is_library, maps_of, segments_of
-from file_tables import TableError, add_file_table, mapped_in
 from dump_core import LAYOUTS, PROGRAM
+from file_tables import TableError, add_file_table, mapped_in
 from join_layouts import joined, single_files
 from layout_plan import VERSIONS
 from made import AARCH64, EXAMPLE, NOTE, X86_64, Segment, build_id, core_file, elf_file, file_table, note

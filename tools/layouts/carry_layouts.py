@@ -13,12 +13,11 @@ import argparse
 import re
 import sys
 from dataclasses import dataclass
-from pathlib import Path
 from typing import Dict, List, Tuple
 
 from derive_layout import Build, DeriveError, build_of, chain_told, same_version, version_of
 from find_pythons import pythons
-from join_layouts import LAYOUTS
+from join_layouts import LAYOUTS, put
 from layout_plan import VERSIONS, Plan, Version, plan_of
 from layout_sources import Answers, from_headers
 
@@ -161,10 +160,7 @@ def main() -> int:
     if lacking:
         return 1
     text = "\n".join([HEAD.format(machine=words.machine, own=", ".join(own) or "none"), *texts])
-    if words.output:
-        Path(words.output).write_text(text, encoding="utf-8")
-    else:
-        print(text, end="")
+    put(text, words.output)
     return 0
 
 

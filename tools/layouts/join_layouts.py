@@ -7,7 +7,7 @@
 import argparse
 import sys
 from pathlib import Path
-from typing import List
+from typing import List, Optional
 
 from find_pythons import version_key
 
@@ -30,6 +30,14 @@ def joined(files: List[Path], machine: str) -> str:
     return "\n".join([head] + [path.read_text(encoding="utf-8") for path in files])
 
 
+def put(text: str, output: Optional[str]) -> None:
+    """Writes a layout file, or prints it where no file is named."""
+    if output:
+        Path(output).write_text(text, encoding="utf-8")
+    else:
+        print(text, end="")
+
+
 def main() -> int:
     """The command."""
     parser = argparse.ArgumentParser(description=__doc__.splitlines()[0])
@@ -41,10 +49,7 @@ def main() -> int:
         print(f"join_layouts: there is no layout of {words.machine} in {LAYOUTS}", file=sys.stderr)
         return 1
     text = joined(files, words.machine)
-    if words.output:
-        Path(words.output).write_text(text, encoding="utf-8")
-    else:
-        print(text, end="")
+    put(text, words.output)
     return 0
 
 
