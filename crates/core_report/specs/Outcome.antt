@@ -27,7 +27,8 @@ abbrev pub Outcome : Type 0
 Outcome = Result (List ℕ) Cause
 
 -- two steps, of which the first may end with a cause
-abbrev pub OutcomeThen : {T E : Type 0} → (E → Cause) → (Result T E → Type 0) → (T → Outcome → Type 0) → Outcome → Type 0
+abbrev pub OutcomeThen : {T E : Type 0} → (E → Cause) → (Result T E → Type 0)
+    → (T → Outcome → Type 0) → Outcome → Type 0
 OutcomeThen as_cause First Rest outcome =
     ((error : _) × (outcome ≡ Err (as_cause error)) × First (Err error))
     ⊎ ((value : _) × First (Ok value) × Rest value outcome)

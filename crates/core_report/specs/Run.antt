@@ -128,7 +128,8 @@ pub record HasRun (asked : Option Command) (r : Ran) (err err_after : SinkSeen) 
   pub said : SaysEnd end err err_after
 
 -- the words ask for this command, and the files tell these contents of all that it asks for
-pub record TellsContents (asked : Option Command) (told : Told) (command : Command) (contents : List (List ℕ)) : Type 0 where
+pub record TellsContents (asked : Option Command) (told : Told) (command : Command)
+    (contents : List (List ℕ)) : Type 0 where
   pub is_asked : asked ≡ Some command
   pub tells : IsSome told
   pub read : IsRead told command contents

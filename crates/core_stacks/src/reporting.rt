@@ -137,13 +137,13 @@ pub fn report(
     make_report(alloc, bytes, images, layouts, config)
 }
 
-/// The report of `report`, with its reads of the process's memory counted: each is one step, whether it reads a record,
-/// a word, or a whole section.
+/// The report of `report`, with its reads of the process's memory counted: each is one step, whether it reads a
+/// record, a word, or a whole section.
 ///
 /// The steps are at most 10 for the search and 13 for the stacks; for each candidate that is tried, up to and with the
-/// first that is an interpreter's, none where no map holds it, one where its head is not in memory or in no map, else 3,
-/// 2 for each thread that its test meets and 6 for each member; and of the interpreter 2 for each thread that is met,
-/// 9 for each member, 4 for each variable, 8 for each visit of a value, and 12 for each slot that is looked at for
+/// first that is an interpreter's, none where no map holds it, one where its head is not in memory or in no map, else
+/// 3, 2 for each thread that its test meets and 6 for each member; and of the interpreter 2 for each thread that is
+/// met, 9 for each member, 4 for each variable, 8 for each visit of a value, and 12 for each slot that is looked at for
 /// names. What is never reached takes none. No test of a candidate takes more than 3 + 4096 * (2 + 6 * 16384) steps,
 /// whatever the memory holds, as cyclic chains.
 pub fn report_counted<L: Ledger>(

@@ -37,8 +37,8 @@ images_rule = record (new_rule (codes "images")) {
 }
 
 abbrev pub dump_app : App
-dump_app = with_rule (with_rule (with_rule (with_rule (with_rule (with_rule (with_rule (with_rule (new_app (codes "dump"))
-    core_rule) layouts_rule) locals_rule) (flag_rule (codes "json") (Some 106)))
+dump_app = with_rule (with_rule (with_rule (with_rule (with_rule (with_rule (with_rule (with_rule
+    (new_app (codes "dump")) core_rule) layouts_rule) locals_rule) (flag_rule (codes "json") (Some 106)))
     (flag_rule (codes "full-filenames") None)) (flag_rule (codes "native") (Some 110)))
     (flag_rule (codes "subprocesses") (Some 115))) images_rule
 

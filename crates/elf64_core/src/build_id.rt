@@ -80,7 +80,8 @@ pub fn read_build_id<'a>(elf: &Elf64<'a>) -> Result<Option<&'a [u8]>, ElfError>
 /// `read_build_id`. Else the one error is want of memory.
 pub fn read_elf_build_id(alloc: Global, bytes: &[u8]) -> Result<Option<BuildId>, ElfError>
     ensures right { IsErrOf result ElfError.OutOfMemory ⊎ FileHoldsBuildId bytes.now result }
-    ensures only { (other : FoundBuildId) → FileHoldsBuildId bytes.now other → IsErrOf result ElfError.OutOfMemory ⊎ (other ≡ result) }
+    ensures only { (other : FoundBuildId) → FileHoldsBuildId bytes.now other
+        → IsErrOf result ElfError.OutOfMemory ⊎ (other ≡ result) }
 {
     let elf = Elf64::parse(bytes)?;
     match read_build_id(&elf)? {

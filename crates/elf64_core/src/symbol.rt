@@ -61,7 +61,8 @@ fn symbols_in<'a>(
     strings: Option<&'a [u8]>,
     table: &[u8],
 ) -> Result<Vec<Symbol<'a>>, AllocError>
-    ensures { IfOk result (λ symbols. map symbol_entry_of symbols.items ≡ entries_in (option_copied strings.entry) table.now) }
+    ensures { IfOk result (λ symbols.
+        map symbol_entry_of symbols.items ≡ entries_in (option_copied strings.entry) table.now) }
 {
     let count = table.len() / ENTRY_SIZE;
     let mut symbols = Vec::with_capacity(alloc, count)?;

@@ -13,7 +13,8 @@ use Rattle.image_memory.specs.declared.records.elf_prpsinfo.{elf_prpsinfo}
 use Rattle.image_memory.specs.declared.contents.Contents.{Contents}
 
 -- what the notes of a core say
-pub record NotesSay (bytes : List ℕ) (statuses : List elf_prstatus) (process : Option elf_prpsinfo) (entries : List Entry) : Type 0 where
+pub record NotesSay (bytes : List ℕ) (statuses : List elf_prstatus) (process : Option elf_prpsinfo)
+    (entries : List Entry) : Type 0 where
   pub notes : List Noted
   pub found : AreCoreNotes bytes notes entries
   pub statuses_are : statuses ≡ filter_map status_noted notes

@@ -97,11 +97,13 @@ process_in desc = record {
 
 -- what a note says, if it is a status record
 abbrev pub status_noted : Noted → Option elf_prstatus
-status_noted note = if is_of_kind status_kind note && nat_le 112 (length note.desc) then Some (status_in note.desc) else None
+status_noted note =
+    if is_of_kind status_kind note && nat_le 112 (length note.desc) then Some (status_in note.desc) else None
 
 -- what a note says, if it is a process record
 abbrev pub process_of : Noted → Option elf_prpsinfo
-process_of note = if is_of_kind process_kind note && nat_le 136 (length note.desc) then Some (process_in note.desc) else None
+process_of note =
+    if is_of_kind process_kind note && nat_le 136 (length note.desc) then Some (process_in note.desc) else None
 
 -- what the last process record says, if there is one
 abbrev pub last_process : List Noted → Option elf_prpsinfo

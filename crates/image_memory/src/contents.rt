@@ -76,7 +76,8 @@ fn read_notes<'a>(alloc: Global, elf: &Elf64<'a>) -> Result<Said<'a>, DumpError>
     requires { IsAccepted elf.now }
     ensures bad { IsErrOf result DumpError.BadNote → HasBadNote elf.now }
     ensures only { IfErr result (λ error. (error ≡ DumpError.BadNote) ⊎ (error ≡ DumpError.OutOfMemory)) }
-    ensures say { IfOk result (λ said. NotesSay elf.now said.statuses.items said.process (map file_entry_of said.entries.items)) }
+    ensures say { IfOk result (λ said.
+        NotesSay elf.now said.statuses.items said.process (map file_entry_of said.entries.items)) }
 {
     let notes = core_notes(alloc, elf)?;
     if !are_whole(&notes) {

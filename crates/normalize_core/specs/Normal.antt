@@ -84,4 +84,5 @@ normalizing_faults asked sorted_addrs addrs =
 abbrev pub IsNormalOrFault : Asked → Bool → List ℕ → Result Normal NormalizeError → Type 0
 IsNormalOrFault asked sorted_addrs addrs (Ok normal) =
     (first_cause (normalizing_faults asked sorted_addrs addrs) ≡ None) × IsNormal asked addrs normal
-IsNormalOrFault asked sorted_addrs addrs (Err error) = first_cause (normalizing_faults asked sorted_addrs addrs) ≡ Some error
+IsNormalOrFault asked sorted_addrs addrs (Err error) =
+    first_cause (normalizing_faults asked sorted_addrs addrs) ≡ Some error

@@ -147,11 +147,13 @@ impl Normalizer {
         addrs: &[u64],
         opts: &NormalizeOpts,
     ) -> Result<UserOutput, NormalizeError>
-        ensures right { let asked : Asked = normalizing_by self.now.build_ids entries.now images.now opts.now.map_files in
+        ensures right { let asked : Asked =
+            normalizing_by self.now.build_ids entries.now images.now opts.now.map_files in
             IsErrOf result NormalizeError.OutOfMemory
             ⊎ IsNormalOrFault asked opts.now.sorted_addrs addrs.now (answer_of result) }
         ensures numbers { IfOk result (λ output. All (λ o. o.1 < length output.meta.items) output.outputs.items) }
-        ensures only { let asked : Asked = normalizing_by self.now.build_ids entries.now images.now opts.now.map_files in
+        ensures only { let asked : Asked =
+            normalizing_by self.now.build_ids entries.now images.now opts.now.map_files in
             (answer : Result Normal NormalizeError) → IsNormalOrFault asked opts.now.sorted_addrs addrs.now answer
             → IsErrOf result NormalizeError.OutOfMemory ⊎ (answer ≡ answer_of result) }
     {
@@ -189,7 +191,8 @@ fn normalized(
     addrs: &[u64],
     sorted_addrs: bool,
 ) -> Result<UserOutput, NormalizeError>
-    ensures { IsErrOf result NormalizeError.OutOfMemory ⊎ IsNormalOrFault query.now sorted_addrs addrs.now (answer_of result) }
+    ensures { IsErrOf result NormalizeError.OutOfMemory
+        ⊎ IsNormalOrFault query.now sorted_addrs addrs.now (answer_of result) }
 {
     if query.entries.is_empty() {
         return Err(NormalizeError::NoEntries);

@@ -39,11 +39,11 @@ module _ {S T : Type 0} (over : Fault) (step : S → ℕ → Found (Step S T)) w
   cost_least cost k s zero some = absurd (some refl)
   cost_least cost k s (suc a) some = omega arith
 
-after_all_twice : {T : Type 0} (xs ys : List T) (r : Found (List T)) → after_all xs (after_all ys r) ≡ after_all (xs ++ ys) r
+pub after_all_twice : {T : Type 0} (xs ys : List T) (r : Found (List T)) → after_all xs (after_all ys r) ≡ after_all (xs ++ ys) r
 after_all_twice xs ys (Ok zs) = ap Ok (sym (append_assoc xs ys zs))
 after_all_twice xs ys (Err f) = refl
 
-after_all_none : {T : Type 0} (r : Found (List T)) → r ≡ after_all [] r
+pub after_all_none : {T : Type 0} (r : Found (List T)) → r ≡ after_all [] r
 after_all_none (Ok zs) = refl
 after_all_none (Err f) = refl
 

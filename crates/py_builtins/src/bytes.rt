@@ -26,8 +26,8 @@ pub fn copy_bytes<P: ProcessMemory>(
     addr: u64,
 ) -> Result<Vec<u8>, ObjectError>
     requires sound { IsSound layout.now }
-    ensures answer { Reads object_fault 2 (P.seen process.old) (P.seen process.new) (λ m. bytes_object_at layout.now m addr)
-        (items_of result) }
+    ensures answer { Reads object_fault 2 (P.seen process.old) (P.seen process.new)
+        (λ m. bytes_object_at layout.now m addr) (items_of result) }
     ensures early { RefusesEarly (P.seen process.old) (P.seen process.new) (λ m. bytes_object_at layout.now m addr)
         result }
 {

@@ -13,7 +13,7 @@ use std::alloc::{AllocError, Global};
 
 /// How the characters of a text are coded. The lowest byte of a unit is the first.
 #[derive(Clone, Copy, Debug, PartialEq, Eq)]
-pub(crate) enum TextKind {
+pub enum TextKind {
     /// UTF-8; ASCII is a part of it.
     Utf8,
     /// A byte for each of the first 256 characters.

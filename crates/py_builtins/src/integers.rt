@@ -36,9 +36,11 @@ pub fn copy_int<P: ProcessMemory>(
 
 /// How many digits of 30 bits an integer has, and its sign.
 #[derive(Clone, Copy)]
-struct Digits {
-    count: u64,
-    negative: bool,
+pub struct Digits {
+    /// How many digits there are.
+    pub count: u64,
+    /// Whether the integer is below zero.
+    pub negative: bool,
 }
 
 /// The number that an object has, by the rule of CPython's `int` objects (Python 2's `long`), and whether it

@@ -17,7 +17,9 @@ const COUNT_LIMIT: u64 = 1 << 63;
 /// What items are those of.
 #[derive(Clone, Copy)]
 pub enum Sequence {
+    /// A list: its array stands apart from its record.
     List,
+    /// A tuple: its items stand behind its record.
     Tuple,
 }
 

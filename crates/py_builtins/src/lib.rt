@@ -19,11 +19,12 @@ mod strings;
 mod types;
 
 pub use bytes::copy_bytes;
+pub use coding::TextKind;
 pub use dicts::{DictCursor, Slot};
 pub use entries::DictIterator;
 pub use error::ObjectError;
-pub use integers::{copy_int, copy_long};
+pub use integers::{Digits, copy_int, copy_long};
 pub use items::{Items, Sequence, read_item, read_items};
 pub use managed::{PY_TPFLAGS_INLINE_VALUES, PY_TPFLAGS_MANAGED_DICT};
-pub use strings::copy_string;
+pub use strings::{Characters, StateAt, copy_string};
 pub use types::{ObjectType, read_type};

@@ -16,22 +16,30 @@ use std::alloc::Global;
 /// The length from which on a text is not read, in units of its coding.
 const LENGTH_LIMIT: u64 = 4096;
 
-/// Where a text's state says how it is stored.
+/// Where a text's state says how it is stored: offsets in its record in bytes, and places of bits in the state.
 #[derive(Clone, Copy)]
-struct StateAt {
-    state: u32,
-    pointer: u32,
-    long_at: u32,
-    kind_shift: u32,
-    compact_bit: u32,
-    ascii_bit: u32,
+pub struct StateAt {
+    /// The offset of the state's 4 bytes.
+    pub state: u32,
+    /// The offset of the address of characters that do not stand behind the record.
+    pub pointer: u32,
+    /// How far behind the record's address the characters of a compact text stand that is not ASCII.
+    pub long_at: u32,
+    /// The lowest of the three bits that say how many bytes a unit has.
+    pub kind_shift: u32,
+    /// The bit that marks a text whose characters stand behind its record.
+    pub compact_bit: u32,
+    /// The bit that marks a text of ASCII characters.
+    pub ascii_bit: u32,
 }
 
 /// How the characters of a text are coded, and their address.
 #[derive(Clone, Copy)]
-struct Characters {
-    kind: TextKind,
-    at: u128,
+pub struct Characters {
+    /// How they are coded.
+    pub kind: TextKind,
+    /// The address of the first, which may be past every address that a process has.
+    pub at: u128,
 }
 
 /// The text that an object is, by the rule of CPython's `str` objects.

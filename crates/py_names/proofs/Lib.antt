@@ -1,4 +1,3 @@
-pub mod Afters
 pub mod SearchSteps
 pub mod TypedSteps
 pub mod NameSteps

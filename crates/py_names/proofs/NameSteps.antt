@@ -18,7 +18,7 @@ use Rattle.py_names.specs.Search.{looked_in}
 use Rattle.py_names.specs.NamesError.{names_fault}
 use Rattle.py_names.specs.declared.names_error.NamesError.{NamesError}
 use Rattle.std.specs.BTreeMap.{BTreeMap}
-use Rattle.py_names.proofs.Afters.{after_all_none, after_all_twice}
+use Rattle.process_memory.proofs.Walks.{after_all_none, after_all_twice}
 
 module _ (l : Layout) (m : Memory) (s : Slots) (number n left : ℕ) where
   names_step : (j k : ℕ) (g : Given) → n ≡ suc j → left ≡ suc k → thread_at l m s number k ≡ Ok g

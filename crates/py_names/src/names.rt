@@ -43,7 +43,8 @@ fn read_name<P: ProcessMemory>(
     found: Option<u64>,
 ) -> Result<Option<Named>, NamesError>
     requires sound { IsSound layout.now }
-    ensures answer { Reads names_fault 2 (P.seen process.old) (P.seen process.new) (λ m. given_name_at layout.now m id found) result }
+    ensures answer { Reads names_fault 2 (P.seen process.old) (P.seen process.new)
+        (λ m. given_name_at layout.now m id found) result }
     ensures memory { result ≢ Err (NamesError.Object ObjectError.OutOfMemory) }
 {
     match found {

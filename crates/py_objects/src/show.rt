@@ -62,8 +62,8 @@ pub fn format_variable<P: ProcessMemory>(
     ensures few { visits.new ≤ max visits.old 4096 }
     ensures characters { IfOk result (λ text. text ≡ chars (encode_utf8_all text)) }
     ensures shown { Reading (8 * (visits.new - visits.old)) (P.seen process.old) (P.seen process.new)
-        (λ m. AnswerShows object_fault (values_in layout.now m) addr (width_of max_length) visits.old (bytes_shown result)
-        visits.new) }
+        (λ m. AnswerShows object_fault (values_in layout.now m) addr (width_of max_length) visits.old
+        (bytes_shown result) visits.new) }
 {
     let width = width_of(max_length);
     let text = show_value(alloc, process, layout, addr, width, LEVELS, visits)?;
@@ -136,7 +136,8 @@ fn show_node<P: ProcessMemory>(
     requires wide { 5 < width }
     ensures rises { visits.old ≤ visits.new }
     ensures shown { Reading (8 * (visits.new - visits.old) + 1) (P.seen process.old) (P.seen process.new)
-        (λ m. TellsShown object_fault (node_shown (values_in layout.now m) (λ w a. show_at (values_in layout.now m) levels w a)
+        (λ m. TellsShown object_fault
+        (node_shown (values_in layout.now m) (λ w a. show_at (values_in layout.now m) levels w a)
         width (node_of node) visits.old) (text_of result) visits.new) }
 {
     match node {
@@ -170,8 +171,10 @@ fn show_parts<P: ProcessMemory>(
     requires sound { IsSound layout.now }
     ensures rises { visits.old ≤ visits.new }
     ensures shown { Reading (8 * (visits.new - visits.old) + 1) (P.seen process.old) (P.seen process.new)
-        (λ m. TellsShown object_fault (parts_shown (values_in layout.now m) (λ w a. show_at (values_in layout.now m) levels w a)
-        (brackets_of parts.now) count (parts_place_of parts.now) width visits.old) (text_of result) visits.new) }
+        (λ m. TellsShown object_fault
+        (parts_shown (values_in layout.now m) (λ w a. show_at (values_in layout.now m) levels w a)
+        (brackets_of parts.now) count (parts_place_of parts.now) width visits.old)
+        (text_of result) visits.new) }
 {
     let mut text = open(alloc, parts)?;
     let mut is_first = true;
@@ -254,8 +257,10 @@ fn show_part<P: ProcessMemory>(
     ensures begins { 5 < width → OnOk result (visits.old < visits.new) }
     ensures skips { IfOk result (λ o. o ≡ None → visits.old < visits.new) }
     ensures shown { Reading (max 1 (8 * (visits.new - visits.old))) (P.seen process.old) (P.seen process.new)
-        (λ m. TellsShown object_fault (part_at (values_in layout.now m) (λ w a. show_at (values_in layout.now m) levels w a)
-        (brackets_of parts.now) (parts_place_of parts.now) number width visits.old) (part_of result) visits.new) }
+        (λ m. TellsShown object_fault
+        (part_at (values_in layout.now m) (λ w a. show_at (values_in layout.now m) levels w a)
+        (brackets_of parts.now) (parts_place_of parts.now) number width visits.old)
+        (part_of result) visits.new) }
 {
     look(parts, visits)?;
     let child = read_child(process, parts, number)?;
@@ -291,8 +296,9 @@ fn show_child<P: ProcessMemory>(
     ensures begins { 5 < width → OnOk result (visits.old + texts_of (part_read child) ≤ visits.new) }
     ensures skips { IfOk result (λ o. o ≡ None → texts_of (part_read child) ≡ 0) }
     ensures shown { Reading (8 * (visits.new - visits.old) - 1) (P.seen process.old) (P.seen process.new)
-        (λ m. TellsShown object_fault (child_shown (λ w a. show_at (values_in layout.now m) levels w a) width (part_read child)
-        visits.old) (part_of result) visits.new) }
+        (λ m. TellsShown object_fault
+        (child_shown (λ w a. show_at (values_in layout.now m) levels w a) width (part_read child) visits.old)
+        (part_of result) visits.new) }
 {
     match child {
         Child::Item(value) => {

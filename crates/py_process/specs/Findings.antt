@@ -81,14 +81,16 @@ abbrev pub AfterLayout : Memory → Machine → (ℕ → Bool) → Known → Ver
 AfterLayout m machine contains k version layout =
     Then (SearchSays m contains k version layout) (AfterSearch m machine k version layout)
 
-abbrev pub AfterVersion : Memory → Machine → (ℕ → Bool) → List Layout → Known → Version → Result Finding CoreError → Type 0
+abbrev pub AfterVersion : Memory → Machine → (ℕ → Bool) → List Layout → Known → Version
+    → Result Finding CoreError → Type 0
 AfterVersion m machine contains layouts k version =
     Then (LayoutSays layouts version) (AfterLayout m machine contains k version)
 
 abbrev pub AfterImages : Memory → Machine → (ℕ → Bool) → List Layout → Known → Result Finding CoreError → Type 0
 AfterImages m machine contains layouts k = Then (VersionSays m k) (AfterVersion m machine contains layouts k)
 
-abbrev pub AfterMaps : Memory → Machine → List CoreMapRange → Pushed → List Layout → Programs → Result Finding CoreError → Type 0
+abbrev pub AfterMaps : Memory → Machine → List CoreMapRange → Pushed → List Layout → Programs
+    → Result Finding CoreError → Type 0
 AfterMaps m machine maps images layouts p =
     Then (ImagesSay images p) (AfterImages m machine (in_maps maps) layouts)
 
@@ -98,7 +100,8 @@ FindingIs m machine maps images layouts = Then (MapsSay maps) (AfterMaps m machi
 
 -- ---- the same where something is found, in one record
 
-pub record IsFound (m : Memory) (machine : Machine) (maps : List CoreMapRange) (images : Pushed) (layouts : List Layout) (f : Finding) : Type 0 where
+pub record IsFound (m : Memory) (machine : Machine) (maps : List CoreMapRange) (images : Pushed)
+    (layouts : List Layout) (f : Finding) : Type 0 where
   pub programs : Programs
   pub are_programs : ArePrograms maps programs
   pub known : Known

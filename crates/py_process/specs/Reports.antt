@@ -168,7 +168,8 @@ ReportIs bytes images layouts config = Then (CoreSays bytes images) (AfterCore b
 -- ---- the same where there is a report, in one record: its threads are the whole chain, to null, of the first
 -- candidate that is an interpreter's, each with its whole chain of callers, to null, less the skipped members
 
-pub record IsRight (bytes : List ℕ) (images : Pushed) (layouts : List Layout) (config : Config) (r : Reported) : Type 0 where
+pub record IsRight (bytes : List ℕ) (images : Pushed) (layouts : List Layout)
+    (config : Config) (r : Reported) : Type 0 where
   pub core : IsCore bytes
   pub dumped : Dumped
   pub is_dumped : IsDumped bytes images dumped

@@ -7,7 +7,7 @@ use Rattle.process_memory.specs.Seen.{Seen, Reading, Reads, FaultIs}
 use Rattle.process_memory.specs.Walk.{after_all}
 use Rattle.process_memory.proofs.Reading.{reading_then, reading_gives, reading_none}
 use Rattle.py_fields.specs.declared.layout.Layout.{Layout}
-use Rattle.py_names.proofs.Afters.{after_all_none, after_all_twice}
+use Rattle.process_memory.proofs.Walks.{after_all_none, after_all_twice}
 use Rattle.py_stacks.specs.declared.trace.LocalVariable.{LocalVariable}
 use Rattle.py_stacks.specs.Locals.{count_of, kept_local, local_at, locals_cost, locals_from}
 use Rattle.py_stacks.specs.Member.{MemberAt}

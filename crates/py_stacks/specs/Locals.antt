@@ -128,6 +128,7 @@ asked_faults true l m r = locals_faults l m r
 abbrev pub locals_of : Option (Vec LocalVariable Global) → Option (List LocalVariable)
 locals_of o = option_map (λ (v : Vec LocalVariable Global). v.items) o
 
-abbrev pub locals_of_result : {E : Type 0} → Result (Option (Vec LocalVariable Global)) E → Result (Option (List LocalVariable)) E
+abbrev pub locals_of_result : {E : Type 0} → Result (Option (Vec LocalVariable Global)) E
+    → Result (Option (List LocalVariable)) E
 locals_of_result (Ok o) = Ok (locals_of o)
 locals_of_result (Err e) = Err e

@@ -49,5 +49,6 @@ NamesAreBy d (Ok names) = (id : ℕ) → name_in names id ≡ name_by d id
 NamesAreBy d (Err e) = e ≡ OutOfMemory
 
 -- it has the names that were found; the one error is want of memory
-pub record GivesNames (d : Found (List Named)) (result : Result (Option (BTreeMap ℕ (List ℕ))) StackError) : Type 0 where
+pub record GivesNames (d : Found (List Named))
+    (result : Result (Option (BTreeMap ℕ (List ℕ))) StackError) : Type 0 where
   pub is : NamesAreBy d result

@@ -36,7 +36,8 @@ variables_most true = 65535
 
 -- the traces are the interpreter's stacks, each with the name that the map of names has for its id, if there is one,
 -- and each local with the text that its value shows as in the width that is asked for
-pub record AreStacksOver (c : Config) (l : Layout) (m : Memory) (lock interpreter : ℕ) (traces : List Trace) : Type 0 where
+pub record AreStacksOver (c : Config) (l : Layout) (m : Memory) (lock interpreter : ℕ)
+    (traces : List Trace) : Type 0 where
   pub walked : List Trace
   pub stacks : AreStacks (asked_of c) l m lock interpreter walked
   pub tells : traces ≡ map (by_value (value_text l m (value_width c.dump_locals)))

@@ -33,7 +33,8 @@ fn read_named<P: ProcessMemory>(
     head: u64,
 ) -> Result<u64, StackError>
     requires sound { IsSound layout.now }
-    ensures { Reads stack_fault 1 (P.seen process.old) (P.seen process.new) (λ m. interpreter_named_by layout.now m head) result }
+    ensures { Reads stack_fault 1 (P.seen process.old) (P.seen process.new)
+        (λ m. interpreter_named_by layout.now m head) result }
 {
     let mut thread = Vec::new(alloc);
     read_bytes(process, head, layout.thread.size, &mut thread)?;
@@ -49,7 +50,8 @@ fn walk_from<P: ProcessMemory>(
     head: u64,
 ) -> Result<bool, StackError>
     requires sound { IsSound layout.now }
-    ensures { ReadsBy stack_fault (λ m. cost_from layout.now m interpreter head) (P.seen process.old) (P.seen process.new)
+    ensures { ReadsBy stack_fault (λ m. cost_from layout.now m interpreter head)
+        (P.seen process.old) (P.seen process.new)
         (λ m. Ok (passes_from layout.now m interpreter head)) result }
 {
     let named = match read_named(alloc, process, layout, head) {

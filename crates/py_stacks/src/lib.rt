@@ -24,7 +24,7 @@ mod threads;
 mod trace;
 mod values;
 
-pub use asked::LineNo;
+pub use asked::{Asked, LineNo};
 pub use config::Config;
 pub use error::StackError;
 pub use interpreter::{get_first_thread, is_interpreter, is_interpreter_from};

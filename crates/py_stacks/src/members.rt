@@ -133,7 +133,8 @@ fn read_part<P: ProcessMemory>(
 ) -> Result<Option<Frame>, StackError>
     requires sound { IsSound layout.now }
     requires whole { AreWhole layout.now records.now }
-    ensures { ReadsBy stack_fault (λ m. part_cost asked layout.now m kept (member_of records.now) (call_of_option plain))
+    ensures { ReadsBy stack_fault
+        (λ m. part_cost asked layout.now m kept (member_of records.now) (call_of_option plain))
         (P.seen process.old) (P.seen process.new)
         (λ m. part_by asked layout.now m kept (member_of records.now) (call_of_option plain)) (part_of_result result) }
 {
@@ -168,7 +169,8 @@ pub(crate) fn read_member<P: ProcessMemory>(
     records: &mut Records,
 ) -> Result<(u64, Option<Frame>), StackError>
     requires sound { IsSound layout.now }
-    ensures { ReadsBy stack_fault (λ m. member_cost asked layout.now m kept at) (P.seen process.old) (P.seen process.new)
+    ensures { ReadsBy stack_fault (λ m. member_cost asked layout.now m kept at)
+        (P.seen process.old) (P.seen process.new)
         (λ m. frame_step asked layout.now m kept at) (step_of_result kept result) }
 {
     read_records(process, layout, at, records)?;

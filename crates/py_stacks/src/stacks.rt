@@ -134,7 +134,8 @@ fn walk_stack_trace<P: ProcessMemory>(
     thread: u64,
 ) -> Result<StackTrace, StackError>
     requires sound { IsSound layout.now }
-    ensures { ReadsBy stack_fault (λ m. thread_cost asked layout.now m tt thread) (P.seen process.old) (P.seen process.new)
+    ensures { ReadsBy stack_fault (λ m. thread_cost asked layout.now m tt thread)
+        (P.seen process.old) (P.seen process.new)
         (λ m. trace_at asked layout.now m thread) (trace_of_result result) }
 {
     let mut scratch = Scratch::new(alloc);
@@ -180,7 +181,8 @@ pub fn get_stack_trace<P: ProcessMemory>(
         ≤ 3 * thread_members (asks lineno copy_locals) layout.now (byte_at (P.seen process.old).pieces) thread
         + 4 * thread_locals (asks lineno copy_locals) layout.now (byte_at (P.seen process.old).pieces) thread }
     // whatever the memory holds, as a cyclic chain
-    ensures most { (P.seen process.new).reads ≤ (P.seen process.old).reads + (2 + 16384 * (9 + locals_most copy_locals)) }
+    ensures most { (P.seen process.new).reads
+        ≤ (P.seen process.old).reads + (2 + 16384 * (9 + locals_most copy_locals)) }
 {
     let asked = Asked {
         lineno,
