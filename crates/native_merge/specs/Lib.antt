@@ -1,0 +1,3 @@
+pub mod CythonNames
+pub mod Digits
+pub mod Sources
