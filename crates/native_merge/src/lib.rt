@@ -8,9 +8,13 @@ mod cython;
 mod digits;
 mod fault;
 mod memory_sources;
+mod paths;
 mod sources;
+#[cfg(test)]
+mod tests;
 
 pub use cython::{demangle, ignore_frame};
 pub use fault::SourceFault;
 pub use memory_sources::MemorySources;
+pub use paths::resolve_filename;
 pub use sources::{NoSources, Sources};
