@@ -32,7 +32,11 @@ pub record HeldSources : Type 0 where
 
 -- what they mean: the paths that are held exist
 abbrev pub sources_seen : HeldSources → SourcesSeen
-sources_seen held = record { exists = λ path. is_some (held_bytes held.files path); told = Some held.files; faults = held.faults }
+sources_seen held = record {
+  exists = λ path. is_some (held_bytes held.files path);
+  told = Some held.files;
+  faults = held.faults;
+}
 
 -- sources before the first call
 abbrev pub unread_sources : List (List ℕ × List ℕ) → List ℕ → HeldSources
