@@ -1,3 +1,5 @@
 pub mod Fronts
+pub mod Marks
 pub mod Numbers
 pub mod Parts
+pub mod SourceNames

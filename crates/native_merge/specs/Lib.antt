@@ -1,4 +1,7 @@
 pub mod CythonNames
 pub mod Digits
+pub mod NameEnds
 pub mod Paths
+pub mod SourceLines
+pub mod SourceMaps
 pub mod Sources

@@ -1,5 +1,6 @@
 -- Parts of paths, and where a source file is looked for.
-use Rattle.std.specs.Prelude.{ℕ, ◌-◌, ◌==◌, ◌||◌, not, Bool, if◌then◌else◌, List, [], ◌++◌, length, take, bytes_eq, codes, Option, Some, None}
+use Rattle.std.specs.Prelude.{ℕ, ◌+◌, ◌-◌, ◌==◌, ◌&&◌, ◌||◌, nat_le, nat_lt, not, Bool, if◌then◌else◌, List, [], ◌++◌, length, take, drop, slice_index, bytes_eq, codes, Option, Some, None, unwrap_or}
+use Rattle.std.specs.Option.{is_some}
 use Rattle.std.specs.List.{after_last, suffix_len}
 
 -- a text up to and with the last character of a kind; nothing where it has none
@@ -42,3 +43,49 @@ existing exists (Some path) = if exists path then Some path else None
 abbrev pub resolved : (List ℕ → Bool) → List ℕ → List ℕ → Option (List ℕ)
 resolved exists filename module_name =
     if exists filename then Some filename else existing exists (beside filename module_name)
+
+-- ---- Cython's file
+
+-- what follows the last dot of a path's last part, where that dot isn't its first character and something follows
+abbrev pub extension_in : List ℕ → Option (List ℕ)
+extension_in part =
+    let extension = after_last is_dot part in
+    if nat_lt 0 (length extension) && nat_lt (length extension + 1) (length part) then Some extension else None
+
+-- such a part up to and with the dot of its extension; one that has none gets a dot
+abbrev pub with_dot : List ℕ → List ℕ
+with_dot part = if is_some (extension_in part) then up_to_last is_dot part else part ++ codes "."
+
+-- a path with another extension
+abbrev pub with_extension : List ℕ → List ℕ → List ℕ
+with_extension path extension = folder_of path ++ with_dot (part_of path) ++ extension
+
+-- nothing, or what ends with a slash
+abbrev pub is_folder : List ℕ → Bool
+is_folder front = length front == 0 || slice_index front (length front - 1) == 47
+
+-- a path is this name, or ends with a slash and this name
+abbrev pub is_called : List ℕ → List ℕ → Bool
+is_called path name = nat_le (length name) (length path)
+    && (bytes_eq (drop (length path - length name) path) name && is_folder (take (length path - length name) path))
+
+abbrev pub called : List ℕ → List ℕ → Option (List ℕ)
+called name path = if is_called path name then Some path else None
+
+-- the C file's path with the extension of Cython's file, where it is called as that is
+abbrev pub renamed_by : List ℕ → List ℕ → Option (List ℕ) → Option (List ℕ)
+renamed_by c_path name None = None
+renamed_by c_path name (Some extension) = called name (with_extension c_path extension)
+
+abbrev pub renamed : List ℕ → List ℕ → Option (List ℕ)
+renamed c_path name = renamed_by c_path name (extension_in (part_of name))
+
+-- the file that is found with the module, else the name
+abbrev pub file_in_module : (List ℕ → Bool) → Option (List ℕ) → List ℕ → List ℕ
+file_in_module exists None name = name
+file_in_module exists (Some module_name) name = unwrap_or (resolved exists name module_name) name
+
+-- the path of Cython's file of this name: beside its C file, else as its module tells, else its name
+abbrev pub cython_file : (List ℕ → Bool) → List ℕ → Option (List ℕ) → List ℕ → List ℕ
+cython_file exists c_path module_name name =
+    unwrap_or (existing exists (renamed c_path name)) (file_in_module exists module_name name)

@@ -5,16 +5,22 @@
 #![tactic(auto)]
 
 mod cython;
+mod cython_file;
 mod digits;
+mod error;
 mod fault;
 mod memory_sources;
 mod paths;
+mod source_line;
+mod source_map;
 mod sources;
 #[cfg(test)]
 mod tests;
 
 pub use cython::{demangle, ignore_frame};
+pub use error::SourceMapError;
 pub use fault::SourceFault;
 pub use memory_sources::MemorySources;
 pub use paths::resolve_filename;
+pub use source_map::SourceMap;
 pub use sources::{NoSources, Sources};

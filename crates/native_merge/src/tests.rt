@@ -1,6 +1,7 @@
 //! Names of real functions, and paths of sources.
 use crate::{
-    MemorySources, NoSources, SourceFault, Sources, demangle, ignore_frame, resolve_filename,
+    MemorySources, NoSources, SourceFault, SourceMap, Sources, demangle, ignore_frame,
+    resolve_filename,
 };
 use elf64_core::Name;
 use std::test::Fail;
@@ -87,5 +88,20 @@ fn sources_are_found(rt: HostRuntime) -> Result<(), Fail> {
     assert!(rt; !NoSources.exists(b"b.pyx"));
     let missing = NoSources.contents(alloc, b"b.pyx").err();
     assert!(rt; missing == Some(SourceFault::Missing));
+    Ok(())
+}
+
+#[test]
+fn lines_of_c_files_are_found(rt: HostRuntime) -> Result<(), Fail> {
+    let alloc = rt.alloc();
+    let mut sources = NoSources;
+    let contents = "x\n/* \"a.pyx\":6\ny";
+    let map = SourceMap::from_contents(alloc, &mut sources, contents, "a.c", None).expect(
+        &rt, "a map",
+    );
+    assert!(rt; map.lookup(1).is_none());
+    assert!(rt; matches!(map.lookup(2), Some(("a.pyx", 6))));
+    assert!(rt; matches!(map.lookup(4), Some(("a.pyx", 6))));
+    assert!(rt; map.lookup(5).is_none());
     Ok(())
 }
