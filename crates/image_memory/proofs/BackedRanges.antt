@@ -1,14 +1,13 @@
 -- Which bytes of which images the maps of a core have.
-use Rattle.std.proofs.Common.{◌≡◌, ℕ, suc, ◌+◌, ◌-◌, ◌<◌, ◌≤◌, ◌^◌, min, true, false, cond, List, [], ◌∷◌, ◌++◌, length, take, drop, get_or, map, refl, sym, ap, subst, ◌∙◌, arith, inl, inr, ⊎_elim, add-one, length-drop}
+use Rattle.std.proofs.Common.{◌≡◌, ℕ, suc, ◌+◌, ◌-◌, ◌<◌, ◌≤◌, ◌^◌, min, true, false, cond, List, [], ◌∷◌, ◌++◌, length, take, drop, get_or, map, refl, sym, ap, subst, ◌∙◌, arith, inl, inr, add-one, length-drop}
 use Rattle.std.specs.Prelude.{All, Option, Some, None, filter_map, option_map, option_and_then, position, slice_index_or}
 use Rattle.std.specs.List.{cons_option, position_or_len}
 use Rattle.std.proofs.lemmas.Bool.{cases_lt, le-ltb, lt-ltb}
 use Rattle.std.proofs.lemmas.List.{append-nil, drop_all, drop_min, drop_more, get_or-map, length-map, map-append, take_min}
-use Rattle.std.proofs.lemmas.List.Elements.{All-append, All-from_recursion, All-map}
+use Rattle.std.proofs.lemmas.List.Elements.{All-append}
 use Rattle.std.proofs.lemmas.List.Folds.{find_at}
-use Rattle.std.proofs.lemmas.Option.{get_or_from_slice_get, slice_get-get_or, slice_get_past, slice_get_within}
+use Rattle.std.proofs.lemmas.Option.{slice_get-get_or, slice_get_past}
 use Rattle.elf64_core.specs.Header.{HasSegments}
-use Rattle.elf64_core.specs.declared.span_table.TableEntry.{TableEntry}
 use Rattle.elf64_core.specs.declared.segment.Segment.{Segment}
 use Rattle.piece_table.specs.Files.{IsInFile, file_bytes, region_in, regions_in}
 use Rattle.piece_table.specs.declared.table.FileRange.{FileRange}
