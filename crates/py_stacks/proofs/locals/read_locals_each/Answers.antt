@@ -3,7 +3,7 @@ use Rattle.std.proofs.lemmas.Result.{err_from_is_err_and}
 use Rattle.py_stacks.specs.StackError.{stack_fault}
 use Rattle.py_stacks.specs.Records.{member_of}
 use Rattle.py_stacks.proofs.LocalSteps.{taking_init, taking_more, taking_done, taking_stop, taking_lost}
-use Rattle.py_stacks.proofs.locals.read_each.Goals as goal
+use Rattle.py_stacks.proofs.locals.read_locals_each.Goals as goal
 
 pub loop-index-init : goal.loop-index-init
 loop-index-init g c = rw c.new-locals.ensures.items (taking_init c.args.layout.now (member_of c.args.records.now) _ c.args.count)

@@ -5,7 +5,7 @@ use Rattle.process_memory.proofs.Reading.{reading_gives, reading_none}
 use Rattle.py_process.specs.Facts.{known_of, symbol_known}
 use Rattle.py_process.specs.Lock.{FoundIs, in_runtime}
 use Rattle.py_process.proofs.Locks.{by_gil, by_runtime, by_symbol, symbol_found}
-use Rattle.py_process.proofs.lock.find_lock.Goals as goal
+use Rattle.py_process.proofs.lock.find_family_lock.Goals as goal
 
 pub returns-in-Gil-Some-clause-answer : goal.returns-in-Gil-Some-clause-answer
 returns-in-Gil-Some-clause-answer g c =

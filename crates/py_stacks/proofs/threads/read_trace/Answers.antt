@@ -6,7 +6,7 @@ use Rattle.py_fields.proofs.Fields.{thread_fits}
 use Rattle.py_stacks.specs.StackError.{stack_fault}
 use Rattle.py_stacks.specs.Threads.{thread_step}
 use Rattle.py_stacks.proofs.Costs.{thread_costs, thread_costs_one, thread_budget}
-use Rattle.py_stacks.proofs.threads.read_thread.Goals as goal
+use Rattle.py_stacks.proofs.threads.read_trace.Goals as goal
 
 pub first_frame-requires : goal.first_frame-requires
 first_frame-requires g c = omega (arith, (thread_fits c.requires.sound).frame, c.in_ok-read_bytes.ensures.whole, ap length c.deref.ensures.value)
