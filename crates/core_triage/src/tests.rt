@@ -76,6 +76,7 @@ fn equal_stacks_are_one_group(rt: HostRuntime) -> Result<(), Fail> {
         let traces = vec![in alloc; trace(alloc, core)?]?;
         keys.push(key_of(alloc, &traces)?)?;
     }
+    assert_eq!(rt; keys.len(), 6);
     let groups = group(alloc, &keys)?;
     let expected: [&[u32]; 4] = [&[0, 1], &[2, 5], &[3], &[4]];
     assert_eq!(rt; groups.len(), expected.len());
