@@ -36,4 +36,5 @@ pub record MapSpans : Type 0 where
 
 -- the test of addresses that they are
 abbrev pub tests : MapSpans → ℕ → Bool
-tests m addr = if nat_lt addr last_addr then list_any (spans addr) (addresses_of m.table) else nat_lt (addr - last_addr) m.past
+tests m addr =
+    if nat_lt addr last_addr then list_any (spans addr) (addresses_of m.table) else nat_lt (addr - last_addr) m.past

@@ -162,7 +162,8 @@ impl CoreDump {
     /// each run of one segment, of which no clause speaks.
     pub fn piece(&self, addr: u64, len: u64) -> Option<&[u8]>
         ensures none { result ≡ None ↔ (len ≡ 0) ⊎ (byte_at (memory_of self.now) addr ≡ None) }
-        ensures run { IfSome result (λ piece. (start : ℕ) × IsRun (core_ranges self.now) addr len 0 start (length piece.now)
+        ensures run { IfSome result (λ piece. (start : ℕ)
+            × IsRun (core_ranges self.now) addr len 0 start (length piece.now)
             × (piece.now ≡ slice_range self.now start (start + length piece.now))) }
         ensures bytes { IfSome result (λ piece. (k : ℕ) → k < length piece.now
             → byte_at (memory_of self.now) (addr + k) ≡ Some (slice_index piece.now k)) }
