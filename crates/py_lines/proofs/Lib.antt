@@ -1,2 +1,4 @@
+pub mod Coding
 pub mod Places
+pub mod Readback
 pub mod Varints

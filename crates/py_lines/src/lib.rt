@@ -5,9 +5,14 @@
 #![tactic(auto)]
 
 mod entry;
+mod encoding;
+mod error;
 mod lines;
+mod runs;
 mod varint;
 
+pub use encoding::encode;
+pub use error::EncodeError;
 pub use lines::{LineFamily, LineRange, line_at, ranges};
 
 #[cfg(test)]
