@@ -1,5 +1,5 @@
 -- Writing a table, piece by piece.
-use Rattle.std.proofs.Common.{◌≡◌, ◌∙◌, ℕ, zero, suc, ◌+◌, ◌-◌, ◌*◌, ◌/◌, ◌%◌, ◌^◌, ◌<◌, ◌≤◌, List, [], ◌∷◌, ◌++◌, length, refl, sym, ap, subst, append_assoc, length-append, arith, rules, Bool, true, false, cond, ltb, eqb, ◌&&◌}
+use Rattle.std.proofs.Common.{◌≡◌, ◌∙◌, ℕ, zero, suc, ◌+◌, ◌-◌, ◌/◌, ◌%◌, ◌^◌, ◌<◌, ◌≤◌, List, [], ◌∷◌, ◌++◌, length, refl, sym, ap, append_assoc, length-append, arith, rules, Bool, true, false, cond, ltb, eqb, ◌&&◌}
 use Rattle.std.specs.Prelude.{Option, Some, None, option_map, ℤ, pos, negsuc, ◌≤ℤ◌, IsTrue}
 use Rattle.std.specs.Option.{is_some, unwrap_or}
 use Rattle.std.proofs.lemmas.Bool.Decides.{nat_tests}
@@ -181,33 +181,65 @@ even_rest len some even = (omega arith, omega (arith, some), omega (arith, even)
 pub runs_are : (family : LineFamily) (len : ℕ) (delta : Option ℤ) → IsNearDelta delta → IsWritable family len delta → AreRuns family (runs_of family len delta)
 runs_are Pairs len delta near w =
     let d = unwrap_or delta (pos 0) in
-    let part = pair_part d in
-    ((λ _. (omega arith, omega (arith, ints), omega (arith, ints))), (
-    (λ _. (omega arith, part.0, part.1)), (
-    (λ _. (omega arith, part.0, part.1)), (
-    (λ _. (pair_rest (eqb (parts_of 128 d).wholes 0) len, part.2, part.3)), tt))))
+    let part = pair_part d in (
+      (λ _. (omega arith, omega (arith, ints), omega (arith, ints))),
+      (
+        (λ _. (omega arith, part.0, part.1)),
+        (
+          (λ _. (omega arith, part.0, part.1)),
+          (
+            (λ _. (pair_rest (eqb (parts_of 128 d).wholes 0) len, part.2, part.3)),
+            tt,
+          ),
+        ),
+      ),
+    )
 runs_are Ranges len None near w =
     let rest : rest_of 255 len ≤ 255 = omega arith in
     (no_run_is Ranges, ((λ _. omega arith), ((λ _. omega arith), ((λ _. either Ranges (rest_of 255 len) (eqb (wholes 255 len) 0) None None rest rest), tt))))
 runs_are Ranges len (Some d) near w =
     let part = range_part d in
-    let rest : rest_of 255 len ≤ 255 = omega arith in
-    ((λ _. (omega arith, part.0, part.1)), (
-    (λ _. (omega arith, part.2, part.3)), (
-    (λ _. (omega arith, omega (arith, ints), omega (arith, ints))), (
-    (λ _. either Ranges (rest_of 255 len) (eqb (wholes 255 len) 0) (Some (parts_of 127 d).last) (Some (pos 0)) (rest, part.2, part.3) (rest, omega (arith, ints), omega (arith, ints))), tt))))
+    let rest : rest_of 255 len ≤ 255 = omega arith in (
+      (λ _. (omega arith, part.0, part.1)),
+      (
+        (λ _. (omega arith, part.2, part.3)),
+        (
+          (λ _. (omega arith, omega (arith, ints), omega (arith, ints))),
+          (
+            (λ _. either Ranges (rest_of 255 len) (eqb (wholes 255 len) 0) (Some (parts_of 127 d).last) (Some (pos 0)) (rest, part.2, part.3) (rest, omega (arith, ints), omega (arith, ints))),
+            tt,
+          ),
+        ),
+      ),
+    )
 runs_are Locations len None near w =
-    let rest = even_rest len w.0 w.1 in
-    (no_run_is Locations, (
-    (λ _. (omega arith, omega arith, refl)), (
-    (λ _. (omega arith, omega arith, refl)), (
-    (λ _. either Locations (rest_of 16 len) (eqb (wholes 16 len) 0) None None rest rest), tt))))
+    let rest = even_rest len w.0 w.1 in (
+      no_run_is Locations,
+      (
+        (λ _. (omega arith, omega arith, refl)),
+        (
+          (λ _. (omega arith, omega arith, refl)),
+          (
+            (λ _. either Locations (rest_of 16 len) (eqb (wholes 16 len) 0) None None rest rest),
+            tt,
+          ),
+        ),
+      ),
+    )
 runs_are Locations len (Some d) near w =
-    let rest = even_rest len w.0 w.1 in
-    (no_run_is Locations, (
-    (λ _. (omega arith, omega arith, refl, near.0, near.1)), (
-    (λ _. (omega arith, omega arith, refl, omega (arith, ints), omega (arith, ints))), (
-    (λ _. either Locations (rest_of 16 len) (eqb (wholes 16 len) 0) (Some d) (Some (pos 0)) (rest.0, rest.1, rest.2, near.0, near.1) (rest.0, rest.1, rest.2, omega (arith, ints), omega (arith, ints))), tt))))
+    let rest = even_rest len w.0 w.1 in (
+      no_run_is Locations,
+      (
+        (λ _. (omega arith, omega arith, refl, near.0, near.1)),
+        (
+          (λ _. (omega arith, omega arith, refl, omega (arith, ints), omega (arith, ints))),
+          (
+            (λ _. either Locations (rest_of 16 len) (eqb (wholes 16 len) 0) (Some d) (Some (pos 0)) (rest.0, rest.1, rest.2, near.0, near.1) (rest.0, rest.1, rest.2, omega (arith, ints), omega (arith, ints))),
+            tt,
+          ),
+        ),
+      ),
+    )
 
 -- ---- the table
 

@@ -1,369 +1,344 @@
--- What is written for ranges, read again.
-use Rattle.std.proofs.Common.{◌≡◌, ◌∙◌, ℕ, zero, suc, ◌+◌, ◌-◌, ◌*◌, ◌/◌, ◌%◌, ◌^◌, ◌<◌, ◌≤◌, List, [], ◌∷◌, ◌++◌, length, drop, refl, sym, ap, subst, append_assoc, length-append, arith, rules, Bool, true, false, cond, ltb, eqb, ◌&&◌, inl, inr, to_z, of_z}
-use Rattle.std.specs.Prelude.{Option, Some, None, option_map, ℤ, pos, negsuc, ◌+ℤ◌, ◌-ℤ◌, ◌≤ℤ◌, ◌<ℤ◌, neg_ℤ, IsTrue}
-use Rattle.std.specs.Option.{is_some, unwrap_or}
-use Rattle.std.specs.Int.{w8, w32, bit_at, cast_signed, cast_unsigned}
+-- What is written for ranges, read again, has their lines.
+use Rattle.std.proofs.Common.{◌≡◌, ◌∙◌, ℕ, zero, suc, ◌+◌, ◌-◌, ◌^◌, ◌<◌, ◌≤◌, List, [], ◌∷◌, ◌++◌, refl, sym, ap, subst, arith, true, false, cond, ltb, eqb, inl, inr}
+use Rattle.std.specs.Prelude.{Option, Some, None, ℤ, pos, negsuc, ◌+ℤ◌, ◌-ℤ◌}
+use Rattle.std.specs.Option.{is_some, unwrap_or, option_and_then}
+use Rattle.std.specs.Int.{w32}
 use Rattle.std.specs.Int.RustNames.{FitsSigned}
-use Rattle.std.specs.Ordering.{int_eq}
-use Rattle.std.proofs.Math.Nat.{pow-succ'}
-use Rattle.std.proofs.Math.Seq.{drop-append_seam}
 use Rattle.std.proofs.lemmas.Bool.{cases_lt, lt-ltb, le-ltb}
-use Rattle.std.proofs.lemmas.Bool.Decides.{nat_tests, Decides-int_eq}
-use Rattle.std.proofs.lemmas.Int.{ints, to_z-of_z}
-use Rattle.std.proofs.lemmas.List.{append-nil}
+use Rattle.std.proofs.lemmas.Bool.Decides.{nat_tests}
+use Rattle.std.proofs.lemmas.Int.{ints}
 use Rattle.py_lines.specs.declared.lines.LineFamily.{LineFamily}
 use Rattle.py_lines.specs.declared.lines.LineFamily.TheVariants.{Pairs, Ranges, Locations}
 use Rattle.py_lines.specs.declared.lines.LineRange.{LineRange}
-use Rattle.py_lines.specs.declared.lines.Place.{Place}
-use Rattle.py_lines.specs.declared.entry.Entry.{Entry}
-use Rattle.py_lines.specs.declared.entry.LocationLine.{LocationLine}
-use Rattle.py_lines.specs.declared.varint.Number.{Number}
-use Rattle.py_lines.specs.Varint.{varint, varint_within, with_low, signed_of}
-use Rattle.py_lines.specs.Entries.{first_entry, pair_entry, pair_of, range_entry, without_line, no_line, location_entry, location_line, location_with, line_moved_by, HasEntryRoom, IsSmall, IsWithin}
-use Rattle.py_lines.specs.Lines.{ranges_of, kept, holds, line_among, line_of, shown_line, in_i32, delta_of}
-use Rattle.py_lines.specs.Places.{line_with, line_range_at, past, last_at, kept_last}
+use Rattle.py_lines.specs.Entries.{first_entry}
+use Rattle.py_lines.specs.Lines.{ranges_of, kept, holds, line_among, shown_line, in_i32, delta_of}
+use Rattle.py_lines.specs.Places.{line_with}
 use Rattle.py_lines.specs.declared.runs.Run.{Run}
-use Rattle.py_lines.specs.declared.runs.Parts.{Parts}
-use Rattle.py_lines.specs.Coding.{first_unordered, can_stand, end_of, wholes, rest_of, parts_of, run_of, pair_runs, piece_runs, no_run, climbs_of, runs_of, entry_bytes, location_bytes, location_head, varint_bytes, signed_code, delta_byte, repeated, run_bytes, runs_bytes, delta_from, covered_by, coded_behind, coded, IsCoding, KeepsLines, IsPart, IsRun, AreRuns, IsNearDelta, IsLine, AreLines}
-use Rattle.py_lines.proofs.Places.{IsAhead, walk_begins, walk_passes, walk_ends, held_line, passed_line}
-use Rattle.py_lines.proofs.Coding.{all_stand, Stands, stands_so, writable, runs_are}
+use Rattle.py_lines.specs.Coding.{first_unordered, end_of, wholes, rest_of, parts_of, run_of, piece_runs, runs_of, runs_bytes, delta_from, coded_behind, coded, IsCoding, KeepsLines, AreRuns, IsNearDelta, IsLine, AreLines}
+use Rattle.py_lines.proofs.Places.{IsAhead, walk_begins, walk_ends, held_line}
+use Rattle.py_lines.proofs.Coding.{all_stand, stands_so, writable, runs_are}
+use Rattle.py_lines.proofs.ReadRuns.{place, Reads, advanced, climbed, advanced_none, advanced_255, advanced_16, climbed_none, climbed_up, climbed_127, climbed_128, run_past, run_here, once_here, one_some, pieces_at, pieces_past, pieces_here}
 
--- ---- an entry that is written is the entry that is read
+-- ---- a range
 
-abbrev pub entry_with : ℕ → ℕ → Option ℤ → Entry
-entry_with size covers delta = record { size = size; covers = covers; delta = delta }
+ends_255 : (len start : ℕ) → advanced (wholes 255 len) 255 start + rest_of 255 len ≡ start + len
+ends_255 len start = omega (arith, advanced_255 (wholes 255 len) start)
 
-same_entry : (s t c k : ℕ) (d e : Option ℤ) → s ≡ t → c ≡ k → d ≡ e → Some (entry_with s c d) ≡ Some (entry_with t k e)
-same_entry s t c k d e size covers delta = rw (size, covers, delta) refl
+ends_16 : (len start : ℕ) → advanced (wholes 16 len) 16 start + rest_of 16 len ≡ start + len
+ends_16 len start = omega (arith, advanced_16 (wholes 16 len) start)
 
-fits_byte : (d : ℤ) → negsuc 127 ≤ℤ d → d ≤ℤ pos 127 → FitsSigned w8 d
-fits_byte (pos n) low high = record { sfits = omega (arith, ints, high) }
-fits_byte (negsuc n) low high = record { sfits = omega (arith, ints, low) }
+total_127 : (d line : ℤ) → climbed (parts_of 127 d).wholes (parts_of 127 d).whole line +ℤ (parts_of 127 d).last ≡ line +ℤ d
+total_127 (pos n) line = omega (arith, ints, climbed_up (wholes 127 n) line)
+total_127 (negsuc n) line = omega (arith, ints, climbed_127 (wholes 127 (suc n)) line)
 
-byte_back : (d : ℤ) → negsuc 127 ≤ℤ d → d ≤ℤ pos 127 → cast_signed w8 (cast_unsigned w8 d) ≡ d
-byte_back d low high = to_z-of_z w8 d (fits_byte d low high)
+total_128 : (d line : ℤ) → climbed (parts_of 128 d).wholes (parts_of 128 d).whole line +ℤ (parts_of 128 d).last ≡ line +ℤ d
+total_128 (pos n) line = omega (arith, ints, climbed_up (wholes 127 n) line)
+total_128 (negsuc n) line = omega (arith, ints, climbed_128 (wholes 128 (suc n)) line)
 
-pair_read : (covers byte : ℕ) (rest : List ℕ) (d : ℤ) → cast_signed w8 byte ≡ d → pair_entry (covers ∷ byte ∷ rest) ≡ Some (entry_with 2 covers (Some d))
-pair_read covers byte rest d is =
-    let wide : ltb (length (covers ∷ byte ∷ rest)) 2 ≡ false = le-ltb (length (covers ∷ byte ∷ rest)) 2 (omega arith) in
-    rw (wide, is) refl
+none_moves : (line : ℤ) → line +ℤ pos 0 ≡ line
+none_moves line = omega (arith, ints)
 
-low_differs : (d : ℤ) → negsuc 126 ≤ℤ d → int_eq d no_line ≡ false
-low_differs d low = elim (int_eq d no_line) as (λ b. int_eq d no_line ≡ b → int_eq d no_line ≡ false) [
-  | true ↦ λ e. let is : d ≡ negsuc 127 = (Decides-int_eq d no_line).0 e in absurd (omega (arith, ints, low, is))
-  | false ↦ λ e. e
-] refl
+module _ (offset : ℕ) (len : ℕ) (rest : List ℕ) (start : ℕ) (line : ℤ) where
+  -- the pieces of a range behind a run that covers no code
+  located_past : (family : LineFamily) (most times : ℕ) (part : ℤ) (first later : Option ℤ) (shown : ℤ) → delta_of later ≡ pos 0
+      → advanced (wholes most len) most start + rest_of most len ≡ start + len
+      → AreRuns family (piece_runs most len (run_of times 0 (Some part)) first later) → start + len ≤ offset
+      → Reads offset family rest (start + len) (climbed times part line +ℤ delta_of first) shown
+      → Reads offset family (runs_bytes family (piece_runs most len (run_of times 0 (Some part)) first later) ++ rest) start line shown
+  located_past family most times part first later shown none ends are gone next =
+      let runs = pieces_at most (wholes most len) (rest_of most len) first later in
+      let at = climbed times part line in
+      let still : advanced times 0 start ≡ start = advanced_none times start in
+      let behind : Reads offset family (runs_bytes family runs ++ rest) start at shown =
+      pieces_past offset family most (rest_of most len) first later rest start at none (wholes most len) shown are.1 (omega (arith, ends, gone))
+      (subst (λ (n : ℕ). Reads offset family rest n (at +ℤ delta_of first) shown) (sym ends) next) in
+      run_past offset family 0 (Some part) runs rest start line times shown are.0 (omega (arith, still, gone))
+      (subst (λ (n : ℕ). Reads offset family (runs_bytes family runs ++ rest) n at shown) (sym still) behind)
 
-range_read : (covers byte : ℕ) (rest : List ℕ) (d : ℤ) → cast_signed w8 byte ≡ d → negsuc 126 ≤ℤ d → range_entry (covers ∷ byte ∷ rest) ≡ Some (entry_with 2 covers (Some d))
-range_read covers byte rest d is low =
-    ap (option_map without_line) (pair_read covers byte rest d is) ∙ rw (low_differs d low) refl
+  located_here : (family : LineFamily) (most times : ℕ) (part : ℤ) (first later l : Option ℤ) → delta_of later ≡ pos 0
+      → advanced (wholes most len) most start + rest_of most len ≡ start + len
+      → AreRuns family (piece_runs most len (run_of times 0 (Some part)) first later)
+      → line_with family (climbed times part line) first ≡ l → line_with family (climbed times part line +ℤ delta_of first) later ≡ l
+      → start ≤ offset → offset < start + len
+      → Reads offset family (runs_bytes family (piece_runs most len (run_of times 0 (Some part)) first later) ++ rest) start line (shown_line l)
+  located_here family most times part first later l none ends are is_first is_later from to =
+      let runs = pieces_at most (wholes most len) (rest_of most len) first later in
+      let at = climbed times part line in
+      let still : advanced times 0 start ≡ start = advanced_none times start in
+      let here : Reads offset family (runs_bytes family runs ++ rest) start at (shown_line l) =
+      pieces_here offset family most (rest_of most len) first later rest start at none (wholes most len) l are.1 is_first is_later from (omega (arith, ends, to)) in
+      run_past offset family 0 (Some part) runs rest start line times (shown_line l) are.0 (omega (arith, still, from))
+      (subst (λ (n : ℕ). Reads offset family (runs_bytes family runs ++ rest) n at (shown_line l)) (sym still) here)
 
-gap_read : (covers : ℕ) (rest : List ℕ) → range_entry (covers ∷ 128 ∷ rest) ≡ Some (entry_with 2 covers None)
-gap_read covers rest = ap (option_map without_line) (pair_read covers 128 rest (negsuc 127) refl) ∙ refl
+  -- a range of the later families
+  ranges_past : (delta : Option ℤ) (shown : ℤ) → AreRuns Ranges (runs_of Ranges len delta) → start + len ≤ offset
+      → Reads offset Ranges rest (start + len) (line +ℤ delta_of delta) shown → Reads offset Ranges (runs_bytes Ranges (runs_of Ranges len delta) ++ rest) start line shown
+  ranges_past None shown are gone next = located_past Ranges 255 0 (pos 0) None None shown refl (ends_255 len start) are gone next
+  ranges_past (Some d) shown are gone next =
+      let parts = parts_of 127 d in
+      located_past Ranges 255 parts.wholes parts.whole (Some parts.last) (Some (pos 0)) shown refl (ends_255 len start) are gone
+      (subst (λ (z : ℤ). Reads offset Ranges rest (start + len) z shown) (sym (total_127 d line)) next)
 
--- numbers of several bytes
-abbrev number : ℕ → ℕ → Number
-number v s = record { value = v; size = s }
+  ranges_here : (delta : Option ℤ) → AreRuns Ranges (runs_of Ranges len delta) → start ≤ offset → offset < start + len
+      → Reads offset Ranges (runs_bytes Ranges (runs_of Ranges len delta) ++ rest) start line (shown_line (line_with Ranges line delta))
+  ranges_here None are from to = located_here Ranges 255 0 (pos 0) None None None refl (ends_255 len start) are refl refl from to
+  ranges_here (Some d) are from to =
+      let parts = parts_of 127 d in
+      let at = climbed parts.wholes parts.whole line in
+      let total : at +ℤ parts.last ≡ line +ℤ d = total_127 d line in
+      located_here Ranges 255 parts.wholes parts.whole (Some parts.last) (Some (pos 0)) (in_i32 (line +ℤ d)) refl (ends_255 len start) are
+      (ap in_i32 total) (ap in_i32 (none_moves (at +ℤ parts.last) ∙ total)) from to
 
-same_number : (v w s t : ℕ) → v ≡ w → s ≡ t → Some (number v s) ≡ Some (number w t)
-same_number v w s t value size = rw (value, size) refl
+  locations_past : (delta : Option ℤ) (shown : ℤ) → AreRuns Locations (runs_of Locations len delta) → start + len ≤ offset
+      → Reads offset Locations rest (start + len) (line +ℤ delta_of delta) shown → Reads offset Locations (runs_bytes Locations (runs_of Locations len delta) ++ rest) start line shown
+  locations_past None shown are gone next = located_past Locations 16 0 (pos 0) None None shown refl (ends_16 len start) are gone next
+  locations_past (Some d) shown are gone next = located_past Locations 16 0 (pos 0) (Some d) (Some (pos 0)) shown refl (ends_16 len start) are gone next
 
-pub varint_back : (most n : ℕ) (rest : List ℕ) → n < 64 ^ suc most → varint_within (suc most) (varint_bytes most n ++ rest) ≡ Some (record { value = n; size = length (varint_bytes most n) })
-varint_back zero n rest small =
-    let less : n < 64 = omega (arith, small) in
-    let bit : bit_at n 6 ≡ 0 = omega arith in
-    let low : n % 64 ≡ n = omega arith in
-    rw (bit, low) refl
-varint_back (suc most) n rest small = elim (cases_lt n 64) [
-  | inl less ↦
-      let bit : bit_at n 6 ≡ 0 = omega arith in
-      let low : n % 64 ≡ n = omega arith in
-      rw (lt-ltb n 64 less, bit, low) refl
-  | inr more ↦
-      let byte = 64 + n % 64 in
-      let bit : eqb (bit_at byte 6) 0 ≡ false = (let one : bit_at byte 6 ≡ 1 = omega arith in rw one refl) in
-      let power : 64 ^ suc (suc most) ≡ 64 * 64 ^ suc most = pow-succ' 64 (suc most) in
-      let high : n / 64 < 64 ^ suc most = omega (arith, small, power) in
-      let value : byte % 64 + 64 * (n / 64) ≡ n = omega arith in
-      let later = varint_back most (n / 64) rest high in
-      rw (le-ltb n 64 more, bit) (ap (option_map (with_low byte)) later ∙ same_number _ _ _ _ value (omega arith))
-]
+  locations_here : (delta : Option ℤ) → AreRuns Locations (runs_of Locations len delta) → start ≤ offset → offset < start + len
+      → Reads offset Locations (runs_bytes Locations (runs_of Locations len delta) ++ rest) start line (shown_line (line_with Locations line delta))
+  locations_here None are from to = located_here Locations 16 0 (pos 0) None None None refl (ends_16 len start) are refl refl from to
+  locations_here (Some d) are from to =
+      located_here Locations 16 0 (pos 0) (Some d) (Some (pos 0)) (in_i32 (line +ℤ d)) refl (ends_16 len start) are
+      refl (ap in_i32 (none_moves (line +ℤ d))) from to
 
-signed_back : (d : ℤ) → signed_of (signed_code d) ≡ d
-signed_back (pos n) =
-    let even : eqb (2 * n % 2) 1 ≡ false = (let none : 2 * n % 2 ≡ 0 = omega arith in rw none refl) in
-    let half : 2 * n / 2 ≡ n = omega arith in
-    rw (even, half) refl
-signed_back (negsuc n) =
-    let odd : eqb ((2 * suc n + 1) % 2) 1 ≡ true = (let one : (2 * suc n + 1) % 2 ≡ 1 = omega arith in rw one refl) in
-    let half : (2 * suc n + 1) / 2 ≡ suc n = omega arith in
-    rw (odd, half) refl
+-- the code since a range of `Pairs` began, and the step to the next
+abbrev pair_at : ℕ → ℕ → ℕ → ℤ → ℤ → List Run
+pair_at k left m whole last =
+    run_of k 255 (Some (pos 0)) ∷ run_of (cond (eqb m 0) 0 1) left (Some whole) ∷ run_of (m - 1) 0 (Some whole) ∷ run_of 1 (cond (eqb m 0) left 0) (Some last) ∷ []
 
-small_code : (d : ℤ) → negsuc (2 ^ 33) ≤ℤ d → d ≤ℤ pos (2 ^ 33) → signed_code d < 64 ^ 6
-small_code (pos n) low high = omega (arith, ints, high)
-small_code (negsuc n) low high = omega (arith, ints, low)
-
-location_read : (byte : ℕ) (rest : List ℕ) (line : LocationLine) → 128 ≤ byte → location_line (byte / 8 % 16) rest ≡ Some line → location_entry (byte ∷ rest) ≡ Some (location_with byte line)
-location_read byte rest line high is = rw (le-ltb byte 128 high, is) refl
-
-no_line_read : (code : ℕ) (rest : List ℕ) → code ≡ 15 → location_line code rest ≡ Some (record { size = 0; delta = None })
-no_line_read code rest is = rw is refl
-
-delta_read : (code : ℕ) (rest : List ℕ) (n : Number) → code ≡ 13 → varint rest ≡ Some n → location_line code rest ≡ Some (line_moved_by n)
-delta_read code rest n is number = rw is (ap (option_map line_moved_by) number)
-
-pub entry_read : (family : LineFamily) (covers : ℕ) (delta : Option ℤ) (rest : List ℕ) → IsPart family covers delta
-    → first_entry family (entry_bytes family covers delta ++ rest) ≡ Some (entry_with (length (entry_bytes family covers delta)) covers delta)
-unfolding first_entry varint
-entry_read Pairs covers None rest part = absurd part
-entry_read Pairs covers (Some d) rest part = pair_read covers (cast_unsigned w8 d) rest d (byte_back d part.1 part.2)
-entry_read Ranges covers None rest part = gap_read covers rest
-entry_read Ranges covers (Some d) rest part = range_read covers (cast_unsigned w8 d) rest d (byte_back d (omega (arith, ints, part.1)) part.2) part.1
-entry_read Locations covers None rest part =
-    let byte = location_head 15 covers in
-    let code : byte / 8 % 16 ≡ 15 = omega (arith, part.0) in
-    location_read byte rest (record { size = 0; delta = None }) (omega arith) (no_line_read (byte / 8 % 16) rest code)
-    ∙ same_entry (1 + 0) 1 (2 * (byte % 8 + 1)) covers None None refl (omega (arith, part.0, part.1, part.2)) refl
-entry_read Locations covers (Some d) rest part =
-    let byte = location_head 13 covers in
-    let code : byte / 8 % 16 ≡ 13 = omega (arith, part.0) in
-    let bytes = varint_bytes 5 (signed_code d) in
-    let n : Number = record { value = signed_code d; size = length bytes } in
-    let number : varint (bytes ++ rest) ≡ Some n = varint_back 5 (signed_code d) rest (small_code d part.3 part.4) in
-    location_read byte (bytes ++ rest) (line_moved_by n) (omega arith) (delta_read (byte / 8 % 16) (bytes ++ rest) n code number)
-    ∙ same_entry (1 + length bytes) (length (byte ∷ bytes)) (2 * (byte % 8 + 1)) covers (Some (signed_of (signed_code d))) (Some d) (omega arith) (omega (arith, part.0, part.1, part.2)) (ap Some (signed_back d))
-
--- it covers few bytes of code, moves the line little, and has a byte at least
-pub part_small : (family : LineFamily) (size covers : ℕ) (delta : Option ℤ) → IsPart family covers delta → IsSmall (entry_with size covers delta)
-part_small Pairs size covers None part = absurd part
-part_small Pairs size covers (Some d) part = record { covers = part.0; delta = (omega (arith, ints, part.1), omega (arith, ints, part.2)) }
-part_small Ranges size covers None part = record { covers = part; delta = tt }
-part_small Ranges size covers (Some d) part = record { covers = part.0; delta = (omega (arith, ints, part.1), omega (arith, ints, part.2)) }
-part_small Locations size covers None part = record { covers = omega (arith, part.0); delta = tt }
-part_small Locations size covers (Some d) part = record { covers = omega (arith, part.0); delta = (omega (arith, ints, part.3), omega (arith, ints, part.4)) }
-
-pub some_bytes : (family : LineFamily) (covers : ℕ) (delta : Option ℤ) → 1 ≤ length (entry_bytes family covers delta)
-some_bytes Pairs covers delta = omega arith
-some_bytes Ranges covers delta = omega arith
-some_bytes Locations covers None = omega arith
-some_bytes Locations covers (Some d) = omega arith
-
--- ---- the line at an offset, read from a place on
-
-abbrev pub place : ℕ → ℤ → Place
-place start line = record { start = start; line = line }
-
-abbrev pub Reads : ℕ → LineFamily → List ℕ → ℕ → ℤ → ℤ → Type 0
-Reads offset family bytes start line shown =
-    (ahead : List LineRange) → IsAhead family bytes (place start line) ahead → line_among ahead offset ≡ shown
-
--- a place behind so many entries that are alike
-abbrev pub advanced : ℕ → ℕ → ℕ → ℕ
-advanced zero covers start = start
-advanced (suc k) covers start = advanced k covers (start + covers)
-
-abbrev pub climbed : ℕ → ℤ → ℤ → ℤ
-climbed zero d line = line
-climbed (suc k) d line = climbed k d (line +ℤ d)
-
-advanced_least : (k covers start : ℕ) → start ≤ advanced k covers start
-advanced_least zero covers start = omega arith
-advanced_least (suc k) covers start = omega (arith, advanced_least k covers (start + covers))
-
-pub advanced_none : (k start : ℕ) → advanced k 0 start ≡ start
-advanced_none zero start = refl
-advanced_none (suc k) start = let same : start + 0 ≡ start = omega arith in rw same (advanced_none k start)
-
-pub advanced_255 : (k start : ℕ) → advanced k 255 start ≡ start + 255 * k
-advanced_255 zero start = omega arith
-advanced_255 (suc k) start = omega (arith, advanced_255 k (start + 255))
-
-pub advanced_16 : (k start : ℕ) → advanced k 16 start ≡ start + 16 * k
-advanced_16 zero start = omega arith
-advanced_16 (suc k) start = omega (arith, advanced_16 k (start + 16))
-
-pub climbed_none : (k : ℕ) (d line : ℤ) → d ≡ pos 0 → climbed k d line ≡ line
-climbed_none zero d line none = refl
-climbed_none (suc k) d line none = let same : line +ℤ d ≡ line = omega (arith, ints, none) in rw same (climbed_none k d line none)
-
-pub climbed_up : (k : ℕ) (line : ℤ) → climbed k (pos 127) line ≡ line +ℤ pos (127 * k)
-climbed_up zero line = omega (arith, ints)
-climbed_up (suc k) line = climbed_up k (line +ℤ pos 127) ∙ omega (arith, ints)
-
-pub climbed_127 : (k : ℕ) (line : ℤ) → climbed k (negsuc 126) line ≡ line -ℤ pos (127 * k)
-climbed_127 zero line = omega (arith, ints)
-climbed_127 (suc k) line = climbed_127 k (line +ℤ negsuc 126) ∙ omega (arith, ints)
-
-pub climbed_128 : (k : ℕ) (line : ℤ) → climbed k (negsuc 127) line ≡ line -ℤ pos (128 * k)
-climbed_128 zero line = omega (arith, ints)
-climbed_128 (suc k) line = climbed_128 k (line +ℤ negsuc 127) ∙ omega (arith, ints)
-
-module _ (offset : ℕ) (family : LineFamily) (covers : ℕ) (delta : Option ℤ) (rest : List ℕ) where
-  step : (start : ℕ) (line : ℤ) → IsPart family covers delta → (ahead : List LineRange) → IsAhead family (entry_bytes family covers delta ++ rest) (place start line) ahead
-      → (later : List LineRange) × (kept (line_range_at family (place start line) (entry_with (length (entry_bytes family covers delta)) covers delta)) later ≡ ahead) × IsAhead family rest (place (start + covers) (line +ℤ delta_of delta)) later
-  step start line part ahead at =
-      let b = entry_bytes family covers delta in
-      let e = entry_with (length b) covers delta in
-      let room : HasEntryRoom (length (b ++ rest)) e = record { begins = some_bytes family covers delta; ends = omega (arith, length-append b rest) } in
-      let passed = walk_passes family (b ++ rest) (place start line) ahead e at (entry_read family covers delta rest part) room (part_small family (length b) covers delta part) in
-      (passed.0, passed.1, subst (λ (left : List ℕ). IsAhead family left (past (place start line) e) passed.0) (drop-append_seam b rest) passed.2)
-
-  pub entry_here : (start : ℕ) (line : ℤ) → IsPart family covers delta → start ≤ offset → offset < start + covers
-      → Reads offset family (entry_bytes family covers delta ++ rest) start line (shown_line (line_with family line delta))
-  entry_here start line part from to ahead at =
-      let taken = step start line part ahead at in
-      let here = line_range_at family (place start line) (entry_with (length (entry_bytes family covers delta)) covers delta) in
-      let held : holds offset here ≡ true = grind (arith, nat_tests) in
-      held_line offset here taken.0 ahead taken.1 held
-
-  pub entry_past : (start : ℕ) (line shown : ℤ) → IsPart family covers delta → start + covers ≤ offset
-      → Reads offset family rest (start + covers) (line +ℤ delta_of delta) shown
-      → Reads offset family (entry_bytes family covers delta ++ rest) start line shown
-  entry_past start line shown part gone next ahead at =
-      let taken = step start line part ahead at in
-      let here = line_range_at family (place start line) (entry_with (length (entry_bytes family covers delta)) covers delta) in
-      let free : holds offset here ≡ false = grind (arith, nat_tests) in
-      sym (passed_line offset here taken.0 ahead taken.1 free) ∙ next taken.0 taken.2
-
--- ---- runs
-
-module _ (offset : ℕ) (family : LineFamily) (covers : ℕ) (delta : Option ℤ) (rest : List ℕ) (part : IsPart family covers delta) where
-  pub times_past : (times start : ℕ) (line shown : ℤ) → advanced times covers start ≤ offset
-      → Reads offset family rest (advanced times covers start) (climbed times (delta_of delta) line) shown
-      → Reads offset family (repeated times (entry_bytes family covers delta) ++ rest) start line shown
-  unfolding repeated
-  times_past zero start line shown gone next = next
-  times_past (suc k) start line shown gone next =
-      let b = entry_bytes family covers delta in
-      let later : Reads offset family (repeated k b ++ rest) (start + covers) (line +ℤ delta_of delta) shown = times_past k (start + covers) (line +ℤ delta_of delta) shown gone next in
-      let least : start + covers ≤ offset = omega (arith, gone, advanced_least k covers (start + covers)) in
-      let all : Reads offset family (b ++ (repeated k b ++ rest)) start line shown = entry_past offset family covers delta (repeated k b ++ rest) start line shown part least later in
-      subst (λ (bytes : List ℕ). Reads offset family bytes start line shown) (sym (append_assoc b (repeated k b) rest)) all
-
-  pub times_here : (times start : ℕ) (line : ℤ) → delta_of delta ≡ pos 0 → start ≤ offset → offset < advanced times covers start
-      → Reads offset family (repeated times (entry_bytes family covers delta) ++ rest) start line (shown_line (line_with family line delta))
-  unfolding repeated
-  times_here zero start line none from to = absurd (omega (arith, from, to))
-  times_here (suc k) start line none from to =
-      let b = entry_bytes family covers delta in
-      let shown = shown_line (line_with family line delta) in
-      let all : Reads offset family (b ++ (repeated k b ++ rest)) start line shown =
-          elim (cases_lt offset (start + covers)) [
-            | inl less ↦ entry_here offset family covers delta (repeated k b ++ rest) start line part from less
-            | inr more ↦
-                let same : line +ℤ delta_of delta ≡ line = omega (arith, ints, none) in
-                let later : Reads offset family (repeated k b ++ rest) (start + covers) line shown = times_here k (start + covers) line none more to in
-                entry_past offset family covers delta (repeated k b ++ rest) start line shown part more
-                (subst (λ (z : ℤ). Reads offset family (repeated k b ++ rest) (start + covers) z shown) (sym same) later)
-          ] in
-      subst (λ (bytes : List ℕ). Reads offset family bytes start line shown) (sym (append_assoc b (repeated k b) rest)) all
-
--- ---- runs among others
-
-module _ (offset : ℕ) (family : LineFamily) (covers : ℕ) (delta : Option ℤ) (rs : List Run) (rest : List ℕ) (start : ℕ) (line : ℤ) where
-  pub run_past : (times : ℕ) (shown : ℤ) → IsRun family (run_of times covers delta) → advanced times covers start ≤ offset
-      → Reads offset family (runs_bytes family rs ++ rest) (advanced times covers start) (climbed times (delta_of delta) line) shown
-      → Reads offset family (runs_bytes family (run_of times covers delta ∷ rs) ++ rest) start line shown
-  unfolding runs_bytes repeated
-  run_past zero shown is gone next = next
-  run_past (suc k) shown is gone next =
-      let b = repeated (suc k) (entry_bytes family covers delta) in
-      subst (λ (bytes : List ℕ). Reads offset family bytes start line shown) (sym (append_assoc b (runs_bytes family rs) rest))
-      (times_past offset family covers delta (runs_bytes family rs ++ rest) (is (omega arith)) (suc k) start line shown gone next)
-
-  pub run_here : (times : ℕ) → IsRun family (run_of times covers delta) → delta_of delta ≡ pos 0 → start ≤ offset → offset < advanced times covers start
-      → Reads offset family (runs_bytes family (run_of times covers delta ∷ rs) ++ rest) start line (shown_line (line_with family line delta))
+module _ (offset k left : ℕ) (whole last : ℤ) (rest : List ℕ) (start : ℕ) (line : ℤ) where
+  pair_past : (m : ℕ) (shown : ℤ) → AreRuns Pairs (pair_at k left m whole last) → advanced k 255 start + left ≤ offset
+      → Reads offset Pairs rest (advanced k 255 start + left) (climbed m whole line +ℤ last) shown
+      → Reads offset Pairs (runs_bytes Pairs (pair_at k left m whole last) ++ rest) start line shown
   unfolding runs_bytes
-  run_here zero is none from to = absurd (omega (arith, from, to))
-  run_here (suc k) is none from to =
-      let b = repeated (suc k) (entry_bytes family covers delta) in
-      subst (λ (bytes : List ℕ). Reads offset family bytes start line (shown_line (line_with family line delta))) (sym (append_assoc b (runs_bytes family rs) rest))
-      (times_here offset family covers delta (runs_bytes family rs ++ rest) (is (omega arith)) (suc k) start line none from to)
-
-  pub once_here : IsPart family covers delta → start ≤ offset → offset < start + covers
-      → Reads offset family (runs_bytes family (run_of 1 covers delta ∷ rs) ++ rest) start line (shown_line (line_with family line delta))
-  unfolding runs_bytes repeated
-  once_here part from to =
-      let b = entry_bytes family covers delta in
-      let same : (b ++ []) ++ runs_bytes family rs ++ rest ≡ b ++ (runs_bytes family rs ++ rest) =
-          ap (λ (bs : List ℕ). bs ++ runs_bytes family rs ++ rest) (append-nil b) ∙ append_assoc b (runs_bytes family rs) rest in
-      subst (λ (bytes : List ℕ). Reads offset family bytes start line (shown_line (line_with family line delta))) (sym same)
-      (entry_here offset family covers delta (runs_bytes family rs ++ rest) start line part from to)
-
-one_some : 0 < 1
-one_some = omega arith
-
--- ---- code in pieces
-
-abbrev pieces_at : ℕ → ℕ → ℕ → Option ℤ → Option ℤ → List Run
-pieces_at most q left first later =
-    run_of (cond (eqb q 0) 0 1) most first ∷ run_of (q - 1) most later ∷ run_of 1 left (cond (eqb q 0) first later) ∷ []
-
-module _ (offset : ℕ) (family : LineFamily) (most left : ℕ) (first later : Option ℤ) (rest : List ℕ) (start : ℕ) (line : ℤ) (none : delta_of later ≡ pos 0) where
-  pub pieces_past : (q : ℕ) (shown : ℤ) → AreRuns family (pieces_at most q left first later) → advanced q most start + left ≤ offset
-      → Reads offset family rest (advanced q most start + left) (line +ℤ delta_of first) shown
-      → Reads offset family (runs_bytes family (pieces_at most q left first later) ++ rest) start line shown
-  unfolding runs_bytes
-  pieces_past zero shown are gone next =
-      run_past offset family most first (run_of 0 most later ∷ run_of 1 left first ∷ []) rest start line 0 shown are.0 (omega (arith, gone))
-      (run_past offset family most later (run_of 1 left first ∷ []) rest start line 0 shown are.1.0 (omega (arith, gone))
-      (run_past offset family left first [] rest start line 1 shown are.1.1.0 gone next))
-  pieces_past (suc k) shown are gone next =
-      let some : eqb (suc k) 0 ≡ false = grind (arith, nat_tests) in
-      let less : suc k - 1 ≡ k = omega arith in
-      let all : AreRuns family (run_of 1 most first ∷ run_of k most later ∷ run_of 1 left later ∷ []) = rw (some, less) at are in
-      let to = advanced k most (start + most) in
-      let moved = line +ℤ delta_of first in
-      let same : climbed k (delta_of later) moved ≡ moved = climbed_none k (delta_of later) moved none in
-      let last : moved +ℤ delta_of later ≡ moved = omega (arith, ints, none) in
-      let at_last : Reads offset family (runs_bytes family (run_of 1 left later ∷ []) ++ rest) to moved shown =
-          run_past offset family left later [] rest to moved 1 shown all.1.1.0 gone
-          (subst (λ (z : ℤ). Reads offset family rest (to + left) z shown) (sym last) next) in
-      let at_later : Reads offset family (runs_bytes family (run_of k most later ∷ run_of 1 left later ∷ []) ++ rest) (start + most) moved shown =
-          run_past offset family most later (run_of 1 left later ∷ []) rest (start + most) moved k shown all.1.0 (omega (arith, gone))
-          (subst (λ (z : ℤ). Reads offset family (runs_bytes family (run_of 1 left later ∷ []) ++ rest) to z shown) (sym same) at_last) in
+  pair_past zero shown are gone next =
+      let to = advanced k 255 start in
+      let same : climbed k (pos 0) line ≡ line = climbed_none k (pos 0) line refl in
+      let runs = run_of 0 left (Some whole) ∷ run_of 0 0 (Some whole) ∷ run_of 1 left (Some last) ∷ [] in
+      let behind : Reads offset Pairs (runs_bytes Pairs runs ++ rest) to line shown =
+      run_past offset Pairs left (Some whole) (run_of 0 0 (Some whole) ∷ run_of 1 left (Some last) ∷ []) rest to line 0 shown are.1.0 (omega (arith, gone))
+      (run_past offset Pairs 0 (Some whole) (run_of 1 left (Some last) ∷ []) rest to line 0 shown are.1.1.0 (omega (arith, gone))
+      (run_past offset Pairs left (Some last) [] rest to line 1 shown are.1.1.1.0 gone next)) in
+      run_past offset Pairs 255 (Some (pos 0)) runs rest start line k shown are.0 (omega (arith, gone))
+      (subst (λ (z : ℤ). Reads offset Pairs (runs_bytes Pairs runs ++ rest) to z shown) (sym same) behind)
+  pair_past (suc j) shown are gone next =
+      let some : eqb (suc j) 0 ≡ false = grind (arith, nat_tests) in
+      let less : suc j - 1 ≡ j = omega arith in
+      let runs = run_of 1 left (Some whole) ∷ run_of j 0 (Some whole) ∷ run_of 1 0 (Some last) ∷ [] in
+      let all : AreRuns Pairs (run_of k 255 (Some (pos 0)) ∷ runs) = rw (some, less) at are in
+      let to = advanced k 255 start in
+      let same : climbed k (pos 0) line ≡ line = climbed_none k (pos 0) line refl in
+      let end = to + left in
+      let still : advanced j 0 end ≡ end = advanced_none j end in
+      let moved = climbed j whole (line +ℤ whole) in
+      let none : end + 0 ≡ end = omega arith in
+      let at_last : Reads offset Pairs (runs_bytes Pairs (run_of 1 0 (Some last) ∷ []) ++ rest) end moved shown =
+      run_past offset Pairs 0 (Some last) [] rest end moved 1 shown all.1.1.1.0 (omega (arith, gone))
+      (subst (λ (n : ℕ). Reads offset Pairs rest n (moved +ℤ last) shown) (sym none) next) in
+      let at_parts : Reads offset Pairs (runs_bytes Pairs (run_of j 0 (Some whole) ∷ run_of 1 0 (Some last) ∷ []) ++ rest) end (line +ℤ whole) shown =
+      run_past offset Pairs 0 (Some whole) (run_of 1 0 (Some last) ∷ []) rest end (line +ℤ whole) j shown all.1.1.0 (omega (arith, still, gone))
+      (subst (λ (n : ℕ). Reads offset Pairs (runs_bytes Pairs (run_of 1 0 (Some last) ∷ []) ++ rest) n moved shown) (sym still) at_last) in
+      let behind : Reads offset Pairs (runs_bytes Pairs runs ++ rest) to line shown =
+      run_past offset Pairs left (Some whole) (run_of j 0 (Some whole) ∷ run_of 1 0 (Some last) ∷ []) rest to line 1 shown all.1.0 gone at_parts in
       rw (some, less)
-      (run_past offset family most first (run_of k most later ∷ run_of 1 left later ∷ []) rest start line 1 shown all.0 (omega (arith, gone, advanced_least k most (start + most))) at_later)
+      (run_past offset Pairs 255 (Some (pos 0)) runs rest start line k shown all.0 (omega (arith, gone))
+      (subst (λ (z : ℤ). Reads offset Pairs (runs_bytes Pairs runs ++ rest) to z shown) (sym same) behind))
 
-  pub pieces_here : (q : ℕ) (l : Option ℤ) → AreRuns family (pieces_at most q left first later) → line_with family line first ≡ l → line_with family (line +ℤ delta_of first) later ≡ l
-      → start ≤ offset → offset < advanced q most start + left
-      → Reads offset family (runs_bytes family (pieces_at most q left first later) ++ rest) start line (shown_line l)
+  pair_behind : (m : ℕ) → AreRuns Pairs (pair_at k left m whole last) → advanced k 255 start ≤ offset → offset < advanced k 255 start + left
+      → Reads offset Pairs (runs_bytes Pairs (pair_at k left m whole last) ++ rest) start line (shown_line (in_i32 line))
   unfolding runs_bytes
-  pieces_here zero l are is_first is_later from to =
-      let shown = shown_line l in
-      let here : Reads offset family (runs_bytes family (run_of 1 left first ∷ []) ++ rest) start line shown =
-          subst (λ (o : Option ℤ). Reads offset family (runs_bytes family (run_of 1 left first ∷ []) ++ rest) start line (shown_line o)) is_first
-          (once_here offset family left first [] rest start line (are.1.1.0 one_some) from to) in
-      run_past offset family most first (run_of 0 most later ∷ run_of 1 left first ∷ []) rest start line 0 shown are.0 from
-      (run_past offset family most later (run_of 1 left first ∷ []) rest start line 0 shown are.1.0 from here)
-  pieces_here (suc k) l are is_first is_later from to =
-      let some : eqb (suc k) 0 ≡ false = grind (arith, nat_tests) in
-      let less : suc k - 1 ≡ k = omega arith in
-      let all : AreRuns family (run_of 1 most first ∷ run_of k most later ∷ run_of 1 left later ∷ []) = rw (some, less) at are in
-      let end = advanced k most (start + most) in
-      let shown = shown_line l in
-      let moved = line +ℤ delta_of first in
-      let runs = run_of k most later ∷ run_of 1 left later ∷ [] in
-      let same : climbed k (delta_of later) moved ≡ moved = climbed_none k (delta_of later) moved none in
-      rw (some, less) (elim (cases_lt offset (start + most)) [
-        | inl less ↦
-            subst (λ (o : Option ℤ). Reads offset family (runs_bytes family (run_of 1 most first ∷ runs) ++ rest) start line (shown_line o)) is_first
-            (once_here offset family most first runs rest start line (all.0 one_some) from less)
-        | inr more ↦
-            run_past offset family most first runs rest start line 1 shown all.0 more
-            (elim (cases_lt offset end) [
-              | inl below ↦
-                  subst (λ (o : Option ℤ). Reads offset family (runs_bytes family runs ++ rest) (start + most) moved (shown_line o)) is_later
-                  (run_here offset family most later (run_of 1 left later ∷ []) rest (start + most) moved k all.1.0 none more below)
-              | inr above ↦
-                  run_past offset family most later (run_of 1 left later ∷ []) rest (start + most) moved k shown all.1.0 above
-                  (subst (λ (z : ℤ). Reads offset family (runs_bytes family (run_of 1 left later ∷ []) ++ rest) end z shown) (sym same)
-                  (subst (λ (o : Option ℤ). Reads offset family (runs_bytes family (run_of 1 left later ∷ []) ++ rest) end moved (shown_line o)) is_later
-                  (once_here offset family left later [] rest end moved (all.1.1.0 one_some) above to)))
-            ])
-      ])
+  pair_behind zero are from to =
+      let at = advanced k 255 start in
+      let same : climbed k (pos 0) line ≡ line = climbed_none k (pos 0) line refl in
+      let shown = shown_line (in_i32 line) in
+      let runs = run_of 0 left (Some whole) ∷ run_of 0 0 (Some whole) ∷ run_of 1 left (Some last) ∷ [] in
+      let behind : Reads offset Pairs (runs_bytes Pairs runs ++ rest) at line shown =
+      run_past offset Pairs left (Some whole) (run_of 0 0 (Some whole) ∷ run_of 1 left (Some last) ∷ []) rest at line 0 shown are.1.0 from
+      (run_past offset Pairs 0 (Some whole) (run_of 1 left (Some last) ∷ []) rest at line 0 shown are.1.1.0 from
+      (once_here offset Pairs left (Some last) [] rest at line (are.1.1.1.0 one_some) from to)) in
+      run_past offset Pairs 255 (Some (pos 0)) runs rest start line k shown are.0 from
+      (subst (λ (z : ℤ). Reads offset Pairs (runs_bytes Pairs runs ++ rest) at z shown) (sym same) behind)
+  pair_behind (suc j) are from to =
+      let some : eqb (suc j) 0 ≡ false = grind (arith, nat_tests) in
+      let less : suc j - 1 ≡ j = omega arith in
+      let others = run_of j 0 (Some whole) ∷ run_of 1 0 (Some last) ∷ [] in
+      let runs = run_of 1 left (Some whole) ∷ others in
+      let all : AreRuns Pairs (run_of k 255 (Some (pos 0)) ∷ runs) = rw (some, less) at are in
+      let at = advanced k 255 start in
+      let same : climbed k (pos 0) line ≡ line = climbed_none k (pos 0) line refl in
+      let shown = shown_line (in_i32 line) in
+      let behind : Reads offset Pairs (runs_bytes Pairs runs ++ rest) at line shown =
+      once_here offset Pairs left (Some whole) others rest at line (all.1.0 one_some) from to in
+      rw (some, less)
+      (run_past offset Pairs 255 (Some (pos 0)) runs rest start line k shown all.0 from
+      (subst (λ (z : ℤ). Reads offset Pairs (runs_bytes Pairs runs ++ rest) at z shown) (sym same) behind))
+
+  pair_here : (m : ℕ) → AreRuns Pairs (pair_at k left m whole last) → start ≤ offset → offset < advanced k 255 start + left
+      → Reads offset Pairs (runs_bytes Pairs (pair_at k left m whole last) ++ rest) start line (shown_line (in_i32 line))
+  pair_here m are from to = elim (cases_lt offset (advanced k 255 start)) [
+    | inl less ↦
+        run_here offset Pairs 255 (Some (pos 0)) (run_of (cond (eqb m 0) 0 1) left (Some whole) ∷ run_of (m - 1) 0 (Some whole) ∷ run_of 1 (cond (eqb m 0) left 0) (Some last) ∷ []) rest start line
+        k are.0 refl from less
+    | inr more ↦ pair_behind m are more to
+  ]
 
 -- ---- the table
 
+line_fits : (line : ℤ) → FitsSigned w32 line → in_i32 line ≡ Some line
+line_fits (pos n) fits = let small : n < 2 ^ 31 = omega (arith, ints, fits) in rw (lt-ltb n (2 ^ 31) small) refl
+line_fits (negsuc n) fits = let small : n < 2 ^ 31 = omega (arith, ints, fits) in rw (lt-ltb n (2 ^ 31) small) refl
+
+-- the line that a range shows
+range_shows : (line : ℤ) (next : Option ℤ) → IsLine next → option_and_then (λ d. in_i32 (line +ℤ d)) (delta_from line next) ≡ next
+range_shows line None fits = refl
+range_shows line (Some z) fits = let back : line +ℤ (z -ℤ line) ≡ z = omega (arith, ints) in rw back (line_fits z fits)
+
+next_line : (line : ℤ) (next : Option ℤ) → line +ℤ delta_of (delta_from line next) ≡ unwrap_or next line
+next_line line None = omega (arith, ints)
+next_line line (Some z) = omega (arith, ints)
+
+next_fits : (line : ℤ) (next : Option ℤ) → FitsSigned w32 line → IsLine next → FitsSigned w32 (unwrap_or next line)
+next_fits line None fits is = fits
+next_fits line (Some z) fits is = is
+
+near_delta : (line : ℤ) (next : Option ℤ) → FitsSigned w32 line → IsLine next → IsNearDelta (delta_from line next)
+near_delta line None fits is = tt
+near_delta line (Some z) fits is = (omega (arith, ints, fits, is), omega (arith, ints, fits, is))
+
+module _ (offset : ℕ) (r : LineRange) (rs : List LineRange) where
+  among_here : r.start ≤ offset → offset < r.end → line_among (r ∷ rs) offset ≡ shown_line r.line
+  unfolding line_among
+  among_here from to = let held : holds offset r ≡ true = grind (arith, nat_tests) in rw held refl
+
+  among_past : r.end ≤ offset → line_among (r ∷ rs) offset ≡ line_among rs offset
+  unfolding line_among
+  among_past gone = let free : holds offset r ≡ false = grind (arith, nat_tests) in rw free refl
+
+module _ (offset : ℕ) where
+  ranges_back : (rs : List LineRange) (at last : ℕ) (line : ℤ) → first_unordered Ranges at rs ≡ None → FitsSigned w32 line → AreLines rs → at ≤ offset → offset < end_of at rs
+      → Reads offset Ranges (coded_behind Ranges last line rs) at line (line_among rs offset)
+  unfolding coded_behind end_of
+  ranges_back [] at last line ordered fits lines from to = absurd (omega (arith, from, to))
+  ranges_back (r ∷ rs) at last line ordered fits lines from to =
+      let stand = all_stand Ranges at (r ∷ rs) r rs refl ordered in
+      let s = stands_so Ranges at r stand.0 in
+      let delta = delta_from line r.line in
+      let len = r.end - r.start in
+      let rest = coded_behind Ranges r.start (unwrap_or r.line line) rs in
+      let are = runs_are Ranges len delta (near_delta line r.line fits lines.0) (writable Ranges at last line r s) in
+      let end : at + len ≡ r.end = omega (arith, s.begins, s.some) in
+      let bytes = runs_bytes Ranges (runs_of Ranges len delta) ++ rest in
+      elim (cases_lt offset r.end) [
+        | inl less ↦
+            subst (λ (z : ℤ). Reads offset Ranges bytes at line z) (ap shown_line (range_shows line r.line lines.0) ∙ sym (among_here offset r rs (omega (arith, s.begins, from)) less))
+            (ranges_here offset len rest at line delta are from (omega (arith, end, less)))
+        | inr more ↦
+            let later : Reads offset Ranges rest r.end (unwrap_or r.line line) (line_among rs offset) =
+            ranges_back rs r.end r.start (unwrap_or r.line line) stand.1 (next_fits line r.line fits lines.0) lines.1 more to in
+            let moved : Reads offset Ranges rest r.end (line +ℤ delta_of delta) (line_among rs offset) =
+            subst (λ (z : ℤ). Reads offset Ranges rest r.end z (line_among rs offset)) (sym (next_line line r.line)) later in
+            subst (λ (z : ℤ). Reads offset Ranges bytes at line z) (sym (among_past offset r rs more))
+            (ranges_past offset len rest at line delta (line_among rs offset) are (omega (arith, end, more))
+            (subst (λ (n : ℕ). Reads offset Ranges rest n (line +ℤ delta_of delta) (line_among rs offset)) (sym end) moved))
+      ]
+
+  locations_back : (rs : List LineRange) (at last : ℕ) (line : ℤ) → first_unordered Locations at rs ≡ None → FitsSigned w32 line → AreLines rs → at ≤ offset → offset < end_of at rs
+      → Reads offset Locations (coded_behind Locations last line rs) at line (line_among rs offset)
+  unfolding coded_behind end_of
+  locations_back [] at last line ordered fits lines from to = absurd (omega (arith, from, to))
+  locations_back (r ∷ rs) at last line ordered fits lines from to =
+      let stand = all_stand Locations at (r ∷ rs) r rs refl ordered in
+      let s = stands_so Locations at r stand.0 in
+      let delta = delta_from line r.line in
+      let len = r.end - r.start in
+      let rest = coded_behind Locations r.start (unwrap_or r.line line) rs in
+      let are = runs_are Locations len delta (near_delta line r.line fits lines.0) (writable Locations at last line r s) in
+      let end : at + len ≡ r.end = omega (arith, s.begins, s.some) in
+      let bytes = runs_bytes Locations (runs_of Locations len delta) ++ rest in
+      elim (cases_lt offset r.end) [
+        | inl less ↦
+            subst (λ (z : ℤ). Reads offset Locations bytes at line z) (ap shown_line (range_shows line r.line lines.0) ∙ sym (among_here offset r rs (omega (arith, s.begins, from)) less))
+            (locations_here offset len rest at line delta are from (omega (arith, end, less)))
+        | inr more ↦
+            let later : Reads offset Locations rest r.end (unwrap_or r.line line) (line_among rs offset) =
+            locations_back rs r.end r.start (unwrap_or r.line line) stand.1 (next_fits line r.line fits lines.0) lines.1 more to in
+            let moved : Reads offset Locations rest r.end (line +ℤ delta_of delta) (line_among rs offset) =
+            subst (λ (z : ℤ). Reads offset Locations rest r.end z (line_among rs offset)) (sym (next_line line r.line)) later in
+            subst (λ (z : ℤ). Reads offset Locations bytes at line z) (sym (among_past offset r rs more))
+            (locations_past offset len rest at line delta (line_among rs offset) are (omega (arith, end, more))
+            (subst (λ (n : ℕ). Reads offset Locations rest n (line +ℤ delta_of delta) (line_among rs offset)) (sym end) moved))
+      ]
+
+next_pair : (line : ℤ) (next : Option ℤ) → line +ℤ unwrap_or (delta_from line next) (pos 0) ≡ unwrap_or next line
+next_pair line None = omega (arith, ints)
+next_pair line (Some z) = omega (arith, ints)
+
+shown_some : (line : ℤ) (next : Option ℤ) → is_some next ≡ true → shown_line next ≡ unwrap_or next line
+shown_some line None e = absurd (cc)
+shown_some line (Some z) e = refl
+
+module _ (offset : ℕ) where
+  -- behind the last range the code goes on with its line
+  pairs_end : (at last : ℕ) (line : ℤ) → FitsSigned w32 line → at < 2 ^ 31 → last ≤ offset → offset < at
+      → Reads offset Pairs [] last line line
+  unfolding first_entry
+  pairs_end at last line fits small from to ahead is =
+      let r : LineRange = record { start = last; end = 2 ^ 31; line = in_i32 line } in
+      let ends : kept r [] ≡ ahead = walk_ends Pairs [] (place last line) ahead is refl in
+      let held : holds offset r ≡ true = grind (arith, nat_tests) in
+      held_line offset r [] ahead ends held ∙ ap shown_line (line_fits line fits)
+
+  pairs_back : (rs : List LineRange) (at last : ℕ) (line : ℤ) → first_unordered Pairs at rs ≡ None → FitsSigned w32 line → AreLines rs
+      → last ≤ at → at < 2 ^ 31 → last ≤ offset → offset < end_of at rs
+      → Reads offset Pairs (coded_behind Pairs last line rs) last line (cond (ltb offset at) line (line_among rs offset))
+  unfolding coded_behind end_of
+  pairs_back [] at last line ordered fits lines behind small from to =
+      subst (λ (z : ℤ). Reads offset Pairs [] last line z) (rw (lt-ltb offset at to) refl) (pairs_end at last line fits small from to)
+  pairs_back (r ∷ rs) at last line ordered fits lines behind small from to =
+      let stand = all_stand Pairs at (r ∷ rs) r rs refl ordered in
+      let s = stands_so Pairs at r stand.0 in
+      let delta = delta_from line r.line in
+      let next = unwrap_or r.line line in
+      let gap = r.start - last in
+      let parts = parts_of 128 (unwrap_or delta (pos 0)) in
+      let k = wholes 255 gap in
+      let left = rest_of 255 gap in
+      let rest = coded_behind Pairs r.start next rs in
+      let are = runs_are Pairs gap delta (near_delta line r.line fits lines.0) (writable Pairs at last line r s) in
+      let ends : advanced k 255 last + left ≡ r.start = omega (arith, ends_255 gap last, s.begins, behind) in
+      let bytes = runs_bytes Pairs (runs_of Pairs gap delta) ++ rest in
+      elim (cases_lt offset at) [
+        | inl less ↦
+            let shown : shown_line (in_i32 line) ≡ cond (ltb offset at) line (line_among (r ∷ rs) offset) = rw (lt-ltb offset at less) (ap shown_line (line_fits line fits)) in
+            subst (λ (z : ℤ). Reads offset Pairs bytes last line z) shown
+            (pair_here offset k left parts.whole parts.last rest last line parts.wholes are from (omega (arith, ends, s.begins, less)))
+        | inr more ↦
+            let ahead = cond (ltb offset r.end) next (line_among rs offset) in
+            let later : Reads offset Pairs rest r.start next ahead =
+            pairs_back rs r.end r.start next stand.1 (next_fits line r.line fits lines.0) lines.1 (omega (arith, s.some)) s.ends (omega (arith, s.begins, more)) to in
+            let total : climbed parts.wholes parts.whole line +ℤ parts.last ≡ next = total_128 (unwrap_or delta (pos 0)) line ∙ next_pair line r.line in
+            let at_next : Reads offset Pairs rest (advanced k 255 last + left) next ahead = subst (λ (n : ℕ). Reads offset Pairs rest n next ahead) (sym ends) later in
+            let moved : Reads offset Pairs rest (advanced k 255 last + left) (climbed parts.wholes parts.whole line +ℤ parts.last) ahead =
+            subst (λ (z : ℤ). Reads offset Pairs rest (advanced k 255 last + left) z ahead) (sym total) at_next in
+            let past : Reads offset Pairs bytes last line ahead =
+            pair_past offset k left parts.whole parts.last rest last line parts.wholes ahead are (omega (arith, ends, s.begins, more)) moved in
+            let among : ahead ≡ line_among (r ∷ rs) offset = elim (cases_lt offset r.end) [
+              | inl inside ↦ rw (lt-ltb offset r.end inside) (sym (among_here offset r rs (omega (arith, s.begins, more)) inside ∙ shown_some line r.line s.form))
+              | inr outside ↦ rw (le-ltb offset r.end outside) (sym (among_past offset r rs outside))
+            ] in
+            subst (λ (z : ℤ). Reads offset Pairs bytes last line z) (among ∙ (rw (le-ltb offset at more) refl)) past
+      ]
+
 pub keeps_lines : (family : LineFamily) (first : ℤ) (rs : List LineRange) (table : List ℕ) → FitsSigned w32 first → AreLines rs → IsCoding family first rs table → KeepsLines family first rs table
-keeps_lines family first rs table fits lines coding offset below = ?
+unfolding coded
+keeps_lines Pairs first rs table fits lines coding offset below =
+    let none : ltb offset 0 ≡ false = le-ltb offset 0 (omega arith) in
+    pairs_back offset rs 0 0 first coding.ordered fits lines (omega arith) (omega arith) (omega arith) below (ranges_of Pairs first table)
+    (subst (λ (bytes : List ℕ). IsAhead Pairs bytes (place 0 first) (ranges_of Pairs first table)) coding.bytes (walk_begins Pairs first first table refl fits coding.short))
+    ∙ rw none refl
+keeps_lines Ranges first rs table fits lines coding offset below =
+    ranges_back offset rs 0 0 first coding.ordered fits lines (omega arith) below (ranges_of Ranges first table)
+    (subst (λ (bytes : List ℕ). IsAhead Ranges bytes (place 0 first) (ranges_of Ranges first table)) coding.bytes (walk_begins Ranges first first table refl fits coding.short))
+keeps_lines Locations first rs table fits lines coding offset below =
+    locations_back offset rs 0 0 first coding.ordered fits lines (omega arith) below (ranges_of Locations first table)
+    (subst (λ (bytes : List ℕ). IsAhead Locations bytes (place 0 first) (ranges_of Locations first table)) coding.bytes (walk_begins Locations first first table refl fits coding.short))

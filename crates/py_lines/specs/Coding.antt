@@ -1,7 +1,7 @@
 -- How ranges are written as a table, in the forms that `Entries` reads. Which of the tables that say the same is
 -- written, is this project's own rule: each number that is beyond what an entry holds is cut, all parts but the
 -- last as great as they can be.
-use Rattle.std.specs.Prelude.{◌≡◌, ℕ, zero, suc, ◌+◌, ◌-◌, ◌*◌, ◌/◌, ◌%◌, ◌^◌, ◌<◌, ◌≤◌, nat_lt, ◌==◌, ◌&&◌, Bool, true, Option, Some, None, List, [], ◌∷◌, ◌++◌, if◌then◌else◌, option_map, length, ℤ, pos, negsuc, neg_ℤ, ◌+ℤ◌, ◌-ℤ◌, ◌≤ℤ◌, IsTrue}
+use Rattle.std.specs.Prelude.{◌≡◌, ℕ, zero, suc, ◌+◌, ◌-◌, ◌*◌, ◌/◌, ◌%◌, ◌^◌, ◌<◌, ◌≤◌, nat_lt, ◌==◌, ◌&&◌, Bool, true, Option, Some, None, List, [], ◌∷◌, ◌++◌, if◌then◌else◌, option_map, length, ℤ, pos, negsuc, neg_ℤ, ◌-ℤ◌, ◌≤ℤ◌, IsTrue}
 use Rattle.std.specs.Option.{is_some, unwrap_or}
 use Rattle.std.specs.Int.{w8, w32, cast_unsigned}
 use Rattle.std.specs.Int.RustNames.{FitsSigned}
@@ -90,7 +90,8 @@ climbs_of parts = run_of parts.wholes 0 (Some parts.whole)
 abbrev pub runs_of : LineFamily → ℕ → Option ℤ → List Run
 runs_of Pairs len delta = pair_runs len (parts_of 128 (unwrap_or delta (pos 0)))
 runs_of Ranges len None = piece_runs 255 len no_run None None
-runs_of Ranges len (Some d) = piece_runs 255 len (climbs_of (parts_of 127 d)) (Some (parts_of 127 d).last) (Some (pos 0))
+runs_of Ranges len (Some d) =
+    piece_runs 255 len (climbs_of (parts_of 127 d)) (Some (parts_of 127 d).last) (Some (pos 0))
 runs_of Locations len None = piece_runs 16 len no_run None None
 runs_of Locations len (Some d) = piece_runs 16 len no_run (Some d) (Some (pos 0))
 
@@ -171,7 +172,8 @@ pub record IsCoding (family : LineFamily) (first : ℤ) (rs : List LineRange) (t
 -- the table has the line of the ranges at each offset below the last end
 abbrev pub KeepsLines : LineFamily → ℤ → List LineRange → List ℕ → Type 0
 KeepsLines family first rs table =
-    (offset : ℕ) → offset < end_of 0 rs → line_of (ranges_of family first table) (pos offset) ≡ line_of rs (pos offset)
+    (offset : ℕ) → offset < end_of 0 rs
+    → line_of (ranges_of family first table) (pos offset) ≡ line_of rs (pos offset)
 
 -- why ranges have no table
 abbrev pub IsRefusal : LineFamily → ℤ → List LineRange → EncodeError → Type 0
@@ -179,11 +181,15 @@ IsRefusal family first rs (NotOrdered index) = first_unordered family 0 rs ≡ S
 IsRefusal family first rs TooLong = (first_unordered family 0 rs ≡ None) × (65536 ≤ length (coded family first rs))
 IsRefusal family first rs OutOfMemory = first_unordered family 0 rs ≡ None
 
--- why some bytes more than fit have no room
+-- why so many bytes have no room
 abbrev pub IsNoRoom : EncodeError → ℕ → Type 0
 IsNoRoom (NotOrdered index) len = ⊥
 IsNoRoom TooLong len = 65536 ≤ len
 IsNoRoom OutOfMemory len = Unit {0}
+
+-- why a table has no room for some bytes more
+abbrev pub HasNoRoom : EncodeError → List ℕ → List ℕ → Type 0
+HasNoRoom e table bytes = IsNoRoom e (length table + length bytes)
 
 -- ---- what an entry can hold
 

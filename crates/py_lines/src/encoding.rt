@@ -1,7 +1,7 @@
 //! Ranges written as a table.
 ghost use Rattle.std.specs.Prelude.{◌≡◌, ◌<◌, ◌≤◌, ◌+◌, ◌++◌, ◌^◌, ◌%◌, ℕ, pos, negsuc, ◌≤ℤ◌, length, IfOk, IfErr, IfSome, MatchResult};
 ghost use Rattle.py_lines.specs.declared.lines.LineFamily.TheVariants.{Locations};
-ghost use Rattle.py_lines.specs.Coding.{first_unordered, can_stand, covered_by, varint_bytes, signed_code, delta_byte, delta_from, location_head, location_bytes, entry_bytes, run_bytes, runs_bytes, IsNoRoom, IsPart, IsRun, AreRuns, IsLine, IsNearDelta, IsCoding, IsRefusal, KeepsLines};
+ghost use Rattle.py_lines.specs.Coding.{first_unordered, can_stand, covered_by, varint_bytes, signed_code, delta_byte, delta_from, location_head, location_bytes, entry_bytes, run_bytes, runs_bytes, HasNoRoom, IsPart, IsRun, AreRuns, IsLine, IsNearDelta, IsCoding, IsRefusal, KeepsLines};
 
 use crate::runs::{Run, runs_of};
 use crate::{EncodeError, LineFamily, LineRange};
@@ -24,7 +24,7 @@ fn add(table: &mut Vec<u8>, bytes: &[u8]) -> Result<(), EncodeError>
     requires few { length bytes.now < 65536 }
     ensures added { IfOk result (λ _. table.new.items ≡ table.old.items ++ bytes.now) }
     ensures short { IfOk result (λ _. length table.new.items < 65536) }
-    ensures refused { IfErr result (λ error. IsNoRoom error (length table.old.items + length bytes.now)) }
+    ensures refused { IfErr result (λ error. HasNoRoom error table.old.items bytes.now) }
 {
     if table.len() + bytes.len() > MOST {
         return Err(EncodeError::TooLong);
@@ -83,7 +83,7 @@ fn add_varint(table: &mut Vec<u8>, most: u32, value: u64) -> Result<(), EncodeEr
     requires value { value < 64 ^ (most + 1) }
     ensures added { IfOk result (λ _. table.new.items ≡ table.old.items ++ varint_bytes most value) }
     ensures short { IfOk result (λ _. length table.new.items < 65536) }
-    ensures refused { IfErr result (λ error. IsNoRoom error (length table.old.items + length (varint_bytes most value))) }
+    ensures refused { IfErr result (λ error. HasNoRoom error table.old.items (varint_bytes most value)) }
 {
     if value < 64 {
         return add(table, &[value as u8]);
@@ -115,16 +115,12 @@ fn location_head(code: u64, covers: u64) -> u8
 }
 
 /// Adds a location.
-fn add_location(
-    table: &mut Vec<u8>,
-    covers: u64,
-    delta: Option<i64>,
-) -> Result<(), EncodeError>
+fn add_location(table: &mut Vec<u8>, covers: u64, delta: Option<i64>) -> Result<(), EncodeError>
     requires short { length table.old.items < 65536 }
     requires part { IsPart Locations covers delta }
     ensures added { IfOk result (λ _. table.new.items ≡ table.old.items ++ location_bytes covers delta) }
     ensures short { IfOk result (λ _. length table.new.items < 65536) }
-    ensures refused { IfErr result (λ error. IsNoRoom error (length table.old.items + length (location_bytes covers delta))) }
+    ensures refused { IfErr result (λ error. HasNoRoom error table.old.items (location_bytes covers delta)) }
 {
     match delta {
         Some(delta) => {
@@ -157,7 +153,7 @@ fn add_entry(
     requires part { IsPart family covers delta }
     ensures added { IfOk result (λ _. table.new.items ≡ table.old.items ++ entry_bytes family covers delta) }
     ensures short { IfOk result (λ _. length table.new.items < 65536) }
-    ensures refused { IfErr result (λ error. IsNoRoom error (length table.old.items + length (entry_bytes family covers delta))) }
+    ensures refused { IfErr result (λ error. HasNoRoom error table.old.items (entry_bytes family covers delta)) }
 {
     match family {
         LineFamily::Pairs => add(table, &[covers as u8, delta_byte(delta)]),
@@ -172,7 +168,7 @@ fn add_run(table: &mut Vec<u8>, family: LineFamily, run: Run) -> Result<(), Enco
     requires run { IsRun family run }
     ensures added { IfOk result (λ _. table.new.items ≡ table.old.items ++ run_bytes family run) }
     ensures short { IfOk result (λ _. length table.new.items < 65536) }
-    ensures refused { IfErr result (λ error. IsNoRoom error (length table.old.items + length (run_bytes family run))) }
+    ensures refused { IfErr result (λ error. HasNoRoom error table.old.items (run_bytes family run)) }
 {
     let mut left = run.times;
     while left > 0 {
@@ -188,7 +184,7 @@ fn add_runs(table: &mut Vec<u8>, family: LineFamily, runs: &[Run]) -> Result<(),
     requires runs { AreRuns family runs.now }
     ensures added { IfOk result (λ _. table.new.items ≡ table.old.items ++ runs_bytes family runs.now) }
     ensures short { IfOk result (λ _. length table.new.items < 65536) }
-    ensures refused { IfErr result (λ error. IsNoRoom error (length table.old.items + length (runs_bytes family runs.now))) }
+    ensures refused { IfErr result (λ error. HasNoRoom error table.old.items (runs_bytes family runs.now)) }
 {
     let mut rest = runs;
     while let Some((run, later)) = rest.split_first() {

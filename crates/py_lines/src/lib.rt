@@ -4,8 +4,8 @@
 //! code, each with a line or with none.
 #![tactic(auto)]
 
-mod entry;
 mod encoding;
+mod entry;
 mod error;
 mod lines;
 mod runs;
@@ -15,5 +15,7 @@ pub use encoding::encode;
 pub use error::EncodeError;
 pub use lines::{LineFamily, LineRange, line_at, ranges};
 
+#[cfg(test)]
+mod encode_tests;
 #[cfg(test)]
 mod tests;

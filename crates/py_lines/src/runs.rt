@@ -2,7 +2,6 @@
 ghost use Rattle.std.specs.Prelude.{◌≡◌, ◌<◌, ◌≤◌, ◌+◌, ◌*◌, ◌^◌, ◌%◌, ℕ, ℤ, pos, negsuc, ◌≤ℤ◌, ◌-◌, All};
 ghost use Rattle.py_lines.specs.Coding.{wholes, rest_of, parts_of, run_of, pair_runs, piece_runs, runs_of, IsNearDelta};
 
-
 use crate::LineFamily;
 
 /// Entries that are alike, one behind the other.

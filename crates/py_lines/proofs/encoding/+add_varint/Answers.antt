@@ -1,4 +1,4 @@
-use Rattle.std.proofs.Common.{◌≡◌, ◌∙◌, ◌++◌, ◌∷◌, [], ◌+◌, ◌*◌, ◌%◌, ◌/◌, ◌-◌, List, ℕ, length, sym, subst, refl}
+use Rattle.std.proofs.Common.{◌≡◌, ◌∷◌, [], ◌+◌, ◌%◌, ◌/◌, ◌-◌, List, ℕ, subst}
 use Rattle.std.specs.Prelude.{IfOk, IfErr}
 use Rattle.py_lines.specs.Coding.{varint_bytes, IsNoRoom}
 use Rattle.py_lines.proofs.Coding.{varint_last, varint_next, added_then, lengths_then}

@@ -1,4 +1,4 @@
-use Rattle.std.proofs.Common.{◌≡◌, ◌<◌, ◌≤◌, ◌++◌, length}
+use Rattle.std.proofs.Common.{◌≡◌, ◌<◌, ◌++◌, length}
 use Rattle.py_lines.specs.Coding.{runs_bytes, AreRuns}
 use Rattle.py_lines.proofs.encoding.add_runs.Given as goal
 

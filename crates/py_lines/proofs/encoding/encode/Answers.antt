@@ -1,4 +1,4 @@
-use Rattle.std.proofs.Common.{◌≡◌, ◌∙◌, ◌++◌, ◌∷◌, [], ◌+◌, ◌≤◌, List, ℕ, length, sym, ap, subst, refl, arith, rules, to_z, of_z}
+use Rattle.std.proofs.Common.{◌≡◌, ◌∙◌, ◌++◌, [], ◌+◌, ◌≤◌, List, ℕ, length, sym, ap, subst, refl, arith, rules, to_z, of_z}
 use Rattle.std.specs.Prelude.{Option, ℤ}
 use Rattle.std.specs.Option.{unwrap_or}
 use Rattle.std.specs.Int.{w32}
@@ -10,7 +10,7 @@ use Rattle.py_lines.specs.declared.lines.LineRange.{LineRange}
 use Rattle.py_lines.specs.declared.runs.Run.{Run}
 use Rattle.py_lines.specs.Coding.{coded, coded_behind, runs_of, runs_bytes, covered_by, delta_from, AreRuns, AreLines, IsWritable, IsRefusal}
 use Rattle.py_lines.proofs.Coding.{all_stand, stands_so, writable, runs_are, coded_next, coded_none, part_within, part_added, all_added, refusal, runs_same}
-use Rattle.py_lines.proofs.Readback.{times_past, keeps_lines}
+use Rattle.py_lines.proofs.Readback.{keeps_lines}
 use Rattle.py_lines.proofs.encoding.encode.Goals as goal
 
 pub loop-range-init : goal.loop-range-init
@@ -47,13 +47,13 @@ returns-in_err-add_runs-clause-right c =
     let table = c.loop-range.table.items in
     let b = runs_bytes family c.runs_of-runs.result in
     let written : b ≡ runs_bytes family (runs_of family (covered_by family c.loop-range.last r) (delta_from line r.line)) =
-        ap (runs_bytes family) (c.runs_of-runs.ensures ∙ runs_same family _ _ _ _ c.covered_behind.ensures c.delta_from-delta.ensures.value) in
+    ap (runs_bytes family) (c.runs_of-runs.ensures ∙ runs_same family _ _ _ _ c.covered_behind.ensures c.delta_from-delta.ensures.value) in
     let left = coded_behind family r.start (unwrap_or r.line line) later in
     let next : b ++ left ≡ coded_behind family c.loop-range.last line c.loop-range.rest.now =
-        ap (λ bs. bs ++ left) written ∙ sym (coded_next family c.loop-range.last line c.loop-range.rest.now r later c.in-Some-split_first.ensures.cases.0) in
+    ap (λ bs. bs ++ left) written ∙ sym (coded_next family c.loop-range.last line c.loop-range.rest.now r later c.in-Some-split_first.ensures.cases.0) in
     let first_is = to_z-of_z w32 c.args.first c.ranges.first in
     let whole : table ++ (b ++ left) ≡ [] ++ coded family c.args.first c.args.ranges.now =
-        ap (λ bs. table ++ bs) next ∙ c.loop-range.invariant.whole ∙ ap (λ z. coded family z c.args.ranges.now) first_is in
+    ap (λ bs. table ++ bs) next ∙ c.loop-range.invariant.whole ∙ ap (λ z. coded family z c.args.ranges.now) first_is in
     let within : length table + length b ≤ 0 + length (coded family c.args.first c.args.ranges.now) = part_within table [] b left (coded family c.args.first c.args.ranges.now) whole in
     let ordered = sym c.first_unordered.ensures ∙ c.in_default.is in
     rw p.1 (subst (λ e. IsRefusal family c.args.first c.args.ranges.now e) (sym p.2)
@@ -69,14 +69,14 @@ loop-range-preserved c =
     let table = c.loop-range.table.items in
     let b = runs_bytes family c.runs_of-runs.result in
     let written : b ≡ runs_bytes family (runs_of family (covered_by family c.loop-range.last r) (delta_from line r.line)) =
-        ap (runs_bytes family) (c.runs_of-runs.ensures ∙ runs_same family _ _ _ _ c.covered_behind.ensures c.delta_from-delta.ensures.value) in
+    ap (runs_bytes family) (c.runs_of-runs.ensures ∙ runs_same family _ _ _ _ c.covered_behind.ensures c.delta_from-delta.ensures.value) in
     let left = coded_behind family r.start (unwrap_or r.line line) later in
     let next : b ++ left ≡ coded_behind family c.loop-range.last line c.loop-range.rest.now =
-        ap (λ bs. bs ++ left) written ∙ sym (coded_next family c.loop-range.last line c.loop-range.rest.now r later split) in
+    ap (λ bs. bs ++ left) written ∙ sym (coded_next family c.loop-range.last line c.loop-range.rest.now r later split) in
     let all = coded family (to_z w32 (of_z w32 c.args.first)) c.args.ranges.now in
     let whole : table ++ (b ++ left) ≡ [] ++ all = ap (λ bs. table ++ bs) next ∙ c.loop-range.invariant.whole in
     let line_is : unwrap_or r.line line ≡ to_z w32 (of_z w32 c.unwrap_or-line.result) =
-        sym (to_z-of_z w32 c.unwrap_or-line.result (search rules) ∙ c.unwrap_or-line.ensures) in
+    sym (to_z-of_z w32 c.unwrap_or-line.result (search rules) ∙ c.unwrap_or-line.ensures) in
     let ordered = c.loop-range.invariant.ordered in
     let stand = all_stand family ordered.0 c.loop-range.rest.now r later split ordered.1 in
     record {

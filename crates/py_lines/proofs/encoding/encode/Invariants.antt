@@ -1,4 +1,4 @@
-use Rattle.std.proofs.Common.{◌≡◌, ◌<◌, ◌≤◌, ◌++◌, ℕ, length}
+use Rattle.std.proofs.Common.{◌≡◌, ◌<◌, ◌++◌, ℕ, length}
 use Rattle.std.specs.Prelude.{None}
 use Rattle.py_lines.specs.Coding.{first_unordered, coded, coded_behind, AreLines}
 use Rattle.py_lines.proofs.encoding.encode.Given as goal

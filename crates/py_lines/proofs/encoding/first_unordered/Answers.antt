@@ -1,7 +1,6 @@
-use Rattle.std.proofs.Common.{◌≡◌, ◌∙◌, ◌∷◌, [], ◌+◌, length, ap, sym, arith}
+use Rattle.std.proofs.Common.{◌≡◌, ◌∙◌, ◌∷◌, length, ap, sym, arith}
 use Rattle.std.proofs.lemmas.List.{nil_from_length}
 use Rattle.std.proofs.lemmas.Option.{MatchOption-at_none}
-use Rattle.py_lines.specs.declared.lines.LineRange.{LineRange}
 use Rattle.py_lines.proofs.Coding.{unordered_here, unordered_later, unordered_nowhere}
 use Rattle.py_lines.proofs.encoding.first_unordered.Goals as goal
 
