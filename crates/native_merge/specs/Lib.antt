@@ -1,0 +1,4 @@
+pub mod CythonNames
+pub mod Digits
+pub mod Paths
+pub mod Sources

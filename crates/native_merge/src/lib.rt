@@ -1,0 +1,20 @@
+//! Native frames: what their names and files are.
+//!
+//! Cython turns Python code into C. Its functions have names that it has made longer, and its C files tell in
+//! comments which line of a `.pyx` file each piece comes from. Here the names are cut back to what was written.
+#![tactic(auto)]
+
+mod cython;
+mod digits;
+mod fault;
+mod memory_sources;
+mod paths;
+mod sources;
+#[cfg(test)]
+mod tests;
+
+pub use cython::{demangle, ignore_frame};
+pub use fault::SourceFault;
+pub use memory_sources::MemorySources;
+pub use paths::resolve_filename;
+pub use sources::{NoSources, Sources};
