@@ -25,9 +25,10 @@ from rooms import ROOT, TOOLS  # (first: it makes the other rooms known)
 
 from carry_layouts import numbers_by_key
 from child_cores import Case, Core, Failure, Skip, leave_core
+from core_gaps import entries_in
 from core_maps import Use, machine_of, wanted_files
 from derive_layout import Build, Derived, DeriveError, build_of
-from file_tables import TableError, add_file_table, mapped_in
+from file_tables import TableError, add_file_table
 from made import AARCH64, X86_64, layout_of
 from real_core import Walk, check_footprint, check_report, dump, over_core, ran, report_of
 
@@ -147,7 +148,7 @@ def cores_of(derived: Derived, room: Path) -> Iterator[Core]:
     for number, case in enumerate(CASES):
         core = leave_core(derived, NAMES, room / str(number), case)
         try:
-            add_file_table(core.path, mapped_in(core.told.maps.encode("utf-8")))
+            add_file_table(core.path, list(entries_in(core.told.maps.encode("utf-8"))))
             yield core
         except TableError as error:
             raise Failure(f"core '{case.who}': {error}") from error

@@ -246,7 +246,7 @@ def tagged(objects: Objects) -> None:
 
 
 def families() -> Iterator[Row]:
-    """Each family of layouts, with the lock's owner."""
+    """Each family of layouts, with the lock's holder."""
     umlaut = TEXT.replace(" f ", " \u00e4 ")
     both = lambda *changes: lambda objects: [change(objects) for change in changes]
     native = lambda objects: objects.record("thread", THREAD, interp=HEAP, frame=FRAME, id=0x7F00, native_id=4242)

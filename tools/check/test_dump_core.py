@@ -16,9 +16,10 @@ from typing import List, Optional, Tuple
 from rooms import TOOLS  # (first: it makes the other rooms known)
 
 from carry_layouts import FIRST
+from core_gaps import entries_in
 from core_maps import is_library, maps_of, segments_of
 from dump_core import LAYOUTS, PROGRAM
-from file_tables import TableError, add_file_table, mapped_in
+from file_tables import TableError, add_file_table
 from join_layouts import joined, single_files
 from layout_plan import VERSIONS
 from made import AARCH64, EXAMPLE, NOTE, X86_64, Segment, build_id, core_file, elf_file, file_table, note
@@ -336,7 +337,7 @@ class Tables(Case):
             path = Path(os.fsdecode(self.put("core", core_file(segments, [note(b"CORE\0", 1, b"abc")]) + more)))
             with open(path, "rb") as file:
                 before, headers = file.read(), segments_of(file)
-            add_file_table(path, mapped_in(MAPS))
+            add_file_table(path, list(entries_in(MAPS)))
             with open(path, "rb") as file:
                 self.assertEqual(segments_of(file)[:-1], headers)
                 found = [(it.segment.start, it.name, it.pages) for it in maps_of(file)]
@@ -345,8 +346,6 @@ class Tables(Case):
             self.assertEqual(found, [(0x400000, b"/a b/python3.9 (deleted)", 3), (0xFFFF00000000, b"/\xff", 0)])
 
     def test_refused(self):
-        with self.assertRaises(TableError):
-            mapped_in(b"4-x r-xp 0 0 0 /a")
         whole = core_file([])
         for data in (b"", b"text", whole[:70], whole[:56] + b"\xfe\xff" + whole[58:]):
             with self.assertRaises(TableError):

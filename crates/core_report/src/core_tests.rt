@@ -1,4 +1,5 @@
-//! The calls on cores that no command makes: an opened process, its footprint, and a report that is counted.
+//! The calls on cores that no command makes, each once with ample memory: a report, and one that is counted; an opened
+//! process with its stacks, their footprint and their text; and one whose addresses are handed in.
 ghost use Rattle.std.specs.Prelude.{◌≡◌, ◌<◌};
 
 use crate::made::{INTERPRETER, PATH, core, image};
@@ -6,10 +7,9 @@ use core_stacks::{PythonCoreDump, report, report_counted};
 use elf64_core::{Name, Steps};
 use image_memory::{CoreDump, Images, Mmap};
 use outside::MemorySink;
-use process_memory::{Part, Piece, ProcessMemory};
 use py_layout::{Layout, Layouts, Version};
-use py_process::{CoreError, Report};
-use py_stacks::{Addresses, Config, get_stack_over};
+use py_process::Report;
+use py_stacks::{Addresses, Config};
 use std::alloc::Global;
 use std::marker::Brand;
 use std::sync::ledger::{Blank, Ledger};
@@ -34,11 +34,6 @@ const ADDRESSES: Addresses = Addresses {
     lock: 0,
 };
 
-fn opened(alloc: Global) -> Result<PythonCoreDump, Fail> {
-    let core = CoreDump::new(alloc, core(alloc)?)?;
-    Ok(PythonCoreDump::new(alloc, core, &images(alloc)?, &layouts(alloc)?)?)
-}
-
 /// The report of the core, whose reads are counted on a counter of a ledger.
 fn counted<L: Ledger>(alloc: Global, blank: Blank) -> Result<Report, Fail>
     requires name { blank.name ≡ L.name }
@@ -55,75 +50,33 @@ fn counted<L: Ledger>(alloc: Global, blank: Blank) -> Result<Report, Fail>
 fn reports_counted_or_not(rt: HostRuntime) -> Result<(), Fail> {
     let alloc = rt.alloc();
     let (images, layouts) = (images(alloc)?, layouts(alloc)?);
-    let config = Config::default();
-    let plain = report(alloc, core(alloc)?, &images, &layouts, &config)?;
-    assert_eq!(rt; plain.traces.len(), 1);
+    let plain = report(alloc, core(alloc)?, &images, &layouts, &Config::default())?;
     let counted = counted::<Brand>(alloc, Blank::new(1))?;
-    assert!(rt; counted.traces.iter().all(|trace| trace.thread_id == 0x7f00));
+    assert!(rt; plain.traces.len() == 1 && counted.traces.len() == 1);
     Ok(())
 }
 
 #[test]
 fn a_process_that_is_opened(rt: HostRuntime) -> Result<(), Fail> {
     let alloc = rt.alloc();
-    let python = opened(alloc)?;
-    let traces = python.get_stack(&Config::default())?;
-    assert_eq!(rt; traces.len(), 1);
-    let native = Config {
-        native: true,
-        ..Config::default()
-    };
-    let refused = python.get_stack(&native).err();
-    assert_eq!(rt; refused, Some(CoreError::NativeUnsupported));
-    assert!(rt; python.footprint(&native).is_err());
-    let mut out = MemorySink::new(alloc, 100, Vec::new(alloc))?;
-    python.print_traces(&mut out, b"core", &traces, &native)?;
-    assert_eq!(rt; out.bytes(), TEXT);
-    let mut out = MemorySink::new(alloc, 10, Vec::new(alloc))?;
-    let printed = python.print_traces(&mut out, b"core", &traces, &native);
-    assert!(rt; printed.is_err());
-    assert_eq!(rt; out.bytes(), b"Python v3.".as_slice());
-    Ok(())
-}
-
-/// The stacks over the bytes of a footprint alone are those of the core.
-#[test]
-fn a_footprint_suffices(rt: HostRuntime) -> Result<(), Fail> {
-    let alloc = rt.alloc();
+    let core = CoreDump::new(alloc, core(alloc)?)?;
+    let python = PythonCoreDump::new(alloc, core, &images(alloc)?, &layouts(alloc)?)?;
     let config = Config::default();
-    let (traces, ranges) = opened(alloc)?.footprint(&config)?;
-    assert_eq!(rt; traces.len(), 1);
-    let whole = CoreDump::new(alloc, core(alloc)?)?;
-    let mut view = whole.view();
-    let mut pieces = Vec::new(alloc);
-    for range in &ranges {
-        let bytes = view.copy(alloc, range.start, range.len)?;
-        pieces.push(Piece {
-            start: range.start,
-            bytes,
-        })?;
-    }
-    let mut part = Part::of(alloc, pieces);
-    let layout = Layout::sample();
-    let over = get_stack_over(alloc, &mut part, &layout, &ADDRESSES, &config)?;
-    assert!(rt; over.len() == 1 && over.iter().all(|trace| trace.thread_id == 0x7f00));
+    let traces = python.get_stack(&config)?;
+    let (walked, ranges) = python.footprint(&config)?;
+    assert!(rt; walked.len() == traces.len() && ranges.len() > 0);
+    let mut out = MemorySink::new(alloc, 100, Vec::new(alloc))?;
+    python.print_traces(&mut out, b"core", &traces, &config)?;
+    assert_eq!(rt; out.bytes(), TEXT);
     Ok(())
 }
 
 #[test]
 fn addresses_that_are_handed_in(rt: HostRuntime) -> Result<(), Fail> {
     let alloc = rt.alloc();
-    let layouts = layouts(alloc)?;
-    for minor in [9, 10] {
-        let core = CoreDump::new(alloc, core(alloc)?)?;
-        let version = Version::of_numbers(alloc, 3, minor, 0)?;
-        match PythonCoreDump::with_addresses(alloc, core, &layouts, version, ADDRESSES) {
-            Ok(python) => assert_eq!(rt; python.get_stack(&Config::default())?.len(), 1),
-            Err(error) => {
-                let version = Version::of_numbers(alloc, 3, 10, 0)?;
-                assert_eq!(rt; error, CoreError::UnsupportedVersion { version });
-            }
-        }
-    }
+    let core = CoreDump::new(alloc, core(alloc)?)?;
+    let version = Version::of_numbers(alloc, 3, 9, 0)?;
+    let python = PythonCoreDump::with_addresses(alloc, core, &layouts(alloc)?, version, ADDRESSES)?;
+    assert_eq!(rt; python.get_stack(&Config::default())?.len(), 1);
     Ok(())
 }

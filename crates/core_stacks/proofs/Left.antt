@@ -20,13 +20,13 @@ use Rattle.py_process.specs.Findings.{IsFound}
 use Rattle.core_stacks.specs.Opened.{IsFoundIn, IsLeft, Opened, Opens, opened_memory}
 use Rattle.py_process.proofs.Dumped.{backed_once}
 use Rattle.py_process.proofs.ReportLaws.{found_by}
-use Rattle.core_stacks.proofs.PlainFaults.{Fails, IsPlain, locals_plain, owner_plain}
+use Rattle.core_stacks.proofs.PlainFaults.{Fails, IsPlain, locals_plain, holder_id_plain}
 use Rattle.core_stacks.proofs.Unfaulted.{rest_fault}
 
 -- a fault of the rest is no limit of threads or frames
 pub limit_none : (m : Memory) (f : Finding) (config : Config) (fault : Fault) → IsRestFault m f config fault
     → IsPlain fault
-limit_none m f config fault (inl e) = subst (λ x. Fails IsPlain x) e (owner_plain f.layout m f.addresses.lock)
+limit_none m f config fault (inl e) = subst (λ x. Fails IsPlain x) e (holder_id_plain f.layout m f.addresses.lock)
 limit_none m f config fault (inr (asked, h)) = locals_plain f.layout m h.member fault h.first
 
 module _ (o : Opened) (config : Config) (found : IsFoundIn o) where

@@ -1,4 +1,4 @@
--- What the faults of the readers can be: of records and words missing ranges alone, and of the lock's owner and the
+-- What the faults of the readers can be: of records and words missing ranges alone, and of the lock's holder and the
 -- locals of a frame no limit of threads or frames.
 use Rattle.std.proofs.Common.{◌≡◌, ℕ, zero, suc, ◌+◌, ◌*◌, ◌^◌, cond, ltb, leb, List, subst}
 use Rattle.std.specs.Prelude.{Bool, true, false, ℤ, Option, Some, None, Ok, Err}
@@ -12,7 +12,7 @@ use Rattle.py_fields.specs.declared.layout.GilAt.{GilAt}
 use Rattle.py_fields.specs.declared.layout.Layout.{Layout}
 use Rattle.py_stacks.specs.Locals.{count_of, each_faults, local_at, locals_faults, name_fault, named_local, names_tuple_of, variable_name_at}
 use Rattle.py_stacks.specs.Member.{MemberAt}
-use Rattle.py_stacks.specs.Owner.{gil_holder_at, holder_at, holder_through, id_of, owner_at, thread_id_at}
+use Rattle.py_stacks.specs.Holder.{gil_holder_at, holder_at, holder_through, id_of, holder_id_at, thread_id_at}
 
 -- a fault of what is found is such a one
 abbrev pub Fails : {T : Type 0} → (Fault → Type 0) → Found T → Type 0
@@ -35,7 +35,7 @@ module _ (Is : Fault → Type 0) where
   first_fails (Ok x) g f one rest h = rest x h
   first_fails (Err e) g f one rest h = subst Is (some_same e f h) one
 
--- ---- records, words and the owner, of which only ranges may be missing
+-- ---- records, words and the holder, of which only ranges may be missing
 
 module _ (Is : Fault → Type 0) (missing : (a n : ℕ) → Is (Missing a n)) where
   found_fails : {T : Type 0} (o : Option T) (a n : ℕ) → Fails Is (found_or o (Missing a n))
@@ -77,10 +77,10 @@ module _ (Is : Fault → Type 0) (missing : (a n : ℕ) → Is (Missing a n)) wh
   id_fails l m zero = tt
   id_fails l m (suc holder) = thread_id_fails l m (suc holder)
 
-  pub owner_fails : (l : Layout) (m : Memory) (lock : ℕ) → Fails Is (owner_at l m lock)
-  unfolding owner_at
-  owner_fails l m zero = tt
-  owner_fails l m (suc lock) = next_fails Is (holder_at l m (suc lock)) (id_of l m) (holder_fails l m (suc lock))
+  pub holder_id_fails : (l : Layout) (m : Memory) (lock : ℕ) → Fails Is (holder_id_at l m lock)
+  unfolding holder_id_at
+  holder_id_fails l m zero = tt
+  holder_id_fails l m (suc lock) = next_fails Is (holder_at l m (suc lock)) (id_of l m) (holder_fails l m (suc lock))
       (id_fails l m)
 
 -- ---- no limit of threads, of frames or of members
@@ -94,8 +94,8 @@ IsPlain _ = Unit {0}
 abbrev FailsPlainly : {T : Type 0} → Found T → Type 0
 FailsPlainly d = Fails IsPlain d
 
-pub owner_plain : (l : Layout) (m : Memory) (lock : ℕ) → Fails IsPlain (owner_at l m lock)
-owner_plain l m lock = owner_fails IsPlain (λ a n. tt) l m lock
+pub holder_id_plain : (l : Layout) (m : Memory) (lock : ℕ) → Fails IsPlain (holder_id_at l m lock)
+holder_id_plain l m lock = holder_id_fails IsPlain (λ a n. tt) l m lock
 
 -- ---- the locals
 

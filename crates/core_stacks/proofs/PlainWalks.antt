@@ -12,10 +12,10 @@ use Rattle.py_stacks.specs.Asking.{nothing}
 use Rattle.py_stacks.specs.Detail.{detail_faults}
 use Rattle.py_stacks.specs.Frames.{Call, code_of, frame_faults, frame_limit, frame_next, frames_faults, member_limit, part_faults, plain_by, records_at}
 use Rattle.py_stacks.specs.Member.{MemberAt}
-use Rattle.py_stacks.specs.Owner.{owner_at}
+use Rattle.py_stacks.specs.Holder.{holder_id_at}
 use Rattle.py_stacks.specs.Stacks.{stacks_faults}
 use Rattle.py_stacks.specs.Threads.{first_frame_at, frame_through, thread_faults, thread_limit, thread_next, traces_faults}
-use Rattle.core_stacks.proofs.PlainFaults.{Fails, first_fails, next_fails, owner_fails, record_fails, some_same, word_fails}
+use Rattle.core_stacks.proofs.PlainFaults.{Fails, first_fails, next_fails, holder_id_fails, record_fails, some_same, word_fails}
 use Rattle.core_stacks.proofs.WalkFaults.{first_in, no_fault}
 
 -- a missing range, or a limit of threads, of frames or of members
@@ -117,6 +117,6 @@ pub stacks_walk : (l : Layout) (m : Memory) (lock interpreter : ℕ) (f : Fault)
     → first_fault (stacks_faults nothing l m lock interpreter) ≡ Some f → IsWalkFault f
 unfolding stacks_faults
 stacks_walk l m lock interpreter f h =
-    first_fails IsWalkFault (owner_at l m lock) (λ owner. traces_faults nothing l m interpreter) f
-    (owner_fails IsWalkFault missing l m lock)
-    (λ owner. traces_walk l m interpreter f) h
+    first_fails IsWalkFault (holder_id_at l m lock) (λ holder_id. traces_faults nothing l m interpreter) f
+    (holder_id_fails IsWalkFault missing l m lock)
+    (λ holder_id. traces_walk l m interpreter f) h

@@ -18,6 +18,7 @@ use Rattle.py_process.specs.declared.report.Report.{Report}
 use Rattle.py_process.specs.declared.core_error.CoreError.{CoreError}
 use Rattle.py_process.specs.declared.core_error.CoreError.TheVariants as core
 use Rattle.py_process.proofs.Agreement.{IsKept, err_kept, kept_or, ok_is, ok_not_err, then_ok, then_value}
+use Rattle.py_process.proofs.Bare.{over_bare}
 use Rattle.py_process.proofs.FindingLaws.{finding_agree}
 use Rattle.py_process.proofs.ReportLaws.{core_agree, finds, found_by}
 use Rattle.py_process.proofs.StackCauses.{stacks_only}
@@ -36,22 +37,34 @@ report_whole bytes images layouts config r h =
     let found = found_by m (machine_of bytes) one.0.maps images layouts two.0 two.1 in
     let is : r ≡ three.2.0 = ok_is r three.2.0 three.2.2 in
     let tells = three.2.1 in
+    let lock = two.0.addresses.lock in
+    let interpreter = two.0.addresses.interpreter in
+    let stacks : AreStacksOver config two.0.layout m lock interpreter three.2.0.traces =
+    subst (AreStacksOver config two.0.layout m lock interpreter) (sym tells.traces_are) three.1.are in
+    let bare = over_bare config two.0.layout m lock interpreter three.2.0.traces stacks in
     subst (λ x. IsRight bytes images layouts config x) (sym is) (record {
-      core = one.1.0;
-      dumped = one.0;
-      is_dumped = one.1.1;
-      programs = found.programs;
-      are_programs = found.are_programs;
-      known = found.known;
-      is_known = found.is_known;
-      told = subst (λ v. FirstTells m (sources_of found.known) (Ok (Some v))) (sym tells.version_is) found.told;
-      layout = two.0.layout;
-      chosen = subst (λ v. IsChosen layouts v two.0.layout) (sym tells.version_is) found.chosen;
-      interpreter = two.0.addresses.interpreter;
-      first = subst (λ v. IsFirstOf (in_maps one.0.maps) two.0.layout m (candidates_of found.known v two.0.layout m) two.0.addresses.interpreter) (sym tells.version_is) found.first;
-      lock = two.0.addresses.lock;
-      is_lock = subst (λ v. lock_address_of (machine_of bytes) found.known v two.0.layout m two.0.addresses.interpreter ≡ Ok two.0.addresses.lock) (sym tells.version_is) found.lock;
-      stacks = subst (λ ts. AreStacksOver config two.0.layout m two.0.addresses.lock two.0.addresses.interpreter ts) (sym tells.traces_are) three.1.are;
+      has = record {
+        core = one.1.0;
+        dumped = one.0;
+        is_dumped = one.1.1;
+        programs = found.programs;
+        are_programs = found.are_programs;
+        known = found.known;
+        is_known = found.is_known;
+        told = subst (λ v. FirstTells m (sources_of found.known) (Ok (Some v))) (sym tells.version_is) found.told;
+        layout = two.0.layout;
+        chosen = subst (λ v. IsChosen layouts v two.0.layout) (sym tells.version_is) found.chosen;
+        interpreter = interpreter;
+        first = subst (λ v. IsFirstOf (in_maps one.0.maps) two.0.layout m (candidates_of found.known v two.0.layout m) interpreter)
+            (sym tells.version_is) found.first;
+        walked = bare.walked;
+        are_walked = bare.are;
+        threads = bare.same;
+      };
+      lock = lock;
+      is_lock = subst (λ v. lock_address_of (machine_of bytes) found.known v two.0.layout m interpreter ≡ Ok lock)
+          (sym tells.version_is) found.lock;
+      stacks = stacks;
       notes = tells.notes;
     })
 

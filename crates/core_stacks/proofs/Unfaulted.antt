@@ -1,5 +1,5 @@
 -- Where an address is an interpreter's, neither a limit nor a record of a thread or a frame is in the way of its stacks:
--- their first fault is the lock owner's, or one of the locals of a kept frame.
+-- their first fault is the lock holder's, or one of the locals of a kept frame.
 use Rattle.std.proofs.Common.{◌≡◌, ◌⊎◌, ℕ, zero, suc, ◌+◌, ◌<◌, ◌^◌, cond, ltb, leb, List, [], ◌∷◌, refl, sym, ap, ◌∙◌, subst, inl, inr, arith, add-zero}
 use Rattle.std.specs.Prelude.{Bool, true, false, Option, Some, None, Ok, Err}
 use Rattle.std.specs.Result.{IsOk}
@@ -19,7 +19,7 @@ use Rattle.py_stacks.specs.Member.{MemberAt}
 use Rattle.py_stacks.specs.Frames.{Call, back_of, frame_faults, frame_limit, frame_next, frames_faults, member_limit, part_faults, plain_by, records_at}
 use Rattle.py_stacks.specs.Interpreter.{IsInterpreter}
 use Rattle.py_stacks.specs.Locals.{asked_faults, count_of, each_faults, local_at, locals_faults, names_tuple_of}
-use Rattle.py_stacks.specs.Owner.{owner_at}
+use Rattle.py_stacks.specs.Holder.{holder_id_at}
 use Rattle.py_stacks.specs.Stacks.{stacks_faults}
 use Rattle.py_stacks.specs.Threads.{first_frame_at, thread_after, thread_faults, thread_limit, thread_next, traces_faults}
 use Rattle.py_stacks.proofs.ThreadLaws.{traces_same}
@@ -181,19 +181,19 @@ module _ (lineno : LineNo) (locals : Bool) (l : Layout) (m : Memory) (f : Fault)
   unfolding traces_faults
   traces_fault interpreter none h = head_fault interpreter (word_at m (interpreter + l.interpreter.threads)) refl none h
 
-  owner_fault : (lock interpreter : ℕ) (x : Found ℕ) → owner_at l m lock ≡ x → traces_faults nothing l m interpreter ≡ []
-      → first_fault (faults_then x (λ owner. traces_faults (asks lineno locals) l m interpreter)) ≡ Some f
-      → (owner_at l m lock ≡ Err f) ⊎ ((locals ≡ true) × IsLocalsFault l m interpreter f)
-  owner_fault lock interpreter (Err e) is none h = inl (is ∙ ap (λ x. Err x) (some_same e h))
+  holder_id_fault : (lock interpreter : ℕ) (x : Found ℕ) → holder_id_at l m lock ≡ x → traces_faults nothing l m interpreter ≡ []
+      → first_fault (faults_then x (λ holder_id. traces_faults (asks lineno locals) l m interpreter)) ≡ Some f
+      → (holder_id_at l m lock ≡ Err f) ⊎ ((locals ≡ true) × IsLocalsFault l m interpreter f)
+  holder_id_fault lock interpreter (Err e) is none h = inl (is ∙ ap (λ x. Err x) (some_same e h))
     where
       some_same : (e : Fault) → ◌≡◌ {A = Option Fault} (Some e) (Some f) → e ≡ f
       some_same e h = cc
-  owner_fault lock interpreter (Ok owner) is none h = inr (traces_fault interpreter none h)
+  holder_id_fault lock interpreter (Ok holder_id) is none h = inr (traces_fault interpreter none h)
 
   stacks_fault : (lock interpreter : ℕ) → traces_faults nothing l m interpreter ≡ [] → first_fault (stacks_faults (asks lineno locals) l m lock interpreter) ≡ Some f
-      → (owner_at l m lock ≡ Err f) ⊎ ((locals ≡ true) × IsLocalsFault l m interpreter f)
+      → (holder_id_at l m lock ≡ Err f) ⊎ ((locals ≡ true) × IsLocalsFault l m interpreter f)
   unfolding stacks_faults
-  stacks_fault lock interpreter none h = owner_fault lock interpreter (owner_at l m lock) refl none h
+  stacks_fault lock interpreter none h = holder_id_fault lock interpreter (holder_id_at l m lock) refl none h
 
 -- an interpreter's chains have no fault
 chains_whole : (l : Layout) (m : Memory) (a : ℕ) → IsInterpreter l m a → traces_faults nothing l m a ≡ []
@@ -236,7 +236,7 @@ locals_there l m r has =
     (each_there l m r n 0 (λ k lt. subst (λ i. IsOk (local_at l m r i)) (omega arith) (has.each k lt))))
 
 rest_none : (m : Memory) (f : Finding) (config : Config) (fault : Fault) → HasRest m f config → IsRestFault m f config fault → ⊥
-rest_none m f config fault rest (inl e) = not_ok (owner_at f.layout m f.addresses.lock) fault e rest.owner
+rest_none m f config fault rest (inl e) = not_ok (holder_id_at f.layout m f.addresses.lock) fault e rest.holder_id
 rest_none m f config fault rest (inr (asked, h)) =
     no_fault fault (ap first_fault (sym (locals_there f.layout m h.member (rest.locals asked h.member h.kept))) ∙ h.first)
 

@@ -1,5 +1,5 @@
 -- What a walk over a core's bytes answers: the traces, or the first cause why there are none. The file is
--- looked at first, then the version, then the lock's owner and the chain of threads.
+-- looked at first, then the version, then the lock's holder and the chain of threads.
 use Rattle.std.specs.Prelude.{◌≡◌, ℕ, List, Option, Some, None, Result, Ok, Err, ⊤, map}
 use Rattle.std.specs.Global.{Vec}
 use Rattle.image_memory.specs.Cores.{IsCore, RefusesCore}
@@ -24,7 +24,7 @@ use Rattle.py_process.specs.declared.core_error.CoreError.TheVariants.{NotElf64,
 abbrev pub core_memory : List ℕ → Memory
 core_memory bytes = byte_at (memory_of bytes)
 
--- the first fault on the way to the lock's owner and along the threads of an interpreter
+-- the first fault on the way to the lock's holder and along the threads of an interpreter
 abbrev pub fault_by : Layout → List ℕ → Addresses → Option Fault
 fault_by layout bytes addresses =
     first_fault (stacks_faults nothing layout (core_memory bytes) addresses.lock addresses.interpreter)

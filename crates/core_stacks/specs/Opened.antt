@@ -66,7 +66,7 @@ pub record IsFoundIn (o : Opened) : Type 0 where
   pub layouts : List Layout
   pub is : IsFound (opened_memory o) machine maps images layouts o.finding
 
--- the errors that stacks may have all the same: what is asked for and can't be given, a part of the lock's owner that
+-- the errors that stacks may have all the same: what is asked for and can't be given, a part of the lock's holder that
 -- isn't in memory, and the locals of a kept frame, where they are asked for
 abbrev pub IsLeft : Opened → Config → CoreError → Type 0
 IsLeft o config NativeUnsupported = ⊤

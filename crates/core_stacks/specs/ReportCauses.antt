@@ -37,8 +37,8 @@ pub record ReportLacksLock (bytes : List ℕ) (images : Pushed) (layouts : List 
   pub lacks : lock_address_of (machine_of bytes) known version layout (memory_in dumped) interpreter ≡ Err
       (Missing addr len)
 
--- the process is found, and this is a fault of the rest of its stacks: of the lock's owner (the lock's record or word,
--- or the owner's record), or, where locals are asked for, of those of a kept member (their count, the record of their
+-- the process is found, and this is a fault of the rest of its stacks: of the lock's holder (the lock's record or word,
+-- or the holder's record), or, where locals are asked for, of those of a kept member (their count, the record of their
 -- tuple of names, the word that names one, its name, its slot)
 pub record MeetsRest (bytes : List ℕ) (images : Pushed) (layouts : List Layout) (config : Config)
     (fault : Fault) : Type 0 where

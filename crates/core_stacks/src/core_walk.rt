@@ -13,13 +13,13 @@ use std::alloc::Global;
 /// The bytes are those of a core's file, and the layout is the one that covers the version. The threads
 /// are the whole chain from the one that the interpreter names, to null, and the frames of each its whole
 /// chain, to null, less the members that are skipped (`py_stacks::get_stack_traces`). A thread holds the lock
-/// exactly where its id is the owner's (`py_stacks::get_gil_threadid`, by the handed-in address of the
+/// exactly where its id is the holder's (`py_stacks::get_gil_threadid`, by the handed-in address of the
 /// lock). Lines are 0, and there are no locals and no names of threads.
 ///
 /// The error is the first of these: `NotElf64`, `BadHeader`, `NoNotes` and `BadNote`
 /// (`image_memory::CoreDump::new`); `UnsupportedVersion` where no layout covers the version; `Unreadable`,
 /// `FrameLimit`, `ChainLimit` and
-/// `ThreadLimit`, as `py_stacks::get_stack_traces` orders them: the lock's owner comes before the threads. Else
+/// `ThreadLimit`, as `py_stacks::get_stack_traces` orders them: the lock's holder comes before the threads. Else
 /// it is want of memory.
 pub fn walk(
     alloc: Global,

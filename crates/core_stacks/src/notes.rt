@@ -1,6 +1,5 @@
 //! What the notes of a core tell of the process.
-ghost use Rattle.std.specs.Prelude.{◌≡◌, ◌<◌, IfOk, IfSome, length};
-ghost use Rattle.std.specs.List.{position};
+ghost use Rattle.std.specs.Prelude.{◌≡◌, IfOk};
 ghost use Rattle.bstr.specs.Utf8.{lossy_chars};
 ghost use Rattle.py_process.specs.Reports.{NotesTell, up_to_nul};
 ghost use Rattle.core_stacks.specs.Notes.{IsProcessTold, IsSignal};
@@ -47,7 +46,7 @@ fn signal_of(core: &CoreDump) -> Option<i16>
 }
 
 /// The process's id and its arguments, of the last process record, where there is one.
-fn process_of(alloc: Global, core: &CoreDump) -> Result<Option<(i32, Text)>, AllocError>
+fn process_in_notes(alloc: Global, core: &CoreDump) -> Result<Option<(i32, Text)>, AllocError>
     ensures { IfOk result (IsProcessTold core.now) }
 {
     match core.psinfo() {
@@ -65,6 +64,6 @@ pub(crate) fn notes_of(alloc: Global, core: &CoreDump) -> Result<Notes, AllocErr
     ensures { IfOk result (λ notes. NotesTell core.now notes.signal notes.process) }
 {
     let signal = signal_of(core);
-    let process = process_of(alloc, core)?;
+    let process = process_in_notes(alloc, core)?;
     Ok(Notes { signal, process })
 }

@@ -13,7 +13,7 @@ ghost use Rattle.core_stacks.specs.Seen.{finding_of};
 
 use crate::finding::find_in_dump;
 use crate::found::Found;
-use crate::printing::text_of;
+use crate::printing::text_of_traces;
 use crate::stacks_in::stacks_in;
 use core_texts::PrintError;
 use image_memory::{BackedDump, CoreDump, Images};
@@ -167,7 +167,7 @@ impl PythonCoreDump {
         ensures equal { (m : Memory) → ((a : ℕ) → m a ≡ opened_memory self.now a)
             → StacksSay m self.now.finding config.now (traces_in result) }
         // where the process was found, neither a limit nor a record of a thread or a frame is in the way: the lock's
-        // owner may be, and the locals of a kept frame, where they are asked for
+        // holder may be, and the locals of a kept frame, where they are asked for
         ensures found { IsFoundIn self.now → IfErr result (IsLeft self.now config.now) }
     {
         let mut view = self.dump.view();
@@ -210,7 +210,7 @@ impl PythonCoreDump {
     {
         let version = &self.found.version;
         let json = config.dump_json;
-        let text = text_of(
+        let text = text_of_traces(
             self.alloc,
             self.dump.core(),
             version,

@@ -112,7 +112,7 @@ fn make_report(
 /// The error is the first of these: `NotElf64`, `BadHeader`, `NoNotes` and `BadNote` (`image_memory::CoreDump::new`);
 /// those of `PythonCoreDump::new`, in its order; those of `PythonCoreDump::get_stack`. Else it is want of memory.
 /// Of these no `ThreadLimit`, `FrameLimit` or `ChainLimit` comes, since the interpreter's chains are whole, and
-/// `Unreadable` names a range of the pointer to the lock, of its record or word, of its owner's record, or, where
+/// `Unreadable` names a range of the pointer to the lock, of its record or word, of its holder's record, or, where
 /// locals are asked for, of a kept frame's tuple of names, the word that names a variable, its name or its slot.
 pub fn report(
     alloc: Global,
@@ -129,7 +129,7 @@ pub fn report(
     // and what is right in all these fields is the report, want of memory aside
     ensures full { (r : Reported) → AsksNoOther config.now → IsRight bytes.items images.now layouts.now config.now r
         → (reported result ≡ Ok r) ⊎ (reported result ≡ Err CoreError.OutOfMemory) }
-    // no limit of threads or frames is a cause, and no missing range but of the lock, its owner and asked locals
+    // no limit of threads or frames is a cause, and no missing range but of the lock, its holder and asked locals
     ensures causes { IfErr result (IsReportCause bytes.items images.now layouts.now config.now) }
     ensures complete { IsReadable bytes.items images.now layouts.now config.now
         → IfErr result (λ error. error ≡ CoreError.OutOfMemory) }

@@ -1,14 +1,13 @@
 //! What words ask for.
-ghost use Rattle.std.specs.Prelude.{◌≡◌, ◌++◌, IfOk, OnOk, map, option_map};
+ghost use Rattle.std.specs.Prelude.{option_map};
 ghost use Rattle.core_words.specs.Answers.{AnswersWords};
-ghost use Rattle.core_words.specs.Words.{command_of, dump, kept_files, texts, walk, walk_words};
-ghost use Rattle.core_words.specs.Seen.{asked_command, asked_dump, asked_walk};
+ghost use Rattle.core_words.specs.Words.{command_of, texts, walk, walk_words};
+ghost use Rattle.core_words.specs.Seen.{asked_command};
 
 use crate::args_error::ArgsError;
 use crate::dump::{DumpWords, config_from_args};
-use crate::walk::{LayoutSource, WalkWords, walk_words};
-use elf64_core::Name;
-use std::alloc::{AllocError, Global};
+use crate::walk::{WalkWords, walk_words};
+use std::alloc::Global;
 
 /// What words ask for.
 #[derive(Drop)]
@@ -50,52 +49,5 @@ fn walk_command(words: &[String]) -> Result<Command<'_>, ArgsError>
     match walk_words(words) {
         Some(words) => Ok(Command::Walk(words)),
         None => Err(ArgsError::Refused),
-    }
-}
-
-/// The names of the files of images, in order, added to some names.
-fn push_images<'a>(names: &mut Vec<&'a [u8]>, images: &'a [(Name, Name)]) -> Result<(), AllocError>
-    ensures { OnOk result (map (λ name. name.now) names.new.items
-        ≡ map (λ name. name.now) names.old.items ++ map (λ image. image.1) images.now) }
-{
-    for image in images {
-        names.push(image.1.as_bytes())?;
-    }
-    Ok(())
-}
-
-/// The names of the files of a walk, in order.
-fn walk_files<'a>(alloc: Global, words: &'a WalkWords<'_>) -> Result<Vec<&'a [u8]>, AllocError>
-    ensures { IfOk result (λ names. map (λ name. name.now) names.items ≡ kept_files (walk (asked_walk words.now))) }
-{
-    let mut names = Vec::new(alloc);
-    names.push(words.core.as_bytes())?;
-    if let LayoutSource::File(name) = words.layouts {
-        names.push(name.as_bytes())?;
-    }
-    Ok(names)
-}
-
-/// The names of the files of a report, in order.
-fn dump_files<'a>(alloc: Global, words: &'a DumpWords) -> Result<Vec<&'a [u8]>, AllocError>
-    ensures { IfOk result (λ names. map (λ name. name.now) names.items ≡ kept_files (dump (asked_dump words.now))) }
-{
-    let mut names = Vec::new(alloc);
-    names.push(words.core.as_bytes())?;
-    names.push(words.layouts.as_bytes())?;
-    push_images(&mut names, &words.images)?;
-    Ok(names)
-}
-
-impl<'a> Command<'a> {
-    /// The names of the files that are read before the command's work, in the order in which they are read.
-    /// The one error is want of memory.
-    pub fn kept_files(&self, alloc: Global) -> Result<Vec<&[u8]>, AllocError>
-        ensures { IfOk result (λ names. map (λ name. name.now) names.items ≡ kept_files (asked_command self.now)) }
-    {
-        match self {
-            Command::Walk(words) => walk_files(alloc, words),
-            Command::Dump(words) => dump_files(alloc, words),
-        }
     }
 }

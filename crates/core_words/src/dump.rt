@@ -109,12 +109,12 @@ fn is_set(matches: &ArgMatches<'_>, name: &str) -> bool
 fn option_value_of(alloc: Global, matches: &ArgMatches<'_>, name: &str) -> Result<Name, ArgsError>
     ensures { AnswersWords (λ value. value) (Some (option_value_of name.now (rows_of (found_of matches.now)))) result }
 {
-    let value = text_of(matches, name);
+    let value = option_text(matches, name);
     Ok(Name::of(alloc, value.as_bytes())?)
 }
 
 /// The same, as text.
-fn text_of<'a>(matches: &ArgMatches<'a>, name: &str) -> &'a str
+fn option_text<'a>(matches: &ArgMatches<'a>, name: &str) -> &'a str
     ensures { result.now ≡ option_value_of name.now (rows_of (found_of matches.now)) }
 {
     match matches.get_str(name) {

@@ -45,11 +45,9 @@ fn words_of_a_report_are_taken(rt: HostRuntime) -> Result<(), Fail> {
         (taken.config.dump_json, taken.config.dump_locals),
         (true, 255)
     );
-    let command = Command::Dump(taken);
-    let files = command.kept_files(alloc)?;
     assert_eq!(rt;
-        files.as_slice(),
-        [b"-x".as_slice(), b"file".as_slice(), b"b=c".as_slice()].as_slice()
+        (taken.core.as_bytes(), taken.layouts.as_bytes()),
+        (b"-x".as_slice(), b"file".as_slice())
     );
     Ok(())
 }

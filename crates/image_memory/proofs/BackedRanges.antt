@@ -1,35 +1,26 @@
 -- Which bytes of which images the maps of a core have.
-use Rattle.std.proofs.Common.{◌≡◌, ℕ, suc, ◌+◌, ◌-◌, ◌<◌, ◌≤◌, ◌^◌, min, true, false, cond, List, [], ◌∷◌, ◌++◌, length, take, drop, get_or, map, refl, sym, ap, subst, ◌∙◌, arith, inl, inr, ⊎_elim, add-one, length-drop}
+use Rattle.std.proofs.Common.{◌≡◌, ℕ, suc, ◌+◌, ◌-◌, ◌<◌, ◌≤◌, ◌^◌, min, true, false, cond, List, [], ◌∷◌, ◌++◌, length, take, drop, get_or, map, refl, sym, ap, subst, ◌∙◌, arith, inl, inr, add-one, length-drop}
 use Rattle.std.specs.Prelude.{All, Option, Some, None, filter_map, option_map, option_and_then, position, slice_index_or}
 use Rattle.std.specs.List.{cons_option, position_or_len}
 use Rattle.std.proofs.lemmas.Bool.{cases_lt, le-ltb, lt-ltb}
 use Rattle.std.proofs.lemmas.List.{append-nil, drop_all, drop_min, drop_more, get_or-map, length-map, map-append, take_min}
-use Rattle.std.proofs.lemmas.List.Elements.{All-append, All-from_recursion, All-map}
+use Rattle.std.proofs.lemmas.List.Elements.{All-append}
 use Rattle.std.proofs.lemmas.List.Folds.{find_at}
-use Rattle.std.proofs.lemmas.Option.{get_or_from_slice_get, slice_get-get_or, slice_get_past, slice_get_within}
+use Rattle.std.proofs.lemmas.Option.{slice_get-get_or, slice_get_past}
 use Rattle.elf64_core.specs.Header.{HasSegments}
-use Rattle.elf64_core.specs.declared.span_table.TableEntry.{TableEntry}
 use Rattle.elf64_core.specs.declared.segment.Segment.{Segment}
-use Rattle.image_memory.specs.declared.backed_dump.FileRange.{FileRange}
-use Rattle.image_memory.specs.declared.overlay.Owned.{Owned}
+use Rattle.piece_table.specs.Files.{IsInFile, file_bytes, region_in, regions_in}
+use Rattle.piece_table.specs.declared.table.FileRange.{FileRange}
 use Rattle.image_memory.specs.declared.file_table.FilePlace.{FilePlace}
 use Rattle.image_memory.specs.declared.maps.CoreMapRange.{CoreMapRange}
-use Rattle.image_memory.specs.Backed.{AreImageRanges, Backed, IsBackedMemory, backed_region, byte_place, core_range, file_bytes, file_ranges, image_range, is_writable, numbered_range, range_by, region_by, region_in, region_of_image, regions_of}
-use Rattle.image_memory.specs.BackedPlaces.{AreFilesOf, IsInFile, IsInImage, IsKept, all_ranges}
-use Rattle.image_memory.specs.Cores.{IsCore}
+use Rattle.image_memory.specs.Backed.{AreImageRanges, Backed, IsBacked, IsBackedMemory, IsInImage, backed_region, byte_place, files_of, image_range, is_writable, numbered_range, range_by, region_by, region_of_image, regions_of}
 use Rattle.image_memory.specs.FileTables.{Entry}
 use Rattle.image_memory.specs.Images.{Pushed, first_under, images_shown, is_under}
 use Rattle.image_memory.specs.Maps.{AreMaps, ArePlaces, entry_for, map_by, file_place_by}
 use Rattle.image_memory.specs.Mmap.{Mapped, shown_bytes}
-use Rattle.image_memory.specs.Laid.{AreLaid, table_entry_of}
-use Rattle.image_memory.specs.Overlays.{ArePieces, IsPieceOf}
-use Rattle.image_memory.specs.Pieces.{loads_of, memory_of}
-use Rattle.image_memory.specs.Places.{IsHeld}
-use Rattle.image_memory.proofs.Boundaries.{ArePieces-laid}
-use Rattle.image_memory.proofs.Overlays.{IsPieceAt}
-use Rattle.image_memory.proofs.Held.{held_loads}
+use Rattle.image_memory.specs.Pieces.{core_ranges, loads_of, memory_of}
+use Rattle.image_memory.proofs.Held.{core_held, core_regions, held_loads}
 use Rattle.image_memory.proofs.Noted.{entries_same}
-use Rattle.image_memory.proofs.Stretches.{held_range}
 
 -- of maps with their places, in order
 abbrev pub ranges_from : Pushed → List CoreMapRange → List (Option FilePlace) → List FileRange
@@ -91,10 +82,6 @@ places_counted bytes maps places m p =
       length-map (loads_of bytes) (file_place_by p.entries),
     )
 
-pub map_twice : {A B C : Type 0} (g : B → C) (f : A → B) (xs : List A) → map g (map f xs) ≡ map (λ x. g (f x)) xs
-map_twice g f [] = refl
-map_twice g f (x ∷ xs) = ap (λ ys. g (f x) ∷ ys) (map_twice g f xs)
-
 map-filter_map : {A B C : Type 0} (g : B → C) (f : A → Option B) (xs : List A) → map g (filter_map f xs) ≡ filter_map (λ x. option_map g (f x)) xs
 map-filter_map g f [] = refl
 map-filter_map g f (x ∷ xs) =
@@ -112,34 +99,34 @@ no_image = ([], record { bytes = []; start = 0; end = 0 })
 
 -- the bytes that a segment has of an image, by its number
 numbered_region : (dump : Backed) (images : Pushed) (s : Segment) (place : FilePlace) (number : ℕ) → dump.images ≡ images_shown images
-    → number < length images → region_in dump (numbered_range images s place number) ≡ region_of_image s place (get_or images number no_image).1
+    → number < length images → region_in (files_of dump) (numbered_range images s place number) ≡ region_of_image s place (get_or images number no_image).1
 numbered_region dump images s place number kept less =
     let image = (get_or images number no_image).1 in
     let shown = shown_bytes image in
     let named : slice_index_or (images_shown images) number [] ≡ shown = get_or-map (λ (i : List ℕ × Mapped). shown_bytes i.1) images number no_image [] less in
     let size = length (slice_index_or (images_shown images) number []) in
     let size_is : size ≡ length shown = ap length named in
-    let file : file_bytes dump (number + 1) ≡ shown =
+    let file : file_bytes (files_of dump) (number + 1) ≡ shown =
     ap (λ n. get_or (dump.core ∷ dump.images) n []) (add-one number) ∙ ap (λ is. get_or is number []) kept ∙ named in
     let at = byte_place place in
     let part = drop (min at (length shown)) shown in
-    ap (λ n. (s.addr, take (min s.mem_size (n - min at n)) (drop (min at n) (file_bytes dump (number + 1))))) size_is
+    ap (λ n. (s.addr, take (min s.mem_size (n - min at n)) (drop (min at n) (file_bytes (files_of dump) (number + 1))))) size_is
     ∙ ap (λ bs. (s.addr, take (min s.mem_size (length shown - min at (length shown))) (drop (min at (length shown)) bs))) file
     ∙ ap (λ n. (s.addr, take (min s.mem_size n) part)) (sym (length-drop (min at (length shown)) shown))
     ∙ ap (λ bs. (s.addr, bs)) (take_min s.mem_size part)
     ∙ ap (λ bs. (s.addr, take s.mem_size bs)) (drop_min at shown)
 
 region_found : (dump : Backed) (images : Pushed) (s : Segment) (place : FilePlace) (name : List ℕ) → dump.images ≡ images_shown images
-    → option_map (region_in dump) (option_map (numbered_range images s place) (position (is_under name) images))
+    → option_map (region_in (files_of dump)) (option_map (numbered_range images s place) (position (is_under name) images))
     ≡ option_map (region_of_image s place) (first_under name images)
 region_found dump images s place name kept =
     elim (cases_lt number (length images)) [
       | inl less ↦
-          ap (λ b. option_map (region_in dump) (option_map (numbered_range images s place) (cond b (Some number) None))) (lt-ltb number (length images) less)
+          ap (λ b. option_map (region_in (files_of dump)) (option_map (numbered_range images s place) (cond b (Some number) None))) (lt-ltb number (length images) less)
           ∙ ap (λ r. Some r) (numbered_region dump images s place number kept less)
           ∙ ap (λ o. option_map (region_of_image s place) (option_map (λ image. image.1) o)) (sym (find_at (is_under name) images ∙ slice_get-get_or images number no_image less))
       | inr le ↦
-          ap (λ b. option_map (region_in dump) (option_map (numbered_range images s place) (cond b (Some number) None))) (le-ltb number (length images) le)
+          ap (λ b. option_map (region_in (files_of dump)) (option_map (numbered_range images s place) (cond b (Some number) None))) (le-ltb number (length images) le)
           ∙ ap (λ o. option_map (region_of_image s place) (option_map (λ image. image.1) o)) (sym (find_at (is_under name) images ∙ slice_get_past images number le))
     ]
   where
@@ -147,85 +134,52 @@ region_found dump images s place name kept =
     number = position_or_len (is_under name) images
 
 region_of_range : (dump : Backed) (images : Pushed) (entries : List Entry) (s : Segment) → dump.images ≡ images_shown images
-    → option_map (region_in dump) (image_range images entries s) ≡ backed_region images entries s
+    → option_map (region_in (files_of dump)) (image_range images entries s) ≡ backed_region images entries s
 region_of_range dump images entries s kept =
     go (entry_for entries s.addr)
   where
-    named : (o : Option Entry) → option_map (region_in dump) (range_by images s (option_map (λ e. e.name) o) (option_map (λ e. e.place) o))
+    named : (o : Option Entry) → option_map (region_in (files_of dump)) (range_by images s (option_map (λ e. e.name) o) (option_map (λ e. e.place) o))
         ≡ cond (is_writable s) None (option_and_then (region_by images s) o)
-    named None = elim (is_writable s) as (λ b. option_map (region_in dump) (cond b None None) ≡ cond b None None) [ true ↦ refl | false ↦ refl ]
+    named None = elim (is_writable s) as (λ b. option_map (region_in (files_of dump)) (cond b None None) ≡ cond b None None) [ true ↦ refl | false ↦ refl ]
     named (Some e) =
-        elim (is_writable s) as (λ b. option_map (region_in dump) (cond b None (option_map (numbered_range images s e.place) (position (is_under e.name) images)))
+        elim (is_writable s) as (λ b. option_map (region_in (files_of dump)) (cond b None (option_map (numbered_range images s e.place) (position (is_under e.name) images)))
         ≡ cond b None (option_map (region_of_image s e.place) (first_under e.name images)))
         [ true ↦ refl | false ↦ region_found dump images s e.place e.name kept ]
 
-    go : (o : Option Entry) → option_map (region_in dump) (range_by images s (option_map (λ e. e.name) o) (option_map (λ e. e.place) o))
+    go : (o : Option Entry) → option_map (region_in (files_of dump)) (range_by images s (option_map (λ e. e.name) o) (option_map (λ e. e.place) o))
         ≡ cond (is_writable s) None (option_and_then (region_by images s) o)
     go o = named o
 
 -- the pieces of memory are those of the core and its images
-pub regions_are : (bytes : List ℕ) (images : Pushed) (dump : Backed) → dump.core ≡ bytes → dump.images ≡ images_shown images
-    → AreImageRanges bytes images dump.ranges → IsBackedMemory bytes images (regions_of dump)
-regions_are bytes images dump core kept r = record {
-  notes = r.notes;
-  entries = r.entries;
-  found = r.found;
+pub regions_are : (bytes : List ℕ) (images : Pushed) (dump : Backed) → IsBacked bytes images dump → IsBackedMemory bytes images (regions_of dump)
+regions_are bytes images dump h = record {
+  notes = h.images_have.notes;
+  entries = h.images_have.entries;
+  found = h.images_have.found;
   says =
-      map-append (region_in dump) (map core_range (loads_of dump.core)) dump.ranges
-      ∙ ap (λ rs. rs ++ map (region_in dump) dump.ranges) (map_twice (region_in dump) core_range (loads_of dump.core) ∙ ap memory_of core)
+      ap (regions_in (files_of dump)) h.ranges_are
+      ∙ map-append (region_in (files_of dump)) (core_ranges bytes) h.from_images
+      ∙ ap (λ rs. rs ++ map (region_in (files_of dump)) h.from_images) (ap (λ bs. regions_in (bs ∷ dump.images) (core_ranges bytes)) h.core_is ∙ core_regions bytes dump.images)
       ∙ ap (λ rs. memory_of bytes ++ rs)
-      (ap (map (region_in dump)) r.says ∙ map-filter_map (region_in dump) (image_range images r.entries) (loads_of bytes)
-      ∙ filter_map-same _ (backed_region images r.entries) (loads_of bytes) (λ s. region_of_range dump images r.entries s kept));
+      (ap (map (region_in (files_of dump))) h.images_have.says
+      ∙ map-filter_map (region_in (files_of dump)) (image_range images h.images_have.entries) (loads_of bytes)
+      ∙ filter_map-same _ (backed_region images h.images_have.entries) (loads_of bytes) (λ s. region_of_range dump images h.images_have.entries s h.images_are));
 }
 
 -- each of the ranges has its bytes in its file
-core_held : (dump : Backed) (s : Segment) → length dump.core ≤ 2 ^ 64 - 1 → IsHeld dump.core s → IsInFile dump (core_range s)
-core_held dump s few held = record {
-  known = omega arith;
-  inside = ⊎_elim (λ (empty : s.file_size ≡ 0). inl (omega arith))
-      (λ (inside : s.offset + s.file_size ≤ length dump.core). inr (omega arith)) held.inside;
-  fits = held_range dump.core s few held;
-}
-
-image_held : (dump : Backed) (images : List (List ℕ)) (f : FileRange) → dump.images ≡ images → IsInImage images f → IsInFile dump f
-image_held dump images f kept h =
+image_held : (core : List ℕ) (images : List (List ℕ)) (f : FileRange) → IsInImage images f → IsInFile (core ∷ images) f
+image_held core images f h =
     let number : f.file ≡ suc h.number = h.file_is ∙ add-one h.number in
-    let bytes : file_bytes dump f.file ≡ slice_index_or images h.number [] =
-    ap (λ n. get_or (dump.core ∷ dump.images) n []) number ∙ ap (λ is. get_or is h.number []) kept in
+    let bytes : file_bytes (core ∷ images) f.file ≡ slice_index_or images h.number [] =
+    ap (λ n. get_or (core ∷ images) n []) number in
     record {
-      known = omega (arith, h.known, number, ap length kept);
+      known = omega (arith, h.known, number);
       inside = inr (omega (arith, h.inside, ap length bytes));
       fits = h.fits;
     }
 
-pub ranges_in_files : (dump : Backed) (images : List (List ℕ)) → length dump.core ≤ 2 ^ 64 - 1 → HasSegments dump.core → dump.images ≡ images
-    → All (IsInImage images) dump.ranges → All (IsInFile dump) (file_ranges dump)
-ranges_in_files dump images few h kept fit =
-    All-append (IsInFile dump) (map core_range (loads_of dump.core)) dump.ranges
-    (All-map (IsInFile dump) core_range (loads_of dump.core) (λ k d less. core_held dump (get_or (loads_of dump.core) k d) few (held_loads dump.core h k d less)))
-    (λ k d less. image_held dump images (get_or dump.ranges k d) kept (fit k d less))
-
-no_owned : Owned
-no_owned = record { entry = record { start = 0; len = 0; offset = 0 }; owner = 0 }
-
--- what is kept for look-ups
-pub IsKept-of : (dump : Backed) (laid : List Owned) (table : List TableEntry) (files : List ℕ) → IsCore dump.core
-    → All (IsInFile dump) (file_ranges dump)
-    → AreLaid (all_ranges dump) laid → table ≡ map table_entry_of laid → AreFilesOf (file_ranges dump) laid files → IsKept dump table files
-IsKept-of dump laid table files core held are is of = record {
-  core = core;
-  held = held;
-  pieces = subst (ArePieces (all_ranges dump)) (sym is) (ArePieces-laid (all_ranges dump) laid are);
-  counted = omega (arith, of.counted, ap length is, length-map laid table_entry_of);
-  files_are = λ k piece get.
-      let inside : k < length laid = omega (arith, slice_get_within table k piece get, ap length is, length-map laid table_entry_of) in
-      let own = get_or laid k no_owned in
-      let same : own.entry ≡ piece =
-      sym (get_or-map table_entry_of laid k no_owned piece inside) ∙ ap (λ es. get_or es k piece) (sym is) ∙ get_or_from_slice_get table k piece piece get in
-      let each = All-from_recursion (IsPieceAt (all_ranges dump)) laid are.each k no_owned inside in
-      record {
-        owner = own.owner;
-        is = subst (IsPieceOf (all_ranges dump) own.owner) same each;
-        file_is = λ d. of.each k no_owned d inside;
-      };
-}
+pub ranges_in_files : (core : List ℕ) (images : List (List ℕ)) (from_images : List FileRange) → length core ≤ 2 ^ 64 - 1 → HasSegments core
+    → All (IsInImage images) from_images → All (IsInFile (core ∷ images)) (core_ranges core ++ from_images)
+ranges_in_files core images from_images few h fit =
+    All-append (IsInFile (core ∷ images)) (core_ranges core) from_images (core_held core images few h)
+    (λ k d less. image_held core images (get_or from_images k d) (fit k d less))

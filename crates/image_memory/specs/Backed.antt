@@ -1,18 +1,21 @@
 -- The memory of a core and of the images that it mapped. A usual core lacks private mappings of files that were
 -- never written to, such as constant data; its file tables tell which file stands there from which page on.
 -- That the images handed in are the files that were mapped is trusted.
-use Rattle.std.specs.Prelude.{◌≡◌, ℕ, ◌+◌, ◌-◌, ◌*◌, nat_eq, not, min, Bool, List, ◌∷◌, [], ◌++◌, length, take, drop, map, filter_map, Option, Some, None, option_map, option_and_then, position, slice_index_or, if◌then◌else◌, bit_and}
+use Rattle.std.specs.Prelude.{◌≡◌, ℕ, ◌+◌, ◌-◌, ◌*◌, ◌<◌, ◌≤◌, All, nat_eq, not, min, Bool, List, ◌∷◌, [], ◌++◌, length, take, drop, filter_map, Option, Some, None, option_map, option_and_then, position, slice_index_or, if◌then◌else◌, bit_and}
 use Rattle.elf64_core.specs.Notes.{Noted}
 use Rattle.elf64_core.specs.declared.segment.Segment.{Segment}
 use Rattle.elf64_core.specs.declared.span_table.TableEntry.{TableEntry}
+use Rattle.piece_table.specs.Files.{IsInFile, regions_in}
+use Rattle.piece_table.specs.Places.{IsBounded}
+use Rattle.piece_table.specs.declared.table.FileRange.{FileRange}
 use Rattle.process_memory.specs.Memory.{Region}
+use Rattle.image_memory.specs.Cores.{IsCore}
 use Rattle.image_memory.specs.FileTables.{Entry}
 use Rattle.image_memory.specs.Images.{Pushed, first_under, images_shown, is_under}
 use Rattle.image_memory.specs.Maps.{entry_for}
 use Rattle.image_memory.specs.Mmap.{Mapped, shown_bytes}
 use Rattle.image_memory.specs.Notes.{AreCoreNotes}
-use Rattle.image_memory.specs.Pieces.{loads_of, memory_of, range_of}
-use Rattle.image_memory.specs.declared.backed_dump.FileRange.{FileRange}
+use Rattle.image_memory.specs.Pieces.{core_ranges, loads_of, memory_of}
 use Rattle.image_memory.specs.declared.file_table.FilePlace.{FilePlace}
 
 -- a segment with the write flag
@@ -47,29 +50,19 @@ pub record IsBackedMemory (bytes : List ℕ) (images : Pushed) (regions : List R
   pub found : AreCoreNotes bytes notes entries
   pub says : regions ≡ backed_memory_of bytes entries images
 
--- what is kept of a core and images: the core, what each image shows, and which addresses have which bytes of
--- which image. Files are numbered: the core's is 0, the images' follow in order
+-- what is kept of a core and images: the core, what each image shows, and the ranges of addresses that have bytes
+-- of these. Files are numbered: the core's is 0, the images' follow in order
 pub record Backed : Type 0 where
   pub core : List ℕ
   pub images : List (List ℕ)
   pub ranges : List FileRange
 
-abbrev pub file_bytes : Backed → ℕ → List ℕ
-file_bytes dump file = slice_index_or (dump.core ∷ dump.images) file []
+abbrev pub files_of : Backed → List (List ℕ)
+files_of dump = dump.core ∷ dump.images
 
-abbrev pub core_range : Segment → FileRange
-core_range s = record { range = range_of s; file = 0 }
-
--- the addresses of all load segments that have the core's bytes, then those that have an image's
-abbrev pub file_ranges : Backed → List FileRange
-file_ranges dump = map core_range (loads_of dump.core) ++ dump.ranges
-
-abbrev pub region_in : Backed → FileRange → Region
-region_in dump f = (f.range.start, take f.range.len (drop f.range.offset (file_bytes dump f.file)))
-
--- the pieces of memory that these are
+-- the pieces of memory that the ranges are
 abbrev pub regions_of : Backed → List Region
-regions_of dump = map (region_in dump) (file_ranges dump)
+regions_of dump = regions_in (files_of dump) dump.ranges
 
 -- which bytes of an image of so many bytes a segment has
 abbrev pub range_in : Segment → FilePlace → ℕ → TableEntry
@@ -107,8 +100,24 @@ pub record AreImageRanges (bytes : List ℕ) (images : Pushed) (ranges : List Fi
   pub found : AreCoreNotes bytes notes entries
   pub says : ranges ≡ filter_map (image_range images entries) (loads_of bytes)
 
--- what is kept of this core and these images
+-- what is kept of this core and these images: the ranges are those of the core's own bytes, in table order, then
+-- those of the images'
 pub record IsBacked (bytes : List ℕ) (images : Pushed) (dump : Backed) : Type 0 where
   pub core_is : dump.core ≡ bytes
   pub images_are : dump.images ≡ images_shown images
-  pub ranges_are : AreImageRanges bytes images dump.ranges
+  pub from_images : List FileRange
+  pub images_have : AreImageRanges bytes images from_images
+  pub ranges_are : dump.ranges ≡ core_ranges bytes ++ from_images
+
+-- a range whose bytes an image has
+pub record IsInImage (images : List (List ℕ)) (f : FileRange) : Type 0 where
+  pub number : ℕ
+  pub file_is : f.file ≡ number + 1
+  pub known : number < length images
+  pub inside : f.range.offset + f.range.len ≤ length (slice_index_or images number [])
+  pub fits : IsBounded f
+
+-- the core's bytes are those of a core, and each range lies in its file
+pub record IsKept (dump : Backed) : Type 0 where
+  pub core : IsCore dump.core
+  pub held : All (IsInFile (files_of dump)) dump.ranges

@@ -85,6 +85,9 @@ fn images_fill_what_a_core_lacks(rt: HostRuntime) -> Result<(), Fail> {
         let bytes = Mmap::of(alloc, bytes.to_vec(alloc)?)?;
         images.push(Name::of(alloc, path)?, bytes)?;
     }
+    let shown = images.get(b"/a").map(|bytes| bytes.as_slice());
+    assert_eq!(rt; shown, Some(b"0123456789abcdef".as_slice()));
+    assert!(rt; images.get(b"/").is_none());
     let core = CoreDump::new(alloc, core(alloc)?)?;
     let place = FilePlace {
         pages: 1,

@@ -12,9 +12,10 @@ ghost use Rattle.image_memory.specs.declared.dump_error.DumpError.{DumpError as 
 use crate::file_table::{FileEntry, FilePlace};
 use crate::maps::{last_entries, maps_of, places_of};
 use crate::notes::{are_whole, core_notes, file_entries, last_process, statuses_of};
-use crate::places::pieces_of;
+use crate::places::table_of;
 use crate::{CoreMapRange, DumpError, elf_prpsinfo, elf_prstatus};
-use elf64_core::{Elf64, LOAD, Machine, NOTE, Segment, SpanTable};
+use elf64_core::{Elf64, LOAD, Machine, NOTE, Segment};
+use piece_table::PieceTable;
 use std::alloc::{AllocError, Global};
 
 /// What is read of a core.
@@ -24,8 +25,8 @@ pub(crate) struct Contents {
     pub(crate) machine: Machine,
     /// The load segments, in table order.
     pub(crate) loads: Vec<Segment>,
-    /// The pieces of memory that their bytes are.
-    pub(crate) table: SpanTable,
+    /// Where their bytes stand in the file.
+    pub(crate) table: PieceTable,
     /// The map of each.
     pub(crate) maps: Vec<CoreMapRange>,
     /// Where the file of each map is mapped from.
@@ -111,7 +112,7 @@ pub(crate) fn read_core(alloc: Global, bytes: &[u8]) -> Result<Contents, DumpErr
     let elf = accept(bytes)?;
     let said = read_notes(alloc, &elf)?;
     let loads = load_segments(alloc, &elf)?;
-    let table = pieces_of(alloc, &loads)?;
+    let table = table_of(alloc, &loads)?;
     let last = last_entries(alloc, said.entries)?;
     let maps = maps_of(alloc, &loads, &last)?;
     let places = places_of(alloc, &loads, &last)?;

@@ -1,5 +1,5 @@
 //! A core dump: the file of a dead process's memory.
-ghost use Rattle.std.specs.Prelude.{◌≡◌, ◌≢◌, ◌⊎◌, ◌↔◌, ◌<◌, ◌≤◌, ◌*◌, List, ℕ, IfOk, IfErr, IfSome, IsTrue, is_some, Err, None, Option, Some, ◌+◌, length, option_and_then, option_copied, slice_get, slice_index, slice_range};
+ghost use Rattle.std.specs.Prelude.{◌≡◌, ◌⊎◌, ◌↔◌, ◌<◌, ◌≤◌, ◌*◌, List, [], ◌∷◌, ℕ, IfOk, IfErr, IfSome, is_some, Err, None, Option, Some, ◌+◌, length, option_and_then, option_copied, slice_get, slice_index, slice_range};
 ghost use Rattle.elf64_core.specs.Header.{machine_of};
 ghost use Rattle.image_memory.specs.Contents.{AreContents};
 ghost use Rattle.image_memory.specs.Cores.{IsCore, IsEarly, RefusesCore};
@@ -7,10 +7,10 @@ ghost use Rattle.elf64_core.specs.Header.{HasSegments};
 ghost use Rattle.image_memory.specs.Maps.{AreMaps, ArePlaces, IsFilePlace, in_core, is_named};
 ghost use Rattle.image_memory.specs.declared.file_table.FilePlace.{FilePlace as Place};
 ghost use Rattle.image_memory.specs.Notes.{AreStatuses, IsProcess};
-ghost use Rattle.image_memory.specs.Lookups.{HalvesIn};
-ghost use Rattle.image_memory.specs.Overlays.{ArePieces, IsPiece, spans};
-ghost use Rattle.image_memory.specs.Pieces.{loads_of, memory_of, ranges_of};
-ghost use Rattle.image_memory.specs.Places.{IsRest, IsRun, IsStretch, place_in};
+ghost use Rattle.image_memory.specs.Pieces.{core_ranges, loads_of, memory_of, ranges_of};
+ghost use Rattle.piece_table.specs.Lookups.{HalvesIn};
+ghost use Rattle.piece_table.specs.Overlays.{ArePieces};
+ghost use Rattle.piece_table.specs.Places.{IsRest, IsRun};
 ghost use Rattle.image_memory.specs.declared.dump_error.DumpError.{DumpError as Refusal};
 ghost use Rattle.image_memory.specs.declared.maps.CoreMapRange.{CoreMapRange as Map};
 ghost use Rattle.image_memory.specs.declared.records.elf_prstatus.{elf_prstatus as Status};
@@ -20,11 +20,10 @@ ghost use Rattle.process_memory.specs.Layers.{plain};
 ghost use Rattle.process_memory.specs.Memory.{byte_at};
 
 use crate::contents::{Contents, read_core};
-use crate::lookup::{look_up, lookup};
 use crate::maps::holds_addr;
-use crate::places::part;
 use crate::{ContainsAddr, CoreMapRange, DumpError, FilePlace, View, elf_prpsinfo, elf_prstatus};
-use elf64_core::{Machine, Segment, Steps, TableEntry};
+use elf64_core::{Machine, Steps};
+use piece_table::{PieceTable, Stored, piece_of, rest_of, run_of};
 use process_memory::{Pieces, ProcessMemory};
 use std::alloc::Global;
 use std::marker::Model;
@@ -37,15 +36,6 @@ use std::sync::ledger::Ledger;
 pub struct CoreDump {
     bytes: Vec<u8>,
     contents: Contents,
-}
-
-/// Bytes that follow each other in the file.
-#[derive(Clone, Copy)]
-struct Run {
-    /// Where the first one stands.
-    start: u64,
-    /// How many there are.
-    size: u64,
 }
 
 impl Model for CoreDump {
@@ -133,20 +123,6 @@ impl CoreDump {
         &self.contents.places
     }
 
-    /// The file's bytes.
-    pub(crate) fn bytes(&self) -> &[u8]
-        ensures { result.now ≡ self.now }
-    {
-        &self.bytes
-    }
-
-    /// The load segments, in table order.
-    pub(crate) fn loads(&self) -> &[Segment]
-        ensures { result.now ≡ loads_of self.now }
-    {
-        &self.contents.loads
-    }
-
     /// The machine that the header names.
     pub fn machine(&self) -> Machine
         ensures { result ≡ machine_of self.now }
@@ -165,61 +141,18 @@ impl CoreDump {
         self.contents.table.len()
     }
 
-    /// The bytes from an address of a piece up to the end of the piece.
-    fn rest(&self, piece: TableEntry, addr: u64) -> &[u8]
-        requires piece { IsPiece (ranges_of self.now) piece }
-        requires holds { IsTrue (spans addr piece) }
-        ensures some { 0 < length result.now }
-        ensures rest { IsRest (loads_of self.now) addr (length result.now) }
-        ensures bytes { (k : ℕ) → k < length result.now
-            → byte_at (memory_of self.now) (addr + k) ≡ Some (slice_index result.now k) }
-    {
-        let bytes: &[u8] = &self.bytes;
-        let start = piece.offset + (addr - piece.start);
-        let end = piece.offset + piece.len;
-        part(bytes, start, end)
-    }
-
     /// The bytes from `addr` up to the end of the piece that holds it; none exactly where the address has no
     /// byte. It adds k steps to the counter that is handed in, where 2^k is at most twice the number that
     /// `pieces` gives and one; that nothing is looked up beside these steps no clause says. It takes no memory.
     pub fn find<L: Ledger>(&self, addr: u64, steps: &mut Steps<L>) -> Option<&[u8]>
         ensures none { result ≡ None ↔ byte_at (memory_of self.now) addr ≡ None }
-        ensures rest { IfSome result (λ rest. IsRest (loads_of self.now) addr (length rest.now)) }
+        ensures rest { IfSome result (λ rest. IsRest (ranges_of self.now) addr (length rest.now)) }
         ensures bytes { IfSome result (λ rest. (k : ℕ) → k < length rest.now
             → byte_at (memory_of self.now) (addr + k) ≡ Some (slice_index rest.now k)) }
         ensures steps { (pieces : List Entry) × ArePieces (ranges_of self.now) pieces
             × HalvesIn (length pieces) steps.old steps.new }
     {
-        let hit = lookup(&self.contents.table, addr, steps)?;
-        Some(self.rest(hit.entry, addr))
-    }
-
-    /// Bytes from an address on, one or more and at most so many, of the piece that holds it; none where no
-    /// piece does.
-    fn stretch(&self, addr: u64, most: u64) -> Option<Run>
-        requires { 0 < most }
-        ensures none { result ≡ None → place_in (loads_of self.now) addr ≡ None }
-        ensures run { IfSome result (λ run. IsStretch self.now (loads_of self.now) addr most run.start run.size) }
-    {
-        let piece = look_up(&self.contents.table, addr)?.entry;
-        let past = addr - piece.start;
-        Some(Run {
-            start: piece.offset + past,
-            size: (piece.len - past).min(most),
-        })
-    }
-
-    /// How many of so many bytes from an address on follow each other in the file from a place on.
-    fn goes_on(&self, addr: u64, start: u64, most: u64) -> u64
-        requires { 0 < most }
-        ensures none { result ≡ 0 → place_in (loads_of self.now) addr ≢ Some start }
-        ensures run { 0 < result → IsStretch self.now (loads_of self.now) addr most start result }
-    {
-        match self.stretch(addr, most) {
-            Some(run) if run.start == start => run.size,
-            _ => 0,
-        }
+        rest_of(self, addr, steps)
     }
 
     /// The bytes of the longest run of at most `len` addresses from `addr` on that are in memory and whose
@@ -229,26 +162,13 @@ impl CoreDump {
     /// each run of one segment, of which no clause speaks.
     pub fn piece(&self, addr: u64, len: u64) -> Option<&[u8]>
         ensures none { result ≡ None ↔ (len ≡ 0) ⊎ (byte_at (memory_of self.now) addr ≡ None) }
-        ensures run { IfSome result (λ piece. (start : ℕ) × IsRun (loads_of self.now) addr len start (length piece.now)
+        ensures run { IfSome result (λ piece. (start : ℕ)
+            × IsRun (core_ranges self.now) addr len 0 start (length piece.now)
             × (piece.now ≡ slice_range self.now start (start + length piece.now))) }
         ensures bytes { IfSome result (λ piece. (k : ℕ) → k < length piece.now
             → byte_at (memory_of self.now) (addr + k) ≡ Some (slice_index piece.now k)) }
     {
-        if len == 0 {
-            return None;
-        }
-        let bytes: &[u8] = &self.bytes;
-        let first = self.stretch(addr, len)?;
-        let start = first.start;
-        let mut size = first.size;
-        while size < len {
-            let more = self.goes_on(addr + size, start + size, len - size);
-            if more == 0 {
-                break;
-            }
-            size += more;
-        }
-        Some(part(bytes, start, start + size))
+        piece_of(self, addr, len)
     }
 
     /// The memory of the core: one piece for each load segment, in table order, of the first bytes that
@@ -260,12 +180,25 @@ impl CoreDump {
     }
 }
 
+impl Stored for CoreDump {
+    ghost ranges = { core_ranges };
+
+    ghost files = { λ bytes. bytes ∷ [] };
+
+    fn table(&self) -> &PieceTable {
+        &self.contents.table
+    }
+
+    fn file(&self, _file: usize) -> &[u8] {
+        &self.bytes
+    }
+}
+
 impl Pieces for CoreDump {
     ghost regions = { memory_of };
 
     fn run(&self, addr: u64) -> Option<&[u8]> {
-        let hit = look_up(&self.contents.table, addr)?;
-        Some(self.rest(hit.entry, addr))
+        run_of(self, addr)
     }
 }
 

@@ -1,6 +1,6 @@
-//! Ranges, views of files, and files by their paths.
-use crate::{Images, Mmap, is_subrange, read_elf_build_id_from_mmap};
-use elf64_core::{ElfError, Name};
+//! Ranges, and views of files.
+use crate::{Mmap, is_subrange, read_elf_build_id_from_mmap};
+use elf64_core::ElfError;
 use std::alloc::{AllocError, Global};
 use std::test::Fail;
 
@@ -82,25 +82,6 @@ fn views_are_narrowed(rt: HostRuntime) -> Result<(), Fail> {
         let view = narrow(Mmap::of(alloc, bytes.to_vec(alloc)?)?, ranges);
         let shown = view.as_ref().map(|view| view.as_slice());
         assert_eq!(rt; shown, *want, "{ranges:?}");
-    }
-    Ok(())
-}
-
-#[test]
-fn images_are_found_under_the_first_of_their_paths(rt: HostRuntime) -> Result<(), Fail> {
-    let alloc = rt.alloc();
-    let mut images = Images::new(alloc);
-    for (path, bytes) in [(b"/a", b"one"), (b"/b", b"two"), (b"/a", b"six")] {
-        let bytes = Mmap::of(alloc, bytes.to_vec(alloc)?)?;
-        images.push(Name::of(alloc, path)?, bytes)?;
-    }
-    for (path, want) in [
-        (b"/a".as_slice(), Some(b"one".as_slice())),
-        (b"/b", Some(b"two")),
-        (b"/", None),
-    ] {
-        let found = images.get(path).map(|bytes| bytes.as_slice());
-        assert_eq!(rt; found, want);
     }
     Ok(())
 }

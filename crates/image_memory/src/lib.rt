@@ -15,12 +15,10 @@ mod file_table;
 #[cfg(test)]
 mod image_tests;
 mod images;
-mod lookup;
 mod map_table;
 mod maps;
 mod mmap;
 mod notes;
-mod overlay;
 #[cfg(test)]
 mod piece_tests;
 mod places;

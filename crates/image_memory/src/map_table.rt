@@ -2,22 +2,21 @@
 ghost use Rattle.std.specs.Prelude.{◌≡◌, All, IfOk, map};
 ghost use Rattle.image_memory.specs.MapTables.{MapSpans, map_range_of, past_last, past_of, tests};
 ghost use Rattle.image_memory.specs.Maps.{in_maps};
-ghost use Rattle.image_memory.specs.Overlays.{IsBoundedRange};
+ghost use Rattle.piece_table.specs.Places.{IsBounded};
 
-use crate::lookup::look_up;
-use crate::overlay::table_of;
 use crate::{ContainsAddr, CoreMapRange};
-use elf64_core::{SpanTable, TableEntry};
+use elf64_core::TableEntry;
+use piece_table::{FileRange, PieceTable};
 use std::alloc::{AllocError, Global};
 use std::marker::Model;
 
 /// The addresses that lie in one of some maps, whether or not the core has their bytes; the maps may overlap.
 /// They are looked up by halving, of which no clause speaks.
 ///
-/// Contracts see it as the spans of addresses that it holds.
+/// Contracts see it as the ranges of addresses of the maps, and how many addresses there are past these.
 #[derive(Debug, Drop)]
 pub struct MapTable {
-    table: SpanTable,
+    table: PieceTable,
     /// How many of the addresses from 2^64 - 1 on lie in a map.
     past: u64,
 }
@@ -28,23 +27,26 @@ impl Model for MapTable {
     ghost view = { λ m. record { table = m.table; past = m.past } };
 }
 
-/// The addresses of a map below 2^64 - 1.
-fn map_range_of(map: &CoreMapRange) -> TableEntry
+/// The addresses of a map below 2^64 - 1. What stands there isn't looked at, nor in which file.
+fn map_range_of(map: &CoreMapRange) -> FileRange
     ensures is { result ≡ map_range_of map.now }
-    ensures fits { IsBoundedRange result }
+    ensures fits { IsBounded result }
 {
     let segment = &map.segment;
-    TableEntry {
-        start: segment.addr,
-        len: segment.mem_size.min(u64::MAX - segment.addr),
-        offset: 0,
+    FileRange {
+        range: TableEntry {
+            start: segment.addr,
+            len: segment.mem_size.min(u64::MAX - segment.addr),
+            offset: 0,
+        },
+        file: 0,
     }
 }
 
 /// Those of some maps, in order.
-fn map_ranges_of(alloc: Global, maps: &[CoreMapRange]) -> Result<Vec<TableEntry>, AllocError>
+fn map_ranges_of(alloc: Global, maps: &[CoreMapRange]) -> Result<Vec<FileRange>, AllocError>
     ensures are { IfOk result (λ ranges. ranges.items ≡ map map_range_of maps.now) }
-    ensures fit { IfOk result (λ ranges. All IsBoundedRange ranges.items) }
+    ensures fit { IfOk result (λ ranges. All IsBounded ranges.items) }
 {
     let mut ranges = Vec::new(alloc);
     for map in maps {
@@ -75,7 +77,7 @@ impl MapTable {
     {
         let ranges = map_ranges_of(alloc, maps)?;
         Ok(MapTable {
-            table: table_of(alloc, &ranges)?,
+            table: PieceTable::of(alloc, ranges)?,
             past: past_last(maps),
         })
     }
@@ -89,7 +91,7 @@ impl ContainsAddr for MapTable {
         if addr == u64::MAX {
             self.past > 0
         } else {
-            look_up(&self.table, addr).is_some()
+            self.table.at(addr).is_some()
         }
     }
 }

@@ -24,7 +24,8 @@ IsLastIn text from to (Some place) = (from ≤ place) × (place < to) × (is_clo
 
 -- a name ends at this place: a dot stands inside, and a quote, a colon and a digit behind
 abbrev pub EndsAt : List ℕ → ℕ → Type 0
-EndsAt text place = ((dot : ℕ) × (1 ≤ dot) × (dot + 1 < place) × (slice_index text dot ≡ 46)) × (is_closing (drop place text) ≡ true)
+EndsAt text place =
+    ((dot : ℕ) × (1 ≤ dot) × (dot + 1 < place) × (slice_index text dot ≡ 46)) × (is_closing (drop place text) ≡ true)
 
 -- the last place at which a name ends
 abbrev pub IsNameEnd : List ℕ → Option ℕ → Type 0

@@ -14,7 +14,8 @@ AscendFrom at (mark ∷ marks) = (at ≤ mark.line) × AscendFrom (mark.line + 1
 -- the last mark of a line below this one
 abbrev pub last_below : ℕ → List SourceMark → Option SourceMark
 last_below lineno [] = None
-last_below lineno (mark ∷ marks) = option_or (last_below lineno marks) (if nat_lt mark.line lineno then Some mark else None)
+last_below lineno (mark ∷ marks) =
+    option_or (last_below lineno marks) (if nat_lt mark.line lineno then Some mark else None)
 
 -- the file and the line that a mark tells; line 0 is none
 abbrev pub told : Option SourceMark → Option (List ℕ × ℕ)
@@ -32,8 +33,9 @@ mark_of at path number = record { line = at; file = chars path; number = number 
 -- the marks of the lines that tell something, in order, counted from a number on
 pub data AreMarks (file_of : List ℕ → List ℕ) : ℕ → List (List ℕ) → List SourceMark → Type 0 where
   End : {at : ℕ} → AreMarks file_of at [] []
-  Told : {at number : ℕ} {line name : List ℕ} {rest : List (List ℕ)} {marks : List SourceMark} → Tells line name number
-      → AreMarks file_of (at + 1) rest marks → AreMarks file_of at (line ∷ rest) (mark_of at (file_of name) number ∷ marks)
+  Told : {at number : ℕ} {line name : List ℕ} {rest : List (List ℕ)} {marks : List SourceMark}
+      → Tells line name number → AreMarks file_of (at + 1) rest marks
+      → AreMarks file_of at (line ∷ rest) (mark_of at (file_of name) number ∷ marks)
   Untold : {at : ℕ} {line : List ℕ} {rest : List (List ℕ)} {marks : List SourceMark} → TellsNone line
       → AreMarks file_of (at + 1) rest marks → AreMarks file_of at (line ∷ rest) marks
 
@@ -45,8 +47,8 @@ pub record IsSourceMap (file_of : List ℕ → List ℕ) (contents : List ℕ) (
 
 -- contents have one map
 abbrev pub MapsOnce : Type 0
-MapsOnce = (file_of : List ℕ → List ℕ) (contents : List ℕ) (map other : List SourceMark) → IsSourceMap file_of contents map
-    → IsSourceMap file_of contents other → map ≡ other
+MapsOnce = (file_of : List ℕ → List ℕ) (contents : List ℕ) (map other : List SourceMark)
+    → IsSourceMap file_of contents map → IsSourceMap file_of contents other → map ≡ other
 
 -- contents of so many lines are too long
 abbrev pub line_limit : ℕ

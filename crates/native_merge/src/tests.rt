@@ -96,12 +96,36 @@ fn lines_of_c_files_are_found(rt: HostRuntime) -> Result<(), Fail> {
     let alloc = rt.alloc();
     let mut sources = NoSources;
     let contents = "x\n/* \"a.pyx\":6\ny";
-    let map = SourceMap::from_contents(alloc, &mut sources, contents, "a.c", None).expect(
-        &rt, "a map",
-    );
+    let map = SourceMap::from_contents(alloc, &mut sources, contents, "a.c", None)?;
     assert!(rt; map.lookup(1).is_none());
     assert!(rt; matches!(map.lookup(2), Some(("a.pyx", 6))));
     assert!(rt; matches!(map.lookup(4), Some(("a.pyx", 6))));
     assert!(rt; map.lookup(5).is_none());
+    Ok(())
+}
+
+/// First lines of a C file, and what they tell.
+const FIRST_LINES: [(&str, Option<(&str, u32)>); 12] = [
+    ("/* \"a.pyx\":7", Some(("a.pyx", 7))),
+    ("\u{2003}\t/* \"a.pyx\":07 x", Some(("a.pyx", 7))),
+    ("/* \"a\".pyx\":7", Some(("a\".pyx", 7))),
+    ("/* \"a.pyx\":1\":7", Some(("a.pyx\":1", 7))),
+    ("/* \"a.pyx\":4294967295", Some(("a.pyx", u32::MAX))),
+    ("/* \"a.pyx\":4294967296", None),
+    ("/* \"a.pyx\":0", None),
+    ("/* \".pyx\":7", None),
+    ("/* \"a.\":7", None),
+    ("/* \"a.pyx\":", None),
+    ("x /* \"a.pyx\":7", None),
+    ("", None),
+];
+
+#[test]
+fn first_lines_tell(rt: HostRuntime) -> Result<(), Fail> {
+    let alloc = rt.alloc();
+    for (line, want) in FIRST_LINES {
+        let map = SourceMap::from_contents(alloc, &mut NoSources, line, "a.c", None)?;
+        assert_eq!(rt; map.lookup(2), want, "{line}");
+    }
     Ok(())
 }

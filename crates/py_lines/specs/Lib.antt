@@ -1,3 +1,4 @@
+pub mod Coding
 pub mod Entries
 pub mod Lines
 pub mod Places

@@ -4,11 +4,18 @@
 //! code, each with a line or with none.
 #![tactic(auto)]
 
+mod encoding;
 mod entry;
+mod error;
 mod lines;
+mod runs;
 mod varint;
 
+pub use encoding::encode;
+pub use error::EncodeError;
 pub use lines::{LineFamily, LineRange, line_at, ranges};
 
+#[cfg(test)]
+mod encode_tests;
 #[cfg(test)]
 mod tests;

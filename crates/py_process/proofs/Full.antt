@@ -18,29 +18,29 @@ use Rattle.py_process.proofs.ReportLaws.{finds, report_agree}
 module _ (bytes : List ℕ) (images : Pushed) (layouts : List Layout) (config : Config) (r : Reported)
     (h : IsRight bytes images layouts config r) where
   abbrev is_found : Finding
-  is_found = finding r.version h.layout h.interpreter h.lock
+  is_found = finding r.version h.has.layout h.has.interpreter h.lock
 
   -- stacks that are whole meet no fault
-  faultless : fault_on (memory_in h.dumped) is_found config ≡ None
+  faultless : fault_on (memory_in h.has.dumped) is_found config ≡ None
   faultless =
-      stacks_same (asked_of config) h.layout (memory_in h.dumped) h.lock h.interpreter
-      ∙ ap fault_in (stacks_whole (asked_of config) h.layout (memory_in h.dumped) h.lock h.interpreter h.stacks.walked h.stacks.stacks)
+      stacks_same (asked_of config) h.has.layout (memory_in h.has.dumped) h.lock h.has.interpreter
+      ∙ ap fault_in (stacks_whole (asked_of config) h.has.layout (memory_in h.has.dumped) h.lock h.has.interpreter h.stacks.walked h.stacks.stacks)
 
   pub right_reports : AsksNoOther config → ReportIs bytes images layouts config (Ok r)
   right_reports asks =
       inr (
-        h.dumped,
-        (h.core, h.is_dumped),
+        h.has.dumped,
+        (h.has.core, h.has.is_dumped),
         inr (
           is_found,
-          finds (memory_in h.dumped) (machine_of bytes) h.dumped.maps images layouts is_found (record {
-            programs = h.programs;
-            are_programs = h.are_programs;
-            known = h.known;
-            is_known = h.is_known;
-            told = h.told;
-            chosen = h.chosen;
-            first = h.first;
+          finds (memory_in h.has.dumped) (machine_of bytes) h.has.dumped.maps images layouts is_found (record {
+            programs = h.has.programs;
+            are_programs = h.has.are_programs;
+            known = h.has.known;
+            is_known = h.has.is_known;
+            told = h.has.told;
+            chosen = h.has.chosen;
+            first = h.has.first;
             lock = h.is_lock;
           }),
           inr (

@@ -1,4 +1,5 @@
 pub mod Agreement
+pub mod Bare
 pub mod Bss
 pub mod Decimals
 pub mod Dumped

@@ -53,10 +53,10 @@ pub record HasInfo (bytes : List ℕ) (addr : ℕ) : Type 0 where
   pub both : HasBoth bytes
 
 -- the address of a symbol of a binary, where there is one
-abbrev pub symbol_in : Option BinaryInfo → List ℕ → Option ℕ
-symbol_in None symbol = None
-symbol_in (Some binary) symbol = address_in binary.symbols symbol
+abbrev pub symbol_of_binary : Option BinaryInfo → List ℕ → Option ℕ
+symbol_of_binary None symbol = None
+symbol_of_binary (Some binary) symbol = address_in binary.symbols symbol
 
 -- the program's, where it has one, else the library's
 abbrev pub symbol_at : Option BinaryInfo → Option BinaryInfo → List ℕ → Option ℕ
-symbol_at program library symbol = option_or (symbol_in program symbol) (symbol_in library symbol)
+symbol_at program library symbol = option_or (symbol_of_binary program symbol) (symbol_of_binary library symbol)

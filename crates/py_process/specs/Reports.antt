@@ -1,5 +1,5 @@
 -- What a report says of a core and its images, and why there is none.
-use Rattle.std.specs.Prelude.{◌≡◌, ℕ, ℤ, true, false, List, [], ◌∷◌, map, Option, Some, None, option_map, unwrap_or, Result, Ok, Err, ⊤, Vec}
+use Rattle.std.specs.Prelude.{◌≡◌, ℕ, ℤ, pos, true, false, List, [], ◌∷◌, map, Option, Some, None, option_map, unwrap_or, Result, Ok, Err, ⊤, Vec}
 use Rattle.std.specs.Global.{Global}
 use Rattle.bstr.specs.Utf8.{lossy_chars}
 use Rattle.elf64_core.specs.Header.{machine_of}
@@ -18,10 +18,11 @@ use Rattle.process_memory.specs.Memory.Fault.{Missing, BadValue as IsBadValue, L
 use Rattle.process_memory.specs.Walk.{first_fault}
 use Rattle.py_fields.specs.declared.layout.Layout.{Layout}
 use Rattle.py_version.specs.declared.version.Version.{Version}
-use Rattle.py_stacks.specs.Asking.{asked_of}
+use Rattle.py_stacks.specs.Asking.{asked_of, nothing}
+use Rattle.py_stacks.specs.Frames.{Call}
 use Rattle.py_stacks.specs.Stacks.{stacks_faults}
 use Rattle.py_stacks.specs.StacksOver.{AreStacksOver}
-use Rattle.py_stacks.specs.Threads.{Trace, trace_of}
+use Rattle.py_stacks.specs.Threads.{AreTraces, Trace, trace_of}
 use Rattle.py_stacks.specs.declared.config.Config.{Config}
 use Rattle.py_stacks.specs.declared.trace.StackTrace.{StackTrace}
 use Rattle.py_process.specs.Candidates.{IsFirstOf, candidates_of}
@@ -56,7 +57,7 @@ pub record AsksNoOther (config : Config) : Type 0 where
   pub native : config.native ≡ false
   pub subprocesses : config.subprocesses ≡ false
 
--- the first fault on the way to the lock's owner and along the threads
+-- the first fault on the way to the lock's holder and along the threads
 abbrev pub fault_on : Memory → Finding → Config → Option Fault
 fault_on m f config =
     first_fault (stacks_faults (asked_of config) f.layout m f.addresses.lock f.addresses.interpreter)
@@ -165,11 +166,20 @@ AfterCore bytes images layouts config d =
 abbrev pub ReportIs : List ℕ → Pushed → List Layout → Config → Result Reported CoreError → Type 0
 ReportIs bytes images layouts config = Then (CoreSays bytes images) (AfterCore bytes images layouts config)
 
--- ---- the same where there is a report, in one record: its threads are the whole chain, to null, of the first
+-- ---- the same where there is a report, in two records: its threads are the whole chain, to null, of the first
 -- candidate that is an interpreter's, each with its whole chain of callers, to null, less the skipped members
 
-pub record IsRight (bytes : List ℕ) (images : Pushed) (layouts : List Layout)
-    (config : Config) (r : Reported) : Type 0 where
+-- a frame by its two names and its two marks alone
+abbrev pub bare_call : Call → Call
+bare_call c = record c { «module» = None; short_filename = None; line = pos 0; locals = None }
+
+-- a thread by its id and its frames so
+abbrev pub bare_trace : Trace → ℕ × List Call
+bare_trace t = (t.thread_id, map bare_call t.frames)
+
+-- the version of a report, the ids of its threads, and their frames by names and marks: what else it says of them is
+-- not asked for here, nor what can't be read of it
+pub record HasFrames (bytes : List ℕ) (images : Pushed) (layouts : List Layout) (r : Reported) : Type 0 where
   pub core : IsCore bytes
   pub dumped : Dumped
   pub is_dumped : IsDumped bytes images dumped
@@ -183,9 +193,18 @@ pub record IsRight (bytes : List ℕ) (images : Pushed) (layouts : List Layout)
   pub interpreter : ℕ
   pub first : IsFirstOf (in_maps dumped.maps) layout (memory_in dumped)
       (candidates_of known r.version layout (memory_in dumped)) interpreter
+  pub walked : List Trace
+  pub are_walked : AreTraces nothing layout (memory_in dumped) interpreter walked
+  pub threads : map bare_trace r.traces ≡ map bare_trace walked
+
+-- that, and all else that a report says: of its stacks what is asked for, and what the notes tell
+pub record IsRight (bytes : List ℕ) (images : Pushed) (layouts : List Layout)
+    (config : Config) (r : Reported) : Type 0 where
+  pub has : HasFrames bytes images layouts r
   pub lock : ℕ
-  pub is_lock : lock_address_of (machine_of bytes) known r.version layout (memory_in dumped) interpreter ≡ Ok lock
-  pub stacks : AreStacksOver config layout (memory_in dumped) lock interpreter r.traces
+  pub is_lock : lock_address_of (machine_of bytes) has.known r.version has.layout (memory_in has.dumped)
+      has.interpreter ≡ Ok lock
+  pub stacks : AreStacksOver config has.layout (memory_in has.dumped) lock has.interpreter r.traces
   pub notes : NotesTell bytes r.signal r.process
 
 -- the input for which a report is owed

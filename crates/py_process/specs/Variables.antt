@@ -8,7 +8,7 @@ use Rattle.py_stacks.specs.Asking.{asked_of}
 use Rattle.py_stacks.specs.Frames.{Call, back_of, plain_by, records_at}
 use Rattle.py_stacks.specs.Locals.{local_at, locals_faults, names_tuple_of}
 use Rattle.py_stacks.specs.Member.{MemberAt}
-use Rattle.py_stacks.specs.Owner.{owner_at}
+use Rattle.py_stacks.specs.Holder.{holder_id_at}
 use Rattle.py_stacks.specs.Threads.{first_frame_at, thread_after}
 use Rattle.py_stacks.specs.declared.config.Config.{Config}
 use Rattle.py_process.specs.Findings.{Finding}
@@ -20,7 +20,7 @@ Follows next head [] a = (head ≢ 0) × (head ≡ a)
 Follows next head (b ∷ rest) a = (head ≢ 0) × (next head ≡ Ok b) × Follows next b rest a
 
 -- a member of the frames of one of an interpreter's threads, as it is read, that isn't skipped
-pub record IsKept (l : Layout) (m : Memory) (interpreter : ℕ) (r : MemberAt) : Type 0 where
+pub record IsKeptMember (l : Layout) (m : Memory) (interpreter : ℕ) (r : MemberAt) : Type 0 where
   pub head : ℕ
   pub names : word_at m (interpreter + l.interpreter.threads) ≡ Ok head
   pub threads : List ℕ
@@ -44,20 +44,20 @@ pub record HasLocals (l : Layout) (m : Memory) (r : MemberAt) : Type 0 where
   pub tuple : IsOk (record_at m (names_tuple_of l r) l.tuple.size)
   pub each : (index : ℕ) → index < u32_in r.code l.code.nlocals → IsOk (local_at l m r index)
 
--- all that is needed beside the chains is there: the lock's owner, and, where locals are asked for, those of each
+-- all that is needed beside the chains is there: the lock's holder, and, where locals are asked for, those of each
 -- kept member
 pub record HasRest (m : Memory) (f : Finding) (config : Config) : Type 0 where
-  pub owner : IsOk (owner_at f.layout m f.addresses.lock)
-  pub locals : (asked_of config).locals ≡ true → (r : MemberAt) → IsKept f.layout m f.addresses.interpreter r
+  pub holder_id : IsOk (holder_id_at f.layout m f.addresses.lock)
+  pub locals : (asked_of config).locals ≡ true → (r : MemberAt) → IsKeptMember f.layout m f.addresses.interpreter r
       → HasLocals f.layout m r
 
 -- the first fault of the locals of a kept member
 pub record IsLocalsFault (l : Layout) (m : Memory) (interpreter : ℕ) (fault : Fault) : Type 0 where
   pub member : MemberAt
-  pub kept : IsKept l m interpreter member
+  pub kept : IsKeptMember l m interpreter member
   pub first : first_fault (locals_faults l m member) ≡ Some fault
 
--- what of the lock's owner isn't in memory; or such a fault, where locals are asked for
+-- what of the lock's holder isn't in memory; or such a fault, where locals are asked for
 abbrev pub IsRestFault : Memory → Finding → Config → Fault → Type 0
-IsRestFault m f config fault = (owner_at f.layout m f.addresses.lock ≡ Err fault)
+IsRestFault m f config fault = (holder_id_at f.layout m f.addresses.lock ≡ Err fault)
     ⊎ (((asked_of config).locals ≡ true) × IsLocalsFault f.layout m f.addresses.interpreter fault)

@@ -6,7 +6,7 @@ ghost use Rattle.py_process.specs.declared.binary.BinaryInfo.{BinaryInfo as Info
 ghost use Rattle.py_process.specs.declared.binary_error.BinaryError.{BinaryError as Refusal};
 
 use crate::BinaryError;
-use crate::ranges::image_ranges;
+use crate::ranges::section_ranges;
 use crate::symbols::{Place, kept_symbols};
 use elf64_core::Elf64;
 use std::alloc::Global;
@@ -41,7 +41,7 @@ fn read_binary(alloc: Global, bytes: &[u8], addr: u64, size: u64) -> Result<Bina
     ensures { MatchResult result (IsInfo bytes.now addr size) (RefusesImage bytes.now addr) }
 {
     let elf = Elf64::parse(bytes)?;
-    let ranges = image_ranges(alloc, &elf, addr)?;
+    let ranges = section_ranges(alloc, &elf, addr)?;
     let place = Place {
         addr,
         size,

@@ -49,7 +49,7 @@ fn read_lock<P: ProcessMemory>(
 }
 
 /// The lock's address by the layout's family; none where a symbol or an offset is missing. At most one read.
-fn find_lock<M: ContainsAddr, P: ProcessMemory>(
+fn find_family_lock<M: ContainsAddr, P: ProcessMemory>(
     interpreter: u64,
     info: &PythonProcessInfo<M>,
     process: &mut P,
@@ -97,7 +97,7 @@ pub fn get_threadstate_address<M: ContainsAddr, P: ProcessMemory>(
         (λ m. LockIs config.now (lock_found machine (known_of info.now) version.now layout.now m interpreter) result) }
     ensures memory { IsErrOf result LockError.OutOfMemory → IsTrue (P.seen process.old).may_want_memory }
 {
-    match find_lock(interpreter, info, process, machine, version, layout)? {
+    match find_family_lock(interpreter, info, process, machine, version, layout)? {
         Some(addr) => Ok(addr),
         None if config.gil_only => Err(LockError::NoLock),
         None => Ok(0),

@@ -1,6 +1,6 @@
 //! What is known of a Python process from its maps and images.
 ghost use Rattle.std.specs.Prelude.{◌≡◌, option_copied};
-ghost use Rattle.py_process.specs.Binary.{symbol_at, symbol_in};
+ghost use Rattle.py_process.specs.Binary.{symbol_at, symbol_of_binary};
 ghost use Rattle.py_process.specs.Facts.{known_of, symbol_known};
 
 use crate::BinaryInfo;
@@ -21,8 +21,8 @@ pub struct PythonProcessInfo<M: ContainsAddr> {
 }
 
 /// The address of a symbol of a binary, where there is one.
-fn symbol_in<'a>(binary: &'a Option<BinaryInfo>, symbol: &[u8]) -> Option<&'a u64>
-    ensures { option_copied result ≡ symbol_in binary.now symbol.now }
+fn symbol_of_binary<'a>(binary: &'a Option<BinaryInfo>, symbol: &[u8]) -> Option<&'a u64>
+    ensures { option_copied result ≡ symbol_of_binary binary.now symbol.now }
 {
     match binary {
         Some(binary) => binary.symbols.get(symbol),
@@ -37,9 +37,9 @@ impl<M: ContainsAddr> PythonProcessInfo<M> {
     pub fn get_symbol(&self, symbol: &[u8]) -> Option<&u64>
         ensures { option_copied result ≡ symbol_at self.now.python_binary self.now.libpython_binary symbol.now }
     {
-        match symbol_in(&self.python_binary, symbol) {
+        match symbol_of_binary(&self.python_binary, symbol) {
             Some(addr) => Some(addr),
-            None => symbol_in(&self.libpython_binary, symbol),
+            None => symbol_of_binary(&self.libpython_binary, symbol),
         }
     }
 

@@ -71,7 +71,7 @@ fn scan(alloc: Global, bytes: &[u8]) -> Result<Option<Version>, VersionError>
 }
 
 /// The version that the text at an address tells; none where its bytes are not in memory. One read.
-fn read_text<P: ProcessMemory>(
+fn read_version_text<P: ProcessMemory>(
     alloc: Global,
     process: &mut P,
     addr: u64,
@@ -111,7 +111,7 @@ fn read_symbol<P: ProcessMemory>(
         (λ m. ToldBy (FirstTells m (text_source_at addr)) result) }
 {
     match addr {
-        Some(addr) => read_text(alloc, process, addr),
+        Some(addr) => read_version_text(alloc, process, addr),
         None => Ok(None),
     }
 }

@@ -142,7 +142,11 @@ fn runtime_range(section: Option<Section>, offset: u64) -> (u64, u64)
 }
 
 /// The ranges of an image that is mapped at an address, or the first refusal.
-pub(crate) fn image_ranges(alloc: Global, elf: &Elf64<'_>, addr: u64) -> Result<Ranges, BinaryError>
+pub(crate) fn section_ranges(
+    alloc: Global,
+    elf: &Elf64<'_>,
+    addr: u64,
+) -> Result<Ranges, BinaryError>
     ensures { MatchResult result (AreRanges elf.now addr) (RefusesRanges elf.now addr) }
 {
     let sections: Vec<Section> = elf.sections()?.collect(alloc)?;

@@ -7,10 +7,10 @@ use Rattle.process_memory.proofs.WalkSums.{walk_ones, walk_sum}
 use Rattle.py_fields.specs.declared.layout.Layout.{Layout}
 use Rattle.py_stacks.specs.declared.asked.Asked.{Asked}
 use Rattle.py_stacks.specs.Frames.{cost_after, extra_cost, frame_step, frames_cost, member_cost, member_limit}
-use Rattle.py_stacks.specs.Met.{details_cost, details_walked, frames_extra, frames_met, members_met, members_walked, of_thread, stacks_bound, thread_bound, thread_details, thread_members, threads_met, threads_walked, where_owned}
+use Rattle.py_stacks.specs.Met.{details_cost, details_walked, frames_extra, frames_met, members_met, members_walked, of_thread, stacks_bound, thread_bound, thread_details, thread_members, threads_met, threads_walked, where_held}
 use Rattle.py_stacks.specs.Stacks.{stacks_cost}
 use Rattle.py_stacks.specs.Threads.{first_frame_at, thread_cost, thread_frames_cost, thread_limit, thread_step, threads_cost, traces_cost}
-use Rattle.py_stacks.specs.Owner.{owner_at}
+use Rattle.py_stacks.specs.Holder.{holder_id_at}
 
 module _ {S T : Type 0} (step : S → ℕ → Found (Step S T)) where
   -- at most as many each as members are met
@@ -77,19 +77,19 @@ traces_bound q l m interpreter =
     [ Ok head ↦ threads_bound q l m head | Err e ↦ omega arith ] in
     omega (arith, threads)
 
--- two more for the owner of the lock
+-- two more for the holder of the lock
 pub stacks_within : (q : Asked) (l : Layout) (m : Memory) (lock interpreter : ℕ)
     → stacks_cost q l m lock interpreter ≤ stacks_bound q l m lock interpreter
 unfolding stacks_cost threads_walked members_walked details_walked
 stacks_within q l m lock interpreter =
-    let traces : cost_after (owner_at l m lock) (λ owner. traces_cost q l m interpreter) ≤ 1 + 2 * where_owned l m lock (threads_met q l m interpreter) + 6 * where_owned l m lock (members_met q l m interpreter) + where_owned l m lock (details_cost q l m interpreter) =
-    elim (owner_at l m lock) as (λ v. cost_after v (λ owner. traces_cost q l m interpreter) ≤ 1 + 2 * cost_after v (λ owner. threads_met q l m interpreter) + 6 * cost_after v (λ owner. members_met q l m interpreter) + cost_after v (λ owner. details_cost q l m interpreter))
-    [ Ok owner ↦ traces_bound q l m interpreter | Err e ↦ omega arith ] in
+    let traces : cost_after (holder_id_at l m lock) (λ holder_id. traces_cost q l m interpreter) ≤ 1 + 2 * where_held l m lock (threads_met q l m interpreter) + 6 * where_held l m lock (members_met q l m interpreter) + where_held l m lock (details_cost q l m interpreter) =
+    elim (holder_id_at l m lock) as (λ v. cost_after v (λ holder_id. traces_cost q l m interpreter) ≤ 1 + 2 * cost_after v (λ holder_id. threads_met q l m interpreter) + 6 * cost_after v (λ holder_id. members_met q l m interpreter) + cost_after v (λ holder_id. details_cost q l m interpreter))
+    [ Ok holder_id ↦ traces_bound q l m interpreter | Err e ↦ omega arith ] in
     omega (arith, traces)
 
--- what is counted behind the owner is counted where there is one
-pub owned_few : (l : Layout) (m : Memory) (lock n : ℕ) → where_owned l m lock n ≤ n
-owned_few l m lock n = elim (owner_at l m lock) as (λ v. cost_after v (λ owner. n) ≤ n) [ Ok owner ↦ omega arith | Err e ↦ omega arith ]
+-- what is counted behind the holder is counted where there is one
+pub held_few : (l : Layout) (m : Memory) (lock n : ℕ) → where_held l m lock n ≤ n
+held_few l m lock n = elim (holder_id_at l m lock) as (λ v. cost_after v (λ holder_id. n) ≤ n) [ Ok holder_id ↦ omega arith | Err e ↦ omega arith ]
 
 pub stacks_below : (q : Asked) (l : Layout) (m : Memory) (lock interpreter : ℕ)
     → stacks_cost q l m lock interpreter ≤ 3 + 2 * threads_met q l m interpreter + 6 * members_met q l m interpreter + details_cost q l m interpreter
@@ -98,9 +98,9 @@ stacks_below q l m lock interpreter =
     omega (
       arith,
       stacks_within q l m lock interpreter,
-      owned_few l m lock (threads_met q l m interpreter),
-      owned_few l m lock (members_met q l m interpreter),
-      owned_few l m lock (details_cost q l m interpreter),
+      held_few l m lock (threads_met q l m interpreter),
+      held_few l m lock (members_met q l m interpreter),
+      held_few l m lock (details_cost q l m interpreter),
     )
 
 pub threads_met_most : (q : Asked) (l : Layout) (m : Memory) (interpreter : ℕ)

@@ -20,7 +20,7 @@ use Rattle.py_stacks.specs.Locals.{count_of, count_or_zero, locals_cost, locals_
 use Rattle.py_stacks.specs.Member.{MemberAt}
 use Rattle.py_stacks.specs.Frames.{Call, cost_after, extra_cost, frame_limit, frame_step, frames_cost, member_limit, part_cost, plain_by, records_at}
 use Rattle.py_stacks.specs.Met.{details_cost, details_walked, frames_extra, frames_locals, frames_met, locals_met, locals_most, locals_walked, member_locals, members_met, members_walked, of_thread, part_locals, thread_details, thread_locals, thread_members}
-use Rattle.py_stacks.specs.Owner.{owner_at}
+use Rattle.py_stacks.specs.Holder.{holder_id_at}
 use Rattle.py_stacks.specs.Stacks.{stacks_cost}
 use Rattle.py_stacks.specs.Threads.{first_frame_at, thread_cost, thread_frames_cost, thread_limit, thread_step}
 use Rattle.py_stacks.proofs.Bounds.{frames_bound, frames_met_most, members_met_most, stacks_below, threads_met_most}
@@ -118,8 +118,8 @@ module _ (q : Asked) (l : Layout) (m : Memory) where
       ≤ 3 * members_walked q l m lock interpreter + 4 * locals_walked q l m lock interpreter
   unfolding details_walked members_walked locals_walked
   details_walked_sum lock interpreter =
-      elim (owner_at l m lock) as (λ v. cost_after v (λ owner. details_cost q l m interpreter) ≤ 3 * cost_after v (λ owner. members_met q l m interpreter) + 4 * cost_after v (λ owner. locals_met q l m interpreter))
-      [ Ok owner ↦ details_sum interpreter | Err e ↦ omega arith ]
+      elim (holder_id_at l m lock) as (λ v. cost_after v (λ holder_id. details_cost q l m interpreter) ≤ 3 * cost_after v (λ holder_id. members_met q l m interpreter) + 4 * cost_after v (λ holder_id. locals_met q l m interpreter))
+      [ Ok holder_id ↦ details_sum interpreter | Err e ↦ omega arith ]
 
 -- ---- whatever the memory holds
 

@@ -1,4 +1,4 @@
-pub mod Owners
+pub mod Holders
 pub mod Marking
 pub mod Details
 pub mod LineSteps

@@ -19,7 +19,7 @@ use Rattle.py_stacks.specs.Frames.{AreFrames, Call, begins_hidden, cost_after, d
 use Rattle.py_stacks.specs.Lines.{line_at}
 use Rattle.py_stacks.specs.Locals.{asked_locals, count_of, count_or_zero, kept_local, local_at, locals_at, locals_from, names_tuple_of}
 use Rattle.py_stacks.specs.Member.{MemberAt}
-use Rattle.py_stacks.specs.Stacks.{AreStacks, by_owner, stacks_at}
+use Rattle.py_stacks.specs.Stacks.{AreStacks, by_holder, stacks_at}
 use Rattle.py_stacks.specs.StacksOver.{values_met, variables_most}
 use Rattle.py_stacks.specs.Threads.{AreTracesOf, Trace}
 use Rattle.py_stacks.specs.Values.{asked_visits, call_visits, locals_visits, trace_visits, traces_visits, local_value_at, value_visits, value_width}
@@ -136,7 +136,7 @@ module _ (visits : ℕ → ℕ) (few : (a : ℕ) → visits a ≤ 4096) where
       stacks_few : (lock interpreter : ℕ) (ts : List Trace) → AreStacks q l m lock interpreter ts
           → traces_visits visits ts ≤ 4096 * (4096 * (4096 * variables_most q.locals))
       stacks_few lock interpreter ts h =
-          let same = ap (traces_visits visits) h.marks ∙ visits_kept visits (by_owner h.owner) (λ t. refl) h.unmarked in
+          let same = ap (traces_visits visits) h.marks ∙ visits_kept visits (by_holder h.holder_id) (λ t. refl) h.unmarked in
           let sum = threads_sum h.threads.threads h.unmarked h.threads.each in
           let most = mul-le-mul_left (4096 * (4096 * variables_most q.locals)) h.threads.within in
           omega (arith, same, sum, most, mul_comm (length h.threads.threads) (4096 * (4096 * variables_most q.locals)))

@@ -19,8 +19,8 @@ use Rattle.process_memory.specs.Seen.{Answers}
 use Rattle.py_stacks.specs.declared.trace.StackTrace.{StackTrace}
 use Rattle.py_stacks.specs.declared.error.StackError.{StackError}
 use Rattle.py_stacks.specs.StackError.{stack_fault}
-use Rattle.py_stacks.specs.Owner.{owner_at}
-use Rattle.py_stacks.specs.Stacks.{AreStacks, by_owner, stacks_at}
+use Rattle.py_stacks.specs.Holder.{holder_id_at}
+use Rattle.py_stacks.specs.Stacks.{AreStacks, by_holder, stacks_at}
 use Rattle.py_stacks.proofs.Parts.{plain_is}
 use Rattle.py_stacks.proofs.ThreadLaws.{step_after}
 
@@ -155,8 +155,8 @@ pub stacks_whole : (q : Asked) (l : Layout) (m : Memory) (lock interpreter : ℕ
     → AreStacks q l m lock interpreter traces → stacks_at q l m lock interpreter ≡ Ok traces
 unfolding stacks_at
 stacks_whole q l m lock interpreter traces h =
-    let inner = join (traces_at q l m interpreter) h.unmarked (λ ts. Ok (map (by_owner h.owner) ts)) traces (traces_whole q l m interpreter h.unmarked h.threads) (ap Ok (sym h.marks)) in
-    join (owner_at l m lock) h.owner (λ owner. traces_at q l m interpreter >>= (λ ts. Ok (map (by_owner owner) ts))) traces h.held inner
+    let inner = join (traces_at q l m interpreter) h.unmarked (λ ts. Ok (map (by_holder h.holder_id) ts)) traces (traces_whole q l m interpreter h.unmarked h.threads) (ap Ok (sym h.marks)) in
+    join (holder_id_at l m lock) h.holder_id (λ holder_id. traces_at q l m interpreter >>= (λ ts. Ok (map (by_holder holder_id) ts))) traces h.held inner
 
 -- what is right is the answer, want of memory aside
 pub stacks_only : (q : Asked) (l : Layout) (m : Memory) (lock interpreter : ℕ) (r : Result (Vec StackTrace) StackError)

@@ -1,6 +1,6 @@
 pub mod Frames
 pub mod Threads
-pub mod Owner
+pub mod Holder
 pub mod Stacks
 pub mod StackError
 pub mod Shown

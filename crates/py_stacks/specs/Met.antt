@@ -8,7 +8,7 @@ use Rattle.py_stacks.specs.declared.asked.Asked.{Asked}
 use Rattle.py_stacks.specs.Frames.{Call, cost_after, extra_cost, frame_limit, frame_step, member_limit, plain_by, records_at}
 use Rattle.py_stacks.specs.Locals.{locals_read}
 use Rattle.py_stacks.specs.Member.{MemberAt}
-use Rattle.py_stacks.specs.Owner.{owner_at}
+use Rattle.py_stacks.specs.Holder.{holder_id_at}
 use Rattle.py_stacks.specs.Threads.{first_frame_at, thread_limit, thread_step}
 
 -- the members of a thread's chain that are met
@@ -59,22 +59,22 @@ abbrev pub locals_most : Bool → ℕ
 locals_most false = 0
 locals_most true = 4 * 65535
 
--- what is counted of the walk behind the owner of a lock, which ends where the owner can't be read
-abbrev pub where_owned : Layout → Memory → ℕ → ℕ → ℕ
-where_owned l m lock n = cost_after (owner_at l m lock) (λ owner. n)
+-- what is counted of the walk behind the holder of a lock, which ends where the holder can't be read
+abbrev pub where_held : Layout → Memory → ℕ → ℕ → ℕ
+where_held l m lock n = cost_after (holder_id_at l m lock) (λ holder_id. n)
 
 -- the threads, the members, the reads of their details and the variables that the stacks meet before they end
 unfoldable pub threads_walked : Asked → Layout → Memory → (lock interpreter : ℕ) → ℕ
-threads_walked q l m lock interpreter = where_owned l m lock (threads_met q l m interpreter)
+threads_walked q l m lock interpreter = where_held l m lock (threads_met q l m interpreter)
 
 unfoldable pub members_walked : Asked → Layout → Memory → (lock interpreter : ℕ) → ℕ
-members_walked q l m lock interpreter = where_owned l m lock (members_met q l m interpreter)
+members_walked q l m lock interpreter = where_held l m lock (members_met q l m interpreter)
 
 unfoldable pub details_walked : Asked → Layout → Memory → (lock interpreter : ℕ) → ℕ
-details_walked q l m lock interpreter = where_owned l m lock (details_cost q l m interpreter)
+details_walked q l m lock interpreter = where_held l m lock (details_cost q l m interpreter)
 
 unfoldable pub locals_walked : Asked → Layout → Memory → (lock interpreter : ℕ) → ℕ
-locals_walked q l m lock interpreter = where_owned l m lock (locals_met q l m interpreter)
+locals_walked q l m lock interpreter = where_held l m lock (locals_met q l m interpreter)
 
 -- at most 3 reads, 2 for each thread that is met, 6 for each member, and those of the details
 abbrev pub stacks_bound : Asked → Layout → Memory → (lock interpreter : ℕ) → ℕ

@@ -84,8 +84,3 @@ StandsFor e (Err f) = f ≡ OutOfMemory
 abbrev pub MarkedAs : Result (List ℕ) ObjectError → Result (List ℕ) StackError → Type 0
 MarkedAs (Ok text) result = result ≡ Ok text
 MarkedAs (Err e) result = StandsFor e result
-
--- the one error is want of memory
-abbrev pub OnlyLost : Result (Unit {0}) StackError → Type 0
-OnlyLost (Ok u) = Unit {0}
-OnlyLost (Err e) = e ≡ OutOfMemory

@@ -16,7 +16,7 @@ use std::alloc::Global;
 
 /// What the test answers where a read or the walk fails so: a fault refuses the address, and want of memory is
 /// handed on.
-fn refused(error: StackError) -> Result<bool, StackError>
+fn refused_address(error: StackError) -> Result<bool, StackError>
     ensures { RefusesAddress error result }
 {
     match error {
@@ -56,7 +56,7 @@ fn walk_from<P: ProcessMemory>(
 {
     let named = match read_named(alloc, process, layout, head) {
         Ok(named) => named,
-        Err(error) => return refused(error),
+        Err(error) => return refused_address(error),
     };
     if named != interpreter {
         return Ok(false);
@@ -67,7 +67,7 @@ fn walk_from<P: ProcessMemory>(
     };
     let _traces = match read_traces(alloc, process, layout, asked, interpreter) {
         Ok(traces) => traces,
-        Err(error) => return refused(error),
+        Err(error) => return refused_address(error),
     };
     Ok(true)
 }
@@ -85,7 +85,7 @@ fn walk_interpreter<P: ProcessMemory>(
 {
     let head = match get_first_thread(process, layout, interpreter) {
         Ok(head) => head,
-        Err(error) => return refused(error),
+        Err(error) => return refused_address(error),
     };
     walk_from(alloc, process, layout, interpreter, head)
 }
@@ -134,7 +134,7 @@ pub fn is_interpreter_from<P: ProcessMemory>(
 
 /// Whether an address is an interpreter's: its first thread names it, and its threads can be walked.
 ///
-/// The walk is that of `get_stack_traces`, to null and within the same limits, less the owner, the lines and
+/// The walk is that of `get_stack_traces`, to null and within the same limits, less the holder, the lines and
 /// the locals. Whether a map of the process holds the address, and the first thread's, is left to the caller.
 ///
 /// A record that is not in memory, or a chain that goes on past its limit, refuses the address; the one error

@@ -129,7 +129,7 @@ fn add_local(
 }
 
 /// The first so many variables that have a value, in order. At most 4 reads for each variable.
-fn read_each<P: ProcessMemory>(
+fn read_locals_each<P: ProcessMemory>(
     alloc: Global,
     process: &mut P,
     layout: &Layout,
@@ -165,7 +165,7 @@ fn read_known<P: ProcessMemory>(
     let count = count_of(layout, records)?;
     let names_at = u64_in(&records.code, layout.code.varnames as usize);
     let _names = record(alloc, process, names_at, layout.tuple.size as u64)?;
-    read_each(alloc, process, layout, records, count)
+    read_locals_each(alloc, process, layout, records, count)
 }
 
 /// The locals of the frame that has these records; none where they are not asked for.

@@ -83,7 +83,7 @@ fn visible(filename: Option<Text>, name: Option<Text>, entered: bool) -> Option<
 
 /// The text at an address, where there is one. At most 2 reads.
 #[tactic(auto, unfolding(crate::specs::Frames::name_at))]
-fn read_name<P: ProcessMemory>(
+fn read_member_text<P: ProcessMemory>(
     alloc: Global,
     process: &mut P,
     layout: &Layout,
@@ -113,9 +113,9 @@ fn read_plain<P: ProcessMemory>(
         (λ m. plain_at layout.now m (member_of records.now)) (part_of_result result) }
 {
     let file_at = u64_in(&records.code, layout.code.filename as usize);
-    let filename = read_name(alloc, process, layout, file_at)?;
+    let filename = read_member_text(alloc, process, layout, file_at)?;
     let name_at = u64_in(&records.code, layout.code.name as usize);
-    let name = read_name(alloc, process, layout, name_at)?;
+    let name = read_member_text(alloc, process, layout, name_at)?;
     let entered = is_entered(&layout.frame, &records.frame);
     Ok(visible(filename, name, entered))
 }

@@ -20,7 +20,7 @@ use std::alloc::{AllocError, Global};
 use std::collections::BTreeMap;
 
 /// The names of an interpreter's threads; none where there is a fault. The one error is want of memory.
-fn read_names<P: ProcessMemory>(
+fn read_name_map<P: ProcessMemory>(
     alloc: Global,
     process: &mut P,
     layout: &Layout,
@@ -88,7 +88,7 @@ pub(crate) fn read_named<P: ProcessMemory>(
     let interpreter = addresses.interpreter;
     let lock = addresses.lock;
     let mut traces = get_stack_traces(alloc, interpreter, process, layout, lock, Some(config))?;
-    let names = read_names(alloc, process, layout, interpreter)?;
+    let names = read_name_map(alloc, process, layout, interpreter)?;
     name_traces(alloc, &mut traces, &names)?;
     Ok(traces)
 }

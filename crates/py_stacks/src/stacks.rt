@@ -1,4 +1,4 @@
-//! The stacks of an interpreter, with the owner of its lock, and those of one thread.
+//! The stacks of an interpreter, with the holder of its lock, and those of one thread.
 ghost use Rattle.std.specs.Prelude.{◌≡◌, ◌≤◌, ◌+◌, ◌*◌, IfOk, List, Ok, map};
 ghost use Rattle.process_memory.specs.Memory.{byte_at};
 ghost use Rattle.process_memory.specs.Seen.{Answers, ReadsBy, ReadingBy};
@@ -11,28 +11,28 @@ ghost use Rattle.py_stacks.specs.Met.{details_walked, locals_most, locals_walked
 ghost use Rattle.py_stacks.specs.Met.{thread_bound, thread_details, thread_locals, thread_members};
 ghost use Rattle.py_stacks.specs.Threads.{IsTraceOf, Trace, thread_cost, thread_faults, trace_at};
 ghost use Rattle.py_stacks.specs.Threads.{trace_of, trace_of_result, traces_of_result};
-ghost use Rattle.py_stacks.specs.Stacks.{AreStacks, by_owner, stacks_at, stacks_cost, stacks_faults};
+ghost use Rattle.py_stacks.specs.Stacks.{AreStacks, by_holder, stacks_at, stacks_cost, stacks_faults};
 
 use crate::asked::Asked;
 use crate::config::{Config, asked_by};
-use crate::owner::get_gil_threadid;
+use crate::holder::get_gil_threadid;
 use crate::records::Scratch;
-use crate::threads::{read_thread, read_traces};
+use crate::threads::{read_trace, read_traces};
 use crate::{LineNo, StackError, StackTrace};
 use process_memory::ProcessMemory;
 use py_fields::Layout;
 use std::alloc::Global;
 
 /// Marks each trace by the id of the thread that holds the lock.
-fn mark_owner(traces: &mut Vec<StackTrace>, owner: u64)
-    ensures { map trace_of traces.new.items ≡ map (by_owner owner) (map trace_of traces.old.items) }
+fn mark_holder(traces: &mut Vec<StackTrace>, holder_id: u64)
+    ensures { map trace_of traces.new.items ≡ map (by_holder holder_id) (map trace_of traces.old.items) }
 {
     for trace in traces.iter_mut() {
-        trace.owns_gil = trace.thread_id == owner;
+        trace.owns_gil = trace.thread_id == holder_id;
     }
 }
 
-/// Reads the owner of the lock, walks the threads, and marks them.
+/// Reads the holder of the lock, walks the threads, and marks them.
 fn walk_stack_traces<P: ProcessMemory>(
     alloc: Global,
     process: &mut P,
@@ -46,17 +46,17 @@ fn walk_stack_traces<P: ProcessMemory>(
         (P.seen process.old) (P.seen process.new)
         (λ m. stacks_at asked layout.now m lock interpreter) (traces_of_result result) }
 {
-    let owner = get_gil_threadid(lock, process, layout)?;
+    let holder_id = get_gil_threadid(lock, process, layout)?;
     let mut traces = read_traces(alloc, process, layout, asked, interpreter)?;
-    mark_owner(&mut traces, owner);
+    mark_holder(&mut traces, holder_id);
     Ok(traces)
 }
 
-/// The traces of an interpreter's threads, in the order of their chain, each marked by the owner of the
+/// The traces of an interpreter's threads, in the order of their chain, each marked by the holder of the
 /// lock.
 ///
-/// The owner is the thread that holds the lock at the address `lock` (`get_gil_threadid`), and a trace holds
-/// the lock exactly where its id is the owner's; with no owner a thread of id 0 does. The traces are those of
+/// The holder is the thread that holds the lock at the address `lock` (`get_gil_threadid`), and a trace holds
+/// the lock exactly where its id is the holder's; with no holder a thread of id 0 does. The traces are those of
 /// the whole chain from the thread that the interpreter names, to null, each with the frames of its whole
 /// chain of callers, to null, less the members that are skipped: whose file or function name is no text or is
 /// not in memory, or whose file name is empty or `<shim>`. A frame is marked where the next member is skipped
@@ -73,7 +73,7 @@ fn walk_stack_traces<P: ProcessMemory>(
 /// there are more arguments than its index, or their count is negative; its name is that which the tuple of names
 /// has at its index, whatever length the tuple states (`py_objects::copy_string`). A value is not shown.
 ///
-/// The error is the first of these, in order: those of the owner; `Unreadable` with the word that names the
+/// The error is the first of these, in order: those of the holder; `Unreadable` with the word that names the
 /// first thread; for each thread `Unreadable` with its record, then with the C frame's word, then for each
 /// member of its chain `Unreadable` with its frame record, then with its code record, then, where it is not
 /// skipped, `FrameLimit` where 4096 frames are kept, and else those of its locals, where they are asked for;
@@ -85,7 +85,7 @@ fn walk_stack_traces<P: ProcessMemory>(
 ///
 /// At most 3 reads, 2 for each thread that is met, 6 for each member, 2 for the line of each member that is kept
 /// and 1 for its tuple of names, and 4 for each variable. Of a member that is not kept neither a table nor a
-/// variable is read, nor of any member what is not asked for. Where the owner is not known no thread is met.
+/// variable is read, nor of any member what is not asked for. Where the holder is not known no thread is met.
 pub fn get_stack_traces<P: ProcessMemory>(
     alloc: Global,
     interpreter: u64,
@@ -139,7 +139,7 @@ fn walk_stack_trace<P: ProcessMemory>(
         (λ m. trace_at asked layout.now m thread) (trace_of_result result) }
 {
     let mut scratch = Scratch::new(alloc);
-    let (_, trace) = read_thread(alloc, process, layout, asked, thread, &mut scratch)?;
+    let (_, trace) = read_trace(alloc, process, layout, asked, thread, &mut scratch)?;
     Ok(trace)
 }
 

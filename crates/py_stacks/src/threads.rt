@@ -53,7 +53,7 @@ fn first_frame<P: ProcessMemory>(
 
 /// The trace of the thread at an address, which does not say who holds the lock, and the address of the thread
 /// after it. At most 2 reads, and those of its frames.
-pub(crate) fn read_thread<P: ProcessMemory>(
+pub(crate) fn read_trace<P: ProcessMemory>(
     alloc: Global,
     process: &mut P,
     layout: &Layout,
@@ -102,7 +102,7 @@ fn walk_threads<P: ProcessMemory>(
         if traces.len() == THREAD_LIMIT {
             return Err(StackError::ThreadLimit);
         }
-        let (next, trace) = read_thread(alloc, process, layout, asked, at, &mut scratch)?;
+        let (next, trace) = read_trace(alloc, process, layout, asked, at, &mut scratch)?;
         traces.push(trace)?;
         at = next;
     }

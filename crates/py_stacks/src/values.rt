@@ -1,10 +1,10 @@
 //! The values of locals, as text.
-ghost use Rattle.std.specs.Prelude.{◌≡◌, ◌<◌, ◌*◌, ◌^◌, OnOk, map};
+ghost use Rattle.std.specs.Prelude.{◌≡◌, ◌<◌, ◌*◌, ◌^◌, IfErr, OnOk, map};
 ghost use Rattle.process_memory.specs.Seen.{ReadingBy};
 ghost use Rattle.py_fields.specs.Sound.{IsSound};
 ghost use Rattle.py_stacks.specs.Frames.{call_of};
 ghost use Rattle.py_stacks.specs.Threads.{trace_of};
-ghost use Rattle.py_stacks.specs.Values.{IsOrLost, MarkedAs, OnlyLost, StandsFor, by_value, call_visits, locals_visits, trace_visits, traces_visits, value_text, value_visits, value_width, with_value, with_values};
+ghost use Rattle.py_stacks.specs.Values.{IsOrLost, MarkedAs, StandsFor, by_value, call_visits, locals_visits, trace_visits, traces_visits, value_text, value_visits, value_width, with_value, with_values};
 
 use crate::{Frame, LocalVariable, StackError, StackTrace};
 use elf64_core::Text;
@@ -83,7 +83,7 @@ fn show_local<P: ProcessMemory>(
     ensures shown { ReadingBy (λ m. 8 * value_visits layout.now m width local.old.addr)
         (P.seen process.old) (P.seen process.new)
         (λ m. OnOk result (local.new ≡ with_value (value_text layout.now m width) local.old)) }
-    ensures lost { OnlyLost result }
+    ensures lost { IfErr result (λ error. error ≡ StackError.OutOfMemory) }
 {
     let text = value_text(alloc, process, layout, local.addr, width)?;
     local.repr = Some(text);
@@ -105,7 +105,7 @@ fn show_locals<P: ProcessMemory>(
         (P.seen process.old) (P.seen process.new)
         (λ m. OnOk result (locals.new.items
         ≡ map (with_value (value_text layout.now m width)) locals.old.items)) }
-    ensures lost { OnlyLost result }
+    ensures lost { IfErr result (λ error. error ≡ StackError.OutOfMemory) }
 {
     for local in locals.iter_mut() {
         show_local(alloc, process, layout, width, local)?;
@@ -128,7 +128,7 @@ fn show_frame<P: ProcessMemory>(
         (P.seen process.old) (P.seen process.new)
         (λ m. OnOk result (call_of frame.new
         ≡ with_values (value_text layout.now m width) (call_of frame.old))) }
-    ensures lost { OnlyLost result }
+    ensures lost { IfErr result (λ error. error ≡ StackError.OutOfMemory) }
 {
     match &mut frame.locals {
         None => Ok(()),
@@ -151,7 +151,7 @@ fn show_trace<P: ProcessMemory>(
         (P.seen process.old) (P.seen process.new)
         (λ m. OnOk result (trace_of trace.new
         ≡ by_value (value_text layout.now m width) (trace_of trace.old))) }
-    ensures lost { OnlyLost result }
+    ensures lost { IfErr result (λ error. error ≡ StackError.OutOfMemory) }
 {
     for frame in trace.frames.iter_mut() {
         show_frame(alloc, process, layout, width, frame)?;
@@ -174,7 +174,7 @@ pub(crate) fn show_traces<P: ProcessMemory>(
         (P.seen process.old) (P.seen process.new)
         (λ m. OnOk result (map trace_of traces.new.items
         ≡ map (by_value (value_text layout.now m width)) (map trace_of traces.old.items))) }
-    ensures lost { OnlyLost result }
+    ensures lost { IfErr result (λ error. error ≡ StackError.OutOfMemory) }
 {
     for trace in traces.iter_mut() {
         show_trace(alloc, process, layout, width, trace)?;

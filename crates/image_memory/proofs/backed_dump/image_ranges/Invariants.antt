@@ -1,6 +1,6 @@
 use Rattle.std.proofs.Common.{◌≡◌, ◌++◌, drop}
 use Rattle.std.specs.Prelude.{All}
-use Rattle.image_memory.specs.BackedPlaces.{IsInImage}
+use Rattle.image_memory.specs.Backed.{IsInImage}
 use Rattle.image_memory.specs.Images.{images_shown}
 use Rattle.image_memory.proofs.BackedRanges.{ranges_from}
 use Rattle.image_memory.proofs.backed_dump.image_ranges.Given as goal

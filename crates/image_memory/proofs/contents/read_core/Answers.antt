@@ -4,11 +4,11 @@ use Rattle.elf64_core.specs.declared.segment.Segment.{Segment}
 use Rattle.image_memory.specs.Contents.{NotesSay}
 use Rattle.image_memory.specs.FileTables.{file_entry_of}
 use Rattle.image_memory.specs.Maps.{map_by, named_by, file_place_by, placed_by}
-use Rattle.image_memory.specs.Overlays.{ArePieces, IsBoundedRange}
-use Rattle.image_memory.specs.Pieces.{loads_of, range_of}
+use Rattle.piece_table.specs.Places.{IsBounded}
+use Rattle.image_memory.specs.Pieces.{core_range, loads_of}
 use Rattle.std.specs.Prelude.{All}
 use Rattle.image_memory.proofs.Lists.{map-same}
-use Rattle.image_memory.proofs.Stretches.{ranges_held}
+use Rattle.image_memory.proofs.Held.{core_fits}
 use Rattle.image_memory.proofs.contents.read_core.Goals as goal
 
 pub returns-clause-are : goal.returns-clause-are
@@ -27,7 +27,7 @@ returns-clause-are c =
       core = record { accepted = noted.accepted; noted = noted.noted; notes = says.notes; entries = entries; found = says.found };
       machine_is = c.machine.ensures ∙ ap machine_of same;
       loads_are = loads;
-      pieces_are = subst (λ ls. ArePieces (map range_of ls) c.in_ok-table.table) (c.deref.ensures.value ∙ loads) c.in_ok-table.ensures;
+      table_is = c.in_ok-table.ensures ∙ ap (map core_range) (c.deref.ensures.value ∙ loads);
       maps_are = record {
         notes = says.notes;
         entries = entries;
@@ -44,9 +44,9 @@ returns-clause-are c =
       process_is = record { notes = says.notes; entries = entries; found = says.found; says = says.process_is };
     }
 
-pub pieces_of-requires : goal.pieces_of-requires
-pieces_of-requires c =
+pub table_of-requires : goal.table_of-requires
+table_of-requires c =
     let bytes = c.args.bytes.now in
     let same : c.in_ok-elf.elf ≡ bytes = c.in_ok-elf.ensures.same in
     let loads = c.deref.ensures.value ∙ c.in_ok-loads.ensures ∙ ap loads_of same in
-    subst (λ ls. All IsBoundedRange (map range_of ls)) (sym loads) (ranges_held bytes (omega arith) c.in_ok-elf.ensures.noted.accepted.readable)
+    subst (λ ls. All IsBounded (map core_range ls)) (sym loads) (core_fits bytes (omega arith) c.in_ok-elf.ensures.noted.accepted.readable)

@@ -11,7 +11,7 @@ use Rattle.py_stacks.proofs.interpreter.walk_from.Goals as goal
 pub returns-in-Err : goal.returns-in-Err
 unfolding passes_from
 returns-in-Err g c =
-    reads_within _ (reads_refused (λ m. interpreter_named_by c.args.layout.now m c.args.head) (λ m. passes_named c.args.layout.now m c.args.interpreter) (λ m f. refl) c.in-Err.ensures c.refused.ensures) (from_costs _ _ _ _)
+    reads_within _ (reads_refused (λ m. interpreter_named_by c.args.layout.now m c.args.head) (λ m. passes_named c.args.layout.now m c.args.interpreter) (λ m f. refl) c.in-Err.ensures c.refused_address.ensures) (from_costs _ _ _ _)
 
 pub returns-then-named-interpreter : goal.returns-then-named-interpreter
 returns-then-named-interpreter g c =
@@ -20,7 +20,7 @@ returns-then-named-interpreter g c =
 pub returns-in-Err-read_traces : goal.returns-in-Err-read_traces
 returns-in-Err-read_traces g c =
     from_then c.args.layout.now c.args.interpreter c.args.head c.in-Ok.named c.if-named-interpreter.false c.in-Ok.ensures
-    (reads_refused (λ m. traces_at nothing c.args.layout.now m c.args.interpreter) (λ m. was_found) (λ m f. refl) c.in-Err-read_traces.ensures c.refused-in-Err-read_traces.ensures)
+    (reads_refused (λ m. traces_at nothing c.args.layout.now m c.args.interpreter) (λ m. was_found) (λ m f. refl) c.in-Err-read_traces.ensures c.refused_address-in-Err-read_traces.ensures)
 
 pub returns : goal.returns
 returns g c =

@@ -30,5 +30,5 @@ unfolding locals_at
 returns g c =
     let names = rw (c.u64_in-names_at.ensures, c.deref.ensures.value) at c.in_ok-_names.ensures.answer in
     reads_next _ _ (reads_known {fault = stack_fault} 0 (λ m. count_of c.args.layout.now (member_of c.args.records.now)) _ (λ m. c.in_ok-count.ensures.answer))
-    (reads_next _ _ names c.read_each.ensures (le_refl _))
+    (reads_next _ _ names c.read_locals_each.ensures (le_refl _))
     (locals_budget c.args.layout.now (member_of c.args.records.now) c.in_ok-count.count c.in_ok-count.ensures.answer.is)

@@ -1,23 +1,15 @@
-use Rattle.std.proofs.Common.{subst}
-use Rattle.image_memory.specs.Contents.{AreContents}
-use Rattle.image_memory.proofs.Stretches.{byte_none, hit_piece}
-use Rattle.process_memory.proofs.RunParts.{first_byte_there}
+use Rattle.std.proofs.Common.{◌≡◌, ℕ, ◌+◌, ◌<◌, [], length, get_or, subst}
+use Rattle.std.specs.Prelude.{IfSome, None, Some}
+use Rattle.process_memory.specs.Memory.{byte_at}
+use Rattle.image_memory.proofs.Held.{core_regions}
 use Rattle.image_memory.proofs.core_dump.CoreDump.find.Goals as goal
 
-pub returns-in_err-hit-clause-none : goal.returns-in_err-hit-clause-none
-returns-in_err-hit-clause-none g c =
-    let core = subst (λ bs. AreContents bs c.self.inside.contents) c.self.view_is c.self.invariant in
-    let none = byte_none c.args.self.now c.self.inside.contents.table c.args.addr core.fits core.core.accepted.readable core.pieces_are
-    (c.lookup.ensures.none c.in_err-hit.was) in
-    (λ _. none, λ _. c.from_residual.ensures)
-
-pub rest-requires-clause-piece : goal.rest-requires-clause-piece
-rest-requires-clause-piece g c =
-    let core = subst (λ bs. AreContents bs c.self.inside.contents) c.self.view_is c.self.invariant in
-    hit_piece _ c.self.inside.contents.table c.args.addr c.in_ok-hit.hit.number c.in_ok-hit.hit.entry core.pieces_are c.in_ok-hit.ensures.hit
-
 pub returns-clause-none : goal.returns-clause-none
-returns-clause-none g c = (
-  λ e. absurd (cc),
-  λ none. absurd (first_byte_there _ c.args.addr c.rest.result.now c.rest.ensures.some c.rest.ensures.bytes none),
-)
+returns-clause-none g c =
+    subst (λ rs. (c.rest_of.result ≡ None → byte_at rs c.args.addr ≡ None) × (byte_at rs c.args.addr ≡ None → c.rest_of.result ≡ None))
+    (core_regions c.args.self.now []) c.rest_of.ensures.none
+
+pub returns-clause-bytes : goal.returns-clause-bytes
+returns-clause-bytes g c =
+    subst (λ rs. IfSome c.rest_of.result (λ rest. (k : ℕ) → k < length rest.now → byte_at rs (c.args.addr + k) ≡ Some (get_or rest.now k 0)))
+    (core_regions c.args.self.now []) c.rest_of.ensures.bytes

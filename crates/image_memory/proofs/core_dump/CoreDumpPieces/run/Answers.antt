@@ -1,15 +1,14 @@
-use Rattle.std.proofs.Common.{subst}
-use Rattle.image_memory.specs.Contents.{AreContents}
-use Rattle.image_memory.proofs.Stretches.{byte_none, hit_piece}
+use Rattle.std.proofs.Common.{◌≡◌, ℕ, ◌+◌, ◌<◌, [], length, get_or, subst}
+use Rattle.std.specs.Prelude.{IfSome, None, Some}
+use Rattle.process_memory.specs.Memory.{byte_at}
+use Rattle.image_memory.proofs.Held.{core_regions}
 use Rattle.image_memory.proofs.core_dump.CoreDumpPieces.run.Goals as goal
 
-pub returns-in_err-hit-clause-none : goal.returns-in_err-hit-clause-none
-returns-in_err-hit-clause-none c =
-    let core = subst (λ bs. AreContents bs c.self.inside.contents) c.self.view_is c.self.invariant in
-    λ _. byte_none c.args.self.now c.self.inside.contents.table c.args.addr core.fits core.core.accepted.readable core.pieces_are
-    (c.look_up.ensures.none c.in_err-hit.was)
+pub returns-clause-bytes : goal.returns-clause-bytes
+returns-clause-bytes c =
+    subst (λ rs. IfSome c.run_of.result (λ run. (k : ℕ) → k < length run.now → byte_at rs (c.args.addr + k) ≡ Some (get_or run.now k 0)))
+    (core_regions c.args.self.now []) c.run_of.ensures.bytes
 
-pub rest-requires-clause-piece : goal.rest-requires-clause-piece
-rest-requires-clause-piece c =
-    let core = subst (λ bs. AreContents bs c.self.inside.contents) c.self.view_is c.self.invariant in
-    hit_piece _ c.self.inside.contents.table c.args.addr c.in_ok-hit.hit.number c.in_ok-hit.hit.entry core.pieces_are c.in_ok-hit.ensures.hit
+pub returns-clause-none : goal.returns-clause-none
+returns-clause-none c =
+    subst (λ rs. c.run_of.result ≡ None → byte_at rs c.args.addr ≡ None) (core_regions c.args.self.now []) c.run_of.ensures.none

@@ -1,0 +1,42 @@
+-- A program of the code, in plain terms.
+use Rattle.std.specs.Prelude.{map}
+use Rattle.image_builder.specs.declared.parts.Program as p
+use Rattle.image_builder.specs.declared.parts.ProgramThread as t
+use Rattle.image_builder.specs.declared.parts.ProgramFrame as f
+use Rattle.image_builder.specs.declared.parts.ProgramLocal as l
+use Rattle.image_builder.specs.declared.parts.ProgramValue as v
+use Rattle.image_builder.specs.declared.parts.ProgramValue.TheVariants as vs
+use Rattle.image_builder.specs.declared.parts.ProgramItem as i
+use Rattle.image_builder.specs.declared.parts.ProgramItem.TheVariants as ks
+use Rattle.image_builder.specs.Program.{Item, Held, Local, Frame, Thread, Program}
+use Rattle.image_builder.specs.Program.Item.{Number, Words}
+use Rattle.image_builder.specs.Program.Held.{Single, Items}
+
+abbrev pub item_in : i.ProgramItem → Item
+item_in (ks.Number n) = Number n
+item_in (ks.Words text) = Words text
+
+abbrev pub value_in : v.ProgramValue → Held
+value_in (vs.Number n) = Single (Number n)
+value_in (vs.Words text) = Single (Words text)
+value_in (vs.List items) = Items (map item_in items.items)
+
+abbrev pub local_in : l.ProgramLocal → Local
+local_in x = record { name = x.name; value = value_in x.value }
+
+abbrev pub frame_in : f.ProgramFrame → Frame
+frame_in x = record {
+  name = x.name;
+  filename = x.filename;
+  first = x.first;
+  ranges = x.ranges.items;
+  offset = x.offset;
+  args = x.args;
+  locals = map local_in x.locals.items;
+}
+
+abbrev pub thread_in : t.ProgramThread → Thread
+thread_in x = record { id = x.id; frames = map frame_in x.frames.items }
+
+abbrev pub program_in : p.Program → Program
+program_in x = record { threads = map thread_in x.threads.items; owner = x.owner }
