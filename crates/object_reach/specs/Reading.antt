@@ -67,3 +67,7 @@ IsBroken error slots (Err OutOfMemory) = ⊤
 abbrev pub reach_cost : (ℕ → Object) → Result (List ReachObject) ReachError → ℕ
 reach_cost heap (Ok objects) = 6 * length objects + 2 * slots_of heap (addresses objects)
 reach_cost heap (Err error) = 6 * 2 ^ 20 + 2 * 2 ^ 24
+
+-- an entry of what a search has read, as it lists it
+abbrev pub listed_as : ℕ × Option ObjectError → ReachObject
+listed_as entry = record { addr = entry.0; broken = entry.1 }

@@ -8,5 +8,10 @@ mod contents;
 mod objects;
 mod parts;
 mod reached;
+mod search;
 
 pub use reached::{ReachError, ReachObject};
+pub use search::reach;
+
+#[cfg(test)]
+mod tests;
