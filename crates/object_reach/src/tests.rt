@@ -144,31 +144,33 @@ fn the_limit_of_objects_is_exact(rt: HostRuntime) -> Result<(), Fail> {
     Ok(())
 }
 
-/// 64 lists of so many slots in all over one array of zero words.
-fn reach_slots(alloc: Global, count: u64, last: u64) -> Result<Result<usize, ReachError>, Fail> {
-    let mut pieces = memory(alloc)?;
+/// 64 lists over one array of zero words, of 2^18 slots each but for the last.
+fn reach_slots(alloc: Global, last: u64) -> Result<Result<usize, ReachError>, Fail> {
+    let bytes = vec![in alloc; 0; (8 << 18) + 8]?;
+    let array = Piece {
+        start: 1 << 40,
+        bytes,
+    };
+    let mut pieces = vec![in alloc; array]?;
+    pieces.push(piece_of(alloc, LIST, &[0, 0, 0, 0, 1 << 25, 0])?)?;
     let mut roots = Vec::new(alloc);
     for number in 0..64 {
         let addr = 0x7000 + number * 64;
-        let count = if number < 63 { count } else { last };
+        let count = if number < 63 { 1 << 18 } else { last };
         pieces.push(piece_of(alloc, addr, &[0, LIST, count, 1 << 40, 0])?)?;
         roots.push(addr)?;
     }
-    let zeros = vec![in alloc; 0; 8 << 18]?;
-    pieces.push(Piece {
-        start: 1 << 40,
-        bytes: zeros,
-    })?;
     let mut part = Part::of(alloc, pieces);
     let reached = reach(alloc, &mut part, &Layout::sample(), &roots);
     Ok(reached.map(|objects| objects.len()))
 }
 
-/// As many slots as are looked at, and one more.
+/// As many slots as are looked at, and one more, in front of a missing one too.
 #[test]
 fn the_limit_of_slots_is_exact(rt: HostRuntime) -> Result<(), Fail> {
     let most = 1 << 18;
-    assert!(rt; reach_slots(rt.alloc(), most, most)? == Ok(64));
-    assert!(rt; reach_slots(rt.alloc(), most - 1, most + 64)? == Err(ReachError::ReachLimit));
+    assert!(rt; reach_slots(rt.alloc(), most)? == Ok(64));
+    assert!(rt; reach_slots(rt.alloc(), most + 1)? == Err(ReachError::ReachLimit));
+    assert!(rt; reach_slots(rt.alloc(), most + 2)? == Err(ReachError::ReachLimit));
     Ok(())
 }
