@@ -1,7 +1,7 @@
 -- The parts of an object, one after another: those in front of the first missing one, and their words.
-use Rattle.std.proofs.Common.{◌≡◌, ℕ, zero, suc, ◌+◌, ◌*◌, ◌-◌, ◌<◌, ◌≤◌, List, [], ◌∷◌, ◌++◌, refl, sym, ◌∙◌, ap, arith, subst, rules}
+use Rattle.std.proofs.Common.{◌≡◌, ℕ, zero, suc, ◌+◌, ◌*◌, ◌-◌, ◌<◌, ◌≤◌, List, [], ◌++◌, refl, ◌∙◌, arith, rules}
 use Rattle.std.specs.Prelude.{Option, Some, None, IsSome, Result, Ok, Err}
-use Rattle.process_memory.specs.Memory.{Memory, Found, Fault, ◌>>=◌}
+use Rattle.process_memory.specs.Memory.{Memory, Found, Fault}
 use Rattle.process_memory.specs.Seen.{Seen, Reading, Answers, FaultIs}
 use Rattle.process_memory.proofs.Reading.{reading_then, reading_gives, reading_none}
 use Rattle.py_fields.specs.declared.layout.Layout.{Layout}
@@ -10,7 +10,7 @@ use Rattle.py_builtins.specs.ObjectError.{object_fault}
 use Rattle.object_reach.specs.declared.objects.ObjectRead.{ObjectRead}
 use Rattle.object_reach.specs.declared.reached.ReachError.{ReachError}
 use Rattle.object_reach.specs.declared.reached.ReachError.TheVariants.{ReachLimit, OutOfMemory}
-use Rattle.object_reach.specs.Objects.{Object, PartsRead, PartsPlace, all_or, object_at, object_of, object_with, part_at, parts_at, parts_in_front, words_of_first}
+use Rattle.object_reach.specs.Objects.{PartsRead, all_or, object_at, object_of, object_with, part_at, parts_at, parts_in_front, words_of_first}
 use Rattle.object_reach.specs.Reading.{IsBroken, Shows, ShowsOr, slots_cost}
 
 words_next : (part : ℕ → Found (List ℕ)) (n : ℕ) (ws w : List ℕ) → words_of_first part n ≡ Ok ws → part n ≡ Ok w → words_of_first part (suc n) ≡ Ok (ws ++ w)

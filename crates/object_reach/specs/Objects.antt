@@ -1,7 +1,7 @@
 -- What an object leads to: its parts, and the addresses that they hold. The items of lists and tuples and the keys and
 -- values of dicts are what CPython's objects of these types refer to; that an object is whole or broken, and which of
 -- its slots count, is this project's rule.
-use Rattle.std.specs.Prelude.{◌≡◌, ◌≢◌, ℕ, zero, suc, List, [], ◌∷◌, ◌++◌, Option, Some, None, Ok, Err}
+use Rattle.std.specs.Prelude.{◌≢◌, ℕ, zero, suc, List, [], ◌∷◌, ◌++◌, Option, Some, None, Ok, Err}
 use Rattle.std.specs.List.{Contains}
 use Rattle.process_memory.specs.Memory.{Memory, Found, Fault, ◌>>=◌}
 use Rattle.py_fields.specs.declared.layout.Dicts.{Dicts}

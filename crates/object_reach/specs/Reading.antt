@@ -1,5 +1,5 @@
 -- What the readers of objects read: an object's parts as code has them, and how many reads they take.
-use Rattle.std.specs.Prelude.{◌≡◌, ◌<◌, ◌≤◌, ◌+◌, ◌*◌, ◌^◌, ℕ, List, [], ◌∷◌, Option, Some, None, IsSome, length, Result, Ok, Err, ⊤}
+use Rattle.std.specs.Prelude.{◌≡◌, ◌<◌, ◌≤◌, ◌+◌, ◌*◌, ◌^◌, ℕ, List, [], ◌∷◌, Option, Some, IsSome, length, Result, Ok, Err, ⊤}
 use Rattle.py_builtins.specs.declared.error.ObjectError.{ObjectError}
 use Rattle.py_builtins.specs.ObjectError.{object_fault}
 use Rattle.object_reach.specs.declared.parts.Place.{Place}

@@ -2,7 +2,7 @@ use Rattle.std.proofs.Common.{◌≡◌, ap, arith}
 use Rattle.std.proofs.lemmas.Result.{err_from_is_err_and}
 use Rattle.process_memory.proofs.Reading.{reads_end, reads_halt, reads_next}
 use Rattle.py_builtins.specs.ObjectError.{object_fault}
-use Rattle.object_reach.specs.Objects.{PartsRead, slot_parts}
+use Rattle.object_reach.specs.Objects.{slot_parts}
 use Rattle.object_reach.specs.Objects.PartsPlace.{SlotsAt}
 use Rattle.object_reach.proofs.parts.read_slots.Goals as goal
 
