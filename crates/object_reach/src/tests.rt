@@ -17,8 +17,8 @@ const DICT: u64 = 0x1200;
 
 const INTEGER: u64 = 0x1300;
 
-/// A list of itself, a list of -1 items, a tuple and a list that hold each other, a dict, a list whose second item is not
-/// in memory, a dict of a negative number of slots, and an integer.
+/// A list of itself, a list of -1 items, a tuple and a list that hold each other, a dict, a list whose second item is
+/// not in memory, a dict of a negative number of slots, and an integer.
 const OWN: u64 = 0x4000;
 
 const NEGATIVE: u64 = 0x4100;
