@@ -1,0 +1,5 @@
+pub mod Contents
+pub mod Objects
+pub mod Reach
+pub mod Reading
+pub mod Front

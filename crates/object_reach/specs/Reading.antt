@@ -1,0 +1,73 @@
+-- What the readers of objects read: an object's parts as code has them, and how many reads they take.
+use Rattle.std.specs.Prelude.{◌≡◌, ◌<◌, ◌≤◌, ◌+◌, ◌*◌, ◌^◌, ℕ, List, [], ◌∷◌, Option, Some, IsSome, length, Result, Ok, Err, ⊤}
+use Rattle.py_builtins.specs.declared.error.ObjectError.{ObjectError}
+use Rattle.py_builtins.specs.ObjectError.{object_fault}
+use Rattle.object_reach.specs.declared.parts.Place.{Place}
+use Rattle.object_reach.specs.declared.parts.Place.TheVariants.{Nowhere as NoPlace, Items as ItemPlace, Slots as SlotPlace}
+use Rattle.object_reach.specs.declared.parts.Parts.{Parts}
+use Rattle.object_reach.specs.declared.parts.Part.{Part}
+use Rattle.object_reach.specs.declared.parts.Part.TheVariants.{Nothing, Item, Slot as SlotPart}
+use Rattle.object_reach.specs.declared.objects.ObjectRead.{ObjectRead}
+use Rattle.object_reach.specs.declared.reached.ReachError.{ReachError}
+use Rattle.object_reach.specs.declared.reached.ReachError.TheVariants.{ReachLimit, OutOfMemory}
+use Rattle.object_reach.specs.declared.reached.ReachObject.{ReachObject}
+use Rattle.object_reach.specs.Objects.{Object, PartsPlace, PartsRead, slot_words}
+use Rattle.object_reach.specs.Objects.PartsPlace.{Nowhere, ItemsAt, SlotsAt}
+use Rattle.object_reach.specs.Reach.{IsBrokenBy, addresses, slots_of}
+
+-- where parts stand that were read
+abbrev pub place_of : Place → PartsPlace
+place_of NoPlace = Nowhere
+place_of (ItemPlace items) = ItemsAt items
+place_of (SlotPlace cursor) = SlotsAt cursor.slots
+
+abbrev pub parts_of : Parts → PartsRead
+parts_of p = record { count = p.count; place = place_of p.place }
+
+abbrev pub parts_read : {E : Type 0} → Result Parts E → Result PartsRead E
+parts_read (Ok p) = Ok (parts_of p)
+parts_read (Err e) = Err e
+
+-- the words of a part that was read
+abbrev pub words_of : Part → List ℕ
+words_of Nothing = []
+words_of (Item item) = item ∷ []
+words_of (SlotPart slot) = slot_words slot
+
+abbrev pub words_read : {E : Type 0} → Result Part E → Result (List ℕ) E
+words_read (Ok part) = Ok (words_of part)
+words_read (Err e) = Err e
+
+-- what was read is this object, of at most `room` slots
+pub record Shows (object : Object) (room : ℕ) (found : ObjectRead) : Type 0 where
+  pub slots : found.slots ≡ object.slots
+  pub fits : object.slots ≤ room
+  pub words : found.words.items ≡ object.words
+  pub broken : IsBrokenBy object.failure found.broken
+
+-- an object, or that it has more slots than there is room for
+abbrev pub ShowsOr : Object → ℕ → Result ObjectRead ReachError → Type 0
+ShowsOr object room (Ok found) = Shows object room found
+ShowsOr object room (Err ReachLimit) = room < object.slots
+ShowsOr object room (Err OutOfMemory) = ⊤
+
+-- how many reads its slots take, two each at most, and the first missing one
+abbrev pub slots_cost : ℕ → Result ObjectRead ReachError → ℕ
+slots_cost room (Ok found) = 2 + 2 * found.slots
+slots_cost room (Err error) = 2 + 2 * room
+
+-- an object that is broken by an error that is not want of memory, behind so many slots
+abbrev pub IsBroken : ObjectError → ℕ → Result ObjectRead ReachError → Type 0
+IsBroken error slots (Ok found) =
+    (found.slots ≡ slots) × (found.words.items ≡ []) × (found.broken ≡ Some error) × IsSome (object_fault error)
+IsBroken error slots (Err ReachLimit) = ⊥
+IsBroken error slots (Err OutOfMemory) = ⊤
+
+-- how many reads a search takes at most: six for each object and two for each slot
+abbrev pub reach_cost : (ℕ → Object) → Result (List ReachObject) ReachError → ℕ
+reach_cost heap (Ok objects) = 6 * length objects + 2 * slots_of heap (addresses objects)
+reach_cost heap (Err error) = 6 * 2 ^ 20 + 2 * 2 ^ 24
+
+-- an entry of what a search has read, as it lists it
+abbrev pub listed_as : ℕ × Option ObjectError → ReachObject
+listed_as entry = record { addr = entry.0; broken = entry.1 }
