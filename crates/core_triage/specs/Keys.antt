@@ -19,12 +19,12 @@ pub record Compared : Type 0 where
 abbrev pub compared_frame : Frame → Compared
 compared_frame f = record { name = f.name; filename = f.filename; line = f.line }
 
-abbrev pub thread_of : StackTrace → List Compared
-thread_of t = map compared_frame t.frames.items
+abbrev pub compared_thread : StackTrace → List Compared
+compared_thread t = map compared_frame t.frames.items
 
 -- for each thread, in order, what is compared of its frames
 abbrev pub compared_of : List StackTrace → List (List Compared)
-compared_of traces = map thread_of traces
+compared_of traces = map compared_thread traces
 
 -- ---- of a key
 

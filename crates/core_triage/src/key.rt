@@ -1,6 +1,6 @@
 //! What a core's stacks are compared by.
 ghost use Rattle.std.specs.Prelude.{◌≡◌, IfOk};
-ghost use Rattle.core_triage.specs.Keys.{compared_in, compared_of, compared_frame, frame_compared, thread_compared, thread_of};
+ghost use Rattle.core_triage.specs.Keys.{compared_in, compared_of, compared_frame, frame_compared, thread_compared, compared_thread};
 
 use elf64_core::Text;
 use py_stacks::{Frame, StackTrace};
@@ -41,7 +41,7 @@ fn frame_key(alloc: Global, frame: &Frame) -> Result<FrameKey, AllocError>
 }
 
 fn thread_key(alloc: Global, trace: &StackTrace) -> Result<Vec<FrameKey>, AllocError>
-    ensures { IfOk result (λ frames. thread_compared frames ≡ thread_of trace.now) }
+    ensures { IfOk result (λ frames. thread_compared frames ≡ compared_thread trace.now) }
 {
     let mut frames = Vec::new(alloc);
     for frame in &trace.frames {

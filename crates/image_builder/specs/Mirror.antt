@@ -16,13 +16,13 @@ abbrev pub item_in : i.ProgramItem → Item
 item_in (ks.Number n) = Number n
 item_in (ks.Words text) = Words text
 
-abbrev pub value_in : v.ProgramValue → Held
-value_in (vs.Number n) = Single (Number n)
-value_in (vs.Words text) = Single (Words text)
-value_in (vs.List items) = Items (map item_in items.items)
+abbrev pub program_value : v.ProgramValue → Held
+program_value (vs.Number n) = Single (Number n)
+program_value (vs.Words text) = Single (Words text)
+program_value (vs.List items) = Items (map item_in items.items)
 
 abbrev pub local_in : l.ProgramLocal → Local
-local_in x = record { name = x.name; value = value_in x.value }
+local_in x = record { name = x.name; value = program_value x.value }
 
 abbrev pub frame_in : f.ProgramFrame → Frame
 frame_in x = record {
@@ -35,8 +35,8 @@ frame_in x = record {
   locals = map local_in x.locals.items;
 }
 
-abbrev pub thread_in : t.ProgramThread → Thread
-thread_in x = record { id = x.id; frames = map frame_in x.frames.items }
+abbrev pub program_thread : t.ProgramThread → Thread
+program_thread x = record { id = x.id; frames = map frame_in x.frames.items }
 
 abbrev pub program_in : p.Program → Program
-program_in x = record { threads = map thread_in x.threads.items; owner = x.owner }
+program_in x = record { threads = map program_thread x.threads.items; owner = x.owner }

@@ -2,7 +2,7 @@
 ghost use Rattle.std.specs.Prelude.{◌≡◌, ◌<◌, ◌++◌, map, codes, IfOk};
 ghost use Rattle.std.specs.Fmt.{decimal};
 ghost use Rattle.image_builder.specs.Generated.{ranges_in, locals_in, frame_of, thread_of, generated};
-ghost use Rattle.image_builder.specs.Mirror.{local_in, frame_in, thread_in, program_in};
+ghost use Rattle.image_builder.specs.Mirror.{local_in, frame_in, program_thread, program_in};
 
 use crate::{Program, ProgramFrame, ProgramItem, ProgramLocal, ProgramThread, ProgramValue};
 use elf64_core::Text;
@@ -103,7 +103,7 @@ fn frame_of(alloc: Global, seed: u64, thread: u32, frame: u32) -> Result<Program
 /// A thread.
 fn thread_of(alloc: Global, seed: u64, thread: u32) -> Result<ProgramThread, AllocError>
     requires { thread < 256 }
-    ensures { IfOk result (λ made. thread_in made ≡ thread_of seed thread) }
+    ensures { IfOk result (λ made. program_thread made ≡ thread_of seed thread) }
 {
     let count = 1 + ((seed % 16) as u32 + thread) % MOST_FRAMES;
     let mut frames = Vec::new(alloc);

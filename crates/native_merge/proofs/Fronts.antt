@@ -7,7 +7,7 @@ use Rattle.std.proofs.lemmas.Bool.Decides.{nat_tests}
 use Rattle.std.proofs.lemmas.List.{take-append-drop}
 use Rattle.std.proofs.lemmas.Slice.Eq.{bytes_eq-Decides}
 use Rattle.std.proofs.Math.Seq.{take-append_seam}
-use Rattle.native_merge.specs.CythonNames.{begins, behind, DemanglesOnce, GoesOn, HasTurn, IsLeft, IsPointIn, IsShortened, IsTurnAt, fronts, left_behind, next_place, number_at}
+use Rattle.native_merge.specs.CythonNames.{begins, behind, DemanglesOnce, GoesOn, HasTurn, IsLeftOver, IsPointIn, IsShortened, IsTurnAt, fronts, left_behind, next_place, number_behind}
 use Rattle.native_merge.specs.CythonNames.IsShortened.{Stops, Ends, Goes}
 use Rattle.native_merge.specs.Digits.{leading_digits, HasNumber, IsNumberOf}
 use Rattle.native_merge.specs.declared.digits.Number.{Number}
@@ -68,7 +68,7 @@ pub goes : (place name next answer : List ℕ) (turn : Number) → IsTurnAt plac
     → next ≡ drop turn.value turn.rest.now → IsShortened next turn.rest.now answer → IsShortened place name answer
 goes place name next answer turn is point e more =
     let here : GoesOn place = rw (is.value, is.digits, is.rest) at point in
-    let at_next : next ≡ next_place place = e ∙ ap (λ n. drop n turn.rest.now) is.value ∙ ap (drop (number_at place)) is.rest in
+    let at_next : next ≡ next_place place = e ∙ ap (λ n. drop n turn.rest.now) is.value ∙ ap (drop (number_behind place)) is.rest in
     Goes is.has here (subst (λ (name : List ℕ). IsShortened (next_place place) name answer) is.rest (subst (λ (p : List ℕ). IsShortened p turn.rest.now answer) at_next more))
 
 -- ---- one name is left
@@ -84,7 +84,7 @@ shortened_once (Goes has on more) (Stops none) = absurd (none has)
 shortened_once (Goes has on more) (Ends _ stops) = absurd (stops on)
 shortened_once (Goes has on more) (Goes _ _ again) = shortened_once more again
 
-left_once : (name : List ℕ) (left : Option (List ℕ)) (answer other : List ℕ) → IsLeft name left answer → IsLeft name left other → answer ≡ other
+left_once : (name : List ℕ) (left : Option (List ℕ)) (answer other : List ℕ) → IsLeftOver name left answer → IsLeftOver name left other → answer ≡ other
 left_once name None answer other is again = is ∙ sym again
 left_once name (Some left) answer other is again = shortened_once is again
 

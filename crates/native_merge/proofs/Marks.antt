@@ -8,7 +8,7 @@ use Rattle.std.specs.Str.Lines.{lines}
 use Rattle.std.specs.List.Sorted.{IsPartitionedBy}
 use Rattle.std.proofs.lemmas.Bool.Decides.{nat_tests}
 use Rattle.native_merge.specs.declared.source_map.SourceMark.{SourceMark}
-use Rattle.native_merge.specs.SourceMaps.{Adds, AreMarks, AscendFrom, IsSourceMap, MapsOnce, last_below, mark_of}
+use Rattle.native_merge.specs.SourceMaps.{AddsMark, AreMarks, MarksAscend, IsSourceMap, MapsOnce, last_below, mark_of}
 use Rattle.native_merge.specs.Sources.{SourcesSeen, Stay}
 use Rattle.native_merge.proofs.SourceNames.{tells_once}
 use Rattle.native_merge.specs.SourceMaps.AreMarks.{End, Told, Untold}
@@ -16,12 +16,12 @@ use Rattle.native_merge.specs.SourceMaps.AreMarks.{End, Told, Untold}
 abbrev pub is_below : ℕ → SourceMark → Bool
 is_below lineno mark = nat_lt mark.line lineno
 
-above : (at : ℕ) (marks : List SourceMark) → AscendFrom at marks → (j : ℕ) (d : SourceMark) → j < length marks → at ≤ (get_or marks j d).line
+above : (at : ℕ) (marks : List SourceMark) → MarksAscend at marks → (j : ℕ) (d : SourceMark) → j < length marks → at ≤ (get_or marks j d).line
 above at [] ascend j d lt = absurd (omega (arith, lt))
 above at (m ∷ ms) ascend zero d lt = ascend.0
 above at (m ∷ ms) ascend (suc j) d lt = omega (arith, ascend.0, above (m.line + 1) ms ascend.1 j d (omega (arith, lt)))
 
-ascends : (at : ℕ) (marks : List SourceMark) → AscendFrom at marks → (i j : ℕ) (d : SourceMark) → i ≤ j → j < length marks
+ascends : (at : ℕ) (marks : List SourceMark) → MarksAscend at marks → (i j : ℕ) (d : SourceMark) → i ≤ j → j < length marks
     → (get_or marks i d).line ≤ (get_or marks j d).line
 ascends at [] ascend i j d le lt = absurd (omega (arith, lt))
 ascends at (m ∷ ms) ascend zero zero d le lt = omega arith
@@ -32,7 +32,7 @@ ascends at (m ∷ ms) ascend (suc i) (suc j) d le lt = ascends (m.line + 1) ms a
 low : (lineno a b : ℕ) → a ≤ b → nat_lt b lineno ≡ true → nat_lt a lineno ≡ true
 low lineno a b le is = grind (arith, nat_tests, le, is)
 
-pub partitioned : (lineno : ℕ) (marks : List SourceMark) → AscendFrom 0 marks → IsPartitionedBy (is_below lineno) marks
+pub partitioned : (lineno : ℕ) (marks : List SourceMark) → MarksAscend 0 marks → IsPartitionedBy (is_below lineno) marks
 partitioned lineno marks ascend i j d le lt is =
     low lineno (get_or marks i d).line (get_or marks j d).line (ascends 0 marks ascend i j d le lt) is
 
@@ -66,18 +66,18 @@ last_of lineno marks count x some within is before after =
 
 -- the marks of a text ascend, with a last one behind them
 pub marks_ascend : {file_of : List ℕ → List ℕ} {at : ℕ} {lines : List (List ℕ)} {marks : List SourceMark} → AreMarks file_of at lines marks
-    → (last : ℕ) → at + length lines ≤ last → AscendFrom at (marks ++ (mark_of last [] 0 ∷ []))
+    → (last : ℕ) → at + length lines ≤ last → MarksAscend at (marks ++ (mark_of last [] 0 ∷ []))
 marks_ascend End last le = (omega (arith, le), tt)
 marks_ascend (Told tells more) last le = (omega arith, marks_ascend more last (omega (arith, le)))
 marks_ascend (Untold {at} {line} {rest} {marks} none more) last le = later at (marks ++ (mark_of last [] 0 ∷ [])) (marks_ascend more last (omega (arith, le)))
   where
-    later : (at : ℕ) (marks : List SourceMark) → AscendFrom (at + 1) marks → AscendFrom at marks
+    later : (at : ℕ) (marks : List SourceMark) → MarksAscend (at + 1) marks → MarksAscend at marks
     later at [] ascend = tt
     later at (m ∷ ms) ascend = (omega (arith, ascend.0), ascend.1)
 
-pub map_ascends : (file_of : List ℕ → List ℕ) (contents : List ℕ) (map : List SourceMark) → IsSourceMap file_of contents map → AscendFrom 0 map
+pub map_ascends : (file_of : List ℕ → List ℕ) (contents : List ℕ) (map : List SourceMark) → IsSourceMap file_of contents map → MarksAscend 0 map
 map_ascends file_of contents map is =
-    subst (AscendFrom 0) (sym is.all) (marks_ascend is.are (length (lines contents) + 1) (omega arith))
+    subst (MarksAscend 0) (sym is.all) (marks_ascend is.are (length (lines contents) + 1) (omega arith))
 
 -- ---- reading on
 
@@ -93,7 +93,7 @@ stay_same a = record { exists = refl; told = refl; faults = omega arith }
 
 -- a further line adds what it tells
 pub reads_on : (file_of : List ℕ → List ℕ) (at : ℕ) (ls : List (List ℕ)) (line : List ℕ) (old new marks : List SourceMark)
-    → at < length ls → line ≡ get_or ls at line → Adds file_of at line old new
+    → at < length ls → line ≡ get_or ls at line → AddsMark file_of at line old new
     → ((ms : List SourceMark) → AreMarks file_of at (drop at ls) ms → AreMarks file_of 0 ls (old ++ ms))
     → AreMarks file_of (at + 1) (drop (at + 1) ls) marks → AreMarks file_of 0 ls (new ++ marks)
 reads_on file_of at ls line old new marks lt is adds on more =

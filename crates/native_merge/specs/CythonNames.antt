@@ -42,8 +42,8 @@ digits_at [] = []
 digits_at (c ∷ text) = if c == 95 then leading_digits text else []
 
 -- the number that they spell
-abbrev pub number_at : List ℕ → ℕ
-number_at place = digits_value 10 (digits_at place)
+abbrev pub number_behind : List ℕ → ℕ
+number_behind place = digits_value 10 (digits_at place)
 
 -- what stands behind the underscore and the digits
 abbrev pub behind_number : List ℕ → List ℕ
@@ -51,12 +51,12 @@ behind_number place = drop (length (digits_at place) + 1) place
 
 -- so many bytes further on
 abbrev pub next_place : List ℕ → List ℕ
-next_place place = drop (number_at place) (behind_number place)
+next_place place = drop (number_behind place) (behind_number place)
 
 -- a place begins with an underscore and one or more digits, and their number is one of a u64
 pub record HasTurn (place : List ℕ) : Type 0 where
   pub some : digits_at place ≢ []
-  pub fits : number_at place < 2 ^ 64
+  pub fits : number_behind place < 2 ^ 64
 
 -- counted from an underscore, the point so many bytes behind so many digits comes before as many bytes as stand
 -- behind the digits, and is a border of characters
@@ -66,7 +66,7 @@ pub record IsPointIn (number digits : ℕ) (rest : List ℕ) : Type 0 where
 
 -- so it is with the number of a place
 abbrev pub GoesOn : List ℕ → Type 0
-GoesOn place = IsPointIn (number_at place) (length (digits_at place)) (behind_number place)
+GoesOn place = IsPointIn (number_behind place) (length (digits_at place)) (behind_number place)
 
 -- the name that is left, from a place, behind whose last number stands this name
 pub data IsShortened : List ℕ → List ℕ → List ℕ → Type 0 where
@@ -76,13 +76,13 @@ pub data IsShortened : List ℕ → List ℕ → List ℕ → Type 0 where
       → IsShortened (next_place place) (behind_number place) answer → IsShortened place name answer
 
 -- the name without the front that it has, if any, and then without numbers
-abbrev pub IsLeft : List ℕ → Option (List ℕ) → List ℕ → Type 0
-IsLeft name None answer = answer ≡ name
-IsLeft name (Some left) answer = IsShortened left left answer
+abbrev pub IsLeftOver : List ℕ → Option (List ℕ) → List ℕ → Type 0
+IsLeftOver name None answer = answer ≡ name
+IsLeftOver name (Some left) answer = IsShortened left left answer
 
 -- a function's name without what Cython has put in front
 abbrev pub IsDemangled : List ℕ → List ℕ → Type 0
-IsDemangled name answer = IsLeft name (left_behind fronts name) answer
+IsDemangled name answer = IsLeftOver name (left_behind fronts name) answer
 
 -- a function's name has one name that is left of it
 abbrev pub DemanglesOnce : Type 0
@@ -93,6 +93,6 @@ DemanglesOnce = (name answer other : List ℕ) → IsDemangled name answer → I
 -- the number that a place begins with
 pub record IsTurnAt (place : List ℕ) (turn : Number) : Type 0 where
   pub has : HasTurn place
-  pub value : turn.value ≡ number_at place
+  pub value : turn.value ≡ number_behind place
   pub digits : turn.digits ≡ length (digits_at place)
   pub rest : turn.rest.now ≡ behind_number place

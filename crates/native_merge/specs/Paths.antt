@@ -7,19 +7,19 @@ use Rattle.std.specs.List.{after_last, suffix_len}
 abbrev pub up_to_last : (ℕ → Bool) → List ℕ → List ℕ
 up_to_last is text = take (length text - suffix_len (λ c. not (is c)) text) text
 
-abbrev pub is_slash : ℕ → Bool
-is_slash c = c == 47
+abbrev pub is_separator : ℕ → Bool
+is_separator c = c == 47
 
-abbrev pub is_dot : ℕ → Bool
-is_dot c = c == 46
+abbrev pub is_point : ℕ → Bool
+is_point c = c == 46
 
 -- a path up to and with its last slash
 abbrev pub folder_of : List ℕ → List ℕ
-folder_of path = up_to_last is_slash path
+folder_of path = up_to_last is_separator path
 
 -- what stands behind the last slash of a path, or all of it
-abbrev pub part_of : List ℕ → List ℕ
-part_of path = after_last is_slash path
+abbrev pub last_part : List ℕ → List ℕ
+last_part path = after_last is_separator path
 
 -- such a part names no file
 abbrev pub is_no_file : List ℕ → Bool
@@ -31,8 +31,8 @@ is_no_module module_name = bytes_eq module_name [] || bytes_eq module_name (code
 
 -- the file of this name's last part in a module's folder
 abbrev pub beside : List ℕ → List ℕ → Option (List ℕ)
-beside filename module_name = if is_no_file (part_of filename) || is_no_module module_name then None
-    else Some (folder_of module_name ++ part_of filename)
+beside filename module_name = if is_no_file (last_part filename) || is_no_module module_name then None
+    else Some (folder_of module_name ++ last_part filename)
 
 -- a path where it exists
 abbrev pub existing : (List ℕ → Bool) → Option (List ℕ) → Option (List ℕ)
@@ -49,16 +49,16 @@ resolved exists filename module_name =
 -- what follows the last dot of a path's last part, where that dot isn't its first character and something follows
 abbrev pub extension_in : List ℕ → Option (List ℕ)
 extension_in part =
-    let extension = after_last is_dot part in
+    let extension = after_last is_point part in
     if nat_lt 0 (length extension) && nat_lt (length extension + 1) (length part) then Some extension else None
 
 -- such a part up to and with the dot of its extension; one that has none gets a dot
 abbrev pub with_dot : List ℕ → List ℕ
-with_dot part = if is_some (extension_in part) then up_to_last is_dot part else part ++ codes "."
+with_dot part = if is_some (extension_in part) then up_to_last is_point part else part ++ codes "."
 
 -- a path with another extension
 abbrev pub with_extension : List ℕ → List ℕ → List ℕ
-with_extension path extension = folder_of path ++ with_dot (part_of path) ++ extension
+with_extension path extension = folder_of path ++ with_dot (last_part path) ++ extension
 
 -- nothing, or what ends with a slash
 abbrev pub is_folder : List ℕ → Bool
@@ -78,7 +78,7 @@ renamed_by c_path name None = None
 renamed_by c_path name (Some extension) = called name (with_extension c_path extension)
 
 abbrev pub renamed : List ℕ → List ℕ → Option (List ℕ)
-renamed c_path name = renamed_by c_path name (extension_in (part_of name))
+renamed c_path name = renamed_by c_path name (extension_in (last_part name))
 
 -- the file that is found with the module, else the name
 abbrev pub file_in_module : (List ℕ → Bool) → Option (List ℕ) → List ℕ → List ℕ

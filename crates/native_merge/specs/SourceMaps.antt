@@ -7,9 +7,9 @@ use Rattle.native_merge.specs.SourceLines.{Tells, TellsNone}
 use Rattle.native_merge.specs.declared.source_map.SourceMark.{SourceMark}
 
 -- marks of lines that ascend
-abbrev pub AscendFrom : ℕ → List SourceMark → Type 0
-AscendFrom at [] = Unit {0}
-AscendFrom at (mark ∷ marks) = (at ≤ mark.line) × AscendFrom (mark.line + 1) marks
+abbrev pub MarksAscend : ℕ → List SourceMark → Type 0
+MarksAscend at [] = Unit {0}
+MarksAscend at (mark ∷ marks) = (at ≤ mark.line) × MarksAscend (mark.line + 1) marks
 
 -- the last mark of a line below this one
 abbrev pub last_below : ℕ → List SourceMark → Option SourceMark
@@ -55,7 +55,7 @@ abbrev pub line_limit : ℕ
 line_limit = 2 ^ 32 - 2
 
 -- a line adds its mark, or nothing where it tells nothing
-abbrev pub Adds : (List ℕ → List ℕ) → ℕ → List ℕ → List SourceMark → List SourceMark → Type 0
-Adds file_of at line old new =
+abbrev pub AddsMark : (List ℕ → List ℕ) → ℕ → List ℕ → List SourceMark → List SourceMark → Type 0
+AddsMark file_of at line old new =
     ((name : List ℕ) × (number : ℕ) × Tells line name number × (new ≡ old ++ (mark_of at (file_of name) number ∷ [])))
     ⊎ (TellsNone line × (new ≡ old))

@@ -56,13 +56,13 @@ faults_with faults Missing = faults
 faults_with faults Failed = count_after faults 1
 faults_with faults OutOfMemory = faults
 
-abbrev pub faults_after : {T : Type 0} → ℕ → Result T SourceFault → ℕ
-faults_after faults (Ok _) = faults
-faults_after faults (Err fault) = faults_with faults fault
+abbrev pub source_faults : {T : Type 0} → ℕ → Result T SourceFault → ℕ
+source_faults faults (Ok _) = faults
+source_faults faults (Err fault) = faults_with faults fault
 
 -- what a call of `contents` with this answer leaves of sources
 pub record HasGiven {T : Type 0} (old : HeldSources) (answer : Result T SourceFault) (new : HeldSources) : Type 0 where
   pub files : new.files ≡ old.files
   pub failing : new.failing ≡ old.failing
   pub calls : new.calls ≡ count_after old.calls 1
-  pub faults : new.faults ≡ faults_after old.faults answer
+  pub faults : new.faults ≡ source_faults old.faults answer

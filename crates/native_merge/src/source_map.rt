@@ -2,7 +2,7 @@
 ghost use Rattle.std.specs.Prelude.{◌≡◌, ◌≤◌, ◌<◌, List, length, option_map, IfOk, IsErrOf, OnOk};
 ghost use Rattle.std.specs.Str.Lines.{lines};
 ghost use Rattle.native_merge.specs.Paths.{cython_file};
-ghost use Rattle.native_merge.specs.SourceMaps.{Adds, AscendFrom, IsSourceMap, MapsOnce, last_below, line_limit, looked_up};
+ghost use Rattle.native_merge.specs.SourceMaps.{AddsMark, MarksAscend, IsSourceMap, MapsOnce, last_below, line_limit, looked_up};
 ghost use Rattle.native_merge.specs.Sources.{Stay};
 
 use crate::cython_file::cython_file;
@@ -34,18 +34,18 @@ pub struct SourceMap {
 impl Model for SourceMap {
     ghost use Rattle.std.specs.Prelude.{List};
     ghost use Rattle.native_merge.specs.declared.source_map.SourceMark.{SourceMark};
-    ghost use Rattle.native_merge.specs.SourceMaps.{AscendFrom};
+    ghost use Rattle.native_merge.specs.SourceMaps.{MarksAscend};
 
     ghost Value = { List SourceMark };
 
     ghost view = { λ m. m.marks.items };
 
-    ghost invariant = { λ m. AscendFrom 0 m.marks.items };
+    ghost invariant = { λ m. MarksAscend 0 m.marks.items };
 }
 
 /// The last mark of a line below this one.
 fn last_below(marks: &[SourceMark], lineno: u32) -> Option<&SourceMark>
-    requires { AscendFrom 0 marks.now }
+    requires { MarksAscend 0 marks.now }
     ensures { option_map (λ mark. mark.now) result ≡ last_below lineno marks.now }
 {
     let count = marks.partition_point(|mark| mark.line < lineno);
@@ -65,7 +65,7 @@ fn add_mark<F: Sources>(
     cpp_filename: &str,
     module: Option<&str>,
 ) -> Result<(), AllocError>
-    ensures added { OnOk result (Adds (cython_file (F.seen sources.old).exists cpp_filename.now
+    ensures added { OnOk result (AddsMark (cython_file (F.seen sources.old).exists cpp_filename.now
         (option_map (λ name. name.now) «module».entry)) at line.now marks.old.items marks.new.items) }
     ensures stay { Stay (F.seen sources.old) (F.seen sources.new) }
 {

@@ -10,9 +10,9 @@ use Rattle.std.proofs.lemmas.List.Kept.{AllPairs-from_increasing}
 use Rattle.std.proofs.lemmas.Map.Keys.{IsDistinct-head, IsDistinct-tail, IsDistinct-cons, IsStrictlyIncreasing-from_sorted}
 use Rattle.std.proofs.lemmas.Map.Made.{AllPairs-from_IsDistinct, IsDistinct-from_AllPairs}
 use Rattle.object_reach.specs.Objects.{IsNamed}
-use Rattle.object_reach.specs.Front.{IsSeen, IsApart, Adds, Overfills}
+use Rattle.object_reach.specs.Front.{IsSeen, IsApart, AddsToFront, Overfills}
 
-pub adds_known : (done pending : List ℕ) (a : ℕ) → IsSeen done pending a → IsApart done pending → length done + length pending ≤ 2 ^ 20 → Adds done pending (λ q. q ≡ a) pending
+pub adds_known : (done pending : List ℕ) (a : ℕ) → IsSeen done pending a → IsApart done pending → length done + length pending ≤ 2 ^ 20 → AddsToFront done pending (λ q. q ≡ a) pending
 adds_known done pending a known apart fits =
     record {
       seen = λ q. (λ h. inl h, λ h. elim h [ inl e ↦ e | inr e ↦ subst (IsSeen done pending) (sym e) known ]);
@@ -20,7 +20,7 @@ adds_known done pending a known apart fits =
       fits = fits;
     }
 
-pub adds_new : (done pending after : List ℕ) (a : ℕ) → (Contains done a → ⊥) → IsApart done pending → ((q : ℕ) → Contains after q ↔ (Contains pending q ⊎ (q ≡ a))) → length done + length after ≤ 2 ^ 20 → Adds done pending (λ q. q ≡ a) after
+pub adds_new : (done pending after : List ℕ) (a : ℕ) → (Contains done a → ⊥) → IsApart done pending → ((q : ℕ) → Contains after q ↔ (Contains pending q ⊎ (q ≡ a))) → length done + length after ≤ 2 ^ 20 → AddsToFront done pending (λ q. q ≡ a) after
 adds_new done pending after a new apart members fits =
     record {
       seen = λ q. (
@@ -85,7 +85,7 @@ Contains-from_take ws i q h = subst (λ xs. Contains xs q) (take-append-drop i w
 pub named_whole : (ws : List ℕ) (i : ℕ) (q : ℕ) → IsNamed (take i ws) q → IsNamed ws q
 named_whole ws i q h = (Contains-from_take ws i q h.0, h.1)
 
-pub adds_like : (done pending after : List ℕ) (Is Now : ℕ → Type 0) → ((q : ℕ) → Is q → Now q) → ((q : ℕ) → Now q → Is q) → Adds done pending Is after → Adds done pending Now after
+pub adds_like : (done pending after : List ℕ) (Is Now : ℕ → Type 0) → ((q : ℕ) → Is q → Now q) → ((q : ℕ) → Now q → Is q) → AddsToFront done pending Is after → AddsToFront done pending Now after
 adds_like done pending after Is Now to from h =
     record {
       seen = λ q. (
@@ -96,7 +96,7 @@ adds_like done pending after Is Now to from h =
       fits = h.fits;
     }
 
-pub adds_more : (done pending now after : List ℕ) (Is : ℕ → Type 0) (a : ℕ) → Adds done pending Is now → Adds done now (λ q. q ≡ a) after → Adds done pending (λ q. Is q ⊎ (q ≡ a)) after
+pub adds_more : (done pending now after : List ℕ) (Is : ℕ → Type 0) (a : ℕ) → AddsToFront done pending Is now → AddsToFront done now (λ q. q ≡ a) after → AddsToFront done pending (λ q. Is q ⊎ (q ≡ a)) after
 adds_more done pending now after Is a h k =
     record {
       seen = λ q. (
@@ -113,7 +113,7 @@ adds_more done pending now after Is a h k =
       fits = k.fits;
     }
 
-pub overfills_more : (done pending now : List ℕ) (Is Now : ℕ → Type 0) (a : ℕ) → Adds done pending Is now → ((q : ℕ) → Is q → Now q) → Now a → Overfills done now (λ q. q ≡ a) → Overfills done pending Now
+pub overfills_more : (done pending now : List ℕ) (Is Now : ℕ → Type 0) (a : ℕ) → AddsToFront done pending Is now → ((q : ℕ) → Is q → Now q) → Now a → Overfills done now (λ q. q ≡ a) → Overfills done pending Now
 overfills_more done pending now Is Now a h to this k =
     record {
       list = k.list;

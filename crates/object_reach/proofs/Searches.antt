@@ -18,9 +18,9 @@ use Rattle.object_reach.specs.declared.objects.ObjectRead.{ObjectRead}
 use Rattle.py_builtins.specs.declared.error.ObjectError.{ObjectError}
 use Rattle.object_reach.specs.declared.reached.ReachObject.{ReachObject}
 use Rattle.object_reach.specs.Objects.{IsChild, IsNamed, Object}
-use Rattle.object_reach.specs.Reading.{Shows, listed_as}
-use Rattle.object_reach.specs.Front.{IsSeen, IsApart, Adds, Overfills}
-use Rattle.object_reach.specs.Reach.{IsReached, IsReach, IsBrokenBy, PassesLimit, addresses, slots_of}
+use Rattle.object_reach.specs.Reading.{ShowsObject, listed_as}
+use Rattle.object_reach.specs.Front.{IsSeen, IsApart, AddsToFront, Overfills}
+use Rattle.object_reach.specs.Reach.{IsReached, IsReach, IsBrokenBy, PassesLimit, addresses, slots_in_all}
 use Rattle.object_reach.proofs.Paths.{reached_root, reached_child, reached_within}
 use Rattle.object_reach.proofs.Sums.{sum_by-insert_entry, permutation-insert_entry, All-insert_entry, sum_by-le_distinct}
 use Rattle.object_reach.proofs.Fronts.{distinct_sorted, apart_false}
@@ -33,7 +33,7 @@ pub record IsFront (heap : ℕ → Object) (roots : List ℕ) (done : List (ℕ 
   pub apart : IsApart (keys_of done) pending
   pub ordered : IsStrictlySortedBy nat_cmp (keys_of done)
   pub fits : length (keys_of done) + length pending ≤ 2 ^ 20
-  pub slots : slots_of heap (keys_of done) + room ≡ 2 ^ 24
+  pub slots : slots_in_all heap (keys_of done) + room ≡ 2 ^ 24
   pub failures : All (λ e. IsBrokenBy (heap e.0).failure e.1) done
 
 pub none_in : (q : ℕ) → Contains {X = ℕ} [] q → ⊥
@@ -43,13 +43,13 @@ sorted_none : IsStrictlySortedBy nat_cmp []
 unfolding IsStrictlySortedBy
 sorted_none = tt
 
-pub shown_child : (object : Object) (room : ℕ) (found : ObjectRead) → Shows object room found → (q : ℕ) → IsNamed found.words.items q → IsChild object q
+pub shown_child : (object : Object) (room : ℕ) (found : ObjectRead) → ShowsObject object room found → (q : ℕ) → IsNamed found.words.items q → IsChild object q
 shown_child object room found shows q n = subst (λ ws. IsNamed ws q) shows.words n
 
-pub child_shown : (object : Object) (room : ℕ) (found : ObjectRead) → Shows object room found → (q : ℕ) → IsChild object q → IsNamed found.words.items q
+pub child_shown : (object : Object) (room : ℕ) (found : ObjectRead) → ShowsObject object room found → (q : ℕ) → IsChild object q → IsNamed found.words.items q
 child_shown object room found shows q n = subst (λ ws. IsNamed ws q) (sym shows.words) n
 
-pub front_start : (heap : ℕ → Object) (roots pending : List ℕ) → Adds [] [] (IsNamed roots) pending → IsFront heap roots [] pending (2 ^ 24)
+pub front_start : (heap : ℕ → Object) (roots pending : List ℕ) → AddsToFront [] [] (IsNamed roots) pending → IsFront heap roots [] pending (2 ^ 24)
 front_start heap roots pending h =
     record {
       reached = λ q s. elim ((h.seen q).0 s) [
@@ -99,7 +99,7 @@ still_fits done pending a v apart fits =
     omega (arith, more, fits)
 
 -- ---- one object more
-seen_kept : (heap : ℕ → Object) (done now pending after words : List ℕ) (a q : ℕ) → ((q : ℕ) → Contains now q ↔ (Contains done q ⊎ (q ≡ a))) → Adds now pending (IsNamed words) after → IsSeen done (a ∷ pending) q → IsSeen now after q
+seen_kept : (heap : ℕ → Object) (done now pending after words : List ℕ) (a q : ℕ) → ((q : ℕ) → Contains now q ↔ (Contains done q ⊎ (q ≡ a))) → AddsToFront now pending (IsNamed words) after → IsSeen done (a ∷ pending) q → IsSeen now after q
 seen_kept heap done now pending after words a q members adds s =
     elim s [
       | inl e ↦ inl ((members q).1 (inl e))
@@ -109,10 +109,10 @@ seen_kept heap done now pending after words a q members adds s =
 pub front_step :
     (heap : ℕ → Object) (roots : List ℕ) (done : List (ℕ × Option ObjectError)) (pending after : List ℕ) (room a : ℕ) (found : ObjectRead)
     → IsFront heap roots done (a ∷ pending) room
-    → Shows (heap a) room found
+    → ShowsObject (heap a) room found
     → ((q : ℕ) → Contains (keys_of (insert_entry nat_cmp done a found.broken)) q ↔ (Contains (keys_of done) q ⊎ (q ≡ a)))
     → IsStrictlySortedBy nat_cmp (keys_of (insert_entry nat_cmp done a found.broken))
-    → Adds (keys_of (insert_entry nat_cmp done a found.broken)) pending (IsNamed found.words.items) after
+    → AddsToFront (keys_of (insert_entry nat_cmp done a found.broken)) pending (IsNamed found.words.items) after
     → IsFront heap roots (insert_entry nat_cmp done a found.broken) after (room - found.slots)
 front_step heap roots done pending after room a found front shows members ordered adds =
     let now = keys_of (insert_entry nat_cmp done a found.broken) in
@@ -193,10 +193,10 @@ within_limit heap roots done room front h =
     elim h.passes [ inl e ↦ omega (arith, e, few, front.fits) | inr e ↦ omega (arith, e, small, front.slots) ]
 
 -- ---- the same, as the code has it
-pub front_first : (heap : ℕ → Object) (roots : List ℕ) (done : List (ℕ × Option ObjectError)) (old pending : List ℕ) → done ≡ [] → old ≡ [] → Adds (keys_of done) old (IsNamed roots) pending → IsFront heap roots done pending (2 ^ 24)
+pub front_first : (heap : ℕ → Object) (roots : List ℕ) (done : List (ℕ × Option ObjectError)) (old pending : List ℕ) → done ≡ [] → old ≡ [] → AddsToFront (keys_of done) old (IsNamed roots) pending → IsFront heap roots done pending (2 ^ 24)
 front_first heap roots done old pending d o h =
     subst (λ (es : List (ℕ × Option ObjectError)). IsFront heap roots es pending (2 ^ 24)) (sym d)
-    (front_start heap roots pending (subst (λ ps. Adds [] ps (IsNamed roots) pending) o (subst (λ (es : List (ℕ × Option ObjectError)). Adds (keys_of es) old (IsNamed roots) pending) d h)))
+    (front_start heap roots pending (subst (λ ps. AddsToFront [] ps (IsNamed roots) pending) o (subst (λ (es : List (ℕ × Option ObjectError)). AddsToFront (keys_of es) old (IsNamed roots) pending) d h)))
 
 first_seen : (heap : ℕ → Object) (roots : List ℕ) (done : List (ℕ × Option ObjectError)) (old : List ℕ) → done ≡ [] → old ≡ [] → (q : ℕ) → IsSeen (keys_of done) old q → IsReached heap roots q
 first_seen heap roots done old d o q s =
@@ -214,7 +214,7 @@ roots_pass heap roots done old d o h =
 pub children_pass :
     (heap : ℕ → Object) (roots : List ℕ) (done now : List (ℕ × Option ObjectError)) (pending : List ℕ) (room a : ℕ) (found : ObjectRead)
     → IsFront heap roots done (a ∷ pending) room
-    → Shows (heap a) room found
+    → ShowsObject (heap a) room found
     → ((q : ℕ) → Contains (keys_of now) q ↔ (Contains (keys_of done) q ⊎ (q ≡ a)))
     → Overfills (keys_of now) pending (IsNamed found.words.items)
     → PassesLimit heap roots
@@ -243,18 +243,18 @@ front_last heap roots done pending room front h = subst (λ ps. IsFront heap roo
 pub front_next :
     (heap : ℕ → Object) (roots : List ℕ) (done now : List (ℕ × Option ObjectError)) (pending after words : List ℕ) (room a : ℕ) (found : ObjectRead)
     → IsFront heap roots done (a ∷ pending) room
-    → Shows (heap a) room found
+    → ShowsObject (heap a) room found
     → now ≡ insert_entry nat_cmp done a found.broken
     → ((q : ℕ) → Contains (keys_of now) q ↔ (Contains (keys_of done) q ⊎ (q ≡ a)))
     → IsStrictlySortedBy nat_cmp (keys_of now)
     → words ≡ found.words.items
-    → Adds (keys_of now) pending (IsNamed words) after
+    → AddsToFront (keys_of now) pending (IsNamed words) after
     → IsFront heap roots now after (room - found.slots)
 front_next heap roots done now pending after words room a found front shows e members ordered w adds =
     let P : List (ℕ × Option ObjectError) → Type 0 =
     λ es. ((q : ℕ) → Contains (keys_of es) q ↔ (Contains (keys_of done) q ⊎ (q ≡ a)))
     → IsStrictlySortedBy nat_cmp (keys_of es)
-    → Adds (keys_of es) pending (IsNamed found.words.items) after
+    → AddsToFront (keys_of es) pending (IsNamed found.words.items) after
     → IsFront heap roots es after (room - found.slots) in
     subst P (sym e) (front_step heap roots done pending after room a found front shows) members ordered
-    (subst (λ ws. Adds (keys_of now) pending (IsNamed ws) after) w adds)
+    (subst (λ ws. AddsToFront (keys_of now) pending (IsNamed ws) after) w adds)

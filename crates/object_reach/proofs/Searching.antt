@@ -19,9 +19,9 @@ use Rattle.object_reach.specs.declared.reached.ReachError.{ReachError}
 use Rattle.object_reach.specs.declared.reached.ReachError.TheVariants.{ReachLimit, OutOfMemory}
 use Rattle.object_reach.specs.declared.reached.ReachObject.{ReachObject}
 use Rattle.object_reach.specs.Objects.{IsNamed, Object, object_at}
-use Rattle.object_reach.specs.Reading.{Shows, ShowsOr, listed_as, reach_cost, slots_cost}
-use Rattle.object_reach.specs.Reach.{IsRightReach, PassesLimit, addresses, slots_of}
-use Rattle.object_reach.specs.Front.{Adds, Overfills}
+use Rattle.object_reach.specs.Reading.{ShowsObject, ShowsOr, listed_as, reach_cost, slots_cost}
+use Rattle.object_reach.specs.Reach.{IsRightReach, PassesLimit, addresses, slots_in_all}
+use Rattle.object_reach.specs.Front.{AddsToFront, Overfills}
 use Rattle.object_reach.proofs.Sums.{permutation-insert_entry}
 use Rattle.object_reach.proofs.Searches.{IsFront, addresses-listed, children_pass, front_first, front_last, front_next, is_reach, new_key, roots_pass, slots_pass, within_limit}
 
@@ -33,7 +33,7 @@ pub record Searching (l : Layout) (roots : List ℕ) (s0 s1 : Seen) (done : List
 abbrev pub Stops : Layout → List ℕ → Seen → Seen → ReachError → Type 0
 Stops l roots s0 s1 e = Reading (6 * 2 ^ 20 + 2 * 2 ^ 24) s0 s1 (λ m. IsRightReach (object_at l m) roots (Err e))
 
-pub searching_init : (l : Layout) (roots : List ℕ) (s : Seen) (done : List (ℕ × Option ObjectError)) (old pending : List ℕ) → done ≡ [] → old ≡ [] → Adds (keys_of done) old (IsNamed roots) pending → Searching l roots s s done pending (2 ^ 24)
+pub searching_init : (l : Layout) (roots : List ℕ) (s : Seen) (done : List (ℕ × Option ObjectError)) (old pending : List ℕ) → done ≡ [] → old ≡ [] → AddsToFront (keys_of done) old (IsNamed roots) pending → Searching l roots s s done pending (2 ^ 24)
 searching_init l roots s done old pending d o adds = record { reading = reading_none _ s _ (λ m. front_first (object_at l m) roots done old pending d o adds) }
 
 pub roots_stop : (l : Layout) (roots : List ℕ) (s : Seen) (done : List (ℕ × Option ObjectError)) (old : List ℕ) (e : ReachError) → done ≡ [] → old ≡ [] → (e ≡ ReachLimit → Overfills (keys_of done) old (IsNamed roots)) → Stops l roots s s e
@@ -56,20 +56,20 @@ read_stop OutOfMemory h p =
 -- one object more
 module _ {l : Layout} {roots : List ℕ} {s0 s1 s2 : Seen} {done : List (ℕ × Option ObjectError)} {rest : List ℕ} {a room : ℕ} (found : ObjectRead) where
   -- its slots fit
-  pub read_fits : Searching l roots s0 s1 done (a ∷ rest) room → Reading (4 + (2 + 2 * found.slots)) s1 s2 (λ m. Shows (object_at l m a) room found) → found.slots ≤ room
+  pub read_fits : Searching l roots s0 s1 done (a ∷ rest) room → Reading (4 + (2 + 2 * found.slots)) s1 s2 (λ m. ShowsObject (object_at l m a) room found) → found.slots ≤ room
   read_fits h p = let shows = reading_here p in omega (arith, shows.slots, shows.fits)
 
-  pub next_spent : Searching l roots s0 s1 done (a ∷ rest) room → Reading (4 + (2 + 2 * found.slots)) s1 s2 (λ m. Shows (object_at l m a) room found)
+  pub next_spent : Searching l roots s0 s1 done (a ∷ rest) room → Reading (4 + (2 + 2 * found.slots)) s1 s2 (λ m. ShowsObject (object_at l m a) room found)
       → 6 * length (keys_of done) + 2 * (2 ^ 24 - room) + (4 + (2 + 2 * found.slots)) ≤ 6 * 2 ^ 20 + 2 * 2 ^ 24
   next_spent h p = let front = reading_here h.reading in let fits = read_fits h p in omega (arith, front.fits, front.slots, fits)
 
   -- memory ran out behind it
-  pub lost_stop : Searching l roots s0 s1 done (a ∷ rest) room → Reading (4 + (2 + 2 * found.slots)) s1 s2 (λ m. Shows (object_at l m a) room found) → Stops l roots s0 s2 OutOfMemory
+  pub lost_stop : Searching l roots s0 s1 done (a ∷ rest) room → Reading (4 + (2 + 2 * found.slots)) s1 s2 (λ m. ShowsObject (object_at l m a) room found) → Stops l roots s0 s2 OutOfMemory
   lost_stop h p = reading_gives _ _ (reading_then (λ m. Unit {0}) h.reading p (λ m f more. tt)) (next_spent h p) (λ m x. x)
 
   -- its children are too many
   pub children_stop : (e : ReachError) (now : List (ℕ × Option ObjectError)) → Searching l roots s0 s1 done (a ∷ rest) room
-      → Reading (4 + (2 + 2 * found.slots)) s1 s2 (λ m. Shows (object_at l m a) room found)
+      → Reading (4 + (2 + 2 * found.slots)) s1 s2 (λ m. ShowsObject (object_at l m a) room found)
       → ((q : ℕ) → Contains (keys_of now) q ↔ (Contains (keys_of done) q ⊎ (q ≡ a)))
       → (e ≡ ReachLimit → Overfills (keys_of now) rest (IsNamed found.words.items)) → Stops l roots s0 s2 e
   children_stop ReachLimit now h p members over =
@@ -78,11 +78,11 @@ module _ {l : Layout} {roots : List ℕ} {s0 s1 s2 : Seen} {done : List (ℕ × 
   children_stop OutOfMemory now h p members over = lost_stop h p
 
   pub searching_next : (now : List (ℕ × Option ObjectError)) (after words : List ℕ) → Searching l roots s0 s1 done (a ∷ rest) room
-      → Reading (4 + (2 + 2 * found.slots)) s1 s2 (λ m. Shows (object_at l m a) room found)
+      → Reading (4 + (2 + 2 * found.slots)) s1 s2 (λ m. ShowsObject (object_at l m a) room found)
       → now ≡ insert_entry nat_cmp done a found.broken
       → ((q : ℕ) → Contains (keys_of now) q ↔ (Contains (keys_of done) q ⊎ (q ≡ a)))
       → IsStrictlySortedBy nat_cmp (keys_of now) → words ≡ found.words.items
-      → Adds (keys_of now) rest (IsNamed words) after → Searching l roots s0 s2 now after (room - found.slots)
+      → AddsToFront (keys_of now) rest (IsNamed words) after → Searching l roots s0 s2 now after (room - found.slots)
   searching_next now after words h p is members sorted same adds =
       let front = reading_here h.reading in
       let fits = read_fits h p in
@@ -100,7 +100,7 @@ searching_done {l} {roots} {s0} {done = done} {pending = pending} {room = room} 
     let front = reading_here h.reading in
     let same : addresses objects ≡ keys_of done = ap addresses is ∙ addresses-listed done in
     let heap : ℕ → Object = object_at l (byte_at s0.pieces) in
-    let slots : slots_of heap (addresses objects) ≡ slots_of heap (keys_of done) = ap (slots_of heap) same in
+    let slots : slots_in_all heap (addresses objects) ≡ slots_in_all heap (keys_of done) = ap (slots_in_all heap) same in
     let many : length objects ≡ length (map listed_as done) = ap length is in
     let spent : 6 * length (keys_of done) + 2 * (2 ^ 24 - room) ≤ reach_cost heap (Ok objects) = omega (arith, front.slots, slots, many, length-map done (λ (e : ℕ × Option ObjectError). listed_as e), length-keys_of done) in
     reading_gives _ _ h.reading spent

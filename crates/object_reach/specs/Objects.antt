@@ -20,15 +20,15 @@ use Rattle.object_reach.specs.declared.contents.Contents.TheVariants.{Nothing, S
 use Rattle.object_reach.specs.Contents.{contents_of}
 
 -- where the parts of an object stand: nowhere, or as the items of a list or a tuple, or as the slots of a dict
-pub data PartsPlace : Type 0 where
-  Nowhere : PartsPlace
-  ItemsAt : ItemsOf → PartsPlace
-  SlotsAt : SlotsOf → PartsPlace
+pub data PartsSpot : Type 0 where
+  Nowhere : PartsSpot
+  ItemsAt : ItemsOf → PartsSpot
+  SlotsAt : SlotsOf → PartsSpot
 
 -- how many parts an object has, and where they stand
 pub record PartsRead : Type 0 where
   pub count : ℕ
-  pub place : PartsPlace
+  pub place : PartsSpot
 
 unfoldable pub item_parts : Layout → Memory → Sequence → ℕ → Found PartsRead
 item_parts l m s a = do
@@ -55,8 +55,8 @@ parts_by l m a Slots = dict_parts l.dicts l m a
 parts_by l m a (Items s) = item_parts l m s a
 
 -- the parts of the object at an address: its record and its type's are read, and then what the type says that it has
-unfoldable pub parts_at : Layout → Memory → ℕ → Found PartsRead
-parts_at l m a = do
+unfoldable pub parts_found : Layout → Memory → ℕ → Found PartsRead
+parts_found l m a = do
   class ← type_at l m a
   parts_by l m a (contents_of l.bytes_text class.flags)
 
@@ -65,12 +65,12 @@ slot_words Empty = []
 slot_words (Entry key value) = key ∷ value ∷ []
 
 -- the words of the part of a number: an item, or the key and the value of a slot that is not empty
-unfoldable pub part_at : Memory → PartsPlace → ℕ → Found (List ℕ)
-part_at m Nowhere k = Ok []
-part_at m (ItemsAt items) k = do
+unfoldable pub part_words : Memory → PartsSpot → ℕ → Found (List ℕ)
+part_words m Nowhere k = Ok []
+part_words m (ItemsAt items) k = do
   item ← item_at m items k
   Ok (item ∷ [])
-part_at m (SlotsAt slots) k = do
+part_words m (SlotsAt slots) k = do
   slot ← slot_at m slots k
   Ok (slot_words slot)
 
@@ -104,7 +104,7 @@ object_with n (Err f) = record { slots = n; words = []; failure = Some f }
 
 -- the object that these parts make
 abbrev pub object_of : Memory → PartsRead → Object
-object_of m p = object_with (parts_in_front (part_at m p.place) p.count) (words_of_first (part_at m p.place) p.count)
+object_of m p = object_with (parts_in_front (part_words m p.place) p.count) (words_of_first (part_words m p.place) p.count)
 
 abbrev pub object_by : Memory → Found PartsRead → Object
 object_by m (Err f) = object_with 0 (Err f)
@@ -112,7 +112,7 @@ object_by m (Ok p) = object_of m p
 
 -- the object at an address
 unfoldable pub object_at : Layout → Memory → ℕ → Object
-object_at l m a = object_by m (parts_at l m a)
+object_at l m a = object_by m (parts_found l m a)
 
 -- an address other than 0 that is among these words
 abbrev pub IsNamed : List ℕ → ℕ → Type 0

@@ -40,15 +40,15 @@ pub record IsReach (heap : ℕ → Object) (roots : List ℕ) (objects : List Re
   pub failures : All (λ o. IsBrokenBy (heap o.addr).failure o.broken) objects
 
 -- the slots of these objects
-abbrev pub slots_of : (ℕ → Object) → List ℕ → ℕ
-slots_of heap list = sum_by (λ a. (heap a).slots) list
+abbrev pub slots_in_all : (ℕ → Object) → List ℕ → ℕ
+slots_in_all heap list = sum_by (λ a. (heap a).slots) list
 
 -- distinct reached addresses are more than 2^20, or their slots sum above 2^24
 pub record PassesLimit (heap : ℕ → Object) (roots : List ℕ) : Type 0 where
   pub list : List ℕ
   pub distinct : AllPairs (λ x y. x ≢ y) list
   pub reached : All (IsReached heap roots) list
-  pub passes : (2 ^ 20 < length list) ⊎ (2 ^ 24 < slots_of heap list)
+  pub passes : (2 ^ 20 < length list) ⊎ (2 ^ 24 < slots_in_all heap list)
 
 -- what a search may answer: what is reached where the limit is not passed, and else that it is. Want of memory is free
 abbrev pub IsRightReach : (ℕ → Object) → List ℕ → Result (List ReachObject) ReachError → Type 0

@@ -11,35 +11,35 @@ use Rattle.object_reach.specs.declared.objects.ObjectRead.{ObjectRead}
 use Rattle.object_reach.specs.declared.reached.ReachError.{ReachError}
 use Rattle.object_reach.specs.declared.reached.ReachError.TheVariants.{ReachLimit, OutOfMemory}
 use Rattle.object_reach.specs.declared.reached.ReachObject.{ReachObject}
-use Rattle.object_reach.specs.Objects.{Object, PartsPlace, PartsRead, slot_words}
-use Rattle.object_reach.specs.Objects.PartsPlace.{Nowhere, ItemsAt, SlotsAt}
-use Rattle.object_reach.specs.Reach.{IsBrokenBy, addresses, slots_of}
+use Rattle.object_reach.specs.Objects.{Object, PartsSpot, PartsRead, slot_words}
+use Rattle.object_reach.specs.Objects.PartsSpot.{Nowhere, ItemsAt, SlotsAt}
+use Rattle.object_reach.specs.Reach.{IsBrokenBy, addresses, slots_in_all}
 
 -- where parts stand that were read
-abbrev pub place_of : Place → PartsPlace
-place_of NoPlace = Nowhere
-place_of (ItemPlace items) = ItemsAt items
-place_of (SlotPlace cursor) = SlotsAt cursor.slots
+abbrev pub spot_of : Place → PartsSpot
+spot_of NoPlace = Nowhere
+spot_of (ItemPlace items) = ItemsAt items
+spot_of (SlotPlace cursor) = SlotsAt cursor.slots
 
-abbrev pub parts_of : Parts → PartsRead
-parts_of p = record { count = p.count; place = place_of p.place }
+abbrev pub parts_told : Parts → PartsRead
+parts_told p = record { count = p.count; place = spot_of p.place }
 
-abbrev pub parts_read : {E : Type 0} → Result Parts E → Result PartsRead E
-parts_read (Ok p) = Ok (parts_of p)
-parts_read (Err e) = Err e
+abbrev pub parts_got : {E : Type 0} → Result Parts E → Result PartsRead E
+parts_got (Ok p) = Ok (parts_told p)
+parts_got (Err e) = Err e
 
 -- the words of a part that was read
-abbrev pub words_of : Part → List ℕ
-words_of Nothing = []
-words_of (Item item) = item ∷ []
-words_of (SlotPart slot) = slot_words slot
+abbrev pub words_told : Part → List ℕ
+words_told Nothing = []
+words_told (Item item) = item ∷ []
+words_told (SlotPart slot) = slot_words slot
 
 abbrev pub words_read : {E : Type 0} → Result Part E → Result (List ℕ) E
-words_read (Ok part) = Ok (words_of part)
+words_read (Ok part) = Ok (words_told part)
 words_read (Err e) = Err e
 
 -- what was read is this object, of at most `room` slots
-pub record Shows (object : Object) (room : ℕ) (found : ObjectRead) : Type 0 where
+pub record ShowsObject (object : Object) (room : ℕ) (found : ObjectRead) : Type 0 where
   pub slots : found.slots ≡ object.slots
   pub fits : object.slots ≤ room
   pub words : found.words.items ≡ object.words
@@ -47,7 +47,7 @@ pub record Shows (object : Object) (room : ℕ) (found : ObjectRead) : Type 0 wh
 
 -- an object, or that it has more slots than there is room for
 abbrev pub ShowsOr : Object → ℕ → Result ObjectRead ReachError → Type 0
-ShowsOr object room (Ok found) = Shows object room found
+ShowsOr object room (Ok found) = ShowsObject object room found
 ShowsOr object room (Err ReachLimit) = room < object.slots
 ShowsOr object room (Err OutOfMemory) = ⊤
 
@@ -65,7 +65,7 @@ IsBroken error slots (Err OutOfMemory) = ⊤
 
 -- how many reads a search takes at most: six for each object and two for each slot
 abbrev pub reach_cost : (ℕ → Object) → Result (List ReachObject) ReachError → ℕ
-reach_cost heap (Ok objects) = 6 * length objects + 2 * slots_of heap (addresses objects)
+reach_cost heap (Ok objects) = 6 * length objects + 2 * slots_in_all heap (addresses objects)
 reach_cost heap (Err error) = 6 * 2 ^ 20 + 2 * 2 ^ 24
 
 -- an entry of what a search has read, as it lists it

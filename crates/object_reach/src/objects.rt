@@ -3,7 +3,7 @@ ghost use Rattle.std.specs.Prelude.{◌≡◌, ◌+◌, ℕ};
 ghost use Rattle.process_memory.specs.Seen.{Reading};
 ghost use Rattle.py_fields.specs.Sound.{IsSound};
 ghost use Rattle.object_reach.specs.Objects.{object_at, object_of};
-ghost use Rattle.object_reach.specs.Reading.{IsBroken, ShowsOr, parts_of, slots_cost};
+ghost use Rattle.object_reach.specs.Reading.{IsBroken, ShowsOr, parts_told, slots_cost};
 
 use crate::parts::{Parts, add_words, read_part, read_parts};
 use crate::reached::ReachError;
@@ -53,7 +53,7 @@ fn read_words<P: ProcessMemory>(
     room: u64,
 ) -> Result<ObjectRead, ReachError>
     ensures { Reading (slots_cost room result) (P.seen process.old) (P.seen process.new)
-        (λ m. ShowsOr (object_of m (parts_of parts.now)) room result) }
+        (λ m. ShowsOr (object_of m (parts_told parts.now)) room result) }
 {
     let mut words = Vec::new(alloc);
     for number in 0..parts.count {

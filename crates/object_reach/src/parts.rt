@@ -3,8 +3,8 @@ ghost use Rattle.std.specs.Prelude.{◌≡◌, ◌++◌, OnOk};
 ghost use Rattle.process_memory.specs.Seen.{Reads};
 ghost use Rattle.py_fields.specs.Sound.{IsSound};
 ghost use Rattle.py_builtins.specs.ObjectError.{object_fault};
-ghost use Rattle.object_reach.specs.Objects.{dict_parts, item_parts, part_at, parts_at, parts_by, slot_parts, slot_words};
-ghost use Rattle.object_reach.specs.Reading.{parts_read, place_of, words_of, words_read};
+ghost use Rattle.object_reach.specs.Objects.{dict_parts, item_parts, part_words, parts_found, parts_by, slot_parts, slot_words};
+ghost use Rattle.object_reach.specs.Reading.{parts_got, spot_of, words_told, words_read};
 
 use crate::contents::{Contents, contents_of};
 use process_memory::ProcessMemory;
@@ -56,8 +56,8 @@ pub fn read_parts<P: ProcessMemory>(
     addr: u64,
 ) -> Result<Parts, ObjectError>
     requires sound { IsSound layout.now }
-    ensures { Reads object_fault 4 (P.seen process.old) (P.seen process.new) (λ m. parts_at layout.now m addr)
-        (parts_read result) }
+    ensures { Reads object_fault 4 (P.seen process.old) (P.seen process.new) (λ m. parts_found layout.now m addr)
+        (parts_got result) }
 {
     let class = read_type(alloc, process, layout, addr)?;
     let contents = contents_of(layout.bytes_text, class.flags);
@@ -74,7 +74,7 @@ fn read_contents<P: ProcessMemory>(
 ) -> Result<Parts, ObjectError>
     requires sound { IsSound layout.now }
     ensures { Reads object_fault 2 (P.seen process.old) (P.seen process.new)
-        (λ m. parts_by layout.now m addr contents) (parts_read result) }
+        (λ m. parts_by layout.now m addr contents) (parts_got result) }
 {
     match contents {
         Contents::Nothing => Ok(no_parts()),
@@ -99,7 +99,7 @@ fn read_dict<P: ProcessMemory>(
 ) -> Result<Parts, ObjectError>
     requires sound { IsSound layout.now }
     ensures { Reads object_fault 2 (P.seen process.old) (P.seen process.new)
-        (λ m. dict_parts layout.now.dicts layout.now m addr) (parts_read result) }
+        (λ m. dict_parts layout.now.dicts layout.now m addr) (parts_got result) }
 {
     match layout.dicts {
         Dicts::Absent => Ok(no_parts()),
@@ -114,7 +114,7 @@ fn read_slots<P: ProcessMemory>(
 ) -> Result<Parts, ObjectError>
     requires sound { IsSound layout.now }
     ensures { Reads object_fault 2 (P.seen process.old) (P.seen process.new) (λ m. slot_parts layout.now m addr)
-        (parts_read result) }
+        (parts_got result) }
 {
     let cursor = DictCursor::from(process, layout, addr)?;
     Ok(Parts {
@@ -132,7 +132,7 @@ fn read_sequence<P: ProcessMemory>(
 ) -> Result<Parts, ObjectError>
     requires sound { IsSound layout.now }
     ensures { Reads object_fault 1 (P.seen process.old) (P.seen process.new)
-        (λ m. item_parts layout.now m sequence addr) (parts_read result) }
+        (λ m. item_parts layout.now m sequence addr) (parts_got result) }
 {
     let items = read_items(alloc, process, layout, sequence, addr)?;
     Ok(Parts {
@@ -148,7 +148,7 @@ pub fn read_part<P: ProcessMemory>(
     number: u64,
 ) -> Result<Part, ObjectError>
     ensures { Reads object_fault 2 (P.seen process.old) (P.seen process.new)
-        (λ m. part_at m (place_of place.now) number) (words_read result) }
+        (λ m. part_words m (spot_of place.now) number) (words_read result) }
 {
     match place {
         Place::Nowhere => Ok(Part::Nothing),
@@ -159,7 +159,7 @@ pub fn read_part<P: ProcessMemory>(
 
 /// Adds the words of a part.
 pub fn add_words(words: &mut Vec<u64>, part: Part) -> Result<(), AllocFailed<u64>>
-    ensures { OnOk result (words.new.items ≡ words.old.items ++ words_of part) }
+    ensures { OnOk result (words.new.items ≡ words.old.items ++ words_told part) }
 {
     match part {
         Part::Item(item) => words.push(item),

@@ -7,7 +7,7 @@ ghost use Rattle.process_memory.specs.Seen.{Reading, items_of};
 ghost use Rattle.py_fields.specs.Sound.{IsSound};
 ghost use Rattle.object_reach.specs.declared.reached.ReachObject.{ReachObject};
 ghost use Rattle.object_reach.specs.declared.reached.ReachError.{ReachError};
-ghost use Rattle.object_reach.specs.Front.{Adds, IsApart, Overfills};
+ghost use Rattle.object_reach.specs.Front.{AddsToFront, IsApart, Overfills};
 ghost use Rattle.object_reach.specs.Objects.{IsNamed, object_at};
 ghost use Rattle.object_reach.specs.Reach.{IsRightReach};
 ghost use Rattle.object_reach.specs.Reading.{listed_as, reach_cost};
@@ -108,7 +108,7 @@ fn add_all(
 ) -> Result<(), ReachError>
     requires apart { IsApart (keys done.now) pending.old.keys }
     requires fits { length (keys done.now) + length pending.old.keys ≤ 2 ^ 20 }
-    ensures added { OnOk result (Adds (keys done.now) pending.old.keys (IsNamed words.now) pending.new.keys) }
+    ensures added { OnOk result (AddsToFront (keys done.now) pending.old.keys (IsNamed words.now) pending.new.keys) }
     ensures limit { IsErrOf result ReachError.ReachLimit
         → Overfills (keys done.now) pending.old.keys (IsNamed words.now) }
 {
@@ -128,7 +128,7 @@ fn add(
 ) -> Result<(), ReachError>
     requires apart { IsApart (keys done.now) pending.old.keys }
     requires fits { length (keys done.now) + length pending.old.keys ≤ 2 ^ 20 }
-    ensures added { OnOk result (Adds (keys done.now) pending.old.keys (λ a. a ≡ addr) pending.new.keys) }
+    ensures added { OnOk result (AddsToFront (keys done.now) pending.old.keys (λ a. a ≡ addr) pending.new.keys) }
     ensures limit { IsErrOf result ReachError.ReachLimit → Overfills (keys done.now) pending.old.keys (λ a. a ≡ addr) }
 {
     if done.contains_key(&addr) || pending.contains(&addr) {

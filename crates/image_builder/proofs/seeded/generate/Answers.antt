@@ -1,17 +1,17 @@
 use Rattle.std.proofs.Common.{◌≡◌, ◌∙◌, sym, ap, map, List, arith}
 use Rattle.std.specs.Prelude.{None}
 use Rattle.image_builder.specs.Generated.{each, thread_of, generated}
-use Rattle.image_builder.specs.Mirror.{thread_in}
+use Rattle.image_builder.specs.Mirror.{program_thread}
 use Rattle.image_builder.specs.Program.{Thread, Program}
 use Rattle.image_builder.proofs.Each.{each_none, one_more}
 use Rattle.image_builder.proofs.seeded.generate.Goals as goal
 
 pub loop-thread-init : goal.loop-thread-init
-loop-thread-init c = ap (map thread_in) c.new-threads.ensures.items ∙ sym (each_none (thread_of c.args.seed))
+loop-thread-init c = ap (map program_thread) c.new-threads.ensures.items ∙ sym (each_none (thread_of c.args.seed))
 
 pub loop-thread-preserved : goal.loop-thread-preserved
 loop-thread-preserved c =
-    one_more thread_in (thread_of c.args.seed) c.loop-thread.thread c.loop-thread.threads.items c.push.new.self.items c.in_ok-thread_of.field-0
+    one_more program_thread (thread_of c.args.seed) c.loop-thread.thread c.loop-thread.threads.items c.push.new.self.items c.in_ok-thread_of.field-0
     c.in_ok-push.ensures.items c.loop-thread.invariant c.in_ok-thread_of.ensures
 
 abbrev with_threads : List Thread → Program

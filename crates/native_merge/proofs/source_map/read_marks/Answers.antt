@@ -6,7 +6,7 @@ use Rattle.std.proofs.lemmas.Iterator.Consumers.{YieldsList-turn, YieldsList-end
 use Rattle.std.proofs.lemmas.Iterator.Splits.{YieldsList-from_lines}
 use Rattle.std.proofs.lemmas.List.{length_push}
 use Rattle.native_merge.specs.Paths.{cython_file}
-use Rattle.native_merge.specs.SourceMaps.{Adds}
+use Rattle.native_merge.specs.SourceMaps.{AddsMark}
 use Rattle.native_merge.proofs.Marks.{reads_all, reads_on, stay_same, stays}
 use Rattle.native_merge.proofs.source_map.read_marks.Goals as goal
 
@@ -33,8 +33,8 @@ loop-line-preserved g c =
     let line = c.in-Some.line.now in
     let t = YieldsList-turn (YieldsList-from_lines c.args.contents.now cc) c.loop-line.yielded _ c.loop-line.yielded_by _ _ c.in-Some.line c.in-Some.is c.next.ensures.steps in
     let is : line ≡ get_or ls c.loop-line.count line = subst (λ (k : ℕ). line ≡ get_or ls k line) (sym inv.counted) t.1 in
-    let adds : Adds (cython_file (seen c.args.sources.now).exists cpp named) c.loop-line.count line c.loop-line.marks.items c.add_mark.new.marks.items =
-    subst (λ (e : List ℕ → Bool). Adds (cython_file e cpp named) c.loop-line.count line c.loop-line.marks.items c.add_mark.new.marks.items) inv.stay.exists c.in_ok-add_mark.ensures.added in
+    let adds : AddsMark (cython_file (seen c.args.sources.now).exists cpp named) c.loop-line.count line c.loop-line.marks.items c.add_mark.new.marks.items =
+    subst (λ (e : List ℕ → Bool). AddsMark (cython_file e cpp named) c.loop-line.count line c.loop-line.marks.items c.add_mark.new.marks.items) inv.stay.exists c.in_ok-add_mark.ensures.added in
     record {
       counted = omega (arith, inv.counted, length_push c.loop-line.yielded c.in-Some.line);
       short = omega (arith, inv.short, c.if-count.false);

@@ -1,12 +1,12 @@
 use Rattle.std.proofs.Common.{refl, arith}
 use Rattle.std.specs.Prelude.{None}
 use Rattle.std.proofs.lemmas.Result.{err_from_is_err_and}
-use Rattle.object_reach.specs.Reading.{parts_of}
+use Rattle.object_reach.specs.Reading.{parts_told}
 use Rattle.object_reach.proofs.PartSteps.{filling_init, filling_more, filling_done, filling_over, filling_out, filling_lost}
 use Rattle.object_reach.proofs.objects.read_words.Goals as goal
 
 pub loop-number-init : goal.loop-number-init
-loop-number-init g c = rw c.new-words.ensures.items (filling_init (parts_of c.args.parts.now) _ c.args.room)
+loop-number-init g c = rw c.new-words.ensures.items (filling_init (parts_told c.args.parts.now) _ c.args.room)
 
 pub returns-in-Err : goal.returns-in-Err
 returns-in-Err g c = filling_lost c.in-Err.error c.broken.result c.loop-number.invariant c.loop-number-test.true c.in-Err.ensures c.broken.ensures

@@ -3,7 +3,7 @@ use Rattle.std.proofs.lemmas.Result.{err_from_is_err_and}
 use Rattle.process_memory.proofs.Reading.{reads_end, reads_halt, reads_next}
 use Rattle.py_builtins.specs.ObjectError.{object_fault}
 use Rattle.object_reach.specs.Objects.{slot_parts}
-use Rattle.object_reach.specs.Objects.PartsPlace.{SlotsAt}
+use Rattle.object_reach.specs.Objects.PartsSpot.{SlotsAt}
 use Rattle.object_reach.proofs.parts.read_slots.Goals as goal
 
 pub returns-in_err-cursor : goal.returns-in_err-cursor
