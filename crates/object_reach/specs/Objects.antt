@@ -104,7 +104,8 @@ object_with n (Err f) = record { slots = n; words = []; failure = Some f }
 
 -- the object that these parts make
 abbrev pub object_of : Memory → PartsRead → Object
-object_of m p = object_with (parts_in_front (part_words m p.place) p.count) (words_of_first (part_words m p.place) p.count)
+object_of m p =
+    object_with (parts_in_front (part_words m p.place) p.count) (words_of_first (part_words m p.place) p.count)
 
 abbrev pub object_by : Memory → Found PartsRead → Object
 object_by m (Err f) = object_with 0 (Err f)
