@@ -42,8 +42,9 @@ fn read_by_offsets<P: ProcessMemory>(
     word_past(process, runtime, head)
 }
 
-/// The head that symbols give, by the layout's family. At most 2 reads.
-fn read_head<M: ContainsAddr, P: ProcessMemory>(
+/// The head that symbols give, by the layout's family; nothing where there is no such symbol, or something on the way
+/// is not in memory. The one error is want of memory. At most 2 reads.
+pub fn read_head<M: ContainsAddr, P: ProcessMemory>(
     alloc: Global,
     info: &PythonProcessInfo<M>,
     process: &mut P,

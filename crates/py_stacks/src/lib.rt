@@ -29,9 +29,14 @@ pub use config::Config;
 pub use error::StackError;
 pub use holder::get_gil_threadid;
 pub use interpreter::{get_first_thread, is_interpreter, is_interpreter_from};
+pub use lines::{first_line, offset_of, read_line};
+pub use locals::read_locals;
+pub use members::{is_entered, is_hidden};
 pub use py_names::{NamesError, thread_names_from_interpreter};
+pub use records::{Records, read_records};
 pub use stacks::{get_stack_trace, get_stack_traces};
 pub use stacks_over::get_stack_over;
+pub use threads::{first_frame, native_id};
 pub use trace::{Addresses, Frame, LocalVariable, StackTrace};
 
 #[cfg(test)]

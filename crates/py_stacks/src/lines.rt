@@ -29,7 +29,7 @@ fn family_of(lines: Lines) -> LineFamily
 
 /// The line on which a frame's code begins.
 #[tactic(auto, unfolding(crate::specs::Lines::first_line))]
-fn first_line(layout: &Layout, records: &Records) -> i32
+pub fn first_line(layout: &Layout, records: &Records) -> i32
     requires sound { IsSound layout.now }
     requires whole { AreWhole layout.now records.now }
     ensures { result ≡ first_line layout.now (member_of records.now) }
@@ -54,9 +54,10 @@ fn offset_by(layout: &Layout, records: &Records) -> i128
     }
 }
 
-/// The same, where it is an i32.
+/// How far into its code a frame's last instruction stands, in bytes, where that is an i32: below 0 in a frame that
+/// stands before its first one.
 #[tactic(auto, unfolding(crate::specs::Lines::offset_of))]
-fn offset_of(layout: &Layout, records: &Records) -> Option<i32>
+pub fn offset_of(layout: &Layout, records: &Records) -> Option<i32>
     requires sound { IsSound layout.now }
     requires whole { AreWhole layout.now records.now }
     ensures { result ≡ offset_of layout.now (member_of records.now) }
@@ -105,7 +106,7 @@ fn read_table<P: ProcessMemory>(
 /// The line of the frame that has these records: the one that is asked for, and 0 where there is none. The one
 /// error is want of memory. At most 2 reads, of the line table, and none where it is not asked for.
 #[tactic(auto, unfolding(crate::specs::Lines::line_at, crate::specs::Lines::line_by))]
-pub(crate) fn read_line<P: ProcessMemory>(
+pub fn read_line<P: ProcessMemory>(
     alloc: Global,
     process: &mut P,
     layout: &Layout,

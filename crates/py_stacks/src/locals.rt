@@ -175,7 +175,7 @@ fn read_known<P: ProcessMemory>(
 /// with the word that names it, then with its name, `BadValue` with a name that is no text, and `Unreadable`
 /// with its slot. Else it is want of memory. At most 1 read, and 4 for each variable; none where they are not
 /// asked for.
-pub(crate) fn read_locals<P: ProcessMemory>(
+pub fn read_locals<P: ProcessMemory>(
     alloc: Global,
     process: &mut P,
     layout: &Layout,

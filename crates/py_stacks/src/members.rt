@@ -37,7 +37,7 @@ pub(crate) fn code_of(at: &FrameAt, frame: &[u8]) -> u64
 
 /// Whether a C call entered the frame; each one counts as entered where the layout does not say.
 #[tactic(auto, unfolding(crate::specs::Frames::is_entered, elf64_core::specs::Fields::u8_in))]
-fn is_entered(at: &FrameAt, frame: &[u8]) -> bool
+pub fn is_entered(at: &FrameAt, frame: &[u8]) -> bool
     requires { (entry : ℕ) → at.now.entry ≡ Some entry → entry + 1 ≤ length frame.now }
     ensures { result ≡ is_entered at.now frame.now }
 {
@@ -49,7 +49,7 @@ fn is_entered(at: &FrameAt, frame: &[u8]) -> bool
 
 /// Whether no frame is shown under this file name.
 #[tactic(auto, unfolding(crate::specs::Frames::is_hidden))]
-fn is_hidden(file: &Text) -> bool
+pub fn is_hidden(file: &Text) -> bool
     ensures { result ≡ is_hidden file.now }
 {
     let name = file.as_str();

@@ -14,13 +14,18 @@ use process_memory::{ProcessMemory, record_in};
 use py_fields::Layout;
 use std::alloc::Global;
 
-/// The two records of a member, with their addresses.
-#[derive(Drop)]
-pub(crate) struct Records {
-    pub(crate) frame_at: u64,
-    pub(crate) frame: Vec<u8>,
-    pub(crate) code_at: u64,
-    pub(crate) code: Vec<u8>,
+/// The two records of a member of a thread's chain of frames, with their addresses. A buffer of them is used again
+/// from member to member, and may have any length before it is read into.
+#[derive(Debug, Drop)]
+pub struct Records {
+    /// The address of the frame record.
+    pub frame_at: u64,
+    /// The bytes of the frame record.
+    pub frame: Vec<u8>,
+    /// The address of the code record, with the tag bits of the frame's word for it cleared.
+    pub code_at: u64,
+    /// The bytes of the code record.
+    pub code: Vec<u8>,
 }
 
 /// The room of a walk.
@@ -63,8 +68,10 @@ pub(crate) fn read_bytes<P: ProcessMemory>(
     Ok(())
 }
 
-/// Reads the two records of the member at an address. At most 2 reads.
-pub(crate) fn read_records<P: ProcessMemory>(
+/// Reads the two records of the member at an address into buffers, which have the sizes that the layout says after.
+/// `Unreadable` comes with the frame record, and then with the code record; else the error is want of memory. At
+/// most 2 reads.
+pub fn read_records<P: ProcessMemory>(
     process: &mut P,
     layout: &Layout,
     at: u64,

@@ -19,7 +19,7 @@ use std::alloc::Global;
 const THREAD_LIMIT: usize = 4096;
 
 /// The system's id of a thread, where the layout has it.
-fn native_id(at: Option<u32>, thread: &[u8]) -> Option<u64>
+pub fn native_id(at: Option<u32>, thread: &[u8]) -> Option<u64>
     requires { (place : ℕ) → at ≡ Some place → place + 8 ≤ length thread.now }
     ensures { result ≡ native_id at thread.now }
 {
@@ -30,9 +30,10 @@ fn native_id(at: Option<u32>, thread: &[u8]) -> Option<u64>
 }
 
 /// The first frame of a thread: the one that its record names, or the one that the C frame names which
-/// its record names. At most 1 read.
+/// its record names. `Unreadable` comes with the C frame's word; else the error is want of memory. At most 1
+/// read.
 #[tactic(auto, unfolding(crate::specs::Threads::first_frame_at))]
-fn first_frame<P: ProcessMemory>(
+pub fn first_frame<P: ProcessMemory>(
     process: &mut P,
     layout: &Layout,
     thread: &[u8],
