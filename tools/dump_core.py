@@ -4,6 +4,7 @@
     tools/dump_core.py CORE
     tools/dump_core.py CORE -l -j            # with locals, as JSON: words of the program
     tools/dump_core.py CORE --root FOLDER    # where the core is that of a container, whose files are below FOLDER
+    tools/dump_core.py --group CORE..        # cores grouped by their stacks: `pystacks triage`
 
 The text and the status are those of the program. Handed over are the layouts of all versions on the core's machine and
 the images of the files that the process had mapped: that of Python's library and that of the program that ran, into
@@ -23,6 +24,7 @@ sys.dont_write_bytecode = True
 
 from core_maps import Use, Wanted, build_id, builds_in, is_text, machine_of, maps_of, wanted_files
 from core_gaps import entries_in
+from core_group import Apart, Core, run_group, shared_files, shared_machine
 from core_prepare import Prepared, Unprepared, Wishes, available, prepared
 from core_run import run_over
 from core_tables import Entry
@@ -213,7 +215,7 @@ def ready(core: Optional[BinaryIO], words: argparse.Namespace) -> Optional[Prepa
         print(f"dump_core: the core needs no preparing, and {words.keep} isn't written", file=sys.stderr, flush=True)
     length = os.fstat((new.file if new else core).fileno()).st_size
     if room is not None and room < length <= LONGEST:
-        line = f"{shown(os.fsencode(words.core))} has {length} bytes, more than half of the {free} that are free"
+        line = f"{shown(os.fsencode(core.name))} has {length} bytes, more than half of the {free} that are free"
         raise Fault(f"{line} (--anyway tries it)", NO_ROOM)
     return new
 
@@ -227,43 +229,72 @@ def layouts_of(machine: Optional[int]) -> Path:
     return LAYOUTS.with_name(f"cpython-{MACHINES[machine]}.toml")
 
 
-def command_of(words: argparse.Namespace, core: str, machine: Optional[int]) -> List[bytes]:
-    """The program's words without those of images."""
-    layouts = os.fspath(words.layouts or layouts_of(machine))
-    program = words.program or PROGRAM
-    command = [os.fsencode(it) for it in (program, "dump", f"--core={core}", f"--layouts={layouts}")]
-    command += [b"-l"] * words.locals + [b"-j"] * words.json
-    for word in [os.fsencode(words.core), *command[1:]]:
+def as_words(parts: List[str], names: List[str]) -> List[bytes]:
+    """Some words of the program's; these and the user's names have to be text."""
+    command = [os.fsencode(it) for it in parts]
+    for word in [*(os.fsencode(it) for it in names), *command[1:]]:
         if not is_text(word):
             raise Fault(f"a name that is not UTF-8 can't be handed over: {shown(word)}", BAD_WORDS)
     return command
 
 
+def command_of(words: argparse.Namespace, core: str, machine: Optional[int]) -> List[bytes]:
+    """The program's words without those of images."""
+    layouts = os.fspath(words.layouts or layouts_of(machine))
+    parts = [os.fspath(words.program or PROGRAM), "dump", f"--core={core}", f"--layouts={layouts}"]
+    return as_words(parts, words.core) + [b"-l"] * words.locals + [b"-j"] * words.json
+
+
+def group(words: argparse.Namespace) -> int:
+    """Runs the program over several cores, and returns its status."""
+    cores = []
+    for name in words.core:
+        if "=" in name:
+            raise Fault(f"a core's path with an equals sign can't be grouped: {shown(os.fsencode(name))}", BAD_WORDS)
+        file = opened(name)
+        new = ready(file, words)
+        cores.append(Core(os.fsencode(name), new.file if new else file, bool(new)))
+    try:
+        machine, files = shared_machine(cores), shared_files(cores)
+    except Apart as reason:
+        raise Fault(f"{reason}: group them apart", BAD_WORDS) from None
+    layouts = os.fspath(words.layouts or layouts_of(machine))
+    command = as_words([os.fspath(words.program or PROGRAM), "triage", layouts], words.core)
+    command += [core.word for core in cores]
+    return run_group(command + image_words(files, os.fsencode(words.root), machine), cores)
+
+
 def run(words: argparse.Namespace) -> int:
-    """Becomes the program, or runs it over the core that was prepared, and returns its status."""
+    """Becomes the program, or runs it over what was prepared, and returns its status."""
     program = words.program or PROGRAM
     if not os.path.isfile(program):
         raise Fault(f"there is no program {shown(os.fsencode(program))}: {BUILD} builds it", NO_PROGRAM)
     if words.root and not os.path.isdir(words.root):
         raise Fault(f"there is no folder {shown(os.fsencode(words.root))}", BAD_WORDS)
-    core = opened(words.core)
+    try:
+        return group(words) if words.group else show(words, words.core[0])
+    except OSError as error:
+        raise Fault(f"cannot run {shown(os.fsencode(program))}: {error.strerror}", NO_PROGRAM) from None
+
+
+def show(words: argparse.Namespace, name: str) -> int:
+    """Becomes the program, or runs it over the core that was prepared, and returns its status."""
+    core = opened(name)
     new = ready(core, words)
     machine, files = read_core(new.file if new else core)
-    command = command_of(words, f"/proc/self/fd/{new.file.fileno()}" if new else words.core, machine)
+    command = command_of(words, f"/proc/self/fd/{new.file.fileno()}" if new else name, machine)
     shown_files = [it for it in files if words.locals or it.use is not Use.MEMORY]
     command += image_words(shown_files, os.fsencode(words.root), machine)
-    try:
-        if new:
-            return run_over(command, new.file.fileno(), os.fsencode(words.core))
-        os.execv(command[0], command)
-    except OSError as error:
-        raise Fault(f"cannot run {shown(command[0])}: {error.strerror}", NO_PROGRAM) from None
+    if new:
+        return run_over(command, new.file.fileno(), os.fsencode(name))
+    os.execv(command[0], command)
 
 
 def main() -> int:
     """The command."""
     parser = argparse.ArgumentParser(description=__doc__.splitlines()[0])
-    parser.add_argument("core", metavar="CORE", help="the core's file")
+    parser.add_argument("core", metavar="CORE", nargs="+", help="the core's file; several with --group")
+    parser.add_argument("--group", action="store_true", help="group the cores by their stacks")
     parser.add_argument("-l", "--locals", action="count", default=0, help="show locals; twice, longer ones")
     parser.add_argument("-j", "--json", action="store_true", help="as JSON")
     parser.add_argument("--root", metavar="DIR", default="", help="look for the mapped files below this folder")
@@ -272,8 +303,13 @@ def main() -> int:
     parser.add_argument("--keep", metavar="FILE", default="", help="keep the core that was prepared in this new file")
     parser.add_argument("--maps", metavar="FILE", default="", help="the process's maps, for a core without a file table")
     parser.add_argument("--anyway", action="store_true", help="read a core that is longer than half of the free memory")
+    words = parser.parse_args()
+    if words.group and (words.locals or words.json or words.keep or words.maps):
+        parser.error("--group takes no -l, -j, --keep and --maps")
+    if len(words.core) > 1 and not words.group:
+        parser.error("several cores are taken with --group alone")
     try:
-        return run(parser.parse_args())
+        return run(words)
     except Fault as fault:
         print(f"dump_core: {fault}", file=sys.stderr)
         return fault.status

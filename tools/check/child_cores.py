@@ -88,6 +88,8 @@ class Told:
     """The address of what was handed to the function `hold`, where a thread is in it."""
     maps: str = ""
     """What /proc/self/maps had shortly before."""
+    led: Optional[Tuple[int, List[int]]] = None
+    """The place of that thread in the interpreter's chain, and the addresses of what its locals lead to."""
 
 
 @dataclass(frozen=True)
@@ -168,7 +170,7 @@ def told_from(line: str, derived: Derived) -> Told:
     # (the child lists threads from the first of the chain on, and they are printed from the last)
     pid, arguments = told["process"]
     head = f"Process {pid}: {arguments}\nPython v{told['version']}\n\n"
-    return Told(told["interpreter"], lock_told(told, derived), threads[::-1], head, told["held"], told["maps"])
+    return Told(told["interpreter"], lock_told(told, derived), threads[::-1], head, told["held"], told["maps"], told["led"])
 
 
 def ended(command: List[str], folder: Path) -> Tuple[int, str]:

@@ -12,7 +12,8 @@ process, version, threads and their names, functions, files and lines. Where it 
 all its runs of zero pages, its report must be the same. Names are left out where the layout that was
 derived has no dicts. Where the program `listing` is built, a core in which only those bytes of its memory are left that
 are read for the stacks must have the same stacks. What can't be tried here has one line that says why. The status is 0
-exactly where nothing that was tried failed.
+exactly where nothing that was tried failed. The cores are grouped too, and what the locals of a thread lead to is compared
+with what the process found itself (real_groups.py).
 """
 
 import argparse
@@ -44,6 +45,7 @@ from find_pythons import pythons
 from footprints import Footprint, blotted, footprint_of
 from layout_plan import plan_of
 from layout_swaps import swaps
+from real_groups import check_objects, groups_text, kept
 
 
 HOLDER_IN_DUMP = True
@@ -297,6 +299,22 @@ def check_footprint(program: Path, listing: Path, core: Core, layouts: Path, bui
     return footprint
 
 
+def check_groups(program: Path, cores: Sequence[Core], names: Sequence[Sequence[Path]], layouts: Path) -> None:
+    """Fails where cores of one build, each under two names, aren't grouped by the stacks that the processes told."""
+    words = [own[turn] for turn in (0, 1) for own in names]
+    images = dict.fromkeys(word for own in names for word in images_of(own[0], False))
+    check_report(ran([program, "triage", layouts, *words, *images]), groups_text(cores, names))
+
+
+def check_reach(program: Path, core: Core, layouts: Path) -> int:
+    """Fails where a thread's locals don't lead to what the process found. Returns to how many objects they lead."""
+    assert core.told.led
+    run = ran([program, "reach", core.path, layouts, core.told.led[0], *images_of(core.path)])
+    if run.status != 0:
+        raise Failure(f"reach ended with status {run.status}: {run.err}")
+    return check_objects(run.out, core.told.led[1])
+
+
 def notice_wrong(program: Path, core: Core, room: Path, derived: Derived) -> None:
     """Fails where a wrong layout isn't noticed: one in which functions and files have changed places, and, over a core
     whose lock is free, one that takes another number for the mark of a lock that is held."""
@@ -390,6 +408,8 @@ def over_core(program: Path, derived: Derived, core: Core, room: Path) -> Walk:
         notice_wrong(program, core, room, derived)
     check_dump(program, core, layouts, derived)
     check_prepared(program, core, layouts)
+    if core.told.led and derived.with_dicts:
+        check_reach(program, core, layouts)
     return run
 
 
@@ -420,11 +440,12 @@ def tried(program: Path, python: str, names: str, listing: Optional[Path] = None
     build = build_of(python)
     derived = derived_for(build)
     stored = as_stored(derived, ROOT / "layouts")
-    cores, runs, sizes, footprints = [], [], [], []
+    cores, runs, sizes, footprints, kept_names = [], [], [], [], []
     with tempfile.TemporaryDirectory(prefix="real-core-") as name:
         for core in cores_of(derived, names, Path(name)):
             cores.append(core)
             sizes.append(core.path.stat().st_size)
+            kept_names.append(kept(core, Path(name), len(kept_names)))
             try:
                 runs.append(over_core(program, derived, core, Path(name)))
                 if listing and not core.case.is_usual:
@@ -432,6 +453,7 @@ def tried(program: Path, python: str, names: str, listing: Optional[Path] = None
             except Failure as reason:
                 usual = " (usual)" if core.case.is_usual else ""
                 raise Failure(f"core '{core.case.who}'{usual}: {reason}") from reason
+        check_groups(program, cores, kept_names, Path(name) / "layout.toml")
     size, memory = f"{sizes[0] / 2**20:.1f}", f"{runs[0].kilobytes / 1024:.1f}"
     return row(build.dotted, size, f"{runs[0].seconds:.3f}", memory, what_of(cores, derived, stored, footprints))
 

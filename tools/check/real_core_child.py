@@ -21,6 +21,7 @@ The third is what the core is to hold, as the system's coredump_filter has it.
 
 import ctypes
 import dis
+import gc
 import json
 import os
 import sys
@@ -224,6 +225,31 @@ def stacks(natives):
     return [(ident, frames_from(frames[ident])) for ident in order]
 
 
+def led_from(frame):
+    """The addresses of what the locals of a frame and its callers lead to, by way of lists, tuples and dicts alone. A
+    local that an inner function shares is left out."""
+    found, rest = {}, []
+    while frame is not None:
+        names = [it for it in frame.f_code.co_varnames if it not in frame.f_code.co_cellvars]
+        rest.extend(frame.f_locals[name] for name in names if name in frame.f_locals)
+        frame = frame.f_back
+    while rest:
+        it = rest.pop()
+        if id(it) not in found:
+            found[id(it)] = it
+            if type(it) in (list, tuple, dict):
+                rest.extend(gc.get_referents(it))
+    return sorted(found)
+
+
+def led(natives):
+    """The place of the thread that stands below `hold`, and what its locals lead to."""
+    for at, (ident, frames) in enumerate(stacks(natives)):
+        if any(name == "hold" for name, _, _ in frames):
+            return at, led_from(sys._current_frames()[ident])
+    return None
+
+
 HELD = []
 """The addresses of what was handed to `hold`."""
 
@@ -239,6 +265,7 @@ def report(natives, names, gil, leave, is_free):
         "gil": ctypes.c_uint64.from_address(address + gil).value if gil >= 0 else None,
         "holder": None if is_free else own,
         "held": HELD[0] if HELD else None,
+        "led": led(natives),
         "version": sys.version.split()[0],
         "process": [os.getpid(), arguments()],
         "maps": maps(),

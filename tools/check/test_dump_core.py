@@ -328,6 +328,57 @@ ffff00000000-ffff00001000 r--p 00000000 00:01 5              /\xff
 """Such lines as /proc/PID/maps has."""
 
 
+class Groups(Case):
+    """Several cores, handed over with the images of all."""
+
+    def setUp(self):
+        super().setUp()
+        self.python = self.put("bin/python3.9", b"p")
+        self.library = self.put("lib/libpython3.9.so.1.0", built(1) + bytes(100))
+
+    def cores(self, *data: bytes) -> List[bytes]:
+        """Some cores, by their paths."""
+        return [self.put(f"core{number}", it) for number, it in enumerate(data)]
+
+    def test_images(self):
+        first = core_file([mapped(0x1000, self.python)])
+        second = core_file([mapped(0x1000, self.library, 4, built(1)), mapped(0x2000, self.library), mapped(0x3000, self.python)])
+        cores = self.cores(first, second, b"none", first)
+        status, out, said = self.tool("--group", *cores)
+        images = [it + b"=" + it for it in (self.python, self.library)]
+        self.assertEqual((status, said), (0, ""))
+        self.assertEqual(out.split(b"\0"), [b"triage", os.fsencode(LAYOUTS), *cores, *images])
+
+    def test_apart(self):
+        one, two = (core_file([mapped(0x1000, self.library, 5, built(number))]) for number in (1, 2))
+        cores = self.cores(core_file([mapped(0x1000, self.library)]), one, two)
+        status, out, said = self.tool("--group", *cores)
+        self.assertEqual((status, out), (2, b""))
+        self.assertIn(f"{os.fsdecode(cores[1])} and {os.fsdecode(cores[2])} have different builds of", said)
+        cores = self.cores(b"none", one, core_file([mapped(0x1000, self.python)], machine=AARCH64))
+        status, out, said = self.tool("--group", *cores)
+        self.assertEqual((status, out), (2, b""))
+        self.assertIn(f"{os.fsdecode(cores[1])} and {os.fsdecode(cores[2])} are of different machines", said)
+
+    def test_words(self):
+        core = self.put("a=b", core_file([mapped(0x1000, self.python)]))
+        for words in (["--group", core], ["--group", "-l", core], [core, core], ["--group"]):
+            status, out, said = self.tool(*words)
+            self.assertEqual((status, out), (2, b""), said)
+
+    def test_prepared(self):
+        # (what is a core no more than in its front half is prepared, and has another name)
+        data = core_file([mapped(0x1000, self.python), mapped(0x2000, data=bytes(0x2000))])
+        cores = self.cores(data, data[:-0x1000], b"none")
+        if os.path.isfile(PROGRAM):
+            status, out, said = self.tool("--group", *cores, program=PROGRAM)
+            line = "    {}: bad image: " + os.fsdecode(self.python) + "\n"
+            names = [os.fsdecode(it) for it in cores]
+            none = f"    {names[2]}: not an ELF64 little-endian file\n"
+            wanted = "Refused: 3\n" + line.format(names[0]) + line.format(names[1]) + none
+            self.assertEqual((status, out.decode()), (0, wanted), said)
+
+
 class Tables(Case):
     """A file table that is written into a core."""
 

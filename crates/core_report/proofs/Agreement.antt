@@ -21,7 +21,7 @@ use Rattle.py_layout.proofs.Answering.{right-unique}
 use Rattle.py_process.specs.declared.core_error.CoreError.{CoreError}
 use Rattle.py_process.specs.declared.core_error.CoreError.TheVariants as core
 use Rattle.core_words.specs.Dump.{Dump}
-use Rattle.core_words.specs.Words.{Command, LayoutSource, Walk, dump, walk, sample, file}
+use Rattle.core_words.specs.Words.{Command, LayoutSource, Reach as AsksReach, Triage, Walk, dump, reach, triage, walk, sample, file}
 use Rattle.core_texts.specs.Text.{walk_text}
 use Rattle.core_stacks.specs.Answer.{IsWalkable}
 use Rattle.py_process.proofs.ReportLaws.{report_agree}
@@ -29,8 +29,15 @@ use Rattle.core_stacks.proofs.ReportLaws.{report_complete}
 use Rattle.core_stacks.proofs.Layouts.{NoneClash, chooses_once}
 use Rattle.core_stacks.proofs.Walked.{walk_agree as walks_agree, walk_complete}
 use Rattle.core_report.specs.declared.cause.Cause.{Cause}
-use Rattle.core_report.specs.declared.cause.Cause.TheVariants.{Core, Layouts, OutOfMemory}
-use Rattle.core_report.specs.Outcome.{IsDumpOutcome, IsDumpedBy, IsFaultless, IsFaultlessDump, IsFaultlessWalk, IsOutcome, IsReported, IsShown, IsWalkOutcome, IsWalkedBy, Outcome, ReportAnswers, SourceSays, OutcomeThen, WalkAnswers, cause_status, core_status, images_read, layouts_status, outcome_status, shown_report}
+use Rattle.core_report.specs.declared.cause.Cause.TheVariants.{Core, Layouts, Reach, ReachIndex, OutOfMemory}
+use Rattle.object_reach.specs.declared.reached.ReachError.{ReachError}
+use Rattle.object_reach.specs.declared.reached.ReachError.TheVariants as reaching
+use Rattle.std.proofs.lemmas.Option.{same_Some, none-some}
+use Rattle.py_process.proofs.Agreement.{err_is, ok_is, ok_kept, ok_not_err}
+use Rattle.core_report.specs.Reading.{HasFlaw}
+use Rattle.core_report.specs.Stacked.{LeadsTo, Stacked, StackedIs, locals_asked, reach_text}
+use Rattle.core_report.proofs.Stacked.{stacked_agree, unstacked}
+use Rattle.core_report.specs.Outcome.{IsDumpOutcome, IsDumpedBy, IsFaultless, IsFaultlessDump, IsFaultlessReach, IsFaultlessTriage, IsFaultlessWalk, IsOutcome, IsOwnCause, IsReachOutcome, IsReachedBy, IsReachedFrom, IsReachedIn, IsReported, IsTriageOutcome, IsTriagedBy, reach_status, IsShown, IsWalkOutcome, IsWalkedBy, Outcome, ReportAnswers, SourceSays, OutcomeThen, WalkAnswers, cause_status, core_status, images_read, layouts_status, outcome_status, shown_report}
 
 -- one sound layout is a sound list
 pub one_sound : (l : Layout) → IsSound l → AreSound (l ∷ [])
@@ -45,9 +52,9 @@ abbrev pub Agree : (Outcome → Type 0) → Type 0
 Agree Right = (a b : Outcome) → Right a → Right b → outcome_status a ≢ 5 → outcome_status b ≢ 5
     → outcome_status a ≡ outcome_status b
 
--- no cause is right but want of memory
+-- no cause is right but want of memory, and those that a command has of its own
 abbrev pub NoCause : (Outcome → Type 0) → Type 0
-NoCause Right = (cause : Cause) → cause_status cause ≢ 5 → Right (Err cause) → ⊥
+NoCause Right = (cause : Cause) → cause_status cause ≢ 5 → Right (Err cause) → IsOwnCause cause
 
 -- ---- two steps
 
@@ -79,7 +86,7 @@ pub then_sound : {T E : Type 0} (as_cause : E → Cause) (First : Result T E →
     → ((e : E) → First (Err e) → cause_status (as_cause e) ≢ 5 → ⊥) → ((x : T) → First (Ok x) → NoCause (Rest x))
     → NoCause (OutcomeThen as_cause First Rest)
 then_sound as_cause First Rest first rest cause ne right = ⊎_elim
-    (λ p. first p.0 p.2 (λ five. ne (ap outcome_status p.1 ∙ five))) (λ p. rest p.0 p.1 cause ne p.2) right
+    (λ p. absurd (first p.0 p.2 (λ five. ne (ap outcome_status p.1 ∙ five)))) (λ p. rest p.0 p.1 cause ne p.2) right
 
 -- ---- layouts
 
@@ -181,11 +188,14 @@ core_exclude First apart = record {
   alike = λ e f one other ne nf. (core_one e ne).0 ∙ sym (core_one f nf).0;
 }
 
+cause_is : (a b : Cause) → ◌≡◌ {A = Outcome} (Err a) (Err b) → a ≡ b
+cause_is a b is = cc
+
 text_agree : (s t : List ℕ) (a b : Outcome) → a ≡ Ok s → b ≡ Ok t → outcome_status a ≡ outcome_status b
 text_agree s t a b one other = ap outcome_status one ∙ sym (ap outcome_status other)
 
 text_sound : (text : List ℕ) → NoCause (λ outcome. outcome ≡ Ok text)
-text_sound text cause ne is = cc is
+text_sound text cause ne is = absurd (cc is)
 
 -- ---- walks
 
@@ -220,7 +230,7 @@ walked_sound w bytes list apart good = then_sound (λ error. Core error) (WalkAn
     (λ traces found. text_sound (walk_text w.version traces.items))
 
 walk_sound : (w : Walk) (contents : List (List ℕ)) → IsFaultlessWalk w contents → NoCause (IsWalkOutcome w contents)
-walk_sound w [] good cause ne is = good
+walk_sound w [] good cause ne is = absurd good
 walk_sound w (bytes ∷ rest) (list, says, good) cause ne is =
     layouts_sound (SourceSays w.layouts rest) (IsWalkedBy w bytes) (source_unique w.layouts rest) list says
     (walked_sound w bytes list (source_apart w.layouts rest list says) good) cause ne is
@@ -262,21 +272,107 @@ dumped_sound d bytes images list apart good = then_sound (λ error. Core error) 
     (λ r found. text_sound (shown_report d r))
 
 dump_sound : (d : Dump) (contents : List (List ℕ)) → IsFaultlessDump d contents → NoCause (IsDumpOutcome d contents)
-dump_sound d [] good cause ne is = good
-dump_sound d (bytes ∷ []) good cause ne is = good
+dump_sound d [] good cause ne is = absurd good
+dump_sound d (bytes ∷ []) good cause ne is = absurd good
 dump_sound d (bytes ∷ text ∷ images) (list, says, good) cause ne is =
     layouts_sound (IsRightFor text) (IsDumpedBy d bytes (images_read d.images images)) (right-unique text) list says
     (dumped_sound d bytes (images_read d.images images) list (text_apart text list says) good) cause ne is
+
+-- ---- cores in groups
+
+triaged_agree : (t : Triage) (contents : List (List ℕ)) (list : List Layout) → Agree (IsTriagedBy t contents list)
+triaged_agree t contents list a b (s, one, is) (u, other, same) na nb = text_agree s u a b is same
+
+triage_agree : (t : Triage) (contents : List (List ℕ)) → Agree (IsTriageOutcome t contents)
+triage_agree t [] a b one other na nb = absurd one
+triage_agree t (text ∷ contents) a b one other na nb =
+    layouts_agree (IsRightFor text) (IsTriagedBy t contents) (right-unique text) (λ list says. triaged_agree t contents list) a b one other na nb
+
+triage_sound : (t : Triage) (contents : List (List ℕ)) → IsFaultlessTriage t contents → NoCause (IsTriageOutcome t contents)
+triage_sound t [] good cause ne is = absurd good
+triage_sound t (text ∷ contents) (list, says) cause ne is =
+    layouts_sound (IsRightFor text) (IsTriagedBy t contents) (right-unique text) list says (λ c n p. text_sound p.0 c n p.2) cause ne is
+
+-- layouts that are right have no flaw
+pub flawless : (text : List ℕ) (list : List Layout) → IsRightFor text (Ok list) → ¬ HasFlaw text
+flawless text list says h = flaw_apart (IsRightFor text) (right-unique text) list h.flaw h.not_memory says h.is
+
+-- ---- what locals lead to
+
+stacked_apart : (bytes : List ℕ) (images : Pushed) (list : List Layout) → NoneClash list → (s : Stacked) (e : CoreError)
+    → StackedIs bytes images list locals_asked (Ok s) → StackedIs bytes images list locals_asked (Err e) → e ≢ core.OutOfMemory → ⊥
+stacked_apart bytes images list apart s e one other ne =
+    ok_not_err s e (stacked_agree bytes images list locals_asked (chooses_once list apart) (Ok s) (Err e) one other
+    (ok_not_err s core.OutOfMemory) (λ is. ne (err_is e core.OutOfMemory is)))
+
+reach_own : (e : ReachError) → reach_status e ≢ 5 → e ≡ reaching.ReachLimit
+reach_own reaching.ReachLimit ne = refl
+reach_own reaching.OutOfMemory ne = absurd (ne refl)
+
+led_exclude : (s : Stacked) (thread : Trace) → Excludes (λ error. Reach error) (LeadsTo s thread)
+led_exclude s thread = record {
+  apart = λ objects e one other ne. one.1 (subst (λ x. LeadsTo s thread (Err x)) (reach_own e ne) other);
+  alike = λ e f one other ne nf. ap reach_status (reach_own e ne) ∙ sym (ap reach_status (reach_own f nf));
+}
+
+from_agree : (s : Stacked) (thread : Trace) → Agree (IsReachedFrom s thread)
+from_agree s thread = then_agree (λ error. Reach error) (LeadsTo s thread) (λ objects text. text ≡ Ok (reach_text objects))
+    (led_exclude s thread) (λ x y one other a b p q na nb. text_agree _ _ a b p q)
+
+in_agree : (index : ℕ) (s : Stacked) → Agree (IsReachedIn index s)
+in_agree index s a b (inl one) (inl other) na nb = ap outcome_status one.1 ∙ sym (ap outcome_status other.1)
+in_agree index s a b (inl one) (inr other) na nb = absurd (none-some other.0 (sym one.0 ∙ other.1))
+in_agree index s a b (inr one) (inl other) na nb = absurd (none-some one.0 (sym other.0 ∙ one.1))
+in_agree index s a b (inr one) (inr other) na nb =
+    from_agree s one.0 a b one.2 (subst (λ t. IsReachedFrom s t b) (same_Some _ _ (sym other.1 ∙ one.1)) other.2) na nb
+
+reached_agree : (r : AsksReach) (bytes : List ℕ) (images : Pushed) (list : List Layout) → NoneClash list → Agree (IsReachedBy r bytes images list)
+reached_agree r bytes images list apart = then_agree (λ error. Core error) (StackedIs bytes images list locals_asked) (IsReachedIn r.index)
+    (core_exclude (StackedIs bytes images list locals_asked) (stacked_apart bytes images list apart))
+    (λ s t one other a b p q na nb. in_agree r.index s a b p (subst (λ u. IsReachedIn r.index u b)
+    (ok_is t s (stacked_agree bytes images list locals_asked (chooses_once list apart) (Ok t) (Ok s) other one (ok_kept t) (ok_kept s))) q) na nb)
+
+reach_agree : (r : AsksReach) (contents : List (List ℕ)) → Agree (IsReachOutcome r contents)
+reach_agree r [] a b one other na nb = absurd one
+reach_agree r (bytes ∷ []) a b one other na nb = absurd one
+reach_agree r (bytes ∷ text ∷ images) a b one other na nb =
+    layouts_agree (IsRightFor text) (IsReachedBy r bytes (images_read r.images images)) (right-unique text)
+    (λ list says. reached_agree r bytes (images_read r.images images) list (text_apart text list says)) a b one other na nb
+
+from_sound : (s : Stacked) (thread : Trace) → NoCause (IsReachedFrom s thread)
+from_sound s thread cause ne (inl p) = subst IsOwnCause (sym (cause_is cause _ p.1)) tt
+from_sound s thread cause ne (inr p) = absurd (let h : _ = p.2 in cc)
+
+in_sound : (index : ℕ) (s : Stacked) → NoCause (IsReachedIn index s)
+in_sound index s cause ne (inl p) = subst IsOwnCause (sym (cause_is cause _ p.1)) tt
+in_sound index s cause ne (inr p) = from_sound s p.0 cause ne p.2
+
+reached_sound : (r : AsksReach) (bytes : List ℕ) (images : Pushed) (list : List Layout) → NoneClash list
+    → IsReadable bytes images list locals_asked → NoCause (IsReachedBy r bytes images list)
+reached_sound r bytes images list apart good = then_sound (λ error. Core error) (StackedIs bytes images list locals_asked) (IsReachedIn r.index)
+    (λ e error ne. report_complete bytes images list locals_asked apart good e (unstacked bytes images list locals_asked e error) (err_kept e (core_one e ne).1))
+    (λ s found. in_sound r.index s)
+
+reach_sound : (r : AsksReach) (contents : List (List ℕ)) → IsFaultlessReach r contents → NoCause (IsReachOutcome r contents)
+reach_sound r [] good cause ne is = absurd good
+reach_sound r (bytes ∷ []) good cause ne is = absurd good
+reach_sound r (bytes ∷ text ∷ images) (list, says, good) cause ne is =
+    layouts_sound (IsRightFor text) (IsReachedBy r bytes (images_read r.images images)) (right-unique text) list says
+    (reached_sound r bytes (images_read r.images images) list (text_apart text list says) good) cause ne is
 
 -- ---- commands
 
 pub outcomes_agree : (command : Command) (contents : List (List ℕ)) → Agree (IsOutcome command contents)
 outcomes_agree (walk w) contents a b one other na nb = walk_agree w contents a b one other na nb
 outcomes_agree (dump d) contents a b one other na nb = dump_agree d contents a b one other na nb
+outcomes_agree (triage t) contents a b one other na nb = triage_agree t contents a b one other na nb
+outcomes_agree (reach r) contents a b one other na nb = reach_agree r contents a b one other na nb
 
 pub no_cause : (command : Command) (contents : List (List ℕ)) → IsFaultless command contents → NoCause (IsOutcome command contents)
 no_cause (walk w) contents good = walk_sound w contents good
 no_cause (dump d) contents good = dump_sound d contents good
+no_cause (triage t) contents good = triage_sound t contents good
+no_cause (reach r) contents good = reach_sound r contents good
 
 -- ---- a cause has none of the statuses of the other ends
 
@@ -305,7 +401,13 @@ layouts_own : (e : LayoutError) → IsOwn (layouts_status e)
 layouts_own e = own (layouts_status e) (inr
     (⊎_elim (λ five. omega (arith, five)) (λ ne. omega (arith, (flaw_status e ne).0)) (cases_five (layouts_status e))))
 
+reach_status_own : (e : ReachError) → IsOwn (reach_status e)
+reach_status_own reaching.ReachLimit = own 9 (inr (omega arith))
+reach_status_own reaching.OutOfMemory = own 5 (inr (omega arith))
+
 pub cause_own : (cause : Cause) → IsOwn (cause_status cause)
 cause_own (Core e) = core_own e
 cause_own (Layouts e) = layouts_own e
+cause_own (Reach e) = reach_status_own e
+cause_own (ReachIndex index) = own 9 (inr (omega arith))
 cause_own OutOfMemory = own 5 (inr (omega arith))

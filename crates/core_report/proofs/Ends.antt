@@ -15,13 +15,19 @@ use Rattle.py_layout.specs.declared.error.LayoutError.TheVariants as layout
 use Rattle.py_process.specs.declared.core_error.CoreError.{CoreError}
 use Rattle.py_process.specs.declared.core_error.CoreError.TheVariants as core
 use Rattle.core_report.specs.declared.cause.Cause.{Cause}
-use Rattle.core_report.specs.declared.cause.Cause.TheVariants.{Core, Layouts, OutOfMemory}
+use Rattle.core_report.specs.declared.cause.Cause.TheVariants.{Core, Layouts, Reach, ReachIndex, OutOfMemory}
 use Rattle.core_report.specs.declared.trouble.Trouble.{Trouble}
 use Rattle.core_report.specs.declared.trouble.Trouble.TheVariants.{Cause as Caused, Words, File, Write}
-use Rattle.core_report.specs.Outcome.{IsFaultless, IsOutcome, Outcome, cause_status, core_status, layouts_status, outcome_status}
-use Rattle.core_report.specs.Run.{ComesTo, End, HasEnded, HasRun, Ran, Reaches, SaysEnd, TellsContents, cut, end_at, end_parts, printed, refused, end_status, stopped, unread}
+use Rattle.object_reach.specs.declared.reached.ReachError.{ReachError}
+use Rattle.object_reach.specs.declared.reached.ReachError.TheVariants as reaching
+use Rattle.core_report.specs.Outcome.{IsFaultless, IsOutcome, Outcome, cause_status, core_status, layouts_status, outcome_status, reach_status}
+use Rattle.core_report.specs.Run.{ComesTo, End, EndsItself, HasEnded, HasRun, Ran, Reaches, SaysEnd, TellsContents, cut, end_at, end_parts, printed, refused, end_status, stopped, unread}
 use Rattle.core_report.proofs.Turns.{same_contents}
 use Rattle.core_report.proofs.Agreement.{cases_five, cause_own, no_cause, outcomes_agree}
+
+-- the text is written, want of memory aside, unless the command comes to a cause of its own
+abbrev Completes : Command → List (List ℕ) → ℕ → Type 0
+Completes command contents status = (status ≡ 0) ⊎ ((status ≡ 5) ⊎ EndsItself command contents status)
 
 -- a run that gave up says one line
 pub says_end : (old new : SinkSeen) (t : Trouble) → Says old new (line (concat (end_parts (end_at t)))) → SaysEnd (end_at t) old new
@@ -52,6 +58,9 @@ silent_of old new refused said is = absurd (omega (arith, is))
 silent_of old new (unread name why) said is = absurd (omega (arith, is))
 silent_of old new cut said is = absurd (omega (arith, is))
 
+abbrev IsStatus : ℕ → Type 0
+IsStatus n = (n ≤ 6) ⊎ (n ≡ 9)
+
 core_within : (e : CoreError) → core_status e ≤ 6
 core_within core.OutOfMemory = omega arith
 core_within _ = omega arith
@@ -60,17 +69,23 @@ layouts_within : (e : LayoutError) → layouts_status e ≤ 6
 layouts_within layout.OutOfMemory = omega arith
 layouts_within _ = omega arith
 
-cause_within : (c : Cause) → cause_status c ≤ 6
-cause_within (Core e) = core_within e
-cause_within (Layouts e) = layouts_within e
-cause_within OutOfMemory = omega arith
+reach_within : (e : ReachError) → IsStatus (reach_status e)
+reach_within reaching.OutOfMemory = inl (omega arith)
+reach_within reaching.ReachLimit = inr refl
 
-pub status_within : (end : End) → end_status end ≤ 6
-status_within printed = omega arith
+cause_within : (c : Cause) → IsStatus (cause_status c)
+cause_within (Core e) = inl (core_within e)
+cause_within (Layouts e) = inl (layouts_within e)
+cause_within (Reach e) = reach_within e
+cause_within (ReachIndex index) = inr refl
+cause_within OutOfMemory = inl (omega arith)
+
+pub status_within : (end : End) → IsStatus (end_status end)
+status_within printed = inl (omega arith)
 status_within (stopped cause) = cause_within cause
-status_within refused = omega arith
-status_within (unread name why) = omega arith
-status_within cut = omega arith
+status_within refused = inl (omega arith)
+status_within (unread name why) = inl (omega arith)
+status_within cut = inl (omega arith)
 
 module _ (asked : Option Command) (r : Ran) where
   pub printed_of : (end : End) → HasEnded asked r end → end_status end ≡ 0 → (text : List ℕ) × Reaches asked r.files.told (Ok text) × Appends r.out.written r.out_after.written text
@@ -148,13 +163,16 @@ module _ (asked : Option Command) (r : Ran) where
       subst (λ c. IsOutcome command c outcome) (same_contents r.files.told command comes.contents contents tells.tells comes.read tells.read comes.all tells.all) comes.is
 
   pub complete_of : (end : End) → HasEnded asked r end → (command : Command) (contents : List (List ℕ)) → TellsContents asked r.files.told command contents
-      → IsFaultless command contents → r.files_after.failed ≡ r.files.failed → (Rose r.out.faults r.out_after.faults → ⊥) → (end_status end ≡ 0) ⊎ (end_status end ≡ 5)
+      → IsFaultless command contents → r.files_after.failed ≡ r.files.failed → (Rose r.out.faults r.out_after.faults → ⊥)
+      → Completes command contents (end_status end)
   complete_of printed ended command contents tells good same quiet = inl refl
   complete_of (stopped cause) ended command contents tells good same quiet = by (cases_five (cause_status cause))
     where
-      by : (cause_status cause ≡ 5) ⊎ (cause_status cause ≢ 5) → (cause_status cause ≡ 0) ⊎ (cause_status cause ≡ 5)
-      by (inl five) = inr five
-      by (inr ne5) = absurd (no_cause command contents good cause ne5 (told_outcome command contents (Err cause) tells (ended.reached ne5)))
+      by : (cause_status cause ≡ 5) ⊎ (cause_status cause ≢ 5) → Completes command contents (cause_status cause)
+      by (inl five) = inr (inl five)
+      by (inr ne5) =
+          let is : IsOutcome command contents (Err cause) = told_outcome command contents (Err cause) tells (ended.reached ne5) in
+          inr (inr (record { cause = cause; own = no_cause command contents good cause ne5 is; is = is; status_is = refl }))
   complete_of refused ended command contents tells good same quiet = absurd (none-some _ (sym ended.0 ∙ tells.is_asked))
   complete_of (unread name why) ended command contents tells good same quiet = absurd (one_more r.files.failed (name, why) (sym ended.unread.failed ∙ same))
   complete_of cut ended command contents tells good same quiet = absurd (quiet ended.cut.rose)
@@ -162,8 +180,8 @@ module _ (asked : Option Command) (r : Ran) where
 -- ---- what a run tells
 
 module _ {asked : Option Command} {r : Ran} {err err_after : SinkSeen} {status : ℕ} (run : HasRun asked r err err_after status) where
-  pub run_status : status ≤ 6
-  run_status = subst (λ n. n ≤ 6) (sym run.is) (status_within run.end)
+  pub run_status : (status ≤ 6) ⊎ (status ≡ 9)
+  run_status = subst IsStatus (sym run.is) (status_within run.end)
 
   pub run_printed : status ≡ 0 → (text : List ℕ) × Reaches asked r.files.told (Ok text) × Appends r.out.written r.out_after.written text
   run_printed is = printed_of asked r run.end run.ended (sym run.is ∙ is)
@@ -192,6 +210,6 @@ module _ {asked : Option Command} {r : Ran} {err err_after : SinkSeen} {status :
       (only_of asked r run.end run.ended command contents cause tells is ne same)
 
   pub run_complete : (command : Command) (contents : List (List ℕ)) → TellsContents asked r.files.told command contents → IsFaultless command contents
-      → r.files_after.failed ≡ r.files.failed → (Rose r.out.faults r.out_after.faults → ⊥) → (status ≡ 0) ⊎ (status ≡ 5)
-  run_complete command contents tells good same quiet = subst (λ n. (n ≡ 0) ⊎ (n ≡ 5)) (sym run.is)
+      → r.files_after.failed ≡ r.files.failed → (Rose r.out.faults r.out_after.faults → ⊥) → Completes command contents status
+  run_complete command contents tells good same quiet = subst (λ n. Completes command contents n) (sym run.is)
       (complete_of asked r run.end run.ended command contents tells good same quiet)

@@ -1,5 +1,11 @@
 pub mod Agreement
+pub mod Appending
 pub mod Ends
+pub mod Grouping
 pub mod Headline
+pub mod Judging
+pub mod Leading
+pub mod Opening
+pub mod Stacked
 pub mod Turns
 pub mod Weaker

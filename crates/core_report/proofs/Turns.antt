@@ -12,12 +12,12 @@ use Rattle.core_report.specs.declared.trouble.Trouble.{Trouble}
 use Rattle.core_report.specs.declared.trouble.Trouble.TheVariants.{Cause as Caused, File}
 use Rattle.core_report.specs.declared.cause.Cause.{Cause}
 use Rattle.core_report.specs.declared.walk_command.WalkFiles.{WalkFiles}
-use Rattle.core_report.specs.declared.dump_command.DumpFiles.{DumpFiles}
+use Rattle.core_report.specs.declared.report_files.ReportFiles.{ReportFiles}
 use Rattle.core_report.specs.Outcome.{IsOutcome, SourceSays, TextSays, cause_status}
-use Rattle.core_report.specs.Run.{Comes, HasAll, HasDumpFiles, HasWalkFiles, IsReadTrouble, IsTroubled}
+use Rattle.core_report.specs.Run.{Comes, ComesTo, HasAll, HasFirst, HasImages, HasReportFiles, HasWalkFiles, IsReadTrouble, IsTroubled}
 use Rattle.core_words.specs.Dump.{Dump}
-use Rattle.core_words.specs.Words.{Command, LayoutSource, Walk, dump, walk, kept_files, later_files, source_files, sample, file as named}
-use Rattle.core_report.specs.Reading.{Stops, IsNext, IsAll, AreFiles, IsRead, contents, dump_contents, text_contents, walk_contents}
+use Rattle.core_words.specs.Words.{Command, LayoutSource, Reach, Triage, Walk, dump, reach, triage, walk, kept_files, later_files, source_files, sample, file as named}
+use Rattle.core_report.specs.Reading.{AsksImages, AsksReport, Stops, StopsTriage, IsNext, IsAll, AreFiles, IsRead, contents, report_contents, text_contents, walk_contents}
 
 -- one file more
 more_after : (told : Told) (command : Command) (before read : List (List ℕ)) (name bytes : List ℕ)
@@ -36,10 +36,16 @@ pub more : (told now : Told) (command : Command) (read : List (List ℕ)) (name 
 more told now command read name bytes are next same gives =
     more_after told command [] read name bytes are next (subst (λ t. Gives t name bytes) same gives)
 
+triage_goes_on : (t : Triage) (contents : List (List ℕ)) → length contents < length (kept_files (triage t)) → ¬ StopsTriage t contents
+triage_goes_on t [] lt stops = stops
+triage_goes_on t (text ∷ images) lt stops = omega (arith, lt, stops.0, length-map t.images (λ (image : List ℕ × List ℕ). image.1))
+
 -- while fewer are read than are kept, no command stops
 pub goes_on : (command : Command) (contents : List (List ℕ)) → length contents < length (kept_files command) → ¬ Stops command contents
 goes_on (walk w) contents lt stops = stops
 goes_on (dump d) contents lt stops = stops
+goes_on (triage t) contents lt stops = triage_goes_on t contents lt stops
+goes_on (reach r) contents lt stops = stops
 
 get-front : (xs ys : List (List ℕ)) (k : ℕ) (x : List ℕ) → slice_get xs k ≡ Some x → slice_get (xs ++ ys) k ≡ Some x
 get-front [] ys k x is = absurd (none-some x is)
@@ -103,19 +109,18 @@ is_unread old mid new command read name _ are next same h = absurd h
 
 -- ---- the files of each command
 
--- where as many were read as are kept, none is left
+-- where as many were read as are kept, and none is read later, none is left
 past : (names contents : List (List ℕ)) → length contents ≡ length names → slice_get (names ++ []) (length contents) ≡ None
 past names contents count =
     subst (λ l. slice_get l (length contents) ≡ None) (sym (append-nil names)) (slice_get_past names (length contents) (omega (arith, count)))
 
-all_kept : (command : Command) (contents : List (List ℕ)) → length contents ≡ length (kept_files command) → IsAll command contents
-all_kept (walk w) contents count = inl (past (kept_files (walk w)) contents count)
-all_kept (dump d) contents count = inl (past (kept_files (dump d)) contents count)
+all_kept : (command : Command) (contents : List (List ℕ)) → later_files command ≡ [] → length contents ≡ length (kept_files command) → IsAll command contents
+all_kept command contents none count = inl (subst (λ later. slice_get (kept_files command ++ later) (length contents) ≡ None) (sym none) (past (kept_files command) contents count))
 
-has_all : (old new : FilesSeen) (command : Command) (contents : List (List ℕ)) → IsRead old.told command contents
+pub has_all : (old new : FilesSeen) (command : Command) (contents : List (List ℕ)) → later_files command ≡ [] → IsRead old.told command contents
     → length contents ≡ length (kept_files command) → new.failed ≡ old.failed → HasAll old new command contents
-has_all old new command contents read count failed =
-    record { read = read; all = all_kept command contents count; failed = failed }
+has_all old new command contents none read count failed =
+    record { read = read; all = all_kept command contents none count; failed = failed }
 
 -- a walk asks for its core, and then for the layout file, where its words name one
 pub walk_core : (w : Walk) (name : List ℕ) → name ≡ w.core → IsNext (walk w) [] name
@@ -131,7 +136,7 @@ pub has_walk : (old new : FilesSeen) (w : Walk) (source : LayoutSource) (files :
 has_walk old new w source files is count read failed =
     let kept : length (walk_contents files) ≡ length (kept_files (walk w)) =
     ap suc (count ∙ ap (λ s. length (source_files s)) (sym is)) in
-    (has_all old new (walk w) (walk_contents files) read kept failed, kept)
+    (has_all old new (walk w) (walk_contents files) refl read kept failed, kept)
 
 -- what a text of layouts says is what the words' source says of it
 pub source_says : (w : Walk) (files : WalkFiles) → length (walk_contents files) ≡ length (kept_files (walk w))
@@ -145,43 +150,128 @@ source_says w files kept answer h = by w.layouts files.layouts (omega (arith, ke
     by (named file) None same says = absurd (omega (arith, same))
     by (named file) (Some text) same says = says
 
--- a report asks for its core, for the layout file, and then for the file of each image
-pub dump_core : (d : Dump) (name : List ℕ) → name ≡ d.core → IsNext (dump d) [] name
-dump_core d name is = next_kept (dump d) [] name (ap Some (sym is))
+-- ---- images
 
-pub dump_layouts : (d : Dump) (core name : List ℕ) → name ≡ d.layouts → IsNext (dump d) (core ∷ []) name
-dump_layouts d core name is = next_kept (dump d) (core ∷ []) name (ap Some (sym is))
+pub get-behind : (xs ys : List (List ℕ)) (k n : ℕ) → n ≡ length xs + k → slice_get (xs ++ ys) n ≡ slice_get ys k
+get-behind [] ys k n is = ap (λ m. slice_get ys m) (omega (arith, is))
+get-behind (x ∷ xs) ys k zero is = absurd (omega (arith, is))
+get-behind (x ∷ xs) ys k (suc n) is = get-behind xs ys k n (omega (arith, is))
 
-pub dump_image : (d : Dump) (core text : List ℕ) (images : List (Vec ℕ Global)) (items : List (List ℕ × List ℕ)) (i : ℕ) (image : List ℕ × List ℕ) (name : List ℕ)
-    → items ≡ d.images → length images ≡ i → i < length items → image ≡ get_or items i image → name ≡ image.1
-    → IsNext (dump d) (core ∷ text ∷ contents images) name
-dump_image d core text images items i image name listed count lt at is =
+pub image_next : (command : Command) (before : List (List ℕ)) (read : List (Vec ℕ Global)) (items : List (List ℕ × List ℕ)) (i : ℕ) (image : List ℕ × List ℕ) (name : List ℕ)
+    → AsksImages command before items → length read ≡ i → i < length items → image ≡ get_or items i image → name ≡ image.1
+    → IsNext command (before ++ contents read) name
+image_next command before read items i image name asks count lt at is =
     let file : List ℕ × List ℕ → List ℕ = λ (image : List ℕ × List ℕ). image.1 in
     let here : slice_get (map file items) i ≡ Some name =
     slice_get-map file items i ∙ ap (λ o. option_map file o) (slice_get_read items (length items) i image refl lt at) ∙ ap Some (sym is) in
-    let place : length (contents images) ≡ i = length-map images (λ (f : Vec ℕ Global). f.items) ∙ count in
-    next_kept (dump d) (core ∷ text ∷ contents images) name
-    (ap (λ k. slice_get (kept_files (dump d)) (suc (suc k))) place ∙ subst (λ l. slice_get (map file l) i ≡ Some name) listed here)
+    let there : slice_get (map file items ++ asks.rest) i ≡ Some name = get-front (map file items) asks.rest i name here in
+    let place : length (before ++ contents read) ≡ length asks.front + i =
+    omega (arith, length-append before (contents read), length-map read (λ (f : Vec ℕ Global). f.items), count, asks.count) in
+    next_kept command (before ++ contents read) name
+    (ap (λ l. slice_get l (length (before ++ contents read))) asks.asked
+    ∙ get-behind asks.front (map file items ++ asks.rest) i (length (before ++ contents read)) place ∙ there)
 
-pub more_image : (told now : Told) (d : Dump) (core text : List ℕ) (images next : List (Vec ℕ Global)) (name : List ℕ) (bytes : Vec ℕ Global)
-    → IsRead told (dump d) (core ∷ text ∷ contents images) → IsNext (dump d) (core ∷ text ∷ contents images) name → now ≡ told
-    → Gives now name bytes.items → next ≡ images ++ bytes ∷ [] → IsRead told (dump d) (core ∷ text ∷ contents next)
-more_image told now d core text images next name bytes are next-is same gives is =
-    subst (λ c. IsRead told (dump d) (core ∷ text ∷ c))
-    (sym (ap contents is ∙ map-append (λ (f : Vec ℕ Global). f.items) images (bytes ∷ [])))
-    (more told now (dump d) (core ∷ text ∷ contents images) name bytes.items are next-is same gives)
+pub no_image : (told : Told) (command : Command) (before : List (List ℕ)) (read : List (Vec ℕ Global)) → read ≡ [] → IsRead told command before
+    → IsRead told command (before ++ contents read)
+no_image told command before read is are =
+    subst (λ c. IsRead told command c) (sym (ap (λ l. before ++ contents l) is ∙ append-nil before)) are
 
-pub has_dump : (old new : FilesSeen) (d : Dump) (files : DumpFiles) (items : List (List ℕ × List ℕ)) (i : ℕ) → items ≡ d.images
-    → length files.images.items ≡ i → length items ≤ i → i ≤ length items → IsRead old.told (dump d) (dump_contents files)
-    → new.failed ≡ old.failed → HasDumpFiles old new d (Ok files)
-has_dump old new d files items i listed count ge le read failed =
-    let all : i ≡ length d.images = omega (arith, ap length listed, ge, le) in
-    let images : length (contents files.images.items) ≡ length (map (λ (image : List ℕ × List ℕ). image.1) d.images) =
-    length-map files.images.items (λ (f : Vec ℕ Global). f.items) ∙ count ∙ all ∙ sym (length-map d.images (λ (image : List ℕ × List ℕ). image.1)) in
-    has_all old new (dump d) (dump_contents files) read (ap (λ n. suc (suc n)) images) failed
+pub more_image : (told now : Told) (command : Command) (before : List (List ℕ)) (images next : List (Vec ℕ Global)) (name : List ℕ) (bytes : Vec ℕ Global)
+    → IsRead told command (before ++ contents images) → IsNext command (before ++ contents images) name → now ≡ told
+    → Gives now name bytes.items → next ≡ images ++ bytes ∷ [] → IsRead told command (before ++ contents next)
+more_image told now command before images next name bytes are next-is same gives is =
+    subst (λ c. IsRead told command c)
+    (append_assoc before (contents images) (bytes.items ∷ [])
+    ∙ ap (λ c. before ++ c) (sym (ap contents is ∙ map-append (λ (f : Vec ℕ Global). f.items) images (bytes ∷ []))))
+    (more told now command (before ++ contents images) name bytes.items are next-is same gives)
 
 pub count_more : (read next : List (Vec ℕ Global)) (bytes : Vec ℕ Global) (i : ℕ) → length read ≡ i → next ≡ read ++ bytes ∷ [] → length next ≡ i + 1
 count_more read next bytes i count is = omega (arith, ap length is, length-append read (bytes ∷ []), count)
+
+-- ---- the files of a report, and those before cores in groups
+
+pub report_core : (command : Command) (core layouts : List ℕ) (images : List (List ℕ × List ℕ)) → AsksReport command core layouts images → IsNext command [] core
+report_core command core layouts images asks = next_kept command [] core (ap (λ l. slice_get l 0) asks.asked)
+
+pub report_layouts : (command : Command) (core layouts : List ℕ) (images : List (List ℕ × List ℕ)) (bytes : List ℕ) → AsksReport command core layouts images
+    → IsNext command (bytes ∷ []) layouts
+report_layouts command core layouts images bytes asks = next_kept command (bytes ∷ []) layouts (ap (λ l. slice_get l 1) asks.asked)
+
+pub report_images : (command : Command) (core layouts : List ℕ) (images : List (List ℕ × List ℕ)) (bytes text : List ℕ) → AsksReport command core layouts images
+    → AsksImages command (bytes ∷ text ∷ []) images
+report_images command core layouts images bytes text asks =
+    record { front = core ∷ layouts ∷ []; rest = asks.rest; asked = asks.asked; count = refl }
+
+pub dump_asks : (d : Dump) (core layouts : List ℕ) (images : List (List ℕ × List ℕ)) → core ≡ d.core → layouts ≡ d.layouts → images ≡ d.images
+    → AsksReport (dump d) core layouts images
+dump_asks d core layouts images one two three = record {
+  rest = [];
+  asked = (λ i. sym one i ∷ sym two i ∷ map (λ (image : List ℕ × List ℕ). image.1) (sym three i)) ∙ ap (λ m. core ∷ layouts ∷ m) (sym (append-nil (map (λ (image : List ℕ × List ℕ). image.1) images)));
+}
+
+pub reach_asks : (r : Reach) (core layouts : List ℕ) (images : List (List ℕ × List ℕ)) → core ≡ r.core → layouts ≡ r.layouts → images ≡ r.images
+    → AsksReport (reach r) core layouts images
+reach_asks r core layouts images one two three = record {
+  rest = [];
+  asked = (λ i. sym one i ∷ sym two i ∷ map (λ (image : List ℕ × List ℕ). image.1) (sym three i)) ∙ ap (λ m. core ∷ layouts ∷ m) (sym (append-nil (map (λ (image : List ℕ × List ℕ). image.1) images)));
+}
+
+report_count : (files : ReportFiles) (images : List (List ℕ × List ℕ)) → length files.images.items ≡ length images
+    → length (report_contents files) ≡ suc (suc (length (map (λ (image : List ℕ × List ℕ). image.1) images)))
+report_count files images count =
+    omega (arith, length-map files.images.items (λ (f : Vec ℕ Global). f.items), count, length-map images (λ (image : List ℕ × List ℕ). image.1))
+
+pub dump_has : (old new : FilesSeen) (d : Dump) (files : ReportFiles) (images : List (List ℕ × List ℕ)) → images ≡ d.images
+    → HasReportFiles old new (dump d) (length images) (Ok files) → HasAll old new (dump d) (report_contents files)
+dump_has old new d files images are has =
+    has_all old new (dump d) (report_contents files) refl has.0.read (report_count files d.images (has.1 ∙ ap length are)) has.0.failed
+
+pub reach_has : (old new : FilesSeen) (r : Reach) (files : ReportFiles) (images : List (List ℕ × List ℕ)) → images ≡ r.images
+    → HasReportFiles old new (reach r) (length images) (Ok files) → HasAll old new (reach r) (report_contents files)
+reach_has old new r files images are has =
+    has_all old new (reach r) (report_contents files) refl has.0.read (report_count files r.images (has.1 ∙ ap length are)) has.0.failed
+
+pub triage_layouts : (t : Triage) (name : List ℕ) → name ≡ t.layouts → IsNext (triage t) [] name
+triage_layouts t name is = next_kept (triage t) [] name (ap Some (sym is))
+
+pub triage_images : (t : Triage) (text : List ℕ) (images : List (List ℕ × List ℕ)) → images ≡ t.images → AsksImages (triage t) (text ∷ []) images
+triage_images t text images are = record {
+  front = t.layouts ∷ [];
+  rest = [];
+  asked = ap (λ l. t.layouts ∷ map (λ (image : List ℕ × List ℕ). image.1) l) (sym are) ∙ ap (λ m. t.layouts ∷ m) (sym (append-nil (map (λ (image : List ℕ × List ℕ). image.1) images)));
+  count = refl;
+}
+
+-- ---- what was read before counts
+
+pub first_from : (old mid new : FilesSeen) (command : Command) (contents : List (List ℕ)) → mid.told ≡ old.told → mid.failed ≡ old.failed
+    → HasFirst mid new command contents → HasFirst old new command contents
+first_from old mid new command contents told failed has =
+    record { read = subst (λ t. IsRead t command contents) told has.read; failed = has.failed ∙ failed }
+
+pub troubled_from : (old mid new : FilesSeen) (command : Command) (t : Trouble) → mid.told ≡ old.told → mid.failed ≡ old.failed
+    → IsTroubled mid new command t → IsTroubled old new command t
+troubled_from old mid new command (Caused cause) told failed h =
+    (λ ne. subst (λ t. ComesTo t command (Err cause)) told (h.0 ne), h.1 ∙ failed)
+troubled_from old mid new command (File name why) told failed h = record {
+  contents = h.contents;
+  read = subst (λ t. IsRead t command h.contents) told h.read;
+  next = h.next;
+  not_memory = h.not_memory;
+  failed = h.failed ∙ ap (λ b. b ++ (name.now, why) ∷ []) failed;
+}
+troubled_from old mid new command _ told failed h = absurd h
+
+pub images_from : (old mid new : FilesSeen) (command : Command) (count : ℕ) (r : Result (Vec (Vec ℕ Global) Global) Trouble)
+    → mid.told ≡ old.told → mid.failed ≡ old.failed → (before : List (List ℕ)) → HasImages mid new command before count r → HasImages old new command before count r
+images_from old mid new command count (Ok files) told failed before has =
+    (first_from old mid new command (before ++ contents files.items) told failed has.0, has.1)
+images_from old mid new command count (Err trouble) told failed before has = troubled_from old mid new command trouble told failed has
+
+pub comes_from : (old mid new : FilesSeen) (command : Command) (r : Result (Vec ℕ Global) Trouble) → mid.told ≡ old.told → mid.failed ≡ old.failed
+    → Comes mid new command r → Comes old new command r
+comes_from old mid new command (Ok text) told failed has = (subst (λ t. ComesTo t command (Ok text.items)) told has.0, has.1 ∙ failed)
+comes_from old mid new command (Err trouble) told failed has = troubled_from old mid new command trouble told failed has
 
 -- ---- a command's work over what its files hold
 

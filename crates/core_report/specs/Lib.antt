@@ -1,4 +1,8 @@
 pub mod Reading
+pub mod Grouped
+pub mod Judging
+pub mod Stacked
+pub mod Stacks
 pub mod Outcome
 pub mod Lines
 pub mod Run

@@ -1,16 +1,17 @@
 -- What a command comes to over the contents of its files.
-use Rattle.std.specs.Prelude.{◌≡◌, ◌≢◌, ◌⊎◌, ℕ, List, [], ◌∷◌, Option, Some, None, Result, Ok, Err, Vec, if◌then◌else◌}
+use Rattle.std.specs.Prelude.{◌≡◌, ◌≢◌, ◌⊎◌, ℕ, List, [], ◌∷◌, drop, length, slice_get, ⊤, Option, Some, None, Result, Ok, Err, Vec, if◌then◌else◌}
 use Rattle.std.specs.Global.{Global}
 use Rattle.py_fields.specs.declared.layout.Layout.{Layout}
 use Rattle.py_fields.specs.Samples.{sample_layout}
 use Rattle.py_layout.specs.File.{IsRightFor}
 use Rattle.py_layout.specs.declared.error.LayoutError.{LayoutError}
 use Rattle.py_layout.specs.declared.error.LayoutError.TheVariants as layout
+use Rattle.py_stacks.specs.Threads.{Trace}
 use Rattle.py_stacks.specs.declared.trace.StackTrace.{StackTrace}
 use Rattle.py_process.specs.declared.core_error.CoreError.{CoreError}
 use Rattle.py_process.specs.declared.core_error.CoreError.TheVariants as core
 use Rattle.core_words.specs.Dump.{Dump}
-use Rattle.core_words.specs.Words.{Command, LayoutSource, Walk, dump, file, sample, walk}
+use Rattle.core_words.specs.Words.{Command, LayoutSource, Reach as AsksReach, Triage, Walk, dump, file, reach, sample, triage, walk}
 use Rattle.core_texts.specs.Text.{report_text, walk_text}
 use Rattle.core_texts.specs.Tree.{report_json}
 use Rattle.image_memory.specs.Images.{Pushed}
@@ -19,8 +20,13 @@ use Rattle.py_stacks.specs.declared.config.Config.{Config}
 use Rattle.py_process.specs.Reports.{IsReadable, ReportIs, reported}
 use Rattle.py_process.specs.declared.report.Report.{Report}
 use Rattle.core_stacks.specs.Answer.{IsWalkable, Means, traced}
+use Rattle.object_reach.specs.declared.reached.ReachError.{ReachError}
+use Rattle.object_reach.specs.declared.reached.ReachError.TheVariants as reaching
+use Rattle.object_reach.specs.declared.reached.ReachObject.{ReachObject}
 use Rattle.core_report.specs.declared.cause.Cause.{Cause}
-use Rattle.core_report.specs.declared.cause.Cause.TheVariants.{Core, Layouts, OutOfMemory}
+use Rattle.core_report.specs.declared.cause.Cause.TheVariants.{Core, Layouts, Reach, ReachIndex, OutOfMemory}
+use Rattle.core_report.specs.Grouped.{IsGroupedText}
+use Rattle.core_report.specs.Stacked.{LeadsTo, Stacked, StackedIs, locals_asked, reach_text}
 
 -- a command's text, or the cause why there is none
 abbrev pub Outcome : Type 0
@@ -98,10 +104,46 @@ IsDumpOutcome d (core ∷ text ∷ images) outcome =
     OutcomeThen (λ error. Layouts error) (IsRightFor text) (IsDumpedBy d core (images_read d.images images)) outcome
 IsDumpOutcome d _ outcome = ⊥
 
+-- the cores in groups, by these layouts
+abbrev pub IsTriagedBy : Triage → List (List ℕ) → List Layout → Outcome → Type 0
+IsTriagedBy t contents layouts outcome = (text : List ℕ)
+    × IsGroupedText t.cores (images_read t.images contents) layouts (drop (length t.images) contents) text
+    × (outcome ≡ Ok text)
+
+-- The layouts are judged first: where they are at fault, no core was read. Else each core has a report or is refused
+abbrev pub IsTriageOutcome : Triage → List (List ℕ) → Outcome → Type 0
+IsTriageOutcome t [] outcome = ⊥
+IsTriageOutcome t (text ∷ contents) outcome =
+    OutcomeThen (λ error. Layouts error) (IsRightFor text) (IsTriagedBy t contents) outcome
+
+-- the objects that a thread's locals lead to, or that they are too many
+abbrev pub IsReachedFrom : Stacked → Trace → Outcome → Type 0
+IsReachedFrom s thread outcome =
+    OutcomeThen (λ error. Reach error) (LeadsTo s thread) (λ objects text. text ≡ Ok (reach_text objects)) outcome
+
+-- the thread of a number, from 0 on, or that there is none
+abbrev pub IsReachedIn : ℕ → Stacked → Outcome → Type 0
+IsReachedIn index s outcome =
+    ((slice_get s.traces index ≡ None) × (outcome ≡ Err (ReachIndex index)))
+    ⊎ ((thread : Trace) × (slice_get s.traces index ≡ Some thread) × IsReachedFrom s thread outcome)
+
+-- the process of a core and its images, with its traces, by these layouts
+abbrev pub IsReachedBy : AsksReach → List ℕ → Pushed → List Layout → Outcome → Type 0
+IsReachedBy r core images layouts outcome = OutcomeThen (λ error. Core error)
+    (StackedIs core images layouts locals_asked) (IsReachedIn r.index) outcome
+
+-- the layouts are judged first, then the report's threads with their locals are read, and then what one leads to
+abbrev pub IsReachOutcome : AsksReach → List (List ℕ) → Outcome → Type 0
+IsReachOutcome r (core ∷ text ∷ images) outcome =
+    OutcomeThen (λ error. Layouts error) (IsRightFor text) (IsReachedBy r core (images_read r.images images)) outcome
+IsReachOutcome r _ outcome = ⊥
+
 -- what a command comes to over the contents of all that it asks for
 abbrev pub IsOutcome : Command → List (List ℕ) → Outcome → Type 0
 IsOutcome (walk w) contents outcome = IsWalkOutcome w contents outcome
 IsOutcome (dump d) contents outcome = IsDumpOutcome d contents outcome
+IsOutcome (triage t) contents outcome = IsTriageOutcome t contents outcome
+IsOutcome (reach r) contents outcome = IsReachOutcome r contents outcome
 
 -- ---- contents with which nothing is wrong
 
@@ -115,9 +157,26 @@ IsFaultlessDump d (core ∷ text ∷ images) = (layouts : List Layout) × IsRigh
     × IsReadable core (images_read d.images images) layouts d.config
 IsFaultlessDump d _ = ⊥
 
+abbrev pub IsFaultlessTriage : Triage → List (List ℕ) → Type 0
+IsFaultlessTriage t [] = ⊥
+IsFaultlessTriage t (text ∷ contents) = (layouts : List Layout) × IsRightFor text (Ok layouts)
+
+abbrev pub IsFaultlessReach : AsksReach → List (List ℕ) → Type 0
+IsFaultlessReach r (core ∷ text ∷ images) = (layouts : List Layout) × IsRightFor text (Ok layouts)
+    × IsReadable core (images_read r.images images) layouts locals_asked
+IsFaultlessReach r _ = ⊥
+
 abbrev pub IsFaultless : Command → List (List ℕ) → Type 0
 IsFaultless (walk w) contents = IsFaultlessWalk w contents
 IsFaultless (dump d) contents = IsFaultlessDump d contents
+IsFaultless (triage t) contents = IsFaultlessTriage t contents
+IsFaultless (reach r) contents = IsFaultlessReach r contents
+
+-- the causes that a command may come to though nothing is wrong with its files
+abbrev pub IsOwnCause : Cause → Type 0
+IsOwnCause (Reach error) = ⊤
+IsOwnCause (ReachIndex index) = ⊤
+IsOwnCause _ = ⊥
 
 -- ---- statuses
 
@@ -129,10 +188,16 @@ abbrev pub layouts_status : LayoutError → ℕ
 layouts_status layout.OutOfMemory = 5
 layouts_status _ = 6
 
+abbrev pub reach_status : ReachError → ℕ
+reach_status reaching.OutOfMemory = 5
+reach_status reaching.ReachLimit = 9
+
 -- want of memory has one status, wherever it came
 abbrev pub cause_status : Cause → ℕ
 cause_status (Core error) = core_status error
 cause_status (Layouts error) = layouts_status error
+cause_status (Reach error) = reach_status error
+cause_status (ReachIndex index) = 9
 cause_status OutOfMemory = 5
 
 abbrev pub outcome_status : Outcome → ℕ

@@ -1,16 +1,33 @@
 -- Which files a command asks for, in which order, and what they hold.
-use Rattle.std.specs.Prelude.{◌≡◌, ◌⊎◌, ⊤, ℕ, List, [], ◌∷◌, ◌++◌, length, map, slice_get, Option, Some, None, Vec}
+use Rattle.std.specs.Prelude.{◌≡◌, ◌≢◌, ◌⊎◌, ⊤, ℕ, List, [], ◌∷◌, ◌++◌, length, map, slice_get, Option, Some, None, Err, Vec}
 use Rattle.std.specs.Global.{Global}
 use Rattle.outside.specs.Files.{Told, Gives}
-use Rattle.core_words.specs.Words.{Command, dump, files_of, walk}
+use Rattle.py_layout.specs.File.{IsRightFor}
+use Rattle.py_layout.specs.declared.error.LayoutError.{LayoutError}
+use Rattle.py_layout.specs.declared.error.LayoutError.TheVariants as layout
+use Rattle.core_words.specs.Words.{Command, Triage, dump, files_of, kept_files, reach, triage, walk}
 use Rattle.core_report.specs.declared.walk_command.WalkFiles.{WalkFiles}
-use Rattle.core_report.specs.declared.dump_command.DumpFiles.{DumpFiles}
+use Rattle.core_report.specs.declared.report_files.ReportFiles.{ReportFiles}
+use Rattle.core_report.specs.declared.triage_command.TriageFiles.{TriageFiles}
 
--- The command asks for none of its later files: its layouts were judged after these contents, and are at fault. No
--- command of today judges them before it has read all.
+-- the text of a layout file is at fault
+pub record HasFlaw (text : List ℕ) : Type 0 where
+  pub flaw : LayoutError
+  pub not_memory : flaw ≢ layout.OutOfMemory
+  pub is : IsRightFor text (Err flaw)
+
+-- the layouts of cores in groups are judged once the images were read, before the first core is
+abbrev pub StopsTriage : Triage → List (List ℕ) → Type 0
+StopsTriage t [] = ⊥
+StopsTriage t (text ∷ images) = (length images ≡ length t.images) × HasFlaw text
+
+-- The command asks for none of its later files: its layouts were judged after these contents, and are at fault. A
+-- command that has no later files judges them after it has read all.
 abbrev pub Stops : Command → List (List ℕ) → Type 0
 Stops (walk w) contents = ⊥
 Stops (dump d) contents = ⊥
+Stops (triage t) contents = StopsTriage t contents
+Stops (reach r) contents = ⊥
 
 -- this is the file that is asked for after these contents
 pub record IsNext (command : Command) (contents : List (List ℕ)) (name : List ℕ) : Type 0 where
@@ -50,5 +67,31 @@ abbrev pub walk_contents : WalkFiles → List (List ℕ)
 walk_contents files = files.core.items ∷ text_contents files.layouts
 
 -- and the files of a report
-abbrev pub dump_contents : DumpFiles → List (List ℕ)
-dump_contents files = files.core.items ∷ files.layouts.items ∷ contents files.images.items
+abbrev pub report_contents : ReportFiles → List (List ℕ)
+report_contents files = files.core.items ∷ files.layouts.items ∷ contents files.images.items
+
+-- and those of cores in groups that are read before the cores
+abbrev pub triage_contents : TriageFiles → List (List ℕ)
+triage_contents files = files.layouts.items ∷ contents files.images.items
+
+-- ---- files that several commands ask for
+
+-- after so many others a command asks for the files of these images
+pub record AsksImages (command : Command) (before : List (List ℕ)) (images : List (List ℕ × List ℕ)) : Type 0 where
+  pub front : List (List ℕ)
+  pub rest : List (List ℕ)
+  pub asked : kept_files command ≡ front ++ (map (λ image. image.1) images ++ rest)
+  pub count : length front ≡ length before
+
+-- cores in groups ask for these files before the cores, and the layouts have no flaw
+pub record AsksCores (t : Triage) (before : List (List ℕ)) : Type 0 where
+  pub text : List ℕ
+  pub images : List (List ℕ)
+  pub are : before ≡ text ∷ images
+  pub count : length images ≡ length t.images
+  pub flawless : ¬ HasFlaw text
+
+-- a command asks first for those of a report: a core, a layout file, and the files of images
+pub record AsksReport (command : Command) (core layouts : List ℕ) (images : List (List ℕ × List ℕ)) : Type 0 where
+  pub rest : List (List ℕ)
+  pub asked : kept_files command ≡ core ∷ layouts ∷ (map (λ image. image.1) images ++ rest)

@@ -1,13 +1,12 @@
 -- What a run of the top call means.
-use Rattle.std.specs.Prelude.{◌≡◌, ◌≢◌, ◌++◌, ℕ, List, [], ◌∷◌, length, Option, Some, None, IsSome, Result, Ok, Err, codes, Vec}
+use Rattle.std.specs.Prelude.{◌≡◌, ◌≢◌, ◌++◌, ℕ, List, [], ◌∷◌, length, map, Option, Some, None, IsSome, Result, Ok, Err, codes, Vec}
 use Rattle.std.specs.Global.{Global}
 use Rattle.std.specs.List.{concat}
 use Rattle.outside.specs.Files.{FailedNames, FilesSeen, Told}
 use Rattle.outside.specs.Streams.{SinkSeen}
 use Rattle.outside.specs.declared.faults.FileFault.{FileFault}
 use Rattle.outside.specs.declared.faults.FileFault.TheVariants as fault
-use Rattle.core_words.specs.Dump.{Dump}
-use Rattle.core_words.specs.Words.{Command, Walk, dump, kept_files, walk}
+use Rattle.core_words.specs.Words.{Command, Triage, Walk, kept_files, triage, walk}
 use Rattle.core_texts.specs.Parts.{line}
 use Rattle.core_texts.specs.Says.{IsAdded, IsCutOff, Says}
 use Rattle.core_report.specs.declared.cause.Cause.{Cause}
@@ -15,9 +14,15 @@ use Rattle.core_report.specs.declared.cause.Cause.TheVariants as cause
 use Rattle.core_report.specs.declared.trouble.Trouble.{Trouble}
 use Rattle.core_report.specs.declared.trouble.Trouble.TheVariants.{Cause as Caused, Words, File, Write}
 use Rattle.core_report.specs.declared.walk_command.WalkFiles.{WalkFiles}
-use Rattle.core_report.specs.declared.dump_command.DumpFiles.{DumpFiles}
-use Rattle.core_report.specs.Reading.{IsAll, IsNext, IsRead, dump_contents, walk_contents}
-use Rattle.core_report.specs.Outcome.{IsOutcome, Outcome, cause_status}
+use Rattle.image_memory.specs.Images.{Pushed}
+use Rattle.py_fields.specs.declared.layout.Layout.{Layout}
+use Rattle.core_report.specs.Grouped.{AreJudged, Judged}
+use Rattle.core_report.specs.Judging.{Keeps}
+use Rattle.core_report.specs.declared.judged.JudgedCores.{JudgedCores}
+use Rattle.core_report.specs.declared.report_files.ReportFiles.{ReportFiles}
+use Rattle.core_report.specs.declared.triage_command.TriageFiles.{TriageFiles}
+use Rattle.core_report.specs.Reading.{IsAll, IsNext, IsRead, contents, report_contents, triage_contents, walk_contents}
+use Rattle.core_report.specs.Outcome.{IsOutcome, IsOwnCause, Outcome, cause_status}
 use Rattle.core_report.specs.Lines.{cause_parts, file_parts}
 
 -- over the contents of all the files that it asks for, a command comes to this outcome
@@ -135,6 +140,13 @@ pub record TellsContents (asked : Option Command) (told : Told) (command : Comma
   pub read : IsRead told command contents
   pub all : IsAll command contents
 
+-- a command ends by a cause of its own, over contents with which else nothing is wrong
+pub record EndsItself (command : Command) (contents : List (List ℕ)) (status : ℕ) : Type 0 where
+  pub cause : Cause
+  pub own : IsOwnCause cause
+  pub is : IsOutcome command contents (Err cause)
+  pub status_is : status ≡ cause_status cause
+
 -- ---- the steps of a run
 
 -- what a command's own code answers: its text, or what was wrong
@@ -160,10 +172,44 @@ HasWalkFiles old new w (Ok files) = HasAll old new (walk w) (walk_contents files
     × (length (walk_contents files) ≡ length (kept_files (walk w)))
 HasWalkFiles old new w (Err trouble) = IsTroubled old new (walk w) trouble
 
--- and the files of a report
-abbrev pub HasDumpFiles : FilesSeen → FilesSeen → Dump → Result DumpFiles Trouble → Type 0
-HasDumpFiles old new d (Ok files) = HasAll old new (dump d) (dump_contents files)
-HasDumpFiles old new d (Err trouble) = IsTroubled old new (dump d) trouble
+-- the first files that a command asks for hold these contents, and none failed
+pub record HasFirst (old new : FilesSeen) (command : Command) (contents : List (List ℕ)) : Type 0 where
+  pub read : IsRead old.told command contents
+  pub failed : new.failed ≡ old.failed
+
+-- what reading the files of so many images answers, after those before them
+abbrev pub HasImages : FilesSeen → FilesSeen → Command → List (List ℕ) → ℕ
+    → Result (Vec (Vec ℕ Global) Global) Trouble → Type 0
+HasImages old new command before count (Ok files) =
+    HasFirst old new command (before ++ contents files.items) × (length files.items ≡ count)
+HasImages old new command before count (Err trouble) = IsTroubled old new command trouble
+
+-- and the files of a report, with so many images
+abbrev pub HasReportFiles : FilesSeen → FilesSeen → Command → ℕ → Result ReportFiles Trouble → Type 0
+HasReportFiles old new command count (Ok files) =
+    HasFirst old new command (report_contents files) × (length files.images.items ≡ count)
+HasReportFiles old new command count (Err trouble) = IsTroubled old new command trouble
+
+-- and those of cores in groups that are read before the cores
+abbrev pub HasTriageFiles : FilesSeen → FilesSeen → Triage → Result TriageFiles Trouble → Type 0
+HasTriageFiles old new t (Ok files) =
+    HasFirst old new (triage t) (triage_contents files) × (length files.images.items ≡ length t.images)
+HasTriageFiles old new t (Err trouble) = IsTroubled old new (triage t) trouble
+
+-- the cores of a group were read after those files, and each judged
+pub record HasJudged (old new : FilesSeen) (t : Triage) (before : List (List ℕ)) (images : Pushed)
+    (layouts : List Layout) (kept : JudgedCores) : Type 0 where
+  pub cores : List Judged
+  pub contents : List (List ℕ)
+  pub named : map (λ c. c.name) cores ≡ t.cores
+  pub judged : AreJudged images layouts contents cores
+  pub keeps : Keeps cores kept
+  pub first : HasFirst old new (triage t) (before ++ contents)
+
+abbrev pub HasCores : FilesSeen → FilesSeen → Triage → List (List ℕ) → Pushed → List Layout
+    → Result JudgedCores Trouble → Type 0
+HasCores old new t before images layouts (Ok kept) = HasJudged old new t before images layouts kept
+HasCores old new t before images layouts (Err trouble) = IsTroubled old new (triage t) trouble
 
 -- what the reading of one file may leave
 abbrev pub IsReadTrouble : FailedNames → FailedNames → List ℕ → Trouble → Type 0

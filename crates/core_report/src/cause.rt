@@ -2,6 +2,7 @@
 ghost use Rattle.std.specs.Prelude.{◌≡◌};
 ghost use Rattle.core_report.specs.Outcome.{cause_status};
 
+use object_reach::ReachError;
 use py_layout::LayoutError;
 use py_process::CoreError;
 use std::alloc::AllocError;
@@ -13,6 +14,10 @@ pub(crate) enum Cause {
     Core(CoreError),
     /// The layout file has a fault.
     Layouts(LayoutError),
+    /// There is no list of what a thread's locals lead to.
+    Reach(ReachError),
+    /// What a thread's locals lead to was asked for, and there are no more threads than this number.
+    ReachIndex { index: u64 },
     /// There was no memory left.
     OutOfMemory,
 }
@@ -25,9 +30,11 @@ impl Cause {
         match self {
             Cause::Core(CoreError::OutOfMemory)
             | Cause::Layouts(LayoutError::OutOfMemory)
+            | Cause::Reach(ReachError::OutOfMemory)
             | Cause::OutOfMemory => 5,
             Cause::Core(_) => 1,
             Cause::Layouts(_) => 6,
+            Cause::Reach(ReachError::ReachLimit) | Cause::ReachIndex { .. } => 9,
         }
     }
 }
@@ -49,6 +56,16 @@ impl From<LayoutError> for Cause {
 
     fn from(error: LayoutError) -> Cause {
         Cause::Layouts(error)
+    }
+}
+
+impl From<ReachError> for Cause {
+    ghost use Rattle.core_report.specs.declared.cause.Cause.TheVariants.{Reach};
+
+    ghost from_gives = { λ error cause. cause ≡ Reach error };
+
+    fn from(error: ReachError) -> Cause {
+        Cause::Reach(error)
     }
 }
 

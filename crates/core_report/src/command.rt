@@ -1,19 +1,22 @@
 //! The top call.
-ghost use Rattle.std.specs.Prelude.{◌≡◌, ◌≢◌, ◌≤◌, ◌↔◌, ◌⊎◌, List, ℕ, Option, None, Some, Ok, Err};
+ghost use Rattle.std.specs.Prelude.{◌≡◌, ◌≢◌, ◌≤◌, ◌↔◌, ◌⊎◌, IfOk, List, ℕ, Option, None, Some, Ok, Err};
 ghost use Rattle.std.specs.Io.KnownBytes.{Appends};
 ghost use Rattle.outside.specs.Counts.{Rose};
 ghost use Rattle.core_words.specs.Answers.{AnswersWords};
 ghost use Rattle.core_words.specs.Dump.{Dump};
-ghost use Rattle.core_words.specs.Words.{Command as Asked, command_of, dump, texts};
+ghost use Rattle.core_words.specs.Words.{Command as Asked, HasFewCores, command_of, dump, texts};
 ghost use Rattle.core_words.specs.Seen.{asked_command};
 ghost use Rattle.core_report.specs.declared.cause.Cause.{Cause as Why};
 ghost use Rattle.core_report.specs.Headline.{HasReported};
 ghost use Rattle.core_report.specs.Outcome.{IsFaultless, IsOutcome, cause_status};
-ghost use Rattle.core_report.specs.Run.{Comes, HasEnded, HasRun, Reaches, TellsContents, end_after, ran};
+ghost use Rattle.core_report.specs.Run.{Comes, EndsItself, HasEnded, HasRun, Reaches, TellsContents, end_after, ran};
 
 use crate::cause::Cause;
-use crate::dump_command::{DumpFiles, dump_over};
+use crate::dump_command::dump_over;
 use crate::lines::tell;
+use crate::reach_command::reach_over;
+use crate::report_files::ReportFiles;
+use crate::triage_command::{TriageFiles, triage_over};
 use crate::trouble::Trouble;
 use crate::walk_command::{WalkFiles, walk_over};
 use core_words::{ArgsError, Command, read_words};
@@ -26,6 +29,7 @@ fn text_of<'a, F: Files>(
     command: &'a Command<'_>,
     files: &mut F,
 ) -> Result<Vec<u8>, Trouble<'a>>
+    requires few { HasFewCores (asked_command command.now) }
     ensures told { (F.seen files.new).told ≡ (F.seen files.old).told }
     ensures comes { Comes (F.seen files.old) (F.seen files.new) (asked_command command.now) result }
 {
@@ -35,8 +39,18 @@ fn text_of<'a, F: Files>(
             Ok(walk_over(alloc, words, read)?)
         }
         Command::Dump(words) => {
-            let read = DumpFiles::read(alloc, words, files)?;
+            let (core, layouts) = (words.core.as_bytes(), words.layouts.as_bytes());
+            let read = ReportFiles::read(alloc, core, layouts, &words.images, files)?;
             Ok(dump_over(alloc, words, read)?)
+        }
+        Command::Triage(words) => {
+            let read = TriageFiles::read(alloc, words, files)?;
+            triage_over(alloc, words, read, files)
+        }
+        Command::Reach(words) => {
+            let (core, layouts) = (words.core.as_bytes(), words.layouts.as_bytes());
+            let read = ReportFiles::read(alloc, core, layouts, &words.images, files)?;
+            Ok(reach_over(alloc, words, read)?)
         }
     }
 }
@@ -48,6 +62,7 @@ fn execute<'a, F: Files, S: Sink>(
     files: &mut F,
     out: &mut S,
 ) -> Result<(), Trouble<'a>>
+    requires few { IfOk asked.now (λ command. HasFewCores (asked_command command)) }
     ensures ends { (asks : Option Asked) → AnswersWords asked_command asks asked.now → HasEnded asks
         (ran (F.seen files.old) (F.seen files.new) (S.seen out.old) (S.seen out.new)) (end_after result) }
     ensures told { (F.seen files.new).told ≡ (F.seen files.old).told }
@@ -74,12 +89,14 @@ fn execute<'a, F: Files, S: Sink>(
 /// many calls `out` is written.
 ///
 /// - 0: the whole text was written.
-/// - 1: the core gives no stacks.
+/// - 1: the core gives no stacks. Of cores in groups such a cause is a line of the text.
 /// - 2: the words ask for nothing.
 /// - 3: a file that they name can't be read, or is too long.
 /// - 4: the text can't be written; a front of it may have been.
 /// - 5: there is no memory left.
 /// - 6: the layout file has a fault, as `py_layout::Layouts::from_toml` orders them.
+/// - 9: what a thread's locals lead to was asked for, and there is no thread of that number, or they lead to more than
+///   2^20 objects or 2^24 slots (`object_reach::reach`).
 pub fn run<F: Files, S: Sink, E: Sink>(
     alloc: Global,
     words: &[String],
@@ -92,7 +109,7 @@ pub fn run<F: Files, S: Sink, E: Sink>(
         (ran (F.seen files.old) (F.seen files.new) (S.seen out.old) (S.seen out.new))
         (E.seen err.old) (E.seen err.new) result }
 
-    ensures statuses { result ≤ 6 }
+    ensures statuses { (result ≤ 6) ⊎ (result ≡ 9) }
 
     // status 0 comes only after the whole text of what the command comes to was written
     ensures printed { result ≡ 0 → (text : List ℕ)
@@ -124,13 +141,14 @@ pub fn run<F: Files, S: Sink, E: Sink>(
         → (F.seen files.new).failed ≡ (F.seen files.old).failed
         → (result ≡ cause_status cause) ⊎ (result ≡ 5) }
 
-    // where nothing is wrong with what they tell, and no write fails, the text is written, want of memory aside
+    // where nothing is wrong with what they tell, and no write fails, the text is written, want of memory aside, unless
+    // the command comes to a cause of its own: of walks, reports and cores in groups there is none
     ensures complete { (command : Asked) (contents : List (List ℕ))
         → TellsContents (command_of (texts words.now)) (F.seen files.old).told command contents
         → IsFaultless command contents
         → (F.seen files.new).failed ≡ (F.seen files.old).failed
         → ¬ Rose (S.seen out.old).faults (S.seen out.new).faults
-        → (result ≡ 0) ⊎ (result ≡ 5) }
+        → (result ≡ 0) ⊎ ((result ≡ 5) ⊎ EndsItself command contents result) }
 {
     let asked = read_words(alloc, words);
     let ended = execute(alloc, &asked, files, out);

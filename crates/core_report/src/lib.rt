@@ -8,9 +8,13 @@
 mod cause;
 mod command;
 mod dump_command;
+mod judged;
 mod layouts;
 mod lines;
+mod reach_command;
 mod reading;
+mod report_files;
+mod triage_command;
 mod trouble;
 mod walk_command;
 

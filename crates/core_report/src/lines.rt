@@ -3,12 +3,13 @@ ghost use Rattle.std.specs.Prelude.{◌≡◌, ◌++◌, codes};
 ghost use Rattle.std.specs.List.{concat};
 ghost use Rattle.py_version.specs.Version.{version_text};
 ghost use Rattle.core_texts.specs.Parts.{said};
-ghost use Rattle.core_report.specs.Lines.{cause_parts, core_parts, file_parts, layout_parts, range_parts};
+ghost use Rattle.core_report.specs.Lines.{cause_parts, core_parts, file_parts, layout_parts, range_parts, reach_parts};
 ghost use Rattle.core_report.specs.Run.{SaysEnd, end_at, end_after, end_parts, end_status};
 
 use crate::cause::Cause;
 use crate::trouble::Trouble;
 use core_texts::{Part, Parts, parts, say_line};
+use object_reach::ReachError;
 use outside::{FileFault, Sink};
 use py_layout::{LayoutError, Version};
 use py_process::CoreError;
@@ -61,7 +62,7 @@ fn version_parts<'a>(version: &'a Version) -> Parts<'a>
 }
 
 /// Why a core gives no stacks.
-fn core_parts<'a>(error: &'a CoreError) -> Parts<'a>
+pub(crate) fn core_parts<'a>(error: &'a CoreError) -> Parts<'a>
     ensures { said result ≡ concat (core_parts error.now) }
 {
     match error {
@@ -125,6 +126,16 @@ fn layout_parts<'a>(error: &'a LayoutError) -> Parts<'a>
     }
 }
 
+/// Why there is no list of what a thread's locals lead to.
+fn reach_parts<'a>(error: &ReachError) -> Parts<'a>
+    ensures { said result ≡ concat (reach_parts error.now) }
+{
+    match error {
+        ReachError::ReachLimit => text_part("more than 1048576 objects or 16777216 slots"),
+        ReachError::OutOfMemory => text_part("out of memory"),
+    }
+}
+
 /// Why a command gives no text.
 pub(crate) fn cause_parts<'a>(cause: &'a Cause) -> Parts<'a>
     ensures { said result ≡ concat (cause_parts cause.now) }
@@ -132,6 +143,10 @@ pub(crate) fn cause_parts<'a>(cause: &'a Cause) -> Parts<'a>
     match cause {
         Cause::Core(error) => core_parts(error),
         Cause::Layouts(error) => layout_parts(error),
+        Cause::Reach(error) => reach_parts(error),
+        Cause::ReachIndex { index } => {
+            parts(&[Part::Text("no such thread: "), Part::Decimal(*index)])
+        }
         Cause::OutOfMemory => text_part("out of memory"),
     }
 }

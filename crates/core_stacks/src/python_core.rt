@@ -1,5 +1,6 @@
 //! A core of a Python process.
 ghost use Rattle.std.specs.Prelude.{◌≡◌, ℕ, IfErr, IfOk, map};
+ghost use Rattle.process_memory.specs.Layers.{plain};
 ghost use Rattle.process_memory.specs.Memory.{Memory, byte_at};
 ghost use Rattle.image_memory.specs.Backed.{regions_of};
 ghost use Rattle.py_fields.specs.Sound.{IsSound};
@@ -16,10 +17,10 @@ use crate::found::Found;
 use crate::printing::text_of_traces;
 use crate::stacks_in::stacks_in;
 use core_texts::PrintError;
-use image_memory::{BackedDump, CoreDump, Images};
+use image_memory::{BackedDump, BackedView, CoreDump, Images};
 use outside::Sink;
-use process_memory::{Recorder, Span};
-use py_layout::{Layouts, Version};
+use process_memory::{ProcessMemory, Recorder, Span};
+use py_layout::{Layout, Layouts, Version};
 use py_process::CoreError;
 use py_stacks::{Addresses, Config, StackTrace};
 use std::alloc::Global;
@@ -151,6 +152,22 @@ impl PythonCoreDump {
         ensures { result ≡ self.now.finding.addresses }
     {
         self.found.addresses
+    }
+
+    /// The layout that covers the version.
+    pub fn layout(&self) -> &Layout
+        ensures same { result.now ≡ self.now.finding.layout }
+        ensures sound { IsSound result.now }
+    {
+        &self.found.layout
+    }
+
+    /// The process's memory: that of the core and its images, the core's own bytes first; of a process whose addresses
+    /// were handed in the core's alone. It is read as it stands, and no read wants memory but to copy.
+    pub fn memory<'a>(&'a self) -> BackedView<'a>
+        ensures { ⟦<BackedView<'a> as ProcessMemory>⟧.seen result ≡ plain self.now.pieces }
+    {
+        self.dump.view()
     }
 
     /// The traces of the interpreter's threads, in the order of their chain, with what a `Config` asks for

@@ -1,5 +1,5 @@
 -- Parts with empty ones after them.
-use Rattle.std.proofs.Common.{◌≡◌, ℕ, zero, suc, ◌+◌, ◌<◌, List, [], ◌∷◌, ◌++◌, take, drop, get_or, length, map, refl, sym, ap, ◌∙◌, take-append-drop}
+use Rattle.std.proofs.Common.{append_assoc, ◌≡◌, ℕ, zero, suc, ◌+◌, ◌<◌, List, [], ◌∷◌, ◌++◌, take, drop, get_or, length, map, refl, sym, ap, ◌∙◌, take-append-drop}
 use Rattle.std.proofs.lemmas.List.{append-nil, map-append, take_more}
 use Rattle.std.proofs.lemmas.List.Folds.{concat-append}
 use Rattle.std.specs.Bool.{⊤}
@@ -36,3 +36,10 @@ rest_empty (suc k) (p ∷ ps) none = rest_empty k ps none.1
 pub padded : (list copied rest : List Part) (k : ℕ) → copied ≡ list → Empties rest → said (copied ++ drop k rest) ≡ said list
 padded list copied rest k same none =
     said-append copied (drop k rest) ∙ ap (λ t. said copied ++ t) (rest_empty k rest none) ∙ append-nil (said copied) ∙ ap (λ ps. said ps) same
+
+-- one part more behind a text
+pub push_more : (before text next : List ℕ) (ps : List Part) (i : ℕ) (d : Part) → i < length ps → text ≡ before ++ said (take i ps)
+    → next ≡ text ++ part_bytes (get_or ps i d) → next ≡ before ++ said (take (i + 1) ps)
+push_more before text next ps i d lt is more =
+    more ∙ ap (λ t. t ++ part_bytes (get_or ps i d)) is ∙ append_assoc before (said (take i ps)) (part_bytes (get_or ps i d))
+    ∙ ap (λ t. before ++ t) (sym (said_more ps i d lt))

@@ -13,7 +13,7 @@ const PREFIX: &[u8] = b"pystacks: ";
 const END: &[u8] = b"\n";
 
 /// Writes the hexadecimal digits of a number at the end of the buffer, and answers where they begin.
-fn hex(n: u64, buf: &mut [u8; 16]) -> usize
+pub(crate) fn hex(n: u64, buf: &mut [u8; 16]) -> usize
     ensures within { result < 16 }
     ensures digits { drop result buf.new ≡ digits 16 false n }
 {

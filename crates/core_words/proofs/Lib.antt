@@ -2,3 +2,4 @@ pub mod Accepted
 pub mod Digits
 pub mod Five
 pub mod Images
+pub mod Three

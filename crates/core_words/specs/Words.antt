@@ -1,5 +1,5 @@
 -- The words of a command line, as lists of bytes, and what they ask for.
-use Rattle.std.specs.Prelude.{ℕ, ◌^◌, ◌==◌, ◌&&◌, Bool, nat_lt, nat_le, nat_eq, if◌then◌else◌, List, [], ◌∷◌, ◌++◌, length, drop, map, Option, Some, None, option_and_then, option_map, bytes_eq, codes, string_bytes, String}
+use Rattle.std.specs.Prelude.{ℕ, ◌≤◌, ⊤, ◌^◌, ◌==◌, ◌&&◌, Bool, nat_lt, nat_le, nat_eq, if◌then◌else◌, List, [], ◌∷◌, ◌++◌, length, take, drop, map, Option, Some, None, option_and_then, option_map, bytes_eq, codes, string_bytes, String}
 use Rattle.std.specs.List.{list_all, position_or_len, starts_with, before_first, after_first}
 use Rattle.std.specs.Char.{digit_value}
 use Rattle.std.specs.Str.Parse.{digits_value}
@@ -7,7 +7,7 @@ use Rattle.std.specs.Global.{Global}
 use Rattle.py_version.specs.Version.{is_dot, release}
 use Rattle.py_version.specs.declared.version.Version.{Version}
 use Rattle.py_stacks.specs.declared.trace.Addresses.{Addresses}
-use Rattle.core_words.specs.Dump.{Dump, dump_words}
+use Rattle.core_words.specs.Dump.{Dump, dump_words, images_of, is_image}
 
 -- one digit or more of the radix, at most so many, of a number below 2 ^ 64
 abbrev pub is_numeral : ℕ → ℕ → List ℕ → Bool
@@ -51,10 +51,26 @@ pub record Walk : Type 0 where
   pub version : Version
   pub addresses : Addresses
 
+-- the cores of these names in groups by their stacks, by a layout file, with files under the paths at which they were
+-- mapped
+pub record Triage : Type 0 where
+  pub layouts : List ℕ
+  pub cores : List (List ℕ)
+  pub images : List (List ℕ × List ℕ)
+
+-- what the locals of a thread of a core lead to, by a layout file and images so; threads are counted from 0 on
+pub record Reach : Type 0 where
+  pub core : List ℕ
+  pub layouts : List ℕ
+  pub index : ℕ
+  pub images : List (List ℕ × List ℕ)
+
 -- what words ask for
 pub data Command : Type 0 where
   walk : Walk → Command
   dump : Dump → Command
+  triage : Triage → Command
+  reach : Reach → Command
 
 -- a walk of these parts, where all are there
 abbrev pub walk_by : List ℕ → LayoutSource → Option Version → Option ℕ → Option ℕ → Option Walk
@@ -72,11 +88,41 @@ walk_words (core ∷ layouts ∷ version ∷ interp ∷ lock ∷ []) =
     walk_by core (source_of layouts) (release_of version) (word_number interp) (word_number lock)
 walk_words _ = None
 
+-- of these layouts, with so many words of cores, 1 to 4096, and then those of images
+abbrev pub triage_by : List ℕ → ℕ → List (List ℕ) → Option Triage
+triage_by layouts count words = if nat_lt 0 count && nat_le count 4096
+    then option_map (λ images. record { layouts = layouts; cores = take count words; images = images })
+    (images_of (drop count words))
+    else None
+
+-- LAYOUTS CORE.. [PATH=FILE]..: the cores are the words before the first with an equals sign
+abbrev pub triage_words : List (List ℕ) → Option Triage
+triage_words [] = None
+triage_words (layouts ∷ words) = triage_by layouts (position_or_len is_image words) words
+
+abbrev pub reach_by : List ℕ → List ℕ → Option ℕ → List (List ℕ) → Option Reach
+reach_by core layouts None words = None
+reach_by core layouts (Some index) words =
+    option_map (λ images. record { core = core; layouts = layouts; index = index; images = images }) (images_of words)
+
+-- CORE LAYOUTS INDEX [PATH=FILE]..
+abbrev pub reach_words : List (List ℕ) → Option Reach
+reach_words (core ∷ layouts ∷ index ∷ words) = reach_by core layouts (word_number index) words
+reach_words _ = None
+
 -- the command's name, and then its words
 abbrev pub command_of : List (List ℕ) → Option Command
 command_of [] = None
-command_of (name ∷ words) = if bytes_eq name (codes "walk") then option_map (λ w. walk w) (walk_words words)
-    else option_map (λ d. dump d) (dump_words (name ∷ words))
+command_of (name ∷ words) =
+    if bytes_eq name (codes "walk") then option_map (λ w. walk w) (walk_words words) else
+    if bytes_eq name (codes "triage") then option_map (λ t. triage t) (triage_words words) else
+    if bytes_eq name (codes "reach") then option_map (λ r. reach r) (reach_words words) else
+    option_map (λ d. dump d) (dump_words (name ∷ words))
+
+-- no command names more than 4096 cores to be put in groups
+abbrev pub HasFewCores : Command → Type 0
+HasFewCores (triage t) = length t.cores ≤ 4096
+HasFewCores _ = ⊤
 
 -- the files of a source of layouts
 abbrev pub source_files : LayoutSource → List (List ℕ)
@@ -87,11 +133,15 @@ source_files (file name) = name ∷ []
 abbrev pub kept_files : Command → List (List ℕ)
 kept_files (walk w) = w.core ∷ source_files w.layouts
 kept_files (dump d) = d.core ∷ d.layouts ∷ map (λ image. image.1) d.images
+kept_files (triage t) = t.layouts ∷ map (λ image. image.1) t.images
+kept_files (reach r) = r.core ∷ r.layouts ∷ map (λ image. image.1) r.images
 
 -- the names of those that are read in its work, one at a time
 abbrev pub later_files : Command → List (List ℕ)
 later_files (walk w) = []
 later_files (dump d) = []
+later_files (triage t) = t.cores
+later_files (reach r) = []
 
 -- all the files that a command names, in the order in which they are read
 abbrev pub files_of : Command → List (List ℕ)

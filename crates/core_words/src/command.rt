@@ -1,11 +1,13 @@
 //! What words ask for.
-ghost use Rattle.std.specs.Prelude.{option_map};
+ghost use Rattle.std.specs.Prelude.{IfOk, option_map};
 ghost use Rattle.core_words.specs.Answers.{AnswersWords};
-ghost use Rattle.core_words.specs.Words.{command_of, texts, walk, walk_words};
+ghost use Rattle.core_words.specs.Words.{HasFewCores, command_of, reach, reach_words, texts, triage, triage_words, walk, walk_words};
 ghost use Rattle.core_words.specs.Seen.{asked_command};
 
 use crate::args_error::ArgsError;
 use crate::dump::{DumpWords, config_from_args};
+use crate::reach::{ReachWords, reach_words};
+use crate::triage::{TriageWords, triage_words};
 use crate::walk::{WalkWords, walk_words};
 use std::alloc::Global;
 
@@ -16,25 +18,41 @@ pub enum Command<'a> {
     Walk(WalkWords<'a>),
     /// The report of a core.
     Dump(DumpWords),
+    /// Cores in groups by their stacks.
+    Triage(TriageWords<'a>),
+    /// What the locals of a thread of a core lead to.
+    Reach(ReachWords<'a>),
 }
 
-/// What the words ask for, the first of which is the command's name: `walk CORE LAYOUTS VERSION INTERP LOCK`, or the
-/// words of a report, as `config_from_args` takes them.
+/// What the words ask for, the first of which is the command's name: `walk CORE LAYOUTS VERSION INTERP LOCK`,
+/// `triage LAYOUTS CORE.. [PATH=FILE]..`, `reach CORE LAYOUTS INDEX [PATH=FILE]..`, or the words of a report, as
+/// `config_from_args` takes them.
 ///
 /// Of a walk `LAYOUTS` is `sample`, for `py_fields::Layout::sample`, or else the name of a layout file. `VERSION` is
 /// three runs of 1 to 3 decimal digits joined by dots. `INTERP` and `LOCK` are 1 to 20 decimal digits, or
 /// `0x` and 1 to 16 hexadecimal digits of either case, of a number below 2^64.
 ///
+/// Of `triage` the cores are the words before the first with an equals sign, 1 to 4096 of them; of `reach` `INDEX` is
+/// a number as `INTERP` is. From there on each word is an image's: a path, the first equals sign, and the name of a
+/// file.
+///
 /// - `Refused` exactly where the words are no such words.
 /// - `OutOfMemory` where there was no memory left.
 pub fn read_words(alloc: Global, words: &[String]) -> Result<Command<'_>, ArgsError>
-    ensures { AnswersWords asked_command (command_of (texts words.now)) result }
+    ensures words { AnswersWords asked_command (command_of (texts words.now)) result }
+    ensures few { IfOk result (λ command. HasFewCores (asked_command command)) }
 {
     let [name, rest @ ..] = words else {
         return Err(ArgsError::Refused);
     };
     if name.as_str() == "walk" {
         return walk_command(rest);
+    }
+    if name.as_str() == "triage" {
+        return triage_command(alloc, rest);
+    }
+    if name.as_str() == "reach" {
+        return reach_command(alloc, rest);
     }
     match config_from_args(alloc, words) {
         Ok(words) => Ok(Command::Dump(words)),
@@ -49,5 +67,25 @@ fn walk_command(words: &[String]) -> Result<Command<'_>, ArgsError>
     match walk_words(words) {
         Some(words) => Ok(Command::Walk(words)),
         None => Err(ArgsError::Refused),
+    }
+}
+
+/// Cores in groups, by the words behind the name.
+fn triage_command(alloc: Global, words: &[String]) -> Result<Command<'_>, ArgsError>
+    ensures { AnswersWords asked_command (option_map (λ t. triage t) (triage_words (texts words.now))) result }
+{
+    match triage_words(alloc, words) {
+        Ok(words) => Ok(Command::Triage(words)),
+        Err(error) => Err(error),
+    }
+}
+
+/// What a thread's locals lead to, by the words behind the name.
+fn reach_command(alloc: Global, words: &[String]) -> Result<Command<'_>, ArgsError>
+    ensures { AnswersWords asked_command (option_map (λ r. reach r) (reach_words (texts words.now))) result }
+{
+    match reach_words(alloc, words) {
+        Ok(words) => Ok(Command::Reach(words)),
+        Err(error) => Err(error),
     }
 }

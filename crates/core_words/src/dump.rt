@@ -133,6 +133,17 @@ fn image_words<'m>(matches: &'m ArgMatches<'_>) -> &'m [&'m str]
     words
 }
 
+/// The images of the words of a command that is read by hand; `Refused` where one of them has no equals sign.
+pub(crate) fn images_in(alloc: Global, words: &[String]) -> Result<Vec<(Name, Name)>, ArgsError>
+    ensures { AnswersWords (λ images. images.items) (images_of (texts words.now)) result }
+{
+    let mut texts = Vec::new(alloc);
+    for word in words {
+        texts.push(word.as_str())?;
+    }
+    images_of(alloc, &texts)
+}
+
 /// The images of some words; `Refused` where one of them has no equals sign.
 fn images_of(alloc: Global, words: &[&str]) -> Result<Vec<(Name, Name)>, ArgsError>
     ensures { AnswersWords (λ images. images.items) (images_of (map (λ word. word.now) words.now)) result }
@@ -150,7 +161,7 @@ fn images_of(alloc: Global, words: &[&str]) -> Result<Vec<(Name, Name)>, ArgsErr
 }
 
 /// The path and the file's name, round the first equals sign.
-fn split_image(word: &str) -> Option<(&str, &str)>
+pub(crate) fn split_image(word: &str) -> Option<(&str, &str)>
     ensures { option_map (λ parts. (parts.0.now, parts.1.now)) result ≡ split_image word.now }
 {
     word.split_once('=')

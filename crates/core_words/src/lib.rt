@@ -5,13 +5,17 @@ mod args_error;
 mod command;
 mod dump;
 mod numbers;
+mod reach;
 mod taken;
+mod triage;
 mod walk;
 
 pub use args_error::ArgsError;
 pub use command::{Command, read_words};
 pub use dump::{DumpWords, config_from_args};
 pub use numbers::Release;
+pub use reach::ReachWords;
+pub use triage::TriageWords;
 pub use walk::{LayoutSource, WalkWords};
 
 #[cfg(test)]

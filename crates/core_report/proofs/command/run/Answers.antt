@@ -8,7 +8,7 @@ pub returns-clause-right : goal.returns-clause-right
 returns-clause-right g c = record {
   end = end_after c.execute-ended.result;
   is = c.tell.ensures.status;
-  ended = c.execute-ended.ensures.ends (command_of (texts c.args.words.now)) c.read_words-asked.ensures;
+  ended = c.execute-ended.ensures.ends (command_of (texts c.args.words.now)) c.read_words-asked.ensures.words;
   said = c.tell.ensures.said;
 }
 

@@ -1,9 +1,9 @@
-use Rattle.std.proofs.Common.{◌≡◌}
+use Rattle.std.proofs.Common.{◌≡◌, ap, length, refl}
 use Rattle.std.proofs.lemmas.Result.{err_from_is_err_and}
-use Rattle.core_words.specs.Seen.{asked_dump, asked_walk}
-use Rattle.core_words.specs.Words.{dump, walk}
-use Rattle.core_report.specs.Reading.{dump_contents, walk_contents}
-use Rattle.core_report.proofs.Turns.{caused_of, comes_of}
+use Rattle.core_words.specs.Seen.{asked_dump, asked_reach, asked_triage, asked_walk}
+use Rattle.core_words.specs.Words.{dump, reach, triage, walk}
+use Rattle.core_report.specs.Reading.{report_contents, walk_contents}
+use Rattle.core_report.proofs.Turns.{caused_of, comes_from, comes_of, dump_asks, dump_has, reach_asks, reach_has, troubled_from}
 use Rattle.core_report.proofs.command.text_of.Goals as goal
 
 pub returns-in_err-walk_over-in-Walk-clause-comes : goal.returns-in_err-walk_over-in-Walk-clause-comes
@@ -12,18 +12,55 @@ returns-in_err-walk_over-in-Walk-clause-comes g c =
     let read = c.in_ok-read-in-Walk in
     rw (c.in-Walk.is, p.1, p.2) (caused_of _ _ (walk (asked_walk c.in-Walk.words)) (walk_contents read.read) _ read.ensures.read.0 c.in_err-walk_over-in-Walk.ensures)
 
-pub returns-in_err-dump_over-in-Dump-clause-comes : goal.returns-in_err-dump_over-in-Dump-clause-comes
-returns-in_err-dump_over-in-Dump-clause-comes g c =
-    let p = err_from_is_err_and c.from_residual-in_err-dump_over-in-Dump.result c.from_residual-in_err-dump_over-in-Dump.ensures.1 in
-    let read = c.in_ok-read-in-Dump in
-    rw (c.in-Dump.is, p.1, p.2) (caused_of _ _ (dump (asked_dump c.in-Dump.words)) (dump_contents read.read) _ read.ensures.read c.in_err-dump_over-in-Dump.ensures)
-
 pub returns-in_ok-walk_over-in-Walk-clause-comes : goal.returns-in_ok-walk_over-in-Walk-clause-comes
 returns-in_ok-walk_over-in-Walk-clause-comes g c =
     let read = c.in_ok-read-in-Walk in
     rw c.in-Walk.is (comes_of _ _ (walk (asked_walk c.in-Walk.words)) (walk_contents read.read) c.in_ok-walk_over-in-Walk.field-0 read.ensures.read.0 c.in_ok-walk_over-in-Walk.ensures)
 
+pub returns-in_err-read-in-Dump-clause-comes : goal.returns-in_err-read-in-Dump-clause-comes
+returns-in_err-read-in-Dump-clause-comes g c =
+    let p = err_from_is_err_and c.from_residual-in_err-read-in-Dump.result c.from_residual-in_err-read-in-Dump.ensures.1 in
+    let d = asked_dump c.in-Dump.words in
+    rw (c.in-Dump.is, p.1, p.2) (c.in_err-read-in-Dump.ensures.read (dump d)
+    (dump_asks d _ _ _ c.as_bytes-core.ensures c.as_bytes-layouts.ensures c.deref.ensures.value))
+
+pub returns-in_err-dump_over-in-Dump-clause-comes : goal.returns-in_err-dump_over-in-Dump-clause-comes
+returns-in_err-dump_over-in-Dump-clause-comes g c =
+    let p = err_from_is_err_and c.from_residual-in_err-dump_over-in-Dump.result c.from_residual-in_err-dump_over-in-Dump.ensures.1 in
+    let read = c.in_ok-read-in-Dump in
+    let d = asked_dump c.in-Dump.words in
+    let has = dump_has _ _ d read.read _ c.deref.ensures.value
+    (read.ensures.read (dump d) (dump_asks d _ _ _ c.as_bytes-core.ensures c.as_bytes-layouts.ensures c.deref.ensures.value)) in
+    rw (c.in-Dump.is, p.1, p.2) (caused_of _ _ (dump d) (report_contents read.read) _ has c.in_err-dump_over-in-Dump.ensures)
+
 pub returns-in_ok-dump_over-in-Dump-clause-comes : goal.returns-in_ok-dump_over-in-Dump-clause-comes
 returns-in_ok-dump_over-in-Dump-clause-comes g c =
     let read = c.in_ok-read-in-Dump in
-    rw c.in-Dump.is (comes_of _ _ (dump (asked_dump c.in-Dump.words)) (dump_contents read.read) c.in_ok-dump_over-in-Dump.field-0 read.ensures.read c.in_ok-dump_over-in-Dump.ensures)
+    let d = asked_dump c.in-Dump.words in
+    let has = dump_has _ _ d read.read _ c.deref.ensures.value
+    (read.ensures.read (dump d) (dump_asks d _ _ _ c.as_bytes-core.ensures c.as_bytes-layouts.ensures c.deref.ensures.value)) in
+    rw c.in-Dump.is (comes_of _ _ (dump d) (report_contents read.read) c.in_ok-dump_over-in-Dump.field-0 has c.in_ok-dump_over-in-Dump.ensures)
+
+pub returns-in_err-read-in-Reach-clause-comes : goal.returns-in_err-read-in-Reach-clause-comes
+returns-in_err-read-in-Reach-clause-comes g c =
+    let p = err_from_is_err_and c.from_residual-in_err-read-in-Reach.result c.from_residual-in_err-read-in-Reach.ensures.1 in
+    let r = asked_reach c.in-Reach.words in
+    rw (c.in-Reach.is, p.1, p.2) (c.in_err-read-in-Reach.ensures.read (reach r)
+    (reach_asks r _ _ _ c.as_bytes-core-in-Reach.ensures.value c.as_bytes-layouts-in-Reach.ensures.value c.deref-in-Reach.ensures.value))
+
+pub returns-in_err-reach_over-in-Reach-clause-comes : goal.returns-in_err-reach_over-in-Reach-clause-comes
+returns-in_err-reach_over-in-Reach-clause-comes g c =
+    let p = err_from_is_err_and c.from_residual-in_err-reach_over-in-Reach.result c.from_residual-in_err-reach_over-in-Reach.ensures.1 in
+    let read = c.in_ok-read-in-Reach in
+    let r = asked_reach c.in-Reach.words in
+    let has = reach_has _ _ r read.read _ c.deref-in-Reach.ensures.value
+    (read.ensures.read (reach r) (reach_asks r _ _ _ c.as_bytes-core-in-Reach.ensures.value c.as_bytes-layouts-in-Reach.ensures.value c.deref-in-Reach.ensures.value)) in
+    rw (c.in-Reach.is, p.1, p.2) (caused_of _ _ (reach r) (report_contents read.read) _ has c.in_err-reach_over-in-Reach.ensures)
+
+pub returns-in_ok-reach_over-in-Reach-clause-comes : goal.returns-in_ok-reach_over-in-Reach-clause-comes
+returns-in_ok-reach_over-in-Reach-clause-comes g c =
+    let read = c.in_ok-read-in-Reach in
+    let r = asked_reach c.in-Reach.words in
+    let has = reach_has _ _ r read.read _ c.deref-in-Reach.ensures.value
+    (read.ensures.read (reach r) (reach_asks r _ _ _ c.as_bytes-core-in-Reach.ensures.value c.as_bytes-layouts-in-Reach.ensures.value c.deref-in-Reach.ensures.value)) in
+    rw c.in-Reach.is (comes_of _ _ (reach r) (report_contents read.read) c.in_ok-reach_over-in-Reach.field-0 has c.in_ok-reach_over-in-Reach.ensures)

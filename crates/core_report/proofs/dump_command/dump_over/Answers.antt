@@ -1,9 +1,10 @@
-use Rattle.std.proofs.Common.{ap, inl, inr, refl, subst}
+use Rattle.std.proofs.Common.{◌∙◌, ap, inl, inr, refl, subst}
 use Rattle.std.specs.Prelude.{Err, Ok}
 use Rattle.std.proofs.lemmas.Result.{err_from_is_err_and}
 use Rattle.core_words.specs.Seen.{asked_dump}
 use Rattle.core_report.specs.declared.cause.Cause.TheVariants.{Core}
-use Rattle.core_report.specs.Outcome.{IsDumpedBy}
+use Rattle.core_report.specs.Outcome.{IsDumpedBy, images_read}
+use Rattle.core_report.specs.Reading.{contents}
 use Rattle.core_report.proofs.dump_command.dump_over.Goals as goal
 
 pub returns-in_err-layouts : goal.returns-in_err-layouts
@@ -26,7 +27,7 @@ returns-in_err-report c =
     rw (p.1, p.2) (λ ne. inr (
       c.in_ok-layouts.layouts,
       says,
-      subst (λ images. IsDumpedBy d core images c.in_ok-layouts.layouts (Err (Core c.in_err-report.field-0.0))) c.in_ok-images.ensures
+      subst (λ images. IsDumpedBy d core images c.in_ok-layouts.layouts (Err (Core c.in_err-report.field-0.0))) (c.in_ok-images.ensures ∙ ap (λ w. images_read w (contents c.args.files.images.items)) c.deref-2.ensures.value)
           (inl (c.in_err-report.field-0.0, refl, c.in_err-report.ensures.right)),
     ))
 
@@ -42,6 +43,6 @@ returns c =
     inr (
       c.in_ok-layouts.layouts,
       says,
-      subst (λ images. IsDumpedBy d c.args.files.core.items images c.in_ok-layouts.layouts (Ok c.in_ok-text.text.items)) c.in_ok-images.ensures
+      subst (λ images. IsDumpedBy d c.args.files.core.items images c.in_ok-layouts.layouts (Ok c.in_ok-text.text.items)) (c.in_ok-images.ensures ∙ ap (λ w. images_read w (contents c.args.files.images.items)) c.deref-2.ensures.value)
           (inr (c.in_ok-report.report, c.in_ok-report.ensures.right, ap (λ t. Ok t) c.in_ok-text.ensures)),
     )

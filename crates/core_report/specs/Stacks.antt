@@ -1,0 +1,22 @@
+-- What the code's own values of an opened process stand for.
+use Rattle.std.specs.Prelude.{List, map, Option, option_map, Result, Ok, Err, Vec}
+use Rattle.std.specs.Global.{Global}
+use Rattle.py_stacks.specs.Threads.{trace_of}
+use Rattle.py_stacks.specs.declared.trace.LocalVariable.{LocalVariable}
+use Rattle.py_process.specs.declared.core_error.CoreError.{CoreError}
+use Rattle.core_report.specs.declared.reach_command.Stacks.{Stacks}
+use Rattle.core_report.specs.Stacked.{Stacked}
+
+abbrev pub stacked : Stacks → Stacked
+stacked s = record {
+  pieces = s.process.pieces;
+  layout = s.process.finding.layout;
+  traces = map trace_of s.traces.items;
+}
+
+abbrev pub stacked_in : Result Stacks CoreError → Result Stacked CoreError
+stacked_in (Ok s) = Ok (stacked s)
+stacked_in (Err e) = Err e
+
+abbrev pub locals_of : Option (Vec LocalVariable Global) → Option (List LocalVariable)
+locals_of locals = option_map (λ (v : Vec LocalVariable Global). v.items) locals

@@ -1,0 +1,109 @@
+"""Several cores handed to one run of the program: the images that they need together, and the user's names for those of
+them that were prepared.
+
+The program takes one file for a path, for all cores. So where two cores have files of different builds under one path,
+or were written on different machines, they can't be handed over together.
+"""
+
+import os
+import subprocess
+import tempfile
+from dataclasses import dataclass
+from typing import BinaryIO, Dict, List, Optional, Sequence
+
+from core_maps import Use, Wanted, machine_of, wanted_files
+from core_run import end_as, write_all
+
+CANNOT_WRITE = 4
+
+
+class Apart(Exception):
+    """Why some cores can't be handed over together."""
+
+
+@dataclass
+class Core:
+    """A core of several, as it is handed over."""
+
+    name: bytes
+    """The user's name for it."""
+    file: Optional[BinaryIO]
+    """Its file, or the one that was prepared; none where it can't be read."""
+    is_prepared: bool = False
+
+    @property
+    def word(self) -> bytes:
+        """The program's word for it."""
+        return b"/proc/self/fd/%d" % self.file.fileno() if self.is_prepared and self.file else self.name
+
+    def machine(self) -> Optional[int]:
+        """The machine that it was written on, if it is a core."""
+        return machine_of(self.file) if self.file else None
+
+    def wanted(self) -> List[Wanted]:
+        """The files into which the program looks."""
+        try:
+            found = wanted_files(self.file) if self.file else []
+        except OSError:
+            return []
+        return [it for it in found if it.use is not Use.MEMORY]
+
+
+def shared_machine(cores: Sequence[Core]) -> Optional[int]:
+    """The machine of all the cores that tell one."""
+    first: Optional[Core] = None
+    for core in cores:
+        if core.machine() is None:
+            continue
+        first = first or core
+        if core.machine() != first.machine():
+            raise Apart(f"{os.fsdecode(first.name)} and {os.fsdecode(core.name)} are of different machines")
+    return first.machine() if first else None
+
+
+def shared_files(cores: Sequence[Core]) -> List[Wanted]:
+    """The files of all the cores, each once, in their order, with all builds that they have of it."""
+    found: Dict[bytes, Wanted] = {}
+    owners: Dict[bytes, Core] = {}
+    for core in cores:
+        for it in core.wanted():
+            known = found.get(it.name)
+            if known and known.builds and it.builds and known.builds != it.builds:
+                first = os.fsdecode(owners[it.name].name)
+                raise Apart(f"{first} and {os.fsdecode(core.name)} have different builds of {os.fsdecode(it.name)}")
+            if it.builds:
+                owners.setdefault(it.name, core)
+            builds = it.builds | (known.builds if known else frozenset())
+            is_needed = it.use is Use.NEEDED or bool(known and known.use is Use.NEEDED)
+            found[it.name] = Wanted(it.name, builds, Use.NEEDED if is_needed else it.use)
+    return list(found.values())
+
+
+def renamed(line: bytes, names: Dict[bytes, bytes]) -> bytes:
+    """A line of groups, with the user's name for a core: it stands behind four blanks, to the end of the line or to a
+    colon."""
+    if line.startswith(b"    "):
+        name, colon, rest = line[4:].rstrip(b"\n").partition(b": ")
+        if name in names:
+            return b"    " + names[name] + colon + rest + b"\n"
+    return line
+
+
+def run_group(command: List[bytes], cores: Sequence[Core]) -> int:
+    """Runs the program over several cores, and returns its status."""
+    own = {core.word: core.name for core in cores if core.is_prepared}
+    fds = [core.file.fileno() for core in cores if core.is_prepared and core.file]
+    with tempfile.TemporaryFile() as out, tempfile.TemporaryFile() as lines:
+        status = subprocess.call(command, pass_fds=fds, stdout=out, stderr=lines)
+        out.seek(0)
+        lines.seek(0)
+        said = lines.read()
+        for word, name in own.items():
+            said = said.replace(b": " + word + b"\n", b": " + name + b"\n").replace(b" " + word + b"\n", b" " + name + b"\n")
+        try:
+            for line in out:
+                write_all(1, renamed(line, own))
+        except OSError:
+            status, said = CANNOT_WRITE, b"pystacks: cannot write\n"
+    write_all(2, said)
+    return end_as(status)
