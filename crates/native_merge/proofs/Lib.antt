@@ -1,3 +1,4 @@
+pub mod FileMaps
 pub mod Fronts
 pub mod Marks
 pub mod Numbers

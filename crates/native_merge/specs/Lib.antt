@@ -1,5 +1,6 @@
 pub mod CythonNames
 pub mod Digits
+pub mod MapsOfFiles
 pub mod NameEnds
 pub mod Paths
 pub mod SourceLines

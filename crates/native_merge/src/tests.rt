@@ -129,3 +129,39 @@ fn first_lines_tell(rt: HostRuntime) -> Result<(), Fail> {
     }
     Ok(())
 }
+
+#[test]
+fn c_files_have_maps(rt: HostRuntime) -> Result<(), Fail> {
+    let alloc = rt.alloc();
+    let mut files = Vec::new(alloc);
+    let contents = [
+        (b"a.c".as_slice(), b"/* \"x/a.pyx\":7".as_slice()),
+        (b"b.c", b"/* \"a.pyx\":7 \xff"),
+        (b"m/a.pyx", b""),
+    ];
+    for (path, bytes) in contents {
+        files.push((Name::of(alloc, path)?, Vec::from_slice(alloc, bytes)?))?;
+    }
+    let mut failing = Vec::new(alloc);
+    failing.push(4)?;
+    let mut sources = MemorySources::new(alloc, files, failing);
+    // what line 2 of the map tells, for the calls of `contents` from 0 on
+    let cases = [
+        ("a.c", None, Some(("x/a.pyx", 7))),
+        ("a.c", Some("m/a.so"), Some(("m/a.pyx", 7))),
+        ("b.c", None, None),
+        ("c.c", None, None),
+        ("a.c", None, None),
+        ("a.c", None, Some(("x/a.pyx", 7))),
+        ("m/a.pyx", None, None),
+    ];
+    for (path, module, want) in cases {
+        let map = SourceMap::new(alloc, &mut sources, path, module)?;
+        let told = match &map {
+            Some(map) => map.lookup(2),
+            None => None,
+        };
+        assert_eq!(rt; told, want, "{path}");
+    }
+    Ok(())
+}
