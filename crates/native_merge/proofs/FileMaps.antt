@@ -1,13 +1,11 @@
 -- Maps of C files by their paths: what reading a path gives, and that a path whose bytes are told has one map.
 use Rattle.std.proofs.Common.{◌≡◌, ℕ, Bool, true, false, List, refl, sym, ap, subst, ◌∙◌, inl, inr}
-use Rattle.std.specs.Prelude.{Option, Some, None, IfSome}
+use Rattle.std.specs.Prelude.{Option, Some, None}
 use Rattle.std.proofs.lemmas.Option.{same_Some}
 use Rattle.outside.specs.Files.{Gives, held_bytes}
 use Rattle.native_merge.specs.Paths.{cython_file}
-use Rattle.native_merge.specs.MapsOfFiles.{FilesMapOnce, HasBytes, HasMap, IsMapOfBytes, IsMapOfFile, MapOrNone}
-use Rattle.native_merge.specs.SourceMaps.{IsSourceMap}
+use Rattle.native_merge.specs.MapsOfFiles.{FilesMapOnce, HasBytes, IsMapOfBytes, IsMapOfFile, MapOrNone}
 use Rattle.native_merge.specs.Sources.{SourcesSeen}
-use Rattle.native_merge.specs.declared.source_map.SourceMark.{SourceMark}
 use Rattle.native_merge.proofs.Marks.{maps_once}
 
 not_false : (b : Bool) → (b ≡ false → ⊥) → b ≡ true

@@ -1,6 +1,6 @@
 -- Which map a C file of sources has, by its path. That a file that can't be read has none is py-spy's rule; that such
 -- an answer is told apart from the others is this project's own.
-use Rattle.std.specs.Prelude.{◌≡◌, ℕ, ◌<◌, ◌≤◌, ◌⊎◌, Bool, true, false, List, length, Option, Some, None}
+use Rattle.std.specs.Prelude.{◌≡◌, ℕ, ◌<◌, ◌⊎◌, true, false, List, length, Option, Some, None}
 use Rattle.std.specs.Str.{IsUtf8}
 use Rattle.std.specs.Str.Lines.{lines}
 use Rattle.outside.specs.Counts.{Rose}

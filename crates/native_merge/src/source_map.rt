@@ -1,5 +1,5 @@
 //! Which line of a Cython file a line of its C file comes from.
-ghost use Rattle.std.specs.Prelude.{◌≡◌, ◌≤◌, ◌<◌, List, length, option_map, IfOk, IsErrOf, OnOk};
+ghost use Rattle.std.specs.Prelude.{◌≡◌, ◌≤◌, ◌<◌, nat_le, List, length, option_map, IfOk, IsErrOf, OnOk};
 ghost use Rattle.std.specs.Str.Lines.{lines};
 ghost use Rattle.native_merge.specs.MapsOfFiles.{FilesMapOnce, IsMade, IsMapOfBytes, IsReadMap};
 ghost use Rattle.native_merge.specs.Paths.{cython_file};
@@ -82,6 +82,13 @@ fn add_mark<F: Sources>(
     Ok(())
 }
 
+/// Whether contents of so many lines are too long.
+pub(crate) fn is_too_long(lines: u32) -> bool
+    ensures { result ≡ nat_le line_limit lines }
+{
+    lines >= LINE_LIMIT
+}
+
 /// The marks of a C file's lines, and the last one of line 0.
 fn read_marks<F: Sources>(
     alloc: Global,
@@ -99,7 +106,7 @@ fn read_marks<F: Sources>(
     let mut marks = Vec::new(alloc);
     let mut count: u32 = 0;
     for line in contents.lines() {
-        if count + 1 == LINE_LIMIT {
+        if is_too_long(count + 1) {
             return Err(SourceMapError::TooLong);
         }
         add_mark(
