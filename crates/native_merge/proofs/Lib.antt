@@ -1,4 +1,6 @@
+pub mod FileMaps
 pub mod Fronts
+pub mod KeptByName
 pub mod Marks
 pub mod Numbers
 pub mod Parts

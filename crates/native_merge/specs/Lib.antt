@@ -1,5 +1,7 @@
 pub mod CythonNames
 pub mod Digits
+pub mod KeptMaps
+pub mod MapsOfFiles
 pub mod NameEnds
 pub mod Paths
 pub mod SourceLines

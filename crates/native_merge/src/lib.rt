@@ -13,6 +13,7 @@ mod memory_sources;
 mod paths;
 mod source_line;
 mod source_map;
+mod source_maps;
 mod sources;
 #[cfg(test)]
 mod tests;
@@ -23,4 +24,5 @@ pub use fault::SourceFault;
 pub use memory_sources::MemorySources;
 pub use paths::resolve_filename;
 pub use source_map::SourceMap;
+pub use source_maps::SourceMaps;
 pub use sources::{NoSources, Sources};
