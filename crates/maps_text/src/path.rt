@@ -75,3 +75,22 @@ pub(crate) fn path_name(
         _ => Ok(Some(PathName::Component(component(alloc, path)?))),
     }
 }
+
+impl PathName {
+    /// What the bytes of a path are, as a line of maps text gives it for a range of a process: None where there are
+    /// none, a `Path` less a final ` (deleted)` where they begin with `/`, and else a `Component`.
+    ///
+    /// The file by the process and the range is `/proc/PID/map_files/START-END`: the number of the process in
+    /// decimal, those of the range in lower-case hexadecimal without leading zeros.
+    pub fn of(
+        alloc: Global,
+        pid: u32,
+        range: &Range<u64>,
+        path: &[u8],
+    ) -> Result<Option<PathName>, AllocError>
+        ensures { IfOk result (λ name. name ≡ path_name_of pid range.now path.now) }
+    {
+        let mut text = String::new(alloc);
+        path_name(alloc, &mut text, pid, range, path)
+    }
+}

@@ -186,3 +186,32 @@ fn permissions(rt: HostRuntime) -> Result<(), Fail> {
     assert_eq!(rt; perm.to_string(alloc)?.as_str(), "--x");
     Ok(())
 }
+
+/// Paths of a range of a process of number 0, and what is shown of their names.
+const NAMES: [(&[u8], &str); 4] = [
+    (b"", "1000 2000 --- 0"),
+    (
+        b"/a (deleted)",
+        "1000 2000 --- 0 file /proc/0/map_files/1000-2000 /a",
+    ),
+    (b"a (deleted)", "1000 2000 --- 0 component a (deleted)"),
+    (b" /a", "1000 2000 --- 0 component  /a"),
+];
+
+#[test]
+fn names_of_paths(rt: HostRuntime) -> Result<(), Fail> {
+    let alloc = rt.alloc();
+    for (path, want) in NAMES {
+        let range = 0x1000..0x2000;
+        let path_name = PathName::of(alloc, 0, &range, path)?;
+        let entry = MapsEntry {
+            range,
+            perm: Perm::default(),
+            offset: 0,
+            path_name,
+            build_id: None,
+        };
+        assert_eq!(rt; shown(alloc, &entry)?.as_str(), want);
+    }
+    Ok(())
+}
