@@ -2,6 +2,7 @@ pub mod Metas
 pub mod Order
 pub mod Targets
 pub mod Shown
+pub mod FileOffsets
 pub mod Numbered
 pub mod BuildIds
 pub mod Firsts

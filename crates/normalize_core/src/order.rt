@@ -28,8 +28,9 @@ fn are_apart(entries: &[MapsEntry]) -> bool
     entries.is_sorted_by(|first, second| first.range.end <= second.range.start)
 }
 
-/// Whether entries ascend and are disjoint.
-pub(crate) fn in_order(entries: &[MapsEntry]) -> bool
+/// Whether entries ascend and are disjoint: no entry's start passes its end, and no entry's end passes the start
+/// of the next. Normalizing refuses other entries as `EntriesUnsorted`.
+pub fn in_order(entries: &[MapsEntry]) -> bool
     ensures { result ≡ in_order entries.now }
 {
     all_forward(entries) && are_apart(entries)

@@ -1,5 +1,7 @@
 //! Entries, images and addresses written out by hand: each call once, and an answer of each kind.
-use crate::{NormalizeError, NormalizeOpts, Normalizer, Reason, UserMeta, UserOutput};
+use crate::{
+    NormalizeError, NormalizeOpts, Normalizer, Reason, UserMeta, UserOutput, file_offset, in_order,
+};
 use NormalizeError::{AddrsUnsorted, EntriesUnsorted, NoEntries, OffsetOverflow};
 use elf64_core::Name;
 use image_memory::{Images, Mmap};
@@ -215,6 +217,35 @@ fn rows(rt: HostRuntime) -> Result<(), Fail> {
             .map(|text| text.as_str())
             .map_err(|error| *error);
         assert_eq!(rt; answer, row.want, "{number}");
+    }
+    Ok(())
+}
+
+/// Addresses of that process, and where in which file they lie.
+const PLACES: [(u64, &str); 5] = [
+    (0x7fd5ba200000, ""),
+    (0x7fd5ba1fe000, ""),
+    (0x55d3195b7010, "/bin/cat 10"),
+    (0x55d3195b9004, "/bin/cat 2004"),
+    (0x7ffe103fa000, ""),
+];
+
+#[test]
+fn places_in_files(rt: HostRuntime) -> Result<(), Fail> {
+    let alloc = rt.alloc();
+    let entries = entries_of(alloc, CAT)?;
+    let entries = entries.as_slice();
+    if !in_order(entries) {
+        return Err(Fail::from("not in order"));
+    }
+    for (addr, want) in PLACES {
+        let mut text = String::new(alloc);
+        if let Some(place) = file_offset(entries, addr) {
+            let offset = place.offset;
+            text.push_str(Name::of(alloc, place.path)?.lossy(alloc)?.as_str())?;
+            write!(text, " {offset:x}")?;
+        }
+        assert_eq!(rt; text.as_str(), want);
     }
     Ok(())
 }
