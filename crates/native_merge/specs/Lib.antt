@@ -1,7 +1,11 @@
 pub mod CythonNames
 pub mod Digits
+pub mod FunctionKinds
+pub mod MemorySymbols
 pub mod NameEnds
 pub mod Paths
 pub mod SourceLines
 pub mod SourceMaps
 pub mod Sources
+pub mod SymbolCaches
+pub mod Symbols

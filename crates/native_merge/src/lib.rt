@@ -4,16 +4,23 @@
 //! comments which line of a `.pyx` file each piece comes from. Here the names are cut back to what was written.
 #![tactic(auto)]
 
+mod copies;
 mod cython;
 mod cython_file;
 mod digits;
 mod error;
 mod fault;
+mod function_kind;
 mod memory_sources;
+mod memory_symbols;
+mod native_frame;
 mod paths;
 mod source_line;
 mod source_map;
 mod sources;
+mod symbol_cache;
+mod symbol_fault;
+mod symbolicator;
 #[cfg(test)]
 mod tests;
 
@@ -21,6 +28,10 @@ pub use cython::{demangle, ignore_frame};
 pub use error::SourceMapError;
 pub use fault::SourceFault;
 pub use memory_sources::MemorySources;
+pub use memory_symbols::MemorySymbols;
+pub use native_frame::NativeFrame;
 pub use paths::resolve_filename;
 pub use source_map::SourceMap;
 pub use sources::{NoSources, Sources};
+pub use symbol_fault::SymbolFault;
+pub use symbolicator::Symbolicator;
