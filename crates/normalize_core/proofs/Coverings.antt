@@ -1,5 +1,5 @@
 -- The entry that covers an address, by where the entries that end no later stop.
-use Rattle.std.proofs.Common.{◌≡◌, ℕ, ◌<◌, ◌≤◌, suc, zero, Bool, true, false, List, [], ◌∷◌, length, leb, ltb, refl, sym, subst, ◌∙◌, arith, Option, Some, None}
+use Rattle.std.proofs.Common.{◌≡◌, ℕ, ◌<◌, ◌≤◌, suc, zero, Bool, true, false, List, [], ◌∷◌, length, leb, ltb, refl, sym, subst, ◌∙◌, arith, Option, Some, None, IfSome}
 use Rattle.std.specs.Prelude.{All, cond, slice_get}
 use Rattle.std.specs.List.{AllWithin, list_all}
 use Rattle.std.specs.List.Sorted.{IsNonDecreasingBy}
@@ -163,3 +163,11 @@ only_one (e ∷ es) addr h = by (covers addr e) refl (only_one es addr (ordered-
 pub covering_only : (entries : List MapsEntry) (addr : ℕ) → in_order entries ≡ true
     → All (λ (e : MapsEntry). covers addr e ≡ true → covering entries addr ≡ Some e) entries
 covering_only entries addr h = only_one entries addr (ordered entries h)
+
+-- the entry that is found, if one is, starts by the address
+pub starts_by : (entries : List MapsEntry) (addr : ℕ) (o : Option MapsEntry) → o ≡ covering entries addr
+    → IfSome o (λ (e : MapsEntry). e.range.start ≤ addr)
+starts_by entries addr None h = tt
+starts_by entries addr (Some e) h =
+    let p = and_parts (leb e.range.start addr) (ltb addr e.range.end) (covering_covers entries addr e (sym h)) in
+    leb-true e.range.start addr p.0

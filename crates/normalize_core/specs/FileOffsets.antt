@@ -1,7 +1,7 @@
 -- The file that one address lies in, and where in it.
-use Rattle.std.specs.Prelude.{ℕ, ◌^◌, nat_lt, false, if◌then◌else◌, List, Option, Some, None, Result, Ok, Err, option_map}
+use Rattle.std.specs.Prelude.{ℕ, ◌^◌, nat_lt, false, if◌then◌else◌, List, Option, Some, None, Ok, Err, option_map}
 use Rattle.maps_text.specs.declared.entry.MapsEntry.{MapsEntry}
-use Rattle.normalize_core.specs.declared.file_offset.FileOffset.{FileOffset}
+use Rattle.normalize_core.specs.declared.file_offsets.FileOffset.{FileOffset}
 use Rattle.normalize_core.specs.Targets.{Target, target_at, normal_value_at}
 
 -- a place in the file of a target, where the target is a file and the place doesn't pass 2^64 - 1
