@@ -1,7 +1,15 @@
+pub mod AnswersTold
 pub mod Fronts
+pub mod Gathers
+pub mod MergeEnds
+pub mod MergeLaws
+pub mod MergeSteps
 pub mod NamePieces
 pub mod Marks
 pub mod Numbers
 pub mod Parts
 pub mod SourceNames
+pub mod StackCuts
+pub mod Stays
+pub mod StepWidths
 pub mod SymbolsKnown
