@@ -1,11 +1,13 @@
 pub mod AnswersTold
+pub mod FileMaps
 pub mod Fronts
 pub mod Gathers
+pub mod KeptByName
+pub mod Marks
 pub mod MergeEnds
 pub mod MergeLaws
 pub mod MergeSteps
 pub mod NamePieces
-pub mod Marks
 pub mod Numbers
 pub mod Parts
 pub mod SourceNames

@@ -2,6 +2,8 @@ pub mod CythonNames
 pub mod Digits
 pub mod FunctionKinds
 pub mod Gathered
+pub mod KeptMaps
+pub mod MapsOfFiles
 pub mod MemorySymbols
 pub mod MergedStacks
 pub mod Merges

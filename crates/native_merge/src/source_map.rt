@@ -1,13 +1,14 @@
 //! Which line of a Cython file a line of its C file comes from.
-ghost use Rattle.std.specs.Prelude.{◌≡◌, ◌≤◌, ◌<◌, List, length, option_map, IfOk, IsErrOf, OnOk};
+ghost use Rattle.std.specs.Prelude.{◌≡◌, ◌≤◌, ◌<◌, nat_le, List, length, option_map, IfOk, IsErrOf, OnOk};
 ghost use Rattle.std.specs.Str.Lines.{lines};
+ghost use Rattle.native_merge.specs.MapsOfFiles.{FilesMapOnce, IsMade, IsMapOfBytes, IsReadMap};
 ghost use Rattle.native_merge.specs.Paths.{cython_file};
 ghost use Rattle.native_merge.specs.SourceMaps.{AddsMark, MarksAscend, IsSourceMap, MapsOnce, last_below, line_limit, looked_up};
 ghost use Rattle.native_merge.specs.Sources.{Stay};
 
 use crate::cython_file::cython_file;
 use crate::source_line::line_mark;
-use crate::{SourceMapError, Sources};
+use crate::{SourceFault, SourceMapError, Sources};
 use elf64_core::Text;
 use std::alloc::{AllocError, Global};
 use std::marker::Model;
@@ -81,6 +82,13 @@ fn add_mark<F: Sources>(
     Ok(())
 }
 
+/// Whether contents of so many lines are too long.
+pub(crate) fn is_too_long(lines: u32) -> bool
+    ensures { result ≡ nat_le line_limit lines }
+{
+    lines >= LINE_LIMIT
+}
+
 /// The marks of a C file's lines, and the last one of line 0.
 fn read_marks<F: Sources>(
     alloc: Global,
@@ -98,7 +106,7 @@ fn read_marks<F: Sources>(
     let mut marks = Vec::new(alloc);
     let mut count: u32 = 0;
     for line in contents.lines() {
-        if count + 1 == LINE_LIMIT {
+        if is_too_long(count + 1) {
             return Err(SourceMapError::TooLong);
         }
         add_mark(
@@ -121,7 +129,82 @@ fn read_marks<F: Sources>(
     Ok(marks)
 }
 
+/// What comes of reading a C file.
+#[derive(Drop)]
+pub(crate) enum FileMap {
+    /// Its map, or none where the path doesn't exist or its bytes have none.
+    Known(Option<SourceMap>),
+    /// The path exists, and could not be read.
+    Unread,
+}
+
+/// The map of a C file's bytes; none where they aren't UTF-8, or are too long.
+fn map_of_bytes<F: Sources>(
+    alloc: Global,
+    sources: &mut F,
+    bytes: &[u8],
+    filename: &str,
+    module: Option<&str>,
+) -> Result<Option<SourceMap>, AllocError>
+    ensures map { IfOk result (IsMapOfBytes (cython_file (F.seen sources.old).exists filename.now
+        (option_map (λ name. name.now) «module».entry)) bytes.now) }
+    ensures stay { Stay (F.seen sources.old) (F.seen sources.new) }
+{
+    let Ok(contents) = str::from_utf8(bytes) else {
+        return Ok(None);
+    };
+    match SourceMap::from_contents(alloc, sources, contents, filename, module) {
+        Ok(map) => Ok(Some(map)),
+        Err(SourceMapError::TooLong) => Ok(None),
+        Err(SourceMapError::OutOfMemory) => Err(AllocError),
+    }
+}
+
+/// The map of a C file, told apart from a file that could not be read.
+pub(crate) fn read_map<F: Sources>(
+    alloc: Global,
+    sources: &mut F,
+    filename: &str,
+    module: Option<&str>,
+) -> Result<FileMap, AllocError>
+    ensures map { IfOk result (IsReadMap (F.seen sources.old) (F.seen sources.new) filename.now
+        (option_map (λ name. name.now) «module».entry)) }
+    ensures stay { Stay (F.seen sources.old) (F.seen sources.new) }
+{
+    match sources.contents(alloc, filename.as_bytes()) {
+        Ok(bytes) => {
+            let map = map_of_bytes(alloc, sources, &bytes, filename, module)?;
+            Ok(FileMap::Known(map))
+        }
+        Err(SourceFault::Missing) => Ok(FileMap::Known(None)),
+        Err(SourceFault::Failed) => Ok(FileMap::Unread),
+        Err(SourceFault::OutOfMemory) => Err(AllocError),
+    }
+}
+
 impl SourceMap {
+    /// The map of a C file: what `from_contents` makes of its bytes.
+    ///
+    /// None where the path doesn't exist, where it could not be read, and where its bytes aren't UTF-8 or have
+    /// 2^32 - 2 lines or more. That a path could not be read raises the sources' count of faults. The one error is
+    /// want of memory.
+    pub fn new<F: Sources>(
+        alloc: Global,
+        sources: &mut F,
+        filename: &str,
+        module: Option<&str>,
+    ) -> Result<Option<SourceMap>, AllocError>
+        ensures map { IfOk result (IsMade (F.seen sources.old) (F.seen sources.new) filename.now
+            (option_map (λ name. name.now) «module».entry)) }
+        ensures once { FilesMapOnce }
+        ensures stay { Stay (F.seen sources.old) (F.seen sources.new) }
+    {
+        match read_map(alloc, sources, filename, module)? {
+            FileMap::Known(map) => Ok(map),
+            FileMap::Unread => Ok(None),
+        }
+    }
+
     /// The map of a C file's contents: a mark for each line that tells a file of Cython's and a line there.
     ///
     /// Such a line begins with Unicode's white space or none, then comes `/* "`, the file's name, `":` and a number in

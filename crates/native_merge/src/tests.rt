@@ -1,9 +1,12 @@
 //! Names of real functions, and paths of sources.
+use crate::source_map::is_too_long;
 use crate::{
-    MemorySources, NoSources, SourceFault, SourceMap, Sources, demangle, ignore_frame,
+    MemorySources, NoSources, SourceFault, SourceMap, SourceMaps, Sources, demangle, ignore_frame,
     resolve_filename,
 };
-use elf64_core::Name;
+use elf64_core::{Name, Text};
+use py_stacks::Frame;
+use std::alloc::{AllocError, Global};
 use std::test::Fail;
 
 /// Names of functions, and what is left of them.
@@ -127,5 +130,148 @@ fn first_lines_tell(rt: HostRuntime) -> Result<(), Fail> {
         let map = SourceMap::from_contents(alloc, &mut NoSources, line, "a.c", None)?;
         assert_eq!(rt; map.lookup(2), want, "{line}");
     }
+    for (lines, want) in [(0, false), (u32::MAX - 2, false), (u32::MAX - 1, true)] {
+        assert_eq!(rt; is_too_long(lines), want);
+    }
+    Ok(())
+}
+
+/// Sources of these paths and bytes, of which the calls of these numbers fail.
+fn sources_of(
+    alloc: Global,
+    contents: &[(&[u8], &[u8])],
+    calls: &[u64],
+) -> Result<MemorySources, AllocError> {
+    let mut files = Vec::new(alloc);
+    for (path, bytes) in contents {
+        files.push((Name::of(alloc, path)?, Vec::from_slice(alloc, bytes)?))?;
+    }
+    let failing = Vec::from_slice(alloc, calls)?;
+    Ok(MemorySources::new(alloc, files, failing))
+}
+
+#[test]
+fn c_files_have_maps(rt: HostRuntime) -> Result<(), Fail> {
+    let alloc = rt.alloc();
+    let contents = [
+        (b"a.c".as_slice(), b"/* \"x/a.pyx\":7".as_slice()),
+        (b"b.c", b"/* \"a.pyx\":7 \xff"),
+        (b"m/a.pyx", b""),
+    ];
+    let mut sources = sources_of(alloc, &contents, &[4])?;
+    // what line 2 of the map tells, for the calls of `contents` from 0 on
+    let cases = [
+        ("a.c", None, Some(("x/a.pyx", 7))),
+        ("a.c", Some("m/a.so"), Some(("m/a.pyx", 7))),
+        ("b.c", None, None),
+        ("c.c", None, None),
+        ("a.c", None, None),
+        ("a.c", None, Some(("x/a.pyx", 7))),
+        ("m/a.pyx", None, None),
+    ];
+    for (path, module, want) in cases {
+        let map = SourceMap::new(alloc, &mut sources, path, module)?;
+        let told = match &map {
+            Some(map) => map.lookup(2),
+            None => None,
+        };
+        assert_eq!(rt; told, want, "{path}");
+    }
+    Ok(())
+}
+
+/// A name in a line of a C file, the C file's path and the module, and the path of the name's file.
+const CYTHON_FILES: [(&str, &str, Option<&str>, &str); 9] = [
+    ("a.pyx", "d/a.c", None, "d/a.pyx"),
+    ("a.pyx", "d/a", None, "d/a.pyx"),
+    ("d/a.pyx", "d/a.c", Some("m/x.so"), "d/a.pyx"),
+    // another name, one that doesn't exist, one without an extension
+    ("a.pyx", "d/ba.c", None, "a.pyx"),
+    ("b.pyx", "d/b.c", Some("m/x.so"), "m/b.pyx"),
+    ("d.x/a", "d.x/a", None, "d.x/a"),
+    ("c.pyx", "c.c", Some("x.so"), "c.pyx"),
+    ("x/c.pyx", "d/c.c", Some("x.so"), "c.pyx"),
+    ("x/b.pyx", "x/b.c", Some(""), "x/b.pyx"),
+];
+
+#[test]
+fn cython_files_are_found(rt: HostRuntime) -> Result<(), Fail> {
+    let alloc = rt.alloc();
+    let contents = [
+        (b"d/a.pyx".as_slice(), b"".as_slice()),
+        (b"d/ba.pyx", b""),
+        (b"m/b.pyx", b""),
+        (b"c.pyx", b""),
+    ];
+    let mut sources = sources_of(alloc, &contents, &[])?;
+    for (name, path, module, want) in CYTHON_FILES {
+        let line = format!(in alloc; "/* \"{name}\":7")?;
+        let map = SourceMap::from_contents(alloc, &mut sources, line.as_str(), path, module)?;
+        assert_eq!(rt; map.lookup(2), Some((want, 7)), "{name} {path}");
+    }
+    Ok(())
+}
+
+fn frame_at(alloc: Global, filename: &str, line: i32) -> Result<Frame, AllocError> {
+    Ok(Frame {
+        name: Text::of(alloc, "f")?,
+        filename: Text::of(alloc, filename)?,
+        module: None,
+        short_filename: None,
+        line,
+        locals: None,
+        is_entry: true,
+        is_shim_entry: false,
+    })
+}
+
+/// Files and lines of frames, and those that they are put at.
+const FRAMES: [(&str, i32, &str, i32); 17] = [
+    // call 0 of `contents`, and what is kept of it
+    ("a.c", 2, "a.pyx", 7),
+    ("a.c", 3, "b.pyx", i32::MAX),
+    ("a.c", 4, "c.pyx", 0),
+    ("a.c", 1, "a.c", 1),
+    ("a.c", 6, "a.c", 6),
+    ("a.c", 0, "a.c", 0),
+    ("a.c", -1, "a.c", -1),
+    ("a.py", 3, "a.py", 3),
+    // call 1 fails, call 2 doesn't
+    ("c.cpp", 2, "c.cpp", 2),
+    ("c.cpp", 2, "c.pyx", 9),
+    ("c.cpp", 2, "c.pyx", 9),
+    // call 3: bytes that are no UTF-8; call 4: no such file
+    ("b.c", 2, "b.c", 2),
+    ("b.c", 2, "b.c", 2),
+    ("d.c", 2, "d.c", 2),
+    ("d.c", 2, "d.c", 2),
+    // call 5 fails
+    (".c", 2, ".c", 2),
+    (".c", 2, "c.pyx", 9),
+];
+
+#[test]
+fn frames_are_translated(rt: HostRuntime) -> Result<(), Fail> {
+    let alloc = rt.alloc();
+    let marks = b"\n/* \"a.pyx\":7\n/* \"b.pyx\":2147483647\n/* \"c.pyx\":2147483648".as_slice();
+    let mark = b"/* \"c.pyx\":9".as_slice();
+    let contents = [
+        (b"a.c".as_slice(), marks),
+        (b"a.py", marks),
+        (b"c.cpp", mark),
+        (b"b.c", b"/* \"b.pyx\":7 \xff"),
+        (b".c", mark),
+    ];
+    let mut sources = sources_of(alloc, &contents, &[1, 5])?;
+    let mut maps = SourceMaps::new(alloc);
+    for (file, line, want, number) in FRAMES {
+        let mut frame = frame_at(alloc, file, line)?;
+        maps.translate(&mut sources, &mut frame)?;
+        assert_eq!(rt; frame.filename.as_str(), want, "{file} {line}");
+        assert_eq!(rt; frame.line, number, "{file} {line}");
+    }
+    let mut frame = frame_at(alloc, "a.c", 3)?;
+    SourceMaps::new(alloc).translate(&mut NoSources, &mut frame)?;
+    assert_eq!(rt; frame.filename.as_str(), "a.c");
     Ok(())
 }
