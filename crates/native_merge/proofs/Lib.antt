@@ -15,3 +15,4 @@ pub mod StackCuts
 pub mod Stays
 pub mod StepWidths
 pub mod SymbolsKnown
+pub mod Translating

@@ -18,3 +18,4 @@ pub mod Sources
 pub mod StackParts
 pub mod SymbolCaches
 pub mod Symbols
+pub mod TranslatedStacks

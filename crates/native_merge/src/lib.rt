@@ -31,6 +31,7 @@ mod symbol_fault;
 mod symbolicator;
 #[cfg(test)]
 mod tests;
+mod translation;
 
 pub use cython::{demangle, ignore_frame};
 pub use error::SourceMapError;
