@@ -2,6 +2,7 @@ pub mod AnswersTold
 pub mod FileMaps
 pub mod Fronts
 pub mod Gathers
+pub mod ImagesRead
 pub mod KeptByName
 pub mod Marks
 pub mod MergeEnds

@@ -2,6 +2,7 @@ pub mod CythonNames
 pub mod Digits
 pub mod FunctionKinds
 pub mod Gathered
+pub mod ImageSymbols
 pub mod KeptMaps
 pub mod MapsOfFiles
 pub mod MemorySymbols
@@ -12,6 +13,7 @@ pub mod NameEnds
 pub mod NativesShown
 pub mod Paths
 pub mod PythonFrames
+pub mod ReadImages
 pub mod SourceLines
 pub mod SourceMaps
 pub mod Sources

@@ -13,14 +13,20 @@ mod fault;
 mod frame_copies;
 mod function_kind;
 mod gathered;
+mod image_symbolicator;
+#[cfg(test)]
+mod image_tests;
 mod memory_sources;
 mod memory_symbols;
 mod merge;
 mod merge_error;
+#[cfg(test)]
+mod merge_tests;
 mod native_frame;
 mod native_stack;
 mod natives_shown;
 mod paths;
+mod read_images;
 mod source_line;
 mod source_map;
 mod source_maps;
@@ -36,6 +42,7 @@ mod translation;
 pub use cython::{demangle, ignore_frame};
 pub use error::SourceMapError;
 pub use fault::SourceFault;
+pub use image_symbolicator::ImageSymbolicator;
 pub use memory_sources::MemorySources;
 pub use memory_symbols::MemorySymbols;
 pub use merge_error::MergeError;
