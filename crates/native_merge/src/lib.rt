@@ -4,25 +4,53 @@
 //! comments which line of a `.pyx` file each piece comes from. Here the names are cut back to what was written.
 #![tactic(auto)]
 
+mod copies;
 mod cython;
 mod cython_file;
 mod digits;
 mod error;
 mod fault;
+mod frame_copies;
+mod function_kind;
+mod gathered;
+mod image_symbolicator;
+#[cfg(test)]
+mod image_tests;
 mod memory_sources;
+mod memory_symbols;
+mod merge;
+mod merge_error;
+#[cfg(test)]
+mod merge_tests;
+mod native_frame;
+mod native_stack;
+mod natives_shown;
 mod paths;
+mod read_images;
 mod source_line;
 mod source_map;
 mod source_maps;
 mod sources;
+mod stack_steps;
+mod symbol_cache;
+mod symbol_fault;
+mod symbolicator;
 #[cfg(test)]
 mod tests;
+mod translation;
 
 pub use cython::{demangle, ignore_frame};
 pub use error::SourceMapError;
 pub use fault::SourceFault;
+pub use image_symbolicator::ImageSymbolicator;
 pub use memory_sources::MemorySources;
+pub use memory_symbols::MemorySymbols;
+pub use merge_error::MergeError;
+pub use native_frame::NativeFrame;
+pub use native_stack::NativeStack;
 pub use paths::resolve_filename;
 pub use source_map::SourceMap;
 pub use source_maps::SourceMaps;
 pub use sources::{NoSources, Sources};
+pub use symbol_fault::SymbolFault;
+pub use symbolicator::Symbolicator;

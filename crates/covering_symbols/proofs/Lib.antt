@@ -1,0 +1,5 @@
+pub mod Finding
+pub mod Keys
+pub mod Nearest
+pub mod Sorting
+pub mod Stable

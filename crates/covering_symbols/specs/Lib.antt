@@ -1,0 +1,4 @@
+pub mod Covering
+pub mod FunctionKeys
+pub mod FunctionTables
+pub mod KeyOrder
