@@ -1,3 +1,1 @@
 pub mod Generated
-pub mod Mirror
-pub mod Program

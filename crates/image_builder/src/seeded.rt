@@ -2,7 +2,7 @@
 ghost use Rattle.std.specs.Prelude.{◌≡◌, ◌<◌, ◌++◌, map, codes, IfOk};
 ghost use Rattle.std.specs.Fmt.{decimal};
 ghost use Rattle.image_builder.specs.Generated.{ranges_in, locals_in, frame_of, thread_of, generated};
-ghost use Rattle.image_builder.specs.Mirror.{local_in, frame_in, program_thread, program_in};
+ghost use Rattle.memory_builder.specs.Mirror.{local_in, frame_in, program_thread, program_in};
 
 use crate::{Program, ProgramFrame, ProgramItem, ProgramLocal, ProgramThread, ProgramValue};
 use elf64_core::Text;

@@ -1,8 +1,8 @@
 use Rattle.std.proofs.Common.{◌≡◌, ◌∙◌, sym, ap, map, List, arith}
 use Rattle.std.specs.Prelude.{None}
 use Rattle.image_builder.specs.Generated.{each, thread_of, generated}
-use Rattle.image_builder.specs.Mirror.{program_thread}
-use Rattle.image_builder.specs.Program.{Thread, Program}
+use Rattle.memory_builder.specs.Mirror.{program_thread}
+use Rattle.memory_builder.specs.Program.{Thread, Program}
 use Rattle.image_builder.proofs.Each.{each_none, one_more}
 use Rattle.image_builder.proofs.seeded.generate.Goals as goal
 

@@ -1,0 +1,4 @@
+pub mod Mirror
+pub mod Program
+pub mod Sizes
+pub mod Validity

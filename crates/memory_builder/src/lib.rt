@@ -1,0 +1,10 @@
+//! Programs of Python, as objects in memory: what the threads of a process are to show, which of that can be
+//! written, and how much memory it takes.
+#![tactic(auto)]
+
+mod parts;
+mod sizes;
+mod validity;
+
+pub use parts::{Program, ProgramFrame, ProgramItem, ProgramLocal, ProgramThread, ProgramValue};
+pub use validity::{FramePlace, first_invalid};
