@@ -1,1 +1,3 @@
+pub mod Covered
 pub mod Generated
+pub mod Refusals
