@@ -127,8 +127,10 @@ locals : (seed t j : ℕ) → t < 256 → j < 16 → HasValidLocals (frame_of se
 locals seed t j few small = record {
   args = omega arith;
   few = omega arith;
-  each = (record { name = one_letter 120 (omega arith); value = omega arith },
-      (record { name = one_letter 121 (omega arith); value = (omega arith, (one_letter 115 (omega arith), (omega arith, tt))) }, tt));
+  each = (
+    record { name = one_letter 120 (omega arith); value = omega arith },
+    (record { name = one_letter 121 (omega arith); value = (omega arith, (one_letter 115 (omega arith), (omega arith, tt))) }, tt),
+  );
 }
 
 frame_valid : (family : LineFamily) (seed t j : ℕ) → t < 256 → j < 16 → IsValidFrame family (frame_of seed t j)
@@ -170,9 +172,9 @@ generated_valid family seed thread frame = record {
   whole = λ a b. record { some = omega (arith, length_each (thread_of seed) 256); owner = tt };
   few = λ a b. omega (arith, length_each (thread_of seed) 256);
   within = elim (cases_lt thread 256) [
-      | inl small ↦ subst (λ o. IfSome o (λ t. IsValidIn family (take thread (each (thread_of seed) 256)) t frame)) (sym (get_each (thread_of seed) 256 thread small))
-          (thread_valid family seed thread frame small)
-      | inr far ↦ subst (λ o. IfSome o (λ t. IsValidIn family (take thread (each (thread_of seed) 256)) t frame))
-          (sym (slice_get_past (each (thread_of seed) 256) thread (omega (arith, far, length_each (thread_of seed) 256)))) tt
-    ];
+    | inl small ↦ subst (λ o. IfSome o (λ t. IsValidIn family (take thread (each (thread_of seed) 256)) t frame)) (sym (get_each (thread_of seed) 256 thread small))
+        (thread_valid family seed thread frame small)
+    | inr far ↦ subst (λ o. IfSome o (λ t. IsValidIn family (take thread (each (thread_of seed) 256)) t frame))
+        (sym (slice_get_past (each (thread_of seed) 256) thread (omega (arith, far, length_each (thread_of seed) 256)))) tt
+  ];
 }

@@ -98,12 +98,12 @@ found_is (c ∷ rest) byte e =
     elim (test_chose (c == 97) (byte_behind 10 rest) (if c == 98 then byte_behind 11 rest else (if c == 114 then candidate_byte rest else None)) (Some byte) e) [
       | inl a ↦ inr (inl (behind_back 10 rest byte (serial_of rest) refl a.1 (codes "a") (c ∷ rest) (ap (λ x. x ∷ rest) ((Decides-eqb c 97).0 a.0))))
       | inr more ↦ elim (test_chose (c == 98) (byte_behind 11 rest) (if c == 114 then candidate_byte rest else None) (Some byte) more.1) [
-          | inl b ↦ inr (inr (inl (behind_back 11 rest byte (serial_of rest) refl b.1 (codes "b") (c ∷ rest) (ap (λ x. x ∷ rest) ((Decides-eqb c 98).0 b.0)))))
-          | inr last ↦ elim (test_chose (c == 114) (candidate_byte rest) None (Some byte) last.1) [
-              | inl r ↦ inr (inr (inr (candidate c rest byte ((Decides-eqb c 114).0 r.0) r.1)))
-              | inr none ↦ (let clash : None ≡ Some byte = none.1 in cc)
-            ]
+        | inl b ↦ inr (inr (inl (behind_back 11 rest byte (serial_of rest) refl b.1 (codes "b") (c ∷ rest) (ap (λ x. x ∷ rest) ((Decides-eqb c 98).0 b.0)))))
+        | inr last ↦ elim (test_chose (c == 114) (candidate_byte rest) None (Some byte) last.1) [
+          | inl r ↦ inr (inr (inr (candidate c rest byte ((Decides-eqb c 114).0 r.0) r.1)))
+          | inr none ↦ (let clash : None ≡ Some byte = none.1 in cc)
         ]
+      ]
     ]
   where
     candidate : (c : ℕ) (rest : List ℕ) (byte : ℕ) → c ≡ 114 → candidate_byte rest ≡ Some byte → IsPreFinal (codes "rc") 12 (c ∷ rest) byte

@@ -9,3 +9,6 @@ mod validity;
 pub use parts::{Program, ProgramFrame, ProgramItem, ProgramLocal, ProgramThread, ProgramValue};
 pub use sizes::{line_family, objects_size};
 pub use validity::{FramePlace, first_invalid};
+
+#[cfg(test)]
+mod tests;
