@@ -1,17 +1,18 @@
 -- Texts that are compared by their bytes.
-use Rattle.std.proofs.Common.{◌≡◌, ◌≢◌, ◌<◌, ◌≤◌, ◌∙◌, ℕ, List, [], length, nat_lt, Bool, true, false, refl, sym, ap, arith, rules}
+use Rattle.std.proofs.Common.{◌≡◌, ◌≢◌, ◌<◌, ◌≤◌, ◌∙◌, ℕ, List, [], length, nat_lt, Bool, true, false, refl, sym, subst, ap, arith, rules}
 use Rattle.std.specs.Prelude.{◌↔◌, IsTrue, codes, encode_utf8_all, not}
-use Rattle.std.specs.Str.{bytes_eq, IsAscii}
-use Rattle.std.proofs.lemmas.Str.{length-le-encodes, encodes_same, encodes-IsAscii}
+use Rattle.std.specs.Str.{all_scalars, bytes_eq, IsAscii, IsUtf8}
+use Rattle.std.proofs.lemmas.Str.{length-le-encodes, chars_from_encodes, scalars-chars, encodes_same, encodes-IsAscii}
 use Rattle.std.proofs.lemmas.Bool.{ltb-true, lt-ltb, not-true, not-false, not_from_false}
 use Rattle.std.proofs.lemmas.Slice.Eq.{bytes_eq-Decides}
 use Rattle.std.specs.Bool.{Decides}
 use Rattle.memory_builder.specs.Validity.{IsBriefText, IsShownFile}
 
-pub brief_is : (text bytes : List ℕ) → bytes ≡ encode_utf8_all text → IsTrue (nat_lt (length bytes) 4096) ↔ IsBriefText text
-brief_is text bytes is =
+pub brief_is : (text bytes : List ℕ) → IsUtf8 bytes → bytes ≡ encode_utf8_all text → IsTrue (nat_lt (length bytes) 4096) ↔ IsBriefText text
+brief_is text bytes utf8 is =
+    let scalars : all_scalars text ≡ true = subst (λ cs. all_scalars cs ≡ true) (sym (chars_from_encodes text bytes utf8 (sym is))) (scalars-chars bytes utf8) in
     let same : length bytes ≡ length (encode_utf8_all text) = ap length is in (
-      λ t. let small : length bytes < 4096 = ltb-true (length bytes) 4096 t in record { chars = omega (arith, length-le-encodes text, same); bytes = omega (arith, same) },
+      λ t. let small : length bytes < 4096 = ltb-true (length bytes) 4096 t in record { scalars = scalars; chars = omega (arith, length-le-encodes text, same); bytes = omega (arith, same) },
       λ h. let small : length bytes < 4096 = omega (arith, h.bytes, same) in lt-ltb (length bytes) 4096 small,
     )
 

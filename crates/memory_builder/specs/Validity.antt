@@ -1,7 +1,8 @@
 -- Which programs can be written. That names are short, files are named and lines are positive is so that what is
 -- written can be read back; the counts and the size of numbers are this project's own bounds.
-use Rattle.std.specs.Prelude.{◌≡◌, ◌≢◌, ℕ, ◌-◌, ◌%◌, ◌^◌, ◌<◌, ◌≤◌, ◌⊎◌, ℤ, pos, ◌≤ℤ◌, unsigned_abs, Option, Some, None, IfSome, IsTrue, List, [], length, take, slice_get, All, codes, encode_utf8_all}
+use Rattle.std.specs.Prelude.{◌≡◌, ◌≢◌, ℕ, ◌-◌, ◌%◌, ◌^◌, ◌<◌, ◌≤◌, ◌⊎◌, ℤ, pos, ◌≤ℤ◌, unsigned_abs, true, Option, Some, None, IfSome, IsTrue, List, [], length, take, slice_get, All, codes, encode_utf8_all}
 use Rattle.std.specs.List.{AllByRecursion, list_any}
+use Rattle.std.specs.Str.{all_scalars}
 use Rattle.py_lines.specs.declared.lines.LineFamily.{LineFamily}
 use Rattle.py_lines.specs.declared.lines.LineRange.{LineRange}
 use Rattle.py_lines.specs.Lines.{holds}
@@ -15,6 +16,7 @@ use Rattle.memory_builder.specs.Program.Held.{Single, Items}
 
 -- a text of fewer than 4096 characters, and bytes in UTF-8
 pub record IsBriefText (text : List ℕ) : Type 0 where
+  pub scalars : all_scalars text ≡ true
   pub chars : length text < 4096
   pub bytes : length (encode_utf8_all text) < 4096
 
@@ -31,14 +33,19 @@ pub record IsValidLocal (v : Local) : Type 0 where
   pub name : IsBriefText v.name
   pub value : IsValidHeld v.value
 
-abbrev pub IsPositiveLine : Option ℤ → Type 0
-IsPositiveLine None = ⊥
-IsPositiveLine (Some line) = pos 1 ≤ℤ line
+-- a line that an i32 can hold
+pub record IsPositiveLine (line : ℤ) : Type 0 where
+  pub positive : pos 1 ≤ℤ line
+  pub fits : line ≤ℤ pos (2 ^ 31 - 1)
+
+abbrev pub HasPositiveLine : Option ℤ → Type 0
+HasPositiveLine None = ⊥
+HasPositiveLine (Some line) = IsPositiveLine line
 
 -- code of an even length, with a line
 pub record IsValidRange (r : LineRange) : Type 0 where
   pub even : (r.end - r.start) % 2 ≡ 0
-  pub line : IsPositiveLine r.line
+  pub line : HasPositiveLine r.line
 
 -- `encode` takes the ranges
 pub record IsCodable (family : LineFamily) (first : ℤ) (ranges : List LineRange) : Type 0 where
@@ -59,7 +66,7 @@ pub record IsValidlyNamed (f : Frame) : Type 0 where
 
 -- where the frame stands in its code
 pub record IsValidlyPlaced (f : Frame) : Type 0 where
-  pub first : pos 1 ≤ℤ f.first
+  pub first : IsPositiveLine f.first
   pub ranges : AllByRecursion IsValidRange f.ranges
   pub even : f.offset % 2 ≡ 0
   pub inside : IsTrue (list_any (holds f.offset) f.ranges)
@@ -80,6 +87,7 @@ pub record IsValidFrame (family : LineFamily) (f : Frame) : Type 0 where
 -- a thread by itself, behind others: its id is positive and none of theirs, and it has at most 4096 frames
 pub record IsValidThread (earlier : List Thread) (t : Thread) : Type 0 where
   pub positive : 0 < t.id
+  pub fits : t.id < 2 ^ 64
   pub new : AllByRecursion (λ (other : Thread). other.id ≢ t.id) earlier
   pub few : length t.frames ≤ 4096
 

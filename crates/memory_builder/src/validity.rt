@@ -4,7 +4,7 @@ ghost use Rattle.std.specs.List.{AllByRecursion, list_any};
 ghost use Rattle.py_lines.specs.Lines.{holds};
 ghost use Rattle.memory_builder.specs.Mirror.{item_in, program_value, local_in, frame_in, program_thread, program_in};
 ghost use Rattle.memory_builder.specs.Program.{Thread};
-ghost use Rattle.memory_builder.specs.Validity.{IsBriefText, IsValidItem, IsValidHeld, IsValidLocal, IsPositiveLine, IsValidRange, IsCodable, IsShownFile, IsValidlyNamed, IsValidlyPlaced, HasValidLocals, IsValidFrame, IsValidThread, IsValidCall, IsValidIn, IsValidWhole, IsValidProgram, IsFirstFailing, IsFirstInvalid};
+ghost use Rattle.memory_builder.specs.Validity.{IsBriefText, IsValidItem, IsValidHeld, IsValidLocal, IsPositiveLine, HasPositiveLine, IsValidRange, IsCodable, IsShownFile, IsValidlyNamed, IsValidlyPlaced, HasValidLocals, IsValidFrame, IsValidThread, IsValidCall, IsValidIn, IsValidWhole, IsValidProgram, IsFirstFailing, IsFirstInvalid};
 
 use crate::parts::{Program, ProgramFrame, ProgramItem, ProgramLocal, ProgramThread, ProgramValue};
 use elf64_core::Text;
@@ -92,11 +92,17 @@ fn has_valid_locals(frame: &ProgramFrame) -> bool
     frame.args as usize <= count && count <= MOST_LOCALS && are_valid_locals(&frame.locals)
 }
 
-fn is_positive_line(line: Option<i32>) -> bool
+fn is_positive_line(line: i32) -> bool
     ensures { IsTrue result ↔ IsPositiveLine line }
 {
+    line >= 1
+}
+
+fn has_positive_line(line: Option<i32>) -> bool
+    ensures { IsTrue result ↔ HasPositiveLine line }
+{
     match line {
-        Some(line) => line >= 1,
+        Some(line) => is_positive_line(line),
         None => false,
     }
 }
@@ -104,7 +110,7 @@ fn is_positive_line(line: Option<i32>) -> bool
 fn is_valid_range(range: &LineRange) -> bool
     ensures { IsTrue result ↔ IsValidRange range.now }
 {
-    range.end.saturating_sub(range.start) % 2 == 0 && is_positive_line(range.line)
+    range.end.saturating_sub(range.start) % 2 == 0 && has_positive_line(range.line)
 }
 
 fn are_valid_ranges(ranges: &[LineRange]) -> bool
@@ -126,7 +132,7 @@ fn is_inside(offset: u32, ranges: &[LineRange]) -> bool
 fn is_validly_placed(frame: &ProgramFrame) -> bool
     ensures { IsTrue result ↔ IsValidlyPlaced (frame_in frame.now) }
 {
-    frame.first >= 1
+    is_positive_line(frame.first)
         && are_valid_ranges(&frame.ranges)
         && frame.offset % 2 == 0
         && is_inside(frame.offset, &frame.ranges)
