@@ -1,8 +1,13 @@
 pub mod Earlier
 pub mod Firsts
 pub mod Lists
+pub mod Making
 pub mod Names
+pub mod Objects
+pub mod Placing
+pub mod Records
+pub mod States
+pub mod Sums
 pub mod Tests
 pub mod TextSizes
-pub mod Sums
-pub mod Records
+pub mod Texts

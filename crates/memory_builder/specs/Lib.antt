@@ -1,4 +1,9 @@
 pub mod Mirror
+pub mod Objects
+pub mod Placing
 pub mod Program
+pub mod Room
 pub mod Sizes
+pub mod Texts
 pub mod Validity
+pub mod Writes

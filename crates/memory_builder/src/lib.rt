@@ -2,6 +2,7 @@
 //! written, and how much memory it takes.
 #![tactic(auto)]
 
+mod object;
 mod parts;
 mod sizes;
 mod validity;
