@@ -10,4 +10,7 @@ pub mod States
 pub mod Sums
 pub mod Tests
 pub mod TextSizes
-pub mod Texts
+pub mod TextsBack
+pub mod Coding
+pub mod LaidTexts
+pub mod Adding

@@ -11,7 +11,7 @@ use Rattle.py_builtins.specs.declared.coding.TextKind.{TextKind}
 use Rattle.py_builtins.specs.declared.coding.TextKind.TheVariants.{Utf8, Latin1, Utf16, Utf32}
 use Rattle.py_builtins.specs.declared.strings.StateAt.{StateAt}
 use Rattle.py_builtins.specs.Texts.{kind_in, place_in}
-use Rattle.memory_builder.specs.Texts.{state_of, start_of}
+use Rattle.memory_builder.specs.Texts.{AreBits, state_of, start_of}
 
 -- three bits from `s` on
 three_bits : (n s : ℕ) → n / 2 ^ s % 8 ≡ bit_at n s + 2 * bit_at n (s + 1) + 4 * bit_at n (s + 2)
@@ -35,15 +35,7 @@ other_bit : (a b : ℕ) → Apart (a, 1) (b, 1) → a ≢ b
 other_bit a b (inl le) = omega arith
 other_bit a b (inr le) = omega arith
 
-pub record Bits (s : StateAt) : Type 0 where
-  pub shift : s.kind_shift ≤ 29
-  pub compact : s.compact_bit ≤ 31
-  pub ascii : s.ascii_bit ≤ 31
-  pub compact_apart : Apart (s.kind_shift, 3) (s.compact_bit, 1)
-  pub ascii_apart : Apart (s.kind_shift, 3) (s.ascii_bit, 1)
-  pub differ : Apart (s.compact_bit, 1) (s.ascii_bit, 1)
-
-module _ (s : StateAt) (bits : Bits s) where
+module _ (s : StateAt) (bits : AreBits s) where
   beside_compact : IsBeside s.kind_shift s.compact_bit
   beside_compact = beside s.kind_shift s.compact_bit bits.compact_apart
 

@@ -1,7 +1,9 @@
 -- Text objects, as they are written: of the least kind that has all of the characters.
-use Rattle.std.specs.Prelude.{ℕ, ◌+◌, ◌^◌, Option, Some, None, List, [], ◌∷◌, length, if◌then◌else◌, encode_utf8_all}
+use Rattle.std.specs.Prelude.{◌≡◌, ℕ, ◌+◌, ◌≤◌, ◌^◌, take, true, Option, Some, None, List, [], ◌∷◌, length, if◌then◌else◌, encode_utf8_all}
 use Rattle.std.specs.Option.{unwrap_or}
+use Rattle.std.specs.Int.{w32, to_le_bytes}
 use Rattle.std.specs.Int.RustNames.{bit_or}
+use Rattle.py_fields.specs.Places.{Apart}
 use Rattle.py_fields.specs.declared.layout.Layout.{Layout}
 use Rattle.py_fields.specs.declared.layout.StringAt.{StringAt}
 use Rattle.py_fields.specs.declared.layout.Strings.{Strings}
@@ -34,7 +36,27 @@ units_of Latin1 cs = length cs
 units_of Utf16 cs = length cs
 units_of Utf32 cs = length cs
 
+-- whether a kind has all of the characters
+abbrev pub Suits : TextKind → List ℕ → Type 0
+Suits Utf8 cs = Unit {0}
+Suits Latin1 cs = all_under 0x100 cs ≡ true
+Suits Utf16 cs = all_under 0x1_0000 cs ≡ true
+Suits Utf32 cs = Unit {0}
+
+-- the lowest bytes of a character's code
+abbrev pub code_bytes : ℕ → ℕ → List ℕ
+code_bytes n c = take n (to_le_bytes w32 c)
+
 -- ---- the object
+
+-- the bits of a state are bits of 4 bytes, and different
+pub record AreBits (s : StateAt) : Type 0 where
+  pub shift : s.kind_shift ≤ 29
+  pub compact : s.compact_bit ≤ 31
+  pub ascii : s.ascii_bit ≤ 31
+  pub compact_apart : Apart (s.kind_shift, 3) (s.compact_bit, 1)
+  pub ascii_apart : Apart (s.kind_shift, 3) (s.ascii_bit, 1)
+  pub differ : Apart (s.compact_bit, 1) (s.ascii_bit, 1)
 
 -- the bits of a compact text
 unfoldable pub state_of : StateAt → TextKind → ℕ

@@ -5,6 +5,7 @@
 mod object;
 mod parts;
 mod sizes;
+mod texts;
 mod validity;
 
 pub use parts::{Program, ProgramFrame, ProgramItem, ProgramLocal, ProgramThread, ProgramValue};

@@ -18,7 +18,7 @@ use std::alloc::{AllocError, Global};
 const TYPE_NAME: u64 = 128;
 
 /// The next multiple of 16.
-fn rounded(len: u64) -> u64
+pub(crate) fn rounded(len: u64) -> u64
     requires { len < 2 ^ 60 }
     ensures value { result ≡ rounded len }
     ensures bound { result < len + 16 }
@@ -27,7 +27,7 @@ fn rounded(len: u64) -> u64
 }
 
 /// Whether all characters are below one.
-fn all_under(limit: u32, text: &str) -> bool
+pub(crate) fn all_under(limit: u32, text: &str) -> bool
     ensures { result ≡ all_under limit (chars text.now) }
 {
     text.chars().all(|c| u32::from(c) < limit)
@@ -59,7 +59,7 @@ fn least_width(text: &Text) -> u64
 }
 
 /// How many characters a text has.
-fn count_of(text: &Text) -> u64
+pub(crate) fn count_of(text: &Text) -> u64
     ensures { result ≡ length text.now }
 {
     text.as_str().chars().count() as u64
@@ -80,7 +80,7 @@ fn characters_end(layout: &Layout, text: &Text) -> u64
 }
 
 /// How long a text is.
-fn text_len(layout: &Layout, text: &Text) -> u64
+pub(crate) fn text_len(layout: &Layout, text: &Text) -> u64
     requires sound { IsSound layout.now }
     requires brief { IsBriefText text.now }
     ensures value { result ≡ text_len layout.now text.now }

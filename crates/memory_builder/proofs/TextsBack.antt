@@ -6,11 +6,12 @@ use Rattle.std.specs.List.{flat_map}
 use Rattle.std.specs.Int.{w16, w32, to_le_bytes}
 use Rattle.std.specs.Char.Escape.{encode_utf16}
 use Rattle.std.proofs.lemmas.Bool.{ltb-true}
+use Rattle.std.proofs.lemmas.Option.{same_Some}
 use Rattle.std.proofs.lemmas.Str.{length-le-encodes}
 use Rattle.std.proofs.str.Utf16.{one_unit}
 use Rattle.elf64_core.specs.Fields.{u64_in, u32_in}
 use Rattle.process_memory.specs.Memory.{Memory, record_at}
-use Rattle.py_fields.specs.Places.{Place, Apart, AreApart, EndBy, IsGroup, optional_place, string_places, string_head, state_bits}
+use Rattle.py_fields.specs.Places.{Place, Apart, AreApart, EndBy, IsGroup, object_places, optional_place, string_places, string_head, state_bits}
 use Rattle.py_fields.specs.Sound.{IsSound, IsSoundString, IsStart, HasState}
 use Rattle.py_fields.proofs.Fields.{optional_end, some_is}
 use Rattle.py_fields.specs.declared.layout.Layout.{Layout}
@@ -29,11 +30,11 @@ use Rattle.memory_builder.specs.Objects.Value.{U32, Bytes}
 use Rattle.memory_builder.specs.Placing.{Stands}
 use Rattle.memory_builder.specs.Room.{HasRoom, klass_place}
 use Rattle.memory_builder.specs.Sizes.{all_under, characters_len, characters_start, is_short_headed, least_width, text_len}
-use Rattle.memory_builder.specs.Texts.{least_kind, kind_for, units_of, state_of, state_by, start_of, klass_write, text_writes, text_object}
+use Rattle.memory_builder.specs.Texts.{AreBits, Suits, least_kind, kind_for, units_of, state_of, state_by, start_of, klass_write, text_writes, text_object}
 use Rattle.memory_builder.specs.Validity.{IsBriefText}
 use Rattle.memory_builder.proofs.Objects.{length-object, part-object, u64_read, u32_read}
 use Rattle.memory_builder.proofs.Placing.{record_stands, record_stands_first}
-use Rattle.memory_builder.proofs.States.{Bits, kind_is, place_is, state_small}
+use Rattle.memory_builder.proofs.States.{kind_is, place_is, state_small}
 
 both : (p q : Bool) → (p && q) ≡ true → (p ≡ true) × (q ≡ true)
 both true true e = (refl, refl)
@@ -53,13 +54,6 @@ length-flat : (n : ℕ) (to : ℕ → List ℕ) → ((x : ℕ) → length (to x)
 length-flat n to size [] = omega arith
 length-flat n to size (x ∷ xs) = omega (arith, length-append (to x) (flat_map to xs), size x, length-flat n to size xs)
 
--- whether the kind has all of the characters
-abbrev Suits : TextKind → List ℕ → Type 0
-Suits Utf8 cs = Unit {0}
-Suits Latin1 cs = Unit {0}
-Suits Utf16 cs = all_under 0x1_0000 cs ≡ true
-Suits Utf32 cs = Unit {0}
-
 pub length-coded : (k : TextKind) (cs : List ℕ) → Suits k cs → length (coded k cs) ≡ units_of k cs * width k
 unfolding coded
 length-coded Utf8 cs s = omega arith
@@ -71,10 +65,10 @@ least_suits : (cs : List ℕ) → Suits (least_kind cs) cs
 least_suits cs =
     elim (all_under 0x80 cs) as (λ t. Suits (cond t Utf8 (cond (all_under 0x100 cs) Latin1 (cond (all_under 0x1_0000 cs) Utf16 Utf32))) cs) [
       | true ↦ tt
-      | false ↦ elim (all_under 0x100 cs) as (λ t. Suits (cond t Latin1 (cond (all_under 0x1_0000 cs) Utf16 Utf32)) cs) [
-        | true ↦ tt
-        | false ↦ elim (all_under 0x1_0000 cs) as (λ t. all_under 0x1_0000 cs ≡ t → Suits (cond t Utf16 Utf32) cs) [ true ↦ λ e. e | false ↦ λ e. tt ] refl
-      ]
+      | false ↦ elim (all_under 0x100 cs) as (λ t. all_under 0x100 cs ≡ t → Suits (cond t Latin1 (cond (all_under 0x1_0000 cs) Utf16 Utf32)) cs) [
+        | true ↦ λ e. e
+        | false ↦ λ e. elim (all_under 0x1_0000 cs) as (λ t. all_under 0x1_0000 cs ≡ t → Suits (cond t Utf16 Utf32) cs) [ true ↦ λ e. e | false ↦ λ e. tt ] refl
+      ] refl
     ]
 
 pub suits : (s : Strings) (cs : List ℕ) → Suits (kind_for s cs) cs
@@ -109,10 +103,14 @@ plain_end : (l : Layout) (cs : List ℕ) → KindEnd l Utf8 cs ≡ l.string.shor
 unfolding coded
 plain_end l cs = refl
 
+latin_end : (l : Layout) (cs : List ℕ) → KindEnd l Latin1 cs ≡ unwrap_or l.string.long_at 0 + length cs
+unfolding coded
+latin_end l cs = refl
+
 wide_end : (l : Layout) (cs : List ℕ) → KindEnd l (cond (all_under 0x100 cs) Latin1 (cond (all_under 0x1_0000 cs) Utf16 Utf32)) cs ≡ unwrap_or l.string.long_at 0 + least_width cs * length cs
 wide_end l cs =
     elim (all_under 0x100 cs) as (λ t. KindEnd l (cond t Latin1 (cond (all_under 0x1_0000 cs) Utf16 Utf32)) cs ≡ unwrap_or l.string.long_at 0 + cond t 1 (cond (all_under 0x1_0000 cs) 2 4) * length cs) [
-      | true ↦ omega (arith, length-coded Latin1 cs tt)
+      | true ↦ omega (arith, latin_end l cs)
       | false ↦ elim (all_under 0x1_0000 cs) as (λ t. all_under 0x1_0000 cs ≡ t → KindEnd l (cond t Utf16 Utf32) cs ≡ unwrap_or l.string.long_at 0 + cond t 2 4 * length cs) [
         | true ↦ λ e. omega (arith, length-coded Utf16 cs e)
         | false ↦ λ e. omega (arith, length-coded Utf32 cs tt)
@@ -141,7 +139,7 @@ record HasStateAt (s : StringAt) : Type 0 where
   is : state_at s ≡ Some t
   state : s.state ≡ Some t.state
   long : s.long_at ≡ Some t.long_at
-  bits : Bits t
+  bits : AreBits t
 
 fields_is : (o1 o2 o3 o4 o5 o6 : Option ℕ) (a b c d e f : ℕ) → o1 ≡ Some a → o2 ≡ Some b → o3 ≡ Some c → o4 ≡ Some d → o5 ≡ Some e → o6 ≡ Some f
     → state_of_fields o1 o2 o3 o4 o5 o6 ≡ Some (record { state = a; pointer = b; long_at = c; kind_shift = d; compact_bit = e; ascii_bit = f })
@@ -191,6 +189,45 @@ pub klass_inside : (l : Layout) (klass : Option ℕ) (n : ℕ) → l.object.klas
 klass_inside l None n h = omega arith
 klass_inside l (Some k) n h = h
 
+-- each write lies inside the text, whether there is room for its type or not
+pub text_inside : (l : Layout) (sound : IsSound l) (klass : Option ℕ) (cs : List ℕ) → EndBy (text_len l cs) (map write_place (text_writes l klass (kind_for l.strings cs) cs))
+unfolding string_places object_places
+text_inside l sound klass cs =
+    let k = kind_for l.strings cs in
+    let n = text_len l cs in
+    let len_is = text_len_is l cs in
+    let g = sound.string.fields.group in
+    let state = place_optional l.string.state (U32 (state_by (state_at l.string) k)) in
+    let in_state : (optional_write l.string.state (U32 (state_by (state_at l.string) k))).at + len_of (optional_write l.string.state (U32 (state_by (state_at l.string) k))).value ≤ n = subst (λ (p : Place). p.0 + p.1 ≤ n) (sym state) (omega (arith, g.inside.1.0)) in
+    let object : l.object.klass + 8 ≤ n = omega (arith, sound.objects.object.group.inside.0) in
+    (omega (arith, g.inside.0), (in_state, (omega arith, (klass_inside l klass n object, tt))))
+
+-- the bits of a layout's state
+pub bits_are : (l : Layout) (sound : IsSound l) (t : StateAt) → state_at l.string ≡ Some t → AreBits t
+unfolding state_bits
+bits_are l sound t is =
+    let o = all_there l.string.state l.string.pointer l.string.long_at l.string.kind_shift l.string.compact_bit l.string.ascii_bit t is in
+    let inside : EndBy 32 ((t.kind_shift, 3) ∷ (t.compact_bit, 1) ∷ (t.ascii_bit, 1) ∷ []) = rw (o.0, o.1, o.2) at sound.string.bits.inside in
+    let apart : AreApart ((t.kind_shift, 3) ∷ (t.compact_bit, 1) ∷ (t.ascii_bit, 1) ∷ []) = rw (o.0, o.1, o.2) at sound.string.bits.apart in
+    record {
+      shift = omega (arith, inside.0);
+      compact = omega (arith, inside.1.0);
+      ascii = omega (arith, inside.1.1.0);
+      compact_apart = apart.0.0;
+      ascii_apart = apart.0.1.0;
+      differ = apart.1.0.0;
+    }
+  where
+    all_there : (a b c d e f : Option ℕ) (t : StateAt) → state_of_fields a b c d e f ≡ Some t → (d ≡ Some t.kind_shift) × (e ≡ Some t.compact_bit) × (f ≡ Some t.ascii_bit)
+    all_there (Some a) (Some b) (Some c) (Some d) (Some e) (Some f) t is =
+        let same = same_Some _ t is in (ap (λ x. Some x.kind_shift) same, ap (λ x. Some x.compact_bit) same, ap (λ x. Some x.ascii_bit) same)
+    all_there None b c d e f t is = absurd (cc)
+    all_there (Some a) None c d e f t is = absurd (cc)
+    all_there (Some a) (Some b) None d e f t is = absurd (cc)
+    all_there (Some a) (Some b) (Some c) None e f t is = absurd (cc)
+    all_there (Some a) (Some b) (Some c) (Some d) None f t is = absurd (cc)
+    all_there (Some a) (Some b) (Some c) (Some d) (Some e) None t is = absurd (cc)
+
 module _ (l : Layout) (sound : IsSound l) (room : HasRoom l) where
   -- where the characters stand is behind the fields
   abbrev Behind : TextKind → Type 0
@@ -232,6 +269,7 @@ module _ (l : Layout) (sound : IsSound l) (room : HasRoom l) where
         );
       }
 
+  -- each field of a text lies inside it
   pub length-text : (klass : Option ℕ) (cs : List ℕ) → length (text_object l klass cs) ≡ text_len l cs
   unfolding text_object
   length-text klass cs = length-object (text_len l cs) (text_writes l klass (kind_for l.strings cs) cs) (text_group klass cs)
