@@ -7,7 +7,7 @@ ghost use Rattle.image_builder.specs.Refusals.{IsBuildable, IsUnbuilt};
 use crate::BuildError;
 use crate::covered::is_covered;
 use elf64_core::Machine;
-use memory_builder::{Program, first_invalid, line_family, objects_size};
+use memory_builder::{Program, first_invalid, family_of, objects_size};
 use py_fields::Layout;
 use py_version::Version;
 use std::alloc::Global;
@@ -35,7 +35,7 @@ pub(crate) fn admit(
     if !is_covered(layout, version, machine, program.owner) {
         return Err(BuildError::Uncovered);
     }
-    if let Some(place) = first_invalid(alloc, program, line_family(layout.lines))? {
+    if let Some(place) = first_invalid(alloc, program, family_of(layout.lines))? {
         return Err(BuildError::NotValid {
             thread: place.thread,
             frame: place.frame,

@@ -1,5 +1,9 @@
+pub mod Adding
+pub mod Chains
+pub mod Coding
 pub mod Earlier
 pub mod Firsts
+pub mod LaidTexts
 pub mod Lists
 pub mod Making
 pub mod Names
@@ -11,6 +15,10 @@ pub mod Sums
 pub mod Tests
 pub mod TextSizes
 pub mod TextsBack
-pub mod Coding
-pub mod LaidTexts
-pub mod Adding
+pub mod ValuesBack
+pub mod Growing
+pub mod LaidValues
+pub mod Spots
+pub mod FrameInside
+pub mod Owners
+pub mod Programs

@@ -1,6 +1,6 @@
 -- Lists whose items are mapped.
 use Rattle.std.proofs.Common.{◌≡◌, ◌+◌, ◌<◌, ◌≤◌, ℕ, zero, suc, List, [], ◌∷◌, map, length, get_or, take, refl, ap, sym, arith}
-use Rattle.std.specs.Prelude.{◌↔◌, IsTrue, Option, Some, None, slice_get}
+use Rattle.std.specs.Prelude.{◌↔◌, IsTrue, IfSome, Option, Some, None, slice_get}
 use Rattle.std.specs.List.{AllByRecursion}
 
 -- what holds of the mapped items holds of the items mapped
@@ -35,3 +35,13 @@ take_map g (suc n) (x ∷ xs) = ap (λ ys. g x ∷ ys) (take_map g n xs)
 pub length_map : {X Y : Type 0} (g : X → Y) (xs : List X) → length (map g xs) ≡ length xs
 length_map g [] = refl
 length_map g (x ∷ xs) = ap (λ n. suc n) (length_map g xs)
+
+-- what holds of all items, and what holds at each index
+pub all_somewhere : {X : Type 0} (P : X → Type 0) (xs : List X) → AllByRecursion P xs → (k : ℕ) → IfSome (slice_get xs k) P
+all_somewhere P [] h k = tt
+all_somewhere P (x ∷ xs) h zero = h.0
+all_somewhere P (x ∷ xs) h (suc k) = all_somewhere P xs h.1 k
+
+pub somewhere_all : {X : Type 0} (P : X → Type 0) (xs : List X) → ((k : ℕ) → IfSome (slice_get xs k) P) → AllByRecursion P xs
+somewhere_all P [] h = tt
+somewhere_all P (x ∷ xs) h = (h 0, somewhere_all P xs (λ k. h (suc k)))

@@ -12,12 +12,12 @@ item_at P g [] i x small is h = absurd (omega arith)
 item_at P g (y ∷ xs) zero x small is h = subst (λ z. P (g z)) (sym is) h.0
 item_at P g (y ∷ xs) (suc i) x small is h = item_at P g xs i x (omega arith) is h.1
 
-read_map : {X Y : Type 0} (g : X → Y) (xs : List X) (i : ℕ) (x : X) → i < length xs → x ≡ get_or xs i x → get_or (map g xs) i (g x) ≡ g x
+pub read_map : {X Y : Type 0} (g : X → Y) (xs : List X) (i : ℕ) (x : X) → i < length xs → x ≡ get_or xs i x → get_or (map g xs) i (g x) ≡ g x
 read_map g [] i x small is = absurd (omega arith)
 read_map g (y ∷ xs) zero x small is = ap g (sym is)
 read_map g (y ∷ xs) (suc i) x small is = read_map g xs i x (omega arith) is
 
-take_all : {X : Type 0} (xs : List X) (n : ℕ) → length xs ≤ n → take n xs ≡ xs
+pub take_all : {X : Type 0} (xs : List X) (n : ℕ) → length xs ≤ n → take n xs ≡ xs
 take_all [] zero h = refl
 take_all [] (suc n) h = refl
 take_all (x ∷ xs) zero h = absurd (omega arith)

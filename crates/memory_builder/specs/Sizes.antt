@@ -6,13 +6,10 @@ use Rattle.std.specs.List.{list_all, sum_by}
 use Rattle.py_fields.specs.declared.layout.CframeAt.{CframeAt}
 use Rattle.py_fields.specs.declared.layout.GilAt.{GilAt}
 use Rattle.py_fields.specs.declared.layout.Layout.{Layout}
-use Rattle.py_fields.specs.declared.layout.Lines.{Lines}
-use Rattle.py_fields.specs.declared.layout.Lines.TheVariants.{Pairs, Ranges, Locations}
 use Rattle.py_fields.specs.declared.layout.Strings.{Strings}
 use Rattle.py_fields.specs.declared.layout.Strings.TheVariants.{State, Bytes}
-use Rattle.py_lines.specs.declared.lines.LineFamily as family
-use Rattle.py_lines.specs.declared.lines.LineFamily.TheVariants as families
 use Rattle.py_lines.specs.Coding.{coded}
+use Rattle.py_stacks.specs.Lines.{family_of}
 use Rattle.memory_builder.specs.Program.{Item, Held, Local, Frame, Thread, Program}
 use Rattle.memory_builder.specs.Program.Item.{Number, Words}
 use Rattle.memory_builder.specs.Program.Held.{Single, Items}
@@ -71,17 +68,12 @@ held_size l (Items items) = rounded (list_len l) + rounded (8 * length items) + 
 
 -- ---- frames
 
-abbrev pub line_family : Lines → family.LineFamily
-line_family Pairs = families.Pairs
-line_family Ranges = families.Ranges
-line_family Locations = families.Locations
-
 -- a frame has the addresses of its locals' values behind its fields
 abbrev pub frame_len : Layout → Frame → ℕ
 frame_len l f = max l.frame.size (l.frame.locals + 8 * length f.locals)
 
 abbrev pub table_len : Layout → Frame → ℕ
-table_len l f = max l.bytes.size (l.bytes.at + length (coded (line_family l.lines) f.first f.ranges))
+table_len l f = max l.bytes.size (l.bytes.at + length (coded (family_of l.lines) f.first f.ranges))
 
 -- the names of the locals stand in a tuple
 abbrev pub tuple_len : Layout → Frame → ℕ

@@ -66,3 +66,14 @@ pub fn add_object(out: &mut Vec<u8>, size: usize, writes: &[Write]) -> Result<()
     }
     out.resize(start + (size + 15) / 16 * 16, 0)
 }
+
+/// Adds bytes, padded to a multiple of 16. The one error is want of memory.
+#[tactic(auto, unfolding(crate::specs::Objects::aligned))]
+pub(crate) fn add_aligned(out: &mut Vec<u8>, bytes: &[u8]) -> Result<(), AllocError>
+    requires { length bytes.now < 2 ^ 48 }
+    ensures { IfOk result (λ _. out.new.items ≡ out.old.items ++ aligned bytes.now) }
+{
+    let start = out.len();
+    out.extend_from_slice(bytes)?;
+    out.resize(start + (bytes.len() + 15) / 16 * 16, 0)
+}

@@ -5,7 +5,8 @@ ghost use Rattle.std.specs.Str.{chars};
 ghost use Rattle.py_lines.specs.Coding.{coded};
 ghost use Rattle.py_fields.specs.Sound.{IsSound};
 ghost use Rattle.memory_builder.specs.Mirror.{item_in, program_value, local_in, frame_in, program_thread, program_in};
-ghost use Rattle.memory_builder.specs.Sizes.{rounded, capped, all_under, is_short_headed, least_width, characters_start, characters_len, text_len, number_len, list_len, item_size, held_size, line_family, frame_len, table_len, tuple_len, name_size, local_size, records_size, frame_size, cframe_size, thread_size, word_end, interpreter_len, gil_size, type_size, shared_size, program_size};
+ghost use Rattle.memory_builder.specs.Sizes.{rounded, capped, all_under, is_short_headed, least_width, characters_start, characters_len, text_len, number_len, list_len, item_size, held_size, frame_len, table_len, tuple_len, name_size, local_size, records_size, frame_size, cframe_size, thread_size, word_end, interpreter_len, gil_size, type_size, shared_size, program_size};
+ghost use Rattle.py_stacks.specs.Lines.{family_of};
 ghost use Rattle.memory_builder.specs.Validity.{IsBriefText, IsValidItem, IsValidHeld, IsValidLocal, IsValidFrame, IsValidCall, IsValidProgram, IsCodable};
 
 use crate::parts::{Program, ProgramFrame, ProgramItem, ProgramLocal, ProgramThread, ProgramValue};
@@ -91,7 +92,7 @@ pub(crate) fn text_len(layout: &Layout, text: &Text) -> u64
 }
 
 /// How long a number is.
-fn number_len(layout: &Layout) -> u64
+pub(crate) fn number_len(layout: &Layout) -> u64
     requires { IsSound layout.now }
     ensures value { result ≡ number_len layout.now }
     ensures bound { result < 2 ^ 33 }
@@ -101,7 +102,7 @@ fn number_len(layout: &Layout) -> u64
 }
 
 /// How long a list is, without its items.
-fn list_len(layout: &Layout) -> u64
+pub(crate) fn list_len(layout: &Layout) -> u64
     requires { IsSound layout.now }
     ensures value { result ≡ list_len layout.now }
     ensures bound { result < 2 ^ 33 }
@@ -110,7 +111,7 @@ fn list_len(layout: &Layout) -> u64
 }
 
 /// How much an item of a list takes.
-fn item_size(layout: &Layout, item: &ProgramItem) -> u64
+pub(crate) fn item_size(layout: &Layout, item: &ProgramItem) -> u64
     requires sound { IsSound layout.now }
     requires valid { IsValidItem (item_in item.now) }
     ensures value { result ≡ item_size layout.now (item_in item.now) }
@@ -136,7 +137,7 @@ fn items_size(layout: &Layout, items: &[ProgramItem]) -> u64
 }
 
 /// How much a list takes, with its items.
-fn list_size(layout: &Layout, items: &[ProgramItem]) -> u64
+pub(crate) fn list_size(layout: &Layout, items: &[ProgramItem]) -> u64
     requires sound { IsSound layout.now }
     requires few { length items.now < 65536 }
     requires valid { AllByRecursion IsValidItem (map item_in items.now) }
@@ -149,7 +150,7 @@ fn list_size(layout: &Layout, items: &[ProgramItem]) -> u64
 }
 
 /// How much the value of a local takes.
-fn value_size(layout: &Layout, value: &ProgramValue) -> u64
+pub(crate) fn value_size(layout: &Layout, value: &ProgramValue) -> u64
     requires sound { IsSound layout.now }
     requires valid { IsValidHeld (program_value value.now) }
     ensures { result ≡ capped (held_size layout.now (program_value value.now)) }
@@ -162,7 +163,7 @@ fn value_size(layout: &Layout, value: &ProgramValue) -> u64
 }
 
 /// How much the names of locals take.
-fn names_size(layout: &Layout, locals: &[ProgramLocal]) -> u64
+pub(crate) fn names_size(layout: &Layout, locals: &[ProgramLocal]) -> u64
     requires sound { IsSound layout.now }
     requires valid { AllByRecursion IsValidLocal (map local_in locals.now) }
     ensures { result ≡ capped (sum_by (name_size layout.now) (map local_in locals.now)) }
@@ -188,8 +189,8 @@ fn values_size(layout: &Layout, locals: &[ProgramLocal]) -> u64
 }
 
 /// The family of a layout's line tables.
-pub fn line_family(lines: Lines) -> LineFamily
-    ensures { result ≡ line_family lines }
+pub fn family_of(lines: Lines) -> LineFamily
+    ensures { result ≡ family_of lines }
 {
     match lines {
         Lines::Pairs => LineFamily::Pairs,
@@ -206,30 +207,49 @@ fn table_len(
     ranges: &[LineRange],
 ) -> Result<u64, AllocError>
     requires sound { IsSound layout.now }
-    requires codable { IsCodable (line_family layout.now.lines) first ranges.now }
+    requires codable { IsCodable (family_of layout.now.lines) first ranges.now }
     ensures value { IfOk result (λ len. len ≡ max layout.now.bytes.size
-        (layout.now.bytes.at + length (coded (line_family layout.now.lines) first ranges.now))) }
+        (layout.now.bytes.at + length (coded (family_of layout.now.lines) first ranges.now))) }
     ensures bound { IfOk result (λ len. len < 2 ^ 33) }
 {
-    let Ok(table) = encode(alloc, line_family(layout.lines), first, ranges) else {
+    let Ok(table) = encode(alloc, family_of(layout.lines), first, ranges) else {
         return Err(AllocError);
     };
     let end = u64::from(layout.bytes.at) + table.len() as u64;
     Ok(u64::from(layout.bytes.size).max(end))
 }
 
+/// How long a frame is, with the addresses of its locals.
+pub(crate) fn frame_len(layout: &Layout, frame: &ProgramFrame) -> u64
+    requires sound { IsSound layout.now }
+    requires few { length (frame_in frame.now).locals ≤ 65535 }
+    ensures value { result ≡ frame_len layout.now (frame_in frame.now) }
+    ensures bound { result < 2 ^ 33 }
+{
+    let end = u64::from(layout.frame.locals) + 8 * frame.locals.len() as u64;
+    u64::from(layout.frame.size).max(end)
+}
+
+/// How long the tuple of the names of a frame's locals is.
+pub(crate) fn tuple_len(layout: &Layout, frame: &ProgramFrame) -> u64
+    requires sound { IsSound layout.now }
+    requires few { length (frame_in frame.now).locals ≤ 65535 }
+    ensures value { result ≡ tuple_len layout.now (frame_in frame.now) }
+    ensures bound { result < 2 ^ 33 }
+{
+    let end = u64::from(layout.tuple.at) + 8 * frame.locals.len() as u64;
+    u64::from(layout.tuple.size).max(end)
+}
+
 /// How much a frame's records and texts take, but for those of its locals; the one error is want of memory.
 fn records_size(alloc: Global, layout: &Layout, frame: &ProgramFrame) -> Result<u64, AllocError>
     requires sound { IsSound layout.now }
-    requires valid { IsValidFrame (line_family layout.now.lines) (frame_in frame.now) }
+    requires valid { IsValidFrame (family_of layout.now.lines) (frame_in frame.now) }
     ensures value { IfOk result (λ size. size ≡ records_size layout.now (frame_in frame.now)) }
     ensures bound { IfOk result (λ size. size < 2 ^ 37) }
 {
-    let addresses = 8 * frame.locals.len() as u64;
-    let locals_end = u64::from(layout.frame.locals) + addresses;
-    let names_end = u64::from(layout.tuple.at) + addresses;
-    let frame_len = u64::from(layout.frame.size).max(locals_end);
-    let tuple_len = u64::from(layout.tuple.size).max(names_end);
+    let frame_len = frame_len(layout, frame);
+    let tuple_len = tuple_len(layout, frame);
     let table_len = table_len(alloc, layout, frame.first, &frame.ranges)?;
     let code = rounded(u64::from(layout.code.size));
     let texts = rounded(text_len(layout, &frame.filename)) + rounded(text_len(layout, &frame.name));
@@ -237,9 +257,9 @@ fn records_size(alloc: Global, layout: &Layout, frame: &ProgramFrame) -> Result<
 }
 
 /// How much a frame takes, with its locals; the one error is want of memory.
-fn frame_size(alloc: Global, layout: &Layout, frame: &ProgramFrame) -> Result<u64, AllocError>
+pub(crate) fn frame_size(alloc: Global, layout: &Layout, frame: &ProgramFrame) -> Result<u64, AllocError>
     requires sound { IsSound layout.now }
-    requires valid { IsValidFrame (line_family layout.now.lines) (frame_in frame.now) }
+    requires valid { IsValidFrame (family_of layout.now.lines) (frame_in frame.now) }
     ensures { IfOk result (λ size. size ≡ capped (frame_size layout.now (frame_in frame.now))) }
 {
     let records = records_size(alloc, layout, frame)?;
@@ -251,7 +271,7 @@ fn frame_size(alloc: Global, layout: &Layout, frame: &ProgramFrame) -> Result<u6
 /// How much frames take; the one error is want of memory.
 fn frames_size(alloc: Global, layout: &Layout, frames: &[ProgramFrame]) -> Result<u64, AllocError>
     requires sound { IsSound layout.now }
-    requires valid { (k : ℕ) → IsValidCall (line_family layout.now.lines) (map frame_in frames.now) k }
+    requires valid { (k : ℕ) → IsValidCall (family_of layout.now.lines) (map frame_in frames.now) k }
     ensures { IfOk result (λ size. size ≡ capped (sum_by (frame_size layout.now) (map frame_in frames.now))) }
 {
     let mut total: u64 = 0;
@@ -261,7 +281,7 @@ fn frames_size(alloc: Global, layout: &Layout, frames: &[ProgramFrame]) -> Resul
     Ok(total)
 }
 
-fn cframe_size(cframe: Option<CframeAt>) -> u64
+pub(crate) fn cframe_size(cframe: Option<CframeAt>) -> u64
     ensures value { result ≡ cframe_size cframe }
     ensures bound { result < 2 ^ 34 }
 {
@@ -272,9 +292,9 @@ fn cframe_size(cframe: Option<CframeAt>) -> u64
 }
 
 /// How much a thread takes, with its frames; the one error is want of memory.
-fn thread_size(alloc: Global, layout: &Layout, thread: &ProgramThread) -> Result<u64, AllocError>
+pub(crate) fn thread_size(alloc: Global, layout: &Layout, thread: &ProgramThread) -> Result<u64, AllocError>
     requires sound { IsSound layout.now }
-    requires valid { (k : ℕ) → IsValidCall (line_family layout.now.lines) (program_thread thread.now).frames k }
+    requires valid { (k : ℕ) → IsValidCall (family_of layout.now.lines) (program_thread thread.now).frames k }
     ensures { IfOk result (λ size. size ≡ capped (thread_size layout.now (program_thread thread.now))) }
 {
     let record = rounded(u64::from(layout.thread.size)) + cframe_size(layout.cframe);
@@ -292,7 +312,7 @@ fn word_end(at: Option<u32>) -> u64
     }
 }
 
-fn interpreter_len(layout: &Layout) -> u64
+pub(crate) fn interpreter_len(layout: &Layout) -> u64
     requires { IsSound layout.now }
     ensures value { result ≡ interpreter_len layout.now }
     ensures bound { result < 2 ^ 33 }
@@ -303,7 +323,7 @@ fn interpreter_len(layout: &Layout) -> u64
     threads.max(modules).max(word_end(at.gil))
 }
 
-fn gil_size(gil: Option<GilAt>) -> u64
+pub(crate) fn gil_size(gil: Option<GilAt>) -> u64
     ensures value { result ≡ gil_size gil }
     ensures bound { result < 2 ^ 34 }
 {
@@ -326,7 +346,7 @@ fn shared_size(layout: &Layout) -> u64
 /// How much the threads of a program take; the one error is want of memory.
 fn threads_size(alloc: Global, layout: &Layout, program: &Program) -> Result<u64, AllocError>
     requires sound { IsSound layout.now }
-    requires valid { IsValidProgram (line_family layout.now.lines) (program_in program.now) }
+    requires valid { IsValidProgram (family_of layout.now.lines) (program_in program.now) }
     ensures { IfOk result (λ size. size ≡ capped (sum_by (thread_size layout.now) (program_in program.now).threads)) }
 {
     let mut total: u64 = 0;
@@ -343,7 +363,7 @@ fn threads_size(alloc: Global, layout: &Layout, program: &Program) -> Result<u64
 /// want of memory: line tables are written to be measured.
 pub fn objects_size(alloc: Global, program: &Program, layout: &Layout) -> Result<u64, AllocError>
     requires sound { IsSound layout.now }
-    requires valid { IsValidProgram (line_family layout.now.lines) (program_in program.now) }
+    requires valid { IsValidProgram (family_of layout.now.lines) (program_in program.now) }
     ensures { IfOk result (λ size. size ≡ capped (program_size layout.now (program_in program.now))) }
 {
     let threads = threads_size(alloc, layout, program)?;

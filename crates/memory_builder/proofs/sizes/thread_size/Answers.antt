@@ -2,7 +2,8 @@ use Rattle.std.proofs.Common.{◌≡◌, ◌∙◌, ◌+◌, List, ap, map, subs
 use Rattle.std.specs.List.{sum_by}
 use Rattle.memory_builder.specs.declared.parts.ProgramFrame.{ProgramFrame}
 use Rattle.memory_builder.specs.Mirror.{frame_in}
-use Rattle.memory_builder.specs.Sizes.{capped, cframe_size, frame_size, line_family, rounded, thread_size}
+use Rattle.memory_builder.specs.Sizes.{capped, cframe_size, frame_size, rounded, thread_size}
+use Rattle.py_stacks.specs.Lines.{family_of}
 use Rattle.memory_builder.specs.Validity.{IsValidCall}
 use Rattle.memory_builder.proofs.Records.{added_once}
 use Rattle.memory_builder.proofs.Sums.{fits_capped}
@@ -10,7 +11,7 @@ use Rattle.memory_builder.proofs.sizes.thread_size.Goals as goal
 
 pub frames_size-requires-clause-valid : goal.frames_size-requires-clause-valid
 frames_size-requires-clause-valid c =
-    subst (λ (xs : List ProgramFrame). (k : ℕ) → IsValidCall (line_family c.args.layout.now.lines) (map frame_in xs) k) (sym c.deref.ensures.value) c.requires.valid
+    subst (λ (xs : List ProgramFrame). (k : ℕ) → IsValidCall (family_of c.args.layout.now.lines) (map frame_in xs) k) (sym c.deref.ensures.value) c.requires.valid
 
 pub returns : goal.returns
 unfolding thread_size

@@ -1,7 +1,8 @@
 use Rattle.std.proofs.Common.{◌∙◌, ap, map, sym}
 use Rattle.std.specs.List.{sum_by}
 use Rattle.memory_builder.specs.Mirror.{program_in, program_thread}
-use Rattle.memory_builder.specs.Sizes.{capped, line_family, thread_size}
+use Rattle.memory_builder.specs.Sizes.{capped, thread_size}
+use Rattle.py_stacks.specs.Lines.{family_of}
 use Rattle.memory_builder.proofs.Earlier.{there}
 use Rattle.memory_builder.proofs.Firsts.{valid_in}
 use Rattle.memory_builder.proofs.Sums.{all_capped, more_capped}
@@ -11,7 +12,7 @@ pub thread_size-requires-clause-valid : goal.thread_size-requires-clause-valid
 thread_size-requires-clause-valid c =
     let i = c.loop-thread.thread-index in
     let is = there c.args.program.now.threads.items c.deref-thread-items.result.now i c.thread-item.result c.deref-thread-items.ensures.value c.loop-thread-test.true c.thread-item.is in
-    λ k. (valid_in (line_family c.args.layout.now.lines) (program_in c.args.program.now) i (program_thread c.thread-item.result) is k (c.requires.valid i k)).call
+    λ k. (valid_in (family_of c.args.layout.now.lines) (program_in c.args.program.now) i (program_thread c.thread-item.result) is k (c.requires.valid i k)).call
 
 pub loop-thread-preserved : goal.loop-thread-preserved
 loop-thread-preserved c =
