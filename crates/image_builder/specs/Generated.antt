@@ -3,9 +3,9 @@
 use Rattle.std.specs.Prelude.{ℕ, zero, suc, ◌+◌, ◌*◌, ◌%◌, List, [], ◌∷◌, ◌++◌, Some, None, codes, pos}
 use Rattle.std.specs.Fmt.{decimal}
 use Rattle.py_lines.specs.declared.lines.LineRange.{LineRange}
-use Rattle.image_builder.specs.Program.{Local, Frame, Thread, Program}
-use Rattle.image_builder.specs.Program.Item.{Number, Words}
-use Rattle.image_builder.specs.Program.Held.{Single, Items}
+use Rattle.memory_builder.specs.Program.{Local, Frame, Thread, Program}
+use Rattle.memory_builder.specs.Program.Item.{Number, Words}
+use Rattle.memory_builder.specs.Program.Held.{Single, Items}
 
 -- what stands at 0, 1 and so on, below a number
 unfoldable pub each : {A : Type 0} → (ℕ → A) → ℕ → List A

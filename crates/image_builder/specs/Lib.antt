@@ -1,3 +1,3 @@
+pub mod Covered
 pub mod Generated
-pub mod Mirror
-pub mod Program
+pub mod Refusals

@@ -1,10 +1,15 @@
-//! Programs of Python: what the threads of a process are to show, from which memory can be written.
+//! Cores and images of programs of Python: which can be written, and a program for each seed.
 #![tactic(auto)]
 
-mod parts;
+mod admission;
+mod covered;
+mod error;
 mod seeded;
 
-pub use parts::{Program, ProgramFrame, ProgramItem, ProgramLocal, ProgramThread, ProgramValue};
+pub use error::BuildError;
+pub use memory_builder::{
+    Program, ProgramFrame, ProgramItem, ProgramLocal, ProgramThread, ProgramValue,
+};
 pub use seeded::generate;
 
 #[cfg(test)]

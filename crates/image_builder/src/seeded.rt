@@ -2,7 +2,9 @@
 ghost use Rattle.std.specs.Prelude.{◌≡◌, ◌<◌, ◌++◌, map, codes, IfOk};
 ghost use Rattle.std.specs.Fmt.{decimal};
 ghost use Rattle.image_builder.specs.Generated.{ranges_in, locals_in, frame_of, thread_of, generated};
-ghost use Rattle.image_builder.specs.Mirror.{local_in, frame_in, program_thread, program_in};
+ghost use Rattle.py_lines.specs.declared.lines.LineFamily.{LineFamily};
+ghost use Rattle.memory_builder.specs.Validity.{IsValidProgram};
+ghost use Rattle.memory_builder.specs.Mirror.{local_in, frame_in, program_thread, program_in};
 
 use crate::{Program, ProgramFrame, ProgramItem, ProgramLocal, ProgramThread, ProgramValue};
 use elf64_core::Text;
@@ -117,9 +119,10 @@ fn thread_of(alloc: Global, seed: u64, thread: u32) -> Result<ProgramThread, All
 }
 
 /// The program of a seed: 256 threads with ids 1000, 1016 and so on, of 1 to 16 frames each, 2176 in all; none
-/// holds the lock. The one error is want of memory.
+/// holds the lock. It can be written for every layout. The one error is want of memory.
 pub fn generate(alloc: Global, seed: u64) -> Result<Program, AllocError>
-    ensures { IfOk result (λ program. program_in program ≡ generated seed) }
+    ensures same { IfOk result (λ program. program_in program ≡ generated seed) }
+    ensures valid { IfOk result (λ program. (family : LineFamily) → IsValidProgram family (program_in program)) }
 {
     let mut threads = Vec::new(alloc);
     for thread in 0..THREADS {

@@ -1,6 +1,6 @@
 use Rattle.std.proofs.Common.{◌≡◌, map}
 use Rattle.image_builder.specs.Generated.{each, thread_of}
-use Rattle.image_builder.specs.Mirror.{program_thread}
+use Rattle.memory_builder.specs.Mirror.{program_thread}
 use Rattle.image_builder.proofs.seeded.generate.Given as goal
 
 -- the threads so far

@@ -1,6 +1,6 @@
 use Rattle.std.proofs.Common.{◌∙◌, sym, ap, map}
 use Rattle.image_builder.specs.Generated.{frame_of}
-use Rattle.image_builder.specs.Mirror.{frame_in}
+use Rattle.memory_builder.specs.Mirror.{frame_in}
 use Rattle.image_builder.proofs.Each.{each_none, one_more}
 use Rattle.image_builder.proofs.seeded.thread_of.Goals as goal
 

@@ -1,6 +1,6 @@
 use Rattle.std.proofs.Common.{◌≡◌, map}
 use Rattle.image_builder.specs.Generated.{each, frame_of}
-use Rattle.image_builder.specs.Mirror.{frame_in}
+use Rattle.memory_builder.specs.Mirror.{frame_in}
 use Rattle.image_builder.proofs.seeded.thread_of.Given as goal
 
 -- the frames so far

@@ -1,16 +1,16 @@
 -- A program of the code, in plain terms.
 use Rattle.std.specs.Prelude.{map}
-use Rattle.image_builder.specs.declared.parts.Program as p
-use Rattle.image_builder.specs.declared.parts.ProgramThread as t
-use Rattle.image_builder.specs.declared.parts.ProgramFrame as f
-use Rattle.image_builder.specs.declared.parts.ProgramLocal as l
-use Rattle.image_builder.specs.declared.parts.ProgramValue as v
-use Rattle.image_builder.specs.declared.parts.ProgramValue.TheVariants as vs
-use Rattle.image_builder.specs.declared.parts.ProgramItem as i
-use Rattle.image_builder.specs.declared.parts.ProgramItem.TheVariants as ks
-use Rattle.image_builder.specs.Program.{Item, Held, Local, Frame, Thread, Program}
-use Rattle.image_builder.specs.Program.Item.{Number, Words}
-use Rattle.image_builder.specs.Program.Held.{Single, Items}
+use Rattle.memory_builder.specs.declared.parts.Program as p
+use Rattle.memory_builder.specs.declared.parts.ProgramThread as t
+use Rattle.memory_builder.specs.declared.parts.ProgramFrame as f
+use Rattle.memory_builder.specs.declared.parts.ProgramLocal as l
+use Rattle.memory_builder.specs.declared.parts.ProgramValue as v
+use Rattle.memory_builder.specs.declared.parts.ProgramValue.TheVariants as vs
+use Rattle.memory_builder.specs.declared.parts.ProgramItem as i
+use Rattle.memory_builder.specs.declared.parts.ProgramItem.TheVariants as ks
+use Rattle.memory_builder.specs.Program.{Item, Held, Local, Frame, Thread, Program}
+use Rattle.memory_builder.specs.Program.Item.{Number, Words}
+use Rattle.memory_builder.specs.Program.Held.{Single, Items}
 
 abbrev pub item_in : i.ProgramItem → Item
 item_in (ks.Number n) = Number n

@@ -1,0 +1,14 @@
+use Rattle.std.proofs.Common.{◌≡◌, ◌+◌, map, take}
+use Rattle.std.specs.List.{sum_by}
+use Rattle.memory_builder.specs.Chains.{addresses_from}
+use Rattle.memory_builder.specs.Mirror.{local_in}
+use Rattle.memory_builder.specs.Sizes.{name_size}
+use Rattle.memory_builder.specs.Values.{address_array}
+use Rattle.memory_builder.proofs.locals.name_addresses.Given as goal
+
+-- the addresses so far, and the next one
+abbrev pub invariant-loop-local : goal.invariant-loop-local
+invariant-loop-local l = record {
+  found : l.found.items ≡ address_array (addresses_from (name_size l.layout) l.at (take l.local-index (map local_in l.locals)));
+  here : l.here ≡ l.at + sum_by (name_size l.layout) (take l.local-index (map local_in l.locals));
+}

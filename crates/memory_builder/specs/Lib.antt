@@ -1,0 +1,14 @@
+pub mod Chains
+pub mod Frames
+pub mod Laid
+pub mod Mirror
+pub mod Objects
+pub mod Placing
+pub mod Program
+pub mod Room
+pub mod Sizes
+pub mod Texts
+pub mod Threads
+pub mod Validity
+pub mod Values
+pub mod Writes

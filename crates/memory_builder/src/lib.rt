@@ -1,0 +1,22 @@
+//! Programs of Python, as objects in memory: what the threads of a process are to show, which of that can be
+//! written, and how much memory it takes.
+#![tactic(auto)]
+
+mod frames;
+mod locals;
+mod object;
+mod parts;
+mod program;
+mod sizes;
+mod texts;
+mod validity;
+mod threads;
+mod values;
+
+pub use parts::{Program, ProgramFrame, ProgramItem, ProgramLocal, ProgramThread, ProgramValue};
+pub use program::laid_program;
+pub use sizes::{family_of, objects_size};
+pub use validity::{FramePlace, first_invalid};
+
+#[cfg(test)]
+mod tests;
