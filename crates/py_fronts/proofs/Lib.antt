@@ -1,0 +1,10 @@
+pub mod Fronts
+pub mod Meets
+pub mod Splits
+pub mod FirstFrameLaws
+pub mod FirstThreadLaws
+pub mod Steps
+pub mod Shown
+pub mod EndsShown
+pub mod ThreadSteps
+pub mod ThreadsLaws
