@@ -11,7 +11,7 @@ use Rattle.py_fronts.specs.FrameFronts.{FramesShown, chain_from, frames_shown}
 use Rattle.py_fronts.specs.Front.{Front}
 use Rattle.py_fronts.specs.Members.{Chained, caller_of, members_front}
 use Rattle.py_fronts.specs.Standings.{standing_at}
-use Rattle.py_fronts.proofs.Fronts.{front_found, front_unique}
+use Rattle.py_fronts.proofs.FrontLaws.{front_found, front_unique}
 use Rattle.py_fronts.proofs.Splits.{first_part, last_part, three_parts}
 
 ends_by : (q : Asked) (l : Layout) (m : Memory) (limit : ℕ) (c : Chained) (few : Bool) → leb (length c.kept) (2 * limit) ≡ few

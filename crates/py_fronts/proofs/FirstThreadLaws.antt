@@ -10,7 +10,7 @@ use Rattle.py_fronts.specs.FrameFronts.{chain_of_thread, thread_members_limit}
 use Rattle.py_fronts.specs.Front.{Front, Leads}
 use Rattle.py_fronts.specs.ThreadFronts.{ThreadShown, ThreadsShown, after_record, front_shown, thread_by, thread_of, thread_shown, threads_front, threads_shown}
 use Rattle.py_fronts.proofs.FirstFrameLaws.{first_frames_found, first_frames_only}
-use Rattle.py_fronts.proofs.Fronts.{front_found, front_unique, some_next}
+use Rattle.py_fronts.proofs.FrontLaws.{front_found, front_unique, some_next}
 
 there_by : (l : Layout) (i : ℕ) (d : Found (List ℕ)) (n : ℕ) → after_record l i d ≡ Ok n → (thread : List ℕ) × (d ≡ Ok thread)
 there_by l i (Ok thread) n e = (thread, refl)

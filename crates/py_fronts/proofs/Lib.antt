@@ -1,4 +1,4 @@
-pub mod Fronts
+pub mod FrontLaws
 pub mod Meets
 pub mod Splits
 pub mod FirstFrameLaws
@@ -8,3 +8,8 @@ pub mod Shown
 pub mod EndsShown
 pub mod ThreadSteps
 pub mod ThreadsLaws
+pub mod CandidateSteps
+pub mod HeadSteps
+pub mod FindSteps
+pub mod FindLaws
+pub mod FrontSteps

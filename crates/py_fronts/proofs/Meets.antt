@@ -16,7 +16,7 @@ use Rattle.py_fronts.specs.ChainEnds.{ending_of}
 use Rattle.py_fronts.specs.Front.{Ending, behind, front_at}
 use Rattle.py_fronts.specs.Front.Ending.{Whole, Cut}
 use Rattle.py_fronts.specs.Members.{Chained, Meeting, StepIs, caller_of, is_kept, kept_if, kept_of, members_front}
-use Rattle.py_fronts.proofs.Fronts.{behind_ends, behind_more, front_end, front_full, front_stop}
+use Rattle.py_fronts.proofs.FrontLaws.{behind_ends, behind_more, front_end, front_full, front_stop}
 
 one_kept : (l : Layout) (m : Memory) (a : ℕ) (stands : Bool) → stands ≡ is_kept l m a → kept_if stands a ≡ filter (is_kept l m) (a ∷ [])
 one_kept l m a true e = rw (← e) refl

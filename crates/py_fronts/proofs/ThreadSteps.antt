@@ -23,7 +23,7 @@ use Rattle.py_fronts.proofs.FirstThreadLaws.{thread_equal}
 use Rattle.py_fronts.specs.Front.{Break, Ending, behind, front_at}
 use Rattle.py_fronts.specs.Front.Ending.{Whole, Cut}
 use Rattle.py_fronts.specs.ThreadFronts.{ThreadIs, ThreadShown, ThreadsShown, Threading, after_record, front_shown, left_after, thread_by, thread_front, thread_of, thread_shown, threads_front, threads_shown}
-use Rattle.py_fronts.proofs.Fronts.{behind_ends, behind_more, front_end, front_full, front_stop}
+use Rattle.py_fronts.proofs.FrontLaws.{behind_ends, behind_more, front_end, front_full, front_stop}
 
 pub frames_met : (q : Asked) (l : Layout) (m : Memory) (limit : ℕ) (f : FramesFront) (c : Chained) → frames_front f ≡ frames_shown q l m limit c → f.met ≡ c.met
 unfolding frames_shown

@@ -7,3 +7,7 @@ pub mod FrameFronts
 pub mod ThreadFronts
 pub mod FirstFrames
 pub mod FirstThreads
+pub mod Candidates
+pub mod Interpreters
+pub mod ShownInterpreters
+pub mod Fronts

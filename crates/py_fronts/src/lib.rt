@@ -5,8 +5,11 @@
 //! members up to there, each the next of the one before, and how they end.
 #![tactic(auto)]
 
+mod candidates;
 mod chain_end;
 mod frame_front;
+mod fronts;
+mod interpreters;
 mod members;
 mod standing;
 mod thread_front;
@@ -14,6 +17,8 @@ mod threads;
 
 pub use chain_end::ChainEnd;
 pub use frame_front::FramesFront;
+pub use fronts::{Fronts, InterpreterFront, get_fronts};
+pub use interpreters::{FoundInterpreter, FoundInterpreters, find_interpreters};
 pub use standing::Standing;
 pub use thread_front::{ThreadFront, ThreadsFront};
 pub use threads::get_threads_front;

@@ -16,7 +16,7 @@ use py_stacks::{Asked, Records, StackError, native_id};
 use std::alloc::Global;
 
 /// How many threads of an interpreter are met at most.
-const THREAD_LIMIT: usize = 4096;
+pub(crate) const THREAD_LIMIT: usize = 4096;
 
 /// How many members of one thread's chain of frames are met at most.
 const THREAD_MEMBERS_LIMIT: u64 = 1_048_576;
@@ -45,7 +45,7 @@ pub struct ThreadsFront {
 
 /// What stands at an address of a chain of threads.
 #[derive(Drop)]
-enum Thread {
+pub(crate) enum Thread {
     /// A thread of the interpreter, by its record.
     At(Vec<u8>),
     /// None.
@@ -66,7 +66,7 @@ fn thread_of(layout: &Layout, interpreter: u64, thread: Vec<u8>) -> Thread
 }
 
 /// What stands at an address of an interpreter's chain of threads. One read.
-fn read_thread<P: ProcessMemory>(
+pub(crate) fn read_thread<P: ProcessMemory>(
     alloc: Global,
     process: &mut P,
     layout: &Layout,

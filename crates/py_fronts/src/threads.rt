@@ -1,5 +1,5 @@
 //! The front of an interpreter's threads, as it is asked for.
-ghost use Rattle.std.specs.Prelude.{◌≡◌, ◌≤◌, ◌+◌, ◌*◌, IfOk};
+ghost use Rattle.std.specs.Prelude.{◌≡◌, ◌≤◌, ◌+◌, ◌*◌, IfOk, length};
 ghost use Rattle.process_memory.specs.Seen.{Reading};
 ghost use Rattle.py_fields.specs.Sound.{IsSound};
 ghost use Rattle.py_fronts.specs.Answers.{IsOrNoMemory};
@@ -58,6 +58,7 @@ pub fn get_threads_front<P: ProcessMemory>(
         → IsOrNoMemory shown (threads_result result)) }
     ensures left { IfOk result (λ front. left.new ≡ left_after left.old (threads_of front).threads) }
     ensures fewer { left.new ≤ left.old }
+    ensures few { IfOk result (λ front. length front.threads.items ≤ 4096) }
     // whatever the memory holds, as cyclic chains
     ensures most { (P.seen process.new).reads ≤ (P.seen process.old).reads
         + (1 + 4 * left.old + (6 + ends_reads asked limit) * 4096) }
