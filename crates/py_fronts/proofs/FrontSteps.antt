@@ -1,0 +1,83 @@
+-- Interpreters with their threads, one after another.
+use Rattle.std.proofs.Common.{◌≡◌, ℕ, ◌+◌, ◌*◌, ◌-◌, ◌≤◌, Bool, List, [], ◌∷◌, ◌++◌, length, map, refl, sym, ◌∙◌, ap, arith, length-append}
+use Rattle.std.proofs.Math.Nat.{mul-le-mul_left}
+use Rattle.std.proofs.lemmas.List.{map-append}
+use Rattle.process_memory.specs.Memory.{Memory}
+use Rattle.process_memory.specs.Seen.{Reading, Seen}
+use Rattle.process_memory.proofs.Reading.{reading_gives, reading_none, reading_then}
+use Rattle.py_version.specs.declared.version.Version.{Version}
+use Rattle.py_fields.specs.declared.layout.Layout.{Layout}
+use Rattle.py_stacks.specs.declared.asked.Asked.{Asked}
+use Rattle.py_stacks.specs.declared.error.StackError.{StackError}
+use Rattle.py_stacks.specs.declared.error.StackError.TheVariants as stack
+use Rattle.py_process.specs.Facts.{Known}
+use Rattle.py_fronts.specs.declared.fronts.InterpreterFront.{InterpreterFront}
+use Rattle.py_fronts.specs.declared.interpreters.FoundInterpreter.{FoundInterpreter}
+use Rattle.py_fronts.specs.declared.thread_front.ThreadsFront.{ThreadsFront}
+use Rattle.py_fronts.specs.FrameFronts.{ends_reads}
+use Rattle.py_fronts.specs.Fronts.{FrontsShown, InterpreterShown, Passing, found_left, fronts_at, interpreter_front, interpreter_most, interpreter_of_front, interpreters_fronts, interpreters_most, threads_from}
+use Rattle.py_fronts.specs.Interpreters.{Finds, interpreters_at}
+use Rattle.py_fronts.specs.ThreadFronts.{ThreadsShown, left_after, threads_of}
+
+fronts_append : (q : Asked) (l : Layout) (m : Memory) (limit left : ℕ) (xs : List FoundInterpreter) (one : FoundInterpreter)
+    → interpreters_fronts q l m limit left (xs ++ one ∷ []) ≡ interpreters_fronts q l m limit left xs ++ interpreter_front q l m limit (found_left q l m limit left xs) one ∷ []
+unfolding interpreters_fronts found_left
+fronts_append q l m limit left [] one = refl
+fronts_append q l m limit left (x ∷ xs) one = ap (λ is. interpreter_front q l m limit left x ∷ is) (fronts_append q l m limit (left_after left (threads_from q l m limit left x).threads) xs one)
+
+left_append : (q : Asked) (l : Layout) (m : Memory) (limit left : ℕ) (xs : List FoundInterpreter) (one : FoundInterpreter)
+    → found_left q l m limit left (xs ++ one ∷ []) ≡ left_after (found_left q l m limit left xs) (threads_from q l m limit (found_left q l m limit left xs) one).threads
+unfolding found_left
+left_append q l m limit left [] one = refl
+left_append q l m limit left (x ∷ xs) one = left_append q l m limit (left_after left (threads_from q l m limit left x).threads) xs one
+
+pub passing_init : (q : Asked) (l : Layout) (limit before : ℕ) (s : Seen) → Passing q l limit before s s [] [] before
+unfolding interpreters_fronts found_left
+passing_init q l limit before s = record { fewer = omega arith; spent = 0; cost = omega arith; reading = reading_none 0 s _ (λ m. (refl, refl)) }
+
+one_front : (q : Asked) (l : Layout) (m : Memory) (limit n : ℕ) (front : InterpreterFront) (one : FoundInterpreter) → front.address ≡ one.address → front.searched ≡ one.searched → threads_of front.threads ≡ threads_from q l m limit n one
+    → interpreter_of_front front ≡ interpreter_front q l m limit n one
+one_front q l m limit n front one a b e =
+    ap (λ x. record { address = x; searched = front.searched; threads = threads_of front.threads }) a
+    ∙ ap (λ x. record { address = one.address; searched = x; threads = threads_of front.threads }) b
+    ∙ ap (λ x. record { address = one.address; searched = one.searched; threads = x }) e
+
+module _ {q : Asked} {l : Layout} {limit before : ℕ} {s0 s1 : Seen} {found : List FoundInterpreter} {shown : List InterpreterFront} {left : ℕ} where
+  pub passing_more : {s2 : Seen} (one : FoundInterpreter) (front : InterpreterFront) (rest : ℕ) → Passing q l limit before s0 s1 found shown left
+      → Reading (1 + 4 * (left - rest) + (6 + ends_reads q limit) * length front.threads.threads.items) s1 s2 (λ m. threads_of front.threads ≡ threads_from q l m limit left one) → rest ≡ left_after left (threads_of front.threads).threads
+      → rest ≤ left → length front.threads.threads.items ≤ 4096 → front.address ≡ one.address → front.searched ≡ one.searched → Passing q l limit before s0 s2 (found ++ one ∷ []) (shown ++ front ∷ []) rest
+  passing_more one front rest w r is fewer few address searched =
+      let most = mul-le-mul_left (6 + ends_reads q limit) few in
+      record {
+        fewer = omega (arith, w.fewer);
+        spent = w.spent + (1 + 4 * (left - rest) + (6 + ends_reads q limit) * length front.threads.threads.items);
+        cost = rw (length-append found (one ∷ [])) (omega (arith, w.cost, w.fewer, most));
+        reading = reading_then (λ m. (map interpreter_of_front (shown ++ front ∷ []) ≡ interpreters_fronts q l m limit before (found ++ one ∷ [])) × (rest ≡ found_left q l m limit before (found ++ one ∷ []))) w.reading r
+            (λ m p e.
+            let here : threads_of front.threads ≡ threads_from q l m limit (found_left q l m limit before found) one = e ∙ ap (λ n. threads_from q l m limit n one) p.1 in
+            let same : interpreter_of_front front ≡ interpreter_front q l m limit (found_left q l m limit before found) one = one_front q l m limit (found_left q l m limit before found) front one address searched here in (
+              map-append interpreter_of_front shown (front ∷ []) ∙ ap (λ is. is ++ interpreter_of_front front ∷ []) p.0 ∙ ap (λ i. interpreters_fronts q l m limit before found ++ i ∷ []) same ∙ sym (fronts_append q l m limit before found one),
+              is ∙ ap (λ n. left_after n (threads_of front.threads).threads) p.1 ∙ ap (λ (t : ThreadsShown). left_after (found_left q l m limit before found) t.threads) here ∙ sym (left_append q l m limit before found one),
+            ));
+      }
+
+  pub passing_lost : {n : ℕ} {s2 : Seen} {P : Memory → Type 0} (e : StackError) → Passing q l limit before s0 s1 found shown left → before ≤ 4194304 → length found + 1 ≤ 16
+      → Reading n s1 s2 P → n ≤ 4 * left + interpreter_most q limit → ((m : Memory) → P m → e ≡ stack.OutOfMemory) → Reading (interpreters_most q limit) s0 s2 (λ m. e ≡ stack.OutOfMemory)
+  passing_lost e w start below r few lost =
+      let most = mul-le-mul_left (interpreter_most q limit) below in
+      reading_gives _ _ (reading_then (λ m. e ≡ stack.OutOfMemory) w.reading r (λ m p h. lost m h)) (omega (arith, w.cost, w.fewer, most, few)) (λ m h. h)
+
+  pub passing_done : Passing q l limit before s0 s1 found shown left → before ≤ 4194304 → length found ≤ 16 → Reading (interpreters_most q limit) s0 s1 (λ m. map interpreter_of_front shown ≡ interpreters_fronts q l m limit before found)
+  passing_done w start below =
+      let most = mul-le-mul_left (interpreter_most q limit) below in
+      reading_gives _ _ w.reading (omega (arith, w.cost, most)) (λ m p. p.0)
+
+pub fronts_found : (c : ℕ → Bool) (k : Known) (v : Version) (l : Layout) (m : Memory) (q : Asked) (limit : ℕ) (finds : Finds) (found : List FoundInterpreter) (is : List InterpreterShown) → finds ≡ interpreters_at c k v l m → found ≡ finds.found
+    → is ≡ interpreters_fronts q l m limit 4194304 found → ◌≡◌ {A = FrontsShown} (record { interpreters = is; more = finds.more }) (fronts_at c k v l m q limit)
+unfolding fronts_at
+fronts_found c k v l m q limit finds found is f e h =
+    ap (λ x. record { interpreters = x; more = finds.more }) (h ∙ ap (interpreters_fronts q l m limit 4194304) e)
+    ∙ ap (λ (x : Finds). record { interpreters = interpreters_fronts q l m limit 4194304 x.found; more = x.more }) f
+
+pub threads_few : (q : Asked) (limit before after : ℕ) (front : ThreadsFront) → length front.threads.items ≤ 4096 → 1 + 4 * (before - after) + (6 + ends_reads q limit) * length front.threads.items ≤ 4 * before + interpreter_most q limit
+threads_few q limit before after front few = let most = mul-le-mul_left (6 + ends_reads q limit) few in omega (arith, most)

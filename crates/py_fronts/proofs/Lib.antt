@@ -1,0 +1,15 @@
+pub mod FrontLaws
+pub mod Meets
+pub mod Splits
+pub mod FirstFrameLaws
+pub mod FirstThreadLaws
+pub mod Steps
+pub mod Shown
+pub mod EndsShown
+pub mod ThreadSteps
+pub mod ThreadsLaws
+pub mod CandidateSteps
+pub mod HeadSteps
+pub mod FindSteps
+pub mod FindLaws
+pub mod FrontSteps

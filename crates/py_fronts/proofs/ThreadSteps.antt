@@ -1,0 +1,138 @@
+-- Walks along an interpreter's threads, one by one.
+use Rattle.std.proofs.Common.{◌≡◌, ◌≢◌, ℕ, suc, ◌+◌, ◌*◌, ◌-◌, ◌<◌, ◌≤◌, min, List, [], ◌∷◌, ◌++◌, length, map, refl, sym, ◌∙◌, ap, arith, length-append}
+use Rattle.std.proofs.Math.Nat.{mul-le-mul_left}
+use Rattle.std.proofs.lemmas.List.{map-append}
+use Rattle.std.specs.Prelude.{Ok, Err, Result}
+use Rattle.elf64_core.specs.Fields.{u64_in}
+use Rattle.process_memory.specs.Memory.{Memory, record_at}
+use Rattle.process_memory.specs.Seen.{Reading, Seen}
+use Rattle.process_memory.proofs.Reading.{reading_gives, reading_none, reading_then}
+use Rattle.py_fields.specs.declared.layout.Layout.{Layout}
+use Rattle.py_stacks.specs.Threads.{native_id, thread_limit}
+use Rattle.py_stacks.specs.declared.asked.Asked.{Asked}
+use Rattle.py_stacks.specs.declared.error.StackError.{StackError}
+use Rattle.py_stacks.specs.declared.error.StackError.TheVariants as stack
+use Rattle.py_fronts.specs.declared.chain_end.ChainEnd.{ChainEnd}
+use Rattle.py_fronts.specs.declared.thread_front.ThreadFront.{ThreadFront}
+use Rattle.py_fronts.specs.declared.thread_front.Thread.TheVariants.{Broken}
+use Rattle.py_fronts.specs.ChainEnds.{ending_of}
+use Rattle.py_fronts.specs.declared.frame_front.FramesFront.{FramesFront}
+use Rattle.py_fronts.specs.FrameFronts.{FramesShown, chain_of_thread, ends_reads, frames_front, frames_shown, thread_members_limit}
+use Rattle.py_fronts.specs.Members.{Chained}
+use Rattle.py_fronts.proofs.FirstThreadLaws.{thread_equal}
+use Rattle.py_fronts.specs.Front.{Break, Ending, behind, front_at}
+use Rattle.py_fronts.specs.Front.Ending.{Whole, Cut}
+use Rattle.py_fronts.specs.ThreadFronts.{ThreadIs, ThreadShown, ThreadsShown, Threading, after_record, front_shown, left_after, thread_by, thread_front, thread_of, thread_shown, threads_front, threads_shown}
+use Rattle.py_fronts.proofs.FrontLaws.{behind_ends, behind_more, front_end, front_full, front_stop}
+
+pub frames_met : (q : Asked) (l : Layout) (m : Memory) (limit : ℕ) (f : FramesFront) (c : Chained) → frames_front f ≡ frames_shown q l m limit c → f.met ≡ c.met
+unfolding frames_shown
+frames_met q l m limit f c e = ap (λ (r : FramesShown). r.met) e
+
+pub thread_stands : (q : Asked) (l : Layout) (m : Memory) (limit left a : ℕ) (thread : List ℕ) (chain : Chained) (frames : FramesShown) (most : ℕ) (t : ThreadShown) → most ≡ min left thread_members_limit → chain ≡ chain_of_thread l m most thread
+    → frames ≡ frames_shown q l m limit chain → t.address ≡ a → t.thread_id ≡ u64_in thread l.thread.id → t.os_thread_id ≡ native_id l.thread.native_id thread → t.frames ≡ frames → t ≡ thread_by q l m limit left a thread
+thread_stands q l m limit left a thread chain frames most t is c f address id os same =
+    thread_equal t (thread_by q l m limit left a thread) address id os (same ∙ f ∙ ap (frames_shown q l m limit) (c ∙ ap (λ n. chain_of_thread l m n thread) is))
+
+left_append : (before : ℕ) (ts : List ThreadShown) (t : ThreadShown) → left_after before (ts ++ t ∷ []) ≡ left_after before ts - t.frames.met
+unfolding left_after
+left_append before [] t = refl
+left_append before (x ∷ xs) t = left_append (before - x.frames.met) xs t
+
+shown_append : (q : Asked) (l : Layout) (m : Memory) (limit before : ℕ) (xs : List ℕ) (a : ℕ)
+    → threads_shown q l m limit before (xs ++ a ∷ []) ≡ threads_shown q l m limit before xs ++ thread_shown q l m limit (left_after before (threads_shown q l m limit before xs)) a ∷ []
+unfolding threads_shown left_after
+shown_append q l m limit before [] a = refl
+shown_append q l m limit before (x ∷ xs) a = ap (λ ts. thread_shown q l m limit before x ∷ ts) (shown_append q l m limit (before - (thread_shown q l m limit before x).frames.met) xs a)
+
+thread_is : (q : Asked) (l : Layout) (m : Memory) (limit left a : ℕ) (bytes : List ℕ) (t : ThreadShown) → record_at m a l.thread.size ≡ Ok bytes → t ≡ thread_by q l m limit left a bytes → t ≡ thread_shown q l m limit left a
+unfolding thread_shown
+thread_is q l m limit left a bytes t e h = rw e h
+
+next_is : (l : Layout) (i : ℕ) (m : Memory) (a : ℕ) (r : Result ℕ Break) → after_record l i (record_at m a l.thread.size) ≡ r → thread_of l i m a ≡ r
+unfolding thread_of
+next_is l i m a r e = e
+
+pub threading_init : (q : Asked) (l : Layout) (limit i head before : ℕ) (s : Seen) → Threading q l limit i head before s s [] before head
+unfolding left_after threads_shown
+threading_init q l limit i head before s = record {
+  members = [];
+  spent = 0;
+  within = omega arith;
+  fewer = omega arith;
+  cost = omega arith;
+  reading = reading_none 0 s _ (λ m. (refl, refl));
+  after = refl;
+}
+
+shown_ends : (q : Asked) (l : Layout) (limit i head before : ℕ) (threads : List ThreadFront) (m : Memory) (ending : Ending) (members : List ℕ) → threads_front l i m head ≡ record { members = members; ending = ending }
+    → map thread_front threads ≡ threads_shown q l m limit before members
+    → ◌≡◌ {A = ThreadsShown} (record { threads = map thread_front threads; ending = ending }) (front_shown q l m limit before (threads_front l i m head))
+shown_ends q l limit i head before threads m ending members front shows = rw (front, shows) refl
+
+module _ {q : Asked} {l : Layout} {limit i head before : ℕ} {s0 s1 : Seen} {threads : List ThreadFront} {left at : ℕ} where
+  pub threading_more : {s2 s3 : Seen} (t : ThreadFront) (bytes : List ℕ) (next rest : ℕ) → Threading q l limit i head before s0 s1 threads left at → at ≢ 0 → length threads < thread_limit
+      → Reading 1 s1 s2 (λ m. (record_at m at l.thread.size ≡ Ok bytes) × (after_record l i (record_at m at l.thread.size) ≡ Ok next))
+      → Reading (5 + 4 * t.frames.met + ends_reads q limit) s2 s3 (λ m. thread_front t ≡ thread_by q l m limit left at bytes) → t.frames.met ≤ left → rest ≡ left - t.frames.met
+      → Threading q l limit i head before s0 s3 (threads ++ t ∷ []) rest next
+  threading_more t bytes next rest w some below r f few is =
+      let room : thread_limit - length threads ≡ suc (thread_limit - (length threads + 1)) = omega arith in
+      let more : length (threads ++ t ∷ []) ≡ length threads + 1 = length-append threads (t ∷ []) in
+      record {
+        members = w.members ++ at ∷ [];
+        spent = w.spent + 1 + (5 + 4 * t.frames.met + ends_reads q limit);
+        within = omega (arith, more);
+        fewer = omega (arith, w.fewer);
+        cost = rw more (omega (arith, w.cost, w.fewer, few, is));
+        reading = reading_then (λ m. (threads_front l i m head ≡ behind (w.members ++ at ∷ []) (front_at (thread_of l i m) (thread_limit - length (threads ++ t ∷ [])) next))
+            × (map thread_front (threads ++ t ∷ []) ≡ threads_shown q l m limit before (w.members ++ at ∷ [])))
+            (reading_then (λ m. (threads_front l i m head ≡ behind (w.members ++ at ∷ []) (front_at (thread_of l i m) (thread_limit - length (threads ++ t ∷ [])) next))
+            × (map thread_front threads ≡ threads_shown q l m limit before w.members) × (record_at m at l.thread.size ≡ Ok bytes)) w.reading r
+            (λ m p d. (rw more (behind_more (thread_of l i m) (thread_limit - (length threads + 1)) w.members (threads_front l i m head) at next some (next_is l i m at (Ok next) d.1) (rw room at p.0)), p.1, d.0)))
+            f
+            (λ m p e.
+            let same : left ≡ left_after before (threads_shown q l m limit before w.members) = w.after ∙ ap (left_after before) p.1 in
+            let one = thread_is q l m limit left at bytes (thread_front t) p.2 e in (
+              p.0,
+              map-append thread_front threads (t ∷ []) ∙ ap (λ ts. ts ++ thread_front t ∷ []) p.1
+                  ∙ ap (λ x. threads_shown q l m limit before w.members ++ x ∷ []) (one ∙ ap (λ n. thread_shown q l m limit n at) same)
+                  ∙ sym (shown_append q l m limit before w.members at),
+            ));
+        after = is ∙ ap (λ n. n - t.frames.met) w.after ∙ sym (left_append before (map thread_front threads) (thread_front t)) ∙ ap (left_after before) (sym (map-append thread_front threads (t ∷ [])));
+      }
+
+  -- the chain is whole
+  pub threading_done : Threading q l limit i head before s0 s1 threads left at → at ≡ 0
+      → Reading (1 + 4 * (before - left) + (6 + ends_reads q limit) * length threads) s0 s1 (λ m. ◌≡◌ {A = ThreadsShown} (record { threads = map thread_front threads; ending = Whole }) (front_shown q l m limit before (threads_front l i m head)))
+  threading_done w null = reading_gives _ _ w.reading (omega (arith, w.cost))
+      (λ m p. shown_ends q l limit i head before threads m Whole w.members (behind_ends (thread_of l i m) (thread_limit - length threads) w.members (threads_front l i m head) at Whole (front_end (thread_of l i m) (thread_limit - length threads) at null) p.0) p.1)
+
+  -- a further thread is there, and no more may be met
+  pub threading_full : Threading q l limit i head before s0 s1 threads left at → at ≢ 0 → length threads ≡ thread_limit
+      → Reading (1 + 4 * (before - left) + (6 + ends_reads q limit) * length threads) s0 s1 (λ m. ◌≡◌ {A = ThreadsShown} (record { threads = map thread_front threads; ending = Cut }) (front_shown q l m limit before (threads_front l i m head)))
+  threading_full w some full =
+      let none : thread_limit - length threads ≡ 0 = omega arith in
+      reading_gives _ _ w.reading (omega (arith, w.cost))
+      (λ m p. shown_ends q l limit i head before threads m Cut w.members (behind_ends (thread_of l i m) 0 w.members (threads_front l i m head) at Cut (front_full (thread_of l i m) at some) (rw none at p.0)) p.1)
+
+  -- what is there is none
+  pub threading_broken : {s2 : Seen} (end : ChainEnd) → Threading q l limit i head before s0 s1 threads left at → at ≢ 0 → length threads < thread_limit
+      → Reading 1 s1 s2 (λ m. ThreadIs l i (record_at m at l.thread.size) (Ok (Broken end)))
+      → Reading (1 + 4 * (before - left) + (6 + ends_reads q limit) * length threads) s0 s2 (λ m. ◌≡◌ {A = ThreadsShown} (record { threads = map thread_front threads; ending = ending_of end }) (front_shown q l m limit before (threads_front l i m head)))
+  threading_broken end w some below r =
+      let room : thread_limit - length threads ≡ suc (thread_limit - (length threads + 1)) = omega arith in
+      reading_gives _ _ (reading_then (λ m. ◌≡◌ {A = ThreadsShown} (record { threads = map thread_front threads; ending = ending_of end }) (front_shown q l m limit before (threads_front l i m head))) w.reading r
+      (λ m p d.
+      let stops = front_stop (thread_of l i m) (thread_limit - (length threads + 1)) at d.0 some (next_is l i m at (Err d.0) d.1) in
+      let is : front_at (thread_of l i m) (suc (thread_limit - (length threads + 1))) at ≡ record { members = []; ending = ending_of end } = stops ∙ ap (λ (e : Ending). record { members = []; ending = e }) (sym d.2) in
+      shown_ends q l limit i head before threads m (ending_of end) w.members (behind_ends (thread_of l i m) (suc (thread_limit - (length threads + 1))) w.members (threads_front l i m head) at (ending_of end) is (rw room at p.0)) p.1))
+      (omega (arith, w.cost)) (λ m h. h)
+
+  -- memory was wanting
+  pub threading_lost : {n : ℕ} {s2 : Seen} {P : Memory → Type 0} (e : StackError) → Threading q l limit i head before s0 s1 threads left at → length threads < thread_limit
+      → Reading n s1 s2 P → n ≤ 6 + 4 * left + ends_reads q limit → ((m : Memory) → P m → e ≡ stack.OutOfMemory)
+      → Reading (1 + 4 * before + (6 + ends_reads q limit) * 4096) s0 s2 (λ m. e ≡ stack.OutOfMemory)
+  threading_lost e w below r few lost =
+      let more : length threads + 1 ≤ 4096 = omega arith in
+      let most = mul-le-mul_left (6 + ends_reads q limit) more in
+      reading_gives _ _ (reading_then (λ m. e ≡ stack.OutOfMemory) w.reading r (λ m p h. lost m h)) (omega (arith, w.cost, w.fewer, most, few)) (λ m h. h)

@@ -1,0 +1,56 @@
+-- The addresses that may be an interpreter's: those of the search, and those that the record of one names. CPython
+-- chains its interpreters by `next`, which stands in front of the head of their threads.
+use Rattle.std.specs.Prelude.{◌≡◌, ℕ, ◌*◌, ◌/◌, min, List, [], ◌∷◌, ◌++◌, Option, Some, None, Result, Ok, Err, Vec}
+use Rattle.std.specs.Global.{Global}
+use Rattle.process_memory.specs.Memory.{Memory}
+use Rattle.py_version.specs.declared.version.Version.{Version}
+use Rattle.py_fields.specs.declared.layout.Layout.{Layout}
+use Rattle.py_stacks.specs.declared.error.StackError.{StackError}
+use Rattle.py_stacks.specs.declared.error.StackError.TheVariants.{OutOfMemory}
+use Rattle.py_process.specs.Candidates.{head_by, runtime_words, section_words}
+use Rattle.py_process.specs.Facts.{Facts, Known}
+use Rattle.py_process.specs.declared.search_error.SearchError.{SearchError}
+
+-- how many words of the record of an interpreter are candidates at most
+abbrev pub record_words_limit : ℕ
+record_words_limit = 1024
+
+-- the words of an image's runtime section
+abbrev pub runtime_of_image : Memory → Option Facts → List ℕ
+runtime_of_image m None = []
+runtime_of_image m (Some facts) = runtime_words m facts.pyruntime_addr facts.pyruntime_size
+
+-- the words of its bss
+abbrev pub bss_of_image : Memory → Option Facts → List ℕ
+bss_of_image m None = []
+bss_of_image m (Some facts) = section_words m facts.bss_addr facts.bss_size
+
+-- those that the head which symbols give and the runtime sections name
+unfoldable pub named_candidates : Known → Version → Layout → Memory → List ℕ
+named_candidates k v l m = head_by l.head k v l m ++ (runtime_of_image m k.program ++ runtime_of_image m k.library)
+
+-- those that are found by search alone
+unfoldable pub searched_candidates : Known → Memory → List ℕ
+searched_candidates k m = bss_of_image m k.program ++ bss_of_image m k.library
+
+-- those that the record of an interpreter names: the words in front of the head of its threads
+unfoldable pub record_candidates : Layout → Memory → ℕ → List ℕ
+record_candidates l m a = section_words m a (8 * min (l.interpreter.threads / 8) record_words_limit)
+
+-- ---- as they are read
+
+-- a list with others behind it; want of memory may always be answered
+abbrev pub AddsWords : (old added new : List ℕ) → Result (Unit {0}) StackError → Type 0
+AddsWords old added new (Ok u) = new ≡ old ++ added
+AddsWords old added new (Err e) = e ≡ OutOfMemory
+
+-- at most one address as a list; want of memory is handed on
+abbrev pub IsListed : Result (Option ℕ) SearchError → Result (Vec ℕ Global) StackError → Type 0
+IsListed (Ok (Some addr)) (Ok words) = words.items ≡ addr ∷ []
+IsListed (Ok None) (Ok words) = words.items ≡ []
+IsListed (Err e) (Ok words) = ⊥
+IsListed read (Err e) = e ≡ OutOfMemory
+
+abbrev pub words_result : {E : Type 0} → Result (Vec ℕ Global) E → Result (List ℕ) E
+words_result (Ok words) = Ok words.items
+words_result (Err e) = Err e

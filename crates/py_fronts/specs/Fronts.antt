@@ -1,0 +1,87 @@
+-- The fronts of all interpreters of a process.
+use Rattle.std.specs.Prelude.{◌≡◌, ℕ, ◌+◌, ◌*◌, ◌-◌, ◌^◌, ◌≤◌, Bool, List, [], ◌∷◌, length, map, Result, Ok, Err, Vec}
+use Rattle.std.specs.Global.{Global}
+use Rattle.process_memory.specs.Memory.{Memory, byte_at}
+use Rattle.process_memory.specs.Seen.{Reading, ReadingBelow, Seen}
+use Rattle.py_version.specs.declared.version.Version.{Version}
+use Rattle.py_fields.specs.declared.layout.Layout.{Layout}
+use Rattle.py_stacks.specs.declared.asked.Asked.{Asked}
+use Rattle.py_process.specs.Facts.{Known}
+use Rattle.py_fronts.specs.declared.fronts.Fronts.{Fronts}
+use Rattle.py_fronts.specs.declared.fronts.InterpreterFront.{InterpreterFront}
+use Rattle.py_fronts.specs.declared.interpreters.FoundInterpreter.{FoundInterpreter}
+use Rattle.py_fronts.specs.FrameFronts.{all_members_limit, ends_reads}
+use Rattle.py_fronts.specs.Interpreters.{interpreters_at, interpreters_reads}
+use Rattle.py_fronts.specs.ThreadFronts.{ThreadsShown, front_shown, left_after, threads_front, threads_of}
+
+-- an interpreter, how it was found, and its threads
+pub record InterpreterShown : Type 0 where
+  pub address : ℕ
+  pub searched : Bool
+  pub threads : ThreadsShown
+
+abbrev pub threads_from : Asked → Layout → Memory → (limit left : ℕ) → FoundInterpreter → ThreadsShown
+threads_from q l m limit left one = front_shown q l m limit left (threads_front l one.address m one.head)
+
+abbrev pub interpreter_front : Asked → Layout → Memory → (limit left : ℕ) → FoundInterpreter → InterpreterShown
+interpreter_front q l m limit left one =
+    record { address = one.address; searched = one.searched; threads = threads_from q l m limit left one }
+
+-- each of those that were found, in order; what one of them meets is no longer left for those after it
+unfoldable pub interpreters_fronts : Asked → Layout → Memory → (limit left : ℕ) → List FoundInterpreter
+    → List InterpreterShown
+interpreters_fronts q l m limit left [] = []
+interpreters_fronts q l m limit left (one ∷ rest) = interpreter_front q l m limit left one
+    ∷ interpreters_fronts q l m limit (left_after left (threads_from q l m limit left one).threads) rest
+
+-- how many members may be met after some
+unfoldable pub found_left : Asked → Layout → Memory → (limit left : ℕ) → List FoundInterpreter → ℕ
+found_left q l m limit left [] = left
+found_left q l m limit left (one ∷ rest) =
+    found_left q l m limit (left_after left (threads_from q l m limit left one).threads) rest
+
+pub record FrontsShown : Type 0 where
+  pub interpreters : List InterpreterShown
+  pub more : Bool
+
+unfoldable pub fronts_at : (ℕ → Bool) → Known → Version → Layout → Memory → Asked → ℕ → FrontsShown
+fronts_at contains k v l m q limit = record {
+  interpreters = interpreters_fronts q l m limit all_members_limit (interpreters_at contains k v l m).found;
+  more = (interpreters_at contains k v l m).more;
+}
+
+-- ---- as they are read
+
+abbrev pub interpreter_of_front : InterpreterFront → InterpreterShown
+interpreter_of_front i = record { address = i.address; searched = i.searched; threads = threads_of i.threads }
+
+abbrev pub interpreters_result : {E : Type 0} → Result (Vec InterpreterFront Global) E
+    → Result (List InterpreterShown) E
+interpreters_result (Ok is) = Ok (map interpreter_of_front is.items)
+interpreters_result (Err e) = Err e
+
+abbrev pub fronts_result : {E : Type 0} → Result Fronts E → Result FrontsShown E
+fronts_result (Ok f) = Ok (record { interpreters = map interpreter_of_front f.interpreters.items; more = f.more })
+fronts_result (Err e) = Err e
+
+-- the reads of the threads of one interpreter but for their members, and of all that are shown
+abbrev pub interpreter_most : Asked → ℕ → ℕ
+interpreter_most q limit = 1 + (6 + ends_reads q limit) * 4096
+
+abbrev pub interpreters_most : Asked → ℕ → ℕ
+interpreters_most q limit = 4 * 4194304 + interpreter_most q limit * 16
+
+-- what the reader of all fronts owes
+abbrev pub Fronting : Known → Version → Layout → Asked → ℕ → Seen → Seen → (Memory → Type 0) → Type 0
+Fronting k v l q limit old new Q =
+    ReadingBelow (2 ^ 64) (interpreters_reads k v l (byte_at old.pieces) + interpreters_most q limit) old new Q
+
+-- the interpreters that were read so far, and how many members may be met yet
+pub record Passing (q : Asked) (l : Layout) (limit before : ℕ) (old new : Seen) (found : List FoundInterpreter)
+    (shown : List InterpreterFront) (left : ℕ) : Type 0 where
+  pub fewer : left ≤ before
+  pub spent : ℕ
+  pub cost : spent ≤ 4 * (before - left) + interpreter_most q limit * length found
+  pub reading : Reading spent old new (λ m.
+      (map interpreter_of_front shown ≡ interpreters_fronts q l m limit before found)
+      × (left ≡ found_left q l m limit before found))

@@ -1,0 +1,176 @@
+-- The interpreters of a process that are shown, and how each was found.
+use Rattle.std.specs.Prelude.{◌≡◌, ℕ, zero, suc, ◌+◌, ◌*◌, ◌-◌, ◌^◌, ◌≤◌, nat_eq, nat_lt, Bool, true, false, if◌then◌else◌, List, [], ◌∷◌, ◌++◌, length, slice_get, option_map, Option, Some, None, Result, Ok, Err}
+use Rattle.std.specs.List.{list_any}
+use Rattle.process_memory.specs.Memory.{Found, Memory, byte_at}
+use Rattle.process_memory.specs.Seen.{ReadingBelow, Seen}
+use Rattle.py_version.specs.declared.version.Version.{Version}
+use Rattle.py_fields.specs.declared.layout.Layout.{Layout}
+use Rattle.py_stacks.specs.Interpreter.{interpreter_named_by, threads_head}
+use Rattle.py_stacks.specs.declared.error.StackError.{StackError}
+use Rattle.py_stacks.specs.declared.error.StackError.TheVariants.{OutOfMemory}
+use Rattle.py_process.specs.Facts.{Known}
+use Rattle.py_fronts.specs.declared.chain_end.ChainEnd.{ChainEnd}
+use Rattle.py_fronts.specs.declared.interpreters.FoundInterpreter.{FoundInterpreter}
+use Rattle.py_fronts.specs.declared.interpreters.FoundInterpreters.{FoundInterpreters}
+use Rattle.py_fronts.specs.declared.thread_front.Thread.{Thread}
+use Rattle.py_fronts.specs.declared.thread_front.Thread.TheVariants.{At, Broken as Outside}
+use Rattle.py_fronts.specs.Candidates.{named_candidates, record_candidates, searched_candidates}
+use Rattle.py_fronts.specs.ChainEnds.{ending_of}
+use Rattle.py_fronts.specs.Front.{Ending, behind, front_at}
+use Rattle.py_fronts.specs.Front.Ending.{Whole, Cut, Broken}
+use Rattle.py_fronts.specs.ThreadFronts.{thread_of, threads_front}
+use Rattle.py_stacks.specs.Threads.{thread_limit}
+
+-- how many interpreters are shown at most
+abbrev pub interpreter_limit : ℕ
+interpreter_limit = 16
+
+-- ---- which of them is shown
+
+-- its first thread, where the chain of its threads is whole
+abbrev pub whole_head : Ending → ℕ → Option ℕ
+whole_head Whole head = Some head
+whole_head Cut head = None
+whole_head (Broken why) head = None
+
+-- the first thread of an address, where it is an interpreter's
+
+abbrev pub names_it : ℕ → ℕ → Found ℕ → Option ℕ
+names_it a head (Ok named) = if nat_eq named a then Some head else None
+names_it a head (Err f) = None
+
+abbrev pub headed_by : (ℕ → Bool) → Layout → Memory → ℕ → Found ℕ → Option ℕ
+headed_by contains l m a (Err f) = None
+headed_by contains l m a (Ok zero) = None
+headed_by contains l m a (Ok (suc head)) =
+    if contains (suc head) then names_it a (suc head) (interpreter_named_by l m (suc head)) else None
+
+unfoldable pub headed_at : (ℕ → Bool) → Layout → Memory → ℕ → Option ℕ
+headed_at contains l m a = if contains a then headed_by contains l m a (threads_head l m a) else None
+
+-- and, for one that is found by search alone, its chain of threads is whole
+abbrev pub shown_where : Bool → Layout → Memory → ℕ → Option ℕ → Option ℕ
+shown_where false l m a head = head
+shown_where true l m a None = None
+shown_where true l m a (Some head) = whole_head (threads_front l a m head).ending head
+
+unfoldable pub shown_head : Bool → (ℕ → Bool) → Layout → Memory → ℕ → Option ℕ
+shown_head searched contains l m a = shown_where searched l m a (headed_at contains l m a)
+
+-- ---- one after another
+
+-- those that were found, and whether there are more than may be shown
+pub record Finds : Type 0 where
+  pub found : List FoundInterpreter
+  pub more : Bool
+
+abbrev pub is_found : List FoundInterpreter → ℕ → Bool
+is_found found a = list_any (λ h. nat_eq h.address a) found
+
+abbrev pub with_one : Finds → FoundInterpreter → Finds
+with_one r h =
+    if nat_lt (length r.found) interpreter_limit
+    then record { found = r.found ++ h ∷ []; more = r.more }
+    else record { found = r.found; more = true }
+
+abbrev pub with_head : Finds → Bool → ℕ → Option ℕ → Finds
+with_head r searched a None = r
+with_head r searched a (Some head) = with_one r (record { address = a; head = head; searched = searched })
+
+-- after one candidate: each address is taken once
+abbrev pub after_candidate : Bool → (ℕ → Bool) → Layout → Memory → Finds → ℕ → Finds
+after_candidate searched contains l m r a =
+    if is_found r.found a then r else with_head r searched a (shown_head searched contains l m a)
+
+-- after some
+unfoldable pub after_candidates : Bool → (ℕ → Bool) → Layout → Memory → Finds → List ℕ → Finds
+after_candidates searched contains l m r [] = r
+after_candidates searched contains l m r (a ∷ rest) =
+    after_candidates searched contains l m (after_candidate searched contains l m r a) rest
+
+-- the address of the one at an index
+abbrev pub address_at : List FoundInterpreter → ℕ → Option ℕ
+address_at found index = option_map (λ (one : FoundInterpreter). one.address) (slice_get found index)
+
+abbrev pub after_record_of : (ℕ → Bool) → Layout → Memory → Finds → Option ℕ → Finds
+after_record_of contains l m r None = r
+after_record_of contains l m r (Some a) = after_candidates false contains l m r (record_candidates l m a)
+
+-- after the records of those that were found and will be, from the one at an index on
+unfoldable pub after_records : (ℕ → Bool) → Layout → Memory → (turns index : ℕ) → Finds → Finds
+after_records contains l m zero index r = r
+after_records contains l m (suc turns) index r =
+    after_records contains l m turns (index + 1) (after_record_of contains l m r (address_at r.found index))
+
+abbrev pub none_found : Finds
+none_found = record { found = []; more = false }
+
+-- those that are found by name, with those that their records lead to; and then those that are found by search
+unfoldable pub interpreters_at : (ℕ → Bool) → Known → Version → Layout → Memory → Finds
+interpreters_at contains k v l m = after_records contains l m interpreter_limit 0
+    (after_candidates true contains l m
+    (after_records contains l m interpreter_limit 0
+    (after_candidates false contains l m none_found (named_candidates k v l m)))
+    (searched_candidates k m))
+
+-- ---- as they are read
+
+abbrev pub finds_of : FoundInterpreters → Finds
+finds_of r = record { found = r.found.items; more = r.more }
+
+abbrev pub finds_result : {E : Type 0} → Result FoundInterpreters E → Result Finds E
+finds_result (Ok r) = Ok (finds_of r)
+finds_result (Err e) = Err e
+
+abbrev pub ending_result : {E : Type 0} → Result ChainEnd E → Result Ending E
+ending_result (Ok e) = Ok (ending_of e)
+ending_result (Err e) = Err e
+
+-- the address of a thread, where there is one
+abbrev pub HeadIs : ℕ → Thread → Option ℕ → Type 0
+HeadIs head (At thread) result = result ≡ Some head
+HeadIs head (Outside end) result = result ≡ None
+
+-- what was found after some more; want of memory may always be answered
+abbrev pub Takes : Finds → FoundInterpreters → Result (Unit {0}) StackError → Type 0
+Takes wanted new (Ok u) = finds_of new ≡ wanted
+Takes wanted new (Err e) = e ≡ OutOfMemory
+
+-- the reads of one candidate: two, and those of its chain of threads where it is found by search alone
+abbrev pub candidate_reads : Bool → ℕ
+candidate_reads false = 2
+candidate_reads true = 4098
+
+-- those of a record, and of the words that it has
+abbrev pub record_reads : ℕ
+record_reads = 1 + 2 * 1024
+
+-- a chain of threads that has met so many of them, and stands at `at`
+pub record Chaining (l : Layout) (interpreter head : ℕ) (old new : Seen) (count at : ℕ) : Type 0 where
+  pub members : List ℕ
+  pub within : count ≤ thread_limit
+  pub reading : ReadingBelow (2 ^ 16) count old new (λ m. (threads_front l interpreter m head
+      ≡ behind members (front_at (thread_of l interpreter m) (thread_limit - count) at)))
+
+-- the candidates that were taken so far
+pub record Taking (searched : Bool) (contains : ℕ → Bool) (l : Layout) (start : Finds) (old new : Seen) (taken : List ℕ)
+    (finds : FoundInterpreters) : Type 0 where
+  pub reading : ReadingBelow (2 ^ 16) (candidate_reads searched * length taken) old new
+      (λ m. finds_of finds ≡ after_candidates searched contains l m start taken)
+
+-- the records that were looked at so far
+pub record Turning (contains : ℕ → Bool) (l : Layout) (start : Finds) (old new : Seen) (index : ℕ)
+    (finds : FoundInterpreters) : Type 0 where
+  pub within : index ≤ interpreter_limit
+  pub reading : ReadingBelow (2 ^ 64) (record_reads * index) old new
+      (λ m. after_records contains l m interpreter_limit 0 start
+      ≡ after_records contains l m (interpreter_limit - index) index (finds_of finds))
+
+-- how many reads it takes to find them all at most
+abbrev pub interpreters_reads : Known → Version → Layout → Memory → ℕ
+interpreters_reads k v l m =
+    6 + 2 * length (named_candidates k v l m) + 4098 * length (searched_candidates k m) + 32 * record_reads
+
+-- what the search for interpreters owes
+abbrev pub Looking : Known → Version → Layout → Seen → Seen → (Memory → Type 0) → Type 0
+Looking k v l old new Q = ReadingBelow (2 ^ 64) (interpreters_reads k v l (byte_at old.pieces)) old new Q

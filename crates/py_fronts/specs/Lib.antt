@@ -1,0 +1,13 @@
+pub mod Front
+pub mod Answers
+pub mod ChainEnds
+pub mod Members
+pub mod Standings
+pub mod FrameFronts
+pub mod ThreadFronts
+pub mod FirstFrames
+pub mod FirstThreads
+pub mod Candidates
+pub mod Interpreters
+pub mod ShownInterpreters
+pub mod Fronts

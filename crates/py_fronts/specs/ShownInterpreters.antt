@@ -1,0 +1,32 @@
+-- Which interpreters are shown, in the subject's own words.
+use Rattle.std.specs.Prelude.{◌≡◌, ◌≢◌, ℕ, ◌≤◌, Bool, true, false, All, List, [], ◌∷◌, length, Ok, ⊤}
+use Rattle.process_memory.specs.Memory.{Memory}
+use Rattle.py_fields.specs.declared.layout.Layout.{Layout}
+use Rattle.py_stacks.specs.Interpreter.{interpreter_named_by, threads_head}
+use Rattle.py_fronts.specs.declared.interpreters.FoundInterpreter.{FoundInterpreter}
+use Rattle.py_fronts.specs.Front.Ending.{Whole}
+use Rattle.py_fronts.specs.Interpreters.{Finds, interpreter_limit, is_found}
+use Rattle.py_fronts.specs.ThreadFronts.{threads_front}
+
+-- an interpreter and its first thread: a map holds each of them, and each names the other
+pub record IsHeaded (contains : ℕ → Bool) (l : Layout) (m : Memory) (a head : ℕ) : Type 0 where
+  pub lies : contains a ≡ true
+  pub names : threads_head l m a ≡ Ok head
+  pub some : head ≢ 0
+  pub head_lies : contains head ≡ true
+  pub named : interpreter_named_by l m head ≡ Ok a
+
+-- one that is shown; where it was found by search alone, its chain of threads is whole
+pub record IsShown (contains : ℕ → Bool) (l : Layout) (m : Memory) (one : FoundInterpreter) : Type 0 where
+  pub headed : IsHeaded contains l m one.address one.head
+  pub whole : one.searched ≡ true → (threads_front l one.address m one.head).ending ≡ Whole
+
+-- each address stands there once
+abbrev pub EachOnce : List FoundInterpreter → Type 0
+EachOnce [] = ⊤
+EachOnce (one ∷ rest) = (is_found rest one.address ≡ false) × EachOnce rest
+
+pub record AreShown (contains : ℕ → Bool) (l : Layout) (m : Memory) (r : Finds) : Type 0 where
+  pub each : All (IsShown contains l m) r.found
+  pub once : EachOnce r.found
+  pub few : length r.found ≤ interpreter_limit

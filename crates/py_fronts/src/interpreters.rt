@@ -1,0 +1,395 @@
+//! Which interpreters of a process are shown.
+ghost use Rattle.std.specs.Prelude.{◌≡◌, ◌+◌, ◌*◌, ◌≤◌, ◌^◌, Err, IfOk, MatchOption, None, Ok, OnOk, length};
+ghost use Rattle.process_memory.specs.Memory.{byte_at};
+ghost use Rattle.process_memory.specs.Seen.{Reading, ReadingBelow};
+ghost use Rattle.py_fields.specs.Sound.{IsSound};
+ghost use Rattle.py_stacks.specs.StackError.{stack_fault};
+ghost use Rattle.py_process.specs.Facts.{known_of};
+ghost use Rattle.py_fronts.specs.Answers.{IsOrNoMemory};
+ghost use Rattle.py_fronts.specs.Candidates.{named_candidates, searched_candidates};
+ghost use Rattle.py_stacks.specs.Interpreter.{interpreter_named_by, threads_head};
+ghost use Rattle.py_fronts.specs.Interpreters.{HeadIs, Looking, Takes, address_at, after_candidate, after_candidates, after_record_of, after_records, candidate_reads, ending_result, finds_of, finds_result, headed_at, headed_by, interpreters_at, is_found, names_it, record_reads, shown_head, whole_head, with_one};
+ghost use Rattle.py_fronts.specs.ChainEnds.{ending_of};
+ghost use Rattle.py_fronts.specs.ShownInterpreters.{AreShown};
+ghost use Rattle.py_fronts.specs.ThreadFronts.{threads_front};
+
+use crate::ChainEnd;
+use crate::candidates::{named_candidates, record_candidates, searched_candidates};
+use crate::thread_front::{THREAD_LIMIT, Thread, read_thread};
+use elf64_core::u64_in;
+use image_memory::ContainsAddr;
+use process_memory::ProcessMemory;
+use py_fields::Layout;
+use py_process::PythonProcessInfo;
+use py_stacks::{StackError, get_first_thread};
+use py_version::Version;
+use std::alloc::{AllocFailed, Global};
+
+/// How many interpreters are shown at most.
+const INTERPRETER_LIMIT: usize = 16;
+
+/// An interpreter that is shown.
+#[derive(Clone, Copy, Debug, PartialEq, Eq)]
+pub struct FoundInterpreter {
+    /// The address of its record.
+    pub address: u64,
+    /// The address of its first thread.
+    pub head: u64,
+    /// Whether it was found by search alone: neither the head that symbols give, nor a runtime section, nor the record
+    /// of an interpreter that was found before named it.
+    pub searched: bool,
+}
+
+/// The interpreters that are shown.
+#[derive(Debug, Drop)]
+pub struct FoundInterpreters {
+    /// The interpreters, at most 16, each address once.
+    pub found: Vec<FoundInterpreter>,
+    /// Whether there are more.
+    pub more: bool,
+}
+
+/// The address of a thread of the interpreter, where there is one.
+fn head_where(thread: Thread, head: u64) -> Option<u64>
+    ensures { HeadIs head thread result }
+{
+    match thread {
+        Thread::At(_) => Some(head),
+        Thread::Broken(_) => None,
+    }
+}
+
+/// The first thread, where it names the interpreter. At most one read.
+fn names_it<P: ProcessMemory>(
+    alloc: Global,
+    process: &mut P,
+    layout: &Layout,
+    interpreter: u64,
+    head: u64,
+) -> Result<Option<u64>, StackError>
+    requires sound { IsSound layout.now }
+    ensures { Reading 1 (P.seen process.old) (P.seen process.new)
+        (λ m. IsOrNoMemory (names_it interpreter head (interpreter_named_by layout.now m head)) result) }
+{
+    let thread = read_thread(alloc, process, layout, interpreter, head)?;
+    Ok(head_where(thread, head))
+}
+
+/// Nothing, where a first thread can't be read; want of memory is handed on.
+fn no_head(error: StackError) -> Result<Option<u64>, StackError>
+    ensures { MatchOption (stack_fault error) (result ≡ Err StackError.OutOfMemory) (λ f. result ≡ Ok None) }
+{
+    match error {
+        StackError::OutOfMemory => Err(StackError::OutOfMemory),
+        _ => Ok(None),
+    }
+}
+
+/// The first thread of an interpreter, where a map holds it and it names the interpreter. At most 2 reads.
+fn first_thread<M: ContainsAddr, P: ProcessMemory>(
+    alloc: Global,
+    maps: &M,
+    process: &mut P,
+    layout: &Layout,
+    interpreter: u64,
+) -> Result<Option<u64>, StackError>
+    requires sound { IsSound layout.now }
+    ensures { Reading 2 (P.seen process.old) (P.seen process.new) (λ m. IsOrNoMemory
+        (headed_by (M.contains maps.now) layout.now m interpreter (threads_head layout.now m interpreter)) result) }
+{
+    let head = match get_first_thread(process, layout, interpreter) {
+        Ok(head) => head,
+        Err(error) => return no_head(error),
+    };
+    if head == 0 {
+        return Ok(None);
+    }
+    if !maps.contains_addr(head) {
+        return Ok(None);
+    }
+    names_it(alloc, process, layout, interpreter, head)
+}
+
+/// The first thread of an address that is an interpreter's. Nothing is read where no map holds it; else at most 2
+/// reads.
+fn headed_at<M: ContainsAddr, P: ProcessMemory>(
+    alloc: Global,
+    maps: &M,
+    process: &mut P,
+    layout: &Layout,
+    addr: u64,
+) -> Result<Option<u64>, StackError>
+    requires sound { IsSound layout.now }
+    ensures { Reading 2 (P.seen process.old) (P.seen process.new)
+        (λ m. IsOrNoMemory (headed_at (M.contains maps.now) layout.now m addr) result) }
+{
+    if !maps.contains_addr(addr) {
+        return Ok(None);
+    }
+    first_thread(alloc, maps, process, layout, addr)
+}
+
+/// How the front of an interpreter's threads ends. At most 4096 reads.
+fn threads_end<P: ProcessMemory>(
+    alloc: Global,
+    process: &mut P,
+    layout: &Layout,
+    interpreter: u64,
+    head: u64,
+) -> Result<ChainEnd, StackError>
+    requires sound { IsSound layout.now }
+    ensures { Reading 4096 (P.seen process.old) (P.seen process.new)
+        (λ m. IsOrNoMemory (threads_front layout.now interpreter m head).ending (ending_result result)) }
+{
+    let mut count = 0;
+    let mut at = head;
+    while at != 0 {
+        if count == THREAD_LIMIT {
+            return Ok(ChainEnd::Cut);
+        }
+        let next = read_thread(alloc, process, layout, interpreter, at)?;
+        let thread = match next {
+            Thread::At(thread) => thread,
+            Thread::Broken(end) => return Ok(end),
+        };
+        count += 1;
+        at = u64_in(&thread, layout.thread.next as usize);
+    }
+    Ok(ChainEnd::Whole)
+}
+
+/// The first thread, where its chain is whole.
+fn whole_head(end: ChainEnd, head: u64) -> Option<u64>
+    ensures { result ≡ whole_head (ending_of end) head }
+{
+    match end {
+        ChainEnd::Whole => Some(head),
+        _ => None,
+    }
+}
+
+/// The first thread of an address that is shown as an interpreter. At most 2 reads, and 4096 for one that is found by
+/// search alone.
+fn shown_head<M: ContainsAddr, P: ProcessMemory>(
+    alloc: Global,
+    maps: &M,
+    process: &mut P,
+    layout: &Layout,
+    searched: bool,
+    addr: u64,
+) -> Result<Option<u64>, StackError>
+    requires sound { IsSound layout.now }
+    ensures { Reading (candidate_reads searched) (P.seen process.old) (P.seen process.new)
+        (λ m. IsOrNoMemory (shown_head searched (M.contains maps.now) layout.now m addr) result) }
+{
+    let head = match headed_at(alloc, maps, process, layout, addr)? {
+        Some(head) => head,
+        None => return Ok(None),
+    };
+    if !searched {
+        return Ok(Some(head));
+    }
+    let end = threads_end(alloc, process, layout, addr, head)?;
+    Ok(whole_head(end, head))
+}
+
+/// Whether an address was found already.
+fn is_found(found: &[FoundInterpreter], addr: u64) -> bool
+    ensures { result ≡ is_found (found.now) addr }
+{
+    found.iter().any(|one| one.address == addr)
+}
+
+/// Takes an interpreter, where no more than 16 are then; else there are more.
+fn take(
+    finds: &mut FoundInterpreters,
+    one: FoundInterpreter,
+) -> Result<(), AllocFailed<FoundInterpreter>>
+    ensures { OnOk result (finds_of finds.new ≡ with_one (finds_of finds.old) one) }
+{
+    if finds.found.len() < INTERPRETER_LIMIT {
+        return finds.found.push(one);
+    }
+    finds.more = true;
+    Ok(())
+}
+
+/// Takes a candidate, where it is shown and was not found before.
+fn take_candidate<M: ContainsAddr, P: ProcessMemory>(
+    alloc: Global,
+    maps: &M,
+    process: &mut P,
+    layout: &Layout,
+    searched: bool,
+    addr: u64,
+    finds: &mut FoundInterpreters,
+) -> Result<(), StackError>
+    requires sound { IsSound layout.now }
+    ensures { Reading (candidate_reads searched) (P.seen process.old) (P.seen process.new) (λ m. Takes
+        (after_candidate searched (M.contains maps.now) layout.now m (finds_of finds.old) addr) finds.new result) }
+{
+    if is_found(&finds.found, addr) {
+        return Ok(());
+    }
+    let head = match shown_head(alloc, maps, process, layout, searched, addr)? {
+        Some(head) => head,
+        None => return Ok(()),
+    };
+    let one = FoundInterpreter {
+        address: addr,
+        head,
+        searched,
+    };
+    take(finds, one)?;
+    Ok(())
+}
+
+/// Takes candidates, in order.
+fn take_candidates<M: ContainsAddr, P: ProcessMemory>(
+    alloc: Global,
+    maps: &M,
+    process: &mut P,
+    layout: &Layout,
+    searched: bool,
+    candidates: &[u64],
+    finds: &mut FoundInterpreters,
+) -> Result<(), StackError>
+    requires sound { IsSound layout.now }
+    ensures { Reading (candidate_reads searched * length candidates.now) (P.seen process.old) (P.seen process.new)
+        (λ m. Takes (after_candidates searched (M.contains maps.now) layout.now m (finds_of finds.old) candidates.now)
+        finds.new result) }
+{
+    for addr in candidates {
+        take_candidate(alloc, maps, process, layout, searched, *addr, finds)?;
+    }
+    Ok(())
+}
+
+/// The address of an interpreter that was found, by its index.
+fn address_at(found: &[FoundInterpreter], index: usize) -> Option<u64>
+    ensures { result ≡ address_at found.now index }
+{
+    match found.get(index) {
+        Some(one) => Some(one.address),
+        None => None,
+    }
+}
+
+/// Takes those that the record of an interpreter names. At most 2 reads for each, and one.
+fn take_record<M: ContainsAddr, P: ProcessMemory>(
+    alloc: Global,
+    maps: &M,
+    process: &mut P,
+    layout: &Layout,
+    index: usize,
+    finds: &mut FoundInterpreters,
+) -> Result<(), StackError>
+    requires sound { IsSound layout.now }
+    ensures { ReadingBelow (2 ^ 64) record_reads (P.seen process.old) (P.seen process.new) (λ m. Takes
+        (after_record_of (M.contains maps.now) layout.now m (finds_of finds.old)
+        (address_at (finds_of finds.old).found index)) finds.new result) }
+{
+    let interpreter = match address_at(&finds.found, index) {
+        Some(interpreter) => interpreter,
+        None => return Ok(()),
+    };
+    let candidates = record_candidates(alloc, process, layout, interpreter)?;
+    take_candidates(alloc, maps, process, layout, false, &candidates, finds)
+}
+
+/// Takes those that the records of all that are found name, in turn.
+fn take_records<M: ContainsAddr, P: ProcessMemory>(
+    alloc: Global,
+    maps: &M,
+    process: &mut P,
+    layout: &Layout,
+    finds: &mut FoundInterpreters,
+) -> Result<(), StackError>
+    requires sound { IsSound layout.now }
+    ensures { ReadingBelow (2 ^ 64) (16 * record_reads) (P.seen process.old) (P.seen process.new) (λ m. Takes
+        (after_records (M.contains maps.now) layout.now m 16 0 (finds_of finds.old)) finds.new result) }
+{
+    for index in 0..INTERPRETER_LIMIT {
+        take_record(alloc, maps, process, layout, index, finds)?;
+    }
+    Ok(())
+}
+
+/// Takes those of some candidates, and those that the records of all that are found name.
+fn take_with_records<M: ContainsAddr, P: ProcessMemory>(
+    alloc: Global,
+    maps: &M,
+    process: &mut P,
+    layout: &Layout,
+    searched: bool,
+    candidates: &[u64],
+    finds: &mut FoundInterpreters,
+) -> Result<(), StackError>
+    requires sound { IsSound layout.now }
+    ensures { ReadingBelow (2 ^ 64) (candidate_reads searched * length candidates.now + 16 * record_reads)
+        (P.seen process.old) (P.seen process.new) (λ m. Takes
+        (after_records (M.contains maps.now) layout.now m 16 0 (after_candidates searched (M.contains maps.now)
+        layout.now m (finds_of finds.old) candidates.now)) finds.new result) }
+{
+    take_candidates(alloc, maps, process, layout, searched, candidates, finds)?;
+    take_records(alloc, maps, process, layout, finds)
+}
+
+/// See `find_interpreters`.
+fn find_all<M: ContainsAddr, P: ProcessMemory>(
+    alloc: Global,
+    info: &PythonProcessInfo<M>,
+    process: &mut P,
+    version: &Version,
+    layout: &Layout,
+) -> Result<FoundInterpreters, StackError>
+    requires sound { IsSound layout.now }
+    ensures { Looking (known_of info.now) version.now layout.now (P.seen process.old) (P.seen process.new) (λ m.
+        IsOrNoMemory (interpreters_at (M.contains info.now.maps) (known_of info.now) version.now layout.now m)
+        (finds_result result)) }
+{
+    let mut finds = FoundInterpreters {
+        found: Vec::new(alloc),
+        more: false,
+    };
+    let named = named_candidates(alloc, info, process, version, layout)?;
+    take_with_records(
+        alloc, &info.maps, process, layout, false, &named, &mut finds,
+    )?;
+    let searched = searched_candidates(alloc, info, process)?;
+    take_with_records(
+        alloc, &info.maps, process, layout, true, &searched, &mut finds,
+    )?;
+    Ok(finds)
+}
+
+/// The interpreters of a process that are shown, in the order in which they are found.
+///
+/// First come those that are named: the head that symbols give, then the words of the program's runtime section and of
+/// the library's; and with them those that the record of one of them names, by one of its words in front of the head of
+/// its threads, of which at most 1024 are looked at, in turn. Then those that are found by search alone: the words of
+/// the program's bss and of the library's, and again those that the records of these name. Each address is taken once,
+/// and 16 at most; `more` says whether there is another.
+///
+/// An address is an interpreter's where a map holds it, the word of its first thread is in memory, is not 0 and lies in
+/// a map, and the record of that thread names the address. One that is found by search alone is taken only where its
+/// chain of threads is whole.
+///
+/// The one error is want of memory. At most 6 reads for the candidates, 2 for each that is named, 4098 for each that is
+/// found by search, and 65568 for the records.
+pub fn find_interpreters<M: ContainsAddr, P: ProcessMemory>(
+    alloc: Global,
+    info: &PythonProcessInfo<M>,
+    process: &mut P,
+    version: &Version,
+    layout: &Layout,
+) -> Result<FoundInterpreters, StackError>
+    requires sound { IsSound layout.now }
+    ensures answer { Looking (known_of info.now) version.now layout.now (P.seen process.old) (P.seen process.new) (λ m.
+        IsOrNoMemory (interpreters_at (M.contains info.now.maps) (known_of info.now) version.now layout.now m)
+        (finds_result result)) }
+    ensures right { Looking (known_of info.now) version.now layout.now (P.seen process.old) (P.seen process.new)
+        (λ m. IfOk result (λ finds. AreShown (M.contains info.now.maps) layout.now m (finds_of finds))) }
+{
+    find_all(alloc, info, process, version, layout)
+}

@@ -1,0 +1,24 @@
+//! Stacks out of a broken memory: the first members of each chain, and how it ends.
+//!
+//! An interpreter names its first thread, each thread the next one and its newest frame, and each frame the one that
+//! called it. What was lost of such a chain loses what stands behind it, and nothing in front of it: a front is the
+//! members up to there, each the next of the one before, and how they end.
+#![tactic(auto)]
+
+mod candidates;
+mod chain_end;
+mod frame_front;
+mod fronts;
+mod interpreters;
+mod members;
+mod standing;
+mod thread_front;
+mod threads;
+
+pub use chain_end::ChainEnd;
+pub use frame_front::FramesFront;
+pub use fronts::{Fronts, InterpreterFront, get_fronts};
+pub use interpreters::{FoundInterpreter, FoundInterpreters, find_interpreters};
+pub use standing::Standing;
+pub use thread_front::{ThreadFront, ThreadsFront};
+pub use threads::get_threads_front;
