@@ -23,7 +23,8 @@ pub record IsPreFinal (letters : List ℕ) (level : ℕ) (flags : List ℕ) (byt
 -- the byte of flags: 0xF0 for a final release, which has none
 abbrev pub IsReleaseByte : List ℕ → ℕ → Type 0
 IsReleaseByte flags byte = ((flags ≡ []) × (byte ≡ 0xF0))
-    ⊎ IsPreFinal (codes "a") 10 flags byte ⊎ IsPreFinal (codes "b") 11 flags byte ⊎ IsPreFinal (codes "rc") 12 flags byte
+    ⊎ IsPreFinal (codes "a") 10 flags byte ⊎ IsPreFinal (codes "b") 11 flags byte
+    ⊎ IsPreFinal (codes "rc") 12 flags byte
 
 abbrev pub HasReleaseByte : List ℕ → Type 0
 HasReleaseByte flags = (byte : ℕ) × IsReleaseByte flags byte

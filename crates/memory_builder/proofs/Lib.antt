@@ -12,7 +12,7 @@ pub mod Placing
 pub mod Records
 pub mod States
 pub mod Sums
-pub mod Tests
+pub mod Deciding
 pub mod TextSizes
 pub mod TextsBack
 pub mod ValuesBack

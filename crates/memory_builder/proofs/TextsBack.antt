@@ -120,7 +120,7 @@ wide_end l cs =
 end_for : (l : Layout) (f : Strings) (cs : List ℕ) → KindEnd l (kind_for f cs) cs ≡ (if is_short_headed f cs then l.string.short_at else unwrap_or l.string.long_at 0) + (if is_short_headed f cs then length (encode_utf8_all cs) else least_width cs * length cs)
 end_for l State cs =
     elim (all_under 0x80 cs) as (λ t. KindEnd l (cond t Utf8 (cond (all_under 0x100 cs) Latin1 (cond (all_under 0x1_0000 cs) Utf16 Utf32))) cs
-        ≡ cond t l.string.short_at (unwrap_or l.string.long_at 0) + cond t (length (encode_utf8_all cs)) (least_width cs * length cs)) [ true ↦ plain_end l cs | false ↦ wide_end l cs ]
+    ≡ cond t l.string.short_at (unwrap_or l.string.long_at 0) + cond t (length (encode_utf8_all cs)) (least_width cs * length cs)) [ true ↦ plain_end l cs | false ↦ wide_end l cs ]
 end_for l PlainBytes cs = plain_end l cs
 
 -- a text is as long as its kind wants

@@ -21,12 +21,12 @@ use Rattle.memory_builder.specs.declared.values.TypesAt.{TypesAt}
 use Rattle.memory_builder.specs.declared.frames.FrameSpots.{FrameSpots}
 
 -- the line table
-abbrev pub table_of : Layout → Frame → List ℕ
-table_of l f = coded (family_of l.lines) f.first f.ranges
+abbrev pub coded_lines : Layout → Frame → List ℕ
+coded_lines l f = coded (family_of l.lines) f.first f.ranges
 
 -- the first line, which is positive
-abbrev pub first_of : Frame → ℕ
-first_of f = unsigned_abs f.first
+abbrev pub first_number : Frame → ℕ
+first_number f = unsigned_abs f.first
 
 -- ---- where each stands
 
@@ -93,15 +93,17 @@ tuple_writes l count names =
 -- ---- the group
 
 abbrev pub table_object : Layout → Frame → List ℕ
-table_object l f = object (table_len l f) (table_writes l (table_of l f))
+table_object l f = object (table_len l f) (table_writes l (coded_lines l f))
 
 -- the records of a frame whose other objects stand at some spots, called by the one at another address
 unfoldable pub laid_records : Layout → FrameSpots → ℕ → Frame → List ℕ
 laid_records l s back f =
-    aligned (object (frame_len l f) (frame_writes l s.code back f.offset (address_array (addresses_from (local_size l) s.values f.locals)))) ++
-    (aligned (object l.code.size (code_writes l f.args (length f.locals) (first_of f) s.file s.name s.table s.tuple)) ++
+    aligned (object (frame_len l f) (frame_writes l s.code back f.offset
+    (address_array (addresses_from (local_size l) s.values f.locals)))) ++
+    (aligned (object l.code.size (code_writes l f.args (length f.locals) (first_number f) s.file s.name s.table s.tuple)) ++
     (aligned (table_object l f) ++
-    aligned (object (tuple_len l f) (tuple_writes l (length f.locals) (address_array (addresses_from (name_size l) s.names f.locals))))))
+    aligned (object (tuple_len l f) (tuple_writes l (length f.locals)
+    (address_array (addresses_from (name_size l) s.names f.locals))))))
 
 -- its texts, and the values of its locals
 unfoldable pub laid_contents : Layout → TypesAt → ℕ → Frame → List ℕ

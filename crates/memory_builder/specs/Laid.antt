@@ -26,7 +26,8 @@ is_held zero = 0
 is_held (suc holder) = 1
 
 abbrev pub gil_writes : GilAt → ℕ → List Write
-gil_writes g holder = record { at = g.locked; value = U32 (is_held holder) } ∷ record { at = g.holder; value = U64 holder } ∷ []
+gil_writes g holder =
+    record { at = g.locked; value = U32 (is_held holder) } ∷ record { at = g.holder; value = U64 holder } ∷ []
 
 unfoldable pub laid_gil : Option GilAt → ℕ → List ℕ
 laid_gil None holder = []
@@ -79,7 +80,8 @@ three_types l t =
     (laid_type l t.text (2 ^ 28) (codes "str") ++ laid_type l t.list (2 ^ 25) (codes "list"))
 
 abbrev pub interpreter_object : Layout → ℕ → Program → List ℕ
-interpreter_object l a p = object (interpreter_len l) (interpreter_writes l (head_of (first_place l a) p.threads) (gil_place l a))
+interpreter_object l a p =
+    object (interpreter_len l) (interpreter_writes l (head_of (first_place l a) p.threads) (gil_place l a))
 
 unfoldable pub laid_program : Layout → ℕ → Program → List ℕ
 laid_program l a p =

@@ -5,7 +5,7 @@ ghost use Rattle.py_fields.specs.Sound.{IsSound};
 ghost use Rattle.py_lines.specs.Coding.{coded};
 ghost use Rattle.py_stacks.specs.Lines.{family_of};
 ghost use Rattle.memory_builder.specs.Chains.{addresses_from};
-ghost use Rattle.memory_builder.specs.Frames.{spots_for, table_of, instr_value, start_in, frame_writes, code_writes, table_writes, tuple_writes, laid_records, laid_contents, laid_frame, first_of};
+ghost use Rattle.memory_builder.specs.Frames.{spots_for, coded_lines, instr_value, start_in, frame_writes, code_writes, table_writes, tuple_writes, laid_records, laid_contents, laid_frame, first_number};
 ghost use Rattle.memory_builder.specs.Mirror.{frame_in, local_in};
 ghost use Rattle.memory_builder.specs.Objects.{aligned, object};
 ghost use Rattle.memory_builder.specs.Sizes.{frame_len, frame_size, local_size, name_size, table_len, tuple_len};
@@ -48,13 +48,9 @@ fn table_len(layout: &Layout, table: &[u8]) -> u64
 }
 
 /// The line table of a frame. The one error is want of memory.
-fn table_of(
-    alloc: Global,
-    layout: &Layout,
-    frame: &ProgramFrame,
-) -> Result<Vec<u8>, AllocError>
+fn coded_lines(alloc: Global, layout: &Layout, frame: &ProgramFrame) -> Result<Vec<u8>, AllocError>
     requires { IsValidFrame (family_of layout.now.lines) (frame_in frame.now) }
-    ensures value { IfOk result (λ table. table.items ≡ table_of layout.now (frame_in frame.now)) }
+    ensures value { IfOk result (λ table. table.items ≡ coded_lines layout.now (frame_in frame.now)) }
     ensures short { IfOk result (λ table. length table.items < 65536) }
 {
     let Ok(table) = encode(alloc, family_of(layout.lines), frame.first, &frame.ranges) else {
@@ -67,7 +63,7 @@ fn table_of(
 fn spots_of(layout: &Layout, at: u64, frame: &ProgramFrame, lines: &[u8]) -> FrameSpots
     requires sound { IsSound layout.now }
     requires valid { IsValidFrame (family_of layout.now.lines) (frame_in frame.now) }
-    requires lines { lines.now ≡ table_of layout.now (frame_in frame.now) }
+    requires lines { lines.now ≡ coded_lines layout.now (frame_in frame.now) }
     requires short { length lines.now < 65536 }
     requires fits { at + frame_size layout.now (frame_in frame.now) < 2 ^ 63 }
     ensures { result ≡ spots_for layout.now at (frame_in frame.now) }
@@ -154,7 +150,7 @@ fn add_code(
     requires few { length (frame_in frame.now).locals ≤ 65535 }
     ensures { IfOk result (λ _. out.new.items ≡ out.old.items ++ aligned (object layout.now.code.size
         (code_writes layout.now (frame_in frame.now).args (length (frame_in frame.now).locals)
-        (first_of (frame_in frame.now)) spots.file spots.name spots.table spots.tuple))) }
+        (first_number (frame_in frame.now)) spots.file spots.name spots.table spots.tuple))) }
 {
     let at = &layout.code;
     let writes = [
@@ -251,7 +247,7 @@ fn add_records(
 ) -> Result<(), AllocError>
     requires sound { IsSound layout.now }
     requires valid { IsValidFrame (family_of layout.now.lines) (frame_in frame.now) }
-    requires lines { lines.now ≡ table_of layout.now (frame_in frame.now) }
+    requires lines { lines.now ≡ coded_lines layout.now (frame_in frame.now) }
     requires names { spots.names + sum_by (name_size layout.now) (frame_in frame.now).locals < 2 ^ 63 }
     requires values { spots.values + sum_by (local_size layout.now) (frame_in frame.now).locals < 2 ^ 63 }
     requires code { spots.code < 2 ^ 63 }
@@ -304,7 +300,7 @@ pub(crate) fn add_frame(
     ensures { IfOk result (λ _. out.new.items ≡ out.old.items
         ++ laid_frame layout.now types at back (frame_in frame.now)) }
 {
-    let lines = table_of(alloc, layout, frame)?;
+    let lines = coded_lines(alloc, layout, frame)?;
     let spots = spots_of(layout, at, frame, &lines);
     add_records(alloc, out, layout, spots, back, frame, &lines)?;
     add_contents(alloc, out, layout, types, spots.values, frame)

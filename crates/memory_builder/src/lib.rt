@@ -9,8 +9,8 @@ mod parts;
 mod program;
 mod sizes;
 mod texts;
-mod validity;
 mod threads;
+mod validity;
 mod values;
 
 pub use parts::{Program, ProgramFrame, ProgramItem, ProgramLocal, ProgramThread, ProgramValue};
@@ -18,5 +18,7 @@ pub use program::laid_program;
 pub use sizes::{family_of, objects_size};
 pub use validity::{FramePlace, first_invalid};
 
+#[cfg(test)]
+mod laid_tests;
 #[cfg(test)]
 mod tests;

@@ -198,9 +198,10 @@ fn owner_place(
 }
 
 /// The objects of a program, one behind the other, as they are to stand in memory from an address on: the interpreter
-/// first, then the lock's record where the layout has one, three types with their names, and the threads, each with its
-/// C frame where the layout has those, and its frames. A frame is followed by its code, its line table, the tuple of its
-/// locals' names, its file's and function's names, and the names and values of its locals.
+/// first, then the lock's record where the layout has one, three types with their names, and the threads, each with
+/// its C frame where the layout has those, and its frames. A frame is followed by its code, its line table, the tuple
+/// of its locals' names, its file's and function's names, and the names and values of its locals. Each begins at a
+/// multiple of 16 bytes from there.
 ///
 /// The one error is want of memory.
 pub fn laid_program(

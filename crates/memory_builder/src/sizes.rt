@@ -257,7 +257,11 @@ fn records_size(alloc: Global, layout: &Layout, frame: &ProgramFrame) -> Result<
 }
 
 /// How much a frame takes, with its locals; the one error is want of memory.
-pub(crate) fn frame_size(alloc: Global, layout: &Layout, frame: &ProgramFrame) -> Result<u64, AllocError>
+pub(crate) fn frame_size(
+    alloc: Global,
+    layout: &Layout,
+    frame: &ProgramFrame,
+) -> Result<u64, AllocError>
     requires sound { IsSound layout.now }
     requires valid { IsValidFrame (family_of layout.now.lines) (frame_in frame.now) }
     ensures { IfOk result (λ size. size ≡ capped (frame_size layout.now (frame_in frame.now))) }
@@ -292,7 +296,11 @@ pub(crate) fn cframe_size(cframe: Option<CframeAt>) -> u64
 }
 
 /// How much a thread takes, with its frames; the one error is want of memory.
-pub(crate) fn thread_size(alloc: Global, layout: &Layout, thread: &ProgramThread) -> Result<u64, AllocError>
+pub(crate) fn thread_size(
+    alloc: Global,
+    layout: &Layout,
+    thread: &ProgramThread,
+) -> Result<u64, AllocError>
     requires sound { IsSound layout.now }
     requires valid { (k : ℕ) → IsValidCall (family_of layout.now.lines) (program_thread thread.now).frames k }
     ensures { IfOk result (λ size. size ≡ capped (thread_size layout.now (program_thread thread.now))) }

@@ -49,7 +49,15 @@ fn add_frames(
     let mut here = at;
     while let Some((frame, later)) = rest.split_first() {
         let next = here + frame_size(alloc, layout, frame)?;
-        add_frame(alloc, out, layout, types, here, frames_head(next, later), frame)?;
+        add_frame(
+            alloc,
+            out,
+            layout,
+            types,
+            here,
+            frames_head(next, later),
+            frame,
+        )?;
         here = next;
         rest = later;
     }
@@ -57,11 +65,7 @@ fn add_frames(
 }
 
 /// Adds a C frame that names the first frame. The one error is want of memory.
-fn add_cframe(
-    out: &mut Vec<u8>,
-    cframe: Option<CframeAt>,
-    first: u64,
-) -> Result<(), AllocError>
+fn add_cframe(out: &mut Vec<u8>, cframe: Option<CframeAt>, first: u64) -> Result<(), AllocError>
     ensures { IfOk result (λ _. out.new.items ≡ out.old.items ++ laid_cframe cframe first) }
 {
     let Some(at) = cframe else {

@@ -55,13 +55,7 @@ fn count_for(integers: Integers, number: i64) -> u64
                 count
             }
         }
-        Integers::Tagged => {
-            if number < 0 {
-                count * 8 + 2
-            } else {
-                count * 8
-            }
-        }
+        Integers::Tagged => { if number < 0 { count * 8 + 2 } else { count * 8 } }
     }
 }
 
@@ -74,12 +68,7 @@ fn digits_word(number: u64) -> u64
 }
 
 /// Adds a number. The one error is want of memory.
-fn add_number(
-    out: &mut Vec<u8>,
-    layout: &Layout,
-    klass: u64,
-    number: i64,
-) -> Result<(), AllocError>
+fn add_number(out: &mut Vec<u8>, layout: &Layout, klass: u64, number: i64) -> Result<(), AllocError>
     requires sound { IsSound layout.now }
     requires small { unsigned_abs number < 2 ^ 60 }
     ensures { IfOk result (λ _. out.new.items ≡ out.old.items

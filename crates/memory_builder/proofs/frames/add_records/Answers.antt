@@ -1,7 +1,7 @@
 use Rattle.std.proofs.Common.{◌≡◌, ◌∙◌, ◌+◌, ◌++◌, List, ℕ, length, map, ap, subst}
 use Rattle.std.specs.Prelude.{IfOk, max}
 use Rattle.memory_builder.specs.Chains.{addresses_from}
-use Rattle.memory_builder.specs.Frames.{code_writes, first_of, frame_writes, laid_records, table_object, table_writes, tuple_writes}
+use Rattle.memory_builder.specs.Frames.{code_writes, first_number, frame_writes, laid_records, table_object, table_writes, tuple_writes}
 use Rattle.memory_builder.specs.Mirror.{frame_in, local_in}
 use Rattle.memory_builder.specs.Objects.{aligned, object}
 use Rattle.memory_builder.specs.Sizes.{frame_len, local_size, name_size, tuple_len}
@@ -38,7 +38,7 @@ returns c =
     let third = c.in_ok-add_table.ensures ∙ ap (λ xs. c.add_code.new.out.items ++ aligned (object (max l.bytes.size (l.bytes.at + length xs)) (table_writes l xs))) c.requires.lines in
     four_added c.add_tuple.result c.add_tuple.new.out.items c.args.out.now.items c.add_record.new.out.items c.add_code.new.out.items c.add_table.new.out.items
     (aligned (object (frame_len l f) (frame_writes l s.code c.args.back f.offset (address_array (addresses_from (local_size l) s.values f.locals)))))
-    (aligned (object l.code.size (code_writes l f.args (length f.locals) (first_of f) s.file s.name s.table s.tuple)))
+    (aligned (object l.code.size (code_writes l f.args (length f.locals) (first_number f) s.file s.name s.table s.tuple)))
     (aligned (table_object l f))
     (aligned (object (tuple_len l f) (tuple_writes l (length f.locals) (address_array (addresses_from (name_size l) s.names f.locals)))))
     first c.in_ok-add_code.ensures third

@@ -16,9 +16,17 @@ overflow_add-values c =
     let table : c.table_len.result ≡ table_len l f = c.table_len.ensures.value ∙ ap (λ xs. max l.bytes.size (l.bytes.at + length xs)) c.requires.lines in
     let names : c.names_size.result ≡ sum_by (name_size l) f.locals =
     exact c.names_size.result (sum_by (name_size l) f.locals) (c.names_size.ensures ∙ ap (λ xs. capped (sum_by (name_size l) (map local_in xs))) c.deref.ensures.value) (omega (arith, parts.names)) in
-    omega (arith, parts.names, names, c.rounded.ensures.value ∙ ap rounded c.frame_len.ensures.value, c.rounded-2.ensures.value ∙ ap rounded c.from.ensures,
-    c.rounded-3.ensures.value ∙ ap rounded table, c.rounded-4.ensures.value ∙ ap rounded c.tuple_len.ensures.value,
-    c.rounded-5.ensures.value ∙ ap rounded c.text_len.ensures.value, c.rounded-6.ensures.value ∙ ap rounded c.text_len-2.ensures.value)
+    omega (
+      arith,
+      parts.names,
+      names,
+      c.rounded.ensures.value ∙ ap rounded c.frame_len.ensures.value,
+      c.rounded-2.ensures.value ∙ ap rounded c.from.ensures,
+      c.rounded-3.ensures.value ∙ ap rounded table,
+      c.rounded-4.ensures.value ∙ ap rounded c.tuple_len.ensures.value,
+      c.rounded-5.ensures.value ∙ ap rounded c.text_len.ensures.value,
+      c.rounded-6.ensures.value ∙ ap rounded c.text_len-2.ensures.value,
+    )
 
 pub returns : goal.returns
 returns c =

@@ -20,8 +20,12 @@ text_len-requires-clause-brief c = (item_at IsValidLocal local_in c.args.locals.
 pub overflow_add-here : goal.overflow_add-here
 unfolding name_size
 overflow_add-here c =
-    omega (arith, here_fits (name_size c.args.layout.now) local_in c.args.locals.now c.loop-local.local-index c.local-item.result c.args.at c.loop-local.here
-    c.loop-local-test.true c.local-item.is c.loop-local.invariant.here c.requires.fits, (c.rounded-here.ensures.value ∙ ap rounded c.text_len.ensures.value))
+    omega (
+      arith,
+      here_fits (name_size c.args.layout.now) local_in c.args.locals.now c.loop-local.local-index c.local-item.result c.args.at c.loop-local.here
+          c.loop-local-test.true c.local-item.is c.loop-local.invariant.here c.requires.fits,
+      (c.rounded-here.ensures.value ∙ ap rounded c.text_len.ensures.value),
+    )
 
 pub loop-local-preserved : goal.loop-local-preserved
 unfolding bytes_of name_size

@@ -20,8 +20,12 @@ value_size-here-requires-clause-valid c = (item_at IsValidLocal local_in c.args.
 pub overflow_add-here : goal.overflow_add-here
 unfolding local_size
 overflow_add-here c =
-    omega (arith, here_fits (local_size c.args.layout.now) local_in c.args.locals.now c.loop-local.local-index c.local-item.result c.args.at c.loop-local.here
-    c.loop-local-test.true c.local-item.is c.loop-local.invariant.here c.requires.fits, c.value_size-here.ensures)
+    omega (
+      arith,
+      here_fits (local_size c.args.layout.now) local_in c.args.locals.now c.loop-local.local-index c.local-item.result c.args.at c.loop-local.here
+          c.loop-local-test.true c.local-item.is c.loop-local.invariant.here c.requires.fits,
+      c.value_size-here.ensures,
+    )
 
 pub loop-local-preserved : goal.loop-local-preserved
 unfolding bytes_of local_size

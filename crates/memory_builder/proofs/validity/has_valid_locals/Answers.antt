@@ -4,7 +4,7 @@ use Rattle.std.specs.List.{AllByRecursion}
 use Rattle.memory_builder.specs.declared.parts.ProgramLocal.{ProgramLocal}
 use Rattle.memory_builder.specs.Mirror.{local_in}
 use Rattle.memory_builder.specs.Validity.{IsValidLocal}
-use Rattle.memory_builder.proofs.Tests.{locals_tell}
+use Rattle.memory_builder.proofs.Deciding.{locals_tell}
 use Rattle.memory_builder.proofs.validity.has_valid_locals.Goals as goal
 
 pub returns-then-count-le-MOST_LOCALS : goal.returns-then-count-le-MOST_LOCALS

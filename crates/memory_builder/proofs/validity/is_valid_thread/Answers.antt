@@ -20,7 +20,7 @@ returns-then-is_new c =
     let count = length_map frame_in t.frames.items in (
       λ few. record {
         positive = facts.0;
-      fits = omega arith;
+        fits = omega arith;
         new = all_map (λ (other : Thread). other.id ≢ t.id) program_thread c.args.earlier.now facts.1;
         few = omega (arith, count, t.frames.ok.0, c.len.ensures, leb-true c.len.result 4096 few);
       },

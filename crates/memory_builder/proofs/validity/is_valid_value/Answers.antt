@@ -4,7 +4,7 @@ use Rattle.std.specs.List.{AllByRecursion}
 use Rattle.memory_builder.specs.declared.parts.ProgramItem.{ProgramItem}
 use Rattle.memory_builder.specs.Mirror.{item_in, program_value}
 use Rattle.memory_builder.specs.Validity.{IsValidHeld, IsValidItem}
-use Rattle.memory_builder.proofs.Tests.{list_tells}
+use Rattle.memory_builder.proofs.Deciding.{list_tells}
 use Rattle.memory_builder.proofs.validity.is_valid_value.Goals as goal
 
 pub returns-then-len-lt-ITEM_LIMIT : goal.returns-then-len-lt-ITEM_LIMIT

@@ -19,8 +19,12 @@ item_size-here-requires-clause-valid c = item_at IsValidItem item_in c.args.item
 
 pub overflow_add-here : goal.overflow_add-here
 overflow_add-here c =
-    omega (arith, here_fits (item_size c.args.layout.now) item_in c.args.items.now c.loop-item.item-index c.item-item.result c.args.at c.loop-item.here
-    c.loop-item-test.true c.item-item.is c.loop-item.invariant.here c.requires.fits, c.item_size-here.ensures.value)
+    omega (
+      arith,
+      here_fits (item_size c.args.layout.now) item_in c.args.items.now c.loop-item.item-index c.item-item.result c.args.at c.loop-item.here
+          c.loop-item-test.true c.item-item.is c.loop-item.invariant.here c.requires.fits,
+      c.item_size-here.ensures.value,
+    )
 
 pub loop-item-preserved : goal.loop-item-preserved
 unfolding bytes_of
