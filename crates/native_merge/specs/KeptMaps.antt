@@ -41,13 +41,13 @@ wants_map kept frame = is_some (asked_line frame) && not (map.contains_key kept 
 -- ---- what it becomes
 
 -- a number as a frame's line: 0 past an i32
-abbrev pub frame_line : ℕ → ℤ
-frame_line number = if nat_lt number (2 ^ 31) then pos number else pos 0
+abbrev pub line_or_zero : ℕ → ℤ
+line_or_zero number = if nat_lt number (2 ^ 31) then pos number else pos 0
 
 -- a frame at a file and a line, where there are any
 abbrev pub placed : Frame → Option (List ℕ × ℕ) → Frame
 placed frame None = frame
-placed frame (Some place) = record frame { filename = chars place.0; line = frame_line place.1 }
+placed frame (Some place) = record frame { filename = chars place.0; line = line_or_zero place.1 }
 
 -- what is kept for a file tells of a line
 abbrev pub told_of : Option MapOrNone → ℕ → Option (List ℕ × ℕ)

@@ -43,8 +43,8 @@ pub record FailsToRead (before now : SourcesSeen) (path : List ℕ) : Type 0 whe
   pub rose : Rose before.faults now.faults
 
 -- the map that was made of a path, or none; a file that could not be read has none
-abbrev pub IsMade : SourcesSeen → SourcesSeen → List ℕ → Option (List ℕ) → MapOrNone → Type 0
-IsMade before now path module_name answer =
+abbrev pub IsNewMap : SourcesSeen → SourcesSeen → List ℕ → Option (List ℕ) → MapOrNone → Type 0
+IsNewMap before now path module_name answer =
     IsMapOfFile before path module_name answer ⊎ (FailsToRead before now path × (answer ≡ None))
 
 -- where the bytes are told, a path has one map, or none

@@ -1,7 +1,7 @@
 //! Which line of a Cython file a line of its C file comes from.
 ghost use Rattle.std.specs.Prelude.{◌≡◌, ◌≤◌, ◌<◌, nat_le, List, length, option_map, IfOk, IsErrOf, OnOk};
 ghost use Rattle.std.specs.Str.Lines.{lines};
-ghost use Rattle.native_merge.specs.MapsOfFiles.{FilesMapOnce, IsMade, IsMapOfBytes, IsReadMap};
+ghost use Rattle.native_merge.specs.MapsOfFiles.{FilesMapOnce, IsNewMap, IsMapOfBytes, IsReadMap};
 ghost use Rattle.native_merge.specs.Paths.{cython_file};
 ghost use Rattle.native_merge.specs.SourceMaps.{AddsMark, MarksAscend, IsSourceMap, MapsOnce, last_below, line_limit, looked_up};
 ghost use Rattle.native_merge.specs.Sources.{Stay};
@@ -194,7 +194,7 @@ impl SourceMap {
         filename: &str,
         module: Option<&str>,
     ) -> Result<Option<SourceMap>, AllocError>
-        ensures map { IfOk result (IsMade (F.seen sources.old) (F.seen sources.new) filename.now
+        ensures map { IfOk result (IsNewMap (F.seen sources.old) (F.seen sources.new) filename.now
             (option_map (λ name. name.now) «module».entry)) }
         ensures once { FilesMapOnce }
         ensures stay { Stay (F.seen sources.old) (F.seen sources.new) }
