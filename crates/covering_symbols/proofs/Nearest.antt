@@ -9,22 +9,22 @@ use Rattle.std.proofs.lemmas.List.Sorted.{IsPermutation-sym, Contains-permutatio
 use Rattle.elf64_core.specs.Symbols.{SymbolEntry}
 use Rattle.covering_symbols.specs.declared.function_key.FunctionKey.{FunctionKey}
 use Rattle.covering_symbols.specs.Covering.{Covering, CoversAddr, IsNearer, functions_in, is_function}
-use Rattle.covering_symbols.specs.FunctionKeys.{function_keys, is_function_info, key_covers, key_of}
-use Rattle.covering_symbols.specs.FunctionTables.{IsTableOf, number_of}
+use Rattle.covering_symbols.specs.FunctionKeys.{function_keys, is_function_info, key_covers, symbol_key}
+use Rattle.covering_symbols.specs.FunctionTables.{IsTableOf, key_number}
 use Rattle.covering_symbols.specs.KeyOrder.{ComesFirst}
 
 abbrev Numbered : Type 0
 Numbered = ℕ × SymbolEntry
 
 -- the keys are those of the functions
-keys_mapped : (k : ℕ) (symbols : List SymbolEntry) → function_keys k symbols ≡ map key_of (filter is_function (enumerate_from k symbols))
+keys_mapped : (k : ℕ) (symbols : List SymbolEntry) → function_keys k symbols ≡ map symbol_key (filter is_function (enumerate_from k symbols))
 keys_mapped k [] = refl
 keys_mapped k (s ∷ symbols) = by (is_function_info s.info) refl (keys_mapped (k + 1) symbols)
   where
     by : (b : Bool) → is_function_info s.info ≡ b
-        → function_keys (k + 1) symbols ≡ map key_of (filter is_function (enumerate_from (k + 1) symbols))
-        → function_keys k (s ∷ symbols) ≡ map key_of (filter is_function (enumerate_from k (s ∷ symbols)))
-    by true e rest = rw e (ap (λ l. key_of (k, s) ∷ l) rest)
+        → function_keys (k + 1) symbols ≡ map symbol_key (filter is_function (enumerate_from (k + 1) symbols))
+        → function_keys k (s ∷ symbols) ≡ map symbol_key (filter is_function (enumerate_from k (s ∷ symbols)))
+    by true e rest = rw e (ap (λ l. symbol_key (k, s) ∷ l) rest)
     by false e rest = rw e rest
 
 -- what holds of all symbols holds of the functions among them
@@ -102,20 +102,20 @@ none_passes {X} p (x ∷ xs) k d h lt = by (p x) refl (λ e j l. none_passes p x
 
 -- ---- keys and symbols
 
-covers_key : (addr : ℕ) (m : Numbered) → m.1.value < 2 ^ 64 → CoversAddr addr m → key_covers addr (key_of m) ≡ true
+covers_key : (addr : ℕ) (m : Numbered) → m.1.value < 2 ^ 64 → CoversAddr addr m → key_covers addr (symbol_key m) ≡ true
 covers_key addr m fit c = let from = c.0 in let to = c.1 in
     and_from (leb (2 ^ 64 - 1 - (2 ^ 64 - 1 - m.1.value)) addr) (ltb addr (2 ^ 64 - 1 - (2 ^ 64 - 1 - m.1.value) + m.1.size))
     (le-leb (2 ^ 64 - 1 - (2 ^ 64 - 1 - m.1.value)) addr (omega arith))
     (lt-ltb addr (2 ^ 64 - 1 - (2 ^ 64 - 1 - m.1.value) + m.1.size) (omega arith))
 
-key_covers_is : (addr : ℕ) (m : Numbered) → m.1.value < 2 ^ 64 → key_covers addr (key_of m) ≡ true → CoversAddr addr m
+key_covers_is : (addr : ℕ) (m : Numbered) → m.1.value < 2 ^ 64 → key_covers addr (symbol_key m) ≡ true → CoversAddr addr m
 key_covers_is addr m fit h =
     let p = and_parts (leb (2 ^ 64 - 1 - (2 ^ 64 - 1 - m.1.value)) addr) (ltb addr (2 ^ 64 - 1 - (2 ^ 64 - 1 - m.1.value) + m.1.size)) h in
     let from = leb-true (2 ^ 64 - 1 - (2 ^ 64 - 1 - m.1.value)) addr p.0 in
     let to = ltb-true addr (2 ^ 64 - 1 - (2 ^ 64 - 1 - m.1.value) + m.1.size) p.1 in
     (omega arith, omega arith)
 
-first_is_near : (n m : Numbered) → n.1.value < 2 ^ 64 → m.1.value < 2 ^ 64 → ComesFirst (key_of n) (key_of m) → (m.0 ≡ n.0) ⊎ IsNearer n m
+first_is_near : (n m : Numbered) → n.1.value < 2 ^ 64 → m.1.value < 2 ^ 64 → ComesFirst (symbol_key n) (symbol_key m) → (m.0 ≡ n.0) ⊎ IsNearer n m
 first_is_near n m f g (inl lt) = inr (inl (omega arith))
 first_is_near n m f g (inr p) = by p.1
   where
@@ -127,35 +127,35 @@ first_is_near n m f g (inr p) = by p.1
     ]
 
 module _ (symbols : List SymbolEntry) (keys : List FunctionKey) (t : IsTableOf symbols keys) (addr : ℕ) where
-  same : IsPermutation (map key_of (functions_in symbols)) keys
+  same : IsPermutation (map symbol_key (functions_in symbols)) keys
   same = subst (λ l. IsPermutation l keys) (keys_mapped 0 symbols) t.same
 
   fits : (m : Numbered) → Contains (functions_in symbols) m → m.1.value < 2 ^ 64
   fits m c = All-contains (λ (x : Numbered). x.1.value < 2 ^ 64) (functions_in symbols) m
       (functions_fit (λ (s : SymbolEntry). s.value < 2 ^ 64) 0 symbols t.fit) c
 
-  has_key : (m : Numbered) → Contains (functions_in symbols) m → Contains keys (key_of m)
-  has_key m c = Contains-permutation (map key_of (functions_in symbols)) keys (key_of m) same (Contains-mapped key_of (functions_in symbols) m c)
+  has_key : (m : Numbered) → Contains (functions_in symbols) m → Contains keys (symbol_key m)
+  has_key m c = Contains-permutation (map symbol_key (functions_in symbols)) keys (symbol_key m) same (Contains-mapped symbol_key (functions_in symbols) m c)
 
   none_covers : find (key_covers addr) keys ≡ None → Covering symbols addr None
   none_covers h m c k =
       let at = has_key m c in
-      let no = none_passes (key_covers addr) keys at.0 (key_of m) h at.1 in
+      let no = none_passes (key_covers addr) keys at.0 (symbol_key m) h at.1 in
       let yes = covers_key addr m (fits m c) k in
       let both : true ≡ false = sym yes ∙ ap (key_covers addr) (sym at.2) ∙ no in absurd (cc)
 
   some_covers : (key : FunctionKey) → find (key_covers addr) keys ≡ Some key → Covering symbols addr (Some key.number)
   some_covers key h =
       let first = first_of_find (key_covers addr) keys key h in
-      let back = Contains-permutation keys (map key_of (functions_in symbols)) key
-      (IsPermutation-sym (map key_of (functions_in symbols)) keys same) (first.index, first.within, first.is key) in
-      let n = from_mapped key_of (functions_in symbols) back.0 key back.1 back.2 in
+      let back = Contains-permutation keys (map symbol_key (functions_in symbols)) key
+      (IsPermutation-sym (map symbol_key (functions_in symbols)) keys same) (first.index, first.within, first.is key) in
+      let n = from_mapped symbol_key (functions_in symbols) back.0 key back.1 back.2 in
       by first n.0 n.1 n.2
     where
-      by : IsFirst (key_covers addr) keys key → (n : Numbered) → Contains (functions_in symbols) n → key_of n ≡ key
+      by : IsFirst (key_covers addr) keys key → (n : Numbered) → Contains (functions_in symbols) n → symbol_key n ≡ key
           → Covering symbols addr (Some key.number)
       by first n c e =
-          let number : n.0 ≡ key.number = ap number_of e in
+          let number : n.0 ≡ key.number = ap key_number e in
           let among : Contains (functions_in symbols) (key.number, n.1) = subst (λ k. Contains (functions_in symbols) (k, n.1)) number c in
           record {
             symbol = n.1;
@@ -163,17 +163,17 @@ module _ (symbols : List SymbolEntry) (keys : List FunctionKey) (t : IsTableOf s
             covers = key_covers_is addr n (fits n c) (ap (key_covers addr) e ∙ first.passes);
             nearest = λ m d k.
                 let at = has_key m d in
-                let passes : key_covers addr (get_or keys at.0 (key_of m)) ≡ true = ap (key_covers addr) at.2 ∙ covers_key addr m (fits m d) k in
-                let le = first.least at.0 (key_of m) at.1 passes in
-                let before = t.order first.index at.0 (key_of m) le at.1 in
-                let here : ComesFirst (key_of n) (key_of m) = subst (λ x. ComesFirst x (key_of m)) (first.is (key_of m) ∙ sym e)
-                (subst (λ y. ComesFirst (get_or keys first.index (key_of m)) y) at.2 before) in
+                let passes : key_covers addr (get_or keys at.0 (symbol_key m)) ≡ true = ap (key_covers addr) at.2 ∙ covers_key addr m (fits m d) k in
+                let le = first.least at.0 (symbol_key m) at.1 passes in
+                let before = t.order first.index at.0 (symbol_key m) le at.1 in
+                let here : ComesFirst (symbol_key n) (symbol_key m) = subst (λ x. ComesFirst x (symbol_key m)) (first.is (symbol_key m) ∙ sym e)
+                (subst (λ y. ComesFirst (get_or keys first.index (symbol_key m)) y) at.2 before) in
                 subst (λ j. (m.0 ≡ j) ⊎ IsNearer (j, n.1) m) number (first_is_near n m (fits n c) (fits m d) here);
           }
 
-  pub covering_found : Covering symbols addr (option_map number_of (find (key_covers addr) keys))
+  pub covering_found : Covering symbols addr (option_map key_number (find (key_covers addr) keys))
   covering_found = by (find (key_covers addr) keys) refl
     where
-      by : (o : Option FunctionKey) → find (key_covers addr) keys ≡ o → Covering symbols addr (option_map number_of o)
+      by : (o : Option FunctionKey) → find (key_covers addr) keys ≡ o → Covering symbols addr (option_map key_number o)
       by None e = none_covers e
       by (Some key) e = some_covers key e

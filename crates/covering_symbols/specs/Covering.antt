@@ -56,8 +56,8 @@ Covering symbols addr None = (m : ℕ × SymbolEntry) → Contains (functions_in
 Covering symbols addr (Some number) = IsNearest symbols addr number
 
 -- the name of the symbol of a number
-abbrev pub name_at : List SymbolEntry → Option ℕ → Option (List ℕ)
-name_at symbols found =
+abbrev pub symbol_name_at : List SymbolEntry → Option ℕ → Option (List ℕ)
+symbol_name_at symbols found =
     option_and_then (λ (s : SymbolEntry). s.name) (option_and_then (λ number. slice_get symbols number) found)
 
 -- ---- the address of a place in the file

@@ -9,12 +9,12 @@ abbrev pub is_function_info : ℕ → Bool
 is_function_info info = info % 16 == 2
 
 -- a symbol with its number, as a key
-abbrev pub key_of : ℕ × SymbolEntry → FunctionKey
-key_of n = record { below = 2 ^ 64 - 1 - n.1.value; size = n.1.size; number = n.0 }
+abbrev pub symbol_key : ℕ × SymbolEntry → FunctionKey
+symbol_key n = record { below = 2 ^ 64 - 1 - n.1.value; size = n.1.size; number = n.0 }
 
 -- the key of a symbol, where that is a function
 abbrev pub keys_of : ℕ × SymbolEntry → List FunctionKey
-keys_of n = if is_function_info n.1.info then key_of n ∷ [] else []
+keys_of n = if is_function_info n.1.info then symbol_key n ∷ [] else []
 
 -- the functions of a list of symbols that are counted from a number on
 abbrev pub function_keys : ℕ → List SymbolEntry → List FunctionKey

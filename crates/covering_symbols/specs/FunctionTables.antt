@@ -6,8 +6,8 @@ use Rattle.covering_symbols.specs.declared.function_key.FunctionKey.{FunctionKey
 use Rattle.covering_symbols.specs.FunctionKeys.{function_keys}
 use Rattle.covering_symbols.specs.KeyOrder.{IsInOrder}
 
-abbrev pub number_of : FunctionKey → ℕ
-number_of key = key.number
+abbrev pub key_number : FunctionKey → ℕ
+key_number key = key.number
 
 -- the functions of these symbols, in the order of preference
 pub record IsTableOf (symbols : List SymbolEntry) (keys : List FunctionKey) : Type 0 where

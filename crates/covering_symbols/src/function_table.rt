@@ -5,7 +5,7 @@ ghost use Rattle.elf64_core.specs.Symbols.{SymbolEntry, symbol_entry_of};
 ghost use Rattle.piece_table.specs.Places.{IsBounded};
 ghost use Rattle.covering_symbols.specs.Covering.{Covering};
 ghost use Rattle.covering_symbols.specs.FunctionKeys.{key_covers, range_of_key};
-ghost use Rattle.covering_symbols.specs.FunctionTables.{IsTableOf, number_of};
+ghost use Rattle.covering_symbols.specs.FunctionTables.{IsTableOf, key_number};
 
 use crate::function_key::{FunctionKey, function_keys, key_covers, range_of_key};
 use elf64_core::Symbol;
@@ -49,7 +49,7 @@ fn ranges_of(alloc: Global, keys: &[FunctionKey]) -> Result<Vec<FileRange>, Allo
 
 /// The first of some functions that covers an address, by its number.
 fn first_covering(keys: &[FunctionKey], addr: u128) -> Option<usize>
-    ensures { result ≡ option_map number_of (find (key_covers addr) keys.now) }
+    ensures { result ≡ option_map key_number (find (key_covers addr) keys.now) }
 {
     let key = keys.iter().find(|key| key_covers(key, addr))?;
     Some(key.number)
@@ -81,7 +81,7 @@ impl FunctionTable {
 
     /// The number of the first of these functions that covers an address; none exactly where none does.
     fn find(&self, addr: u128) -> Option<usize>
-        ensures { result ≡ option_map number_of (find (key_covers addr) self.now) }
+        ensures { result ≡ option_map key_number (find (key_covers addr) self.now) }
     {
         match u64::try_from(addr) {
             Ok(addr) if addr < u64::MAX => self.find_below(addr),
@@ -92,7 +92,7 @@ impl FunctionTable {
     /// The same for an address below 2^64 - 1.
     fn find_below(&self, addr: u64) -> Option<usize>
         requires { addr < 2 ^ 64 - 1 }
-        ensures { result ≡ option_map number_of (find (key_covers addr) self.now) }
+        ensures { result ≡ option_map key_number (find (key_covers addr) self.now) }
     {
         let piece = self.table.at(addr)?;
         Some(piece.file)

@@ -11,9 +11,9 @@ use Rattle.native_merge.specs.declared.function_kind.FunctionKind.{FunctionKind}
 use Rattle.native_merge.specs.declared.function_kind.FunctionKind.TheVariants.{Step as IsStep, Native as IsNative, LeftOut as IsLeftOut}
 use Rattle.native_merge.specs.FunctionKinds.{function_kind}
 use Rattle.native_merge.specs.SymbolCaches.{Answer}
-use Rattle.native_merge.specs.NativesShown.{NativeItem, ShowsFrame, ShowsNative, answer_items, fault_call, is_dropped, items_at, items_shown, judged}
+use Rattle.native_merge.specs.NativesShown.{NativeItem, ShowsFrame, ShowsNative, answer_items, fault_call, is_dropped, items_met, items_shown, judged}
 use Rattle.native_merge.specs.NativesShown.NativeItem.{OfFrame, OfFault}
-use Rattle.native_merge.specs.StackParts.{part, cursor, width}
+use Rattle.native_merge.specs.StackParts.{part, cursor, step_len}
 use Rattle.native_merge.specs.PythonFrames.{calls, ends_part}
 use Rattle.native_merge.specs.MergedStacks.{StackItem, interleaved, step_count}
 use Rattle.native_merge.specs.MergedStacks.StackItem.{Step, Shown}
@@ -94,8 +94,8 @@ module _ {exists : List ℕ → Bool} where
         let short : length cs < 2 ^ 64 = omega (arith, length-map fs call_of) in
         let same : drop at cs ≡ drop here cs = same_drop cs at here short g.stands in
         let taken : taken_at fs at ≡ part ends_part (step_count is) cs
-        = ap (λ l. take (width ends_part l) l) same ∙ sym (part_is ends_part (step_count is) cs) in
-        let wide : width_at fs at ≡ width ends_part (drop here cs) = ap (width ends_part) same in
+        = ap (λ l. take (step_len ends_part l) l) same ∙ sym (part_is ends_part (step_count is) cs) in
+        let wide : width_at fs at ≡ step_len ends_part (drop here cs) = ap (step_len ends_part) same in
         record {
           shown = rw (interleaved_more cs is (Step ∷ [])) (rw (one_step cs (step_count is)) (rw e (rw taken
               (AllZip-append (ShowsFrame exists) (interleaved ends_part cs 0 is) (map Python (part ends_part (step_count is) cs))
@@ -115,21 +115,21 @@ shown_dropped f e = rw e refl
 pub shown_kept : (f : NativeFrame) → is_dropped f ≡ false → items_shown f ≡ Shown (OfFrame f) ∷ []
 shown_kept f e = rw e refl
 
-pub items_outside : (b : Bool) (f : NativeFrame) → b ≡ false → items_at b f ≡ items_shown f
-unfolding items_at
+pub items_outside : (b : Bool) (f : NativeFrame) → b ≡ false → items_met b f ≡ items_shown f
+unfolding items_met
 items_outside b f e = rw e refl
 
-items_inside : (b : Bool) (f : NativeFrame) (k : FunctionKind) → b ≡ true → k ≡ function_kind f.function → items_at b f ≡ judged f k
-unfolding items_at
+items_inside : (b : Bool) (f : NativeFrame) (k : FunctionKind) → b ≡ true → k ≡ function_kind f.function → items_met b f ≡ judged f k
+unfolding items_met
 items_inside b f k e h = rw e (ap (judged f) (sym h))
 
-pub items_step : (b : Bool) (f : NativeFrame) → b ≡ true → IsStep ≡ function_kind f.function → items_at b f ≡ Step ∷ []
+pub items_step : (b : Bool) (f : NativeFrame) → b ≡ true → IsStep ≡ function_kind f.function → items_met b f ≡ Step ∷ []
 items_step b f e h = items_inside b f IsStep e h
 
-pub items_native : (b : Bool) (f : NativeFrame) → b ≡ true → IsNative ≡ function_kind f.function → items_at b f ≡ items_shown f
+pub items_native : (b : Bool) (f : NativeFrame) → b ≡ true → IsNative ≡ function_kind f.function → items_met b f ≡ items_shown f
 items_native b f e h = items_inside b f IsNative e h
 
-pub items_left_out : (b : Bool) (f : NativeFrame) → b ≡ true → IsLeftOut ≡ function_kind f.function → items_at b f ≡ []
+pub items_left_out : (b : Bool) (f : NativeFrame) → b ≡ true → IsLeftOut ≡ function_kind f.function → items_met b f ≡ []
 items_left_out b f e h = items_inside b f IsLeftOut e h
 
 flat_map_more : {X A : Type 0} (f : X → List A) (xs : List X) (i : ℕ) (d : X) → i < length xs
@@ -147,17 +147,17 @@ module _ {exists : List ℕ → Bool} where
 
   pub more_natives : {fs old mid new : List Frame} {at next last : ℕ} (python : Bool) (xs : List NativeFrame) (i : ℕ) (x : NativeFrame)
       → i < length xs → x ≡ get_or xs i x
-      → GathersMore exists fs (flat_map (items_at python) (take i xs)) old at mid next
-      → {between : List ℕ → Bool} → between ≡ exists → GathersMore between fs (items_at python x) mid next new last
-      → GathersMore exists fs (flat_map (items_at python) (take (i + 1) xs)) old at new last
+      → GathersMore exists fs (flat_map (items_met python) (take i xs)) old at mid next
+      → {between : List ℕ → Bool} → between ≡ exists → GathersMore between fs (items_met python x) mid next new last
+      → GathersMore exists fs (flat_map (items_met python) (take (i + 1) xs)) old at new last
   more_natives {fs = fs} {mid = mid} {new = new} {next = next} {last = last} python xs i x h e a same b =
-      rw (flat_map_more (items_at python) xs i x h ∙ ap (λ y. flat_map (items_at python) (take i xs) ++ items_at python y) (sym e))
-      (more_then a (subst (λ y. GathersMore y fs (items_at python x) mid next new last) same b))
+      rw (flat_map_more (items_met python) xs i x h ∙ ap (λ y. flat_map (items_met python) (take i xs) ++ items_met python y) (sym e))
+      (more_then a (subst (λ y. GathersMore y fs (items_met python x) mid next new last) same b))
 
   -- ---- what an answer adds
 
   pub more_ok : {fs old new : List Frame} {at next : ℕ} (python : Bool) (addr : ℕ) (answer : Answer) (natives : List NativeFrame)
-      → answer ≡ Ok natives → GathersMore exists fs (flat_map (items_at python) natives) old at new next
+      → answer ≡ Ok natives → GathersMore exists fs (flat_map (items_met python) natives) old at new next
       → GathersMore exists fs (answer_items python addr answer) old at new next
   unfolding answer_items
   more_ok python addr answer natives e g = rw e g

@@ -7,11 +7,11 @@ use Rattle.elf64_core.specs.Symbols.{SymbolEntry}
 use Rattle.elf64_core.specs.declared.symbol.SymbolKind.{SymbolKind}
 use Rattle.image_memory.specs.Images.{Pushed, first_under}
 use Rattle.image_memory.specs.Mmap.{shown_bytes}
-use Rattle.covering_symbols.specs.Covering.{AreImageSymbols, AreSymbolsOf, Covering, IsNearer, address_of_place, name_at}
+use Rattle.covering_symbols.specs.Covering.{AreImageSymbols, AreSymbolsOf, Covering, IsNearer, address_of_place, symbol_name_at}
 use Rattle.native_merge.specs.declared.read_images.ReadImage.{ReadImage}
 use Rattle.native_merge.specs.ImageSymbols.{FilesMapped, IsNameAt, image_frame, image_seen}
 use Rattle.native_merge.specs.ReadImages.{IsImageUnder, IsReadOf, IsReadOfBytes, is_read_under}
-use Rattle.native_merge.specs.Symbols.{TellsOnce}
+use Rattle.native_merge.specs.Symbols.{AnswersOnce}
 use Rattle.std.proofs.lemmas.Slice.Eq.{bytes_eq-Decides}
 
 -- ---- what was read
@@ -43,9 +43,9 @@ pub read_more : (images : Pushed) (path bytes : List ℕ) (reads new : List Read
     → IsImageUnder images path bytes → All (IsReadOf images) reads → new ≡ reads ++ r ∷ [] → All (IsReadOf images) new
 read_more images path bytes reads new r e b under a n =
     let one : IsReadOf images r = λ image is.
-        let both : Some under.0 ≡ Some image = sym under.1 ∙ ap (λ p. first_under p images) (sym e) ∙ is in
-        let same : under.0 ≡ image = cc in
-        subst (λ x. IsReadOfBytes x r) (under.2 ∙ ap shown_bytes same) b in
+    let both : Some under.0 ≡ Some image = sym under.1 ∙ ap (λ p. first_under p images) (sym e) ∙ is in
+    let same : under.0 ≡ image = cc in
+    subst (λ x. IsReadOfBytes x r) (under.2 ∙ ap shown_bytes same) b in
     subst (All (IsReadOf images)) (sym n) (All-push (IsReadOf images) reads r a one)
 
 -- ---- one answer
@@ -89,13 +89,13 @@ name-once bytes None x y h k = h ∙ sym k
 name-once bytes (Some a) x y h k =
     let symbols : h.0 ≡ k.0 = image_symbols-once bytes h.0 k.0 h.1 k.1 in
     let found : h.2.0 ≡ k.2.0 = covering-once k.0 a h.2.0 k.2.0 (subst (λ s. Covering s a h.2.0) symbols h.2.1) k.2.1 in
-    h.2.2 ∙ ap (λ s. name_at s h.2.0) symbols ∙ ap (λ f. name_at k.0 f) found ∙ sym k.2.2
+    h.2.2 ∙ ap (λ s. symbol_name_at s h.2.0) symbols ∙ ap (λ f. symbol_name_at k.0 f) found ∙ sym k.2.2
 
 abbrev pair : List ℕ → ℕ → List ℕ × ℕ
 pair path place = (path, place)
 
 -- an address has one answer
-pub image_once : (files : FilesMapped) → TellsOnce (image_seen files)
+pub image_once : (files : FilesMapped) → AnswersOnce (image_seen files)
 image_once files = λ t addr lines x y h k.
     let places : Some (pair h.path h.place) ≡ Some (pair k.path k.place) = sym h.file.at ∙ k.file.at in
     let both : pair h.path h.place ≡ pair k.path k.place = cc in
@@ -105,7 +105,7 @@ image_once files = λ t addr lines x y h k.
     let image : h.file.image ≡ k.file.image = cc in
     let bytes : h.bytes ≡ k.bytes = h.file.shows ∙ ap shown_bytes image ∙ sym k.file.shows in
     let moved : IsNameAt k.bytes (address_of_place (segments_of k.bytes) k.place) h.name
-        = subst (λ b. IsNameAt b (address_of_place (segments_of b) k.place) h.name) bytes
-        (subst (λ o. IsNameAt h.bytes (address_of_place (segments_of h.bytes) o) h.name) place h.named) in
+    = subst (λ b. IsNameAt b (address_of_place (segments_of b) k.place) h.name) bytes
+    (subst (λ o. IsNameAt h.bytes (address_of_place (segments_of h.bytes) o) h.name) place h.named) in
     let name : h.name ≡ k.name = name-once k.bytes (address_of_place (segments_of k.bytes) k.place) h.name k.name moved k.named in
     h.are ∙ ap (λ p. image_frame addr p h.name ∷ []) path ∙ ap (λ n. image_frame addr k.path n ∷ []) name ∙ sym k.are

@@ -18,7 +18,7 @@ use Rattle.native_merge.specs.Merging.{Merging}
 use Rattle.native_merge.specs.NativesShown.{NativeItem, answer_items}
 use Rattle.native_merge.specs.PythonFrames.{calls, ends_part}
 use Rattle.native_merge.specs.Sources.{SourcesSeen, Stay}
-use Rattle.native_merge.specs.SymbolCaches.{Answer, HeldFrames, IsAfter, IsHeldAnswer, IsToldAnswer, answer_of}
+use Rattle.native_merge.specs.SymbolCaches.{Answer, HeldFrames, IsAfter, IsHeldAnswer, IsToldAnswer, answer_listed}
 use Rattle.native_merge.specs.Symbols.{SymbolsSeen, SymbolsStay}
 use Rattle.native_merge.proofs.StackCuts.{cursor-zero}
 use Rattle.native_merge.proofs.Stays.{stay_same, stay_then, symbols_same, symbols_then}
@@ -56,7 +56,7 @@ faults_rose n false old mid now c r le = omega arith
 faults_rose n true old mid now c r le = let x = r refl in omega arith
 
 rose_where : (before now : ℕ) (r : Result (Vec NativeFrame Global) SymbolFault) → (IsErrOf r Failed → Rose before now)
-    → is_failed (answer_of r) ≡ true → Rose before now
+    → is_failed (answer_listed r) ≡ true → Rose before now
 rose_where before now (Ok v) f e = cc
 rose_where before now (Err NoBinary) f e = cc
 rose_where before now (Err Failed) f e = f refl
@@ -72,7 +72,7 @@ told_as : (old mid : SymbolsSeen) (addr : ℕ) (lines : Bool) (answer : Answer) 
 told_as old mid addr lines (Ok fs) s h = λ t. (s.gives addr lines fs).0 (h (s.tells ∙ t))
 told_as old mid addr lines (Err e) s h = tt
 
-lacking_is : (r : Result (Vec NativeFrame Global) SymbolFault) → answer_of r ≡ Err NoBinary → IsErrOf r NoBinary
+lacking_is : (r : Result (Vec NativeFrame Global) SymbolFault) → answer_listed r ≡ Err NoBinary → IsErrOf r NoBinary
 lacking_is (Ok v) e = cc
 lacking_is (Err f) e = let same : f ≡ NoBinary = cc in ap Err same
 
@@ -82,14 +82,14 @@ by_held (Some f) answer k h = held_is f answer k h
 
 answered : (old mid : SymbolsSeen) (python : ℕ → Bool) {held after : HeldFrames} (addr : ℕ) (inside : Bool) (r : Result (Vec NativeFrame Global) SymbolFault)
     → SymbolsStay old mid → inside ≡ python addr → (IsErrOf r NoBinary → mid.lacks addr)
-    → IfSome (lookup (nat_eq addr) held.entries) (λ f. IsHeldAnswer f (answer_of r))
-    → (lookup (nat_eq addr) held.entries ≡ None → IsToldAnswer mid addr (not inside) (answer_of r))
-    → IsAfter held after addr (answer_of r) → HasRoom (answer_of r)
-    → IsAnswered old python held addr (answer_of r) after
+    → IfSome (lookup (nat_eq addr) held.entries) (λ f. IsHeldAnswer f (answer_listed r))
+    → (lookup (nat_eq addr) held.entries ≡ None → IsToldAnswer mid addr (not inside) (answer_listed r))
+    → IsAfter held after addr (answer_listed r) → HasRoom (answer_listed r)
+    → IsAnswered old python held addr (answer_listed r) after
 answered old mid python {held} {after} addr inside r s e l h t k room = record {
   lacking = λ x. (s.lacks addr).0 (l (lacking_is r x));
-  cached = by_held (lookup (nat_eq addr) held.entries) (answer_of r) room h;
-  told = λ n. subst (λ b. IsToldAnswer old addr b (answer_of r)) (ap not e) (told_as old mid addr (not inside) (answer_of r) s (t n));
+  cached = by_held (lookup (nat_eq addr) held.entries) (answer_listed r) room h;
+  told = λ n. subst (λ b. IsToldAnswer old addr b (answer_listed r)) (ap not e) (told_as old mid addr (not inside) (answer_listed r) s (t n));
   kept = k;
   room = room;
 }
@@ -112,15 +112,15 @@ pub merging_more : {old mid new : SymbolsSeen} {before between sources : Sources
     → Merging old mid before between python frames held kept (take i addrs) made at
     → (IsErrOf r NoBinary → mid.lacks (get_or addrs i 0)) → (IsErrOf r Failed → Rose mid.faults new.faults)
     → SymbolsStay mid new
-    → IfSome (lookup (nat_eq (get_or addrs i 0)) kept.entries) (λ f. IsHeldAnswer f (answer_of r))
-    → (lookup (nat_eq (get_or addrs i 0)) kept.entries ≡ None → IsToldAnswer mid (get_or addrs i 0) (not inside) (answer_of r))
-    → IsAfter kept keeps (get_or addrs i 0) (answer_of r) → HasRoom (answer_of r)
-    → GathersMore between.exists frames (answer_items inside (get_or addrs i 0) (answer_of r)) made at after next
+    → IfSome (lookup (nat_eq (get_or addrs i 0)) kept.entries) (λ f. IsHeldAnswer f (answer_listed r))
+    → (lookup (nat_eq (get_or addrs i 0)) kept.entries ≡ None → IsToldAnswer mid (get_or addrs i 0) (not inside) (answer_listed r))
+    → IsAfter kept keeps (get_or addrs i 0) (answer_listed r) → HasRoom (answer_listed r)
+    → GathersMore between.exists frames (answer_items inside (get_or addrs i 0) (answer_listed r)) made at after next
     → Stay between sources
     → Merging old new before sources python frames held keeps (take (i + 1) addrs) after next
 merging_more {old} {mid} {new} {before} {between} {sources} {python} {frames} {made} {after} {held} {kept} {keeps} {at} {next} addrs i inside r lt e m l f s h t k room g stay =
     let addr : ℕ = get_or addrs i 0 in
-    let answer : Answer = answer_of r in
+    let answer : Answer = answer_listed r in
     let one : IsAnswered old python kept addr answer keeps = answered old mid python addr inside r m.symbols e l h t k room in
     let on : GathersMore before.exists frames (answer_items (python addr) addr answer) made at after next
     = subst (λ x. GathersMore x frames (answer_items (python addr) addr answer) made at after next) m.stay.exists

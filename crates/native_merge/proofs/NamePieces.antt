@@ -1,7 +1,7 @@
 -- The pieces of a name, one after another.
 use Rattle.std.proofs.Common.{◌≡◌, ℕ, suc, ◌+◌, true, false, not, cond, List, [], ◌∷◌, take, drop, refl, sym, ◌∙◌, ap, arith}
 use Rattle.std.specs.List.{prefix_len}
-use Rattle.native_merge.specs.FunctionKinds.{is_gap, is_inner, onto_piece, grown, pieces, head_of, tail_of, kind_by, kind_of, behind_gap, first_piece, behind_first}
+use Rattle.native_merge.specs.FunctionKinds.{is_gap, is_inner, onto_piece, grown, pieces, head_of, tail_of, kind_by_two, kind_by_pieces, behind_gap, first_piece, behind_first}
 
 abbrev BeginsInner : List ℕ → Type 0
 BeginsInner [] = Unit {0}
@@ -53,6 +53,6 @@ head_of_pieces text = ap head_of (pieces_behind text) ∙ first_from (behind_gap
 pub tail_of_pieces : (text : List ℕ) → tail_of (pieces text) ≡ pieces (behind_first text)
 tail_of_pieces text = ap tail_of (pieces_behind text) ∙ rest_from (behind_gap text) (gap_begins text)
 
-pub kind_by_firsts : (text : List ℕ) → kind_of (pieces text) ≡ kind_by (first_piece text) (first_piece (behind_first text))
-kind_by_firsts text = ap (λ p. kind_by p (head_of (tail_of (pieces text)))) (head_of_pieces text)
-    ∙ ap (kind_by (first_piece text)) (ap head_of (tail_of_pieces text) ∙ head_of_pieces (behind_first text))
+pub kind_by_firsts : (text : List ℕ) → kind_by_pieces (pieces text) ≡ kind_by_two (first_piece text) (first_piece (behind_first text))
+kind_by_firsts text = ap (λ p. kind_by_two p (head_of (tail_of (pieces text)))) (head_of_pieces text)
+    ∙ ap (kind_by_two (first_piece text)) (ap head_of (tail_of_pieces text) ∙ head_of_pieces (behind_first text))

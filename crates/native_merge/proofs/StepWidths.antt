@@ -3,13 +3,13 @@ use Rattle.std.proofs.Common.{◌≡◌, ℕ, zero, suc, ◌+◌, ◌-◌, ◌�
 use Rattle.std.specs.List.{position_or_len}
 use Rattle.py_stacks.specs.declared.trace.Frame.{Frame}
 use Rattle.py_stacks.specs.Frames.{call_of}
-use Rattle.native_merge.specs.StackParts.{width}
+use Rattle.native_merge.specs.StackParts.{step_len}
 use Rattle.native_merge.specs.PythonFrames.{calls, is_marked, ends_part}
 use Rattle.native_merge.specs.Gathered.{width_at, taken_at}
 
-pub width-calls : (fs : List Frame) → width ends_part (calls fs) ≡ width is_marked fs
-width-calls [] = refl
-width-calls (f ∷ fs) = let e = width-calls fs in (elim (is_marked f) as (λ b. cond (not b) (1 + position_or_len ends_part (calls fs)) 0 + 1 ≡ cond (not b) (1 + position_or_len is_marked fs) 0 + 1) [
+pub step_len-calls : (fs : List Frame) → step_len ends_part (calls fs) ≡ step_len is_marked fs
+step_len-calls [] = refl
+step_len-calls (f ∷ fs) = let e = step_len-calls fs in (elim (is_marked f) as (λ b. cond (not b) (1 + position_or_len ends_part (calls fs)) 0 + 1 ≡ cond (not b) (1 + position_or_len is_marked fs) 0 + 1) [
   | true ↦ refl
   | false ↦ omega arith
 ])
@@ -24,8 +24,8 @@ take-calls zero fs = refl
 take-calls (suc n) [] = refl
 take-calls (suc n) (f ∷ fs) = ap (λ l. call_of f ∷ l) (take-calls n fs)
 
-pub width_at_is : (fs : List Frame) (at : ℕ) → width_at fs at ≡ width is_marked (drop at fs)
-width_at_is fs at = ap (width ends_part) (drop-calls at fs) ∙ width-calls (drop at fs)
+pub width_at_is : (fs : List Frame) (at : ℕ) → width_at fs at ≡ step_len is_marked (drop at fs)
+width_at_is fs at = ap (step_len ends_part) (drop-calls at fs) ∙ step_len-calls (drop at fs)
 
 -- no more can be taken than there is
 take_capped : {X : Type 0} (n k : ℕ) (xs : List X) → k ≡ min n (length xs) → take k xs ≡ take n xs
@@ -35,11 +35,11 @@ take_capped (suc n) zero (x ∷ xs) e = absurd (omega arith)
 take_capped (suc n) (suc k) (x ∷ xs) e = ap (λ l. x ∷ l) (take_capped n k xs (omega arith))
 
 -- what a step takes is the slice from its place to its end, or to that of all frames
-pub taken_at_is : (fs : List Frame) (at end : ℕ) → at ≤ length fs → end ≡ min (at + width is_marked (drop at fs)) (length fs)
+pub taken_at_is : (fs : List Frame) (at end : ℕ) → at ≤ length fs → end ≡ min (at + step_len is_marked (drop at fs)) (length fs)
     → calls (take (end - at) (drop at fs)) ≡ taken_at fs at
 taken_at_is fs at end h e =
-    let short : end - at ≡ min (width is_marked (drop at fs)) (length (drop at fs)) = omega (arith, length-drop at fs) in
-    ap calls (take_capped (width is_marked (drop at fs)) (end - at) (drop at fs) short)
-    ∙ sym (take-calls (width is_marked (drop at fs)) (drop at fs))
+    let short : end - at ≡ min (step_len is_marked (drop at fs)) (length (drop at fs)) = omega (arith, length-drop at fs) in
+    ap calls (take_capped (step_len is_marked (drop at fs)) (end - at) (drop at fs) short)
+    ∙ sym (take-calls (step_len is_marked (drop at fs)) (drop at fs))
     ∙ ap (λ w. take w (calls (drop at fs))) (sym (width_at_is fs at))
     ∙ ap (take (width_at fs at)) (sym (drop-calls at fs))

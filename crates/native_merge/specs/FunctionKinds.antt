@@ -42,8 +42,8 @@ abbrev pub kind_by_first : List ℕ → FunctionKind
 kind_by_first piece = if is_shown_alone piece then Native else LeftOut
 
 -- what a frame is, by the first and the second piece of its function's name
-abbrev pub kind_by : List ℕ → List ℕ → FunctionKind
-kind_by first second = if bytes_eq first (codes "PyEval")
+abbrev pub kind_by_two : List ℕ → List ℕ → FunctionKind
+kind_by_two first second = if bytes_eq first (codes "PyEval")
     then (if is_evaluation second then Step else LeftOut) else kind_by_first first
 
 -- the first of some pieces; nothing, which is no name, where there is none
@@ -55,13 +55,13 @@ abbrev pub tail_of : List (List ℕ) → List (List ℕ)
 tail_of [] = []
 tail_of (p ∷ ps) = ps
 
-abbrev pub kind_of : List (List ℕ) → FunctionKind
-kind_of ps = kind_by (head_of ps) (head_of (tail_of ps))
+abbrev pub kind_by_pieces : List (List ℕ) → FunctionKind
+kind_by_pieces ps = kind_by_two (head_of ps) (head_of (tail_of ps))
 
 -- what a frame of a function is; one whose function is not known is left out
 abbrev pub function_kind : Option (List ℕ) → FunctionKind
 function_kind None = LeftOut
-function_kind (Some function) = kind_of (pieces (encode_utf8_all function))
+function_kind (Some function) = kind_by_pieces (pieces (encode_utf8_all function))
 
 -- ---- the first piece, by what stands in front of it and behind it
 

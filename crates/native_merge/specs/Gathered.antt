@@ -4,7 +4,7 @@ use Rattle.std.specs.List.{AllZip}
 use Rattle.py_stacks.specs.declared.trace.Frame.{Frame}
 use Rattle.py_stacks.specs.Frames.{Call}
 use Rattle.outside.specs.Counts.{count_after}
-use Rattle.native_merge.specs.StackParts.{cursor, width}
+use Rattle.native_merge.specs.StackParts.{cursor, step_len}
 use Rattle.native_merge.specs.PythonFrames.{calls, ends_part}
 use Rattle.native_merge.specs.MergedStacks.{StackItem, interleaved, step_count}
 use Rattle.native_merge.specs.NativesShown.{NativeItem, ShowsFrame}
@@ -15,7 +15,7 @@ capped n = count_after 0 n
 
 -- how far a step from a place goes on, and what it takes
 abbrev pub width_at : List Frame → ℕ → ℕ
-width_at frames at = width ends_part (drop at (calls frames))
+width_at frames at = step_len ends_part (drop at (calls frames))
 
 abbrev pub taken_at : List Frame → ℕ → List Call
 taken_at frames at = take (width_at frames at) (drop at (calls frames))

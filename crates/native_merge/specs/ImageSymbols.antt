@@ -8,7 +8,7 @@ use Rattle.image_memory.specs.Mmap.{Mapped, shown_bytes}
 use Rattle.maps_text.specs.declared.entry.MapsEntry.{MapsEntry}
 use Rattle.normalize_core.specs.FileOffsets.{file_offset_at}
 use Rattle.normalize_core.specs.Order.{in_order}
-use Rattle.covering_symbols.specs.Covering.{AreImageSymbols, Covering, address_of_place, name_at}
+use Rattle.covering_symbols.specs.Covering.{AreImageSymbols, Covering, address_of_place, symbol_name_at}
 use Rattle.native_merge.specs.declared.native_frame.NativeFrame.{NativeFrame}
 use Rattle.native_merge.specs.Symbols.{SymbolsSeen}
 
@@ -17,16 +17,16 @@ pub record FilesMapped : Type 0 where
   pub entries : List MapsEntry
   pub images : Pushed
 
-abbrev pub files_of : List MapsEntry → Pushed → FilesMapped
-files_of entries images = record { entries = entries; images = images }
+abbrev pub files_mapped : List MapsEntry → Pushed → FilesMapped
+files_mapped entries images = record { entries = entries; images = images }
 
 -- the file and the place there that an address is normalized to; none where normalizing refuses the entries
-abbrev pub place_of : List MapsEntry → ℕ → Option (List ℕ × ℕ)
-place_of entries addr = if in_order entries then file_offset_at entries addr else None
+abbrev pub normal_place : List MapsEntry → ℕ → Option (List ℕ × ℕ)
+normal_place entries addr = if in_order entries then file_offset_at entries addr else None
 
 -- an address lies at a place of a file whose image is handed in and is an ELF file that is accepted
 pub record IsAtFile (files : FilesMapped) (addr : ℕ) (path : List ℕ) (place : ℕ) (bytes : List ℕ) : Type 0 where
-  pub at : place_of files.entries addr ≡ Some (path, place)
+  pub at : normal_place files.entries addr ≡ Some (path, place)
   pub image : Mapped
   pub under : first_under path files.images ≡ Some image
   pub shows : bytes ≡ shown_bytes image
@@ -36,7 +36,7 @@ pub record IsAtFile (files : FilesMapped) (addr : ℕ) (path : List ℕ) (place 
 abbrev pub IsNameAt : List ℕ → Option ℕ → Option (List ℕ) → Type 0
 IsNameAt bytes None name = name ≡ None
 IsNameAt bytes (Some a) name = (symbols : List SymbolEntry) × AreImageSymbols bytes symbols
-    × ((found : Option ℕ) × Covering symbols a found × (name ≡ name_at symbols found))
+    × ((found : Option ℕ) × Covering symbols a found × (name ≡ symbol_name_at symbols found))
 
 -- the name of the function that covers the place of a file
 abbrev pub IsNameOfPlace : List ℕ → ℕ → Option (List ℕ) → Type 0

@@ -18,8 +18,8 @@ pub record HeldSymbols : Type 0 where
   pub faults : ℕ
 
 -- addresses and frames that are held, as lists
-abbrev pub answers_of : List (ℕ × Vec NativeFrame Global) → List (ℕ × List NativeFrame)
-answers_of answers = map (λ a. (a.0, a.1.items)) answers
+abbrev pub answers_held : List (ℕ × Vec NativeFrame Global) → List (ℕ × List NativeFrame)
+answers_held answers = map (λ a. (a.0, a.1.items)) answers
 
 -- the frames of an address; its first answer counts
 abbrev pub held_frames : List (ℕ × List NativeFrame) → ℕ → Option (List NativeFrame)
@@ -57,7 +57,8 @@ symbol_faults faults (Ok _) = faults
 symbol_faults faults (Err fault) = symbol_faults_with faults fault
 
 -- what a call with this answer leaves
-pub record HasAnswered {T : Type 0} (old : HeldSymbols) (answer : Result T SymbolFault) (new : HeldSymbols) : Type 0 where
+pub record HasAnswered {T : Type 0} (old : HeldSymbols) (answer : Result T SymbolFault)
+    (new : HeldSymbols) : Type 0 where
   pub answers : new.answers ≡ old.answers
   pub failing : new.failing ≡ old.failing
   pub calls : new.calls ≡ count_after old.calls 1

@@ -49,7 +49,8 @@ pub record IsAnswered (seen : SymbolsSeen) (python : ℕ → Bool) (held : HeldF
   pub room : HasRoom answer
 
 -- the answers for addresses, one for each, in order, and the cache before them and after them
-pub data AreAnswered (seen : SymbolsSeen) (python : ℕ → Bool) : HeldFrames → List ℕ → List Answer → HeldFrames → Type 0 where
+pub data AreAnswered (seen : SymbolsSeen) (python : ℕ → Bool)
+    : HeldFrames → List ℕ → List Answer → HeldFrames → Type 0 where
   NoMore : {held : HeldFrames} → AreAnswered seen python held [] [] held
   More : {held mid after : HeldFrames} {addr : ℕ} {answer : Answer} {addrs : List ℕ} {answers : List Answer}
       → IsAnswered seen python held addr answer mid → AreAnswered seen python mid addrs answers after
@@ -69,7 +70,8 @@ failed_count answers = count_by is_failed answers
 unfoldable pub all_items : (ℕ → Bool) → List ℕ → List Answer → List (StackItem NativeItem)
 all_items python [] answers = []
 all_items python (addr ∷ addrs) [] = []
-all_items python (addr ∷ addrs) (answer ∷ answers) = answer_items (python addr) addr answer ++ all_items python addrs answers
+all_items python (addr ∷ addrs) (answer ∷ answers) =
+    answer_items (python addr) addr answer ++ all_items python addrs answers
 
 -- ---- the answer of a merge
 
@@ -100,7 +102,8 @@ EachOnce = (fs : List Call) (is : List (StackItem NativeItem))
     → IfOk (merged ends_part fs is) (λ ms. (pythons ms ≡ fs) × (natives ms ≡ natives_in is))
 
 -- where all that is held is told, so are the answers, also those that are held
-pub record AllTold (seen : SymbolsSeen) (python : ℕ → Bool) (addrs : List ℕ) (answers : List Answer) (after : HeldFrames) : Type 0 where
+pub record AllTold (seen : SymbolsSeen) (python : ℕ → Bool) (addrs : List ℕ) (answers : List Answer)
+    (after : HeldFrames) : Type 0 where
   pub told : AllZip (λ addr answer. IsToldAnswer seen addr (has_lines python addr) answer) addrs answers
   pub known : AreKnown seen (has_lines python) after
 

@@ -31,7 +31,8 @@ holds_piece piece (c ∷ cs) = starts_with nat_eq (c ∷ cs) piece || holds_piec
 -- functions of the C library in which a process or a thread begins
 abbrev pub is_thread_start : List ℕ → List ℕ → Bool
 is_thread_start function module_name =
-    ((bytes_eq function (codes "__libc_start_main") || bytes_eq function (codes "__clone")) && holds_piece (codes "/libc") module_name)
+    ((bytes_eq function (codes "__libc_start_main") || bytes_eq function (codes "__clone"))
+    && holds_piece (codes "/libc") module_name)
     || (bytes_eq function (codes "start_thread") && holds_piece (codes "/libpthread") module_name)
 
 abbrev pub is_dropped_function : List ℕ → List ℕ → Bool
@@ -92,7 +93,8 @@ native_call name file held line = record {
 -- a native frame is shown as this call
 pub record ShowsNative (exists : List ℕ → Bool) (f : NativeFrame) (call : Call) : Type 0 where
   pub name : IsNameOf f.addr f.function call.name
-  pub others : call ≡ native_call call.name (file_of_native exists f f.function) (Some f.«module») (line_of_native f f.function)
+  pub others : call ≡ native_call call.name (file_of_native exists f f.function) (Some f.«module»)
+      (line_of_native f f.function)
 
 -- the call of an address that can't be looked up
 abbrev pub fault_call : ℕ → Call
@@ -115,10 +117,10 @@ judged f IsNative = items_shown f
 judged f IsLeftOut = []
 
 -- what a frame adds, at an address of Python's and at any other
-unfoldable pub items_at : Bool → NativeFrame → List (StackItem NativeItem)
-items_at python f = if python then judged f (function_kind f.function) else items_shown f
+unfoldable pub items_met : Bool → NativeFrame → List (StackItem NativeItem)
+items_met python f = if python then judged f (function_kind f.function) else items_shown f
 
 -- what the answer for an address adds
 unfoldable pub answer_items : Bool → ℕ → Answer → List (StackItem NativeItem)
-answer_items python addr (Ok fs) = flat_map (items_at python) fs
+answer_items python addr (Ok fs) = flat_map (items_met python) fs
 answer_items python addr (Err e) = Shown (OfFault addr) ∷ []

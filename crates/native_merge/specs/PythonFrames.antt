@@ -13,8 +13,8 @@ is_marked f = f.is_entry || f.is_shim_entry
 abbrev pub ends_part : Call → Bool
 ends_part c = c.is_entry || c.is_shim_entry
 
-abbrev pub locals_of : Option (Vec LocalVariable Global) → Option (List LocalVariable)
-locals_of o = option_map (λ (v : Vec LocalVariable Global). v.items) o
+abbrev pub locals_listed : Option (Vec LocalVariable Global) → Option (List LocalVariable)
+locals_listed o = option_map (λ (v : Vec LocalVariable Global). v.items) o
 
 -- what frames say of their calls
 abbrev pub calls : List Frame → List Call

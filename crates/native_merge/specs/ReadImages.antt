@@ -15,7 +15,8 @@ pub record IsReadOfBytes (bytes : List ℕ) (read : ReadImage) : Type 0 where
 
 -- they are those of the image under its path
 abbrev pub IsReadOf : Pushed → ReadImage → Type 0
-IsReadOf images read = (image : Mapped) → first_under read.path.now images ≡ Some image → IsReadOfBytes (shown_bytes image) read
+IsReadOf images read = (image : Mapped) → first_under read.path.now images ≡ Some image
+    → IsReadOfBytes (shown_bytes image) read
 
 -- a path is that of an image that was read
 abbrev pub is_read_under : List ℕ → ReadImage → Bool

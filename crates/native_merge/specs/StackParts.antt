@@ -16,5 +16,5 @@ module _ {F : Type 0} (is_marked : F → Bool) where
   cursor (suc k) (f ∷ fs) = suc (cursor (if is_marked f then k else suc k) fs)
 
   -- how many stand up to and with the next marked one; one past the end where there is none
-  abbrev pub width : List F → ℕ
-  width fs = position_or_len is_marked fs + 1
+  abbrev pub step_len : List F → ℕ
+  step_len fs = position_or_len is_marked fs + 1

@@ -5,27 +5,27 @@ use Rattle.lru.specs.LruCache.{LruCache, lru_cache, promoted, put_entries}
 use Rattle.native_merge.specs.declared.native_frame.NativeFrame.{NativeFrame}
 use Rattle.native_merge.specs.declared.symbol_fault.SymbolFault.{SymbolFault}
 use Rattle.native_merge.specs.declared.symbol_fault.SymbolFault.TheVariants.{OutOfMemory}
-use Rattle.native_merge.specs.Symbols.{SymbolsSeen, IsTold}
+use Rattle.native_merge.specs.Symbols.{SymbolsSeen, IsAsTold}
 
 -- what is answered for an address
 abbrev pub Answer : Type 0
 Answer = Result (List NativeFrame) SymbolFault
 
-abbrev pub answer_of : Result (Vec NativeFrame Global) SymbolFault → Answer
-answer_of (Ok v) = Ok v.items
-answer_of (Err e) = Err e
+abbrev pub answer_listed : Result (Vec NativeFrame Global) SymbolFault → Answer
+answer_listed (Ok v) = Ok v.items
+answer_listed (Err e) = Err e
 
 -- a frame for each of some addresses, the newest first
 abbrev pub HeldFrames : Type 0
 HeldFrames = LruCache ℕ NativeFrame
 
 -- a frame is kept under an address, or nothing is
-abbrev pub IsKept : HeldFrames → HeldFrames → ℕ → NativeFrame → Type 0
-IsKept old new addr f = (new ≡ old) ⊎ (new ≡ lru_cache (put_entries nat_eq old addr f) old.cap)
+abbrev pub MayKeep : HeldFrames → HeldFrames → ℕ → NativeFrame → Type 0
+MayKeep old new addr f = (new ≡ old) ⊎ (new ≡ lru_cache (put_entries nat_eq old addr f) old.cap)
 
 -- what is held for an address is the one frame that is told for it, with lines or without
 pub record AreKnown (seen : SymbolsSeen) (lines : ℕ → Bool) (held : HeldFrames) : Type 0 where
-  pub each : (addr : ℕ) (f : NativeFrame) → Contains held.entries (addr, f) → IsTold seen addr (lines addr) (f ∷ [])
+  pub each : (addr : ℕ) (f : NativeFrame) → Contains held.entries (addr, f) → IsAsTold seen addr (lines addr) (f ∷ [])
 
 -- the answer for an address that is held: the frame, or there was no memory
 abbrev pub IsHeldAnswer : NativeFrame → Answer → Type 0
@@ -46,5 +46,5 @@ IsAfter old new addr answer = (new ≡ old) ⊎ (new ≡ lru_cache (promoted (na
 
 -- an answer is what is told for an address; an error tells nothing
 abbrev pub IsToldAnswer : SymbolsSeen → ℕ → Bool → Answer → Type 0
-IsToldAnswer seen addr lines (Ok fs) = IsTold seen addr lines fs
+IsToldAnswer seen addr lines (Ok fs) = IsAsTold seen addr lines fs
 IsToldAnswer seen addr lines (Err e) = Unit {0}

@@ -14,14 +14,15 @@ pub record SymbolsSeen : Type 1 where
 pub record SymbolsStay (before now : SymbolsSeen) : Type 0 where
   pub lacks : (addr : ℕ) → now.lacks addr ↔ before.lacks addr
   pub tells : now.tells ≡ before.tells
-  pub gives : (addr : ℕ) (lines : Bool) (frames : List NativeFrame) → now.gives addr lines frames ↔ before.gives addr lines frames
+  pub gives : (addr : ℕ) (lines : Bool) (frames : List NativeFrame)
+      → now.gives addr lines frames ↔ before.gives addr lines frames
   pub faults : before.faults ≤ now.faults
 
 -- these frames are the answer for an address, where answers are told
-abbrev pub IsTold : SymbolsSeen → ℕ → Bool → List NativeFrame → Type 0
-IsTold seen addr lines frames = seen.tells ≡ true → seen.gives addr lines frames
+abbrev pub IsAsTold : SymbolsSeen → ℕ → Bool → List NativeFrame → Type 0
+IsAsTold seen addr lines frames = seen.tells ≡ true → seen.gives addr lines frames
 
 -- where answers are told, an address has one alone, with lines and without
-abbrev pub TellsOnce : SymbolsSeen → Type 0
-TellsOnce seen = seen.tells ≡ true → (addr : ℕ) (lines : Bool) (frames others : List NativeFrame)
+abbrev pub AnswersOnce : SymbolsSeen → Type 0
+AnswersOnce seen = seen.tells ≡ true → (addr : ℕ) (lines : Bool) (frames others : List NativeFrame)
     → seen.gives addr lines frames → seen.gives addr lines others → frames ≡ others

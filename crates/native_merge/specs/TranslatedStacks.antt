@@ -44,7 +44,8 @@ calls_in (Err e) = Err e
 
 -- The answer is that of the frames merged with the native ones, put in the files that they come from
 pub record IsMergedStack (old new : SymbolsSeen) (seen now : SourcesSeen) (python : ℕ → Bool) (frames : List Frame)
-    (addrs : List ℕ) (held after : HeldFrames) (kept keeps : Kept) (answer : Result (List Frame) MergeError) : Type 0 where
+    (addrs : List ℕ) (held after : HeldFrames) (kept keeps : Kept)
+    (answer : Result (List Frame) MergeError) : Type 0 where
   pub before : Result (List Frame) MergeError
   pub mid : SourcesSeen
   pub stay : Stay seen mid

@@ -1,7 +1,7 @@
 //! Copies of Python frames.
 ghost use Rattle.std.specs.Prelude.{◌≡◌, IfOk};
 ghost use Rattle.py_stacks.specs.Frames.{call_of};
-ghost use Rattle.native_merge.specs.PythonFrames.{locals_of};
+ghost use Rattle.native_merge.specs.PythonFrames.{locals_listed};
 
 use crate::copies::copy_text;
 use py_stacks::{Frame, LocalVariable};
@@ -34,7 +34,7 @@ fn copy_locals(
     alloc: Global,
     locals: &Option<Vec<LocalVariable>>,
 ) -> Result<Option<Vec<LocalVariable>>, AllocError>
-    ensures { IfOk result (λ copies. locals_of copies ≡ locals_of locals.now) }
+    ensures { IfOk result (λ copies. locals_listed copies ≡ locals_listed locals.now) }
 {
     match locals {
         Some(locals) => Ok(Some(copy_all(alloc, locals)?)),

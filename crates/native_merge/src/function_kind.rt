@@ -1,7 +1,7 @@
 //! What a frame of Python's own native code is.
 ghost use Rattle.std.specs.Prelude.{◌≡◌};
 ghost use Rattle.std.specs.List.{prefix_len};
-ghost use Rattle.native_merge.specs.FunctionKinds.{behind_first, first_piece, function_kind, is_evaluation, is_gap, is_inner, is_shown_alone, kind_by_first, kind_of, pieces};
+ghost use Rattle.native_merge.specs.FunctionKinds.{behind_first, first_piece, function_kind, is_evaluation, is_gap, is_inner, is_shown_alone, kind_by_first, kind_by_pieces, pieces};
 
 use elf64_core::Text;
 
@@ -90,7 +90,7 @@ fn kind_by_first(piece: &[u8]) -> FunctionKind
 
 /// What a frame is, by the pieces of its function's name.
 fn kind_by_name(name: &[u8]) -> FunctionKind
-    ensures { result ≡ kind_of (pieces name.now) }
+    ensures { result ≡ kind_by_pieces (pieces name.now) }
 {
     let (first, rest) = first_piece(name);
     if first == b"PyEval".as_slice() {

@@ -3,9 +3,9 @@ ghost use Rattle.std.specs.Prelude.{◌≡◌, IfOk, IfErr, OnOk};
 ghost use Rattle.std.specs.List.{flat_map};
 ghost use Rattle.native_merge.specs.Gathered.{GathersMore};
 ghost use Rattle.native_merge.specs.Merges.{HasRoom};
-ghost use Rattle.native_merge.specs.NativesShown.{answer_items, items_at, items_shown};
+ghost use Rattle.native_merge.specs.NativesShown.{answer_items, items_met, items_shown};
 ghost use Rattle.native_merge.specs.Sources.{Stay};
-ghost use Rattle.native_merge.specs.SymbolCaches.{answer_of};
+ghost use Rattle.native_merge.specs.SymbolCaches.{answer_listed};
 
 use crate::function_kind::{FunctionKind, function_kind};
 use crate::natives_shown::{fault_frame, is_dropped, shown_frame};
@@ -48,7 +48,7 @@ fn add_native<F: Sources>(
     made: &mut Vec<Frame>,
 ) -> Result<u64, MergeError>
     ensures more { IfOk result (λ next. GathersMore (F.seen sources.old).exists frames.now
-        (items_at is_python native.now) made.old.items cursor made.new.items next) }
+        (items_met is_python native.now) made.old.items cursor made.new.items next) }
     ensures refused { IfErr result (λ error. error ≡ MergeError.OutOfMemory) }
     ensures stay { Stay (F.seen sources.old) (F.seen sources.new) }
 {
@@ -80,7 +80,7 @@ fn add_natives<F: Sources>(
     made: &mut Vec<Frame>,
 ) -> Result<u64, MergeError>
     ensures more { IfOk result (λ next. GathersMore (F.seen sources.old).exists frames.now
-        (flat_map (items_at is_python) natives.now) made.old.items cursor made.new.items next) }
+        (flat_map (items_met is_python) natives.now) made.old.items cursor made.new.items next) }
     ensures refused { IfErr result (λ error. error ≡ MergeError.OutOfMemory) }
     ensures stay { Stay (F.seen sources.old) (F.seen sources.new) }
 {
@@ -102,9 +102,9 @@ pub(crate) fn add_answer<F: Sources>(
     cursor: u64,
     made: &mut Vec<Frame>,
 ) -> Result<u64, MergeError>
-    ensures room { OnOk result (HasRoom (answer_of answer)) }
+    ensures room { OnOk result (HasRoom (answer_listed answer)) }
     ensures more { IfOk result (λ next. GathersMore (F.seen sources.old).exists frames.now
-        (answer_items is_python addr (answer_of answer)) made.old.items cursor made.new.items next) }
+        (answer_items is_python addr (answer_listed answer)) made.old.items cursor made.new.items next) }
     ensures refused { IfErr result (λ error. error ≡ MergeError.OutOfMemory) }
     ensures stay { Stay (F.seen sources.old) (F.seen sources.new) }
 {

@@ -1,8 +1,8 @@
 //! What native addresses show by the files that a process had mapped.
 ghost use Rattle.std.specs.Prelude.{◌≡◌, IfOk, IsErrOf};
 ghost use Rattle.outside.specs.Counts.{Rose};
-ghost use Rattle.native_merge.specs.ImageSymbols.{files_of, image_seen};
-ghost use Rattle.native_merge.specs.Symbols.{IsTold, SymbolsStay, TellsOnce};
+ghost use Rattle.native_merge.specs.ImageSymbols.{files_mapped, image_seen};
+ghost use Rattle.native_merge.specs.Symbols.{IsAsTold, SymbolsStay, AnswersOnce};
 
 use crate::read_images::{ReadImage, file_at, name_of, native_at};
 use crate::{NativeFrame, SymbolFault, Symbolicator};
@@ -28,12 +28,12 @@ pub struct ImageSymbolicator<'a> {
 impl<'a> Model for ImageSymbolicator<'a> {
     ghost use Rattle.std.specs.Prelude.{All, ◌≡◌};
     ghost use Rattle.normalize_core.specs.Order.{in_order as are_in_order};
-    ghost use Rattle.native_merge.specs.ImageSymbols.{FilesMapped, files_of};
+    ghost use Rattle.native_merge.specs.ImageSymbols.{FilesMapped, files_mapped};
     ghost use Rattle.native_merge.specs.ReadImages.{IsReadOf};
 
     ghost Value = { FilesMapped };
 
-    ghost view = { λ s. files_of s.entries.now s.images.now };
+    ghost view = { λ s. files_mapped s.entries.now s.images.now };
 
     ghost invariant = { λ s. (s.in_order ≡ are_in_order s.entries.now) × All (IsReadOf s.images.now) s.read.items };
 }
@@ -42,7 +42,7 @@ impl<'a> ImageSymbolicator<'a> {
     /// Over these entries, relevant or not, and these images, each under its path less a final ` (deleted)`. Whether
     /// the entries stand in order is tested here, once.
     pub fn new(alloc: Global, entries: &'a [MapsEntry], images: &'a Images) -> ImageSymbolicator<'a>
-        ensures { result ≡ files_of entries.now images.now }
+        ensures { result ≡ files_mapped entries.now images.now }
     {
         ImageSymbolicator {
             entries,
@@ -68,9 +68,10 @@ impl<'a> Symbolicator for ImageSymbolicator<'a> {
         line_info: bool,
     ) -> Result<Vec<NativeFrame>, SymbolFault>
         ensures no_binary { IsErrOf result SymbolFault.NoBinary → (image_seen self.old).lacks addr }
-        ensures failed { IsErrOf result SymbolFault.Failed → Rose (image_seen self.old).faults (image_seen self.new).faults }
-        ensures frames { IfOk result (λ frames. IsTold (image_seen self.old) addr line_info frames.items) }
-        ensures once { TellsOnce (image_seen self.old) }
+        ensures failed { IsErrOf result SymbolFault.Failed
+            → Rose (image_seen self.old).faults (image_seen self.new).faults }
+        ensures frames { IfOk result (λ frames. IsAsTold (image_seen self.old) addr line_info frames.items) }
+        ensures once { AnswersOnce (image_seen self.old) }
         ensures stay { SymbolsStay (image_seen self.old) (image_seen self.new) }
 
         // nothing is counted, and nothing of the files changes

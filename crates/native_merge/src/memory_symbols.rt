@@ -2,8 +2,8 @@
 ghost use Rattle.std.specs.Prelude.{◌≡◌, ◌≢◌, IfOk, IfErr, IsErrOf, MatchResult, Ok, Err, None, option_map};
 ghost use Rattle.outside.specs.Counts.{Rose};
 ghost use Rattle.outside.specs.Files.{is_listed};
-ghost use Rattle.native_merge.specs.MemorySymbols.{HasAnswered, HeldSymbols, answers_of, held_answer, held_frames, symbols_seen, unasked_symbols};
-ghost use Rattle.native_merge.specs.Symbols.{IsTold, SymbolsStay, TellsOnce};
+ghost use Rattle.native_merge.specs.MemorySymbols.{HasAnswered, HeldSymbols, answers_held, held_answer, held_frames, symbols_seen, unasked_symbols};
+ghost use Rattle.native_merge.specs.Symbols.{IsAsTold, SymbolsStay, AnswersOnce};
 
 use crate::copies::copy_natives;
 use crate::{NativeFrame, SymbolFault, Symbolicator};
@@ -26,7 +26,7 @@ impl Model for MemorySymbols {
     ghost Value = { HeldSymbols };
 
     ghost view = { λ m. record {
-      answers = answers_of m.answers.items;
+      answers = answers_held m.answers.items;
       failing = m.failing.items;
       calls = m.calls;
       faults = m.faults;
@@ -43,7 +43,7 @@ impl MemorySymbols {
         answers: Vec<(u64, Vec<NativeFrame>)>,
         failing: Vec<u64>,
     ) -> MemorySymbols
-        ensures { result ≡ unasked_symbols (answers_of answers.items) failing.items }
+        ensures { result ≡ unasked_symbols (answers_held answers.items) failing.items }
     {
         MemorySymbols {
             answers,
@@ -56,7 +56,7 @@ impl MemorySymbols {
 
 /// The frames of an address.
 fn find(answers: &[(u64, Vec<NativeFrame>)], addr: u64) -> Option<&[NativeFrame]>
-    ensures { option_map (λ frames. frames.now) result ≡ held_frames (answers_of answers.now) addr }
+    ensures { option_map (λ frames. frames.now) result ≡ held_frames (answers_held answers.now) addr }
 {
     let mut rest = answers;
     while let [answer, after @ ..] = rest {
@@ -96,8 +96,8 @@ impl Symbolicator for MemorySymbols {
     ) -> Result<Vec<NativeFrame>, SymbolFault>
         ensures no_binary { IsErrOf result SymbolFault.NoBinary → (symbols_seen self.old).lacks addr }
         ensures failed { IsErrOf result SymbolFault.Failed → Rose self.old.faults self.new.faults }
-        ensures frames { IfOk result (λ frames. IsTold (symbols_seen self.old) addr line_info frames.items) }
-        ensures once { TellsOnce (symbols_seen self.old) }
+        ensures frames { IfOk result (λ frames. IsAsTold (symbols_seen self.old) addr line_info frames.items) }
+        ensures once { AnswersOnce (symbols_seen self.old) }
         ensures stay { SymbolsStay (symbols_seen self.old) (symbols_seen self.new) }
 
         // all that changes, and the answer where there is memory

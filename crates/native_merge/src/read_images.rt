@@ -6,8 +6,8 @@ ghost use Rattle.image_memory.specs.Images.{first_under};
 ghost use Rattle.image_memory.specs.Mmap.{Mapped, shown_bytes};
 ghost use Rattle.normalize_core.specs.FileOffsets.{file_offset_shown};
 ghost use Rattle.normalize_core.specs.Order.{in_order};
-ghost use Rattle.covering_symbols.specs.Covering.{Covering, name_at};
-ghost use Rattle.native_merge.specs.ImageSymbols.{IsAtFile, IsNameOfPlace, files_of, image_frame, place_of};
+ghost use Rattle.covering_symbols.specs.Covering.{Covering, symbol_name_at};
+ghost use Rattle.native_merge.specs.ImageSymbols.{IsAtFile, IsNameOfPlace, files_mapped, image_frame, normal_place};
 ghost use Rattle.native_merge.specs.ReadImages.{IsImageUnder, IsReadOf, IsReadOfBytes, is_read_under};
 ghost use Rattle.bstr.specs.Utf8.{lossy_chars};
 ghost use Rattle.std.specs.List.{find};
@@ -38,9 +38,9 @@ pub(crate) struct FilePlace<'a> {
 }
 
 /// The file and the place there that an address is normalized to.
-fn place_of(entries: &[MapsEntry], are_in_order: bool, addr: u64) -> Option<FileOffset<'_>>
+fn normal_place(entries: &[MapsEntry], are_in_order: bool, addr: u64) -> Option<FileOffset<'_>>
     requires { are_in_order ≡ in_order entries.now }
-    ensures { file_offset_shown result ≡ place_of entries.now addr }
+    ensures { file_offset_shown result ≡ normal_place entries.now addr }
 {
     if !are_in_order {
         return None;
@@ -68,10 +68,11 @@ pub(crate) fn file_at<'a>(
 ) -> Option<FilePlace<'a>>
     requires { are_in_order ≡ in_order entries.now }
     ensures { MatchOption result
-        ((path : List ℕ) (place : ℕ) (bytes : List ℕ) → IsAtFile (files_of entries.now images.now) addr path place bytes → ⊥)
-        (λ file. IsAtFile (files_of entries.now images.now) addr file.path.now file.offset file.elf) }
+        ((path : List ℕ) (place : ℕ) (bytes : List ℕ)
+        → IsAtFile (files_mapped entries.now images.now) addr path place bytes → ⊥)
+        (λ file. IsAtFile (files_mapped entries.now images.now) addr file.path.now file.offset file.elf) }
 {
-    let place = place_of(entries, are_in_order, addr)?;
+    let place = normal_place(entries, are_in_order, addr)?;
     let elf = elf_under(images, place.path)?;
     Some(FilePlace {
         path: place.path,
@@ -100,8 +101,9 @@ fn read_image<'a>(
 
 /// The name of the function that covers an address.
 fn name_in<'a>(read: &ReadImage<'a>, addr: u128) -> Option<&'a [u8]>
-    ensures { (symbols : List SymbolEntry) → symbols ≡ map symbol_entry_of read.now.symbols.items → IsTableOf symbols read.now.functions
-        → (found : Option ℕ) × Covering symbols addr found × (option_copied result ≡ name_at symbols found) }
+    ensures { (symbols : List SymbolEntry) → symbols ≡ map symbol_entry_of read.now.symbols.items
+        → IsTableOf symbols read.now.functions
+        → (found : Option ℕ) × Covering symbols addr found × (option_copied result ≡ symbol_name_at symbols found) }
 {
     let number = read.functions.covering(addr)?;
     let symbol = read.symbols.get(number)?;
@@ -110,7 +112,8 @@ fn name_in<'a>(read: &ReadImage<'a>, addr: u128) -> Option<&'a [u8]>
 
 /// The name of the function that covers a place in a file, by what was read of the file.
 fn name_at<'a>(read: &ReadImage<'a>, place: &FilePlace<'_>) -> Option<&'a [u8]>
-    ensures { IsReadOfBytes place.now.elf read.now → IsNameOfPlace place.now.elf place.now.offset (option_copied result) }
+    ensures { IsReadOfBytes place.now.elf read.now
+        → IsNameOfPlace place.now.elf place.now.offset (option_copied result) }
 {
     let addr = address_of_offset(&place.elf, place.offset)?;
     name_in(read, addr)

@@ -2,7 +2,7 @@
 ghost use Rattle.std.specs.Prelude.{◌≡◌, ◌+◌, ◌≤◌, ◌++◌, ◌<◌, ◌^◌, length, drop, IfOk, IfErr, OnOk};
 ghost use Rattle.native_merge.specs.Gathered.{capped, taken_at, width_at};
 ghost use Rattle.native_merge.specs.PythonFrames.{calls, is_marked};
-ghost use Rattle.native_merge.specs.StackParts.{width};
+ghost use Rattle.native_merge.specs.StackParts.{step_len};
 
 use crate::MergeError;
 use crate::frame_copies::copy_frame;
@@ -19,7 +19,7 @@ fn is_marked(frame: &Frame) -> bool
 /// The place behind the next marked frame from a place on; one past the end where none is left.
 fn step_end(frames: &[Frame], from: usize) -> usize
     requires { from ≤ length frames.now }
-    ensures { result ≡ from + width is_marked (drop from frames.now) }
+    ensures { result ≡ from + step_len is_marked (drop from frames.now) }
 {
     let mut at = from;
     while at < frames.len() {

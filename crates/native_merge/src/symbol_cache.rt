@@ -2,8 +2,8 @@
 ghost use Rattle.std.specs.Prelude.{◌≡◌, ℕ, Bool, true, [], ◌∷◌, nat_eq, not, IfOk, IfErr, IfSome, IsErrOf, None, option_map};
 ghost use Rattle.std.specs.Map.{lookup};
 ghost use Rattle.outside.specs.Counts.{Rose};
-ghost use Rattle.native_merge.specs.SymbolCaches.{AreKnown, IsAfter, IsHeldAnswer, IsKept, alone, answer_of, frames_of, IsToldAnswer};
-ghost use Rattle.native_merge.specs.Symbols.{SymbolsStay, TellsOnce};
+ghost use Rattle.native_merge.specs.SymbolCaches.{AreKnown, IsAfter, IsHeldAnswer, MayKeep, alone, answer_listed, frames_of, IsToldAnswer};
+ghost use Rattle.native_merge.specs.Symbols.{SymbolsStay, AnswersOnce};
 
 use crate::copies::copy_native;
 use crate::{NativeFrame, SymbolFault, Symbolicator};
@@ -30,7 +30,7 @@ fn only(alloc: Global, native: &NativeFrame) -> Result<Vec<NativeFrame>, SymbolF
 
 /// Keeps a frame under its address; where there is no memory nothing is kept, and the cache stays as it was.
 fn keep(alloc: Global, cache: &mut SymbolCache, addr: u64, native: &NativeFrame)
-    ensures { IsKept cache.old cache.new addr native.now }
+    ensures { MayKeep cache.old cache.new addr native.now }
 {
     if let Ok(copy) = copy_native(alloc, native) {
         let _kept = cache.put(addr, copy);
@@ -65,10 +65,10 @@ pub(crate) fn ask<S: Symbolicator>(
     ensures no_binary { IsErrOf result SymbolFault.NoBinary → (S.seen symbols.old).lacks addr }
     ensures failed { IsErrOf result SymbolFault.Failed → Rose (S.seen symbols.old).faults (S.seen symbols.new).faults }
     ensures stay { SymbolsStay (S.seen symbols.old) (S.seen symbols.new) }
-    ensures held { IfSome (lookup (nat_eq addr) cache.old.entries) (λ native. IsHeldAnswer native (answer_of result)) }
-    ensures after { IsAfter cache.old cache.new addr (answer_of result) }
+    ensures held { IfSome (lookup (nat_eq addr) cache.old.entries) (λ native. IsHeldAnswer native (answer_listed result)) }
+    ensures after { IsAfter cache.old cache.new addr (answer_listed result) }
     ensures given { lookup (nat_eq addr) cache.old.entries ≡ None
-        → IsToldAnswer (S.seen symbols.old) addr line_info (answer_of result) }
+        → IsToldAnswer (S.seen symbols.old) addr line_info (answer_listed result) }
 {
     if let Some(natives) = held(alloc, cache, addr)? {
         cache.promote(&addr);

@@ -1,7 +1,7 @@
 //! What native addresses show.
 ghost use Rattle.std.specs.Prelude.{IfOk, IsErrOf};
 ghost use Rattle.outside.specs.Counts.{Rose};
-ghost use Rattle.native_merge.specs.Symbols.{IsTold, SymbolsSeen, SymbolsStay, TellsOnce};
+ghost use Rattle.native_merge.specs.Symbols.{IsAsTold, SymbolsSeen, SymbolsStay, AnswersOnce};
 
 use crate::{NativeFrame, SymbolFault};
 use std::alloc::Global;
@@ -28,7 +28,7 @@ pub trait Symbolicator {
     ) -> Result<Vec<NativeFrame>, SymbolFault>
         ensures no_binary { IsErrOf result SymbolFault.NoBinary → (seen self.old).lacks addr }
         ensures failed { IsErrOf result SymbolFault.Failed → Rose (seen self.old).faults (seen self.new).faults }
-        ensures frames { IfOk result (λ frames. IsTold (seen self.old) addr line_info frames.items) }
-        ensures once { TellsOnce (seen self.old) }
+        ensures frames { IfOk result (λ frames. IsAsTold (seen self.old) addr line_info frames.items) }
+        ensures once { AnswersOnce (seen self.old) }
         ensures stay { SymbolsStay (seen self.old) (seen self.new) };
 }
