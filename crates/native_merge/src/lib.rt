@@ -1,7 +1,11 @@
-//! Native frames: what their names and files are.
+//! Native frames: what they show, and native stacks merged with Python frames.
+//!
+//! A native address shows frames by a symbolicator: here by the images of a process's files, or by answers in memory.
+//! Python frames stand in the place of the interpreter's steps on a native stack.
 //!
 //! Cython turns Python code into C. Its functions have names that it has made longer, and its C files tell in
-//! comments which line of a `.pyx` file each piece comes from. Here the names are cut back to what was written.
+//! comments which line of a `.pyx` file each piece comes from. Here the names are cut back to what was written, and
+//! frames of such C files are put where Cython's code stands.
 #![tactic(auto)]
 
 mod copies;
