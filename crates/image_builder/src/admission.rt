@@ -7,7 +7,7 @@ ghost use Rattle.image_builder.specs.Refusals.{IsBuildable, IsUnbuilt};
 use crate::BuildError;
 use crate::covered::is_covered;
 use elf64_core::Machine;
-use memory_builder::{Program, first_invalid, family_of, objects_size};
+use memory_builder::{Program, family_of, first_invalid, objects_size};
 use py_fields::Layout;
 use py_version::Version;
 use std::alloc::Global;

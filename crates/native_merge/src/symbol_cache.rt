@@ -65,7 +65,8 @@ pub(crate) fn ask<S: Symbolicator>(
     ensures no_binary { IsErrOf result SymbolFault.NoBinary → (S.seen symbols.old).lacks addr }
     ensures failed { IsErrOf result SymbolFault.Failed → Rose (S.seen symbols.old).faults (S.seen symbols.new).faults }
     ensures stay { SymbolsStay (S.seen symbols.old) (S.seen symbols.new) }
-    ensures held { IfSome (lookup (nat_eq addr) cache.old.entries) (λ native. IsHeldAnswer native (answer_listed result)) }
+    ensures held { IfSome (lookup (nat_eq addr) cache.old.entries)
+        (λ native. IsHeldAnswer native (answer_listed result)) }
     ensures after { IsAfter cache.old cache.new addr (answer_listed result) }
     ensures given { lookup (nat_eq addr) cache.old.entries ≡ None
         → IsToldAnswer (S.seen symbols.old) addr line_info (answer_listed result) }

@@ -78,8 +78,8 @@ fn read_interpreters<P: ProcessMemory>(
 }
 
 /// The interpreters of a process, each with its threads as far as their chain goes, each of these with its frames as
-/// far as theirs goes: what `find_interpreters` finds and `get_threads_front` says of each, where 4,194,304 members may be
-/// met in all.
+/// far as theirs goes: what `find_interpreters` finds and `get_threads_front` says of each, where 4,194,304 members may
+/// be met in all.
 ///
 /// The one error is want of memory.
 pub fn get_fronts<M: ContainsAddr, P: ProcessMemory>(
