@@ -1,22 +1,22 @@
 -- The program of a seed can be written, with the line tables of each family.
-use Rattle.std.proofs.Common.{◌≡◌, ◌∙◌, ◌≢◌, ◌+◌, ◌-◌, ◌*◌, ◌%◌, ◌<◌, ◌≤◌, ◌^◌, ◌⊎◌, ℕ, zero, suc, List, [], ◌∷◌, ◌++◌, length, take, get_or, refl, sym, ap, subst, inl, inr, arith, length-append, lit≤}
+use Rattle.std.proofs.Common.{◌≡◌, ◌∙◌, ◌≢◌, ◌+◌, ◌-◌, ◌*◌, ◌%◌, ◌<◌, ◌≤◌, ◌^◌, ◌⊎◌, ℕ, zero, suc, List, [], ◌∷◌, ◌++◌, length, take, get_or, true, refl, sym, ap, subst, inl, inr, arith, length-append, lit≤}
 use Rattle.std.specs.Prelude.{Option, Some, None, IfSome, slice_get, codes, encode_utf8_all, ℤ, pos, ◌-ℤ◌, ◌≤ℤ◌}
 use Rattle.std.specs.List.{AllByRecursion}
 use Rattle.std.specs.Fmt.{decimal}
-use Rattle.std.specs.Str.{IsAscii}
+use Rattle.std.specs.Str.{IsAscii, all_scalars}
 use Rattle.std.proofs.lemmas.Bool.{cases_lt}
 use Rattle.std.proofs.lemmas.Fmt.{IsAscii-decimal, length-decimal-le_succ}
 use Rattle.std.proofs.lemmas.Int.{ints}
 use Rattle.std.proofs.lemmas.List.{take-append-le, take-append-drop}
 use Rattle.std.proofs.lemmas.Option.{slice_get_past}
-use Rattle.std.proofs.lemmas.Str.{encodes-IsAscii, IsAscii-append}
+use Rattle.std.proofs.lemmas.Str.{chars-IsAscii, encodes-IsAscii, scalars-chars, IsAscii-append, IsUtf8-from_ascii}
 use Rattle.std.proofs.lemmas.Str.Ascii.{IsAscii-cons, IsAscii-nil}
 use Rattle.py_lines.specs.declared.lines.LineFamily.{LineFamily}
 use Rattle.py_lines.specs.declared.lines.LineFamily.TheVariants.{Pairs, Ranges, Locations}
 use Rattle.py_lines.specs.declared.lines.LineRange.{LineRange}
 use Rattle.py_lines.specs.Coding.{coded, coded_behind, covered_by, first_unordered, repeated, runs_bytes, runs_of}
 use Rattle.memory_builder.specs.Program.{Frame, Local, Thread}
-use Rattle.memory_builder.specs.Validity.{HasValidLocals, IsBriefText, IsCodable, IsShownFile, IsValidAt, IsValidCall, IsValidFrame, IsValidIn, IsValidlyNamed, IsValidlyPlaced, IsValidProgram, IsValidRange, IsValidThread, IsValidWhole}
+use Rattle.memory_builder.specs.Validity.{HasValidLocals, IsBriefText, IsCodable, IsPositiveLine, IsShownFile, IsValidAt, IsValidCall, IsValidFrame, IsValidIn, IsValidlyNamed, IsValidlyPlaced, IsValidProgram, IsValidRange, IsValidThread, IsValidWhole}
 use Rattle.image_builder.specs.Generated.{each, frame_count, frame_of, generated, locals_in, name_number, ranges_in, thread_of}
 use Rattle.image_builder.proofs.Each.{each_none}
 use Rattle.image_builder.proofs.EachAt.{all_each, get_each, length_each, take_each}
@@ -24,7 +24,7 @@ use Rattle.image_builder.proofs.EachAt.{all_each, get_each, length_each, take_ea
 -- ---- texts
 
 brief_ascii : (text : List ℕ) → IsAscii text → length text < 4096 → IsBriefText text
-brief_ascii text ascii small = record { chars = small; bytes = omega (arith, small, ap length (encodes-IsAscii text ascii)) }
+brief_ascii text ascii small = record { scalars = subst (λ (cs : List ℕ). all_scalars cs ≡ true) (chars-IsAscii text ascii) (scalars-chars text (IsUtf8-from_ascii text ascii)); chars = small; bytes = omega (arith, small, ap length (encodes-IsAscii text ascii)) }
 
 letter : (c : ℕ) (rest : List ℕ) → c < 128 → IsAscii rest → IsAscii (c ∷ rest)
 letter c rest small ascii = IsAscii-cons c rest small ascii
@@ -115,10 +115,16 @@ codable family t j =
 named : (seed t j : ℕ) → j < 16 → IsValidlyNamed (frame_of seed t j)
 named seed t j small = record { name = name_brief (name_number seed t j) (omega arith); filename = file_brief j small; shown = file_shown j }
 
-placed : (seed t j : ℕ) → IsValidlyPlaced (frame_of seed t j)
-placed seed t j = record {
-  first = omega (arith, ints);
-  ranges = (record { even = refl; line = omega (arith, ints) }, (record { even = refl; line = omega (arith, ints) }, (record { even = refl; line = omega (arith, ints) }, tt)));
+good_line : (n : ℕ) → 1 ≤ n → n < 2 ^ 31 → IsPositiveLine (pos n)
+good_line n low high = record { positive = omega (arith, ints); fits = omega (arith, ints) }
+
+placed : (seed t j : ℕ) → j < 16 → IsValidlyPlaced (frame_of seed t j)
+placed seed t j small = record {
+  first = good_line (1 + j) (omega arith) (omega arith);
+  ranges = (
+    record { even = refl; line = good_line (1 + j) (omega arith) (omega arith) },
+    (record { even = refl; line = good_line (2 + j) (omega arith) (omega arith) }, (record { even = refl; line = good_line (3 + j + t % 7) (omega arith) (omega arith) }, tt)),
+  );
   even = refl;
   inside = refl;
 }
@@ -136,7 +142,7 @@ locals seed t j few small = record {
 frame_valid : (family : LineFamily) (seed t j : ℕ) → t < 256 → j < 16 → IsValidFrame family (frame_of seed t j)
 frame_valid family seed t j few small = record {
   named = named seed t j small;
-  placed = placed seed t j;
+  placed = placed seed t j small;
   locals = locals seed t j few small;
   codable = codable family t j;
 }
@@ -158,6 +164,7 @@ thread_valid : (family : LineFamily) (seed t frame : ℕ) → t < 256 → IsVali
 thread_valid family seed t frame few = record {
   thread = λ first. record {
     positive = omega arith;
+    fits = omega (arith, few);
     new = subst (λ (ts : List Thread). AllByRecursion (λ (other : Thread). other.id ≢ (thread_of seed t).id) ts) (sym (take_each (thread_of seed) 256 t (omega (arith, few)))) (new_id seed t);
     few = omega (arith, length_each (frame_of seed t) (frame_count seed t));
   };
