@@ -1,7 +1,9 @@
 //! Programs that are laid into memory, as the readers of stacks read them.
+ghost use Rattle.py_fields.specs.Sound.{IsSound};
+
 use crate::{
-    Program, ProgramFrame, ProgramItem, ProgramLocal, ProgramThread, ProgramValue, laid_program,
-    objects_size,
+    Program, ProgramFrame, ProgramItem, ProgramLocal, ProgramThread, ProgramValue, family_of,
+    first_invalid, laid_program, objects_size,
 };
 use elf64_core::Text;
 use process_memory::{Part, Piece};
@@ -13,6 +15,9 @@ use std::test::Fail;
 
 /// Where the objects stand.
 const START: u64 = 0x60_0000;
+
+/// More bytes than the objects of a test take.
+const LONGEST: u64 = 0x100_0000;
 
 /// What is read of them.
 const WANT: &str = "[32512] f:300 0 -1 1073741824 1152921504606846975 \
@@ -44,6 +49,7 @@ fn frame(
     alloc: Global,
     name: &str,
     offset: u32,
+    args: u32,
     locals: Vec<ProgramLocal>,
 ) -> Result<ProgramFrame, Fail> {
     let mut ranges = Vec::new(alloc);
@@ -60,7 +66,7 @@ fn frame(
         first: 3,
         ranges,
         offset,
-        args: 2.min(locals.len() as u32),
+        args,
         locals,
     })
 }
@@ -68,10 +74,10 @@ fn frame(
 /// Three threads, of which one has no frames and another one has two.
 fn program(alloc: Global) -> Result<Program, Fail> {
     let mut frames = Vec::new(alloc);
-    frames.push(frame(alloc, "f", 4, locals(alloc)?)?)?;
-    frames.push(frame(alloc, "<module>", 6, Vec::new(alloc))?)?;
+    frames.push(frame(alloc, "f", 4, 2, locals(alloc)?)?)?;
+    frames.push(frame(alloc, "<module>", 6, 0, Vec::new(alloc))?)?;
     let mut last = Vec::new(alloc);
-    last.push(frame(alloc, "g", 0, Vec::new(alloc))?)?;
+    last.push(frame(alloc, "g", 0, 0, Vec::new(alloc))?)?;
     let mut threads = Vec::new(alloc);
     threads.push(ProgramThread { id: 32512, frames })?;
     threads.push(ProgramThread {
@@ -117,13 +123,28 @@ fn text_of(alloc: Global, traces: &[StackTrace]) -> Result<String, Fail> {
     Ok(text)
 }
 
+/// The bytes of a program that can be written, and how many its objects are said to take.
+fn laid(alloc: Global, program: &Program, layout: &Layout) -> Result<(Vec<u8>, u64), Fail>
+    requires { IsSound layout.now }
+{
+    match first_invalid(alloc, program, family_of(layout.lines))? {
+        Some(_) => return Err(Fail::from("it can't be written")),
+        None => {}
+    }
+    let size = objects_size(alloc, program, layout)?;
+    if size > LONGEST {
+        return Err(Fail::from("it is too long"));
+    }
+    let bytes = laid_program(alloc, program, layout, START)?;
+    Ok((bytes, size))
+}
+
 #[test]
 fn what_is_laid_is_read(rt: HostRuntime) -> Result<(), Fail> {
     let alloc = rt.alloc();
     let layout = Layout::sample();
     let program = program(alloc)?;
-    let bytes = laid_program(alloc, &program, &layout, START)?;
-    let size = objects_size(alloc, &program, &layout)?;
+    let (bytes, size) = laid(alloc, &program, &layout)?;
     assert!(rt; bytes.len() as u64 == size);
     let mut pieces = Vec::new(alloc);
     pieces.push(Piece {

@@ -1,10 +1,9 @@
 //! Programs that can't be written, and how much those that can take; worked out by hand.
 use crate::{
     FramePlace, Program, ProgramFrame, ProgramItem, ProgramLocal, ProgramThread, ProgramValue,
-    first_invalid, objects_size,
+    first_invalid,
 };
 use elf64_core::Text;
-use py_fields::Layout;
 use py_lines::{LineFamily, LineRange};
 use std::alloc::Global;
 use std::test::Fail;
@@ -222,18 +221,5 @@ fn texts_and_lists_are_bounded(rt: HostRuntime) -> Result<(), Fail> {
             "{chars} {count}"
         );
     }
-    Ok(())
-}
-
-#[test]
-fn sizes_are_summed(rt: HostRuntime) -> Result<(), Fail> {
-    let alloc = rt.alloc();
-    let layout = Layout::sample();
-    let program = two_threads(alloc, GOOD, 8, GOOD)?;
-    // The interpreter of 24 bytes, three types of 48 with their names; a thread of 64 bytes, and in it two frames: the
-    // record of 64 bytes, code of 64, a table of 34, a tuple of 32, texts of 72, and a local's name and number.
-    let shared = 32 + 3 * (48 + 128);
-    let frame = 64 + 64 + 48 + 32 + 80 + 80 + 80 + 32;
-    assert!(rt; objects_size(alloc, &program, &layout)? == shared + 2 * (64 + 2 * frame));
     Ok(())
 }
