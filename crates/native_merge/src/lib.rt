@@ -18,8 +18,6 @@ mod frame_copies;
 mod function_kind;
 mod gathered;
 mod image_symbolicator;
-#[cfg(test)]
-mod image_tests;
 mod memory_sources;
 mod memory_symbols;
 mod merge;
