@@ -367,7 +367,7 @@ class Groups(Case):
             self.assertEqual((status, out), (2, b""), said)
 
     def test_prepared(self):
-        # (what is a core no more than in its front half is prepared, and has another name)
+        # (a core that is cut is prepared, and has another name; its file table stood in what was cut off)
         data = core_file([mapped(0x1000, self.python), mapped(0x2000, data=bytes(0x2000))])
         cores = self.cores(data, data[:-0x1000], b"none")
         if os.path.isfile(PROGRAM):
@@ -375,7 +375,8 @@ class Groups(Case):
             line = "    {}: bad image: " + os.fsdecode(self.python) + "\n"
             names = [os.fsdecode(it) for it in cores]
             none = f"    {names[2]}: not an ELF64 little-endian file\n"
-            wanted = "Refused: 3\n" + line.format(names[0]) + line.format(names[1]) + none
+            cut = f"    {names[1]}: no named executable map\n"
+            wanted = "Refused: 3\n" + line.format(names[0]) + cut + none
             self.assertEqual((status, out.decode()), (0, wanted), said)
 
 
