@@ -2,10 +2,17 @@
 use Rattle.std.proofs.Common.{◌≡◌, ◌<◌, List, [], ◌∷◌, length, None, refl, arith}
 use Rattle.std.specs.Prelude.{String}
 use Rattle.std.specs.Global.{Global}
-use Rattle.core_words.specs.Words.{reach_words, texts}
+use Rattle.core_words.specs.Words.{merge_words, reach_words, texts}
 
 pub not_three : (words : List (String Global)) → length words < 3 → reach_words (texts words) ≡ None
 not_three [] lt = refl
 not_three (a ∷ []) lt = refl
 not_three (a ∷ b ∷ []) lt = refl
 not_three (a ∷ b ∷ c ∷ words) lt = absurd (omega (arith, lt))
+
+pub not_four : (words : List (String Global)) → length words < 4 → merge_words (texts words) ≡ None
+not_four [] lt = refl
+not_four (a ∷ []) lt = refl
+not_four (a ∷ b ∷ []) lt = refl
+not_four (a ∷ b ∷ c ∷ []) lt = refl
+not_four (a ∷ b ∷ c ∷ d ∷ words) lt = absurd (omega (arith, lt))

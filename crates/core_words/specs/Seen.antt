@@ -8,9 +8,10 @@ use Rattle.core_words.specs.declared.walk.WalkWords.{WalkWords}
 use Rattle.core_words.specs.declared.walk.LayoutSource.{LayoutSource}
 use Rattle.core_words.specs.declared.walk.LayoutSource.TheVariants.{Sample, File}
 use Rattle.core_words.specs.declared.command.Command.{Command}
-use Rattle.core_words.specs.declared.command.Command.TheVariants.{Walk, Dump as Dumped, Triage as Grouped, Reach as Reached}
+use Rattle.core_words.specs.declared.command.Command.TheVariants.{Walk, Dump as Dumped, Triage as Grouped, Reach as Reached, Merge as Merged}
 use Rattle.core_words.specs.declared.dump.DumpWords.{DumpWords}
 use Rattle.core_words.specs.declared.triage.TriageWords.{TriageWords}
+use Rattle.core_words.specs.declared.merge.MergeWords.{MergeWords}
 use Rattle.core_words.specs.declared.reach.ReachWords.{ReachWords}
 
 abbrev pub asked_version : Release → Version
@@ -37,8 +38,18 @@ asked_triage t = record { layouts = t.layouts.now; cores = words.texts t.cores.n
 abbrev pub asked_reach : ReachWords → words.Reach
 asked_reach r = record { core = r.core.now; layouts = r.layouts.now; index = r.index; images = r.images.items }
 
+abbrev pub asked_merge : MergeWords → words.Merge
+asked_merge m = record {
+  core = m.core.now;
+  layouts = m.layouts.now;
+  index = m.index;
+  addresses = m.addresses.now;
+  images = m.images.items;
+}
+
 abbrev pub asked_command : Command → words.Command
 asked_command (Walk w) = words.walk (asked_walk w)
 asked_command (Dumped d) = words.dump (asked_dump d)
 asked_command (Grouped t) = words.triage (asked_triage t)
 asked_command (Reached r) = words.reach (asked_reach r)
+asked_command (Merged m) = words.merge (asked_merge m)

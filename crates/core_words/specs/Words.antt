@@ -65,12 +65,21 @@ pub record Reach : Type 0 where
   pub index : ℕ
   pub images : List (List ℕ × List ℕ)
 
+-- a thread of a core merged with the native addresses of a file, by a layout file and images so
+pub record Merge : Type 0 where
+  pub core : List ℕ
+  pub layouts : List ℕ
+  pub index : ℕ
+  pub addresses : List ℕ
+  pub images : List (List ℕ × List ℕ)
+
 -- what words ask for
 pub data Command : Type 0 where
   walk : Walk → Command
   dump : Dump → Command
   triage : Triage → Command
   reach : Reach → Command
+  merge : Merge → Command
 
 -- a walk of these parts, where all are there
 abbrev pub walk_by : List ℕ → LayoutSource → Option Version → Option ℕ → Option ℕ → Option Walk
@@ -110,6 +119,22 @@ abbrev pub reach_words : List (List ℕ) → Option Reach
 reach_words (core ∷ layouts ∷ index ∷ words) = reach_by core layouts (word_number index) words
 reach_words _ = None
 
+abbrev pub merge_by : List ℕ → List ℕ → Option ℕ → List ℕ → List (List ℕ) → Option Merge
+merge_by core layouts None addresses words = None
+merge_by core layouts (Some index) addresses words = option_map (λ images. record {
+  core = core;
+  layouts = layouts;
+  index = index;
+  addresses = addresses;
+  images = images;
+}) (images_of words)
+
+-- CORE LAYOUTS INDEX ADDRESSES [PATH=FILE]..
+abbrev pub merge_words : List (List ℕ) → Option Merge
+merge_words (core ∷ layouts ∷ index ∷ addresses ∷ words) =
+    merge_by core layouts (word_number index) addresses words
+merge_words _ = None
+
 -- the command's name, and then its words
 abbrev pub command_of : List (List ℕ) → Option Command
 command_of [] = None
@@ -117,6 +142,7 @@ command_of (name ∷ words) =
     if bytes_eq name (codes "walk") then option_map (λ w. walk w) (walk_words words) else
     if bytes_eq name (codes "triage") then option_map (λ t. triage t) (triage_words words) else
     if bytes_eq name (codes "reach") then option_map (λ r. reach r) (reach_words words) else
+    if bytes_eq name (codes "merge") then option_map (λ m. merge m) (merge_words words) else
     option_map (λ d. dump d) (dump_words (name ∷ words))
 
 -- no command names more than 4096 cores to be put in groups
@@ -135,6 +161,7 @@ kept_files (walk w) = w.core ∷ source_files w.layouts
 kept_files (dump d) = d.core ∷ d.layouts ∷ map (λ image. image.1) d.images
 kept_files (triage t) = t.layouts ∷ map (λ image. image.1) t.images
 kept_files (reach r) = r.core ∷ r.layouts ∷ map (λ image. image.1) r.images
+kept_files (merge m) = m.core ∷ m.layouts ∷ (map (λ image. image.1) m.images ++ m.addresses ∷ [])
 
 -- the names of those that are read in its work, one at a time
 abbrev pub later_files : Command → List (List ℕ)
@@ -142,6 +169,7 @@ later_files (walk w) = []
 later_files (dump d) = []
 later_files (triage t) = t.cores
 later_files (reach r) = []
+later_files (merge m) = []
 
 -- all the files that a command names, in the order in which they are read
 abbrev pub files_of : Command → List (List ℕ)

@@ -4,6 +4,7 @@
 mod args_error;
 mod command;
 mod dump;
+mod merge;
 mod numbers;
 mod reach;
 mod taken;
@@ -13,6 +14,7 @@ mod walk;
 pub use args_error::ArgsError;
 pub use command::{Command, read_words};
 pub use dump::{DumpWords, config_from_args};
+pub use merge::MergeWords;
 pub use numbers::Release;
 pub use reach::ReachWords;
 pub use triage::TriageWords;
