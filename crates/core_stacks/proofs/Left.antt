@@ -17,7 +17,7 @@ use Rattle.image_memory.specs.Images.{Pushed}
 use Rattle.process_memory.specs.Memory.{byte_at}
 use Rattle.py_fields.specs.declared.layout.Layout.{Layout}
 use Rattle.py_process.specs.Findings.{IsFound}
-use Rattle.core_stacks.specs.Opened.{IsFoundIn, IsLeft, Opened, Opens, opened_memory}
+use Rattle.core_stacks.specs.Opened.{opened_first, opened_memory, IsFoundIn, IsLeft, Opened, Opens}
 use Rattle.py_process.proofs.Dumped.{backed_once}
 use Rattle.py_process.proofs.ReportLaws.{found_by}
 use Rattle.core_stacks.proofs.PlainFaults.{Fails, IsPlain, locals_plain, holder_id_plain}
@@ -76,3 +76,8 @@ found_in bytes images layouts (Ok o) h =
           (found_by (byte_at d.pieces) (machine_of bytes) d.maps images layouts o.finding h.finds.is);
     }
 found_in bytes images layouts (Err e) h = tt
+
+pub found_in_pair : {B : Type 0} (bytes : List ℕ) (images : Pushed) (layouts : List Layout) (r : Result (Opened × B) CoreError)
+    → Opens bytes images layouts (opened_first r) → IfOk r (λ opened. IsFoundIn opened.0)
+found_in_pair bytes images layouts (Ok opened) h = found_in bytes images layouts (Ok opened.0) h
+found_in_pair bytes images layouts (Err e) h = tt

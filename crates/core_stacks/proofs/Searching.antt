@@ -25,7 +25,7 @@ use Rattle.py_process.specs.Causes.{cause_of_version}
 use Rattle.py_process.specs.declared.core_error.CoreError.{CoreError}
 use Rattle.py_process.specs.declared.version_error.VersionError.{VersionError}
 use Rattle.core_stacks.specs.Reached.{IsTrialAt, IsTrialBy, Trial, Trying, cost_of, trial_cost}
-use Rattle.core_stacks.specs.Seen.{FindsProcess}
+use Rattle.core_stacks.specs.Seen.{AreBinaries, FindsProcess}
 use Rattle.core_stacks.specs.Sole.{Settles}
 use Rattle.py_process.proofs.Agreement.{then_ok}
 use Rattle.core_stacks.proofs.Steps.{images_fail, images_then, layout_then, maps_fail, maps_then, version_fails, version_then}
@@ -84,6 +84,20 @@ known_finds bytes images layouts pieces maps contains k r memory are says same h
     let known = then_ok (MapsSay maps) (ImagesSay images) k says in
     maps_then bytes (record { maps = maps; pieces = pieces }) images layouts known.0 r (record { are_maps = are; memory = memory }) known.1
     (images_then (byte_at pieces) (byte_at pieces) (machine_of bytes) (machine_of bytes) contains maps images layouts known.0 k r known.2 refl refl same h)
+
+-- what the two images say
+pub known_binaries : (bytes : List ℕ) (images : Pushed) (maps : List CoreMapRange) (k : Known) → AreMaps bytes maps
+    → Then (MapsSay maps) (ImagesSay images) (Ok k) → AreBinaries bytes images k.program k.library
+known_binaries bytes images maps k are says =
+    let known = then_ok (MapsSay maps) (ImagesSay images) k says in
+    record {
+      maps = maps;
+      are_maps = are;
+      mapped = known.0;
+      are_programs = known.1;
+      program_says = known.2.program_says;
+      library_says = known.2.library_says;
+    }
 
 -- or why nothing is known
 pub unknown_finds : (bytes : List ℕ) (images : Pushed) (layouts : List Layout) (pieces : List Region) (maps : List CoreMapRange) (e : CoreError) (r : Result Finding CoreError)

@@ -41,6 +41,11 @@ abbrev pub Opens : List ℕ → Pushed → List Layout → Result Opened CoreErr
 Opens bytes images layouts (Ok o) = IsOpened bytes images layouts o
 Opens bytes images layouts (Err error) = IsUnopened bytes images layouts error
 
+-- what is opened, without the binaries beside it
+abbrev pub opened_first : {B : Type 0} → Result (Opened × B) CoreError → Result Opened CoreError
+opened_first (Ok opened) = Ok opened.0
+opened_first (Err e) = Err e
+
 -- it is of this core alone, with the version and the addresses that were handed in
 pub record IsOpenedAt (bytes : List ℕ) (layouts : List Layout) (version : Version) (addresses : Addresses)
     (o : Opened) : Type 0 where

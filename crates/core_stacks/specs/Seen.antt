@@ -9,12 +9,13 @@ use Rattle.image_memory.specs.declared.maps.CoreMapRange.{CoreMapRange}
 use Rattle.py_fields.specs.declared.layout.Layout.{Layout}
 use Rattle.py_process.specs.Findings.{Finding, FindingIs}
 use Rattle.py_process.specs.Reports.{Dumped, IsDumped, memory_in}
-use Rattle.py_process.specs.Facts.{Known, known_of}
+use Rattle.py_process.specs.Facts.{Facts, Known, known_of}
 use Rattle.py_process.specs.Programs as programs
 use Rattle.py_process.specs.Steps.{Then}
 use Rattle.py_process.specs.declared.process_info.PythonProcessInfo.{PythonProcessInfo}
 use Rattle.py_process.specs.declared.core_error.CoreError.{CoreError}
 use Rattle.core_stacks.specs.declared.found.Found.{Found}
+use Rattle.core_stacks.specs.declared.found.PythonBinaries.{PythonBinaries}
 use Rattle.core_stacks.specs.declared.programs.Programs.{Programs}
 
 abbrev pub programs_now : Programs → programs.Programs
@@ -58,3 +59,18 @@ pub record FindsProcess (bytes : List ℕ) (images : Pushed) (layouts : List Lay
   pub dumped : Dumped
   pub is_dumped : IsDumped bytes images dumped
   pub is : FindingIs (memory_in dumped) (machine_of bytes) dumped.maps images layouts result
+
+-- what is found, without the binaries beside it
+abbrev pub finding_first : Result (Found × PythonBinaries) CoreError → Result Finding CoreError
+finding_first (Ok found) = Ok (finding_of found.0)
+finding_first (Err e) = Err e
+
+-- what the images of the program and of Python's library say, by the maps of a core: nothing where they aren't handed
+-- in, or say nothing
+pub record AreBinaries (bytes : List ℕ) (images : Pushed) (program library : Option Facts) : Type 0 where
+  pub maps : List CoreMapRange
+  pub are_maps : AreMaps bytes maps
+  pub mapped : programs.Programs
+  pub are_programs : programs.ArePrograms maps mapped
+  pub program_says : programs.FactsAre images mapped.program program
+  pub library_says : programs.FactsOf images mapped.library library

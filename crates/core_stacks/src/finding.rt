@@ -1,16 +1,16 @@
 //! What is found of a Python process, by the memory, the maps and the images.
-ghost use Rattle.std.specs.Prelude.{◌^◌, IfOk};
+ghost use Rattle.std.specs.Prelude.{◌^◌, IfOk, option_map};
 ghost use Rattle.image_memory.specs.Backed.{IsBackedMemory, regions_of};
 ghost use Rattle.process_memory.specs.Memory.{byte_at};
 ghost use Rattle.process_memory.specs.Seen.{ReadingBelow};
 ghost use Rattle.py_fields.specs.Sound.{IsSound};
-ghost use Rattle.py_process.specs.Facts.{known_of};
+ghost use Rattle.py_process.specs.Facts.{facts_of, known_of};
 ghost use Rattle.py_process.specs.Findings.{AfterImages, LockSays};
 ghost use Rattle.core_stacks.specs.Reached.{IsTrialBy, Trying};
 ghost use Rattle.core_stacks.specs.Sole.{Settles};
-ghost use Rattle.core_stacks.specs.Seen.{FindsProcess, Knows, finding_in};
+ghost use Rattle.core_stacks.specs.Seen.{AreBinaries, FindsProcess, Knows, finding_first, finding_in};
 
-use crate::found::Found;
+use crate::found::{Found, PythonBinaries};
 use crate::programs::{programs_of, read_images};
 use elf64_core::Machine;
 use image_memory::{BackedDump, ContainsAddr, CoreDump, Images, MapTable};
@@ -96,18 +96,25 @@ pub(crate) fn process_info(
     read_images(alloc, images, maps, &programs)
 }
 
-/// What is found of the process of a core and its images, or the first cause why nothing is.
+/// What is found of the process of a core and its images, with Python's two binaries, or the first cause why nothing is.
 pub(crate) fn find_in_dump(
     alloc: Global,
     dump: &BackedDump,
     images: &Images,
     layouts: &Layouts,
-) -> Result<Found, CoreError>
+) -> Result<(Found, PythonBinaries), CoreError>
     requires { IsBackedMemory dump.now.core images.now (regions_of dump.now) }
-    ensures settles { Settles (FindsProcess dump.now.core images.now layouts.now) (finding_in result) }
-    ensures sound { IfOk result (λ found. IsSound found.layout) }
+    ensures settles { Settles (FindsProcess dump.now.core images.now layouts.now) (finding_first result) }
+    ensures sound { IfOk result (λ found. IsSound found.0.layout) }
+    ensures binaries { IfOk result (λ found. AreBinaries dump.now.core images.now
+        (option_map facts_of found.1.program) (option_map facts_of found.1.library)) }
 {
     let info = process_info(alloc, dump.core(), images)?;
     let mut view = dump.view();
-    find_process(alloc, &info, &mut view, dump.core().machine(), layouts)
+    let found = find_process(alloc, &info, &mut view, dump.core().machine(), layouts)?;
+    let binaries = PythonBinaries {
+        program: info.python_binary,
+        library: info.libpython_binary,
+    };
+    Ok((found, binaries))
 }

@@ -12,5 +12,6 @@ mod reporting;
 mod stacks_in;
 
 pub use core_walk::walk;
+pub use found::PythonBinaries;
 pub use python_core::PythonCoreDump;
 pub use reporting::{report, report_counted};

@@ -1,19 +1,20 @@
 //! A core of a Python process.
-ghost use Rattle.std.specs.Prelude.{◌≡◌, ℕ, IfErr, IfOk, map};
+ghost use Rattle.std.specs.Prelude.{◌≡◌, ℕ, IfErr, IfOk, map, option_map};
 ghost use Rattle.process_memory.specs.Layers.{plain};
 ghost use Rattle.process_memory.specs.Memory.{Memory, byte_at};
 ghost use Rattle.image_memory.specs.Backed.{regions_of};
 ghost use Rattle.py_fields.specs.Sound.{IsSound};
 ghost use Rattle.py_stacks.specs.Threads.{trace_of};
+ghost use Rattle.py_process.specs.Facts.{facts_of};
 ghost use Rattle.py_process.specs.Reports.{StacksSay, traces_in};
 ghost use Rattle.core_stacks.specs.Footprints.{IsFootprint, traces_with};
 ghost use Rattle.core_stacks.specs.Sole.{IsSole, Settles};
-ghost use Rattle.core_stacks.specs.Opened.{IsFoundIn, IsLeft, Opened, Opens, OpensAt, opened_memory};
+ghost use Rattle.core_stacks.specs.Opened.{IsFoundIn, IsLeft, Opened, Opens, OpensAt, opened_first, opened_memory};
 ghost use Rattle.core_stacks.specs.Printing.{IsPrintedBy, IsTextOf};
-ghost use Rattle.core_stacks.specs.Seen.{finding_of};
+ghost use Rattle.core_stacks.specs.Seen.{AreBinaries, finding_of};
 
 use crate::finding::find_in_dump;
-use crate::found::Found;
+use crate::found::{Found, PythonBinaries};
 use crate::printing::text_of_traces;
 use crate::stacks_in::stacks_in;
 use core_texts::PrintError;
@@ -74,12 +75,14 @@ fn open_core(
     core: CoreDump,
     images: &Images,
     layouts: &Layouts,
-) -> Result<PythonCoreDump, CoreError>
-    ensures { Settles (Opens core images.now layouts.now) result }
+) -> Result<(PythonCoreDump, PythonBinaries), CoreError>
+    ensures settles { Settles (Opens core images.now layouts.now) (opened_first result) }
+    ensures binaries { IfOk result (λ opened. AreBinaries core images.now
+        (option_map facts_of opened.1.program) (option_map facts_of opened.1.library)) }
 {
     let dump = BackedDump::new(alloc, core, images)?;
-    let found = find_in_dump(alloc, &dump, images, layouts)?;
-    Ok(PythonCoreDump { alloc, dump, found })
+    let (found, binaries) = find_in_dump(alloc, &dump, images, layouts)?;
+    Ok((PythonCoreDump { alloc, dump, found }, binaries))
 }
 
 impl PythonCoreDump {
@@ -111,6 +114,27 @@ impl PythonCoreDump {
         // so of the errors of `get_stack` and `footprint` few are left
         ensures found { IfOk result IsFoundIn }
     {
+        match open_core(alloc, core, images, layouts) {
+            Ok((process, _)) => Ok(process),
+            Err(error) => Err(error),
+        }
+    }
+
+    /// The same, with what the images of the program and of Python's library say, for whoever asks which addresses are
+    /// Python's. The errors are those of `new`.
+    pub fn with_binaries(
+        alloc: Global,
+        core: CoreDump,
+        images: &Images,
+        layouts: &Layouts,
+    ) -> Result<(PythonCoreDump, PythonBinaries), CoreError>
+        ensures right { Opens core images.now layouts.now (opened_first result) }
+        // what is right is the answer, want of memory aside
+        ensures only { IsSole (Opens core images.now layouts.now) (opened_first result) }
+        ensures found { IfOk result (λ opened. IsFoundIn opened.0) }
+        ensures binaries { IfOk result (λ opened. AreBinaries core images.now
+            (option_map facts_of opened.1.program) (option_map facts_of opened.1.library)) }
+    {
         open_core(alloc, core, images, layouts)
     }
 
@@ -138,6 +162,13 @@ impl PythonCoreDump {
         };
         let dump = BackedDump::new(alloc, core, &Images::new(alloc))?;
         Ok(PythonCoreDump { alloc, dump, found })
+    }
+
+    /// The core.
+    pub fn core(&self) -> &CoreDump
+        ensures { result.now ≡ self.now.core }
+    {
+        self.dump.core()
     }
 
     /// The version of Python that ran: the one that was found, or that was handed in.

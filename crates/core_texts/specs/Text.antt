@@ -71,6 +71,9 @@ frame_line f = codes "    " ++ (encode_utf8_all f.name ++ (codes " ("
 abbrev pub frame_text : Frame → List ℕ
 frame_text f = frame_line f ++ shown_locals f.locals
 
+abbrev pub frames_text : List Frame → List ℕ
+frames_text frames = concat (map (λ f. frame_text f) frames)
+
 -- the line of a thread, with its activity or without
 abbrev pub thread_line : Bool → StackTrace → List ℕ
 thread_line activity t = codes "Thread " ++ (id_text t.os_thread_id t.thread_id ++ (mark_text activity t
@@ -78,7 +81,7 @@ thread_line activity t = codes "Thread " ++ (id_text t.os_thread_id t.thread_id 
 
 -- the line of a thread, and those of its frames
 abbrev pub trace_text : Bool → StackTrace → List ℕ
-trace_text activity t = thread_line activity t ++ concat (map (λ f. frame_text f) t.frames.items)
+trace_text activity t = thread_line activity t ++ frames_text t.frames.items
 
 -- the version, an empty line, and the threads from the last to the first
 abbrev pub walk_text : Version → List StackTrace → List ℕ

@@ -1,10 +1,10 @@
 //! The texts of frames and of their locals.
-ghost use Rattle.std.specs.Prelude.{◌≡◌, ◌++◌, OnOk, encode_utf8_all, string_bytes, unwrap_or};
-ghost use Rattle.core_texts.specs.Text.{frame_line, frame_text, heading_of, line_text, local_text, locals_text, repr_text, shown_locals};
+ghost use Rattle.std.specs.Prelude.{◌≡◌, ◌++◌, IfOk, OnOk, encode_utf8_all, string_bytes, unwrap_or};
+ghost use Rattle.core_texts.specs.Text.{frame_line, frame_text, frames_text, heading_of, line_text, local_text, locals_text, repr_text, shown_locals};
 
 use elf64_core::Text;
 use py_stacks::{Frame, LocalVariable};
-use std::alloc::AllocError;
+use std::alloc::{AllocError, Global};
 
 /// The line of a frame, and those of its locals, where they were asked for.
 pub(crate) fn push_frame(text: &mut String, frame: &Frame) -> Result<(), AllocError>
@@ -12,6 +12,25 @@ pub(crate) fn push_frame(text: &mut String, frame: &Frame) -> Result<(), AllocEr
 {
     push_frame_line(text, frame)?;
     push_shown(text, &frame.locals)
+}
+
+/// The lines of frames, and those of their locals, where they were asked for.
+pub(crate) fn push_frames(text: &mut String, frames: &[Frame]) -> Result<(), AllocError>
+    ensures { OnOk result (string_bytes text.new ≡ string_bytes text.old ++ frames_text frames.now) }
+{
+    for frame in frames {
+        push_frame(text, frame)?;
+    }
+    Ok(())
+}
+
+/// The lines of frames, and those of their locals, where they were asked for. The one error is want of memory.
+pub fn frames_text(alloc: Global, frames: &[Frame]) -> Result<String, AllocError>
+    ensures { IfOk result (λ text. string_bytes text ≡ frames_text frames.now) }
+{
+    let mut text = String::new(alloc);
+    push_frames(&mut text, frames)?;
+    Ok(text)
 }
 
 fn push_frame_line(text: &mut String, frame: &Frame) -> Result<(), AllocError>

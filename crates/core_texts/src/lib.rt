@@ -14,6 +14,7 @@ mod text;
 mod trace;
 
 pub use as_json::report_json;
+pub use frame::frames_text;
 pub use line::{say_line, write_parts};
 pub use part::{Part, Parts, parts};
 pub use part_text::push_parts;

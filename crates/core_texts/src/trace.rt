@@ -4,7 +4,7 @@ ghost use Rattle.py_stacks.specs.Shown.{id_text};
 ghost use Rattle.core_texts.specs.Printed.{IsPrinted};
 ghost use Rattle.core_texts.specs.Text.{mark_text, name_text, thread_line, trace_text};
 
-use crate::frame::push_frame;
+use crate::frame::push_frames;
 use crate::print_error::PrintError;
 use elf64_core::Text;
 use outside::Sink;
@@ -43,9 +43,7 @@ pub(crate) fn push_trace(
     ensures { OnOk result (string_bytes text.new ≡ string_bytes text.old ++ trace_text activity trace.now) }
 {
     push_thread_line(text, trace, activity)?;
-    for frame in &trace.frames {
-        push_frame(text, frame)?;
-    }
+    push_frames(text, &trace.frames)?;
     Ok(())
 }
 
