@@ -1,0 +1,5 @@
+pub mod Addresses
+pub mod CoreEntries
+pub mod CoreMerges
+pub mod ImageMerges
+pub mod Steps
