@@ -27,38 +27,42 @@ class Core:
 
     name: bytes
     """The user's name for it."""
-    file: Optional[BinaryIO]
-    """Its file, or the one that was prepared; none where it can't be read."""
-    is_prepared: bool = False
+    machine: Optional[int]
+    """The machine that it was written on, if it is a core."""
+    wanted: List[Wanted]
+    """The files into which the program looks."""
+    prepared: Optional[BinaryIO]
+    """The file that was prepared of it, if one was. The core's own is closed, so that there may be more cores than files
+    may be open."""
 
     @property
     def word(self) -> bytes:
         """The program's word for it."""
-        return b"/proc/self/fd/%d" % self.file.fileno() if self.is_prepared and self.file else self.name
+        return b"/proc/self/fd/%d" % self.prepared.fileno() if self.prepared else self.name
 
-    def machine(self) -> Optional[int]:
-        """The machine that it was written on, if it is a core."""
-        return machine_of(self.file) if self.file else None
 
-    def wanted(self) -> List[Wanted]:
-        """The files into which the program looks."""
-        try:
-            found = wanted_files(self.file) if self.file else []
-        except OSError:
-            return []
-        return [it for it in found if it.use is not Use.MEMORY]
+def told(name: bytes, file: Optional[BinaryIO], prepared: Optional[BinaryIO]) -> Core:
+    """A core by what its file tells, or the one that was prepared of it; nothing where it can't be read."""
+    read = prepared or file
+    try:
+        machine, found = (machine_of(read), wanted_files(read)) if read else (None, [])
+    except OSError:
+        machine, found = None, []
+    if file:
+        file.close()
+    return Core(name, machine, [it for it in found if it.use is not Use.MEMORY], prepared)
 
 
 def shared_machine(cores: Sequence[Core]) -> Optional[int]:
     """The machine of all the cores that tell one."""
     first: Optional[Core] = None
     for core in cores:
-        if core.machine() is None:
+        if core.machine is None:
             continue
         first = first or core
-        if core.machine() != first.machine():
+        if core.machine != first.machine:
             raise Apart(f"{os.fsdecode(first.name)} and {os.fsdecode(core.name)} are of different machines")
-    return first.machine() if first else None
+    return first.machine if first else None
 
 
 def shared_files(cores: Sequence[Core]) -> List[Wanted]:
@@ -66,7 +70,7 @@ def shared_files(cores: Sequence[Core]) -> List[Wanted]:
     found: Dict[bytes, Wanted] = {}
     owners: Dict[bytes, Core] = {}
     for core in cores:
-        for it in core.wanted():
+        for it in core.wanted:
             known = found.get(it.name)
             if known and known.builds and it.builds and known.builds != it.builds:
                 first = os.fsdecode(owners[it.name].name)
@@ -91,8 +95,8 @@ def renamed(line: bytes, names: Dict[bytes, bytes]) -> bytes:
 
 def run_group(command: List[bytes], cores: Sequence[Core]) -> int:
     """Runs the program over several cores, and returns its status."""
-    own = {core.word: core.name for core in cores if core.is_prepared}
-    fds = [core.file.fileno() for core in cores if core.is_prepared and core.file]
+    own = {core.word: core.name for core in cores if core.prepared}
+    fds = [core.prepared.fileno() for core in cores if core.prepared]
     with tempfile.TemporaryFile() as out, tempfile.TemporaryFile() as lines:
         status = subprocess.call(command, pass_fds=fds, stdout=out, stderr=lines)
         out.seek(0)

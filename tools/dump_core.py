@@ -24,7 +24,7 @@ sys.dont_write_bytecode = True
 
 from core_maps import Use, Wanted, build_id, builds_in, is_text, machine_of, maps_of, wanted_files
 from core_gaps import entries_in
-from core_group import Apart, Core, run_group, shared_files, shared_machine
+from core_group import Apart, run_group, shared_files, shared_machine, told
 from core_prepare import Prepared, Unprepared, Wishes, available, prepared
 from core_run import run_over
 from core_tables import Entry
@@ -253,7 +253,7 @@ def group(words: argparse.Namespace) -> int:
             raise Fault(f"a core's path with an equals sign can't be grouped: {shown(os.fsencode(name))}", BAD_WORDS)
         file = opened(name)
         new = ready(file, words)
-        cores.append(Core(os.fsencode(name), new.file if new else file, bool(new)))
+        cores.append(told(os.fsencode(name), file, new.file if new else None))
     try:
         machine, files = shared_machine(cores), shared_files(cores)
     except Apart as reason:

@@ -5,6 +5,7 @@ Where the real program is built, it is run over such a core too.
 """
 
 import os
+import resource
 import signal
 import subprocess
 import sys
@@ -359,6 +360,17 @@ class Groups(Case):
         status, out, said = self.tool("--group", *cores)
         self.assertEqual((status, out), (2, b""))
         self.assertIn(f"{os.fsdecode(cores[1])} and {os.fsdecode(cores[2])} are of different machines", said)
+
+    def test_many(self):
+        # (more cores than files may be open)
+        soft, hard = resource.getrlimit(resource.RLIMIT_NOFILE)
+        cores = self.cores(*[core_file([mapped(0x1000, self.python)])] * 80)
+        resource.setrlimit(resource.RLIMIT_NOFILE, (64, hard))
+        try:
+            status, out, said = self.tool("--group", *cores)
+        finally:
+            resource.setrlimit(resource.RLIMIT_NOFILE, (soft, hard))
+        self.assertEqual((status, said, len(out.split(b"\0"))), (0, "", 83))
 
     def test_words(self):
         core = self.put("a=b", core_file([mapped(0x1000, self.python)]))

@@ -1,0 +1,88 @@
+#!/usr/bin/env python3
+"""Prints the native addresses of a thread of a core, the newest first, one a line, as `pystacks merge` takes them.
+
+    tools/native_addresses.py CORE THREAD [--program FILE] [--root DIR]
+
+gdb unwinds the thread (`gdb -batch`; it needs a gdb with Python). THREAD is the id that `dump` prints: the system's, in
+decimal, or the interpreter's, with 0x. The program is the first executable file that the core had mapped, below
+`--root` where that is given, or `--program`. Of a frame that called another the address of the call is printed, which
+is the one before that to which the callee returns: so it lies in the function that called.
+"""
+
+import argparse
+import subprocess
+import sys
+from pathlib import Path
+from typing import List, Optional
+
+from core_maps import EXECUTABLE, maps_of
+
+STACK = """
+import gdb
+def addresses(wanted):
+    for thread in gdb.selected_inferior().threads():
+        thread.switch()
+        if wanted not in (thread.ptid[1], pthread(thread)):
+            continue
+        frame, called = gdb.newest_frame(), False
+        while frame is not None:
+            if frame.type() != gdb.INLINE_FRAME:
+                print("address 0x%x" % (frame.pc() - (1 if called else 0)))
+                called = frame.type() != gdb.SIGTRAMP_FRAME
+            frame = frame.older()
+        return
+def pthread(thread):
+    try:
+        return int.from_bytes(thread.handle(), "little")
+    except gdb.error:
+        return None
+addresses(THREAD)
+"""
+"""What gdb runs. (A signal's frame called nothing: the frame behind it stands where it was interrupted.)"""
+
+
+class Fault(Exception):
+    """What is said on the standard error."""
+
+
+def program_of(core: str, root: str) -> str:
+    """The first executable file that the core had mapped, below a folder."""
+    with open(core, "rb") as file:
+        names = [it.name for it in maps_of(file) if it.segment.flags & EXECUTABLE and it.name.startswith(b"/")]
+    if not names:
+        raise Fault(f"{core} has no named executable map: name the program by --program")
+    return str(Path(root) / names[0].decode("utf-8", "surrogateescape").lstrip("/"))
+
+
+def addresses_of(core: str, thread: int, program: str, root: str) -> List[str]:
+    """The addresses that gdb finds."""
+    command = ["gdb", "-batch", "-nx", "-q", "-ex", f"set sysroot {root}", program, core, "-ex", "python exec(" + repr(STACK.replace("THREAD", str(thread))) + ")"]
+    try:
+        done = subprocess.run(command, stdout=subprocess.PIPE, stderr=subprocess.DEVNULL, stdin=subprocess.DEVNULL, check=False, text=True)
+    except OSError as error:
+        raise Fault(f"cannot run gdb: {error.strerror}") from error
+    found = [line.split()[1] for line in done.stdout.split("\n") if line.startswith("address 0x")]
+    if not found:
+        raise Fault(f"gdb finds no thread {thread} in {core}")
+    return found
+
+
+def main(words: Optional[List[str]] = None) -> int:
+    """The tool."""
+    parser = argparse.ArgumentParser(description=__doc__, formatter_class=argparse.RawDescriptionHelpFormatter)
+    parser.add_argument("core", help="the core's file")
+    parser.add_argument("thread", type=lambda text: int(text, 0), help="the thread's id, as `dump` prints it")
+    parser.add_argument("--program", help="the program's file")
+    parser.add_argument("--root", default="/", help="the folder below which the files of the process lie")
+    given = parser.parse_args(words)
+    try:
+        program = given.program or program_of(given.core, given.root)
+        print("\n".join(addresses_of(given.core, given.thread, program, given.root)))
+    except (Fault, OSError) as fault:
+        print(f"native_addresses: {fault}", file=sys.stderr)
+        return 2
+    return 0
+
+
+if __name__ == "__main__":
+    sys.exit(main())
