@@ -1,6 +1,6 @@
 -- Two outcomes of a command over the same contents have one status, want of memory aside; and over contents with
 -- which nothing is wrong no outcome is a cause.
-use Rattle.std.proofs.Common.{◌≡◌, ◌≢◌, ◌⊎◌, ℕ, List, [], ◌∷◌, Result, Ok, Err, refl, sym, ap, subst, ◌∙◌, ◌<◌, arith, inl, inr, ⊎_elim, rules}
+use Rattle.std.proofs.Common.{◌≡◌, ◌≢◌, ◌⊎◌, ℕ, List, [], ◌∷◌, Result, Ok, Err, refl, sym, ap, subst, ◌∙◌, ◌<◌, Bool, arith, inl, inr, ⊎_elim, rules}
 use Rattle.std.proofs.lemmas.Bool.Decides.{eqb_tells}
 use Rattle.py_fields.specs.declared.layout.Layout.{Layout}
 use Rattle.py_fields.specs.Samples.{sample_layout}
@@ -13,6 +13,7 @@ use Rattle.image_memory.specs.Images.{Pushed}
 use Rattle.py_stacks.specs.declared.config.Config.{Config}
 use Rattle.std.specs.Prelude.{Vec, map}
 use Rattle.std.specs.Global.{Global}
+use Rattle.py_stacks.specs.Frames.{Call}
 use Rattle.py_stacks.specs.Threads.{Trace, trace_of}
 use Rattle.py_stacks.specs.declared.trace.StackTrace.{StackTrace}
 use Rattle.py_process.specs.Reports.{IsReadable, Reported, reported_of}
@@ -21,7 +22,7 @@ use Rattle.py_layout.proofs.Answering.{right-unique}
 use Rattle.py_process.specs.declared.core_error.CoreError.{CoreError}
 use Rattle.py_process.specs.declared.core_error.CoreError.TheVariants as core
 use Rattle.core_words.specs.Dump.{Dump}
-use Rattle.core_words.specs.Words.{Command, LayoutSource, Reach as AsksReach, Triage, Walk, dump, reach, triage, walk, sample, file}
+use Rattle.core_words.specs.Words.{Command, LayoutSource, Merge as AsksMerge, Reach as AsksReach, Triage, Walk, dump, merge, reach, triage, walk, sample, file}
 use Rattle.core_texts.specs.Text.{walk_text}
 use Rattle.core_stacks.specs.Answer.{IsWalkable}
 use Rattle.py_process.proofs.ReportLaws.{report_agree}
@@ -29,15 +30,24 @@ use Rattle.core_stacks.proofs.ReportLaws.{report_complete}
 use Rattle.core_stacks.proofs.Layouts.{NoneClash, chooses_once}
 use Rattle.core_stacks.proofs.Walked.{walk_agree as walks_agree, walk_complete}
 use Rattle.core_report.specs.declared.cause.Cause.{Cause}
-use Rattle.core_report.specs.declared.cause.Cause.TheVariants.{Core, Layouts, Reach, ReachIndex, OutOfMemory}
+use Rattle.core_report.specs.declared.cause.Cause.TheVariants.{Core, Layouts, Merge, MergeIndex, Reach, ReachIndex, OutOfMemory}
+use Rattle.core_merge.specs.CoreMerges.{CoreMergeIs}
+use Rattle.core_merge.specs.declared.error.CoreMergeError.{CoreMergeError}
+use Rattle.core_merge.specs.declared.error.CoreMergeError.TheVariants as merging
+use Rattle.core_merge.proofs.Chain.{core_merge_once, err_is as merge_err_is, ok_err as merge_ok_err}
+use Rattle.core_report.specs.Merged.{python_in}
+use Rattle.py_process.specs.Facts.{Facts}
+use Rattle.py_stacks.specs.Asking.{default_config}
+use Rattle.std.specs.Prelude.{Option}
 use Rattle.object_reach.specs.declared.reached.ReachError.{ReachError}
 use Rattle.object_reach.specs.declared.reached.ReachError.TheVariants as reaching
 use Rattle.std.proofs.lemmas.Option.{same_Some, none-some}
 use Rattle.py_process.proofs.Agreement.{err_is, ok_is, ok_kept, ok_not_err}
 use Rattle.core_report.specs.Reading.{HasFlaw}
 use Rattle.core_report.specs.Stacked.{LeadsTo, Stacked, StackedIs, locals_asked, reach_text}
+use Rattle.core_report.proofs.Binaries.{binaries_once}
 use Rattle.core_report.proofs.Stacked.{stacked_agree, unstacked}
-use Rattle.core_report.specs.Outcome.{IsDumpOutcome, IsDumpedBy, IsFaultless, IsFaultlessDump, IsFaultlessReach, IsFaultlessTriage, IsFaultlessWalk, IsOutcome, IsOwnCause, IsReachOutcome, IsReachedBy, IsReachedFrom, IsReachedIn, IsReported, IsTriageOutcome, IsTriagedBy, reach_status, IsShown, IsWalkOutcome, IsWalkedBy, Outcome, ReportAnswers, SourceSays, OutcomeThen, WalkAnswers, cause_status, core_status, images_read, layouts_status, outcome_status, shown_report}
+use Rattle.core_report.specs.Outcome.{IsDumpOutcome, IsDumpedBy, IsFaultless, IsFaultlessDump, IsFaultlessMerge, IsFaultlessReach, IsFaultlessTriage, IsFaultlessWalk, IsMergeOutcome, IsMergedBy, IsMergedFrom, IsMergedIn, IsMergedText, IsOutcome, IsOwnCause, IsReachOutcome, IsReachedBy, IsReachedFrom, IsReachedIn, IsReported, IsTriageOutcome, IsTriagedBy, reach_status, IsShown, IsWalkOutcome, IsWalkedBy, Outcome, ReportAnswers, SourceSays, OutcomeThen, WalkAnswers, cause_status, core_status, images_read, layouts_status, merge_status, outcome_status, shown_report}
 
 -- one sound layout is a sound list
 pub one_sound : (l : Layout) → IsSound l → AreSound (l ∷ [])
@@ -299,10 +309,10 @@ flawless text list says h = flaw_apart (IsRightFor text) (right-unique text) lis
 
 -- ---- what locals lead to
 
-stacked_apart : (bytes : List ℕ) (images : Pushed) (list : List Layout) → NoneClash list → (s : Stacked) (e : CoreError)
-    → StackedIs bytes images list locals_asked (Ok s) → StackedIs bytes images list locals_asked (Err e) → e ≢ core.OutOfMemory → ⊥
-stacked_apart bytes images list apart s e one other ne =
-    ok_not_err s e (stacked_agree bytes images list locals_asked (chooses_once list apart) (Ok s) (Err e) one other
+stacked_apart_by : (config : Config) (bytes : List ℕ) (images : Pushed) (list : List Layout) → NoneClash list → (s : Stacked) (e : CoreError)
+    → StackedIs bytes images list config (Ok s) → StackedIs bytes images list config (Err e) → e ≢ core.OutOfMemory → ⊥
+stacked_apart_by config bytes images list apart s e one other ne =
+    ok_not_err s e (stacked_agree bytes images list config (chooses_once list apart) (Ok s) (Err e) one other
     (ok_not_err s core.OutOfMemory) (λ is. ne (err_is e core.OutOfMemory is)))
 
 reach_own : (e : ReachError) → reach_status e ≢ 5 → e ≡ reaching.ReachLimit
@@ -328,7 +338,7 @@ in_agree index s a b (inr one) (inr other) na nb =
 
 reached_agree : (r : AsksReach) (bytes : List ℕ) (images : Pushed) (list : List Layout) → NoneClash list → Agree (IsReachedBy r bytes images list)
 reached_agree r bytes images list apart = then_agree (λ error. Core error) (StackedIs bytes images list locals_asked) (IsReachedIn r.index)
-    (core_exclude (StackedIs bytes images list locals_asked) (stacked_apart bytes images list apart))
+    (core_exclude (StackedIs bytes images list locals_asked) (stacked_apart_by locals_asked bytes images list apart))
     (λ s t one other a b p q na nb. in_agree r.index s a b p (subst (λ u. IsReachedIn r.index u b)
     (ok_is t s (stacked_agree bytes images list locals_asked (chooses_once list apart) (Ok t) (Ok s) other one (ok_kept t) (ok_kept s))) q) na nb)
 
@@ -360,6 +370,81 @@ reach_sound r (bytes ∷ text ∷ images) (list, says, good) cause ne is =
     layouts_sound (IsRightFor text) (IsReachedBy r bytes (images_read r.images images)) (right-unique text) list says
     (reached_sound r bytes (images_read r.images images) list (text_apart text list says) good) cause ne is
 
+-- ---- threads merged with native addresses
+
+merge_exclude : (core : List ℕ) (images : Pushed) (python : ℕ → Bool) (thread : Trace) (text : List ℕ)
+    → Excludes (λ error. Merge error) (CoreMergeIs core images python thread.frames text)
+merge_exclude core images python thread text = record {
+  apart = λ x e one other ne. merge_ok_err x e (core_merge_once core images python thread.frames text (Ok x) (Err e) one other);
+  alike = λ e f one other ne nf.
+      ap merge_status (merge_err_is e f (core_merge_once core images python thread.frames text (Err e) (Err f) one other));
+}
+
+merged_text_agree : (s t : List Call) (a b : Outcome) → IsMergedText s a → IsMergedText t b → outcome_status a ≡ outcome_status b
+merged_text_agree s t a b one other = text_agree _ _ a b one.2 other.2
+
+merging_agree : (core : List ℕ) (images : Pushed) (python : ℕ → Bool) (thread : Trace) (text : List ℕ)
+    → Agree (OutcomeThen (λ error. Merge error) (CoreMergeIs core images python thread.frames text) IsMergedText)
+merging_agree core images python thread text = then_agree (λ error. Merge error)
+    (CoreMergeIs core images python thread.frames text) IsMergedText (merge_exclude core images python thread text)
+    (λ x y one other a b p q na nb. merged_text_agree x y a b p q)
+
+merged_from_agree : (core : List ℕ) (images : Pushed) (text : List ℕ) (thread : Trace) → Agree (IsMergedFrom core images text thread)
+merged_from_agree core images text thread a b (p, l, are, one) (q, k, also, other) na nb =
+    let both = binaries_once core images p l q k are also in
+    merging_agree core images (python_in p l) thread text a b one
+    (subst (λ x. OutcomeThen (λ error. Merge error) (CoreMergeIs core images (python_in x l) thread.frames text) IsMergedText b) (sym both.0)
+    (subst (λ y. OutcomeThen (λ error. Merge error) (CoreMergeIs core images (python_in q y) thread.frames text) IsMergedText b) (sym both.1) other)) na nb
+
+merged_in_agree : (index : ℕ) (core : List ℕ) (images : Pushed) (text : List ℕ) (s : Stacked) → Agree (IsMergedIn index core images text s)
+merged_in_agree index core images text s a b (inl one) (inl other) na nb = ap outcome_status one.1 ∙ sym (ap outcome_status other.1)
+merged_in_agree index core images text s a b (inl one) (inr other) na nb = absurd (none-some other.0 (sym one.0 ∙ other.1))
+merged_in_agree index core images text s a b (inr one) (inl other) na nb = absurd (none-some one.0 (sym other.0 ∙ one.1))
+merged_in_agree index core images text s a b (inr one) (inr other) na nb =
+    merged_from_agree core images text one.0 a b one.2 (subst (λ t. IsMergedFrom core images text t b) (same_Some _ _ (sym other.1 ∙ one.1)) other.2) na nb
+
+merged_agree : (m : AsksMerge) (core : List ℕ) (images : Pushed) (text : List ℕ) (list : List Layout) → NoneClash list
+    → Agree (IsMergedBy m core images text list)
+merged_agree m core images text list apart = then_agree (λ error. Core error) (StackedIs core images list default_config) (IsMergedIn m.index core images text)
+    (core_exclude (StackedIs core images list default_config) (stacked_apart_by default_config core images list apart))
+    (λ s t one other a b p q na nb. merged_in_agree m.index core images text s a b p (subst (λ u. IsMergedIn m.index core images text u b)
+    (ok_is t s (stacked_agree core images list default_config (chooses_once list apart) (Ok t) (Ok s) other one (ok_kept t) (ok_kept s))) q) na nb)
+
+merge_agree : (m : AsksMerge) (contents : List (List ℕ)) → Agree (IsMergeOutcome m contents)
+merge_agree m [] a b one other na nb = absurd one
+merge_agree m (core ∷ []) a b one other na nb = absurd one
+merge_agree m (core ∷ layouts ∷ rest) a b (text, is, one) (more, also, other) na nb =
+    layouts_agree (IsRightFor layouts) (IsMergedBy m core (images_read m.images rest) text) (right-unique layouts)
+    (λ list says. merged_agree m core (images_read m.images rest) text list (text_apart layouts list says)) a b one
+    (subst (λ t. OutcomeThen (λ error. Layouts error) (IsRightFor layouts) (IsMergedBy m core (images_read m.images rest) t) b)
+    (one_text more text (sym also ∙ is)) other) na nb
+  where
+    one_text : (x y : List ℕ) → x ∷ [] ≡ y ∷ [] → x ≡ y
+    one_text x y is = cc
+
+merging_sound : (core : List ℕ) (images : Pushed) (python : ℕ → Bool) (thread : Trace) (text : List ℕ)
+    → NoCause (OutcomeThen (λ error. Merge error) (CoreMergeIs core images python thread.frames text) IsMergedText)
+merging_sound core images python thread text cause ne (inl p) = subst IsOwnCause (sym (cause_is cause _ p.1)) tt
+merging_sound core images python thread text cause ne (inr p) = absurd (let h : _ = p.2.2 in cc)
+
+merged_in_sound : (index : ℕ) (core : List ℕ) (images : Pushed) (text : List ℕ) (s : Stacked) → NoCause (IsMergedIn index core images text s)
+merged_in_sound index core images text s cause ne (inl p) = subst IsOwnCause (sym (cause_is cause _ p.1)) tt
+merged_in_sound index core images text s cause ne (inr p) =
+    merging_sound core images (python_in p.2.0 p.2.1) p.0 text cause ne p.2.3
+
+merged_sound : (m : AsksMerge) (core : List ℕ) (images : Pushed) (text : List ℕ) (list : List Layout) → NoneClash list
+    → IsReadable core images list default_config → NoCause (IsMergedBy m core images text list)
+merged_sound m core images text list apart good = then_sound (λ error. Core error) (StackedIs core images list default_config) (IsMergedIn m.index core images text)
+    (λ e error ne. report_complete core images list default_config apart good e (unstacked core images list default_config e error) (err_kept e (core_one e ne).1))
+    (λ s found. merged_in_sound m.index core images text s)
+
+merge_sound : (m : AsksMerge) (contents : List (List ℕ)) → IsFaultlessMerge m contents → NoCause (IsMergeOutcome m contents)
+merge_sound m [] good cause ne is = absurd good
+merge_sound m (core ∷ []) good cause ne is = absurd good
+merge_sound m (core ∷ layouts ∷ rest) (list, says, good) cause ne (text, last, is) =
+    layouts_sound (IsRightFor layouts) (IsMergedBy m core (images_read m.images rest) text) (right-unique layouts) list says
+    (merged_sound m core (images_read m.images rest) text list (text_apart layouts list says) good) cause ne is
+
 -- ---- commands
 
 pub outcomes_agree : (command : Command) (contents : List (List ℕ)) → Agree (IsOutcome command contents)
@@ -367,12 +452,14 @@ outcomes_agree (walk w) contents a b one other na nb = walk_agree w contents a b
 outcomes_agree (dump d) contents a b one other na nb = dump_agree d contents a b one other na nb
 outcomes_agree (triage t) contents a b one other na nb = triage_agree t contents a b one other na nb
 outcomes_agree (reach r) contents a b one other na nb = reach_agree r contents a b one other na nb
+outcomes_agree (merge m) contents a b one other na nb = merge_agree m contents a b one other na nb
 
 pub no_cause : (command : Command) (contents : List (List ℕ)) → IsFaultless command contents → NoCause (IsOutcome command contents)
 no_cause (walk w) contents good = walk_sound w contents good
 no_cause (dump d) contents good = dump_sound d contents good
 no_cause (triage t) contents good = triage_sound t contents good
 no_cause (reach r) contents good = reach_sound r contents good
+no_cause (merge m) contents good = merge_sound m contents good
 
 -- ---- a cause has none of the statuses of the other ends
 
@@ -405,9 +492,15 @@ reach_status_own : (e : ReachError) → IsOwn (reach_status e)
 reach_status_own reaching.ReachLimit = own 9 (inr (omega arith))
 reach_status_own reaching.OutOfMemory = own 5 (inr (omega arith))
 
+merge_status_own : (e : CoreMergeError) → IsOwn (merge_status e)
+merge_status_own merging.OutOfMemory = own 5 (inr (omega arith))
+merge_status_own _ = own 7 (inr (omega arith))
+
 pub cause_own : (cause : Cause) → IsOwn (cause_status cause)
 cause_own (Core e) = core_own e
 cause_own (Layouts e) = layouts_own e
 cause_own (Reach e) = reach_status_own e
 cause_own (ReachIndex index) = own 9 (inr (omega arith))
+cause_own (Merge e) = merge_status_own e
+cause_own (MergeIndex index) = own 7 (inr (omega arith))
 cause_own OutOfMemory = own 5 (inr (omega arith))

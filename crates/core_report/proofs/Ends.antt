@@ -15,12 +15,14 @@ use Rattle.py_layout.specs.declared.error.LayoutError.TheVariants as layout
 use Rattle.py_process.specs.declared.core_error.CoreError.{CoreError}
 use Rattle.py_process.specs.declared.core_error.CoreError.TheVariants as core
 use Rattle.core_report.specs.declared.cause.Cause.{Cause}
-use Rattle.core_report.specs.declared.cause.Cause.TheVariants.{Core, Layouts, Reach, ReachIndex, OutOfMemory}
+use Rattle.core_report.specs.declared.cause.Cause.TheVariants.{Core, Layouts, Merge, MergeIndex, Reach, ReachIndex, OutOfMemory}
 use Rattle.core_report.specs.declared.trouble.Trouble.{Trouble}
 use Rattle.core_report.specs.declared.trouble.Trouble.TheVariants.{Cause as Caused, Words, File, Write}
+use Rattle.core_merge.specs.declared.error.CoreMergeError.{CoreMergeError}
+use Rattle.core_merge.specs.declared.error.CoreMergeError.TheVariants as merging
 use Rattle.object_reach.specs.declared.reached.ReachError.{ReachError}
 use Rattle.object_reach.specs.declared.reached.ReachError.TheVariants as reaching
-use Rattle.core_report.specs.Outcome.{IsFaultless, IsOutcome, Outcome, cause_status, core_status, layouts_status, outcome_status, reach_status}
+use Rattle.core_report.specs.Outcome.{IsFaultless, IsOutcome, Outcome, cause_status, core_status, layouts_status, merge_status, outcome_status, reach_status}
 use Rattle.core_report.specs.Run.{ComesTo, End, EndsItself, HasEnded, HasRun, Ran, Reaches, SaysEnd, TellsContents, cut, end_at, end_parts, printed, refused, end_status, stopped, unread}
 use Rattle.core_report.proofs.Turns.{same_contents}
 use Rattle.core_report.proofs.Agreement.{cases_five, cause_own, no_cause, outcomes_agree}
@@ -59,13 +61,13 @@ silent_of old new (unread name why) said is = absurd (omega (arith, is))
 silent_of old new cut said is = absurd (omega (arith, is))
 
 abbrev IsStatus : ℕ → Type 0
-IsStatus n = (n ≤ 6) ⊎ (n ≡ 9)
+IsStatus n = (n ≤ 7) ⊎ (n ≡ 9)
 
-core_within : (e : CoreError) → core_status e ≤ 6
+core_within : (e : CoreError) → core_status e ≤ 7
 core_within core.OutOfMemory = omega arith
 core_within _ = omega arith
 
-layouts_within : (e : LayoutError) → layouts_status e ≤ 6
+layouts_within : (e : LayoutError) → layouts_status e ≤ 7
 layouts_within layout.OutOfMemory = omega arith
 layouts_within _ = omega arith
 
@@ -73,11 +75,17 @@ reach_within : (e : ReachError) → IsStatus (reach_status e)
 reach_within reaching.OutOfMemory = inl (omega arith)
 reach_within reaching.ReachLimit = inr refl
 
+merge_within : (e : CoreMergeError) → merge_status e ≤ 7
+merge_within merging.OutOfMemory = omega arith
+merge_within _ = omega arith
+
 cause_within : (c : Cause) → IsStatus (cause_status c)
 cause_within (Core e) = inl (core_within e)
 cause_within (Layouts e) = inl (layouts_within e)
 cause_within (Reach e) = reach_within e
 cause_within (ReachIndex index) = inr refl
+cause_within (Merge e) = inl (merge_within e)
+cause_within (MergeIndex index) = inl (omega arith)
 cause_within OutOfMemory = inl (omega arith)
 
 pub status_within : (end : End) → IsStatus (end_status end)
@@ -180,7 +188,7 @@ module _ (asked : Option Command) (r : Ran) where
 -- ---- what a run tells
 
 module _ {asked : Option Command} {r : Ran} {err err_after : SinkSeen} {status : ℕ} (run : HasRun asked r err err_after status) where
-  pub run_status : (status ≤ 6) ⊎ (status ≡ 9)
+  pub run_status : (status ≤ 7) ⊎ (status ≡ 9)
   run_status = subst IsStatus (sym run.is) (status_within run.end)
 
   pub run_printed : status ≡ 0 → (text : List ℕ) × Reaches asked r.files.told (Ok text) × Appends r.out.written r.out_after.written text

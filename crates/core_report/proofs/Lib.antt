@@ -1,5 +1,6 @@
 pub mod Agreement
 pub mod Appending
+pub mod Binaries
 pub mod Ends
 pub mod Grouping
 pub mod Headline
@@ -7,5 +8,6 @@ pub mod Judging
 pub mod Leading
 pub mod Opening
 pub mod Stacked
+pub mod Threads
 pub mod Turns
 pub mod Weaker

@@ -12,12 +12,13 @@ use Rattle.core_report.specs.declared.trouble.Trouble.{Trouble}
 use Rattle.core_report.specs.declared.trouble.Trouble.TheVariants.{Cause as Caused, File}
 use Rattle.core_report.specs.declared.cause.Cause.{Cause}
 use Rattle.core_report.specs.declared.walk_command.WalkFiles.{WalkFiles}
+use Rattle.core_report.specs.declared.merge_command.MergeFiles.{MergeFiles}
 use Rattle.core_report.specs.declared.report_files.ReportFiles.{ReportFiles}
 use Rattle.core_report.specs.Outcome.{IsOutcome, SourceSays, TextSays, cause_status}
-use Rattle.core_report.specs.Run.{Comes, ComesTo, HasAll, HasFirst, HasImages, HasReportFiles, HasWalkFiles, IsReadTrouble, IsTroubled}
+use Rattle.core_report.specs.Run.{Comes, ComesTo, HasAll, HasFirst, HasImages, HasMergeFiles, HasReportFiles, HasWalkFiles, IsReadTrouble, IsTroubled}
 use Rattle.core_words.specs.Dump.{Dump}
-use Rattle.core_words.specs.Words.{Command, LayoutSource, Reach, Triage, Walk, dump, reach, triage, walk, kept_files, later_files, source_files, sample, file as named}
-use Rattle.core_report.specs.Reading.{AsksImages, AsksReport, Stops, StopsTriage, IsNext, IsAll, AreFiles, IsRead, contents, report_contents, text_contents, walk_contents}
+use Rattle.core_words.specs.Words.{Command, LayoutSource, Merge, Reach, Triage, Walk, dump, merge, reach, triage, walk, kept_files, later_files, source_files, sample, file as named}
+use Rattle.core_report.specs.Reading.{AsksImages, AsksReport, Stops, StopsTriage, IsNext, IsAll, AreFiles, IsRead, contents, merge_contents, report_contents, text_contents, walk_contents}
 
 -- one file more
 more_after : (told : Told) (command : Command) (before read : List (List ℕ)) (name bytes : List ℕ)
@@ -46,6 +47,7 @@ goes_on (walk w) contents lt stops = stops
 goes_on (dump d) contents lt stops = stops
 goes_on (triage t) contents lt stops = triage_goes_on t contents lt stops
 goes_on (reach r) contents lt stops = stops
+goes_on (merge m) contents lt stops = stops
 
 get-front : (xs ys : List (List ℕ)) (k : ℕ) (x : List ℕ) → slice_get xs k ≡ Some x → slice_get (xs ++ ys) k ≡ Some x
 get-front [] ys k x is = absurd (none-some x is)
@@ -230,6 +232,36 @@ pub reach_has : (old new : FilesSeen) (r : Reach) (files : ReportFiles) (images 
     → HasReportFiles old new (reach r) (length images) (Ok files) → HasAll old new (reach r) (report_contents files)
 reach_has old new r files images are has =
     has_all old new (reach r) (report_contents files) refl has.0.read (report_count files r.images (has.1 ∙ ap length are)) has.0.failed
+
+-- a merge asks for the file of its addresses last
+pub merge_asks : (m : Merge) (core layouts : List ℕ) (images : List (List ℕ × List ℕ)) → core ≡ m.core → layouts ≡ m.layouts → images ≡ m.images
+    → AsksReport (merge m) core layouts images
+merge_asks m core layouts images one two three = record {
+  rest = m.addresses ∷ [];
+  asked = λ i. sym one i ∷ sym two i ∷ (map (λ (image : List ℕ × List ℕ). image.1) (sym three i) ++ m.addresses ∷ []);
+}
+
+pub merge_next : (m : Merge) (files : ReportFiles) (name : List ℕ) → length files.images.items ≡ length m.images → name ≡ m.addresses
+    → IsNext (merge m) (report_contents files) name
+merge_next m files name count is =
+    let names = map (λ (image : List ℕ × List ℕ). image.1) m.images in
+    let place : length (contents files.images.items) ≡ length names + 0 =
+    omega (arith, length-map files.images.items (λ (f : Vec ℕ Global). f.items), count, length-map m.images (λ (image : List ℕ × List ℕ). image.1)) in
+    next_kept (merge m) (report_contents files) name
+    (get-behind names (m.addresses ∷ []) 0 (length (contents files.images.items)) place ∙ ap Some (sym is))
+
+pub merge_has : (old new : FilesSeen) (m : Merge) (files : MergeFiles) → length files.report.images.items ≡ length m.images
+    → IsRead old.told (merge m) (merge_contents files) → new.failed ≡ old.failed → HasMergeFiles old new m (Ok files)
+merge_has old new m files count read failed =
+    let names = map (λ (image : List ℕ × List ℕ). image.1) m.images in
+    let all : length (merge_contents files) ≡ length (kept_files (merge m)) =
+    omega (
+      arith,
+      length-append (report_contents files.report) (files.addresses.items ∷ []),
+      report_count files.report m.images count,
+      length-append names (m.addresses ∷ []),
+    ) in
+    (has_all old new (merge m) (merge_contents files) refl read all failed, count)
 
 pub triage_layouts : (t : Triage) (name : List ℕ) → name ≡ t.layouts → IsNext (triage t) [] name
 triage_layouts t name is = next_kept (triage t) [] name (ap Some (sym is))

@@ -5,5 +5,6 @@ pub mod Stacked
 pub mod Stacks
 pub mod Outcome
 pub mod Lines
+pub mod Merged
 pub mod Run
 pub mod Headline

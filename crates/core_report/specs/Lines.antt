@@ -8,11 +8,13 @@ use Rattle.py_layout.specs.declared.error.LayoutError.{LayoutError}
 use Rattle.py_layout.specs.declared.error.LayoutError.TheVariants as layout
 use Rattle.py_process.specs.declared.core_error.CoreError.{CoreError}
 use Rattle.py_process.specs.declared.core_error.CoreError.TheVariants as core
+use Rattle.core_merge.specs.declared.error.CoreMergeError.{CoreMergeError}
+use Rattle.core_merge.specs.declared.error.CoreMergeError.TheVariants as merging
 use Rattle.object_reach.specs.declared.reached.ReachError.{ReachError}
 use Rattle.object_reach.specs.declared.reached.ReachError.TheVariants as reach
 use Rattle.core_texts.specs.Parts.{address_text}
 use Rattle.core_report.specs.declared.cause.Cause.{Cause}
-use Rattle.core_report.specs.declared.cause.Cause.TheVariants.{Core, Layouts, Reach, ReachIndex, OutOfMemory}
+use Rattle.core_report.specs.declared.cause.Cause.TheVariants.{Core, Layouts, Merge, MergeIndex, Reach, ReachIndex, OutOfMemory}
 
 -- what so many bytes at this address are, after these words
 abbrev pub range_parts : List ℕ → ℕ → ℕ → List (List ℕ)
@@ -54,11 +56,18 @@ abbrev pub reach_parts : ReachError → List (List ℕ)
 reach_parts reach.ReachLimit = codes "more than 1048576 objects or 16777216 slots" ∷ []
 reach_parts reach.OutOfMemory = codes "out of memory" ∷ []
 
+-- one line for all causes why frames aren't merged
+abbrev pub merge_parts : CoreMergeError → List (List ℕ)
+merge_parts merging.OutOfMemory = codes "out of memory" ∷ []
+merge_parts _ = codes "cannot merge" ∷ []
+
 abbrev pub cause_parts : Cause → List (List ℕ)
 cause_parts (Core error) = core_parts error
 cause_parts (Layouts error) = layout_parts error
 cause_parts (Reach error) = reach_parts error
 cause_parts (ReachIndex index) = codes "no such thread: " ∷ decimal index ∷ []
+cause_parts (Merge error) = merge_parts error
+cause_parts (MergeIndex index) = codes "cannot merge" ∷ []
 cause_parts OutOfMemory = codes "out of memory" ∷ []
 
 abbrev pub file_parts : List ℕ → FileFault → List (List ℕ)

@@ -11,8 +11,8 @@ use Rattle.py_stacks.specs.declared.trace.StackTrace.{StackTrace}
 use Rattle.py_process.specs.declared.core_error.CoreError.{CoreError}
 use Rattle.py_process.specs.declared.core_error.CoreError.TheVariants as core
 use Rattle.core_words.specs.Dump.{Dump}
-use Rattle.core_words.specs.Words.{Command, LayoutSource, Reach as AsksReach, Triage, Walk, dump, file, reach, sample, triage, walk}
-use Rattle.core_texts.specs.Text.{report_text, walk_text}
+use Rattle.core_words.specs.Words.{Command, LayoutSource, Merge as AsksMerge, Reach as AsksReach, Triage, Walk, dump, file, merge, reach, sample, triage, walk}
+use Rattle.core_texts.specs.Text.{frames_text, report_text, walk_text}
 use Rattle.core_texts.specs.Tree.{report_json}
 use Rattle.image_memory.specs.Images.{Pushed}
 use Rattle.image_memory.specs.Mmap.{whole_view}
@@ -20,12 +20,22 @@ use Rattle.py_stacks.specs.declared.config.Config.{Config}
 use Rattle.py_process.specs.Reports.{IsReadable, ReportIs, reported}
 use Rattle.py_process.specs.declared.report.Report.{Report}
 use Rattle.core_stacks.specs.Answer.{IsWalkable, Means, traced}
+use Rattle.core_merge.specs.CoreMerges.{CoreMergeIs}
+use Rattle.core_merge.specs.declared.error.CoreMergeError.{CoreMergeError}
+use Rattle.core_merge.specs.declared.error.CoreMergeError.TheVariants as merging
+use Rattle.native_merge.specs.PythonFrames.{calls}
+use Rattle.py_process.specs.Facts.{Facts}
+use Rattle.py_stacks.specs.Asking.{default_config}
+use Rattle.py_stacks.specs.Frames.{Call}
+use Rattle.py_stacks.specs.declared.trace.Frame.{Frame}
+use Rattle.core_stacks.specs.Seen.{AreBinaries}
 use Rattle.object_reach.specs.declared.reached.ReachError.{ReachError}
 use Rattle.object_reach.specs.declared.reached.ReachError.TheVariants as reaching
 use Rattle.object_reach.specs.declared.reached.ReachObject.{ReachObject}
 use Rattle.core_report.specs.declared.cause.Cause.{Cause}
-use Rattle.core_report.specs.declared.cause.Cause.TheVariants.{Core, Layouts, Reach, ReachIndex, OutOfMemory}
+use Rattle.core_report.specs.declared.cause.Cause.TheVariants.{Core, Layouts, Merge, MergeIndex, Reach, ReachIndex, OutOfMemory}
 use Rattle.core_report.specs.Grouped.{IsGroupedText}
+use Rattle.core_report.specs.Merged.{python_in}
 use Rattle.core_report.specs.Stacked.{LeadsTo, Stacked, StackedIs, locals_asked, reach_text}
 
 -- a command's text, or the cause why there is none
@@ -138,12 +148,43 @@ IsReachOutcome r (core ∷ text ∷ images) outcome =
     OutcomeThen (λ error. Layouts error) (IsRightFor text) (IsReachedBy r core (images_read r.images images)) outcome
 IsReachOutcome r _ outcome = ⊥
 
+-- the text of merged frames
+abbrev pub IsMergedText : List Call → Outcome → Type 0
+IsMergedText shown outcome = (frames : List Frame) × (calls frames ≡ shown) × (outcome ≡ Ok (frames_text frames))
+
+-- the frames of a thread, merged with the addresses of a text: by the core's maps, the images, and what those of the
+-- program and of Python's library say of which addresses are Python's
+abbrev pub IsMergedFrom : List ℕ → Pushed → List ℕ → Trace → Outcome → Type 0
+IsMergedFrom core images text thread outcome = (program library : Option Facts)
+    × AreBinaries core images program library
+    × OutcomeThen (λ error. Merge error)
+    (CoreMergeIs core images (python_in program library) thread.frames text) IsMergedText outcome
+
+-- those of the thread of a number, from 0 on, or that there is none
+abbrev pub IsMergedIn : ℕ → List ℕ → Pushed → List ℕ → Stacked → Outcome → Type 0
+IsMergedIn index core images text s outcome =
+    ((slice_get s.traces index ≡ None) × (outcome ≡ Err (MergeIndex index)))
+    ⊎ ((thread : Trace) × (slice_get s.traces index ≡ Some thread) × IsMergedFrom core images text thread outcome)
+
+abbrev pub IsMergedBy : AsksMerge → List ℕ → Pushed → List ℕ → List Layout → Outcome → Type 0
+IsMergedBy m core images text layouts outcome = OutcomeThen (λ error. Core error)
+    (StackedIs core images layouts default_config) (IsMergedIn m.index core images text) outcome
+
+-- the layouts are judged first, then the report's threads are read, and then one is merged with the addresses of the
+-- last file
+abbrev pub IsMergeOutcome : AsksMerge → List (List ℕ) → Outcome → Type 0
+IsMergeOutcome m (core ∷ layouts ∷ rest) outcome = (text : List ℕ) × (drop (length m.images) rest ≡ text ∷ [])
+    × OutcomeThen (λ error. Layouts error) (IsRightFor layouts)
+    (IsMergedBy m core (images_read m.images rest) text) outcome
+IsMergeOutcome m _ outcome = ⊥
+
 -- what a command comes to over the contents of all that it asks for
 abbrev pub IsOutcome : Command → List (List ℕ) → Outcome → Type 0
 IsOutcome (walk w) contents outcome = IsWalkOutcome w contents outcome
 IsOutcome (dump d) contents outcome = IsDumpOutcome d contents outcome
 IsOutcome (triage t) contents outcome = IsTriageOutcome t contents outcome
 IsOutcome (reach r) contents outcome = IsReachOutcome r contents outcome
+IsOutcome (merge m) contents outcome = IsMergeOutcome m contents outcome
 
 -- ---- contents with which nothing is wrong
 
@@ -166,16 +207,24 @@ IsFaultlessReach r (core ∷ text ∷ images) = (layouts : List Layout) × IsRig
     × IsReadable core (images_read r.images images) layouts locals_asked
 IsFaultlessReach r _ = ⊥
 
+abbrev pub IsFaultlessMerge : AsksMerge → List (List ℕ) → Type 0
+IsFaultlessMerge m (core ∷ text ∷ rest) = (layouts : List Layout) × IsRightFor text (Ok layouts)
+    × IsReadable core (images_read m.images rest) layouts default_config
+IsFaultlessMerge m _ = ⊥
+
 abbrev pub IsFaultless : Command → List (List ℕ) → Type 0
 IsFaultless (walk w) contents = IsFaultlessWalk w contents
 IsFaultless (dump d) contents = IsFaultlessDump d contents
 IsFaultless (triage t) contents = IsFaultlessTriage t contents
 IsFaultless (reach r) contents = IsFaultlessReach r contents
+IsFaultless (merge m) contents = IsFaultlessMerge m contents
 
 -- the causes that a command may come to though nothing is wrong with its files
 abbrev pub IsOwnCause : Cause → Type 0
 IsOwnCause (Reach error) = ⊤
 IsOwnCause (ReachIndex index) = ⊤
+IsOwnCause (Merge error) = ⊤
+IsOwnCause (MergeIndex index) = ⊤
 IsOwnCause _ = ⊥
 
 -- ---- statuses
@@ -192,12 +241,18 @@ abbrev pub reach_status : ReachError → ℕ
 reach_status reaching.OutOfMemory = 5
 reach_status reaching.ReachLimit = 9
 
+abbrev pub merge_status : CoreMergeError → ℕ
+merge_status merging.OutOfMemory = 5
+merge_status _ = 7
+
 -- want of memory has one status, wherever it came
 abbrev pub cause_status : Cause → ℕ
 cause_status (Core error) = core_status error
 cause_status (Layouts error) = layouts_status error
 cause_status (Reach error) = reach_status error
 cause_status (ReachIndex index) = 9
+cause_status (Merge error) = merge_status error
+cause_status (MergeIndex index) = 7
 cause_status OutOfMemory = 5
 
 abbrev pub outcome_status : Outcome → ℕ

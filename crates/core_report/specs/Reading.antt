@@ -5,9 +5,10 @@ use Rattle.outside.specs.Files.{Told, Gives}
 use Rattle.py_layout.specs.File.{IsRightFor}
 use Rattle.py_layout.specs.declared.error.LayoutError.{LayoutError}
 use Rattle.py_layout.specs.declared.error.LayoutError.TheVariants as layout
-use Rattle.core_words.specs.Words.{Command, Triage, dump, files_of, kept_files, reach, triage, walk}
+use Rattle.core_words.specs.Words.{Command, Triage, dump, files_of, kept_files, merge, reach, triage, walk}
 use Rattle.core_report.specs.declared.walk_command.WalkFiles.{WalkFiles}
 use Rattle.core_report.specs.declared.report_files.ReportFiles.{ReportFiles}
+use Rattle.core_report.specs.declared.merge_command.MergeFiles.{MergeFiles}
 use Rattle.core_report.specs.declared.triage_command.TriageFiles.{TriageFiles}
 
 -- the text of a layout file is at fault
@@ -28,6 +29,7 @@ Stops (walk w) contents = ⊥
 Stops (dump d) contents = ⊥
 Stops (triage t) contents = StopsTriage t contents
 Stops (reach r) contents = ⊥
+Stops (merge m) contents = ⊥
 
 -- this is the file that is asked for after these contents
 pub record IsNext (command : Command) (contents : List (List ℕ)) (name : List ℕ) : Type 0 where
@@ -69,6 +71,10 @@ walk_contents files = files.core.items ∷ text_contents files.layouts
 -- and the files of a report
 abbrev pub report_contents : ReportFiles → List (List ℕ)
 report_contents files = files.core.items ∷ files.layouts.items ∷ contents files.images.items
+
+-- and the files of a merge
+abbrev pub merge_contents : MergeFiles → List (List ℕ)
+merge_contents files = report_contents files.report ++ files.addresses.items ∷ []
 
 -- and those of cores in groups that are read before the cores
 abbrev pub triage_contents : TriageFiles → List (List ℕ)

@@ -6,7 +6,7 @@ use Rattle.outside.specs.Files.{FailedNames, FilesSeen, Told}
 use Rattle.outside.specs.Streams.{SinkSeen}
 use Rattle.outside.specs.declared.faults.FileFault.{FileFault}
 use Rattle.outside.specs.declared.faults.FileFault.TheVariants as fault
-use Rattle.core_words.specs.Words.{Command, Triage, Walk, kept_files, triage, walk}
+use Rattle.core_words.specs.Words.{Command, Merge, Triage, Walk, kept_files, merge, triage, walk}
 use Rattle.core_texts.specs.Parts.{line}
 use Rattle.core_texts.specs.Says.{IsAdded, IsCutOff, Says}
 use Rattle.core_report.specs.declared.cause.Cause.{Cause}
@@ -20,8 +20,9 @@ use Rattle.core_report.specs.Grouped.{AreJudged, Judged}
 use Rattle.core_report.specs.Judging.{Keeps}
 use Rattle.core_report.specs.declared.judged.JudgedCores.{JudgedCores}
 use Rattle.core_report.specs.declared.report_files.ReportFiles.{ReportFiles}
+use Rattle.core_report.specs.declared.merge_command.MergeFiles.{MergeFiles}
 use Rattle.core_report.specs.declared.triage_command.TriageFiles.{TriageFiles}
-use Rattle.core_report.specs.Reading.{IsAll, IsNext, IsRead, contents, report_contents, triage_contents, walk_contents}
+use Rattle.core_report.specs.Reading.{IsAll, IsNext, IsRead, contents, merge_contents, report_contents, triage_contents, walk_contents}
 use Rattle.core_report.specs.Outcome.{IsOutcome, IsOwnCause, Outcome, cause_status}
 use Rattle.core_report.specs.Lines.{cause_parts, file_parts}
 
@@ -189,6 +190,12 @@ abbrev pub HasReportFiles : FilesSeen → FilesSeen → Command → ℕ → Resu
 HasReportFiles old new command count (Ok files) =
     HasFirst old new command (report_contents files) × (length files.images.items ≡ count)
 HasReportFiles old new command count (Err trouble) = IsTroubled old new command trouble
+
+-- and the files of a merge
+abbrev pub HasMergeFiles : FilesSeen → FilesSeen → Merge → Result MergeFiles Trouble → Type 0
+HasMergeFiles old new m (Ok files) = HasAll old new (merge m) (merge_contents files)
+    × (length files.report.images.items ≡ length m.images)
+HasMergeFiles old new m (Err trouble) = IsTroubled old new (merge m) trouble
 
 -- and those of cores in groups that are read before the cores
 abbrev pub HasTriageFiles : FilesSeen → FilesSeen → Triage → Result TriageFiles Trouble → Type 0

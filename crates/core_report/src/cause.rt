@@ -2,6 +2,7 @@
 ghost use Rattle.std.specs.Prelude.{◌≡◌};
 ghost use Rattle.core_report.specs.Outcome.{cause_status};
 
+use core_merge::CoreMergeError;
 use object_reach::ReachError;
 use py_layout::LayoutError;
 use py_process::CoreError;
@@ -18,6 +19,10 @@ pub(crate) enum Cause {
     Reach(ReachError),
     /// What a thread's locals lead to was asked for, and there are no more threads than this number.
     ReachIndex { index: u64 },
+    /// The frames of a thread are not merged with native addresses.
+    Merge(CoreMergeError),
+    /// A thread was to be merged with native addresses, and there are no more threads than this number.
+    MergeIndex { index: u64 },
     /// There was no memory left.
     OutOfMemory,
 }
@@ -31,9 +36,11 @@ impl Cause {
             Cause::Core(CoreError::OutOfMemory)
             | Cause::Layouts(LayoutError::OutOfMemory)
             | Cause::Reach(ReachError::OutOfMemory)
+            | Cause::Merge(CoreMergeError::OutOfMemory)
             | Cause::OutOfMemory => 5,
             Cause::Core(_) => 1,
             Cause::Layouts(_) => 6,
+            Cause::Merge(_) | Cause::MergeIndex { .. } => 7,
             Cause::Reach(ReachError::ReachLimit) | Cause::ReachIndex { .. } => 9,
         }
     }
@@ -66,6 +73,16 @@ impl From<ReachError> for Cause {
 
     fn from(error: ReachError) -> Cause {
         Cause::Reach(error)
+    }
+}
+
+impl From<CoreMergeError> for Cause {
+    ghost use Rattle.core_report.specs.declared.cause.Cause.TheVariants.{Merge};
+
+    ghost from_gives = { λ error cause. cause ≡ Merge error };
+
+    fn from(error: CoreMergeError) -> Cause {
+        Cause::Merge(error)
     }
 }
 

@@ -14,6 +14,7 @@ ghost use Rattle.core_report.specs.Run.{Comes, EndsItself, HasEnded, HasRun, Rea
 use crate::cause::Cause;
 use crate::dump_command::dump_over;
 use crate::lines::tell;
+use crate::merge_command::{MergeFiles, merge_over};
 use crate::reach_command::reach_over;
 use crate::report_files::ReportFiles;
 use crate::triage_command::{TriageFiles, triage_over};
@@ -51,6 +52,10 @@ fn text_of<'a, F: Files>(
             let (core, layouts) = (words.core.as_bytes(), words.layouts.as_bytes());
             let read = ReportFiles::read(alloc, core, layouts, &words.images, files)?;
             Ok(reach_over(alloc, words, read)?)
+        }
+        Command::Merge(words) => {
+            let read = MergeFiles::read(alloc, words, files)?;
+            Ok(merge_over(alloc, words, read)?)
         }
     }
 }
@@ -95,6 +100,9 @@ fn execute<'a, F: Files, S: Sink>(
 /// - 4: the text can't be written; a front of it may have been.
 /// - 5: there is no memory left.
 /// - 6: the layout file has a fault, as `py_layout::Layouts::from_toml` orders them.
+/// - 7: the frames of a thread were to be merged with native addresses, and there is no thread of that number, a line
+///   of the addresses is none, maps overlap, a place in a file passes 2^64 - 1, or the steps don't fit the frames
+///   (`core_merge::merge_thread`).
 /// - 9: what a thread's locals lead to was asked for, and there is no thread of that number, or they lead to more than
 ///   2^20 objects or 2^24 slots (`object_reach::reach`).
 pub fn run<F: Files, S: Sink, E: Sink>(
@@ -109,7 +117,7 @@ pub fn run<F: Files, S: Sink, E: Sink>(
         (ran (F.seen files.old) (F.seen files.new) (S.seen out.old) (S.seen out.new))
         (E.seen err.old) (E.seen err.new) result }
 
-    ensures statuses { (result ≤ 6) ⊎ (result ≡ 9) }
+    ensures statuses { (result ≤ 7) ⊎ (result ≡ 9) }
 
     // status 0 comes only after the whole text of what the command comes to was written
     ensures printed { result ≡ 0 → (text : List ℕ)

@@ -11,6 +11,7 @@ mod dump_command;
 mod judged;
 mod layouts;
 mod lines;
+mod merge_command;
 mod reach_command;
 mod reading;
 mod report_files;

@@ -3,11 +3,12 @@ ghost use Rattle.std.specs.Prelude.{◌≡◌, ◌++◌, codes};
 ghost use Rattle.std.specs.List.{concat};
 ghost use Rattle.py_version.specs.Version.{version_text};
 ghost use Rattle.core_texts.specs.Parts.{said};
-ghost use Rattle.core_report.specs.Lines.{cause_parts, core_parts, file_parts, layout_parts, range_parts, reach_parts};
+ghost use Rattle.core_report.specs.Lines.{cause_parts, core_parts, file_parts, layout_parts, merge_parts, range_parts, reach_parts};
 ghost use Rattle.core_report.specs.Run.{SaysEnd, end_at, end_after, end_parts, end_status};
 
 use crate::cause::Cause;
 use crate::trouble::Trouble;
+use core_merge::CoreMergeError;
 use core_texts::{Part, Parts, parts, say_line};
 use object_reach::ReachError;
 use outside::{FileFault, Sink};
@@ -136,6 +137,16 @@ fn reach_parts<'a>(error: &ReachError) -> Parts<'a>
     }
 }
 
+/// Why the frames of a thread are not merged.
+fn merge_parts<'a>(error: &CoreMergeError) -> Parts<'a>
+    ensures { said result ≡ concat (merge_parts error.now) }
+{
+    match error {
+        CoreMergeError::OutOfMemory => text_part("out of memory"),
+        _ => text_part("cannot merge"),
+    }
+}
+
 /// Why a command gives no text.
 pub(crate) fn cause_parts<'a>(cause: &'a Cause) -> Parts<'a>
     ensures { said result ≡ concat (cause_parts cause.now) }
@@ -147,6 +158,8 @@ pub(crate) fn cause_parts<'a>(cause: &'a Cause) -> Parts<'a>
         Cause::ReachIndex { index } => {
             parts(&[Part::Text("no such thread: "), Part::Decimal(*index)])
         }
+        Cause::Merge(error) => merge_parts(error),
+        Cause::MergeIndex { .. } => text_part("cannot merge"),
         Cause::OutOfMemory => text_part("out of memory"),
     }
 }

@@ -1,8 +1,8 @@
 use Rattle.std.proofs.Common.{◌≡◌, ap, length, refl}
 use Rattle.std.proofs.lemmas.Result.{err_from_is_err_and}
-use Rattle.core_words.specs.Seen.{asked_dump, asked_reach, asked_triage, asked_walk}
-use Rattle.core_words.specs.Words.{dump, reach, triage, walk}
-use Rattle.core_report.specs.Reading.{report_contents, walk_contents}
+use Rattle.core_words.specs.Seen.{asked_dump, asked_merge, asked_reach, asked_triage, asked_walk}
+use Rattle.core_words.specs.Words.{dump, merge, reach, triage, walk}
+use Rattle.core_report.specs.Reading.{merge_contents, report_contents, walk_contents}
 use Rattle.core_report.proofs.Turns.{caused_of, comes_from, comes_of, dump_asks, dump_has, reach_asks, reach_has, troubled_from}
 use Rattle.core_report.proofs.command.text_of.Goals as goal
 
@@ -64,3 +64,14 @@ returns-in_ok-reach_over-in-Reach-clause-comes g c =
     let has = reach_has _ _ r read.read _ c.deref-in-Reach.ensures.value
     (read.ensures.read (reach r) (reach_asks r _ _ _ c.as_bytes-core-in-Reach.ensures.value c.as_bytes-layouts-in-Reach.ensures.value c.deref-in-Reach.ensures.value)) in
     rw c.in-Reach.is (comes_of _ _ (reach r) (report_contents read.read) c.in_ok-reach_over-in-Reach.field-0 has c.in_ok-reach_over-in-Reach.ensures)
+
+pub returns-in_err-merge_over-in-Merge-clause-comes : goal.returns-in_err-merge_over-in-Merge-clause-comes
+returns-in_err-merge_over-in-Merge-clause-comes g c =
+    let p = err_from_is_err_and c.from_residual-in_err-merge_over-in-Merge.result c.from_residual-in_err-merge_over-in-Merge.ensures.1 in
+    let read = c.in_ok-read-in-Merge in
+    rw (c.in-Merge.is, p.1, p.2) (caused_of _ _ (merge (asked_merge c.in-Merge.words)) (merge_contents read.read) _ read.ensures.read.0 c.in_err-merge_over-in-Merge.ensures)
+
+pub returns-in_ok-merge_over-in-Merge-clause-comes : goal.returns-in_ok-merge_over-in-Merge-clause-comes
+returns-in_ok-merge_over-in-Merge-clause-comes g c =
+    let read = c.in_ok-read-in-Merge in
+    rw c.in-Merge.is (comes_of _ _ (merge (asked_merge c.in-Merge.words)) (merge_contents read.read) c.in_ok-merge_over-in-Merge.field-0 read.ensures.read.0 c.in_ok-merge_over-in-Merge.ensures)
