@@ -1,13 +1,11 @@
 -- The bytes of characters, by the lowest bytes of their codes.
-use Rattle.std.proofs.Common.{◌≡◌, ◌∙◌, ◌+◌, ◌<◌, ◌^◌, ◌%◌, ℕ, Bool, true, false, List, [], ◌∷◌, ◌++◌, take, ltb, refl, sym, ap, ap₂, arith}
-use Rattle.std.specs.Prelude.{◌&&◌}
+use Rattle.std.proofs.Common.{◌≡◌, ◌<◌, ◌%◌, ℕ, true, List, [], ◌∷◌, ◌++◌, ltb, refl, ap, ap₂, arith}
 use Rattle.std.specs.List.{flat_map}
 use Rattle.std.specs.Int.{w16, w32, to_le_bytes}
-use Rattle.std.specs.Char.Escape.{encode_utf16}
 use Rattle.std.proofs.lemmas.Bool.{and_parts, ltb-true}
 use Rattle.std.proofs.str.Utf16.{one_unit}
 use Rattle.py_builtins.specs.TextKind.{coded}
-use Rattle.py_builtins.specs.declared.coding.TextKind.TheVariants.{Utf8, Latin1, Utf16, Utf32}
+use Rattle.py_builtins.specs.declared.coding.TextKind.TheVariants.{Latin1, Utf16, Utf32}
 use Rattle.memory_builder.specs.Sizes.{all_under}
 use Rattle.memory_builder.specs.Texts.{code_bytes}
 

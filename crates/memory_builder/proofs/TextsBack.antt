@@ -29,7 +29,7 @@ use Rattle.memory_builder.specs.Objects.{Value, bytes_of, len_of, object, option
 use Rattle.memory_builder.specs.Objects.Value.{U32, Bytes}
 use Rattle.memory_builder.specs.Placing.{Stands}
 use Rattle.memory_builder.specs.Room.{HasRoom, klass_place}
-use Rattle.memory_builder.specs.Sizes.{all_under, characters_len, characters_start, is_short_headed, least_width, text_len}
+use Rattle.memory_builder.specs.Sizes.{all_under, is_short_headed, least_width, text_len}
 use Rattle.memory_builder.specs.Texts.{AreBits, Suits, least_kind, kind_for, units_of, state_of, state_by, start_of, klass_write, text_writes, text_object}
 use Rattle.memory_builder.specs.Validity.{IsBriefText}
 use Rattle.memory_builder.proofs.Objects.{length-object, part-object, u64_read, u32_read}

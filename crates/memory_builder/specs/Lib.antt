@@ -5,10 +5,12 @@ pub mod Mirror
 pub mod Objects
 pub mod Placing
 pub mod Program
+pub mod ReadBack
 pub mod Room
 pub mod Sizes
 pub mod Texts
 pub mod Threads
+pub mod Told
 pub mod Validity
 pub mod Values
 pub mod Writes

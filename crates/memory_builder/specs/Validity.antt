@@ -1,6 +1,6 @@
 -- Which programs can be written. That names are short, files are named and lines are positive is so that what is
 -- written can be read back; the counts and the size of numbers are this project's own bounds.
-use Rattle.std.specs.Prelude.{◌≡◌, ◌≢◌, ℕ, ◌-◌, ◌%◌, ◌^◌, ◌<◌, ◌≤◌, ◌⊎◌, ℤ, pos, ◌≤ℤ◌, unsigned_abs, true, Option, Some, None, IfSome, IsTrue, List, [], length, take, slice_get, All, codes, encode_utf8_all}
+use Rattle.std.specs.Prelude.{◌≡◌, ◌≢◌, ℕ, ◌-◌, ◌%◌, ◌^◌, ◌<◌, ◌≤◌, ◌⊎◌, ℤ, pos, ◌≤ℤ◌, unsigned_abs, true, Option, Some, None, IfSome, IsTrue, List, [], length, take, slice_get, codes, encode_utf8_all}
 use Rattle.std.specs.List.{AllByRecursion, list_any}
 use Rattle.std.specs.Str.{all_scalars}
 use Rattle.py_lines.specs.declared.lines.LineFamily.{LineFamily}

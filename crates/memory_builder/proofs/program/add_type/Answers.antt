@@ -1,4 +1,4 @@
-use Rattle.std.proofs.Common.{◌≡◌, ◌∙◌, ◌+◌, ◌++◌, ap}
+use Rattle.std.proofs.Common.{◌∙◌, ◌+◌, ◌++◌, ap}
 use Rattle.memory_builder.specs.Laid.{laid_type, type_name, type_writes}
 use Rattle.memory_builder.specs.Objects.{aligned, object}
 use Rattle.memory_builder.specs.Sizes.{rounded}

@@ -1,4 +1,4 @@
-use Rattle.std.proofs.Common.{arith, rules}
+use Rattle.std.proofs.Common.{arith}
 use Rattle.memory_builder.specs.Sizes.{text_len}
 use Rattle.memory_builder.proofs.sizes.text_len.Goals as goal
 

@@ -1,4 +1,4 @@
-use Rattle.std.proofs.Common.{◌≡◌, ◌∙◌, ◌+◌, ◌++◌, ap, map, sym, refl, arith}
+use Rattle.std.proofs.Common.{◌∙◌, ◌+◌, ◌++◌, ap, map, refl, arith}
 use Rattle.memory_builder.specs.Chains.{addresses_from}
 use Rattle.memory_builder.specs.Mirror.{item_in}
 use Rattle.memory_builder.specs.Objects.{bytes_of}
