@@ -13,8 +13,8 @@ use Rattle.py_stacks.specs.Detail.{detail_at}
 use Rattle.py_stacks.specs.Lines.{line_at, line_by, line_in}
 use Rattle.py_stacks.specs.Locals.{asked_locals, locals_at, names_tuple_of}
 use Rattle.py_stacks.specs.Frames.{AreFrames, back_of, call_named, plain_by, shown_at, shown_by, visible}
-use Rattle.memory_builder.specs.Placing.{Stands}
-use Rattle.memory_builder.specs.Room.{HasRoom}
+use Rattle.object_builder.specs.Placing.{Stands}
+use Rattle.object_builder.specs.Room.{HasRoom}
 use Rattle.memory_builder.specs.Program.{Frame}
 use Rattle.memory_builder.specs.Chains.{head_of, laid_chain, addresses_from, values_at}
 use Rattle.memory_builder.specs.Values.{address_array}

@@ -7,8 +7,8 @@ use Rattle.py_fields.proofs.Fields.{frame_fits}
 use Rattle.py_fields.specs.declared.layout.Lasti.{Lasti}
 use Rattle.py_fields.specs.declared.layout.Lasti.TheVariants.{Bytes as InBytes, Units, Pointer}
 use Rattle.py_fields.specs.declared.layout.Layout.{Layout}
-use Rattle.memory_builder.specs.Objects.{len_of, optional_write, write_place}
-use Rattle.memory_builder.specs.Objects.Value.{U8}
+use Rattle.object_builder.specs.Objects.{len_of, optional_write, write_place}
+use Rattle.object_builder.specs.Objects.Value.{U8}
 use Rattle.memory_builder.specs.Frames.{frame_writes, instr_value, start_in}
 
 pub len-instr : (x : Lasti) (start offset : ℕ) → len_of (instr_value x start offset) ≡ instr_width x

@@ -15,26 +15,26 @@ use Rattle.py_builtins.specs.Texts.{text_at}
 use Rattle.py_stacks.specs.Frames.{code_of, is_entered, records_at}
 use Rattle.py_stacks.specs.Lines.{first_line, offset_of}
 use Rattle.py_stacks.specs.Locals.{count_of}
-use Rattle.memory_builder.specs.Objects.{bytes_of, object, aligned}
-use Rattle.memory_builder.specs.Objects.Value.{Bytes}
-use Rattle.memory_builder.specs.Placing.{Stands}
+use Rattle.object_builder.specs.Objects.{bytes_of, object, aligned}
+use Rattle.object_builder.specs.Objects.Value.{Bytes}
+use Rattle.object_builder.specs.Placing.{Stands}
 use Rattle.memory_builder.specs.Program.{Frame}
-use Rattle.memory_builder.specs.Room.{HasRoom}
-use Rattle.memory_builder.specs.Texts.{text_object}
+use Rattle.object_builder.specs.Room.{HasRoom}
+use Rattle.object_builder.specs.Texts.{text_object}
 use Rattle.memory_builder.specs.Chains.{addresses_from}
 use Rattle.memory_builder.specs.Values.{address_array, laid_all, laid_name, laid_local}
 use Rattle.memory_builder.specs.Sizes.{frame_len, frame_size, local_size, name_size, records_size, table_len, text_len, tuple_len}
 use Rattle.memory_builder.specs.Frames.{code_place, table_place, tuple_place, file_place, name_place, names_place, values_place, start_in, frame_writes, code_writes, tuple_writes, table_object, coded_lines, first_number, laid_records, laid_contents, laid_frame}
 use Rattle.memory_builder.specs.declared.values.TypesAt.{TypesAt}
-use Rattle.memory_builder.proofs.Objects.{length-object, u64_read, u32_read}
-use Rattle.memory_builder.proofs.Placing.{record_stands_first, stands_write, stands_object, stands_rest, stands_left, stands_right, length-aligned}
+use Rattle.object_builder.proofs.Objects.{length-object, u64_read, u32_read}
+use Rattle.object_builder.proofs.Placing.{record_stands_first, stands_write, stands_object, stands_rest, stands_left, stands_right, length-aligned}
 use Rattle.memory_builder.proofs.Chains.{length-chain, chain_even}
 use Rattle.memory_builder.proofs.Growing.{all_flat}
 use Rattle.memory_builder.proofs.Groups.{frame_group, code_group, table_group, tuple_group, tag_is, fits_i32, signed_small, instr_back, entry_back, start_below, table_back}
 use Rattle.memory_builder.proofs.LaidValues.{addresses_len}
 use Rattle.memory_builder.proofs.Plain.{IsFrame}
 use Rattle.memory_builder.proofs.ValuesBack.{length-local, length-name, local_even, name_even}
-use Rattle.memory_builder.proofs.TextsBack.{length-text, text_back}
+use Rattle.object_builder.proofs.TextsBack.{length-text, text_back}
 
 -- ---- the objects
 

@@ -18,14 +18,14 @@ use Rattle.py_builtins.specs.Bytes.{bytes_object_at, bytes_of_length}
 use Rattle.py_stacks.specs.Member.{MemberAt}
 use Rattle.py_stacks.specs.Frames.{entered_at}
 use Rattle.py_stacks.specs.Lines.{offset_by}
-use Rattle.memory_builder.specs.Objects.{Write, bytes_of, object, optional_write, write_place}
-use Rattle.memory_builder.specs.Objects.Value.{U8, Bytes}
-use Rattle.memory_builder.specs.Placing.{Stands}
+use Rattle.object_builder.specs.Objects.{Write, bytes_of, object, optional_write, write_place}
+use Rattle.object_builder.specs.Objects.Value.{U8, Bytes}
+use Rattle.object_builder.specs.Placing.{Stands}
 use Rattle.memory_builder.specs.Frames.{start_in, instr_value, frame_writes, code_writes, table_writes, tuple_writes}
 use Rattle.memory_builder.proofs.FrameInside.{len-instr}
-use Rattle.memory_builder.proofs.Objects.{length-object, part-object, u64_read, u32_read, u8_read}
-use Rattle.memory_builder.proofs.Placing.{record_stands, record_stands_first}
-use Rattle.memory_builder.proofs.TextsBack.{place_optional}
+use Rattle.object_builder.proofs.Objects.{length-object, part-object, u64_read, u32_read, u8_read}
+use Rattle.object_builder.proofs.Placing.{record_stands, record_stands_first}
+use Rattle.object_builder.proofs.TextsBack.{place_optional}
 
 -- ---- groups with a part behind the fields
 

@@ -17,7 +17,7 @@ use Rattle.py_stacks.proofs.OverLaws.{over_whole}
 use Rattle.memory_builder.specs.Laid.{gil_place, laid_program, owner_id}
 use Rattle.memory_builder.specs.Program.{Program}
 use Rattle.memory_builder.specs.ReadBack.{NamesOwner, StandsAlone, TellsInterpreter, TellsOwner, TellsStacks}
-use Rattle.memory_builder.specs.Room.{HasRoom}
+use Rattle.object_builder.specs.Room.{HasRoom}
 use Rattle.memory_builder.specs.Told.{program_told}
 use Rattle.memory_builder.specs.Validity.{IsValidProgram}
 use Rattle.memory_builder.proofs.OverBack.{over_back}

@@ -4,8 +4,8 @@ use Rattle.std.specs.Prelude.{IfOk, Result}
 use Rattle.std.specs.List.{flat_map}
 use Rattle.py_fields.specs.declared.layout.Layout.{Layout}
 use Rattle.memory_builder.specs.Chains.{addresses_from}
-use Rattle.memory_builder.specs.Objects.{Write, aligned, object}
-use Rattle.memory_builder.specs.Objects.Value.{U64}
+use Rattle.object_builder.specs.Objects.{Write, aligned, object}
+use Rattle.object_builder.specs.Objects.Value.{U64}
 use Rattle.memory_builder.specs.Program.{Item}
 use Rattle.memory_builder.specs.Program.Held.{Items}
 use Rattle.memory_builder.specs.Sizes.{item_size, list_len}

@@ -8,18 +8,18 @@ use Rattle.py_fields.specs.Sound.{IsSound}
 use Rattle.py_fields.specs.declared.layout.Layout.{Layout}
 use Rattle.py_stacks.specs.Member.{MemberAt}
 use Rattle.py_stacks.specs.Locals.{names_tuple_of, local_at, local_by, is_argument, variable_name_at, locals_from, cleared}
-use Rattle.memory_builder.specs.Placing.{Stands}
-use Rattle.memory_builder.specs.Room.{HasRoom}
+use Rattle.object_builder.specs.Placing.{Stands}
+use Rattle.object_builder.specs.Room.{HasRoom}
 use Rattle.memory_builder.specs.Program.{Local}
-use Rattle.memory_builder.specs.Texts.{text_object}
+use Rattle.object_builder.specs.Texts.{text_object}
 use Rattle.memory_builder.specs.Validity.{IsBriefText}
 use Rattle.memory_builder.specs.Sizes.{local_size, name_size}
 use Rattle.memory_builder.specs.declared.values.TypesAt.{TypesAt}
 use Rattle.memory_builder.specs.Chains.{laid_chain, addresses_from}
 use Rattle.memory_builder.specs.Values.{address_array, laid_all, laid_name, laid_local}
 use Rattle.memory_builder.proofs.Plain.{locals_for}
-use Rattle.memory_builder.proofs.Placing.{stands_left, stands_right, stands_last}
-use Rattle.memory_builder.proofs.TextsBack.{text_back}
+use Rattle.object_builder.proofs.Placing.{stands_left, stands_right, stands_last}
+use Rattle.object_builder.proofs.TextsBack.{text_back}
 use Rattle.memory_builder.proofs.ValuesBack.{word_first, words_rest, length-local, length-name, local_even}
 
 module _ (l : Layout) (sound : IsSound l) (room : HasRoom l) (t : TypesAt) (m : Memory) (r : MemberAt) (args : ℕ) (args_is : u32_in r.code l.code.argcount ≡ args) where

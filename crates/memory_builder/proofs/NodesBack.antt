@@ -27,23 +27,23 @@ use Rattle.py_objects.specs.Shows.Node.{Whole, Quoted}
 use Rattle.py_objects.specs.Shows.Child.{Item as ItemChild}
 use Rattle.py_objects.specs.Nodes.PartsPlace.{ItemsAt}
 use Rattle.memory_builder.proofs.ProgramBack.{length-type_name}
-use Rattle.memory_builder.specs.Objects.{bytes_of, object, part, put_at, write_place, aligned}
-use Rattle.memory_builder.specs.Objects.Value.{U64}
-use Rattle.memory_builder.specs.Placing.{Stands}
+use Rattle.object_builder.specs.Objects.{bytes_of, object, part, put_at, write_place, aligned}
+use Rattle.object_builder.specs.Objects.Value.{U64}
+use Rattle.object_builder.specs.Placing.{Stands}
 use Rattle.memory_builder.specs.Program.{Item, Held}
 use Rattle.memory_builder.specs.Program.Item.{Number, Words}
 use Rattle.memory_builder.specs.Program.Held.{Single, Items}
-use Rattle.memory_builder.specs.Room.{HasRoom}
-use Rattle.memory_builder.specs.Texts.{text_object, text_writes, kind_for}
+use Rattle.object_builder.specs.Room.{HasRoom}
+use Rattle.object_builder.specs.Texts.{text_object, text_writes, kind_for}
 use Rattle.memory_builder.specs.Validity.{IsBriefText, IsValidHeld, IsValidItem}
 use Rattle.memory_builder.specs.Sizes.{item_size, list_len, number_len, rounded, text_len}
 use Rattle.memory_builder.specs.declared.values.TypesAt.{TypesAt}
 use Rattle.memory_builder.specs.Chains.{laid_chain, addresses_from}
 use Rattle.memory_builder.specs.Values.{address_array, count_for, digit_count, digits_word, first_item, is_below, items_place, laid_all, laid_item, laid_value, list_writes, number_writes}
 use Rattle.memory_builder.specs.Laid.{laid_type, type_name, type_writes}
-use Rattle.memory_builder.proofs.Objects.{get_or-part, length-object, length-part, part-object, part-take, u64_read}
-use Rattle.memory_builder.proofs.Placing.{record_stands_first, stands_last, stands_left, stands_object, stands_rest, stands_right, word_stands}
-use Rattle.memory_builder.proofs.TextsBack.{text_back, text_group}
+use Rattle.object_builder.proofs.Objects.{get_or-part, length-object, length-part, part-object, part-take, u64_read}
+use Rattle.object_builder.proofs.Placing.{record_stands_first, stands_last, stands_left, stands_object, stands_rest, stands_right, word_stands}
+use Rattle.object_builder.proofs.TextsBack.{text_back, text_group}
 use Rattle.memory_builder.proofs.ValuesBack.{length-address_array, length-item, list_group, number_group, word_first, words_rest}
 use Rattle.std.specs.List.{AllByRecursion}
 use Rattle.memory_builder.proofs.Chains.{length-places}

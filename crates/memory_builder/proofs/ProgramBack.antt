@@ -16,12 +16,12 @@ use Rattle.py_stacks.specs.Asking.{nothing}
 use Rattle.py_stacks.specs.Interpreter.{IsInterpreter, named_at, interpreter_named_by, threads_head}
 use Rattle.py_stacks.proofs.Holders.{holder_id_none, holder_id_some, id_none, id_some}
 use Rattle.py_stacks.specs.Threads.{AreTraces, IsTraceOf, Trace}
-use Rattle.memory_builder.specs.Objects.{object, optional_write, write_place, aligned}
+use Rattle.object_builder.specs.Objects.{object, optional_write, write_place, aligned}
 use Rattle.memory_builder.specs.Sizes.{gil_size, interpreter_len, rounded, thread_size, type_size, word_end}
 use Rattle.std.specs.List.{sum_by}
-use Rattle.memory_builder.specs.Objects.Value.{U64, Bytes}
-use Rattle.memory_builder.specs.Placing.{Stands}
-use Rattle.memory_builder.specs.Room.{HasRoom}
+use Rattle.object_builder.specs.Objects.Value.{U64, Bytes}
+use Rattle.object_builder.specs.Placing.{Stands}
+use Rattle.object_builder.specs.Room.{HasRoom}
 use Rattle.memory_builder.specs.Program.{Program, Thread}
 use Rattle.memory_builder.specs.Chains.{AllAt, head_of, addresses_from}
 use Rattle.memory_builder.proofs.Chains.{length-chain, place_below}
@@ -29,9 +29,9 @@ use Rattle.memory_builder.specs.declared.values.TypesAt.{TypesAt}
 use Rattle.memory_builder.proofs.Plain.{IsThread, stacks_for, trace_for, traces_for}
 use Rattle.memory_builder.specs.Threads.{laid_thread, laid_threads}
 use Rattle.memory_builder.specs.Laid.{first_place, gil_place, gil_writes, interpreter_object, interpreter_writes, is_held, laid_gil, laid_program, laid_type, owner_id, owner_place, place_or_none, three_types, type_name, type_writes, types_at, types_place}
-use Rattle.memory_builder.proofs.Objects.{length-object, u64_read, u32_read}
-use Rattle.memory_builder.proofs.Placing.{record_stands_first, stands_left, stands_right, stands_object, stands_last, stands_rest, length-aligned, word_stands}
-use Rattle.memory_builder.proofs.TextsBack.{place_optional}
+use Rattle.object_builder.proofs.Objects.{length-object, u64_read, u32_read}
+use Rattle.object_builder.proofs.Placing.{record_stands_first, stands_left, stands_right, stands_object, stands_last, stands_rest, length-aligned, word_stands}
+use Rattle.object_builder.proofs.TextsBack.{place_optional}
 use Rattle.memory_builder.proofs.ThreadsBack.{length-thread, first_named, threads_back, threads_each}
 
 gil_within : (o : Option ℕ) (n : ℕ) → word_end o ≤ n → (optional_place o 8).0 + (optional_place o 8).1 ≤ n

@@ -13,8 +13,8 @@ use Rattle.py_stacks.specs.Stacks.{by_holder}
 use Rattle.py_stacks.specs.Values.{by_value, text_or_mark, local_value_at, value_text, value_width, with_value, with_values}
 use Rattle.py_objects.specs.Nodes.{values_in}
 use Rattle.py_objects.specs.Shows.{show_at}
-use Rattle.memory_builder.specs.Placing.{Stands}
-use Rattle.memory_builder.specs.Room.{HasRoom}
+use Rattle.object_builder.specs.Placing.{Stands}
+use Rattle.object_builder.specs.Room.{HasRoom}
 use Rattle.memory_builder.specs.Program.{Frame, Local, Program, Thread}
 use Rattle.memory_builder.specs.Chains.{AllAt, head_of, laid_chain, values_at}
 use Rattle.memory_builder.specs.Values.{laid_all, laid_local}
@@ -24,7 +24,7 @@ use Rattle.memory_builder.specs.declared.values.TypesAt.{TypesAt}
 use Rattle.memory_builder.specs.Frames.{laid_frame, values_place}
 use Rattle.memory_builder.proofs.Plain.{IsFrame, IsThread, asked_for, call_for, calls_for, locals_for, stacks_for, trace_for, traces_for}
 use Rattle.memory_builder.specs.Told.{asked_told, call_told, calls_told, locals_told, program_told, told_text, trace_told}
-use Rattle.memory_builder.proofs.Placing.{stands_left, stands_right}
+use Rattle.object_builder.proofs.Placing.{stands_left, stands_right}
 use Rattle.memory_builder.proofs.ValuesBack.{length-local}
 use Rattle.py_stacks.specs.Frames.{back_of}
 use Rattle.memory_builder.specs.Threads.{frames_place, laid_thread, laid_threads}

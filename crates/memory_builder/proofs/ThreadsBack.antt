@@ -14,21 +14,21 @@ use Rattle.py_stacks.specs.declared.asked.Asked.{Asked}
 use Rattle.py_stacks.specs.Asking.{nothing}
 use Rattle.py_stacks.specs.Threads.{AreTraces, AreTracesOf, IsTraceOf, first_frame_at, frame_through, native_id, thread_after}
 use Rattle.py_stacks.specs.Interpreter.{interpreter_named_by}
-use Rattle.memory_builder.specs.Objects.{Write, object, optional_write, write_place}
+use Rattle.object_builder.specs.Objects.{Write, object, optional_write, write_place}
 use Rattle.memory_builder.specs.Sizes.{cframe_size, frame_size, rounded, thread_size}
-use Rattle.memory_builder.specs.Objects.Value.{U64}
-use Rattle.memory_builder.specs.Placing.{Stands}
-use Rattle.memory_builder.specs.Room.{HasRoom}
+use Rattle.object_builder.specs.Objects.Value.{U64}
+use Rattle.object_builder.specs.Placing.{Stands}
+use Rattle.object_builder.specs.Room.{HasRoom}
 use Rattle.memory_builder.specs.Program.{Frame, Thread}
 use Rattle.memory_builder.specs.Chains.{AllAt, head_of, laid_chain, addresses_from}
 use Rattle.memory_builder.specs.declared.values.TypesAt.{TypesAt}
 use Rattle.memory_builder.proofs.Plain.{IsThread, trace_for, traces_for}
 use Rattle.memory_builder.specs.Frames.{laid_frame}
 use Rattle.memory_builder.specs.Threads.{cframe_place, cframe_writes, frame_field, frames_place, laid_cframe, laid_thread, laid_threads, thread_object, thread_writes}
-use Rattle.memory_builder.proofs.Objects.{length-object, u64_read}
-use Rattle.memory_builder.proofs.Placing.{record_stands_first, stands_left, stands_right, stands_object, stands_rest, length-aligned, word_stands}
+use Rattle.object_builder.proofs.Objects.{length-object, u64_read}
+use Rattle.object_builder.proofs.Placing.{record_stands_first, stands_left, stands_right, stands_object, stands_rest, length-aligned, word_stands}
 use Rattle.memory_builder.proofs.Chains.{chain_back, chain_even, head_below, length-chain, length-places}
-use Rattle.memory_builder.proofs.TextsBack.{place_optional}
+use Rattle.object_builder.proofs.TextsBack.{place_optional}
 use Rattle.memory_builder.proofs.FramesBack.{frame_even, length-frame}
 use Rattle.memory_builder.proofs.DetailsBack.{frames_back}
 

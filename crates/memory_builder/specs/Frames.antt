@@ -6,11 +6,11 @@ use Rattle.py_fields.specs.declared.layout.Lasti.{Lasti}
 use Rattle.py_fields.specs.declared.layout.Lasti.TheVariants.{Bytes as InBytes, Units, Pointer}
 use Rattle.py_fields.specs.declared.layout.Layout.{Layout}
 use Rattle.py_lines.specs.Coding.{coded}
-use Rattle.memory_builder.specs.Objects as objects
-use Rattle.memory_builder.specs.Objects.{Write, optional_write, object, aligned}
-use Rattle.memory_builder.specs.Objects.Value.{U64, U32, U8, Bytes}
+use Rattle.object_builder.specs.Objects as objects
+use Rattle.object_builder.specs.Objects.{Write, optional_write, object, aligned}
+use Rattle.object_builder.specs.Objects.Value.{U64, U32, U8, Bytes}
 use Rattle.memory_builder.specs.Program.{Frame}
-use Rattle.memory_builder.specs.Texts.{text_object}
+use Rattle.object_builder.specs.Texts.{text_object}
 use Rattle.memory_builder.specs.Chains.{addresses_from}
 use Rattle.memory_builder.specs.Values.{address_array, laid_all, laid_name, laid_local}
 use Rattle.memory_builder.specs.Sizes.{frame_len, local_size, name_size, rounded, table_len, text_len, tuple_len}

@@ -2,8 +2,8 @@
 use Rattle.std.specs.Prelude.{ℕ, zero, suc, ◌+◌, ◌^◌, Option, Some, None, List, [], ◌∷◌, ◌++◌, codes, map, slice_index_or}
 use Rattle.py_fields.specs.declared.layout.GilAt.{GilAt}
 use Rattle.py_fields.specs.declared.layout.Layout.{Layout}
-use Rattle.memory_builder.specs.Objects.{Write, optional_write, object, aligned}
-use Rattle.memory_builder.specs.Objects.Value.{U64, U32, Bytes}
+use Rattle.object_builder.specs.Objects.{Write, optional_write, object, aligned}
+use Rattle.object_builder.specs.Objects.Value.{U64, U32, Bytes}
 use Rattle.memory_builder.specs.Program.{Program, Thread}
 use Rattle.memory_builder.specs.Chains.{head_of, addresses_from}
 use Rattle.memory_builder.specs.Threads.{laid_threads}

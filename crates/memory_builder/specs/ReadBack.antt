@@ -9,7 +9,7 @@ use Rattle.py_stacks.specs.Interpreter.{IsInterpreter}
 use Rattle.py_stacks.specs.StacksOver.{AreStacksOver}
 use Rattle.py_stacks.specs.Threads.{Trace}
 use Rattle.memory_builder.specs.Laid.{gil_place, owner_id, owner_place}
-use Rattle.memory_builder.specs.Placing.{Stands}
+use Rattle.object_builder.specs.Placing.{Stands}
 use Rattle.memory_builder.specs.Program.{Program}
 use Rattle.memory_builder.specs.Told.{program_told}
 

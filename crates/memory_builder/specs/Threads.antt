@@ -2,8 +2,8 @@
 use Rattle.std.specs.Prelude.{ℕ, ◌+◌, Option, Some, None, List, [], ◌∷◌, ◌++◌}
 use Rattle.py_fields.specs.declared.layout.CframeAt.{CframeAt}
 use Rattle.py_fields.specs.declared.layout.Layout.{Layout}
-use Rattle.memory_builder.specs.Objects.{Write, optional_write, object, aligned}
-use Rattle.memory_builder.specs.Objects.Value.{U64}
+use Rattle.object_builder.specs.Objects.{Write, optional_write, object, aligned}
+use Rattle.object_builder.specs.Objects.Value.{U64}
 use Rattle.memory_builder.specs.Program.{Thread}
 use Rattle.memory_builder.specs.Chains.{head_of, laid_chain}
 use Rattle.memory_builder.specs.Frames.{laid_frame}

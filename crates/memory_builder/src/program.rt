@@ -9,16 +9,16 @@ ghost use Rattle.memory_builder.specs.Laid.{interpreter_writes, is_held, laid_gi
 ghost use Rattle.memory_builder.specs.Mirror.{program_in};
 ghost use Rattle.memory_builder.specs.Program.{Thread};
 ghost use Rattle.memory_builder.specs.Validity.{IsValidFrame, IsValidProgram};
-ghost use Rattle.memory_builder.specs.Objects.{aligned, object};
+ghost use Rattle.object_builder.specs.Objects.{aligned, object};
 ghost use Rattle.memory_builder.specs.ReadBack.{IsPlace, TellsInterpreter, TellsOwner, TellsStacks};
-ghost use Rattle.memory_builder.specs.Room.{HasRoom};
+ghost use Rattle.object_builder.specs.Room.{HasRoom};
 ghost use Rattle.memory_builder.specs.Sizes.{interpreter_len, program_size, thread_size, type_size};
 
-use crate::object::{Value, Write, add_object, optional_write};
 use crate::parts::Program;
-use crate::sizes::{gil_size, interpreter_len, rounded, thread_size};
+use crate::sizes::{gil_size, interpreter_len, thread_size};
 use crate::threads::{add_threads, threads_head};
 use crate::values::TypesAt;
+use object_builder::{Value, Write, add_object, optional_write, rounded};
 use py_fields::{GilAt, Layout};
 use std::alloc::{AllocError, Global};
 

@@ -6,7 +6,7 @@ use Rattle.memory_builder.specs.declared.parts.ProgramThread.{ProgramThread}
 use Rattle.memory_builder.specs.Chains.{addresses_from, head_of}
 use Rattle.memory_builder.specs.Laid.{first_place, gil_place, interpreter_object, interpreter_writes, laid_gil, laid_program, owner_place, place_or_none, three_types, types_at, types_place}
 use Rattle.memory_builder.specs.Mirror.{program_in, program_thread}
-use Rattle.memory_builder.specs.Objects.{aligned, object}
+use Rattle.object_builder.specs.Objects.{aligned, object}
 use Rattle.memory_builder.specs.Program.{Thread}
 use Rattle.memory_builder.specs.ReadBack.{TellsInterpreter, TellsOwner, TellsStacks}
 use Rattle.memory_builder.proofs.Inverse.{tells_interpreter, tells_owner, tells_stacks}
