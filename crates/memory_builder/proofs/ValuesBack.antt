@@ -29,16 +29,22 @@ use Rattle.memory_builder.specs.declared.values.TypesAt.{TypesAt}
 pub length-address_array : (xs : List ℕ) → length (address_array xs) ≡ 8 * length xs
 unfolding address_array bytes_of
 length-address_array [] = omega arith
-length-address_array (x ∷ xs) = omega (arith, length-append (bytes_of (U64 x)) (address_array xs), length-address_array xs)
+length-address_array (x ∷ xs) = omega (
+  arith,
+  length-append (bytes_of (U64 x)) (address_array xs),
+  length-address_array xs,
+)
 
 -- the first word, and those behind it
-pub word_first : {m : Memory} {a : ℕ} (x : ℕ) (xs : List ℕ) → x < 2 ^ 64 → Stands m a (address_array (x ∷ xs)) → word_at m a ≡ Ok x
+pub word_first : {m : Memory} {a : ℕ} (x : ℕ) (xs : List ℕ) → x < 2 ^ 64 → Stands m a (address_array (x ∷ xs))
+    → word_at m a ≡ Ok x
 unfolding address_array word_at bytes_of
 word_first x xs below s =
     let r = record_stands_first 8 (stands_left (bytes_of (U64 x)) (address_array xs) s) (omega arith) in
     rw r (ap Ok (from_le_bytes-to_le_bytes_8 x below))
 
-pub words_rest : {m : Memory} {a : ℕ} (x : ℕ) (xs : List ℕ) → Stands m a (address_array (x ∷ xs)) → Stands m (a + 8) (address_array xs)
+pub words_rest : {m : Memory} {a : ℕ} (x : ℕ) (xs : List ℕ) → Stands m a (address_array (x ∷ xs))
+    → Stands m (a + 8) (address_array xs)
 unfolding address_array bytes_of
 words_rest x xs s = stands_right (bytes_of (U64 x)) (address_array xs) s
 
@@ -68,7 +74,13 @@ module _ (l : Layout) (sound : IsSound l) (room : HasRoom l) where
       let list = sound.objects.list in
       let object = sound.objects.object in
       record {
-        inside = (omega (arith, list.group.inside.0), (omega (arith, list.group.inside.1.0), (omega (arith, object.group.inside.0), tt)));
+        inside = (
+          omega (arith, list.group.inside.0),
+          (
+            omega (arith, list.group.inside.1.0),
+            (omega (arith, object.group.inside.0), tt),
+          ),
+        );
         apart = (
           (list.group.apart.0.0, (flip (klass_place l) (l.list.count, 8) room.list.0, tt)),
           ((flip (klass_place l) (l.list.items, 8) room.list.1.0, tt), (tt, tt)),
@@ -77,8 +89,10 @@ module _ (l : Layout) (sound : IsSound l) (room : HasRoom l) where
 
   pub length-item : (t : TypesAt) (x : Item) → length (laid_item l t x) ≡ item_size l x
   unfolding laid_item item_size
-  length-item t (Number z) = length-aligned (object (number_len l) (number_writes l t.integer z)) ∙ ap rounded (length-object (number_len l) _ (number_group t.integer z))
-  length-item t (Words cs) = length-aligned (text_object l (Some t.text) cs) ∙ ap rounded (length-text l sound room (Some t.text) cs)
+  length-item t (Number z) = length-aligned (object (number_len l) (number_writes l t.integer z))
+      ∙ ap rounded (length-object (number_len l) _ (number_group t.integer z))
+  length-item t (Words cs) = length-aligned (text_object l (Some t.text) cs)
+      ∙ ap rounded (length-text l sound room (Some t.text) cs)
 
   pub item_even : (x : Item) → item_size l x % 16 ≡ 0
   unfolding item_size
@@ -92,8 +106,13 @@ module _ (l : Layout) (sound : IsSound l) (room : HasRoom l) where
       let o = object (list_len l) (list_writes l t.list (length xs) (items_place l a)) in
       let words = address_array (addresses_from (item_size l) (first_item l a xs) xs) in
       let n1 : length o ≡ list_len l = length-object (list_len l) _ (list_group t.list (length xs) (items_place l a)) in
-      let n2 : length words ≡ 8 * length xs = omega (arith, length-address_array (addresses_from (item_size l) (first_item l a xs) xs), length-places (item_size l) (λ at x. at) (first_item l a xs) xs) in
-      let n3 = length-chain (item_size l) (λ at next x. laid_item l t x) (λ at next x. length-item t x) (first_item l a xs) xs in
+      let n2 : length words ≡ 8 * length xs = omega (
+        arith,
+        length-address_array (addresses_from (item_size l) (first_item l a xs) xs),
+        length-places (item_size l) (λ at x. at) (first_item l a xs) xs,
+      ) in
+      let n3 = length-chain (item_size l) (λ at next x. laid_item l t x) (λ at next x. length-item t x)
+      (first_item l a xs) xs in
       simp length-append (simp length-aligned (rw (n1, n2, n3) (omega arith)))
 
   pub value_even : (v : program.Held) → held_size l v % 16 ≡ 0

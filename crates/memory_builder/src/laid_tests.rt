@@ -276,7 +276,7 @@ fn long_values_are_read(rt: HostRuntime) -> Result<(), Fail> {
     let program = wide_program(alloc)?;
     for layout in &[sample_3_10(), sample_3_12()] {
         let text = read_back(alloc, &program, layout, 0)?;
-        assert!(rt; text.as_str().len() == 10 + 4098 + 3001 + 298 * 2);
+        assert!(rt; text.as_str().len() == 9 + 4098 + 3001 + 298 * 2);
     }
     Ok(())
 }

@@ -16,9 +16,12 @@ pub add_object-requires-clause-inside : goal.add_object-requires-clause-inside
 add_object-requires-clause-inside c =
     let l = c.args.layout.now in
     let cs = c.args.text.now in
-    inside_of c.text_len.result (text_len l cs) _ (text_writes l c.args.klass (kind_for l.strings cs) cs) c.text_len.ensures.value
-    (text_writes_are l c.args.klass cs c.kind_for-kind.result c.units_of.result c.state_by.result c.start_of.result c.deref.result.now _ _
-    c.kind_for-kind.ensures c.units_of.ensures c.state_by.ensures c.optional_write.ensures c.start_of.ensures (c.deref.ensures.value ∙ c.in_ok-bytes.ensures) c.klass_write.ensures)
+    inside_of c.text_len.result (text_len l cs) _ (text_writes l c.args.klass (kind_for l.strings cs) cs)
+    c.text_len.ensures.value
+    (text_writes_are l c.args.klass cs c.kind_for-kind.result c.units_of.result c.state_by.result c.start_of.result
+    c.deref.result.now _ _
+    c.kind_for-kind.ensures c.units_of.ensures c.state_by.ensures c.optional_write.ensures c.start_of.ensures
+    (c.deref.ensures.value ∙ c.in_ok-bytes.ensures) c.klass_write.ensures)
     (text_inside l c.requires.sound c.args.klass cs)
 
 pub returns : goal.returns
@@ -26,7 +29,10 @@ unfolding text_object
 returns c =
     let l = c.args.layout.now in
     let cs = c.args.text.now in
-    added_of c.add_object.result c.add_object.new.out.items c.args.out.now.items c.text_len.result (text_len l cs) _ (text_writes l c.args.klass (kind_for l.strings cs) cs) c.text_len.ensures.value
-    (text_writes_are l c.args.klass cs c.kind_for-kind.result c.units_of.result c.state_by.result c.start_of.result c.deref.result.now _ _
-    c.kind_for-kind.ensures c.units_of.ensures c.state_by.ensures c.optional_write.ensures c.start_of.ensures (c.deref.ensures.value ∙ c.in_ok-bytes.ensures) c.klass_write.ensures)
+    added_of c.add_object.result c.add_object.new.out.items c.args.out.now.items c.text_len.result (text_len l cs) _
+    (text_writes l c.args.klass (kind_for l.strings cs) cs) c.text_len.ensures.value
+    (text_writes_are l c.args.klass cs c.kind_for-kind.result c.units_of.result c.state_by.result c.start_of.result
+    c.deref.result.now _ _
+    c.kind_for-kind.ensures c.units_of.ensures c.state_by.ensures c.optional_write.ensures c.start_of.ensures
+    (c.deref.ensures.value ∙ c.in_ok-bytes.ensures) c.klass_write.ensures)
     c.add_object.ensures
