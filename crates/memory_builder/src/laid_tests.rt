@@ -221,8 +221,12 @@ fn text_of(alloc: Global, traces: &[StackTrace]) -> Result<String, Fail> {
 
 /// The stacks of a program that can be written, where its objects stand in memory and nothing else does.
 fn read_back(alloc: Global, program: &Program, layout: &Layout, lock: u64) -> Result<String, Fail> {
-    if !is_sound(layout) || first_invalid(alloc, program, family_of(layout.lines))?.is_some() {
-        return Err(Fail::from("it can't be written"));
+    if !is_sound(layout) {
+        return Err(Fail::from("the layout isn't sound"));
+    }
+    match first_invalid(alloc, program, family_of(layout.lines))? {
+        Some(_) => return Err(Fail::from("it can't be written")),
+        None => {}
     }
     let size = objects_size(alloc, program, layout)?;
     if size > LONGEST {
