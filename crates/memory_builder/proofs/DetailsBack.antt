@@ -51,7 +51,7 @@ module _ (l : Layout) (sound : IsSound l) (room : HasRoom l) (t : TypesAt) (m : 
         (addresses_from (local_size l) (values_place l a f) f.locals)) =
         rw (first (a + l.frame.locals)) at h.slots in
         let all = locals_back l sound room t m member f.args h.args_is f.locals 0 (names_place l a f)
-        (values_place l a f) (omega arith) (values_even l sound room t a f mul) is.names words slots h.names
+        (values_place l a f) (omega arith) (values_even l sound t a f mul) is.names words slots h.names
         h.values in
         rw (h.count_is, at, h.tuple_is) all
 
@@ -84,10 +84,10 @@ module _ (l : Layout) (sound : IsSound l) (room : HasRoom l) (t : TypesAt) (m : 
       → AreFrames q l m (head_of a fs) (calls_for q l a fs)
   frames_back q a fs some mul few all s =
       let size = frame_size l in
-      let both = chain_back size (laid_frame l t) (length-frame l sound room t) m (IsFrame l)
-      (λ at f. shown_at q l m at ≡ Ok (Some (call_for q l at f))) (back_of l m) (frame_even l sound room t)
+      let both = chain_back size (laid_frame l t) (length-frame l sound t) m (IsFrame l)
+      (λ at f. shown_at q l m at ≡ Ok (Some (call_for q l at f))) (back_of l m) (frame_even l sound t)
       (λ at to f some mul below is s. frame_back at to f some mul is
-      (member_back l sound room t m at to f mul below is s) q)
+      (member_back l sound t room m at to f mul below is s) q)
       a fs some mul all s in
       record {
         members = addresses_from size a fs;

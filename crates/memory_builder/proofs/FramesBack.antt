@@ -116,7 +116,7 @@ pub record IsMember (l : Layout) (t : TypesAt) (m : Memory) (a back : ℕ) (f : 
   pub names : Stands m (names_place l a f) (laid_all (name_size l) (λ at v. laid_name l v) (names_place l a f) f.locals)
   pub values : Stands m (values_place l a f) (laid_all (local_size l) (laid_local l t) (values_place l a f) f.locals)
 
-module _ (l : Layout) (sound : IsSound l) (room : HasRoom l) (t : TypesAt) where
+module _ (l : Layout) (sound : IsSound l) (t : TypesAt) where
   -- what stands of a frame
   record StandFrame (m : Memory) (a back : ℕ) (f : Frame) : Type 0 where
     frame : Stands m a (frame_object l a back f)
@@ -153,7 +153,7 @@ module _ (l : Layout) (sound : IsSound l) (room : HasRoom l) (t : TypesAt) where
   length-names : (a : ℕ) (f : Frame) → length (laid_all (name_size l) (λ at v. laid_name l v) a f.locals)
       ≡ sum_by (name_size l) f.locals
   length-names a f = length-chain (name_size l) (λ at next v. laid_name l v)
-      (λ at next v. length-name l sound room v) a f.locals
+      (λ at next v. length-name l sound v) a f.locals
 
   stand_frame : (m : Memory) (a back : ℕ) (f : Frame) → Stands m a (flat_frame l t a back f) → StandFrame m a back f
   stand_frame m a back f s =
@@ -162,9 +162,9 @@ module _ (l : Layout) (sound : IsSound l) (room : HasRoom l) (t : TypesAt) where
       let s3 = stands_rest (table_object l f) _ (table_len l f) (length-table_object f) s2 in
       let s4 = stands_rest (tuple_object l a f) _ (tuple_len l f) (length-tuple_object a f) s3 in
       let s5 = stands_rest (text_object l None f.filename) _ (text_len l f.filename)
-      (length-text l sound room None f.filename) s4 in
+      (length-text l sound None f.filename) s4 in
       let s6 = stands_rest (text_object l None f.name) _ (text_len l f.name)
-      (length-text l sound room None f.name) s5 in
+      (length-text l sound None f.name) s5 in
       record {
         frame = stands_object (frame_object l a back f) _ s;
         code = stands_object (code_object l a f) _ s1;
@@ -177,10 +177,10 @@ module _ (l : Layout) (sound : IsSound l) (room : HasRoom l) (t : TypesAt) where
             (stands_right (laid_all (name_size l) (λ at v. laid_name l v) (names_place l a f) f.locals) _ s6);
       }
 
-  pub member_back : (m : Memory) (a back : ℕ) (f : Frame) → a % 16 ≡ 0 → back < 2 ^ 64 → IsFrame l f
+  pub member_back : (room : HasRoom l) (m : Memory) (a back : ℕ) (f : Frame) → a % 16 ≡ 0 → back < 2 ^ 64 → IsFrame l f
       → Stands m a (laid_frame l t a back f) → IsMember l t m a back f
   unfolding records_at code_of is_entered first_line offset_of count_of code_places bytes_of
-  member_back m a back f mul below is s =
+  member_back room m a back f mul below is s =
       let st = stand_frame m a back f (rw (frame_flat l t a back f) at s) in
       let ff = frame_fits sound in
       let cf = code_fits sound in
@@ -264,11 +264,11 @@ module _ (l : Layout) (sound : IsSound l) (room : HasRoom l) (t : TypesAt) where
       let n2 = length-code_object a f in
       let n3 = length-table_object f in
       let n4 = length-tuple_object a f in
-      let n5 = length-text l sound room None f.filename in
-      let n6 = length-text l sound room None f.name in
+      let n5 = length-text l sound None f.filename in
+      let n6 = length-text l sound None f.name in
       let n7 = length-names (names_place l a f) f in
       let n8 = length-chain (local_size l) (λ at next v. laid_local l t at v)
-      (λ at next v. length-local l sound room t at v) (values_place l a f) f.locals in
+      (λ at next v. length-local l sound t at v) (values_place l a f) f.locals in
       ap length (frame_flat l t a back f) ∙ simp length-append
       (simp length-aligned (rw (n1, n2, n3, n4, n5, n6, n7, n8) (omega arith)))
 
@@ -276,9 +276,9 @@ module _ (l : Layout) (sound : IsSound l) (room : HasRoom l) (t : TypesAt) where
   unfolding frame_size records_size
   frame_even f = omega (
     arith,
-    chain_even (name_size l) (name_even l sound room) f.locals,
-    chain_even (local_size l) (local_even l sound room) f.locals,
+    chain_even (name_size l) (name_even l sound) f.locals,
+    chain_even (local_size l) (local_even l sound) f.locals,
   )
 
   pub values_even : (a : ℕ) (f : Frame) → a % 16 ≡ 0 → values_place l a f % 16 ≡ 0
-  values_even a f mul = omega (arith, chain_even (name_size l) (name_even l sound room) f.locals)
+  values_even a f mul = omega (arith, chain_even (name_size l) (name_even l sound) f.locals)

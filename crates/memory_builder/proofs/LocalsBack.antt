@@ -68,11 +68,11 @@ module _ (l : Layout) (sound : IsSound l) (room : HasRoom l) (t : TypesAt) (m : 
       (address_array (addresses_from (local_size l) to_values vs)) =
       rw more2 at (words_rest va (addresses_from (local_size l) to_values vs) slots) in
       let names2 : Stands m to_names (laid_all (name_size l) (λ at v. laid_name l v) to_names vs) =
-      rw (length-name l sound room v) at (stands_right (laid_name l v) _ names) in
+      rw (length-name l sound v) at (stands_right (laid_name l v) _ names) in
       let values2 : Stands m to_values (laid_all (local_size l) (laid_local l t) to_values vs) =
-      rw (length-local l sound room t va v) at (stands_right (laid_local l t va v) _ values) in
+      rw (length-local l sound t va v) at (stands_right (laid_local l t va v) _ values) in
       let rest = locals_back vs (index + 1) to_names to_values (omega arith) (omega (
         arith,
-        local_even l sound room v,
+        local_even l sound v,
       )) short.1 words2 slots2 names2 values2 in
       rw (w, n, s, is, rest) refl

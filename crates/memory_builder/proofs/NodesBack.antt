@@ -354,7 +354,7 @@ module _ (l : Layout) (sound : IsSound l) (room : HasRoom l) (m : Memory) (t : T
   items_each (y ∷ ys) base at good words items (suc k) x e =
       let to = at + item_size l y in
       let more : Stands m to (laid_all (item_size l) (λ at x. laid_item l t x) to ys) =
-      rw (length-item l sound room t y) at (stands_right (laid_item l t y) _ items) in
+      rw (length-item l sound t y) at (stands_right (laid_item l t y) _ items) in
       let h = items_each ys (base + 8) to good.1 (words_rest at (addresses_from (item_size l) to ys) words) more k x e
       in
       let there : base + 8 + 8 * k ≡ base + 8 * suc k = omega arith in

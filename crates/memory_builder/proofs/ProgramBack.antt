@@ -17,13 +17,13 @@ use Rattle.py_stacks.specs.Interpreter.{IsInterpreter, named_at, interpreter_nam
 use Rattle.py_stacks.proofs.Holders.{holder_id_none, holder_id_some, id_none, id_some}
 use Rattle.py_stacks.specs.Threads.{AreTraces, IsTraceOf, Trace}
 use Rattle.object_builder.specs.Objects.{object, optional_write, write_place, aligned}
-use Rattle.memory_builder.specs.Sizes.{gil_size, interpreter_len, rounded, thread_size, type_size, word_end}
+use Rattle.memory_builder.specs.Sizes.{gil_size, interpreter_len, program_size, rounded, shared_size, thread_size, type_size, word_end}
 use Rattle.std.specs.List.{sum_by}
 use Rattle.object_builder.specs.Objects.Value.{U64, Bytes}
 use Rattle.object_builder.specs.Placing.{Stands}
 use Rattle.object_builder.specs.Room.{HasRoom}
 use Rattle.memory_builder.specs.Program.{Program, Thread}
-use Rattle.memory_builder.specs.Chains.{AllAt, head_of, addresses_from}
+use Rattle.memory_builder.specs.Chains.{AllAt, laid_chain, head_of, addresses_from}
 use Rattle.memory_builder.proofs.Chains.{length-chain, place_below}
 use Rattle.memory_builder.specs.declared.values.TypesAt.{TypesAt}
 use Rattle.memory_builder.proofs.Plain.{IsThread, stacks_for, trace_for, traces_for}
@@ -132,6 +132,33 @@ module _ (l : Layout) (sound : IsSound l) where
         types = stands_left (three_types l (types_at l (types_place l a))) _ s2;
         threads = rw far at (stands_right (three_types l (types_at l (types_place l a))) _ s2);
       }
+
+-- how long a program is
+pub length-program : (l : Layout) (sound : IsSound l) (a : ℕ) (p : Program)
+    → length (laid_program l a p) ≡ program_size l p
+unfolding laid_program laid_threads program_size shared_size
+length-program l sound a p =
+    let o = interpreter_object l a p in
+    let gil = laid_gil l.gil (owner_place l a p) in
+    let types = three_types l (types_at l (types_place l a)) in
+    let lay = laid_thread l (types_at l (types_place l a)) a in
+    let threads = laid_chain (thread_size l) lay (first_place l a) p.threads in
+    let head = head_of (first_place l a) p.threads in
+    let writes = interpreter_writes l head (gil_place l a) in
+    let group = interpreter_group l sound head (gil_place l a) in
+    let n : length o ≡ interpreter_len l = length-object (interpreter_len l) writes group in
+    omega (
+      arith,
+      length-append (aligned o) (gil ++ (types ++ threads)),
+      length-append gil (types ++ threads),
+      length-append types threads,
+      length-aligned o,
+      ap rounded n,
+      length-gil l sound l.gil refl (owner_place l a p),
+      length-types l sound (types_place l a),
+      length-chain (thread_size l) lay (length-thread l sound (types_at l (types_place l a)) a)
+          (first_place l a) p.threads,
+    )
 
 -- what a program has to be
 pub record IsWhole (l : Layout) (p : Program) : Type 0 where
@@ -257,7 +284,7 @@ module _ (l : Layout) (sound : IsSound l) (room : HasRoom l) (m : Memory) (a : �
     arith,
     st.threads.ends,
     length-chain (thread_size l) (laid_thread l types a)
-        (length-thread l sound room types a) first p.threads,
+        (length-thread l sound types a) first p.threads,
   )
 
   pub owner_below : owner_place l a p < 2 ^ 64

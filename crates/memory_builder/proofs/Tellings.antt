@@ -64,7 +64,7 @@ module _ (l : Layout) (sound : IsSound l) (room : HasRoom l) (m : Memory) (t : T
       let to = a + local_size l v in
       let here : Stands m a (laid_local l t a v) = stands_left (laid_local l t a v) _ s in
       let rest : Stands m to (laid_all (local_size l) (laid_local l t) to vs) =
-      rw (length-local l sound room t a v) at (stands_right (laid_local l t a v) _ s) in
+      rw (length-local l sound t a v) at (stands_right (laid_local l t a v) _ s) in
       let same = value_same l m 256 width a v.value (value_back l sound room m t has a v.value good.0 here) in
       let text : text_or_mark (show_at (values_in l m) 256 width a 0).0 ≡ told_text width v.value =
       ap (λ c. text_or_mark (c 0).0) same in
@@ -96,10 +96,10 @@ module _ (l : Layout) (sound : IsSound l) (room : HasRoom l) (m : Memory) (t : T
       → Stands m a (laid_chain (frame_size l) (laid_frame l t) a fs)
       → map (with_values (value_text l m width)) (calls_for q l a fs) ≡ calls_told q width l a fs
   frames_tell q width a fs some mul all s =
-      let each = chain_back (frame_size l) (laid_frame l t) (length-frame l sound room t) m (IsFrame l)
+      let each = chain_back (frame_size l) (laid_frame l t) (length-frame l sound t) m (IsFrame l)
       (λ at f. with_values (value_text l m width) (call_for q l at f) ≡ call_told q width l at f) (back_of l m)
-      (frame_even l sound room t)
-      (λ at to f some mul below is s. let h = member_back l sound room t m at to f mul below is s in
+      (frame_even l sound t)
+      (λ at to f some mul below is s. let h = member_back l sound t room m at to f mul below is s in
       ((frame_back l sound room t m at to f some mul is h q).0, call_tells q width at f is h.values))
       a fs some mul all s in
       shown_values (value_text l m width) true (values_at (frame_size l) (λ at f. Some (call_for q l at f)) a fs)
@@ -116,14 +116,14 @@ module _ (l : Layout) (sound : IsSound l) (room : HasRoom l) (m : Memory) (t : T
       let next = head_of to xs in
       let here = stands_left (laid_thread l t interp a next x) _ s in
       let rest : Stands m to (laid_chain (thread_size l) (laid_thread l t interp) to xs) =
-      rw (length-thread l sound room t interp a next x) at (stands_right (laid_thread l t interp a next x) _ s) in
+      rw (length-thread l sound t interp a next x) at (stands_right (laid_thread l t interp a next x) _ s) in
       let frames = frames_tell q width (frames_place l a) x.frames (omega arith) (omega (
         arith,
         cframe_even l.cframe,
-      )) all.0.frames (frames_stand l sound room t m interp a next x here) in
+      )) all.0.frames (frames_stand l sound t m interp a next x here) in
       let others = threads_tell q width owner interp to xs (omega arith) (omega (
         arith,
-        thread_even l sound room t x,
+        thread_even l sound t x,
       )) all.1 rest in
       ap₂ (λ fs rest. (record (by_holder owner (trace_for q l a x)) { frames = fs }) ∷ rest) frames others
 

@@ -67,7 +67,7 @@ native_read : (len : ℕ) (ws : List Write) → IsGroup len (map write_place ws)
 native_read len ws g i None v e fits h = refl
 native_read len ws g i (Some at) v e fits h = ap Some (u64_read len ws g len (omega arith) i at v e fits (h at refl))
 
-module _ (l : Layout) (sound : IsSound l) (room : HasRoom l) (types : TypesAt) where
+module _ (l : Layout) (sound : IsSound l) (types : TypesAt) where
   pub thread_group : (next interp id frame : ℕ) → IsGroup l.thread.size
       (map write_place (thread_writes l next interp id frame))
   unfolding thread_places
@@ -81,7 +81,7 @@ module _ (l : Layout) (sound : IsSound l) (room : HasRoom l) (types : TypesAt) w
     arith,
     cframe_even l.cframe,
     chain_even (frame_size l)
-        (frame_even l sound room types) t.frames,
+        (frame_even l sound types) t.frames,
   )
 
   length-thread_object : (interp a next : ℕ) (t : Thread) → length (thread_object l interp a next t) ≡ l.thread.size
@@ -93,7 +93,7 @@ module _ (l : Layout) (sound : IsSound l) (room : HasRoom l) (types : TypesAt) w
   length-thread interp a next t =
       let n1 = length-thread_object interp a next t in
       let n2 = length-cframe l.cframe (head_of (frames_place l a) t.frames) in
-      let n3 = length-chain (frame_size l) (laid_frame l types) (length-frame l sound room types)
+      let n3 = length-chain (frame_size l) (laid_frame l types) (length-frame l sound types)
       (frames_place l a) t.frames in
       simp length-append (simp length-aligned (rw (n1, n2, n3) (omega arith)))
 
@@ -105,6 +105,7 @@ module _ (l : Layout) (sound : IsSound l) (room : HasRoom l) (types : TypesAt) w
       let s1 = stands_rest (thread_object l interp a next t) _ l.thread.size (length-thread_object interp a next t) s in
       rw (length-cframe l.cframe first) at (stands_right (laid_cframe l.cframe first) _ s1)
 
+module _ (l : Layout) (sound : IsSound l) (room : HasRoom l) (types : TypesAt) where
   -- what is read of a thread
   record IsThreadAt (q : Asked) (m : Memory) (interp a next : ℕ) (t : Thread) : Type 0 where
     after : thread_after l m a ≡ Ok next
@@ -120,8 +121,8 @@ module _ (l : Layout) (sound : IsSound l) (room : HasRoom l) (types : TypesAt) w
       let first = head_of (frames_place l a) t.frames in
       let field = frame_field l.cframe (cframe_place l a) first in
       let ws = thread_writes l next interp t.id field in
-      let g = thread_group next interp t.id field in
-      let n = length-thread_object interp a next t in
+      let g = thread_group l sound types next interp t.id field in
+      let n = length-thread_object l sound types interp a next t in
       let fits = thread_fits sound in
       let frames = laid_chain (frame_size l) (laid_frame l types) (frames_place l a) t.frames in
       let s1 : Stands m (cframe_place l a) (laid_cframe l.cframe first ++ frames) = stands_rest o _ l.thread.size n s in
@@ -185,8 +186,8 @@ module _ (l : Layout) (sound : IsSound l) (room : HasRoom l) (types : TypesAt) w
       × AllAt (thread_size l) (λ at t. IsTraceOf q l m at (trace_for q l at t)) a ts
   unfolding laid_threads
   threads_each q m interp a ts below some mul all s =
-      chain_back (thread_size l) (laid_thread l types interp) (length-thread interp) m (IsThread l)
-      (λ at t. IsTraceOf q l m at (trace_for q l at t)) (thread_after l m) thread_even
+      chain_back (thread_size l) (laid_thread l types interp) (length-thread l sound types interp) m (IsThread l)
+      (λ at t. IsTraceOf q l m at (trace_for q l at t)) (thread_after l m) (thread_even l sound types)
       (λ at next t some mul next_below is s. let h = thread_back q m interp at next t below some mul next_below is s in
       (h.after, h.trace))
       a ts some mul all s
@@ -217,6 +218,7 @@ module _ (l : Layout) (sound : IsSound l) (room : HasRoom l) (types : TypesAt) w
       let next = head_of to ts in
       let here = stands_left (laid_thread l types interp a next t) _ s in
       let rest : Stands m to (laid_chain (thread_size l) (laid_thread l types interp) to ts) =
-      rw (length-thread interp a next t) at (stands_right (laid_thread l types interp a next t) _ s) in
+      rw (length-thread l sound types interp a next t) at (stands_right (laid_thread l types interp a next t) _ s) in
       (thread_back nothing m interp a next t below some mul
-      (head_below (thread_size l) (laid_thread l types interp) (length-thread interp) to ts rest) all.0 here).named
+      (head_below (thread_size l) (laid_thread l types interp) (length-thread l sound types interp) to ts rest) all.0
+      here).named

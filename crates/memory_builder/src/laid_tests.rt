@@ -233,9 +233,6 @@ fn read_back(alloc: Global, program: &Program, layout: &Layout, lock: u64) -> Re
         return Err(Fail::from("it is too long"));
     }
     let bytes = laid_program(alloc, program, layout, START)?;
-    if bytes.len() as u64 != size {
-        return Err(Fail::from("it has another size"));
-    }
     let pieces = vec![in alloc;
         Piece {
             start: START,

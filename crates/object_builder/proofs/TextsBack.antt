@@ -1,11 +1,12 @@
 -- A text that was laid reads back.
 use Rattle.std.proofs.Common.{◌≡◌, ℕ, suc, ◌+◌, ◌*◌, ◌≤◌, Bool, true, false, cond, ltb, List, [], ◌∷◌, length, refl, sym, ap, subst, ◌∙◌, rules, arith, take, map, inl, inr, length-append, encode_utf8_all}
-use Rattle.std.specs.Prelude.{Some, None, Option, Ok, ◌&&◌, IsSome, max, if◌then◌else◌}
+use Rattle.std.specs.Prelude.{Result, Err, IfOk, ◌++◌, drop, Some, None, Option, Ok, ◌&&◌, IsSome, max, if◌then◌else◌}
 use Rattle.std.specs.Option.{unwrap_or}
 use Rattle.std.specs.List.{flat_map}
 use Rattle.std.specs.Int.{w16, w32, to_le_bytes}
 use Rattle.std.specs.Char.Escape.{encode_utf16}
 use Rattle.std.proofs.lemmas.Bool.{ltb-true}
+use Rattle.std.proofs.lemmas.List.{drop_at}
 use Rattle.std.proofs.lemmas.Option.{same_Some}
 use Rattle.std.proofs.lemmas.Str.{length-le-encodes}
 use Rattle.std.proofs.str.Utf16.{one_unit}
@@ -25,15 +26,15 @@ use Rattle.py_builtins.specs.TextKind.{coded, width}
 use Rattle.py_builtins.specs.Texts.{state_at, state_of_fields, characters_of, characters_with, characters_at, text_of_length, text_at}
 use Rattle.py_builtins.proofs.Codings.{decoded_is}
 use Rattle.py_builtins.proofs.Texts.{length_zero, length_fine, with_kind}
-use Rattle.object_builder.specs.Objects.{Value, bytes_of, len_of, object, optional_write, write_place}
+use Rattle.object_builder.specs.Objects.{Value, aligned, bytes_of, len_of, object, optional_write, write_place}
 use Rattle.object_builder.specs.Objects.Value.{U32, Bytes}
 use Rattle.object_builder.specs.Placing.{Stands}
 use Rattle.object_builder.specs.Room.{HasRoom, klass_place}
 use Rattle.object_builder.specs.Sizes.{all_under, is_short_headed, least_width, text_len}
-use Rattle.object_builder.specs.Texts.{AreBits, Suits, least_kind, kind_for, units_of, state_of, state_by, start_of, klass_write, text_writes, text_object}
+use Rattle.object_builder.specs.Texts.{ReadsAsText, AreBits, Suits, least_kind, kind_for, units_of, state_of, state_by, start_of, klass_write, text_writes, text_object}
 use Rattle.object_builder.specs.Texts.{IsBriefText}
-use Rattle.object_builder.proofs.Objects.{length-object, part-object, u64_read, u32_read}
-use Rattle.object_builder.proofs.Placing.{record_stands, record_stands_first}
+use Rattle.object_builder.proofs.Objects.{length-inside, length-object, part-object, u64_read, u32_read}
+use Rattle.object_builder.proofs.Placing.{record_stands, record_stands_first, stands_last}
 use Rattle.object_builder.proofs.States.{kind_is, place_is, state_small}
 
 both : (p q : Bool) → (p && q) ≡ true → (p ≡ true) × (q ≡ true)
@@ -233,6 +234,12 @@ text_inside l sound klass cs =
     let object : l.object.klass + 8 ≤ n = omega (arith, sound.objects.object.group.inside.0) in
     (omega (arith, g.inside.0), (in_state, (omega arith, (klass_inside l klass n object, tt))))
 
+pub length-text : (l : Layout) (sound : IsSound l) (klass : Option ℕ) (cs : List ℕ)
+    → length (text_object l klass cs) ≡ text_len l cs
+unfolding text_object
+length-text l sound klass cs =
+    length-inside (text_len l cs) (text_writes l klass (kind_for l.strings cs) cs) (text_inside l sound klass cs)
+
 -- the bits of a layout's state
 pub bits_are : (l : Layout) (sound : IsSound l) (t : StateAt) → state_at l.string ≡ Some t → AreBits t
 unfolding state_bits
@@ -329,12 +336,6 @@ module _ (l : Layout) (sound : IsSound l) (room : HasRoom l) where
         );
       }
 
-  -- each field of a text lies inside it
-  pub length-text : (klass : Option ℕ) (cs : List ℕ) → length (text_object l klass cs) ≡ text_len l cs
-  unfolding text_object
-  length-text klass cs = length-object (text_len l cs) (text_writes l klass (kind_for l.strings cs) cs)
-      (text_group klass cs)
-
   -- how the characters are coded and where they stand, by a record with the state of their kind
   chars_of : (f : Strings) → l.strings ≡ f → (k : TextKind) → (f ≡ PlainBytes → k ≡ Utf8) → (a : ℕ) (object : List ℕ)
       → ((h : HasStateAt l.string) → u32_in object h.t.state ≡ state_of h.t k)
@@ -394,3 +395,15 @@ module _ (l : Layout) (sound : IsSound l) (room : HasRoom l) where
       rw coded_len at (record_stands (start_of s k) (length (coded k cs)) st (omega arith)
       ∙ ap Ok (part-object n ws 2 (record { at = start_of s k; value = Bytes (coded k cs) }) g refl)) in
       rw (rec, word) (read_units m a (take s.size o) cs k short suit is chars)
+
+-- what was added of a text is read as it
+pub reads_of : {T E : Type 0} (r : Result T E) (new old : List ℕ) (l : Layout) (sound : IsSound l) (room : HasRoom l)
+    (klass : Option ℕ) (text : List ℕ) → IsBriefText text
+    → IfOk r (λ _. new ≡ old ++ aligned (text_object l klass text))
+    → IfOk r (λ _. ReadsAsText l text (drop (length old) new))
+reads_of (Ok x) new old l sound room klass text brief e =
+    let o = text_object l klass text in
+    let added : drop (length old) new ≡ aligned o =
+    ap (drop (length old)) e ∙ drop_at old (aligned o) (length old) refl in
+    λ m a s. text_back l sound room m a klass text brief (stands_last o (subst (λ bs. Stands m a bs) added s))
+reads_of (Err x) new old l sound room klass text brief e = tt

@@ -20,7 +20,7 @@ unfolding laid_name
 loop-local-preserved c =
     flat_more (laid_name c.args.layout.now) local_in c.args.locals.now c.loop-local.local-index c.local-item.result
     c.args.out.now.items c.loop-local.out.items c.add_text.new.out.items
-    c.loop-local-test.true c.local-item.is c.loop-local.invariant c.in_ok-add_text.ensures
+    c.loop-local-test.true c.local-item.is c.loop-local.invariant c.in_ok-add_text.ensures.added
 
 pub returns : goal.returns
 returns c =

@@ -1,4 +1,4 @@
-use Rattle.std.proofs.Common.{◌≡◌, ◌∙◌, ◌+◌, ◌++◌, [], List, ℕ, map, ap, ap₂, subst, sym, arith}
+use Rattle.std.proofs.Common.{◌≡◌, ◌∙◌, ◌+◌, ◌++◌, [], List, ℕ, length, map, ap, ap₂, subst, sym, arith}
 use Rattle.std.specs.Prelude.{Ok}
 use Rattle.std.specs.List.{AllByRecursion, sum_by}
 use Rattle.py_stacks.specs.Lines.{family_of}
@@ -9,6 +9,7 @@ use Rattle.memory_builder.specs.Mirror.{program_in, program_thread}
 use Rattle.object_builder.specs.Objects.{aligned, object}
 use Rattle.memory_builder.specs.Program.{Thread}
 use Rattle.memory_builder.specs.ReadBack.{TellsInterpreter, TellsOwner, TellsStacks}
+use Rattle.memory_builder.proofs.ProgramBack.{length-program}
 use Rattle.memory_builder.proofs.Inverse.{tells_interpreter, tells_owner, tells_stacks}
 use Rattle.memory_builder.specs.Sizes.{interpreter_len, rounded, thread_size}
 use Rattle.memory_builder.specs.Threads.{laid_threads}
@@ -141,6 +142,11 @@ returns-clause-laid c =
     ++ laid_threads l t a n (map program_thread c.deref-2.result.now)) types_are first_is
     ∙ ap (λ xs. c.add_types.new.out.items ++ laid_threads l (types_at l (types_place l a)) a (first_place l a)
     (map program_thread xs)) c.deref-2.ensures.value)
+
+pub returns-clause-size : goal.returns-clause-size
+returns-clause-size c =
+    let p = program_in c.args.program.now in
+    ap (λ bs. length bs) (returns-clause-laid c) ∙ length-program c.args.layout.now c.requires.sound c.args.at p
 
 pub returns-clause-stacks : goal.returns-clause-stacks
 returns-clause-stacks c room place =

@@ -22,4 +22,4 @@ unfolding laid_value laid_item
 returns-in-Words c =
     subst (λ v. IfOk c.add_text.result (λ _. c.add_text.new.out.items ≡ c.args.out.now.items
     ++ laid_value c.args.layout.now c.args.types c.args.at (program_value v)))
-    (sym c.in-Words.is) c.add_text.ensures
+    (sym c.in-Words.is) c.add_text.ensures.added

@@ -3,7 +3,7 @@ use Rattle.object_builder.specs.Sizes.{text_len}
 use Rattle.object_builder.specs.Texts.{kind_for, text_object, text_writes}
 use Rattle.object_builder.proofs.Adding.{added_of, inside_of}
 use Rattle.object_builder.proofs.LaidTexts.{kind_suits, text_writes_are}
-use Rattle.object_builder.proofs.TextsBack.{text_inside}
+use Rattle.object_builder.proofs.TextsBack.{reads_of, text_inside}
 use Rattle.object_builder.proofs.texts.add_text.Goals as goal
 
 pub coded-requires : goal.coded-requires
@@ -24,9 +24,9 @@ add_object-requires-clause-inside c =
     (c.deref.ensures.value ∙ c.in_ok-bytes.ensures) c.klass_write.ensures)
     (text_inside l c.requires.sound c.args.klass cs)
 
-pub returns : goal.returns
+pub returns-clause-added : goal.returns-clause-added
 unfolding text_object
-returns c =
+returns-clause-added c =
     let l = c.args.layout.now in
     let cs = c.args.text.now in
     added_of c.add_object.result c.add_object.new.out.items c.args.out.now.items c.text_len.result (text_len l cs) _
@@ -36,3 +36,8 @@ returns c =
     c.kind_for-kind.ensures c.units_of.ensures c.state_by.ensures c.optional_write.ensures c.start_of.ensures
     (c.deref.ensures.value ∙ c.in_ok-bytes.ensures) c.klass_write.ensures)
     c.add_object.ensures
+
+pub returns-clause-reads : goal.returns-clause-reads
+returns-clause-reads c room =
+    reads_of c.add_object.result c.add_object.new.out.items c.args.out.now.items c.args.layout.now c.requires.sound room
+    c.args.klass c.args.text.now c.requires.brief (returns-clause-added c)
