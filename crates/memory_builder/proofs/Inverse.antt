@@ -15,11 +15,13 @@ use Rattle.py_stacks.specs.Threads.{Trace}
 use Rattle.py_stacks.proofs.Holders.{holder_word}
 use Rattle.py_stacks.proofs.OverLaws.{over_whole}
 use Rattle.memory_builder.specs.Laid.{gil_place, laid_program, owner_id}
+use Rattle.object_builder.specs.Placing.{Stands}
 use Rattle.memory_builder.specs.Program.{Program}
 use Rattle.memory_builder.specs.ReadBack.{NamesOwner, StandsAlone, TellsInterpreter, TellsOwner, TellsStacks}
 use Rattle.object_builder.specs.Room.{HasRoom}
 use Rattle.memory_builder.specs.Told.{program_told}
 use Rattle.memory_builder.specs.Validity.{IsValidProgram}
+use Rattle.memory_builder.proofs.Alone.{owner_alone}
 use Rattle.memory_builder.proofs.OverBack.{over_back}
 use Rattle.memory_builder.proofs.ProgramBack.{IsWhole, StandProgram, gil_back, gil_word, modules_word, owner_held, program_is, stacks_held, stand_program}
 use Rattle.memory_builder.proofs.Tellings.{program_shows}
@@ -50,8 +52,9 @@ module _ (l : Layout) (sound : IsSound l) (room : HasRoom l) (a : ℕ) (some : a
         λ e. subst (λ ts. AreStacksOver c l m lock a ts) (sym e) told,
       )
 
-  pub tells_owner : TellsOwner l a p (laid_program l a p)
-  tells_owner m s lock names =
+  owner_held_by : (m : Memory) → Stands m a (laid_program l a p) → (lock : ℕ) → NamesOwner l.gil l m a lock p
+      → holder_id_at l m lock ≡ Ok (owner_id p)
+  owner_held_by m s lock names =
       let is = program_whole l p valid in
       let st : StandProgram l sound m a p = stand_program l sound m a p s in
       by is st l.gil refl names
@@ -65,6 +68,9 @@ module _ (l : Layout) (sound : IsSound l) (room : HasRoom l) (a : ℕ) (some : a
           subst (λ n. holder_id_at l m n ≡ Ok (owner_id p)) (sym names)
           (owner_held l sound room m a p some mul is st (gil_place l a) place
           (gil_back l sound room m a p some mul is st g e))
+
+  pub tells_owner : TellsOwner l a p (laid_program l a p)
+  tells_owner = record { held = owner_held_by; alone = owner_alone (family_of l.lines) p valid }
 
   pub tells_interpreter : TellsInterpreter l a (laid_program l a p)
   tells_interpreter = record {

@@ -1,4 +1,5 @@
 pub mod Adding
+pub mod Alone
 pub mod Chains
 pub mod Deciding
 pub mod DetailsBack

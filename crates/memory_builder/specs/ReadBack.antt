@@ -1,5 +1,5 @@
 -- What is read of a program's objects where they stand in memory.
-use Rattle.std.specs.Prelude.{◌≡◌, ◌≢◌, ◌↔◌, ℕ, ◌+◌, ◌%◌, Option, Some, None, List, Ok}
+use Rattle.std.specs.Prelude.{◌≡◌, ◌≢◌, ◌↔◌, ℕ, ◌+◌, ◌%◌, Option, Some, None, List, slice_get, Ok}
 use Rattle.process_memory.specs.Memory.{Memory, word_at}
 use Rattle.py_fields.specs.declared.layout.GilAt.{GilAt}
 use Rattle.py_fields.specs.declared.layout.Layout.{Layout}
@@ -10,7 +10,7 @@ use Rattle.py_stacks.specs.StacksOver.{AreStacksOver}
 use Rattle.py_stacks.specs.Threads.{Trace}
 use Rattle.memory_builder.specs.Laid.{gil_place, owner_id, owner_place}
 use Rattle.object_builder.specs.Placing.{Stands}
-use Rattle.memory_builder.specs.Program.{Program}
+use Rattle.memory_builder.specs.Program.{Program, Thread}
 use Rattle.memory_builder.specs.Told.{program_told}
 
 -- an address that objects may begin at: not that of null, and a multiple of 16, so that no bit of an address is taken
@@ -38,10 +38,12 @@ abbrev pub NamesOwner : Option GilAt → Layout → Memory → (a lock : ℕ) �
 NamesOwner (Some g) l m a lock p = lock ≡ gil_place l a
 NamesOwner None l m a lock p = (lock ≢ 0) × (word_at m lock ≡ Ok (owner_place l a p))
 
--- in each memory in which the bytes stand at an address, such a lock tells the id of the program's owner, or 0
-abbrev pub TellsOwner : Layout → ℕ → Program → List ℕ → Type 0
-TellsOwner l a p bytes = (m : Memory) → Stands m a bytes → (lock : ℕ) → NamesOwner l.gil l m a lock p
-    → holder_id_at l m lock ≡ Ok (owner_id p)
+-- in each memory in which the bytes stand at an address, such a lock tells the id of the program's owner, or 0; and a
+-- thread has that id exactly where it is the owner
+pub record TellsOwner (l : Layout) (a : ℕ) (p : Program) (bytes : List ℕ) : Type 0 where
+  pub held : (m : Memory) → Stands m a bytes → (lock : ℕ) → NamesOwner l.gil l m a lock p
+      → holder_id_at l m lock ≡ Ok (owner_id p)
+  pub alone : (k : ℕ) (t : Thread) → slice_get p.threads k ≡ Some t → (t.id ≡ owner_id p) ↔ (p.owner ≡ Some k)
 
 -- in each memory in which the bytes stand at an address, an interpreter is there, by the test of candidates; and it
 -- names its lock's record, where the layout has such a field

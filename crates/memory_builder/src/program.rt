@@ -208,8 +208,8 @@ fn owner_place(
 /// They are as many as `objects_size` says. Where they stand at `at`, which is a multiple of 16 and not 0, and
 /// address 0 has no byte, the stacks of the interpreter there are exactly those that the program tells: its threads
 /// in their order, each with its frames, their lines, and their locals with their values. The lock's record, or a
-/// word that names the owner's thread where the layout has no such record, tells the owner's id. For that the layout
-/// has to have room for the type of a value beside its other fields.
+/// word that names the owner's thread where the layout has no such record, tells the owner's id, which no other thread
+/// has. For that the layout has to have room for the type of a value beside its other fields.
 ///
 /// The one error is want of memory.
 pub fn laid_program(
