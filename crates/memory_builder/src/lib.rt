@@ -4,11 +4,9 @@
 
 mod frames;
 mod locals;
-mod object;
 mod parts;
 mod program;
 mod sizes;
-mod texts;
 mod threads;
 mod validity;
 mod values;

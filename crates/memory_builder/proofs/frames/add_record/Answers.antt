@@ -1,6 +1,6 @@
 use Rattle.std.proofs.Common.{◌+◌, ◌≤◌, ap, subst, sym, arith}
 use Rattle.py_fields.proofs.Fields.{frame_fits}
-use Rattle.memory_builder.specs.Objects.{Write, len_of}
+use Rattle.object_builder.specs.Objects.{Write, len_of}
 use Rattle.memory_builder.proofs.FrameInside.{entry_inside, len-instr}
 use Rattle.memory_builder.proofs.frames.add_record.Goals as goal
 
@@ -16,7 +16,8 @@ add_object-requires-clause-inside c =
         (
           omega (arith, f.instr, len, instr, len-instr l.lasti (c.args.code + c.from.result) c.args.frame.now.offset),
           (
-            subst (λ (w : Write). w.at + len_of w.value ≤ c.frame_len.result) (sym c.optional_write.ensures) (entry_inside l.frame.entry c.frame_len.result l.frame.size f.entry (omega (arith, len))),
+            subst (λ (w : Write). w.at + len_of w.value ≤ c.frame_len.result) (sym c.optional_write.ensures)
+                (entry_inside l.frame.entry c.frame_len.result l.frame.size f.entry (omega (arith, len))),
             (omega (arith, len, c.requires.slots), tt),
           ),
         ),
