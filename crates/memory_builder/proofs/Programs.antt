@@ -28,3 +28,8 @@ owner_valid family p valid = ((valid 0 0).whole refl refl).owner
 pub threads_fit : (l : Layout) (a : ℕ) (p : Program) → a + program_size l p < 2 ^ 62 → first_place l a + sum_by (thread_size l) p.threads < 2 ^ 62
 unfolding program_size shared_size
 threads_fit l a p h = omega arith
+
+-- the first thread stands behind what all share
+pub first_is : (l : Layout) (a n : ℕ) → n ≡ shared_size l → a + n ≡ first_place l a
+unfolding shared_size
+first_is l a n is = omega (arith, is)
