@@ -1,12 +1,13 @@
 -- The load segments of a core lie in its file, and are its memory.
-use Rattle.std.proofs.Common.{◌≡◌, ℕ, ◌+◌, ◌-◌, ◌≤◌, ◌^◌, List, ◌∷◌, length, true, get_or, arith, inl, inr, ⊎_elim}
+use Rattle.std.proofs.Common.{◌≡◌, ℕ, ◌+◌, ◌-◌, ◌<◌, ◌≤◌, ◌^◌, List, ◌∷◌, length, true, get_or, subst, sym, arith, inl, inr, ⊎_elim}
 use Rattle.std.specs.Prelude.{All}
 use Rattle.std.proofs.lemmas.Bool.{eqb-true}
 use Rattle.std.proofs.lemmas.List.Elements.{All-filter, All-map, filter_passes}
-use Rattle.elf64_core.specs.Header.{FitsFile, HasSegments, load_kind, segments_of}
+use Rattle.elf64_core.specs.Header.{FitsFile, HasSegments, IsInside, load_kind, note_kind, segments_of}
 use Rattle.elf64_core.specs.declared.segment.Segment.{Segment}
 use Rattle.piece_table.specs.Files.{IsInFile, region_in, regions_in}
 use Rattle.piece_table.specs.Places.{IsBounded}
+use Rattle.image_memory.specs.Notes.{is_note, note_segments}
 use Rattle.image_memory.proofs.Lists.{map_twice}
 use Rattle.image_memory.specs.Pieces.{IsHeld, core_range, core_ranges, is_load, loads_of, memory_of}
 
@@ -19,6 +20,16 @@ pub held_loads : (bytes : List ℕ) → HasSegments bytes → All (IsHeld bytes)
 held_loads bytes h = λ k d less.
     held bytes (get_or (loads_of bytes) k d) (All-filter is_load (FitsFile bytes) (segments_of bytes) h.segments k d less)
     (filter_passes is_load (segments_of bytes) k d less)
+
+-- the note segments of a core lie in its file
+pub held_notes : (bytes : List ℕ) → HasSegments bytes → All (λ s. IsInside bytes s.offset s.file_size) (note_segments bytes)
+held_notes bytes h = λ k d less.
+    let kind = eqb-true (get_or (note_segments bytes) k d).kind note_kind (filter_passes is_note (segments_of bytes) k d less) in
+    (All-filter is_note (FitsFile bytes) (segments_of bytes) h.segments k d less).noted kind
+
+pub held_note : (bytes : List ℕ) → HasSegments bytes → (i : ℕ) (s : Segment) → i < length (note_segments bytes)
+    → s ≡ get_or (note_segments bytes) i s → IsInside bytes s.offset s.file_size
+held_note bytes h i s lt is = subst (λ x. IsInside bytes x.offset x.file_size) (sym is) (held_notes bytes h i s lt)
 
 core_bounded : (bytes : List ℕ) (s : Segment) → length bytes ≤ 2 ^ 64 - 1 → IsHeld bytes s → IsBounded (core_range s)
 core_bounded bytes s few h = record {

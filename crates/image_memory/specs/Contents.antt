@@ -5,7 +5,7 @@ use Rattle.elf64_core.specs.Notes.{Noted}
 use Rattle.image_memory.specs.Cores.{IsCore}
 use Rattle.image_memory.specs.FileTables.{Entry}
 use Rattle.image_memory.specs.Maps.{AreMaps, ArePlaces}
-use Rattle.image_memory.specs.Notes.{AreCoreNotes, AreStatuses, IsProcess, last_process, status_noted}
+use Rattle.image_memory.specs.Notes.{AreCoreNotes, AreStatuses, IsProcess, last_process, note_segments, status_noted}
 use Rattle.image_memory.specs.Pieces.{core_ranges, loads_of}
 use Rattle.image_memory.specs.declared.records.elf_prstatus.{elf_prstatus}
 use Rattle.image_memory.specs.declared.records.elf_prpsinfo.{elf_prpsinfo}
@@ -25,6 +25,7 @@ pub record AreContents (bytes : List ℕ) (contents : Contents) : Type 0 where
   pub fits : length bytes ≤ 2 ^ 64 - 1
   pub machine_is : contents.machine ≡ machine_of bytes
   pub loads_are : contents.loads.items ≡ loads_of bytes
+  pub notes_are : contents.notes.items ≡ note_segments bytes
   pub table_is : contents.table ≡ core_ranges bytes
   pub maps_are : AreMaps bytes contents.maps.items
   pub places_are : ArePlaces bytes contents.places.items

@@ -2,7 +2,7 @@
 -- that Linux writes on 64-bit machines (`NT_PRSTATUS`, `NT_PRPSINFO` and `NT_FILE` of `elf.h`, and the records
 -- `elf_prstatus` and `elf_prpsinfo`). Which sizes are too short is this project's own rule: a record has to have
 -- all that is read of it.
-use Rattle.std.specs.Prelude.{◌≡◌, ℕ, ◌≤◌, nat_eq, nat_le, ◌&&◌, Bool, List, [], ◌∷◌, ◌++◌, length, reverse, All, filter, filter_map, find, slice_range, Option, Some, None, option_and_then, if◌then◌else◌, ℤ}
+use Rattle.std.specs.Prelude.{◌≡◌, ℕ, ◌≤◌, nat_eq, nat_le, ◌&&◌, Bool, List, [], ◌∷◌, ◌++◌, length, map, reverse, All, filter, filter_map, find, slice_range, Option, Some, None, option_and_then, if◌then◌else◌, ℤ}
 use Rattle.std.specs.Int.{w32, w16, cast_signed}
 use Rattle.elf64_core.specs.Fields.{u32_in, u16_in}
 use Rattle.elf64_core.specs.Header.{note_kind, segments_of}
@@ -19,11 +19,19 @@ is_note s = nat_eq s.kind note_kind
 abbrev pub note_segments : List ℕ → List Segment
 note_segments bytes = filter is_note (segments_of bytes)
 
+-- the bytes that the file has of a segment
+abbrev pub segment_bytes : List ℕ → Segment → List ℕ
+segment_bytes bytes s = bytes_of_range bytes s.offset s.file_size
+
+-- the bytes of each note segment, in table order
+abbrev pub note_bytes : List ℕ → List (List ℕ)
+note_bytes bytes = map (segment_bytes bytes) (note_segments bytes)
+
 -- the notes of some segments, in order: the bytes of each are its notes together
 abbrev pub NotesOf : List ℕ → List Segment → List Noted → Type 0
 NotesOf bytes [] notes = notes ≡ []
 NotesOf bytes (s ∷ ss) notes =
-    (own others : List Noted) × AreNotes (bytes_of_range bytes s.offset s.file_size) own
+    (own others : List Noted) × AreNotes (segment_bytes bytes s) own
     × NotesOf bytes ss others × (notes ≡ own ++ others)
 
 abbrev pub is_of_kind : ℕ → Noted → Bool

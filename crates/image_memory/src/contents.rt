@@ -25,6 +25,8 @@ pub(crate) struct Contents {
     pub(crate) machine: Machine,
     /// The load segments, in table order.
     pub(crate) loads: Vec<Segment>,
+    /// The note segments, in table order.
+    pub(crate) notes: Vec<Segment>,
     /// Where their bytes stand in the file.
     pub(crate) table: PieceTable,
     /// The map of each.
@@ -103,6 +105,15 @@ fn load_segments(alloc: Global, elf: &Elf64) -> Result<Vec<Segment>, AllocError>
         .collect(alloc)
 }
 
+/// The note segments, in table order.
+fn noted_segments(alloc: Global, elf: &Elf64) -> Result<Vec<Segment>, AllocError>
+    ensures { IfOk result (λ notes. notes.items ≡ note_segments elf.now) }
+{
+    elf.segments()
+        .filter(|segment| segment.kind == NOTE)
+        .collect(alloc)
+}
+
 /// What is read of some bytes, if they are those of a core.
 pub(crate) fn read_core(alloc: Global, bytes: &[u8]) -> Result<Contents, DumpError>
     ensures right { IfErr result (RefusesCore bytes.now) }
@@ -112,6 +123,7 @@ pub(crate) fn read_core(alloc: Global, bytes: &[u8]) -> Result<Contents, DumpErr
     let elf = accept(bytes)?;
     let said = read_notes(alloc, &elf)?;
     let loads = load_segments(alloc, &elf)?;
+    let notes = noted_segments(alloc, &elf)?;
     let table = table_of(alloc, &loads)?;
     let last = last_entries(alloc, said.entries)?;
     let maps = maps_of(alloc, &loads, &last)?;
@@ -119,6 +131,7 @@ pub(crate) fn read_core(alloc: Global, bytes: &[u8]) -> Result<Contents, DumpErr
     Ok(Contents {
         machine: elf.machine(),
         loads,
+        notes,
         table,
         maps,
         places,

@@ -3,10 +3,10 @@ ghost use Rattle.std.specs.Prelude.{◌≡◌, ◌⊎◌, ◌↔◌, ◌<◌, �
 ghost use Rattle.elf64_core.specs.Header.{machine_of};
 ghost use Rattle.image_memory.specs.Contents.{AreContents};
 ghost use Rattle.image_memory.specs.Cores.{IsCore, IsEarly, RefusesCore};
-ghost use Rattle.elf64_core.specs.Header.{HasSegments};
+ghost use Rattle.elf64_core.specs.Header.{HasSegments, IsInside};
 ghost use Rattle.image_memory.specs.Maps.{AreMaps, ArePlaces, IsFilePlace, in_core, is_named};
 ghost use Rattle.image_memory.specs.declared.file_table.FilePlace.{FilePlace as Place};
-ghost use Rattle.image_memory.specs.Notes.{AreStatuses, IsProcess};
+ghost use Rattle.image_memory.specs.Notes.{AreStatuses, IsProcess, note_bytes, segment_bytes};
 ghost use Rattle.image_memory.specs.Pieces.{core_ranges, loads_of, memory_of, ranges_of};
 ghost use Rattle.piece_table.specs.Lookups.{HalvesIn};
 ghost use Rattle.piece_table.specs.Overlays.{ArePieces};
@@ -22,7 +22,7 @@ ghost use Rattle.process_memory.specs.Memory.{byte_at};
 use crate::contents::{Contents, read_core};
 use crate::maps::holds_addr;
 use crate::{ContainsAddr, CoreMapRange, DumpError, FilePlace, View, elf_prpsinfo, elf_prstatus};
-use elf64_core::{Machine, Steps};
+use elf64_core::{Machine, Segment, Steps};
 use piece_table::{PieceTable, Stored, piece_of, rest_of, run_of};
 use process_memory::{Pieces, ProcessMemory};
 use std::alloc::Global;
@@ -44,6 +44,17 @@ impl Model for CoreDump {
     ghost view = { λ c. c.bytes.items };
 
     ghost invariant = { λ c. AreContents c.bytes.items c.contents };
+}
+
+/// The bytes that a file has of a segment, which lie in it; a segment of none may begin behind its end.
+fn bytes_of_segment<'a>(bytes: &'a [u8], segment: &Segment) -> &'a [u8]
+    requires { IsInside bytes.now segment.now.offset segment.now.file_size }
+    ensures { result.now ≡ segment_bytes bytes.now segment.now }
+{
+    if segment.file_size == 0 {
+        return &[];
+    }
+    &bytes[segment.offset as usize..(segment.offset + segment.file_size) as usize]
 }
 
 /// The place of a number, if there is one.
@@ -121,6 +132,15 @@ impl CoreDump {
         ensures held { HasSegments self.now }
     {
         &self.contents.places
+    }
+
+    /// The bytes of the note segment of a number, from 0 on, in table order; none exactly where there are not
+    /// so many. It takes no memory.
+    pub fn note_segment(&self, index: u32) -> Option<&[u8]>
+        ensures { option_copied result ≡ slice_get (note_bytes self.now) index }
+    {
+        let segment = self.contents.notes.get(index as usize)?;
+        Some(bytes_of_segment(&self.bytes, segment))
     }
 
     /// The machine that the header names.

@@ -53,8 +53,8 @@ fn digit_in(byte: u8) -> Option<u8>
     }
 }
 
-/// The number that 1 to 16 hexadecimal digits of either case write; None for other bytes.
-pub(crate) fn number_in(digits: &[u8]) -> Option<u64>
+/// The number that 1 to 16 hexadecimal digits of either case write; None exactly for other bytes. It takes no memory.
+pub fn number_in(digits: &[u8]) -> Option<u64>
     ensures { MatchOption result (is_number digits.now ≡ false) (λ number.
         (is_number digits.now ≡ true) × (number ≡ digits_value 16 digits.now)) }
 {

@@ -17,6 +17,7 @@ mod tests;
 
 pub use entry::{EntryPath, MapsEntry, PathName};
 pub use error::MapsError;
+pub use fields::number_in;
 pub use filter::{FilteredEntries, filter_relevant};
-pub use lines::{MapsEntryIter, parse_file};
+pub use lines::{MapsEntryIter, first_line, parse_file};
 pub use perm::Perm;

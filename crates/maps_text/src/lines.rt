@@ -15,8 +15,9 @@ fn first_newline(text: &[u8]) -> Option<usize>
     text.iter().position(|byte| *byte == b'\n')
 }
 
-/// The first line of a text, and the text behind its end.
-fn first_line(text: &[u8]) -> (&[u8], &[u8])
+/// The first line of a text that isn't empty, without its newline, and the text behind that. Lines end with newlines;
+/// the last one need not. It takes no memory.
+pub fn first_line(text: &[u8]) -> (&[u8], &[u8])
     requires { 0 < length text.now }
     ensures { lines_of text.now ≡ result.0.now ∷ lines_of result.1.now }
 {

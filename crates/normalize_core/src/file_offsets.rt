@@ -2,6 +2,7 @@
 ghost use Rattle.std.specs.Prelude.{◌≡◌, true};
 ghost use Rattle.normalize_core.specs.FileOffsets.{file_offset_at, file_offset_shown};
 ghost use Rattle.normalize_core.specs.Order.{in_order};
+ghost use Rattle.normalize_core.specs.Targets.{overflows};
 
 use crate::query::{covering, target, value};
 use maps_text::MapsEntry;
@@ -30,4 +31,13 @@ pub fn file_offset<'a>(entries: &'a [MapsEntry], addr: u64) -> Option<FileOffset
     };
     let offset = value(entry, addr)?;
     Some(FileOffset { path, offset })
+}
+
+/// Whether the place of an address in its file, by entries that ascend and are disjoint, passes 2^64 - 1: normalizing
+/// refuses it as `OffsetOverflow` exactly then. It takes no memory and halves the entries with each step.
+pub fn passes_end(entries: &[MapsEntry], addr: u64) -> bool
+    requires { in_order entries.now ≡ true }
+    ensures { result ≡ overflows entries.now addr }
+{
+    value(covering(entries, addr), addr).is_none()
 }

@@ -24,7 +24,7 @@ pub use bpf_prog::BpfProg;
 pub use bpf_tag::BpfTag;
 pub use btf::{Btf, bpf_line_info, btf_header};
 pub use error::NormalizeError;
-pub use file_offsets::{FileOffset, file_offset};
+pub use file_offsets::{FileOffset, file_offset, passes_end};
 pub use meta::{Elf, Reason, Unknown, UserMeta};
 pub use normalizer::{Builder, Normalizer};
 pub use options::{NormalizeOpts, Output, UserOutput};

@@ -3,6 +3,7 @@ use Rattle.elf64_core.specs.Header.{machine_of}
 use Rattle.elf64_core.specs.declared.segment.Segment.{Segment}
 use Rattle.image_memory.specs.Contents.{NotesSay}
 use Rattle.image_memory.specs.FileTables.{file_entry_of}
+use Rattle.image_memory.specs.Notes.{note_segments}
 use Rattle.image_memory.specs.Maps.{map_by, named_by, file_place_by, placed_by}
 use Rattle.piece_table.specs.Places.{IsBounded}
 use Rattle.image_memory.specs.Pieces.{core_range, loads_of}
@@ -27,6 +28,7 @@ returns-clause-are c =
       core = record { accepted = noted.accepted; noted = noted.noted; notes = says.notes; entries = entries; found = says.found };
       machine_is = c.machine.ensures ∙ ap machine_of same;
       loads_are = loads;
+      notes_are = c.in_ok-notes.ensures ∙ ap note_segments same;
       table_is = c.in_ok-table.ensures ∙ ap (map core_range) (c.deref.ensures.value ∙ loads);
       maps_are = record {
         notes = says.notes;
