@@ -4,3 +4,6 @@ pub mod Admitting
 pub mod Releases
 pub mod EachAt
 pub mod GeneratedValid
+pub mod Appending
+pub mod Lengths
+pub mod RuntimeWords

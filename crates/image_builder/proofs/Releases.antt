@@ -184,3 +184,7 @@ pub has_one : (r : Option ℕ) (b : Bool) (flags : List ℕ) → MatchOption r (
     → IsTrue b ↔ HasReleaseByte flags
 has_one None b flags h is = (λ t. let clash : false ≡ true = sym is ∙ t in cc, λ x. absurd (h x.0 x.1))
 has_one (Some byte) b flags h is = (λ t. (byte, h), λ x. is)
+
+-- the bytes of the flags have the same byte
+pub byte_same : (flags bytes : List ℕ) → bytes ≡ encode_utf8_all flags → HasReleaseByte flags → release_byte bytes ≡ release_byte flags
+byte_same flags bytes is h = is_found bytes h.0 (chars_here flags bytes h.0 is h.1) ∙ sym (is_found flags h.0 h.1)

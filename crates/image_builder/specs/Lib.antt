@@ -1,3 +1,9 @@
+pub mod Built
+pub mod CoreFiles
 pub mod Covered
+pub mod ElfRecords
 pub mod Generated
+pub mod ImageFiles
+pub mod Records
 pub mod Refusals
+pub mod RuntimeWords
