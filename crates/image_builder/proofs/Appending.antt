@@ -5,12 +5,12 @@ use Rattle.std.specs.Prelude.{IfOk, Result, Ok, Err, if◌then◌else◌}
 use Rattle.std.specs.Result.{is_ok}
 use Rattle.std.specs.List.{flat_map}
 use Rattle.std.proofs.lemmas.List.{get_or_default}
-use Rattle.memory_builder.specs.Objects.{Value, aligned, bytes_of, len_of}
-use Rattle.memory_builder.specs.Sizes.{rounded}
-use Rattle.memory_builder.specs.Writes.{value_of}
-use Rattle.memory_builder.specs.declared.object.Value as d
+use Rattle.object_builder.specs.Objects.{Value, aligned, bytes_of, len_of}
+use Rattle.object_builder.specs.Sizes.{rounded}
+use Rattle.object_builder.specs.Writes.{value_of}
+use Rattle.object_builder.specs.declared.object.Value as d
 use Rattle.memory_builder.proofs.Growing.{flat_more}
-use Rattle.memory_builder.proofs.Objects.{length-bytes_of}
+use Rattle.object_builder.proofs.Objects.{length-bytes_of}
 use Rattle.memory_builder.proofs.Sums.{take_all}
 use Rattle.image_builder.specs.Records.{filled, record_of}
 

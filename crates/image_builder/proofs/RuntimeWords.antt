@@ -12,8 +12,8 @@ use Rattle.py_fields.specs.declared.layout.Lock.{Lock}
 use Rattle.py_fields.specs.declared.layout.Lock.TheVariants.{Symbol as SymbolLock, Runtime as RuntimeLock, Gil}
 use Rattle.py_fields.specs.declared.layout.OffsetsAt.{OffsetsAt}
 use Rattle.py_fields.specs.declared.layout.Layout.{Layout}
-use Rattle.memory_builder.specs.Objects.{optional_write, write_place}
-use Rattle.memory_builder.specs.Objects.Value.{U64}
+use Rattle.object_builder.specs.Objects.{optional_write, write_place}
+use Rattle.object_builder.specs.Objects.Value.{U64}
 use Rattle.image_builder.specs.RuntimeWords.{head_field, head_place, lock_word_place, words_writes}
 use Rattle.py_version.specs.Offsets.{by_minor, current_of_3, head_of_3, interp_head_offset, is_cinder, tstate_current_offset}
 use Rattle.py_version.specs.declared.version.Version.{Version}

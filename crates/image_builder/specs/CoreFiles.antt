@@ -6,8 +6,8 @@ use Rattle.std.proofs.Math.ListN.{replicate}
 use Rattle.elf64_core.specs.Notes.{padded}
 use Rattle.elf64_core.specs.declared.header.Machine.{Machine}
 use Rattle.elf64_core.specs.declared.segment.Segment.{Segment}
-use Rattle.memory_builder.specs.Objects.{Value}
-use Rattle.memory_builder.specs.Objects.Value.{U64, U32, U16, U8, Bytes}
+use Rattle.object_builder.specs.Objects.{Value}
+use Rattle.object_builder.specs.Objects.Value.{U64, U32, U16, U8, Bytes}
 use Rattle.image_builder.specs.ElfRecords.{file_fields, note_fields, segment_fields}
 use Rattle.image_builder.specs.Records.{filled, record_of}
 

@@ -7,8 +7,8 @@ use Rattle.elf64_core.specs.declared.header.Machine.{Machine}
 use Rattle.elf64_core.specs.declared.header.Machine.TheVariants.{X86_64, Aarch64, Other}
 use Rattle.elf64_core.specs.declared.section.Section.{Section}
 use Rattle.elf64_core.specs.declared.segment.Segment.{Segment}
-use Rattle.memory_builder.specs.Objects.{Value}
-use Rattle.memory_builder.specs.Objects.Value.{U64, U32, U16, U8, Bytes}
+use Rattle.object_builder.specs.Objects.{Value}
+use Rattle.object_builder.specs.Objects.Value.{U64, U32, U16, U8, Bytes}
 
 -- the number that names a machine: EM_X86_64, EM_AARCH64, and EM_NONE for others
 abbrev pub machine_number : Machine → ℕ

@@ -5,8 +5,8 @@ use Rattle.std.specs.List.{flat_map}
 use Rattle.elf64_core.specs.declared.header.Machine.{Machine}
 use Rattle.elf64_core.specs.declared.section.Section.{Section}
 use Rattle.elf64_core.specs.declared.segment.Segment.{Segment}
-use Rattle.memory_builder.specs.Objects.{bytes_of}
-use Rattle.memory_builder.specs.Objects.Value.{U32}
+use Rattle.object_builder.specs.Objects.{bytes_of}
+use Rattle.object_builder.specs.Objects.Value.{U32}
 use Rattle.image_builder.specs.CoreFiles.{segment_headers}
 use Rattle.image_builder.specs.ElfRecords.{file_fields, section_fields, symbol_fields}
 use Rattle.image_builder.specs.Records.{filled, record_of}

@@ -2,7 +2,7 @@
 use Rattle.std.specs.Prelude.{ℕ, ◌-◌, List, ◌++◌, length}
 use Rattle.std.specs.List.{flat_map}
 use Rattle.std.proofs.Math.ListN.{replicate}
-use Rattle.memory_builder.specs.Objects.{Value, bytes_of}
+use Rattle.object_builder.specs.Objects.{Value, bytes_of}
 
 unfoldable pub record_of : List Value → List ℕ
 record_of fields = flat_map bytes_of fields

@@ -10,8 +10,8 @@ use Rattle.py_fields.specs.declared.layout.Lock.{Lock}
 use Rattle.py_fields.specs.declared.layout.Lock.TheVariants.{Symbol as SymbolLock, Runtime as RuntimeLock, Gil}
 use Rattle.py_fields.specs.declared.layout.OffsetsAt.{OffsetsAt}
 use Rattle.py_fields.specs.declared.layout.Layout.{Layout}
-use Rattle.memory_builder.specs.Objects.{Write, object, optional_write}
-use Rattle.memory_builder.specs.Objects.Value.{U64}
+use Rattle.object_builder.specs.Objects.{Write, object, optional_write}
+use Rattle.object_builder.specs.Objects.Value.{U64}
 
 -- where the objects begin, with the interpreter
 abbrev pub interpreter_at : ℕ

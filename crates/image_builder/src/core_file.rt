@@ -6,7 +6,7 @@ ghost use Rattle.image_builder.specs.Records.{filled, record_of};
 use crate::elf_records::{FileHeader, add_file_header, add_segments};
 use crate::records::{add_filled, add_record};
 use elf64_core::{LOAD, Machine, NOTE, Segment};
-use memory_builder::Value::{Bytes, U8, U16, U32, U64};
+use object_builder::Value::{Bytes, U8, U16, U32, U64};
 use std::alloc::{AllocError, Global};
 
 /// A page of the file, in bytes.

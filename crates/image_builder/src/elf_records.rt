@@ -6,7 +6,7 @@ ghost use Rattle.image_builder.specs.Records.{record_of};
 
 use crate::records::add_record;
 use elf64_core::{Machine, NOTE, Section, Segment};
-use memory_builder::Value::{Bytes, U8, U16, U32, U64};
+use object_builder::Value::{Bytes, U8, U16, U32, U64};
 use std::alloc::AllocError;
 
 /// What differs between the headers of two files.

@@ -1,14 +1,14 @@
 //! Records of files: fields that follow each other, the lowest byte of each number first.
 ghost use Rattle.std.specs.Prelude.{◌≡◌, ◌++◌, ◌<◌, ◌≤◌, ◌^◌, map, length, IfOk};
-ghost use Rattle.memory_builder.specs.Objects.{bytes_of};
-ghost use Rattle.memory_builder.specs.Writes.{value_of};
+ghost use Rattle.object_builder.specs.Objects.{bytes_of};
+ghost use Rattle.object_builder.specs.Writes.{value_of};
 ghost use Rattle.image_builder.specs.Records.{filled, record_of};
 
-use memory_builder::Value;
+use object_builder::Value;
 use std::alloc::AllocError;
 
 /// Adds a field. The one error is want of memory.
-#[tactic(auto, unfolding(memory_builder::specs::Objects::bytes_of))]
+#[tactic(auto, unfolding(object_builder::specs::Objects::bytes_of))]
 fn add_field(out: &mut Vec<u8>, field: Value) -> Result<(), AllocError>
     ensures { IfOk result (λ _. out.new.items ≡ out.old.items ++ bytes_of (value_of field.entry)) }
 {

@@ -4,7 +4,7 @@ ghost use Rattle.py_fields.specs.Sound.{IsSound};
 ghost use Rattle.image_builder.specs.RuntimeWords.{head_field, head_place, lock_word_place, runtime_words};
 
 use elf64_core::Machine;
-use memory_builder::{Value, Write, add_object, optional_write};
+use object_builder::{Value, Write, add_object, optional_write};
 use py_fields::{Head, Layout, Lock};
 use py_version::{Version, get_interp_head_offset, get_tstate_current_offset};
 use std::alloc::{AllocError, Global};

@@ -4,9 +4,9 @@ use Rattle.std.specs.Prelude.{Ok}
 use Rattle.std.specs.List.{AllByRecursion}
 use Rattle.process_memory.specs.Memory.{Memory, Found}
 use Rattle.process_memory.specs.Walk.{IsChain}
-use Rattle.memory_builder.specs.Placing.{Stands}
+use Rattle.object_builder.specs.Placing.{Stands}
 use Rattle.memory_builder.specs.Chains.{head_of, laid_chain, values_at, addresses_from, AllAt}
-use Rattle.memory_builder.proofs.Placing.{stands_left, stands_right}
+use Rattle.object_builder.proofs.Placing.{stands_left, stands_right}
 use Rattle.std.specs.List.{sum_by}
 use Rattle.std.proofs.lemmas.List.Sums.{sum_by-cons}
 

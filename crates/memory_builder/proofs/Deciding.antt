@@ -1,10 +1,9 @@
 -- What tests of items in the code's own lists say of the mapped ones.
-use Rattle.std.proofs.Common.{◌≡◌, ◌<◌, ◌≤◌, ℕ, Bool, List, length, map, arith}
+use Rattle.std.proofs.Common.{◌<◌, ◌≤◌, Bool, List, length, map, arith}
 use Rattle.std.specs.Prelude.{◌↔◌, IsTrue}
 use Rattle.std.specs.List.{AllByRecursion}
 use Rattle.memory_builder.specs.declared.parts.ProgramFrame.{ProgramFrame}
 use Rattle.memory_builder.specs.declared.parts.ProgramItem.{ProgramItem}
-use Rattle.memory_builder.specs.declared.parts.ProgramLocal.{ProgramLocal}
 use Rattle.memory_builder.specs.Mirror.{frame_in, item_in, local_in}
 use Rattle.memory_builder.specs.Program.Held.{Items}
 use Rattle.memory_builder.specs.Validity.{HasValidLocals, IsValidHeld, IsValidItem, IsValidLocal}

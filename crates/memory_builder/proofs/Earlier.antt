@@ -1,5 +1,5 @@
 -- A thread of the code's own list, and those before it.
-use Rattle.std.proofs.Common.{◌≡◌, ◌∙◌, ◌<◌, ℕ, List, map, length, take, get_or, ap, subst, sym, arith}
+use Rattle.std.proofs.Common.{◌≡◌, ◌∙◌, ◌<◌, ℕ, List, map, length, take, get_or, ap, subst, sym}
 use Rattle.std.specs.Prelude.{Some, slice_get}
 use Rattle.memory_builder.specs.declared.parts.ProgramThread.{ProgramThread}
 use Rattle.memory_builder.specs.Mirror.{program_thread}

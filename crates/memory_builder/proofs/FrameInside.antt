@@ -1,14 +1,14 @@
 -- The fields of a frame's records lie inside them.
-use Rattle.std.proofs.Common.{◌≡◌, ◌+◌, ◌*◌, ◌<◌, ◌≤◌, ℕ, List, [], ◌∷◌, length, map, refl, subst, sym, arith}
+use Rattle.std.proofs.Common.{◌≡◌, ◌+◌, ◌≤◌, ℕ, List, length, map, refl, arith}
 use Rattle.std.specs.Prelude.{Option, Some, None}
-use Rattle.py_fields.specs.Places.{EndBy, Place, bytes_places, instr_width, optional_place, tuple_places}
+use Rattle.py_fields.specs.Places.{EndBy, instr_width}
 use Rattle.py_fields.specs.Sound.{IsSound}
 use Rattle.py_fields.proofs.Fields.{frame_fits}
 use Rattle.py_fields.specs.declared.layout.Lasti.{Lasti}
 use Rattle.py_fields.specs.declared.layout.Lasti.TheVariants.{Bytes as InBytes, Units, Pointer}
 use Rattle.py_fields.specs.declared.layout.Layout.{Layout}
-use Rattle.memory_builder.specs.Objects.{Value, len_of, optional_write, write_place}
-use Rattle.memory_builder.specs.Objects.Value.{U8}
+use Rattle.object_builder.specs.Objects.{len_of, optional_write, write_place}
+use Rattle.object_builder.specs.Objects.Value.{U8}
 use Rattle.memory_builder.specs.Frames.{frame_writes, instr_value, start_in}
 
 pub len-instr : (x : Lasti) (start offset : ℕ) → len_of (instr_value x start offset) ≡ instr_width x

@@ -1,12 +1,12 @@
 -- What is laid of one item more.
-use Rattle.std.proofs.Common.{◌≡◌, ◌∙◌, ◌+◌, ◌<◌, ◌≤◌, ◌^◌, ℕ, zero, suc, List, [], ◌∷◌, ◌++◌, map, length, get_or, take, refl, sym, ap, ap₂, subst, arith, append_assoc, append-nil}
+use Rattle.std.proofs.Common.{◌≡◌, ◌∙◌, ◌+◌, ◌<◌, ◌^◌, ℕ, zero, suc, List, [], ◌∷◌, ◌++◌, map, length, get_or, take, refl, sym, ap, ap₂, arith, append_assoc, append-nil}
 use Rattle.std.specs.Prelude.{slice_index_or}
 use Rattle.std.specs.List.{flat_map, sum_by}
 use Rattle.std.proofs.lemmas.List.{take_more}
 use Rattle.std.proofs.lemmas.List.Sums.{sum_by-cons, sum_by_push, sum_by-take-le}
 use Rattle.memory_builder.specs.Chains.{addresses_from, head_of, laid_chain}
-use Rattle.memory_builder.specs.Objects.{bytes_of}
-use Rattle.memory_builder.specs.Objects.Value.{U64}
+use Rattle.object_builder.specs.Objects.{bytes_of}
+use Rattle.object_builder.specs.Objects.Value.{U64}
 use Rattle.memory_builder.specs.Sizes.{capped}
 use Rattle.memory_builder.specs.Values.{address_array, laid_all}
 use Rattle.memory_builder.proofs.Lists.{length_map}

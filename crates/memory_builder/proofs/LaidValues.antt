@@ -1,14 +1,14 @@
 -- What the code writes of a list.
-use Rattle.std.proofs.Common.{◌≡◌, ◌∙◌, ◌+◌, ◌*◌, ◌<◌, ◌^◌, ℕ, List, [], ◌∷◌, ◌++◌, length, refl, sym, ap, subst, arith, append_assoc}
+use Rattle.std.proofs.Common.{◌≡◌, ◌∙◌, ◌*◌, ℕ, List, [], ◌∷◌, ◌++◌, length, refl, sym, ap, subst, append_assoc}
 use Rattle.std.specs.Prelude.{IfOk, Result}
 use Rattle.std.specs.List.{flat_map}
 use Rattle.py_fields.specs.declared.layout.Layout.{Layout}
 use Rattle.memory_builder.specs.Chains.{addresses_from}
-use Rattle.memory_builder.specs.Objects.{Write, aligned, object}
-use Rattle.memory_builder.specs.Objects.Value.{U64}
+use Rattle.object_builder.specs.Objects.{Write, aligned, object}
+use Rattle.object_builder.specs.Objects.Value.{U64}
 use Rattle.memory_builder.specs.Program.{Item}
 use Rattle.memory_builder.specs.Program.Held.{Items}
-use Rattle.memory_builder.specs.Sizes.{item_size, list_len, rounded}
+use Rattle.memory_builder.specs.Sizes.{item_size, list_len}
 use Rattle.memory_builder.specs.Values.{address_array, first_item, items_place, laid_item, laid_value, list_writes}
 use Rattle.memory_builder.specs.declared.values.TypesAt.{TypesAt}
 use Rattle.memory_builder.proofs.Chains.{length-places}

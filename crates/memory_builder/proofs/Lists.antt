@@ -1,6 +1,6 @@
 -- Lists whose items are mapped.
-use Rattle.std.proofs.Common.{◌≡◌, ◌+◌, ◌<◌, ◌≤◌, ℕ, zero, suc, List, [], ◌∷◌, map, length, get_or, take, refl, ap, sym, arith}
-use Rattle.std.specs.Prelude.{◌↔◌, IsTrue, IfSome, Option, Some, None, slice_get}
+use Rattle.std.proofs.Common.{◌≡◌, ◌<◌, ◌≤◌, ℕ, zero, suc, List, [], ◌∷◌, map, length, get_or, take, refl, ap, sym, arith}
+use Rattle.std.specs.Prelude.{◌↔◌, IfSome, Some, None, slice_get}
 use Rattle.std.specs.List.{AllByRecursion}
 
 -- what holds of the mapped items holds of the items mapped

@@ -1,11 +1,12 @@
 -- Texts that are compared by their bytes.
-use Rattle.std.proofs.Common.{◌≡◌, ◌≢◌, ◌<◌, ◌≤◌, ◌∙◌, ℕ, List, [], length, nat_lt, Bool, true, false, refl, sym, subst, ap, arith, rules}
+use Rattle.std.proofs.Common.{◌≡◌, ◌<◌, ◌∙◌, ℕ, List, [], length, nat_lt, Bool, true, false, refl, sym, subst, ap, arith, rules}
 use Rattle.std.specs.Prelude.{◌↔◌, IsTrue, codes, encode_utf8_all, not}
 use Rattle.std.specs.Str.{all_scalars, bytes_eq, IsAscii, IsUtf8}
 use Rattle.std.proofs.lemmas.Str.{length-le-encodes, chars_from_encodes, scalars-chars, encodes_same, encodes-IsAscii}
 use Rattle.std.proofs.lemmas.Bool.{ltb-true, lt-ltb, not-true, not-false, not_from_false}
 use Rattle.std.proofs.lemmas.Slice.Eq.{bytes_eq-Decides}
 use Rattle.std.specs.Bool.{Decides}
+use Rattle.py_stacks.specs.Frames.{is_hidden}
 use Rattle.memory_builder.specs.Validity.{IsBriefText, IsShownFile}
 
 pub brief_is : (text bytes : List ℕ) → IsUtf8 bytes → bytes ≡ encode_utf8_all text → IsTrue (nat_lt (length bytes) 4096) ↔ IsBriefText text
@@ -45,3 +46,11 @@ empty_hidden file bytes is some some_is some_false = (
   λ t. let clash : false ≡ true = sym some_false ∙ t in cc,
   λ h. absurd (h.some (encodes_same file [] (sym is ∙ same bytes [] (not-false _ (sym some_is ∙ some_false))))),
 )
+
+-- a frame of such a file isn't hidden
+pub hidden_not : (file : List ℕ) → IsShownFile file → is_hidden file ≡ false
+unfolding is_hidden
+hidden_not file h =
+    let none = apart (encode_utf8_all file) [] (λ e. h.some (encodes_same file [] e)) in
+    let other = apart (encode_utf8_all file) (codes "<shim>") (λ e. h.no_shim (encodes_same file (codes "<shim>") (e ∙ sym (encodes-IsAscii (codes "<shim>") shim_ascii)))) in
+    rw (none, other) refl

@@ -1,12 +1,12 @@
 -- What a valid program is, and where its parts stand.
-use Rattle.std.proofs.Common.{◌≡◌, ◌+◌, ◌*◌, ◌<◌, ◌^◌, ℕ, List, refl, arith}
+use Rattle.std.proofs.Common.{◌+◌, ◌<◌, ◌^◌, ℕ, List, refl, arith}
 use Rattle.std.specs.Prelude.{Option, Some, None, IfSome, length, take, slice_get}
 use Rattle.std.specs.List.{AllByRecursion, sum_by}
 use Rattle.py_fields.specs.declared.layout.Layout.{Layout}
 use Rattle.py_lines.specs.declared.lines.LineFamily.{LineFamily}
-use Rattle.memory_builder.specs.Laid.{first_place, types_place}
+use Rattle.memory_builder.specs.Laid.{first_place}
 use Rattle.memory_builder.specs.Program.{Program, Thread}
-use Rattle.memory_builder.specs.Sizes.{program_size, shared_size, thread_size, type_size}
+use Rattle.memory_builder.specs.Sizes.{program_size, shared_size, thread_size}
 use Rattle.memory_builder.specs.Validity.{IsValidFrame, IsValidIn, IsValidProgram}
 use Rattle.memory_builder.proofs.Lists.{somewhere_all}
 

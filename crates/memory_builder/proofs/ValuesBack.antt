@@ -6,20 +6,20 @@ use Rattle.process_memory.specs.Memory.{Memory, word_at}
 use Rattle.py_fields.specs.Places.{Place, Apart, IsGroup, long_places, list_places, object_places}
 use Rattle.py_fields.specs.Sound.{IsSound}
 use Rattle.py_fields.specs.declared.layout.Layout.{Layout}
-use Rattle.memory_builder.specs.Objects.{bytes_of, object, write_place}
-use Rattle.memory_builder.specs.Objects.Value.{U64}
-use Rattle.memory_builder.specs.Placing.{Stands}
+use Rattle.object_builder.specs.Objects.{bytes_of, object, write_place}
+use Rattle.object_builder.specs.Objects.Value.{U64}
+use Rattle.object_builder.specs.Placing.{Stands}
 use Rattle.memory_builder.specs.Program.{Item, Local}
 use Rattle.memory_builder.specs.Program.Item.{Number, Words}
 use Rattle.memory_builder.specs.Program.Held.{Single, Items}
 use Rattle.memory_builder.specs.Program as program
-use Rattle.memory_builder.specs.Room.{HasRoom, klass_place}
-use Rattle.memory_builder.specs.Texts.{text_object}
+use Rattle.object_builder.specs.Room.{HasRoom, klass_place}
+use Rattle.object_builder.specs.Texts.{text_object}
 use Rattle.memory_builder.specs.Chains.{addresses_from}
 use Rattle.memory_builder.specs.Values.{address_array, number_writes, laid_item, list_writes, items_place, first_item, laid_value, laid_name, laid_local}
-use Rattle.memory_builder.proofs.Objects.{length-object}
-use Rattle.memory_builder.proofs.Placing.{length-aligned, record_stands_first, stands_left, stands_right}
-use Rattle.memory_builder.proofs.TextsBack.{length-text}
+use Rattle.object_builder.proofs.Objects.{length-object}
+use Rattle.object_builder.proofs.Placing.{length-aligned, record_stands_first, stands_left, stands_right}
+use Rattle.object_builder.proofs.TextsBack.{length-text}
 use Rattle.memory_builder.proofs.Chains.{length-chain, length-places, chain_even}
 use Rattle.memory_builder.specs.Sizes.{held_size, item_size, list_len, local_size, name_size, number_len, rounded}
 use Rattle.memory_builder.specs.declared.values.TypesAt.{TypesAt}

@@ -1,21 +1,20 @@
 -- Frames, as they are laid: the record, its code, the line table, the names' tuple, the texts, and the locals.
-use Rattle.std.specs.Prelude.{◌≡◌, ℕ, ◌+◌, ◌*◌, ◌/◌, ◌%◌, ◌<◌, ◌≤◌, ◌^◌, max, false, None, List, [], ◌∷◌, ◌++◌, length, unsigned_abs}
+use Rattle.std.specs.Prelude.{ℕ, ◌+◌, ◌/◌, None, List, [], ◌∷◌, ◌++◌, length, unsigned_abs}
 use Rattle.std.specs.Option.{unwrap_or}
 use Rattle.std.specs.List.{flat_map}
 use Rattle.py_fields.specs.declared.layout.Lasti.{Lasti}
 use Rattle.py_fields.specs.declared.layout.Lasti.TheVariants.{Bytes as InBytes, Units, Pointer}
 use Rattle.py_fields.specs.declared.layout.Layout.{Layout}
 use Rattle.py_lines.specs.Coding.{coded}
-use Rattle.memory_builder.specs.Objects as objects
-use Rattle.memory_builder.specs.Objects.{Write, optional_write, object, aligned}
-use Rattle.memory_builder.specs.Objects.Value.{U64, U32, U8, Bytes}
-use Rattle.memory_builder.specs.Program.{Frame, Local}
-use Rattle.memory_builder.specs.Texts.{text_object}
+use Rattle.object_builder.specs.Objects as objects
+use Rattle.object_builder.specs.Objects.{Write, optional_write, object, aligned}
+use Rattle.object_builder.specs.Objects.Value.{U64, U32, U8, Bytes}
+use Rattle.memory_builder.specs.Program.{Frame}
+use Rattle.object_builder.specs.Texts.{text_object}
 use Rattle.memory_builder.specs.Chains.{addresses_from}
 use Rattle.memory_builder.specs.Values.{address_array, laid_all, laid_name, laid_local}
 use Rattle.memory_builder.specs.Sizes.{frame_len, local_size, name_size, rounded, table_len, text_len, tuple_len}
 use Rattle.py_stacks.specs.Lines.{family_of}
-use Rattle.memory_builder.specs.Validity.{IsBriefText, IsValidHeld}
 use Rattle.std.specs.List.{sum_by}
 use Rattle.memory_builder.specs.declared.values.TypesAt.{TypesAt}
 use Rattle.memory_builder.specs.declared.frames.FrameSpots.{FrameSpots}
@@ -100,7 +99,8 @@ unfoldable pub laid_records : Layout → FrameSpots → ℕ → Frame → List �
 laid_records l s back f =
     aligned (object (frame_len l f) (frame_writes l s.code back f.offset
     (address_array (addresses_from (local_size l) s.values f.locals)))) ++
-    (aligned (object l.code.size (code_writes l f.args (length f.locals) (first_number f) s.file s.name s.table s.tuple)) ++
+    (aligned (object l.code.size
+    (code_writes l f.args (length f.locals) (first_number f) s.file s.name s.table s.tuple)) ++
     (aligned (table_object l f) ++
     aligned (object (tuple_len l f) (tuple_writes l (length f.locals)
     (address_array (addresses_from (name_size l) s.names f.locals))))))

@@ -1,10 +1,9 @@
 -- A program, as it is laid: the interpreter, the lock's record, the three types, and the threads.
-use Rattle.std.specs.Prelude.{◌≢◌, ℕ, zero, suc, ◌+◌, ◌-◌, ◌<◌, ◌≤◌, ◌^◌, max, Option, Some, None, List, [], ◌∷◌, ◌++◌, length, codes, map, IfSome, slice_index_or}
-use Rattle.std.specs.List.{AllByRecursion}
+use Rattle.std.specs.Prelude.{ℕ, zero, suc, ◌+◌, ◌^◌, Option, Some, None, List, [], ◌∷◌, ◌++◌, codes, map, slice_index_or}
 use Rattle.py_fields.specs.declared.layout.GilAt.{GilAt}
 use Rattle.py_fields.specs.declared.layout.Layout.{Layout}
-use Rattle.memory_builder.specs.Objects.{Write, optional_write, object, aligned}
-use Rattle.memory_builder.specs.Objects.Value.{U64, U32, Bytes}
+use Rattle.object_builder.specs.Objects.{Write, optional_write, object, aligned}
+use Rattle.object_builder.specs.Objects.Value.{U64, U32, Bytes}
 use Rattle.memory_builder.specs.Program.{Program, Thread}
 use Rattle.memory_builder.specs.Chains.{head_of, addresses_from}
 use Rattle.memory_builder.specs.Threads.{laid_threads}

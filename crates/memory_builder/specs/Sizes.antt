@@ -1,52 +1,22 @@
 -- How many bytes the objects of a program take in memory, by a layout. Each is as long as its record, or as what
 -- stands behind its fields, and is followed by what fills it up to a multiple of 16. Where each stands is said nowhere
 -- here: a length depends on no address.
-use Rattle.std.specs.Prelude.{ℕ, ◌+◌, ◌-◌, ◌*◌, ◌/◌, ◌^◌, max, min, nat_lt, Bool, true, Option, Some, None, List, length, if◌then◌else◌, unwrap_or, encode_utf8_all}
-use Rattle.std.specs.List.{list_all, sum_by}
+use Rattle.std.specs.Prelude.{ℕ, ◌+◌, ◌-◌, ◌*◌, ◌^◌, max, min, Option, Some, None, length}
+use Rattle.std.specs.List.{sum_by}
 use Rattle.py_fields.specs.declared.layout.CframeAt.{CframeAt}
 use Rattle.py_fields.specs.declared.layout.GilAt.{GilAt}
 use Rattle.py_fields.specs.declared.layout.Layout.{Layout}
-use Rattle.py_fields.specs.declared.layout.Strings.{Strings}
-use Rattle.py_fields.specs.declared.layout.Strings.TheVariants.{State, Bytes}
 use Rattle.py_lines.specs.Coding.{coded}
 use Rattle.py_stacks.specs.Lines.{family_of}
+pub use Rattle.object_builder.specs.Sizes.{rounded}
+unfoldable pub use Rattle.object_builder.specs.Sizes.{text_len}
 use Rattle.memory_builder.specs.Program.{Item, Held, Local, Frame, Thread, Program}
 use Rattle.memory_builder.specs.Program.Item.{Number, Words}
 use Rattle.memory_builder.specs.Program.Held.{Single, Items}
 
--- the next multiple of 16
-abbrev pub rounded : ℕ → ℕ
-rounded n = (n + 15) / 16 * 16
-
 -- a number that a u64 can hold, or else the greatest of those
 abbrev pub capped : ℕ → ℕ
 capped n = min n (2 ^ 64 - 1)
-
--- ---- texts
-
-abbrev pub all_under : ℕ → List ℕ → Bool
-all_under limit cs = list_all (λ c. nat_lt c limit) cs
-
--- a text whose characters are written in UTF-8, behind the shorter head: an ASCII text, or one without a state
-abbrev pub is_short_headed : Strings → List ℕ → Bool
-is_short_headed State cs = all_under 0x80 cs
-is_short_headed Bytes cs = true
-
--- how many bytes each character of another text takes: as few as serve for all of them
-abbrev pub least_width : List ℕ → ℕ
-least_width cs = if all_under 0x100 cs then 1 else (if all_under 0x1_0000 cs then 2 else 4)
-
--- where the characters begin in the object
-abbrev pub characters_start : Layout → List ℕ → ℕ
-characters_start l cs = if is_short_headed l.strings cs then l.string.short_at else unwrap_or l.string.long_at 0
-
--- how many bytes they take
-abbrev pub characters_len : Layout → List ℕ → ℕ
-characters_len l cs =
-    if is_short_headed l.strings cs then length (encode_utf8_all cs) else least_width cs * length cs
-
-unfoldable pub text_len : Layout → List ℕ → ℕ
-text_len l cs = max (max l.string.size l.object.size) (characters_start l cs + characters_len l cs)
 
 -- ---- values
 

@@ -1,15 +1,13 @@
 -- Threads, as they are laid: the record, the C frame where there is one, and the frames.
-use Rattle.std.specs.Prelude.{ℕ, ◌+◌, ◌<◌, ◌≤◌, ◌^◌, Option, Some, None, List, [], ◌∷◌, ◌++◌, length, pos, true, false, option_map}
-use Rattle.std.specs.List.{AllByRecursion}
+use Rattle.std.specs.Prelude.{ℕ, ◌+◌, Option, Some, None, List, [], ◌∷◌, ◌++◌}
 use Rattle.py_fields.specs.declared.layout.CframeAt.{CframeAt}
 use Rattle.py_fields.specs.declared.layout.Layout.{Layout}
-use Rattle.memory_builder.specs.Objects.{Write, optional_write, object, aligned}
-use Rattle.memory_builder.specs.Objects.Value.{U64}
+use Rattle.object_builder.specs.Objects.{Write, optional_write, object, aligned}
+use Rattle.object_builder.specs.Objects.Value.{U64}
 use Rattle.memory_builder.specs.Program.{Thread}
-use Rattle.memory_builder.specs.Chains.{head_of, laid_chain, values_at}
+use Rattle.memory_builder.specs.Chains.{head_of, laid_chain}
 use Rattle.memory_builder.specs.Frames.{laid_frame}
 use Rattle.memory_builder.specs.Sizes.{cframe_size, frame_size, rounded, thread_size}
-use Rattle.std.specs.List.{sum_by}
 use Rattle.memory_builder.specs.declared.values.TypesAt.{TypesAt}
 
 -- ---- the C frame

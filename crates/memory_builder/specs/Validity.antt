@@ -1,24 +1,18 @@
 -- Which programs can be written. That names are short, files are named and lines are positive is so that what is
 -- written can be read back; the counts and the size of numbers are this project's own bounds.
-use Rattle.std.specs.Prelude.{◌≡◌, ◌≢◌, ℕ, ◌-◌, ◌%◌, ◌^◌, ◌<◌, ◌≤◌, ◌⊎◌, ℤ, pos, ◌≤ℤ◌, unsigned_abs, true, Option, Some, None, IfSome, IsTrue, List, [], length, take, slice_get, All, codes, encode_utf8_all}
+use Rattle.std.specs.Prelude.{◌≡◌, ◌≢◌, ℕ, ◌-◌, ◌%◌, ◌^◌, ◌<◌, ◌≤◌, ◌⊎◌, ℤ, pos, ◌≤ℤ◌, unsigned_abs, Option, Some, None, IfSome, IsTrue, List, [], length, take, slice_get, codes}
 use Rattle.std.specs.List.{AllByRecursion, list_any}
-use Rattle.std.specs.Str.{all_scalars}
 use Rattle.py_lines.specs.declared.lines.LineFamily.{LineFamily}
 use Rattle.py_lines.specs.declared.lines.LineRange.{LineRange}
 use Rattle.py_lines.specs.Lines.{holds}
 use Rattle.py_lines.specs.Coding.{coded, first_unordered}
 use Rattle.memory_builder.specs.declared.validity.FramePlace.{FramePlace}
+pub use Rattle.object_builder.specs.Texts.{IsBriefText}
 use Rattle.memory_builder.specs.Program.{Item, Held, Local, Frame, Thread, Program}
 use Rattle.memory_builder.specs.Program.Item.{Number, Words}
 use Rattle.memory_builder.specs.Program.Held.{Single, Items}
 
 -- ---- parts of a frame
-
--- a text of fewer than 4096 characters, and bytes in UTF-8
-pub record IsBriefText (text : List ℕ) : Type 0 where
-  pub scalars : all_scalars text ≡ true
-  pub chars : length text < 4096
-  pub bytes : length (encode_utf8_all text) < 4096
 
 -- numbers have two digits of 30 bits
 abbrev pub IsValidItem : Item → Type 0

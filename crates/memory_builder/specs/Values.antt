@@ -1,14 +1,14 @@
 -- Values and arrays, as they are laid.
-use Rattle.std.specs.Prelude.{ℕ, ◌+◌, ◌-◌, ◌*◌, ◌/◌, ◌%◌, ◌<◌, ◌^◌, max, nat_lt, Bool, true, false, Some, None, List, [], ◌∷◌, ◌++◌, length, ℤ, pos, negsuc, unsigned_abs, if◌then◌else◌, ◌==◌}
+use Rattle.std.specs.Prelude.{ℕ, ◌+◌, ◌-◌, ◌*◌, ◌/◌, ◌%◌, ◌^◌, nat_lt, Bool, true, false, Some, None, List, [], ◌∷◌, ◌++◌, length, ℤ, pos, negsuc, unsigned_abs, if◌then◌else◌, ◌==◌}
 use Rattle.py_fields.specs.declared.layout.Layout.{Layout}
 use Rattle.py_fields.specs.declared.layout.Integers.{Integers}
 use Rattle.py_fields.specs.declared.layout.Integers.TheVariants.{Signed, Tagged}
-use Rattle.memory_builder.specs.Objects.{Write, bytes_of, object, aligned}
-use Rattle.memory_builder.specs.Objects.Value.{U64}
+use Rattle.object_builder.specs.Objects.{Write, bytes_of, object, aligned}
+use Rattle.object_builder.specs.Objects.Value.{U64}
 use Rattle.memory_builder.specs.Program.{Item, Held, Local}
 use Rattle.memory_builder.specs.Program.Item.{Number, Words}
 use Rattle.memory_builder.specs.Program.Held.{Single, Items}
-use Rattle.memory_builder.specs.Texts.{text_object}
+use Rattle.object_builder.specs.Texts.{text_object}
 use Rattle.memory_builder.specs.Chains.{laid_chain, addresses_from}
 use Rattle.memory_builder.specs.Sizes.{item_size, list_len, number_len, rounded}
 use Rattle.memory_builder.specs.declared.values.TypesAt.{TypesAt}

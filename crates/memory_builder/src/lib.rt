@@ -4,16 +4,13 @@
 
 mod frames;
 mod locals;
-mod object;
 mod parts;
 mod program;
 mod sizes;
-mod texts;
 mod threads;
 mod validity;
 mod values;
 
-pub use object::{Value, Write, add_object, optional_write};
 pub use parts::{Program, ProgramFrame, ProgramItem, ProgramLocal, ProgramThread, ProgramValue};
 pub use program::{holder_place, laid_program, lock_record_place};
 pub use sizes::{family_of, objects_size};

@@ -9,9 +9,9 @@ ghost use Rattle.memory_builder.specs.Validity.{IsValidLocal};
 ghost use Rattle.memory_builder.specs.Values.{address_array, laid_all, laid_local, laid_name};
 
 use crate::parts::ProgramLocal;
-use crate::sizes::{rounded, text_len, value_size};
-use crate::texts::add_text;
+use crate::sizes::value_size;
 use crate::values::{TypesAt, add_value};
+use object_builder::{add_text, rounded, text_len};
 use py_fields::Layout;
 use std::alloc::{AllocError, Global};
 

@@ -9,14 +9,16 @@ ghost use Rattle.memory_builder.specs.Laid.{gil_place, interpreter_writes, is_he
 ghost use Rattle.memory_builder.specs.Mirror.{program_in};
 ghost use Rattle.memory_builder.specs.Program.{Thread};
 ghost use Rattle.memory_builder.specs.Validity.{IsValidFrame, IsValidProgram};
-ghost use Rattle.memory_builder.specs.Objects.{aligned, object};
+ghost use Rattle.object_builder.specs.Objects.{aligned, object};
+ghost use Rattle.memory_builder.specs.ReadBack.{IsPlace, TellsInterpreter, TellsOwner, TellsStacks};
+ghost use Rattle.object_builder.specs.Room.{HasRoom};
 ghost use Rattle.memory_builder.specs.Sizes.{interpreter_len, program_size, thread_size, type_size};
 
-use crate::object::{Value, Write, add_object, optional_write};
 use crate::parts::Program;
-use crate::sizes::{gil_size, interpreter_len, rounded, shared_size, thread_size};
+use crate::sizes::{gil_size, interpreter_len, shared_size, thread_size};
 use crate::threads::{add_threads, threads_head};
 use crate::values::TypesAt;
+use object_builder::{Value, Write, add_object, optional_write, rounded};
 use py_fields::{GilAt, Layout};
 use std::alloc::{AllocError, Global};
 
@@ -228,6 +230,12 @@ pub fn holder_place(
 /// of its locals' names, its file's and function's names, and the names and values of its locals. Each begins at a
 /// multiple of 16 bytes from there.
 ///
+/// Where these bytes stand at `at`, which is a multiple of 16 and not 0, and address 0 has no byte, the stacks of the
+/// interpreter there are exactly those that the program tells: its threads in their order, each with its frames,
+/// their lines, and their locals with their values. The lock's record, or a word that names the owner's thread where
+/// the layout has no such record, tells the owner's id. For that the layout has to have room for the type of a value
+/// beside its other fields.
+///
 /// The one error is want of memory.
 pub fn laid_program(
     alloc: Global,
@@ -238,7 +246,13 @@ pub fn laid_program(
     requires sound { IsSound layout.now }
     requires valid { IsValidProgram (family_of layout.now.lines) (program_in program.now) }
     requires fits { at + program_size layout.now (program_in program.now) < 2 ^ 62 }
-    ensures { IfOk result (λ found. found.items ≡ laid_program layout.now at (program_in program.now)) }
+    ensures laid { IfOk result (λ found. found.items ≡ laid_program layout.now at (program_in program.now)) }
+    ensures stacks { HasRoom layout.now → IsPlace at → IfOk result
+        (λ found. TellsStacks layout.now at (program_in program.now) found.items) }
+    ensures owner { HasRoom layout.now → IsPlace at → IfOk result
+        (λ found. TellsOwner layout.now at (program_in program.now) found.items) }
+    ensures interpreter { HasRoom layout.now → IsPlace at → IfOk result
+        (λ found. TellsInterpreter layout.now at found.items) }
 {
     let gil_at = at + rounded(interpreter_len(layout));
     let types = types_at(layout, gil_at + gil_size(layout.gil));

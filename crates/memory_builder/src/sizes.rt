@@ -5,91 +5,18 @@ ghost use Rattle.std.specs.Str.{chars};
 ghost use Rattle.py_lines.specs.Coding.{coded};
 ghost use Rattle.py_fields.specs.Sound.{IsSound};
 ghost use Rattle.memory_builder.specs.Mirror.{item_in, program_value, local_in, frame_in, program_thread, program_in};
-ghost use Rattle.memory_builder.specs.Sizes.{rounded, capped, all_under, is_short_headed, least_width, characters_start, characters_len, text_len, number_len, list_len, item_size, held_size, frame_len, table_len, tuple_len, name_size, local_size, records_size, frame_size, cframe_size, thread_size, word_end, interpreter_len, gil_size, type_size, shared_size, program_size};
+ghost use Rattle.memory_builder.specs.Sizes.{rounded, capped, text_len, number_len, list_len, item_size, held_size, frame_len, table_len, tuple_len, name_size, local_size, records_size, frame_size, cframe_size, thread_size, word_end, interpreter_len, gil_size, type_size, shared_size, program_size};
 ghost use Rattle.py_stacks.specs.Lines.{family_of};
 ghost use Rattle.memory_builder.specs.Validity.{IsBriefText, IsValidItem, IsValidHeld, IsValidLocal, IsValidFrame, IsValidCall, IsValidProgram, IsCodable};
 
 use crate::parts::{Program, ProgramFrame, ProgramItem, ProgramLocal, ProgramThread, ProgramValue};
-use elf64_core::Text;
-use py_fields::{CframeAt, GilAt, Layout, Lines, Strings};
+use object_builder::{rounded, text_len};
+use py_fields::{CframeAt, GilAt, Layout, Lines};
 use py_lines::{LineFamily, LineRange, encode};
 use std::alloc::{AllocError, Global};
 
 /// How many bytes the name of a type has.
 const TYPE_NAME: u64 = 128;
-
-/// The next multiple of 16.
-pub(crate) fn rounded(len: u64) -> u64
-    requires { len < 2 ^ 60 }
-    ensures value { result ≡ rounded len }
-    ensures bound { result < len + 16 }
-{
-    (len + 15) / 16 * 16
-}
-
-/// Whether all characters are below one.
-pub(crate) fn all_under(limit: u32, text: &str) -> bool
-    ensures { result ≡ all_under limit (chars text.now) }
-{
-    text.chars().all(|c| u32::from(c) < limit)
-}
-
-/// Whether a text is written in UTF-8, behind the shorter head.
-fn is_short_headed(strings: Strings, text: &Text) -> bool
-    ensures { result ≡ is_short_headed strings text.now }
-{
-    match strings {
-        Strings::State => all_under(0x80, text.as_str()),
-        Strings::Bytes => true,
-    }
-}
-
-/// How many bytes each character of a text takes that isn't written in UTF-8.
-fn least_width(text: &Text) -> u64
-    ensures value { result ≡ least_width text.now }
-    ensures bound { result ≤ 4 }
-{
-    let text = text.as_str();
-    if all_under(0x100, text) {
-        1
-    } else if all_under(0x1_0000, text) {
-        2
-    } else {
-        4
-    }
-}
-
-/// How many characters a text has.
-pub(crate) fn count_of(text: &Text) -> u64
-    ensures { result ≡ length text.now }
-{
-    text.as_str().chars().count() as u64
-}
-
-/// Where the characters of a text end in its object.
-fn characters_end(layout: &Layout, text: &Text) -> u64
-    requires sound { IsSound layout.now }
-    requires brief { IsBriefText text.now }
-    ensures value { result ≡ characters_start layout.now text.now + characters_len layout.now text.now }
-    ensures bound { result < 2 ^ 30 }
-{
-    if is_short_headed(layout.strings, text) {
-        u64::from(layout.string.short_at) + text.as_str().len() as u64
-    } else {
-        u64::from(layout.string.long_at.unwrap_or(0)) + least_width(text) * count_of(text)
-    }
-}
-
-/// How long a text is.
-pub(crate) fn text_len(layout: &Layout, text: &Text) -> u64
-    requires sound { IsSound layout.now }
-    requires brief { IsBriefText text.now }
-    ensures value { result ≡ text_len layout.now text.now }
-    ensures bound { result < 2 ^ 33 }
-{
-    let record = layout.string.size.max(layout.object.size);
-    u64::from(record).max(characters_end(layout, text))
-}
 
 /// How long a number is.
 pub(crate) fn number_len(layout: &Layout) -> u64

@@ -6,17 +6,17 @@ ghost use Rattle.py_stacks.specs.Lines.{family_of};
 ghost use Rattle.memory_builder.specs.Chains.{head_of, laid_chain};
 ghost use Rattle.memory_builder.specs.Frames.{laid_frame};
 ghost use Rattle.memory_builder.specs.Mirror.{frame_in, program_thread};
-ghost use Rattle.memory_builder.specs.Objects.{aligned, object};
+ghost use Rattle.object_builder.specs.Objects.{aligned, object};
 ghost use Rattle.memory_builder.specs.Program.{Thread};
 ghost use Rattle.memory_builder.specs.Sizes.{cframe_size, frame_size, rounded, thread_size};
 ghost use Rattle.memory_builder.specs.Threads.{frame_field, frames_place, laid_cframe, laid_thread, laid_threads, thread_writes};
 ghost use Rattle.memory_builder.specs.Validity.{IsValidFrame};
 
 use crate::frames::add_frame;
-use crate::object::{Value, Write, add_object, optional_write};
 use crate::parts::{ProgramFrame, ProgramThread};
-use crate::sizes::{cframe_size, frame_size, rounded, thread_size};
+use crate::sizes::{cframe_size, frame_size, thread_size};
 use crate::values::TypesAt;
+use object_builder::{Value, Write, add_object, optional_write, rounded};
 use py_fields::{CframeAt, Layout};
 use std::alloc::{AllocError, Global};
 

@@ -4,16 +4,15 @@ ghost use Rattle.std.specs.List.{AllByRecursion, flat_map, sum_by};
 ghost use Rattle.py_fields.specs.Sound.{IsSound};
 ghost use Rattle.memory_builder.specs.Chains.{addresses_from};
 ghost use Rattle.memory_builder.specs.Mirror.{item_in, program_value};
-ghost use Rattle.memory_builder.specs.Objects.{aligned, object};
+ghost use Rattle.object_builder.specs.Objects.{aligned, object};
 ghost use Rattle.memory_builder.specs.Program.Held.{Items};
 ghost use Rattle.memory_builder.specs.Sizes.{held_size, item_size, number_len};
 ghost use Rattle.memory_builder.specs.Validity.{IsValidHeld, IsValidItem};
 ghost use Rattle.memory_builder.specs.Values.{address_array, count_for, digit_count, digits_word, laid_item, laid_value, number_writes};
 
-use crate::object::{Value, Write, add_aligned, add_object};
 use crate::parts::{ProgramItem, ProgramValue};
-use crate::sizes::{item_size, list_len, number_len, rounded};
-use crate::texts::add_text;
+use crate::sizes::{item_size, list_len, number_len};
+use object_builder::{Value, Write, add_aligned, add_object, add_text, rounded};
 use py_fields::{Integers, Layout};
 use std::alloc::{AllocError, Global};
 

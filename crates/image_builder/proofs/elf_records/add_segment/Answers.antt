@@ -1,6 +1,6 @@
 use Rattle.std.proofs.Common.{◌≡◌, ◌++◌, ℕ, [], ◌∷◌, subst}
 use Rattle.std.specs.Prelude.{IfOk}
-use Rattle.memory_builder.specs.Objects.Value.{U32, U64}
+use Rattle.object_builder.specs.Objects.Value.{U32, U64}
 use Rattle.image_builder.specs.Records.{record_of}
 use Rattle.image_builder.proofs.elf_records.add_segment.Goals as goal
 

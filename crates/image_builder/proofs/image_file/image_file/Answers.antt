@@ -1,5 +1,5 @@
 use Rattle.std.proofs.Common.{◌≡◌, ◌∙◌, ◌++◌, [], ap, ap₂, refl, arith}
-use Rattle.memory_builder.specs.Objects.{bytes_of}
+use Rattle.object_builder.specs.Objects.{bytes_of}
 use Rattle.image_builder.specs.ImageFiles.{image_file, image_head}
 use Rattle.image_builder.specs.Records.{filled}
 use Rattle.image_builder.proofs.Appending.{filled_is}

@@ -1,7 +1,7 @@
 use Rattle.std.proofs.Common.{◌≡◌, ◌∙◌, ◌++◌, ap, map, sym, append-nil, arith}
 use Rattle.std.specs.List.{flat_map}
-use Rattle.memory_builder.specs.Objects.{bytes_of}
-use Rattle.memory_builder.specs.Writes.{value_of}
+use Rattle.object_builder.specs.Objects.{bytes_of}
+use Rattle.object_builder.specs.Writes.{value_of}
 use Rattle.memory_builder.proofs.Lists.{length_map}
 use Rattle.memory_builder.proofs.Sums.{take_all}
 use Rattle.image_builder.specs.Records.{record_of}

@@ -1,7 +1,7 @@
 use Rattle.std.proofs.Common.{◌≡◌, ◌++◌, map, take}
 use Rattle.std.specs.List.{flat_map}
-use Rattle.memory_builder.specs.Objects.{bytes_of}
-use Rattle.memory_builder.specs.Writes.{value_of}
+use Rattle.object_builder.specs.Objects.{bytes_of}
+use Rattle.object_builder.specs.Writes.{value_of}
 use Rattle.image_builder.proofs.records.add_record.Given as goal
 
 -- the fields so far

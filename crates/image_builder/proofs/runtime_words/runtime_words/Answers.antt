@@ -1,8 +1,8 @@
 use Rattle.std.proofs.Common.{◌≡◌, ◌∙◌, ◌+◌, ◌≤◌, ◌++◌, ℕ, List, [], ◌∷◌, ap, ap₂, refl, sym, subst, arith}
-use Rattle.memory_builder.specs.Objects.{Write, aligned, object, optional_write}
-use Rattle.memory_builder.specs.Objects.Value.{U64}
-use Rattle.memory_builder.specs.Writes.{write_of}
-use Rattle.memory_builder.proofs.Objects.{length-inside}
+use Rattle.object_builder.specs.Objects.{Write, aligned, object, optional_write}
+use Rattle.object_builder.specs.Objects.Value.{U64}
+use Rattle.object_builder.specs.Writes.{write_of}
+use Rattle.object_builder.proofs.Objects.{length-inside}
 use Rattle.image_builder.specs.RuntimeWords.{runtime_words, words_writes}
 use Rattle.image_builder.proofs.Appending.{aligned_none}
 use Rattle.image_builder.proofs.RuntimeWords.{words_inside}

@@ -5,7 +5,7 @@ use Rattle.std.proofs.lemmas.Int.{to_z-of_z}
 use Rattle.py_fields.specs.Places.{code_places}
 use Rattle.memory_builder.specs.Frames.{code_writes, first_number}
 use Rattle.memory_builder.specs.Mirror.{frame_in, local_in}
-use Rattle.memory_builder.specs.Objects.{aligned, object}
+use Rattle.object_builder.specs.Objects.{aligned, object}
 use Rattle.memory_builder.proofs.Lists.{length_map}
 use Rattle.memory_builder.proofs.frames.add_code.Goals as goal
 

@@ -4,9 +4,9 @@ use Rattle.std.specs.List.{flat_map}
 use Rattle.memory_builder.specs.declared.parts.ProgramLocal.{ProgramLocal}
 use Rattle.memory_builder.specs.Frames.{laid_contents}
 use Rattle.memory_builder.specs.Mirror.{frame_in, local_in}
-use Rattle.memory_builder.specs.Objects.{aligned}
+use Rattle.object_builder.specs.Objects.{aligned}
 use Rattle.memory_builder.specs.Sizes.{local_size}
-use Rattle.memory_builder.specs.Texts.{text_object}
+use Rattle.object_builder.specs.Texts.{text_object}
 use Rattle.memory_builder.specs.Values.{laid_all, laid_local, laid_name}
 use Rattle.memory_builder.proofs.Adding.{four_added}
 use Rattle.memory_builder.proofs.frames.add_contents.Goals as goal

@@ -1,6 +1,6 @@
 use Rattle.std.proofs.Common.{◌+◌, ◌≤◌, ap, subst, sym, arith}
 use Rattle.py_fields.proofs.Fields.{frame_fits}
-use Rattle.memory_builder.specs.Objects.{Write, len_of}
+use Rattle.object_builder.specs.Objects.{Write, len_of}
 use Rattle.memory_builder.proofs.FrameInside.{entry_inside, len-instr}
 use Rattle.memory_builder.proofs.frames.add_record.Goals as goal
 

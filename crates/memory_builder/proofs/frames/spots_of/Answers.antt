@@ -1,8 +1,8 @@
-use Rattle.std.proofs.Common.{◌≡◌, ◌∙◌, ◌+◌, ◌<◌, ◌^◌, List, length, map, ap, arith}
+use Rattle.std.proofs.Common.{◌≡◌, ◌∙◌, ◌+◌, length, map, ap, arith}
 use Rattle.std.specs.Prelude.{max}
 use Rattle.std.specs.List.{sum_by}
 use Rattle.memory_builder.specs.Mirror.{frame_in, local_in}
-use Rattle.memory_builder.specs.Sizes.{capped, name_size, records_size, rounded, table_len, text_len, frame_len, tuple_len}
+use Rattle.memory_builder.specs.Sizes.{capped, name_size, records_size, rounded, table_len}
 use Rattle.memory_builder.proofs.Growing.{exact}
 use Rattle.memory_builder.proofs.Spots.{parts_fit, spots_are}
 use Rattle.memory_builder.proofs.frames.spots_of.Goals as goal

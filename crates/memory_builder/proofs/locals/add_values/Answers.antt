@@ -1,4 +1,4 @@
-use Rattle.std.proofs.Common.{◌≡◌, ◌∙◌, ◌+◌, ◌++◌, ap, map, sym, refl, append-nil, arith}
+use Rattle.std.proofs.Common.{◌∙◌, ◌+◌, ◌++◌, ap, map, sym, refl, append-nil, arith}
 use Rattle.memory_builder.specs.Chains.{laid_chain}
 use Rattle.memory_builder.specs.Mirror.{local_in}
 use Rattle.memory_builder.specs.Sizes.{local_size}

@@ -1,7 +1,7 @@
-use Rattle.std.proofs.Common.{◌≡◌, ◌∙◌, ◌+◌, ◌++◌, ap, map, sym, refl, arith}
+use Rattle.std.proofs.Common.{◌∙◌, ◌+◌, ◌++◌, ap, map, refl, arith}
 use Rattle.memory_builder.specs.Chains.{addresses_from}
 use Rattle.memory_builder.specs.Mirror.{local_in}
-use Rattle.memory_builder.specs.Objects.{bytes_of}
+use Rattle.object_builder.specs.Objects.{bytes_of}
 use Rattle.memory_builder.specs.Sizes.{name_size, rounded}
 use Rattle.memory_builder.specs.Validity.{IsValidLocal}
 use Rattle.memory_builder.specs.Values.{address_array}

@@ -4,8 +4,8 @@ use Rattle.py_fields.specs.Places.{gil_places}
 use Rattle.py_fields.specs.Sound.{IsRecord}
 use Rattle.py_fields.proofs.Fields.{some_is}
 use Rattle.memory_builder.specs.Laid.{laid_gil}
-use Rattle.memory_builder.specs.Objects.{aligned, object}
-use Rattle.memory_builder.specs.Objects.Value.{U32, U64}
+use Rattle.object_builder.specs.Objects.{aligned, object}
+use Rattle.object_builder.specs.Objects.Value.{U32, U64}
 use Rattle.memory_builder.proofs.program.add_gil.Goals as goal
 
 pub returns-in_default : goal.returns-in_default

@@ -1,6 +1,6 @@
-use Rattle.std.proofs.Common.{◌≡◌, ◌∙◌, ◌+◌, ◌++◌, ap}
+use Rattle.std.proofs.Common.{◌∙◌, ◌+◌, ◌++◌, ap}
 use Rattle.memory_builder.specs.Laid.{laid_type, type_name, type_writes}
-use Rattle.memory_builder.specs.Objects.{aligned, object}
+use Rattle.object_builder.specs.Objects.{aligned, object}
 use Rattle.memory_builder.specs.Sizes.{rounded}
 use Rattle.memory_builder.proofs.Adding.{two_added}
 use Rattle.memory_builder.proofs.program.add_type.Goals as goal

@@ -1,4 +1,4 @@
-use Rattle.std.proofs.Common.{◌≡◌, ◌∙◌, ◌+◌, ◌<◌, ◌^◌, ◌++◌, [], List, ℕ, map, ap, ap₂, subst, sym, arith}
+use Rattle.std.proofs.Common.{◌≡◌, ◌∙◌, ◌+◌, ◌++◌, [], List, ℕ, map, ap, ap₂, subst, sym, arith}
 use Rattle.std.specs.Prelude.{Ok}
 use Rattle.std.specs.List.{AllByRecursion, sum_by}
 use Rattle.py_stacks.specs.Lines.{family_of}
@@ -6,9 +6,11 @@ use Rattle.memory_builder.specs.declared.parts.ProgramThread.{ProgramThread}
 use Rattle.memory_builder.specs.Chains.{addresses_from, head_of}
 use Rattle.memory_builder.specs.Laid.{first_place, gil_place, interpreter_object, interpreter_writes, laid_gil, laid_program, owner_place, place_or_none, three_types, types_at, types_place}
 use Rattle.memory_builder.specs.Mirror.{program_in, program_thread}
-use Rattle.memory_builder.specs.Objects.{aligned, object}
+use Rattle.object_builder.specs.Objects.{aligned, object}
 use Rattle.memory_builder.specs.Program.{Thread}
-use Rattle.memory_builder.specs.Sizes.{gil_size, interpreter_len, rounded, thread_size, type_size}
+use Rattle.memory_builder.specs.ReadBack.{TellsInterpreter, TellsOwner, TellsStacks}
+use Rattle.memory_builder.proofs.Inverse.{tells_interpreter, tells_owner, tells_stacks}
+use Rattle.memory_builder.specs.Sizes.{interpreter_len, rounded, thread_size}
 use Rattle.memory_builder.specs.Threads.{laid_threads}
 use Rattle.memory_builder.specs.Validity.{IsValidFrame}
 use Rattle.memory_builder.proofs.Adding.{four_added}
@@ -61,9 +63,9 @@ add_threads-requires-clause-fits c =
     let sum_is = ap (λ xs. sum_by (thread_size l) (map program_thread xs)) c.deref-2.ensures.value in
     omega (arith, len_is, c.gil_size.ensures.value, list_is, sum_is, c.type_size.ensures.value, threads_fit l c.args.at (program_in c.args.program.now) c.requires.fits)
 
-pub returns : goal.returns
+pub returns-clause-laid : goal.returns-clause-laid
 unfolding laid_program
-returns c =
+returns-clause-laid c =
     let l = c.args.layout.now in
     let p = program_in c.args.program.now in
     let a = c.args.at in
@@ -83,3 +85,21 @@ returns c =
     (c.in_ok-add_types.ensures ∙ ap (λ t. c.add_gil.new.out.items ++ three_types l t) types_are)
     (c.in_ok-add_threads.ensures ∙ ap₂ (λ t n. c.add_types.new.out.items ++ laid_threads l t a n (map program_thread c.deref-2.result.now)) types_are first_is
     ∙ ap (λ xs. c.add_types.new.out.items ++ laid_threads l (types_at l (types_place l a)) a (first_place l a) (map program_thread xs)) c.deref-2.ensures.value)
+
+pub returns-clause-stacks : goal.returns-clause-stacks
+returns-clause-stacks c room place =
+    let l = c.args.layout.now in
+    let p = program_in c.args.program.now in
+    subst (λ (bs : List ℕ). TellsStacks l c.args.at p bs) (sym (returns-clause-laid c)) (tells_stacks l c.requires.sound room c.args.at place.some place.even p c.requires.valid)
+
+pub returns-clause-owner : goal.returns-clause-owner
+returns-clause-owner c room place =
+    let l = c.args.layout.now in
+    let p = program_in c.args.program.now in
+    subst (λ (bs : List ℕ). TellsOwner l c.args.at p bs) (sym (returns-clause-laid c)) (tells_owner l c.requires.sound room c.args.at place.some place.even p c.requires.valid)
+
+pub returns-clause-interpreter : goal.returns-clause-interpreter
+returns-clause-interpreter c room place =
+    let l = c.args.layout.now in
+    let p = program_in c.args.program.now in
+    subst (λ (bs : List ℕ). TellsInterpreter l c.args.at bs) (sym (returns-clause-laid c)) (tells_interpreter l c.requires.sound room c.args.at place.some place.even p c.requires.valid)

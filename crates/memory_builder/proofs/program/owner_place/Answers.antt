@@ -1,7 +1,5 @@
-use Rattle.std.proofs.Common.{◌≡◌, ◌∙◌, ◌+◌, ◌<◌, ◌≤◌, ◌^◌, List, ℕ, length, take, map, ap, refl, subst, sym, arith}
-use Rattle.std.specs.Prelude.{Some, IfSome}
+use Rattle.std.proofs.Common.{◌≡◌, ◌∙◌, ◌+◌, ◌<◌, length, take, ap, refl, subst, sym, arith}
 use Rattle.std.specs.List.{AllByRecursion, sum_by}
-use Rattle.std.proofs.lemmas.List.Sums.{sum_by-take-le}
 use Rattle.py_fields.proofs.Fields.{some_is}
 use Rattle.py_stacks.specs.Lines.{family_of}
 use Rattle.memory_builder.specs.Chains.{addresses_from}
@@ -11,9 +9,9 @@ use Rattle.memory_builder.specs.Program.{Thread}
 use Rattle.memory_builder.specs.Sizes.{thread_size}
 use Rattle.memory_builder.specs.Validity.{IsValidFrame}
 use Rattle.memory_builder.proofs.Growing.{address_at, exact, here_fits, here_more}
-use Rattle.memory_builder.proofs.Lists.{all_somewhere, length_map, take_map}
+use Rattle.memory_builder.proofs.Lists.{all_somewhere}
 use Rattle.memory_builder.proofs.Owners.{all_taken, sum_taken, taken_all}
-use Rattle.memory_builder.proofs.Sums.{item_at, take_all}
+use Rattle.memory_builder.proofs.Sums.{item_at}
 use Rattle.memory_builder.proofs.program.owner_place.Goals as goal
 
 pub returns-in_default : goal.returns-in_default

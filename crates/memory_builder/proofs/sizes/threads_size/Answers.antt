@@ -1,4 +1,4 @@
-use Rattle.std.proofs.Common.{◌∙◌, ap, map, sym}
+use Rattle.std.proofs.Common.{◌∙◌, ap, map}
 use Rattle.std.specs.List.{sum_by}
 use Rattle.memory_builder.specs.Mirror.{program_in, program_thread}
 use Rattle.memory_builder.specs.Sizes.{capped, thread_size}

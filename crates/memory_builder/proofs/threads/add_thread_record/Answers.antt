@@ -1,8 +1,8 @@
 use Rattle.std.proofs.Common.{◌+◌, ◌≤◌, subst, sym}
 use Rattle.py_fields.specs.Places.{Place, thread_places}
-use Rattle.memory_builder.specs.Objects.{Write, len_of}
-use Rattle.memory_builder.specs.Objects.Value.{U64}
-use Rattle.memory_builder.proofs.TextsBack.{place_optional}
+use Rattle.object_builder.specs.Objects.{Write, len_of}
+use Rattle.object_builder.specs.Objects.Value.{U64}
+use Rattle.object_builder.proofs.TextsBack.{place_optional}
 use Rattle.memory_builder.proofs.threads.add_thread_record.Goals as goal
 
 pub add_object-requires-clause-inside : goal.add_object-requires-clause-inside

@@ -1,4 +1,4 @@
-use Rattle.std.proofs.Common.{◌≡◌, map, below_more, IsTrue, arith}
+use Rattle.std.proofs.Common.{map, below_more, IsTrue}
 use Rattle.memory_builder.specs.Mirror.{frame_in}
 use Rattle.memory_builder.specs.Validity.{IsValidCall, IsValidFrame}
 use Rattle.memory_builder.proofs.Firsts.{each_there, item_held, item_holds}

@@ -1,7 +1,7 @@
-use Rattle.std.proofs.Common.{◌≡◌, ap, map}
-use Rattle.std.specs.Prelude.{IsTrue, IfOk}
+use Rattle.std.proofs.Common.{ap, map}
+use Rattle.std.specs.Prelude.{IsTrue}
 use Rattle.memory_builder.specs.Mirror.{frame_in, program_thread}
-use Rattle.memory_builder.proofs.Firsts.{first_by_itself, first_call, ok_call}
+use Rattle.memory_builder.proofs.Firsts.{first_by_itself, ok_call}
 use Rattle.memory_builder.proofs.validity.first_invalid_in.Goals as goal
 
 pub returns-then-not-is_valid_thread : goal.returns-then-not-is_valid_thread

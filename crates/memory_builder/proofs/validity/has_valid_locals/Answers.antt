@@ -1,4 +1,4 @@
-use Rattle.std.proofs.Common.{List, subst, sym, arith}
+use Rattle.std.proofs.Common.{List, subst, arith}
 use Rattle.std.specs.Prelude.{◌↔◌, IsTrue}
 use Rattle.std.specs.List.{AllByRecursion}
 use Rattle.memory_builder.specs.declared.parts.ProgramLocal.{ProgramLocal}

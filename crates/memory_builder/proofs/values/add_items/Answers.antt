@@ -1,4 +1,4 @@
-use Rattle.std.proofs.Common.{◌≡◌, ◌∙◌, ◌++◌, ap, map, sym, append-nil, arith}
+use Rattle.std.proofs.Common.{◌∙◌, ◌++◌, ap, map, sym, append-nil, arith}
 use Rattle.std.specs.List.{flat_map}
 use Rattle.memory_builder.specs.Mirror.{item_in}
 use Rattle.memory_builder.specs.Validity.{IsValidItem}

@@ -1,7 +1,7 @@
 use Rattle.std.proofs.Common.{◌≡◌, ◌++◌, subst, sym, rules}
 use Rattle.std.specs.Int.{w64}
 use Rattle.std.proofs.lemmas.Int.{to_z-of_z}
-use Rattle.memory_builder.specs.Objects.{aligned, object}
+use Rattle.object_builder.specs.Objects.{aligned, object}
 use Rattle.memory_builder.specs.Sizes.{number_len}
 use Rattle.std.specs.Prelude.{IfOk}
 use Rattle.memory_builder.specs.Mirror.{program_value}

@@ -1,0 +1,9 @@
+pub mod Adding
+pub mod Coding
+pub mod LaidTexts
+pub mod Making
+pub mod Objects
+pub mod Placing
+pub mod States
+pub mod TextSizes
+pub mod TextsBack
