@@ -10,7 +10,13 @@ use Rattle.object_builder.proofs.Objects.{length-bytes_of}
 use Rattle.image_builder.specs.CoreFiles.{core_file, core_head, core_notes, core_segments, laid_note, owner_name, owner_padding, process_fields, process_name, process_record, segment_headers, status_fields, table_fields}
 use Rattle.image_builder.specs.ElfRecords.{file_fields, note_fields, section_fields, segment_fields, symbol_fields}
 use Rattle.image_builder.specs.ImageFiles.{bss_section, image_file, image_head, image_segments, image_strings, image_symbols, no_section, section_header, section_headers, strings_section, symbols_section}
+use Rattle.py_fields.specs.Sound.{IsSound}
+use Rattle.py_fields.specs.declared.layout.Layout.{Layout}
+use Rattle.py_version.specs.declared.version.Version.{Version}
+use Rattle.object_builder.proofs.Objects.{length-inside}
 use Rattle.image_builder.specs.Records.{filled, record_of}
+use Rattle.image_builder.specs.RuntimeWords.{runtime_words, words_writes}
+use Rattle.image_builder.proofs.RuntimeWords.{words_inside}
 use Rattle.image_builder.proofs.Appending.{length-filled, length-record}
 
 -- ---- headers
@@ -93,6 +99,10 @@ length-core machine image words objects =
       length-append words objects,
       length-filled 0x1000 (core_head machine (length objects)) (omega (arith, length-core_head machine (length objects))),
     )
+
+pub length-words : (l : Layout) (machine : Machine) (v : Version) (holder : ℕ) → IsSound l → length (runtime_words l machine v holder) ≡ 0x2_0000
+unfolding runtime_words
+length-words l machine v holder sound = length-inside 0x2_0000 (words_writes l machine v holder) (words_inside l machine v holder sound)
 
 -- ---- the image
 

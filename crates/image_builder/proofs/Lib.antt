@@ -7,3 +7,4 @@ pub mod GeneratedValid
 pub mod Appending
 pub mod Lengths
 pub mod RuntimeWords
+pub mod ObjectsLength

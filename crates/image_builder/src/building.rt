@@ -1,6 +1,7 @@
 //! The core and the image of a program.
 ghost use Rattle.std.specs.Prelude.{◌≡◌, ◌≤◌, length, codes, IfOk, IfErr};
 ghost use Rattle.py_fields.specs.Sound.{IsSound};
+ghost use Rattle.object_builder.specs.Room.{HasRoom};
 ghost use Rattle.memory_builder.specs.Mirror.{program_in};
 ghost use Rattle.image_builder.specs.Built.{built_core, built_image, built_lock};
 ghost use Rattle.image_builder.specs.CoreFiles.{image_path as path_of_image};
@@ -76,7 +77,8 @@ pub fn build(
     ensures path { IfOk result (λ built. built.image_path ≡ path_of_image) }
     ensures interpreter { IfOk result (λ built. built.interpreter ≡ interpreter_at) }
     ensures lock { IfOk result (λ built. built.lock ≡ built_lock layout.now version.now machine) }
-    ensures small { IfOk result (λ built. length built.core.items ≤ room_for layout.now (program_in program.now)) }
+    ensures small { HasRoom layout.now → IfOk result
+        (λ built. length built.core.items ≤ room_for layout.now (program_in program.now)) }
 {
     admit(alloc, program, layout, version, machine)?;
     let objects = laid_program(alloc, program, layout, INTERPRETER)?;

@@ -119,8 +119,14 @@ fn add_notes(alloc: Global, out: &mut Vec<u8>) -> Result<(), AllocError>
 
 /// A load segment of a file, all of whose memory the file has.
 fn loaded(flags: u32, offset: u64, addr: u64, size: u64) -> Segment
-    ensures { result ≡ record { kind = 1; flags = flags; offset = offset; addr = addr; file_size = size;
-        mem_size = size } }
+    ensures { result ≡ record {
+      kind = 1;
+      flags = flags;
+      offset = offset;
+      addr = addr;
+      file_size = size;
+      mem_size = size;
+    } }
 {
     Segment {
         kind: LOAD,

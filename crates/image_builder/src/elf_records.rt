@@ -38,7 +38,7 @@ fn machine_number(machine: Machine) -> u16
 pub(crate) fn add_file_header(out: &mut Vec<u8>, header: FileHeader) -> Result<(), AllocError>
     ensures { IfOk result (λ _. out.new.items ≡ out.old.items
         ++ record_of (file_fields header.kind header.machine header.segments
-            header.sections_at header.sections header.names)) }
+        header.sections_at header.sections header.names)) }
 {
     let machine = machine_number(header.machine);
     let fields = [

@@ -111,7 +111,11 @@ fn add_head(out: &mut Vec<u8>, machine: Machine) -> Result<(), AllocError>
 
 /// The image for a machine, of a version by its number. The one error is want of memory.
 #[tactic(auto, unfolding(crate::specs::ImageFiles::image_file))]
-pub(crate) fn image_file(alloc: Global, machine: Machine, number: u32) -> Result<Vec<u8>, AllocError>
+pub(crate) fn image_file(
+    alloc: Global,
+    machine: Machine,
+    number: u32,
+) -> Result<Vec<u8>, AllocError>
     ensures { IfOk result (λ image. image.items ≡ image_file machine number) }
 {
     let mut image = Vec::new(alloc);

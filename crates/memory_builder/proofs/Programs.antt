@@ -1,5 +1,5 @@
 -- What a valid program is, and where its parts stand.
-use Rattle.std.proofs.Common.{◌+◌, ◌<◌, ◌^◌, ℕ, List, refl, arith}
+use Rattle.std.proofs.Common.{◌≡◌, ◌+◌, ◌<◌, ◌^◌, ℕ, List, refl, arith}
 use Rattle.std.specs.Prelude.{Option, Some, None, IfSome, length, take, slice_get}
 use Rattle.std.specs.List.{AllByRecursion, sum_by}
 use Rattle.py_fields.specs.declared.layout.Layout.{Layout}
