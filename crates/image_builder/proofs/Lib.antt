@@ -8,3 +8,7 @@ pub mod Appending
 pub mod Lengths
 pub mod RuntimeWords
 pub mod ObjectsLength
+pub mod Reading
+pub mod SegmentsBack
+pub mod NotesBack
+pub mod CoreBack

@@ -1,4 +1,5 @@
 pub mod Built
+pub mod CoreFacts
 pub mod CoreFiles
 pub mod Covered
 pub mod ElfRecords

@@ -1,9 +1,15 @@
 //! The core and the image of a program.
-ghost use Rattle.std.specs.Prelude.{◌≡◌, ◌≤◌, length, codes, IfOk, IfErr};
+ghost use Rattle.std.specs.Prelude.{◌≡◌, ◌≤◌, [], ◌∷◌, Some, length, IfOk, IfErr};
+ghost use Rattle.elf64_core.specs.Header.{machine_of};
+ghost use Rattle.image_memory.specs.Cores.{IsCore};
+ghost use Rattle.image_memory.specs.Maps.{AreMaps};
+ghost use Rattle.image_memory.specs.Notes.{AreStatuses, IsProcess};
+ghost use Rattle.image_memory.specs.Pieces.{memory_of};
 ghost use Rattle.py_fields.specs.Sound.{IsSound};
 ghost use Rattle.object_builder.specs.Room.{HasRoom};
 ghost use Rattle.memory_builder.specs.Mirror.{program_in};
-ghost use Rattle.image_builder.specs.Built.{built_core, built_image, built_lock};
+ghost use Rattle.image_builder.specs.Built.{built_core, built_image, built_lock, built_objects, built_words};
+ghost use Rattle.image_builder.specs.CoreFacts.{built_maps, built_memory, built_process, built_status};
 ghost use Rattle.image_builder.specs.CoreFiles.{image_path as path_of_image};
 ghost use Rattle.image_builder.specs.Refusals.{IsBuildable, IsUnbuilt, room_for};
 ghost use Rattle.image_builder.specs.RuntimeWords.{interpreter_at};
@@ -77,6 +83,14 @@ pub fn build(
     ensures path { IfOk result (λ built. built.image_path ≡ path_of_image) }
     ensures interpreter { IfOk result (λ built. built.interpreter ≡ interpreter_at) }
     ensures lock { IfOk result (λ built. built.lock ≡ built_lock layout.now version.now machine) }
+    ensures accepted { IfOk result (λ built. IsCore built.core.items) }
+    ensures machine { IfOk result (λ built. machine_of built.core.items ≡ machine) }
+    ensures memory { IfOk result (λ built. memory_of built.core.items ≡ built_memory built.image.items
+        (built_words layout.now version.now machine (program_in program.now)) (built_objects layout.now (program_in program.now))) }
+    ensures maps { IfOk result (λ built. AreMaps built.core.items
+        (built_maps (length (built_objects layout.now (program_in program.now))))) }
+    ensures statuses { IfOk result (λ built. AreStatuses built.core.items (built_status ∷ [])) }
+    ensures process { IfOk result (λ built. IsProcess built.core.items (Some built_process)) }
     ensures small { HasRoom layout.now → IfOk result
         (λ built. length built.core.items ≤ room_for layout.now (program_in program.now)) }
 {

@@ -1,10 +1,71 @@
-use Rattle.std.proofs.Common.{◌≡◌, ◌∙◌, ◌+◌, ◌≤◌, ap, length, arith}
+use Rattle.std.proofs.Common.{◌≡◌, ◌∙◌, ◌+◌, ◌<◌, ◌≤◌, ◌^◌, ℕ, List, [], ◌∷◌, ap, length, arith, subst, sym}
+use Rattle.std.specs.Prelude.{Some}
+use Rattle.elf64_core.specs.Header.{machine_of}
+use Rattle.image_memory.specs.Cores.{IsCore}
+use Rattle.image_memory.specs.Maps.{AreMaps}
+use Rattle.image_memory.specs.Notes.{AreStatuses, IsProcess}
+use Rattle.image_memory.specs.Pieces.{memory_of}
+use Rattle.memory_builder.specs.Laid.{owner_place}
 use Rattle.memory_builder.specs.Mirror.{program_in}
 use Rattle.memory_builder.specs.Sizes.{program_size}
-use Rattle.image_builder.specs.RuntimeWords.{interpreter_at}
+use Rattle.image_builder.specs.Built.{built_core, built_image, built_objects, built_words}
+use Rattle.image_builder.specs.CoreFacts.{built_maps, built_memory, built_process, built_status}
+use Rattle.image_builder.specs.CoreFiles.{core_file}
+use Rattle.image_builder.specs.Covered.{number_of}
+use Rattle.image_builder.specs.ImageFiles.{image_file}
+use Rattle.image_builder.specs.RuntimeWords.{interpreter_at, runtime_words}
+use Rattle.image_builder.proofs.CoreBack.{core_is, core_machine, core_memory_is, maps_are, process_is, statuses_are}
 use Rattle.image_builder.proofs.Lengths.{length-core, length-image, length-words}
 use Rattle.image_builder.proofs.ObjectsLength.{length-program}
 use Rattle.image_builder.proofs.building.build.Goals as goal
+
+-- the core is of such parts
+core_built : (c : goal.After-drop-objects-2) → c.in_ok-core.core.items ≡ built_core c.args.layout.now c.args.version.now c.args.machine (program_in c.args.program.now)
+core_built c =
+    let image = c.deref.ensures.value ∙ c.in_ok-image.ensures ∙ ap (image_file c.args.machine) c.number_of.ensures in
+    let words = c.deref-2.ensures.value ∙ c.in_ok-words.ensures ∙ ap (runtime_words c.args.layout.now c.args.machine c.args.version.now) c.in_ok-holder.ensures in
+    let objects = c.deref-3.ensures.value ∙ c.in_ok-objects.ensures.laid in
+    c.in_ok-core.ensures ∙ (λ i. core_file c.args.machine (image i) (words i) (objects i))
+
+core_short : (c : goal.After-drop-objects-2) → length (built_core c.args.layout.now c.args.version.now c.args.machine (program_in c.args.program.now)) < 2 ^ 63
+core_short c = omega (arith, ap length (core_built c), c.in_ok-core.core.ok.0, c.in_ok-core.core.small)
+
+module _ (c : goal.After-drop-objects-2) where
+  abbrev image : List ℕ
+  image = built_image c.args.version.now c.args.machine
+
+  abbrev words : List ℕ
+  words = built_words c.args.layout.now c.args.version.now c.args.machine (program_in c.args.program.now)
+
+  abbrev objects : List ℕ
+  objects = built_objects c.args.layout.now (program_in c.args.program.now)
+
+  image_len : length image ≡ 0x2000
+  image_len = length-image c.args.machine (number_of c.args.version.now)
+
+  words_len : length words ≡ 0x2_0000
+  words_len = length-words c.args.layout.now c.args.machine c.args.version.now (owner_place c.args.layout.now interpreter_at (program_in c.args.program.now)) c.requires
+
+pub returns-clause-accepted : goal.returns-clause-accepted
+returns-clause-accepted c = subst IsCore (sym (core_built c)) (core_is c.args.machine (image c) (words c) (objects c) (image_len c) (words_len c) (core_short c))
+
+pub returns-clause-machine : goal.returns-clause-machine
+returns-clause-machine c = ap machine_of (core_built c) ∙ core_machine c.args.machine (image c) (words c) (objects c) (image_len c) (words_len c) (core_short c)
+
+pub returns-clause-memory : goal.returns-clause-memory
+returns-clause-memory c =
+    let image_is : c.in_ok-image.image.items ≡ image c = c.in_ok-image.ensures ∙ ap (image_file c.args.machine) c.number_of.ensures in
+    ap memory_of (core_built c) ∙ core_memory_is c.args.machine (image c) (words c) (objects c) (image_len c) (words_len c) (core_short c)
+    ∙ ap (λ xs. built_memory xs (words c) (objects c)) (sym image_is)
+
+pub returns-clause-maps : goal.returns-clause-maps
+returns-clause-maps c = subst (λ xs. AreMaps xs (built_maps (length (objects c)))) (sym (core_built c)) (maps_are c.args.machine (image c) (words c) (objects c) (image_len c) (words_len c) (core_short c))
+
+pub returns-clause-statuses : goal.returns-clause-statuses
+returns-clause-statuses c = subst (λ xs. AreStatuses xs (built_status ∷ [])) (sym (core_built c)) (statuses_are c.args.machine (image c) (words c) (objects c) (image_len c) (words_len c) (core_short c))
+
+pub returns-clause-process : goal.returns-clause-process
+returns-clause-process c = subst (λ xs. IsProcess xs (Some built_process)) (sym (core_built c)) (process_is c.args.machine (image c) (words c) (objects c) (image_len c) (words_len c) (core_short c))
 
 pub returns-clause-small : goal.returns-clause-small
 returns-clause-small c = λ room.
