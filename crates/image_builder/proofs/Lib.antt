@@ -12,3 +12,4 @@ pub mod Reading
 pub mod SegmentsBack
 pub mod NotesBack
 pub mod CoreBack
+pub mod ImageBack

@@ -4,6 +4,7 @@ pub mod CoreFiles
 pub mod Covered
 pub mod ElfRecords
 pub mod Generated
+pub mod ImageFacts
 pub mod ImageFiles
 pub mod Records
 pub mod Refusals

@@ -5,12 +5,14 @@ ghost use Rattle.image_memory.specs.Cores.{IsCore};
 ghost use Rattle.image_memory.specs.Maps.{AreMaps};
 ghost use Rattle.image_memory.specs.Notes.{AreStatuses, IsProcess};
 ghost use Rattle.image_memory.specs.Pieces.{memory_of};
+ghost use Rattle.py_process.specs.Binary.{HasInfo, SaysFacts};
 ghost use Rattle.py_fields.specs.Sound.{IsSound};
 ghost use Rattle.object_builder.specs.Room.{HasRoom};
 ghost use Rattle.memory_builder.specs.Mirror.{program_in};
 ghost use Rattle.image_builder.specs.Built.{built_core, built_image, built_lock, built_objects, built_words};
 ghost use Rattle.image_builder.specs.CoreFacts.{built_maps, built_memory, built_process, built_status};
 ghost use Rattle.image_builder.specs.CoreFiles.{image_path as path_of_image};
+ghost use Rattle.image_builder.specs.ImageFacts.{image_facts};
 ghost use Rattle.image_builder.specs.Refusals.{IsBuildable, IsUnbuilt, room_for};
 ghost use Rattle.image_builder.specs.RuntimeWords.{interpreter_at};
 
@@ -91,6 +93,8 @@ pub fn build(
         (built_maps (length (built_objects layout.now (program_in program.now))))) }
     ensures statuses { IfOk result (λ built. AreStatuses built.core.items (built_status ∷ [])) }
     ensures process { IfOk result (λ built. IsProcess built.core.items (Some built_process)) }
+    ensures parsed { IfOk result (λ built. HasInfo built.image.items 0x40_0000) }
+    ensures facts { IfOk result (λ built. SaysFacts built.image.items 0x40_0000 0x2000 image_facts) }
     ensures small { HasRoom layout.now → IfOk result
         (λ built. length built.core.items ≤ room_for layout.now (program_in program.now)) }
 {

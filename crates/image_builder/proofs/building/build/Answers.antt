@@ -15,6 +15,9 @@ use Rattle.image_builder.specs.Covered.{number_of}
 use Rattle.image_builder.specs.ImageFiles.{image_file}
 use Rattle.image_builder.specs.RuntimeWords.{interpreter_at, runtime_words}
 use Rattle.image_builder.proofs.CoreBack.{core_is, core_machine, core_memory_is, maps_are, process_is, statuses_are}
+use Rattle.py_process.specs.Binary.{HasInfo, SaysFacts}
+use Rattle.image_builder.specs.ImageFacts.{image_facts}
+use Rattle.image_builder.proofs.ImageBack.{image_info, image_says}
 use Rattle.image_builder.proofs.Lengths.{length-core, length-image, length-words}
 use Rattle.image_builder.proofs.ObjectsLength.{length-program}
 use Rattle.image_builder.proofs.building.build.Goals as goal
@@ -66,6 +69,15 @@ returns-clause-statuses c = subst (λ xs. AreStatuses xs (built_status ∷ [])) 
 
 pub returns-clause-process : goal.returns-clause-process
 returns-clause-process c = subst (λ xs. IsProcess xs (Some built_process)) (sym (core_built c)) (process_is c.args.machine (image c) (words c) (objects c) (image_len c) (words_len c) (core_short c))
+
+image_built : (c : goal.After-drop-objects-2) → c.in_ok-image.image.items ≡ built_image c.args.version.now c.args.machine
+image_built c = c.in_ok-image.ensures ∙ ap (image_file c.args.machine) c.number_of.ensures
+
+pub returns-clause-parsed : goal.returns-clause-parsed
+returns-clause-parsed c = subst (λ xs. HasInfo xs 0x40_0000) (sym (image_built c)) (image_info c.args.machine (number_of c.args.version.now))
+
+pub returns-clause-facts : goal.returns-clause-facts
+returns-clause-facts c = subst (λ xs. SaysFacts xs 0x40_0000 0x2000 image_facts) (sym (image_built c)) (image_says c.args.machine (number_of c.args.version.now))
 
 pub returns-clause-small : goal.returns-clause-small
 returns-clause-small c = λ room.
