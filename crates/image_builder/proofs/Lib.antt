@@ -13,3 +13,6 @@ pub mod SegmentsBack
 pub mod NotesBack
 pub mod CoreBack
 pub mod ImageBack
+pub mod Numbers
+pub mod WordsBack
+pub mod MemoryBack

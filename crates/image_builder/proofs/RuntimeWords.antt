@@ -4,7 +4,7 @@ use Rattle.std.specs.Prelude.{Some, None, Option, ⊤, IsSome, IfSome}
 use Rattle.std.specs.Int.{is_in_range}
 use Rattle.elf64_core.specs.declared.header.Machine.{Machine}
 use Rattle.elf64_core.specs.declared.header.Machine.TheVariants.{X86_64, Aarch64, Other}
-use Rattle.py_fields.specs.Places.{EndBy, offsets_places}
+use Rattle.py_fields.specs.Places.{Apart, AreApart, EndBy, IsGroup, offsets_places}
 use Rattle.py_fields.specs.Sound.{IsRecord, IsSound}
 use Rattle.py_fields.specs.declared.layout.Head.{Head}
 use Rattle.py_fields.specs.declared.layout.Head.TheVariants.{Symbol, Runtime, Offsets}
@@ -14,7 +14,7 @@ use Rattle.py_fields.specs.declared.layout.OffsetsAt.{OffsetsAt}
 use Rattle.py_fields.specs.declared.layout.Layout.{Layout}
 use Rattle.object_builder.specs.Objects.{optional_write, write_place}
 use Rattle.object_builder.specs.Objects.Value.{U64}
-use Rattle.image_builder.specs.RuntimeWords.{head_field, head_place, lock_word_place, words_writes}
+use Rattle.image_builder.specs.RuntimeWords.{HasWordRoom, head_field, head_place, lock_word_place, words_writes}
 use Rattle.py_version.specs.Offsets.{by_minor, current_of_3, head_of_3, interp_head_offset, is_cinder, tstate_current_offset}
 use Rattle.py_version.specs.declared.version.Version.{Version}
 
@@ -92,3 +92,44 @@ words_inside l machine v holder sound = (
     (word_inside (lock_word_place l.lock machine v) holder (lock_le l.lock machine v), tt),
   ),
 )
+
+-- ---- no two of them meet, where there is room
+
+low_meets : (k : ℕ) (o : Option ℕ) → 0x1_0000 ≤ k → AllIn o → IfSome o (λ at. Apart (k, 8) (at, 8))
+low_meets k None far h = tt
+low_meets k (Some at) far h = inr (omega (arith, far, h.1))
+
+early_meets : (k : ℕ) (o : Option ℕ) → k ≤ 40 → AllIn o → IfSome o (λ at. Apart (k, 8) (at, 8))
+early_meets k None near h = tt
+early_meets k (Some at) near h = inl (omega (arith, near, h.0))
+
+field_apart : (h : Head) (o : Option OffsetsAt) (v : Version) → IfSome o (λ o. IsRecord o.size (offsets_places o)) → IfSome (head_field h o) (λ at. Apart (head_place h v, 8) (at, 8))
+unfolding offsets_places
+field_apart Symbol o v h = tt
+field_apart Runtime o v h = tt
+field_apart Offsets None v h = tt
+field_apart Offsets (Some o) v h = let inside = h.group.inside.0 in inr (omega (arith, inside, h.short))
+
+word_apart : (h : Head) (k : Lock) (machine : Machine) (v : Version) → IfSome (lock_word_place k machine v) (λ at. Apart (head_place h v, 8) (at, 8))
+word_apart Symbol SymbolLock machine v = inr (omega arith)
+word_apart Symbol RuntimeLock machine v = low_meets 0x1_0010 (tstate_current_offset machine v) (omega arith) (current_in machine v)
+word_apart Symbol Gil machine v = tt
+word_apart Runtime SymbolLock machine v = let small = head_small v in inl (omega (arith, small.1))
+word_apart Runtime RuntimeLock machine v = let small = head_small v in early_meets (interp_head_offset v) (tstate_current_offset machine v) small.1 (current_in machine v)
+word_apart Runtime Gil machine v = tt
+word_apart Offsets SymbolLock machine v = inl (omega arith)
+word_apart Offsets RuntimeLock machine v = low_meets 0x1_0000 (tstate_current_offset machine v) (omega arith) (current_in machine v)
+word_apart Offsets Gil machine v = tt
+
+all_apart : (a x y z : ℕ) (f k : Option ℕ) → IfSome f (λ at. Apart (a, 8) (at, 8)) → IfSome k (λ at. Apart (a, 8) (at, 8)) → IfSome f (λ b. IfSome k (λ c. Apart (b, 8) (c, 8)))
+    → AreApart (map write_place (record { at = a; value = U64 x } ∷ optional_write f (U64 y) ∷ optional_write k (U64 z) ∷ []))
+all_apart a x y z None None p q r = ((inr (omega arith), (inr (omega arith), tt)), ((inl (omega arith), tt), (tt, tt)))
+all_apart a x y z None (Some c) p q r = ((inr (omega arith), (q, tt)), ((inl (omega arith), tt), (tt, tt)))
+all_apart a x y z (Some b) None p q r = ((p, (inr (omega arith), tt)), ((inr (omega arith), tt), (tt, tt)))
+all_apart a x y z (Some b) (Some c) p q r = ((p, (q, tt)), ((r, tt), (tt, tt)))
+
+pub words_group : (l : Layout) (machine : Machine) (v : Version) (holder : ℕ) → IsSound l → HasWordRoom l machine v → IsGroup 0x2_0000 (map write_place (words_writes l machine v holder))
+words_group l machine v holder sound room = record {
+  inside = words_inside l machine v holder sound;
+  apart = all_apart (head_place l.head v) 0x60_0000 0x1_0000 holder (head_field l.head l.offsets) (lock_word_place l.lock machine v) (field_apart l.head l.offsets v sound.groups.offsets) (word_apart l.head l.lock machine v) room;
+}

@@ -1,5 +1,5 @@
 -- The words of the second segment, the bss of the image: by them the interpreter is found, and who holds the lock.
-use Rattle.std.specs.Prelude.{◌≡◌, ℕ, ◌+◌, Option, Some, None, List, [], ◌∷◌, option_map}
+use Rattle.std.specs.Prelude.{ℕ, Option, Some, None, List, [], ◌∷◌, option_map, IfSome}
 use Rattle.elf64_core.specs.declared.header.Machine.{Machine}
 use Rattle.py_version.specs.Offsets.{interp_head_offset, tstate_current_offset}
 use Rattle.py_version.specs.declared.version.Version.{Version}
@@ -45,3 +45,8 @@ words_writes l machine v holder =
 
 unfoldable pub runtime_words : Layout → Machine → Version → (holder : ℕ) → List ℕ
 runtime_words l machine v holder = object 0x2_0000 (words_writes l machine v holder)
+
+-- the field of the runtime record and the word of the lock don't meet, where there are both
+abbrev pub HasWordRoom : Layout → Machine → Version → Type 0
+HasWordRoom l machine v = IfSome (head_field l.head l.offsets)
+    (λ field. IfSome (lock_word_place l.lock machine v) (λ word. Apart (field, 8) (word, 8)))

@@ -1,20 +1,24 @@
 //! The core and the image of a program.
-ghost use Rattle.std.specs.Prelude.{◌≡◌, ◌≤◌, [], ◌∷◌, Some, length, IfOk, IfErr};
+ghost use Rattle.std.specs.Prelude.{◌≡◌, ◌≤◌, ℕ, [], ◌∷◌, Some, Ok, length, IfOk, IfErr};
 ghost use Rattle.elf64_core.specs.Header.{machine_of};
 ghost use Rattle.image_memory.specs.Cores.{IsCore};
 ghost use Rattle.image_memory.specs.Maps.{AreMaps};
 ghost use Rattle.image_memory.specs.Notes.{AreStatuses, IsProcess};
 ghost use Rattle.image_memory.specs.Pieces.{memory_of};
 ghost use Rattle.py_process.specs.Binary.{HasInfo, SaysFacts};
+ghost use Rattle.process_memory.specs.Memory.{byte_at};
+ghost use Rattle.py_process.specs.Candidates.{head_by};
+ghost use Rattle.py_process.specs.Sources.{FirstTells, sources_of, version_of_number};
 ghost use Rattle.py_fields.specs.Sound.{IsSound};
 ghost use Rattle.object_builder.specs.Room.{HasRoom};
 ghost use Rattle.memory_builder.specs.Mirror.{program_in};
 ghost use Rattle.image_builder.specs.Built.{built_core, built_image, built_lock, built_objects, built_words};
 ghost use Rattle.image_builder.specs.CoreFacts.{built_maps, built_memory, built_process, built_status};
 ghost use Rattle.image_builder.specs.CoreFiles.{image_path as path_of_image};
-ghost use Rattle.image_builder.specs.ImageFacts.{image_facts};
+ghost use Rattle.image_builder.specs.Covered.{IsNumberOf};
+ghost use Rattle.image_builder.specs.ImageFacts.{image_facts, image_known};
 ghost use Rattle.image_builder.specs.Refusals.{IsBuildable, IsUnbuilt, room_for};
-ghost use Rattle.image_builder.specs.RuntimeWords.{interpreter_at};
+ghost use Rattle.image_builder.specs.RuntimeWords.{HasWordRoom, interpreter_at};
 
 use crate::BuildError;
 use crate::admission::admit;
@@ -95,6 +99,13 @@ pub fn build(
     ensures process { IfOk result (λ built. IsProcess built.core.items (Some built_process)) }
     ensures parsed { IfOk result (λ built. HasInfo built.image.items 0x40_0000) }
     ensures facts { IfOk result (λ built. SaysFacts built.image.items 0x40_0000 0x2000 image_facts) }
+    ensures version { IfOk result (λ _. (number : ℕ) → IsNumberOf version.now number
+        → version_of_number number ≡ version.now) }
+    ensures told { IfOk result (λ built. FirstTells (byte_at (memory_of built.core.items)) (sources_of image_known)
+        (Ok (Some version.now))) }
+    ensures head { HasWordRoom layout.now machine version.now → IfOk result
+        (λ built. head_by layout.now.head image_known version.now layout.now (byte_at (memory_of built.core.items))
+            ≡ built.interpreter ∷ []) }
     ensures small { HasRoom layout.now → IfOk result
         (λ built. length built.core.items ≤ room_for layout.now (program_in program.now)) }
 {

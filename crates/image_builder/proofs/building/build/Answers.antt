@@ -1,5 +1,5 @@
 use Rattle.std.proofs.Common.{◌≡◌, ◌∙◌, ◌+◌, ◌<◌, ◌≤◌, ◌^◌, ℕ, List, [], ◌∷◌, ap, length, arith, subst, sym}
-use Rattle.std.specs.Prelude.{Some}
+use Rattle.std.specs.Prelude.{Some, Ok}
 use Rattle.elf64_core.specs.Header.{machine_of}
 use Rattle.image_memory.specs.Cores.{IsCore}
 use Rattle.image_memory.specs.Maps.{AreMaps}
@@ -16,8 +16,14 @@ use Rattle.image_builder.specs.ImageFiles.{image_file}
 use Rattle.image_builder.specs.RuntimeWords.{interpreter_at, runtime_words}
 use Rattle.image_builder.proofs.CoreBack.{core_is, core_machine, core_memory_is, maps_are, process_is, statuses_are}
 use Rattle.py_process.specs.Binary.{HasInfo, SaysFacts}
-use Rattle.image_builder.specs.ImageFacts.{image_facts}
+use Rattle.image_builder.specs.ImageFacts.{image_facts, image_known}
 use Rattle.image_builder.proofs.ImageBack.{image_info, image_says}
+use Rattle.process_memory.specs.Memory.{byte_at}
+use Rattle.py_process.specs.Candidates.{head_by}
+use Rattle.py_process.specs.Sources.{FirstTells, sources_of, version_of_number}
+use Rattle.image_builder.proofs.MemoryBack.{image_there, number_there, words_there}
+use Rattle.image_builder.proofs.Numbers.{number_fits, number_is, version_told}
+use Rattle.image_builder.proofs.WordsBack.{head_back, version_back}
 use Rattle.image_builder.proofs.Lengths.{length-core, length-image, length-words}
 use Rattle.image_builder.proofs.ObjectsLength.{length-program}
 use Rattle.image_builder.proofs.building.build.Goals as goal
@@ -78,6 +84,30 @@ returns-clause-parsed c = subst (λ xs. HasInfo xs 0x40_0000) (sym (image_built 
 
 pub returns-clause-facts : goal.returns-clause-facts
 returns-clause-facts c = subst (λ xs. SaysFacts xs 0x40_0000 0x2000 image_facts) (sym (image_built c)) (image_says c.args.machine (number_of c.args.version.now))
+
+memory_built : (c : goal.After-drop-objects-2) → built_memory (image c) (words c) (objects c) ≡ memory_of c.in_ok-core.core.items
+memory_built c = sym (ap memory_of (core_built c) ∙ core_memory_is c.args.machine (image c) (words c) (objects c) (image_len c) (words_len c) (core_short c))
+
+pub returns-clause-version : goal.returns-clause-version
+returns-clause-version c = λ number is. version_told c.args.version.now number c.in_ok-admit.ensures.covered.numbered is
+
+pub returns-clause-told : goal.returns-clause-told
+returns-clause-told c =
+    let v = c.args.version.now in
+    let numbered = c.in_ok-admit.ensures.covered.numbered in
+    let is = number_is v numbered in
+    let there = number_there c.args.machine (number_of v) (image_there (image c) (words c) (objects c) (image_len c) (words_len c)) in
+    let told = version_back (byte_at (built_memory (image c) (words c) (objects c))) (number_of v) (number_fits v (number_of v) numbered is) there in
+    subst (λ ps. FirstTells (byte_at ps) (sources_of image_known) (Ok (Some v))) (memory_built c)
+    (subst (λ w. FirstTells (byte_at (built_memory (image c) (words c) (objects c))) (sources_of image_known) (Ok (Some w))) (version_told v (number_of v) numbered is) told)
+
+pub returns-clause-head : goal.returns-clause-head
+returns-clause-head c = λ room.
+    let l = c.args.layout.now in
+    let v = c.args.version.now in
+    subst (λ ps. head_by l.head image_known v l (byte_at ps) ≡ interpreter_at ∷ []) (memory_built c)
+    (head_back l c.requires (byte_at (built_memory (image c) (words c) (objects c))) v c.args.machine (owner_place l interpreter_at (program_in c.args.program.now)) room
+    (words_there (image c) (words c) (objects c) (image_len c) (words_len c)))
 
 pub returns-clause-small : goal.returns-clause-small
 returns-clause-small c = λ room.
