@@ -16,3 +16,4 @@ pub mod ImageBack
 pub mod Numbers
 pub mod WordsBack
 pub mod MemoryBack
+pub mod OwnerBack

@@ -1,11 +1,11 @@
 -- What stands in the memory of a built core, whatever image is handed in.
 use Rattle.std.proofs.Common.{◌≡◌, ℕ, ◌+◌, ◌-◌, ◌<◌, ◌≤◌, ◌^◌, Bool, true, false, cond, ltb, List, [], ◌∷◌, ◌++◌, length, refl, sym, ap, ◌∙◌, arith, inl, inr, subst}
-use Rattle.std.specs.Prelude.{Some, None, Option}
+use Rattle.std.specs.Prelude.{Some, None, Option, filter_map}
 use Rattle.std.specs.Int.{w32, to_le_bytes}
 use Rattle.process_memory.specs.Memory.{Memory, Region, byte_at, first_byte, first_of, region_byte}
-use Rattle.image_memory.specs.Backed.{IsBackedMemory}
+use Rattle.image_memory.specs.Backed.{IsBackedMemory, backed_region}
 use Rattle.image_memory.specs.Images.{Pushed}
-use Rattle.image_memory.specs.Pieces.{memory_of}
+use Rattle.image_memory.specs.Pieces.{loads_of, memory_of}
 use Rattle.elf64_core.specs.declared.header.Machine.{Machine}
 use Rattle.object_builder.specs.Objects.{bytes_of}
 use Rattle.object_builder.specs.Objects.Value.{U32}
@@ -26,16 +26,17 @@ first_more [] qs a b = λ e. absurd (cc)
 first_more (p ∷ ps) qs a b =
     elim (region_byte p a) as (λ o. first_of o (first_byte ps a) ≡ Some b → first_of o (first_byte (ps ++ qs) a) ≡ Some b) [ None ↦ first_more ps qs a b | Some x ↦ λ e. e ]
 
-pub stands_more : (ps qs : List Region) (a : ℕ) (bytes : List ℕ) → Stands (byte_at ps) a bytes → Stands (byte_at (ps ++ qs)) a bytes
+-- the core's own bytes come first, whatever images there are
+pub own_first : (core : List ℕ) (images : Pushed) (regions : List Region) → IsBackedMemory core images regions → (a b : ℕ) → byte_at (memory_of core) a ≡ Some b → byte_at regions a ≡ Some b
 unfolding byte_at
-stands_more ps qs a bytes s = record {
-  ends = s.ends;
-  each = λ k lt. kept (ltb (a + k) (2 ^ 64 - 1)) (first_byte ps (a + k)) (first_byte (ps ++ qs) (a + k)) _ (first_more ps qs (a + k)) (s.each k lt);
-}
+own_first core images regions is a b e =
+    let more = filter_map (backed_region images is.entries) (loads_of core) in
+    subst (λ ps. cond (ltb a (2 ^ 64 - 1)) (first_byte ps a) None ≡ Some b) (sym is.says)
+    (kept (ltb a (2 ^ 64 - 1)) (first_byte (memory_of core) a) (first_byte (memory_of core ++ more) a) (first_more (memory_of core) more a) e)
   where
-    kept : (t : Bool) (o r : Option ℕ) (b : ℕ) → ((b : ℕ) → o ≡ Some b → r ≡ Some b) → cond t o None ≡ Some b → cond t r None ≡ Some b
-    kept true o r b f e = f b e
-    kept false o r b f e = e
+    kept : (t : Bool) (o r : Option ℕ) → ((b : ℕ) → o ≡ Some b → r ≡ Some b) → cond t o None ≡ Some b → cond t r None ≡ Some b
+    kept true o r f e = f b e
+    kept false o r f e = e
 
 -- ---- the three pieces
 

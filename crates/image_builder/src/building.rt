@@ -1,12 +1,21 @@
 //! The core and the image of a program.
-ghost use Rattle.std.specs.Prelude.{◌≡◌, ◌≤◌, ℕ, [], ◌∷◌, Some, Ok, length, IfOk, IfErr};
+ghost use Rattle.std.specs.Prelude.{◌≡◌, ◌↔◌, ◌≤◌, ℕ, List, [], ◌∷◌, Some, Ok, length, IfOk, IfErr};
 ghost use Rattle.elf64_core.specs.Header.{machine_of};
 ghost use Rattle.image_memory.specs.Cores.{IsCore};
 ghost use Rattle.image_memory.specs.Maps.{AreMaps};
 ghost use Rattle.image_memory.specs.Notes.{AreStatuses, IsProcess};
 ghost use Rattle.image_memory.specs.Pieces.{memory_of};
 ghost use Rattle.py_process.specs.Binary.{HasInfo, SaysFacts};
-ghost use Rattle.process_memory.specs.Memory.{byte_at};
+ghost use Rattle.process_memory.specs.Memory.{Region, byte_at};
+ghost use Rattle.image_memory.specs.Backed.{IsBackedMemory};
+ghost use Rattle.image_memory.specs.Images.{Pushed};
+ghost use Rattle.py_stacks.specs.declared.config.Config.{Config};
+ghost use Rattle.py_stacks.specs.StacksOver.{AreStacksOver};
+ghost use Rattle.py_stacks.specs.Threads.{Trace};
+ghost use Rattle.py_process.specs.Lock.{lock_address_of};
+ghost use Rattle.object_builder.specs.Placing.{Stands};
+ghost use Rattle.memory_builder.specs.Laid.{owner_id};
+ghost use Rattle.memory_builder.specs.Told.{program_told};
 ghost use Rattle.py_process.specs.Candidates.{head_by};
 ghost use Rattle.py_process.specs.Sources.{FirstTells, sources_of, version_of_number};
 ghost use Rattle.py_fields.specs.Sound.{IsSound};
@@ -105,7 +114,19 @@ pub fn build(
         (Ok (Some version.now))) }
     ensures head { HasWordRoom layout.now machine version.now → IfOk result
         (λ built. head_by layout.now.head image_known version.now layout.now (byte_at (memory_of built.core.items))
-            ≡ built.interpreter ∷ []) }
+        ≡ built.interpreter ∷ []) }
+    ensures own { IfOk result (λ built. (images : Pushed) (regions : List Region)
+        → IsBackedMemory built.core.items images regions
+        → (a b : ℕ) → byte_at (memory_of built.core.items) a ≡ Some b → byte_at regions a ≡ Some b) }
+    ensures objects { HasRoom layout.now → IfOk result (λ built. Stands (byte_at (memory_of built.core.items))
+        built.interpreter (built_objects layout.now (program_in program.now))) }
+    ensures named { HasRoom layout.now → HasWordRoom layout.now machine version.now → IfOk result
+        (λ built. lock_address_of machine image_known version.now layout.now (byte_at (memory_of built.core.items))
+        built.interpreter ≡ Ok built.lock) }
+    ensures stacks { HasRoom layout.now → HasWordRoom layout.now machine version.now → IfOk result
+        (λ built. (config : Config) (traces : List Trace)
+        → AreStacksOver config layout.now (byte_at (memory_of built.core.items)) built.lock built.interpreter traces
+        ↔ (traces ≡ program_told config layout.now interpreter_at (owner_id (program_in program.now)) (program_in program.now))) }
     ensures small { HasRoom layout.now → IfOk result
         (λ built. length built.core.items ≤ room_for layout.now (program_in program.now)) }
 {

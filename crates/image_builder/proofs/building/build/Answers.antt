@@ -1,5 +1,5 @@
-use Rattle.std.proofs.Common.{◌≡◌, ◌∙◌, ◌+◌, ◌<◌, ◌≤◌, ◌^◌, ℕ, List, [], ◌∷◌, ap, length, arith, subst, sym}
-use Rattle.std.specs.Prelude.{Some, Ok}
+use Rattle.std.proofs.Common.{refl, ◌≡◌, ◌∙◌, ◌+◌, ◌<◌, ◌≤◌, ◌^◌, ℕ, List, [], ◌∷◌, ap, length, arith, subst, sym}
+use Rattle.std.specs.Prelude.{Some, Ok, ◌↔◌}
 use Rattle.elf64_core.specs.Header.{machine_of}
 use Rattle.image_memory.specs.Cores.{IsCore}
 use Rattle.image_memory.specs.Maps.{AreMaps}
@@ -8,7 +8,7 @@ use Rattle.image_memory.specs.Pieces.{memory_of}
 use Rattle.memory_builder.specs.Laid.{owner_place}
 use Rattle.memory_builder.specs.Mirror.{program_in}
 use Rattle.memory_builder.specs.Sizes.{program_size}
-use Rattle.image_builder.specs.Built.{built_core, built_image, built_objects, built_words}
+use Rattle.image_builder.specs.Built.{built_core, built_image, built_lock, built_objects, built_words}
 use Rattle.image_builder.specs.CoreFacts.{built_maps, built_memory, built_process, built_status}
 use Rattle.image_builder.specs.CoreFiles.{core_file}
 use Rattle.image_builder.specs.Covered.{number_of}
@@ -18,12 +18,20 @@ use Rattle.image_builder.proofs.CoreBack.{core_is, core_machine, core_memory_is,
 use Rattle.py_process.specs.Binary.{HasInfo, SaysFacts}
 use Rattle.image_builder.specs.ImageFacts.{image_facts, image_known}
 use Rattle.image_builder.proofs.ImageBack.{image_info, image_says}
-use Rattle.process_memory.specs.Memory.{byte_at}
+use Rattle.process_memory.specs.Memory.{Memory, byte_at}
+use Rattle.py_process.specs.Lock.{lock_address_of}
+use Rattle.py_stacks.specs.StacksOver.{AreStacksOver}
+use Rattle.object_builder.specs.Placing.{Stands}
+use Rattle.object_builder.specs.Room.{HasRoom}
+use Rattle.memory_builder.specs.Laid.{owner_id}
+use Rattle.memory_builder.specs.ReadBack.{IsPlace, TellsInterpreter, TellsOwner, TellsStacks}
+use Rattle.memory_builder.specs.Told.{program_told}
+use Rattle.image_builder.proofs.OwnerBack.{lock_names}
 use Rattle.py_process.specs.Candidates.{head_by}
 use Rattle.py_process.specs.Sources.{FirstTells, sources_of, version_of_number}
-use Rattle.image_builder.proofs.MemoryBack.{image_there, number_there, words_there}
+use Rattle.image_builder.proofs.MemoryBack.{image_there, none_at_zero, number_there, objects_there, own_first, words_there}
 use Rattle.image_builder.proofs.Numbers.{number_fits, number_is, version_told}
-use Rattle.image_builder.proofs.WordsBack.{head_back, version_back}
+use Rattle.image_builder.proofs.WordsBack.{head_back, lock_back, version_back}
 use Rattle.image_builder.proofs.Lengths.{length-core, length-image, length-words}
 use Rattle.image_builder.proofs.ObjectsLength.{length-program}
 use Rattle.image_builder.proofs.building.build.Goals as goal
@@ -108,6 +116,53 @@ returns-clause-head c = λ room.
     subst (λ ps. head_by l.head image_known v l (byte_at ps) ≡ interpreter_at ∷ []) (memory_built c)
     (head_back l c.requires (byte_at (built_memory (image c) (words c) (objects c))) v c.args.machine (owner_place l interpreter_at (program_in c.args.program.now)) room
     (words_there (image c) (words c) (objects c) (image_len c) (words_len c)))
+
+pub returns-clause-own : goal.returns-clause-own
+returns-clause-own c = λ images regions is a b e. own_first c.in_ok-core.core.items images regions is a b e
+
+place_is : IsPlace interpreter_at
+place_is = record { some = omega arith; even = refl }
+
+module _ (c : goal.After-drop-objects-2) (room : HasRoom c.args.layout.now) where
+  abbrev m : Memory
+  m = byte_at (built_memory (image c) (words c) (objects c))
+
+  objects_short : length (objects c) ≤ 2 ^ 30
+  objects_short =
+      let built = c.in_ok-admit.ensures in
+      omega (arith, built.room, length-program c.args.layout.now c.requires room interpreter_at (program_in c.args.program.now))
+
+  objects_stand : Stands m interpreter_at (objects c)
+  objects_stand = objects_there (image c) (words c) (objects c) (image_len c) (words_len c) objects_short
+
+  tells : TellsInterpreter c.args.layout.now interpreter_at (objects c)
+  tells = subst (TellsInterpreter c.args.layout.now interpreter_at) c.in_ok-objects.ensures.laid (c.in_ok-objects.ensures.interpreter room place_is)
+
+pub returns-clause-objects : goal.returns-clause-objects
+returns-clause-objects c = λ room. subst (λ ps. Stands (byte_at ps) interpreter_at (objects c)) (memory_built c) (objects_stand c room)
+
+pub returns-clause-named : goal.returns-clause-named
+returns-clause-named c = λ room word_room.
+    let l = c.args.layout.now in
+    let v = c.args.version.now in
+    let is = lock_back l c.requires (m c room) v c.args.machine (owner_place l interpreter_at (program_in c.args.program.now)) word_room
+    (words_there (image c) (words c) (objects c) (image_len c) (words_len c)) (λ at e. (tells c room).lock (m c room) (objects_stand c room) at e) in
+    subst (λ lock. lock_address_of c.args.machine image_known v l (byte_at (memory_of c.in_ok-core.core.items)) interpreter_at ≡ Ok lock) (sym c.lock_address.ensures)
+    (subst (λ ps. lock_address_of c.args.machine image_known v l (byte_at ps) interpreter_at ≡ Ok (built_lock l v c.args.machine)) (memory_built c) is)
+
+pub returns-clause-stacks : goal.returns-clause-stacks
+returns-clause-stacks c = λ room word_room config traces.
+    let l = c.args.layout.now in
+    let v = c.args.version.now in
+    let p = program_in c.args.program.now in
+    let there = objects_stand c room in
+    let owner = subst (TellsOwner l interpreter_at p) c.in_ok-objects.ensures.laid (c.in_ok-objects.ensures.owner room place_is) in
+    let told = subst (TellsStacks l interpreter_at p) c.in_ok-objects.ensures.laid (c.in_ok-objects.ensures.stacks room place_is) in
+    let names = lock_names l c.requires (m c room) v c.args.machine p c.in_ok-admit.ensures.covered word_room
+    (words_there (image c) (words c) (objects c) (image_len c) (words_len c)) (omega (arith, c.in_ok-holder.ensures)) there owner in
+    let is = told (m c room) (record { stands = there; none = none_at_zero (image c) (words c) (objects c) (image_len c) (words_len c) }) config (built_lock l v c.args.machine) (owner_id p) names traces in
+    subst (λ lock. AreStacksOver config l (byte_at (memory_of c.in_ok-core.core.items)) lock interpreter_at traces ↔ (traces ≡ program_told config l interpreter_at (owner_id p) p)) (sym c.lock_address.ensures)
+    (subst (λ ps. AreStacksOver config l (byte_at ps) (built_lock l v c.args.machine) interpreter_at traces ↔ (traces ≡ program_told config l interpreter_at (owner_id p) p)) (memory_built c) is)
 
 pub returns-clause-small : goal.returns-clause-small
 returns-clause-small c = λ room.
