@@ -1,6 +1,8 @@
 -- What the readers of cores find in a core that was built.
 use Rattle.std.specs.Prelude.{ℕ, ◌+◌, Option, Some, None, List, [], ◌∷◌, length, pos}
-use Rattle.process_memory.specs.Memory.{Region}
+use Rattle.process_memory.specs.Memory.{Memory, Region, byte_at}
+use Rattle.image_memory.specs.Backed.{IsBackedMemory}
+use Rattle.image_memory.specs.Images.{Pushed}
 use Rattle.image_memory.specs.declared.maps.CoreMapRange.{CoreMapRange}
 use Rattle.image_memory.specs.declared.records.elf_prstatus.{elf_prstatus}
 use Rattle.image_memory.specs.declared.records.elf_prpsinfo.{elf_prpsinfo}
@@ -30,3 +32,8 @@ built_status = record { pr_cursig = pos 6; pr_pid = pos 1 }
 -- its process record
 abbrev pub built_process : elf_prpsinfo
 built_process = record { pr_pid = pos 1; pr_fname = filled 16 process_name; pr_psargs = filled 80 process_name }
+
+-- what holds of the memory of a core and images, whichever images are handed in, none among them
+abbrev pub InEachMemory : List ℕ → (Memory → Type 0) → Type 0
+InEachMemory core Holds = (images : Pushed) (regions : List Region) → IsBackedMemory core images regions
+    → Holds (byte_at regions)

@@ -54,8 +54,8 @@ laid_note kind desc = record_of (note_fields 5 (length desc) kind)
 
 -- NT_PRSTATUS, NT_PRPSINFO and NT_FILE
 unfoldable pub core_notes : List ℕ
-core_notes =
-    laid_note 1 (record_of status_fields) ++ (laid_note 3 process_record ++ laid_note 0x46494c45 (record_of table_fields))
+core_notes = laid_note 1 (record_of status_fields)
+    ++ (laid_note 3 process_record ++ laid_note 0x46494c45 (record_of table_fields))
 
 -- ---- the file
 

@@ -20,7 +20,8 @@ image_entries =
 -- the bss, no section of the runtime, and the addresses of symbols, which weren't moved
 abbrev pub image_facts : Facts
 image_facts = record {
-  symbols = λ name. address_of (record { addr = 0x40_0000; size = 0x2000; offset = 0; bss_end = 0x52_0000 }) name (image_entries ++ []);
+  symbols = λ name. address_of (record { addr = 0x40_0000; size = 0x2000; offset = 0; bss_end = 0x52_0000 })
+      name (image_entries ++ []);
   bss_addr = 0x50_0000;
   bss_size = 0x2_0000;
   pyruntime_addr = 0;

@@ -6,9 +6,6 @@ ghost use Rattle.image_memory.specs.Maps.{AreMaps};
 ghost use Rattle.image_memory.specs.Notes.{AreStatuses, IsProcess};
 ghost use Rattle.image_memory.specs.Pieces.{memory_of};
 ghost use Rattle.py_process.specs.Binary.{HasInfo, SaysFacts};
-ghost use Rattle.process_memory.specs.Memory.{Region, byte_at};
-ghost use Rattle.image_memory.specs.Backed.{IsBackedMemory};
-ghost use Rattle.image_memory.specs.Images.{Pushed};
 ghost use Rattle.py_stacks.specs.declared.config.Config.{Config};
 ghost use Rattle.py_stacks.specs.StacksOver.{AreStacksOver};
 ghost use Rattle.py_stacks.specs.Threads.{Trace};
@@ -22,7 +19,7 @@ ghost use Rattle.py_fields.specs.Sound.{IsSound};
 ghost use Rattle.object_builder.specs.Room.{HasRoom};
 ghost use Rattle.memory_builder.specs.Mirror.{program_in};
 ghost use Rattle.image_builder.specs.Built.{built_core, built_image, built_lock, built_objects, built_words};
-ghost use Rattle.image_builder.specs.CoreFacts.{built_maps, built_memory, built_process, built_status};
+ghost use Rattle.image_builder.specs.CoreFacts.{InEachMemory, built_maps, built_memory, built_process, built_status};
 ghost use Rattle.image_builder.specs.CoreFiles.{image_path as path_of_image};
 ghost use Rattle.image_builder.specs.Covered.{IsNumberOf};
 ghost use Rattle.image_builder.specs.ImageFacts.{image_facts, image_known};
@@ -93,7 +90,8 @@ pub fn build(
     requires { IsSound layout.now }
     ensures buildable { IfOk result (λ _. IsBuildable layout.now version.now machine (program_in program.now)) }
     ensures refused { IfErr result (IsUnbuilt layout.now version.now machine (program_in program.now)) }
-    ensures core { IfOk result (λ built. built.core.items ≡ built_core layout.now version.now machine (program_in program.now)) }
+    ensures core { IfOk result (λ built. built.core.items
+        ≡ built_core layout.now version.now machine (program_in program.now)) }
     ensures image { IfOk result (λ built. built.image.items ≡ built_image version.now machine) }
     ensures path { IfOk result (λ built. built.image_path ≡ path_of_image) }
     ensures interpreter { IfOk result (λ built. built.interpreter ≡ interpreter_at) }
@@ -101,7 +99,8 @@ pub fn build(
     ensures accepted { IfOk result (λ built. IsCore built.core.items) }
     ensures machine { IfOk result (λ built. machine_of built.core.items ≡ machine) }
     ensures memory { IfOk result (λ built. memory_of built.core.items ≡ built_memory built.image.items
-        (built_words layout.now version.now machine (program_in program.now)) (built_objects layout.now (program_in program.now))) }
+        (built_words layout.now version.now machine (program_in program.now))
+        (built_objects layout.now (program_in program.now))) }
     ensures maps { IfOk result (λ built. AreMaps built.core.items
         (built_maps (length (built_objects layout.now (program_in program.now))))) }
     ensures statuses { IfOk result (λ built. AreStatuses built.core.items (built_status ∷ [])) }
@@ -110,23 +109,20 @@ pub fn build(
     ensures facts { IfOk result (λ built. SaysFacts built.image.items 0x40_0000 0x2000 image_facts) }
     ensures version { IfOk result (λ _. (number : ℕ) → IsNumberOf version.now number
         → version_of_number number ≡ version.now) }
-    ensures told { IfOk result (λ built. FirstTells (byte_at (memory_of built.core.items)) (sources_of image_known)
-        (Ok (Some version.now))) }
-    ensures head { HasWordRoom layout.now machine version.now → IfOk result
-        (λ built. head_by layout.now.head image_known version.now layout.now (byte_at (memory_of built.core.items))
-        ≡ built.interpreter ∷ []) }
-    ensures own { IfOk result (λ built. (images : Pushed) (regions : List Region)
-        → IsBackedMemory built.core.items images regions
-        → (a b : ℕ) → byte_at (memory_of built.core.items) a ≡ Some b → byte_at regions a ≡ Some b) }
-    ensures objects { HasRoom layout.now → IfOk result (λ built. Stands (byte_at (memory_of built.core.items))
-        built.interpreter (built_objects layout.now (program_in program.now))) }
+    ensures told { IfOk result (λ built. InEachMemory built.core.items
+        (λ m. FirstTells m (sources_of image_known) (Ok (Some version.now)))) }
+    ensures head { HasWordRoom layout.now machine version.now → IfOk result (λ built. InEachMemory built.core.items
+        (λ m. head_by layout.now.head image_known version.now layout.now m ≡ built.interpreter ∷ [])) }
+    ensures objects { HasRoom layout.now → IfOk result (λ built. InEachMemory built.core.items
+        (λ m. Stands m built.interpreter (built_objects layout.now (program_in program.now)))) }
     ensures named { HasRoom layout.now → HasWordRoom layout.now machine version.now → IfOk result
-        (λ built. lock_address_of machine image_known version.now layout.now (byte_at (memory_of built.core.items))
-        built.interpreter ≡ Ok built.lock) }
+        (λ built. InEachMemory built.core.items (λ m.
+            lock_address_of machine image_known version.now layout.now m built.interpreter ≡ Ok built.lock)) }
     ensures stacks { HasRoom layout.now → HasWordRoom layout.now machine version.now → IfOk result
-        (λ built. (config : Config) (traces : List Trace)
-        → AreStacksOver config layout.now (byte_at (memory_of built.core.items)) built.lock built.interpreter traces
-        ↔ (traces ≡ program_told config layout.now interpreter_at (owner_id (program_in program.now)) (program_in program.now))) }
+        (λ built. InEachMemory built.core.items (λ m. (config : Config) (traces : List Trace)
+            → AreStacksOver config layout.now m built.lock built.interpreter traces
+                ↔ (traces ≡ program_told config layout.now interpreter_at (owner_id (program_in program.now))
+                    (program_in program.now)))) }
     ensures small { HasRoom layout.now → IfOk result
         (λ built. length built.core.items ≤ room_for layout.now (program_in program.now)) }
 {

@@ -1,5 +1,5 @@
 use Rattle.std.proofs.Common.{refl, ◌≡◌, ◌∙◌, ◌+◌, ◌<◌, ◌≤◌, ◌^◌, ℕ, List, [], ◌∷◌, ap, length, arith, subst, sym}
-use Rattle.std.specs.Prelude.{Some, Ok, ◌↔◌}
+use Rattle.std.specs.Prelude.{Some, None, Ok, ◌↔◌}
 use Rattle.elf64_core.specs.Header.{machine_of}
 use Rattle.image_memory.specs.Cores.{IsCore}
 use Rattle.image_memory.specs.Maps.{AreMaps}
@@ -18,7 +18,9 @@ use Rattle.image_builder.proofs.CoreBack.{core_is, core_machine, core_memory_is,
 use Rattle.py_process.specs.Binary.{HasInfo, SaysFacts}
 use Rattle.image_builder.specs.ImageFacts.{image_facts, image_known}
 use Rattle.image_builder.proofs.ImageBack.{image_info, image_says}
-use Rattle.process_memory.specs.Memory.{Memory, byte_at}
+use Rattle.process_memory.specs.Memory.{Region, byte_at}
+use Rattle.image_memory.specs.Backed.{IsBackedMemory}
+use Rattle.image_memory.specs.Images.{Pushed}
 use Rattle.py_process.specs.Lock.{lock_address_of}
 use Rattle.py_stacks.specs.StacksOver.{AreStacksOver}
 use Rattle.object_builder.specs.Placing.{Stands}
@@ -29,7 +31,7 @@ use Rattle.memory_builder.specs.Told.{program_told}
 use Rattle.image_builder.proofs.OwnerBack.{lock_names}
 use Rattle.py_process.specs.Candidates.{head_by}
 use Rattle.py_process.specs.Sources.{FirstTells, sources_of, version_of_number}
-use Rattle.image_builder.proofs.MemoryBack.{image_there, none_at_zero, number_there, objects_there, own_first, words_there}
+use Rattle.image_builder.proofs.MemoryBack.{image_there, in_each, none_at_zero, number_there, objects_there, words_there}
 use Rattle.image_builder.proofs.Numbers.{number_fits, number_is, version_told}
 use Rattle.image_builder.proofs.WordsBack.{head_back, lock_back, version_back}
 use Rattle.image_builder.proofs.Lengths.{length-core, length-image, length-words}
@@ -93,76 +95,69 @@ returns-clause-parsed c = subst (λ xs. HasInfo xs 0x40_0000) (sym (image_built 
 pub returns-clause-facts : goal.returns-clause-facts
 returns-clause-facts c = subst (λ xs. SaysFacts xs 0x40_0000 0x2000 image_facts) (sym (image_built c)) (image_says c.args.machine (number_of c.args.version.now))
 
-memory_built : (c : goal.After-drop-objects-2) → built_memory (image c) (words c) (objects c) ≡ memory_of c.in_ok-core.core.items
-memory_built c = sym (ap memory_of (core_built c) ∙ core_memory_is c.args.machine (image c) (words c) (objects c) (image_len c) (words_len c) (core_short c))
-
 pub returns-clause-version : goal.returns-clause-version
 returns-clause-version c = λ number is. version_told c.args.version.now number c.in_ok-admit.ensures.covered.numbered is
 
+module _ (c : goal.After-drop-objects-2) (images : Pushed) (regions : List Region) (is : IsBackedMemory c.in_ok-core.core.items images regions) where
+  backed : IsBackedMemory (built_core c.args.layout.now c.args.version.now c.args.machine (program_in c.args.program.now)) images regions
+  backed = subst (λ xs. IsBackedMemory xs images regions) (core_built c) is
+
+  in_regions : (a : ℕ) (bytes : List ℕ) → Stands (byte_at (built_memory (image c) (words c) (objects c))) a bytes → Stands (byte_at regions) a bytes
+  in_regions = in_each c.args.machine (image c) (words c) (objects c) (image_len c) (words_len c) (core_short c) images regions backed
+
+  image_stand : Stands (byte_at regions) 0x40_0000 (image c)
+  image_stand = in_regions 0x40_0000 (image c) (image_there (image c) (words c) (objects c) (image_len c) (words_len c))
+
+  words_stand : Stands (byte_at regions) 0x50_0000 (words c)
+  words_stand = in_regions 0x50_0000 (words c) (words_there (image c) (words c) (objects c) (image_len c) (words_len c))
+
+  none_zero : byte_at regions 0 ≡ None
+  none_zero = none_at_zero c.args.machine (image c) (words c) (objects c) (image_len c) (words_len c) (core_short c) images regions backed
+
+  objects_stand : HasRoom c.args.layout.now → Stands (byte_at regions) interpreter_at (objects c)
+  objects_stand room =
+      let built = c.in_ok-admit.ensures in
+      in_regions interpreter_at (objects c) (objects_there (image c) (words c) (objects c) (image_len c) (words_len c)
+      (omega (arith, built.room, length-program c.args.layout.now c.requires room interpreter_at (program_in c.args.program.now))))
+
 pub returns-clause-told : goal.returns-clause-told
-returns-clause-told c =
+returns-clause-told c = λ images regions is.
     let v = c.args.version.now in
     let numbered = c.in_ok-admit.ensures.covered.numbered in
-    let is = number_is v numbered in
-    let there = number_there c.args.machine (number_of v) (image_there (image c) (words c) (objects c) (image_len c) (words_len c)) in
-    let told = version_back (byte_at (built_memory (image c) (words c) (objects c))) (number_of v) (number_fits v (number_of v) numbered is) there in
-    subst (λ ps. FirstTells (byte_at ps) (sources_of image_known) (Ok (Some v))) (memory_built c)
-    (subst (λ w. FirstTells (byte_at (built_memory (image c) (words c) (objects c))) (sources_of image_known) (Ok (Some w))) (version_told v (number_of v) numbered is) told)
+    let number = number_is v numbered in
+    let told = version_back (byte_at regions) (number_of v) (number_fits v (number_of v) numbered number) (number_there c.args.machine (number_of v) (image_stand c images regions is)) in
+    subst (λ w. FirstTells (byte_at regions) (sources_of image_known) (Ok (Some w))) (version_told v (number_of v) numbered number) told
 
 pub returns-clause-head : goal.returns-clause-head
-returns-clause-head c = λ room.
-    let l = c.args.layout.now in
-    let v = c.args.version.now in
-    subst (λ ps. head_by l.head image_known v l (byte_at ps) ≡ interpreter_at ∷ []) (memory_built c)
-    (head_back l c.requires (byte_at (built_memory (image c) (words c) (objects c))) v c.args.machine (owner_place l interpreter_at (program_in c.args.program.now)) room
-    (words_there (image c) (words c) (objects c) (image_len c) (words_len c)))
+returns-clause-head c = λ room images regions is.
+    head_back c.args.layout.now c.requires (byte_at regions) c.args.version.now c.args.machine (owner_place c.args.layout.now interpreter_at (program_in c.args.program.now)) room (words_stand c images regions is)
 
-pub returns-clause-own : goal.returns-clause-own
-returns-clause-own c = λ images regions is a b e. own_first c.in_ok-core.core.items images regions is a b e
+pub returns-clause-objects : goal.returns-clause-objects
+returns-clause-objects c = λ room images regions is. objects_stand c images regions is room
 
 place_is : IsPlace interpreter_at
 place_is = record { some = omega arith; even = refl }
 
-module _ (c : goal.After-drop-objects-2) (room : HasRoom c.args.layout.now) where
-  abbrev m : Memory
-  m = byte_at (built_memory (image c) (words c) (objects c))
-
-  objects_short : length (objects c) ≤ 2 ^ 30
-  objects_short =
-      let built = c.in_ok-admit.ensures in
-      omega (arith, built.room, length-program c.args.layout.now c.requires room interpreter_at (program_in c.args.program.now))
-
-  objects_stand : Stands m interpreter_at (objects c)
-  objects_stand = objects_there (image c) (words c) (objects c) (image_len c) (words_len c) objects_short
-
-  tells : TellsInterpreter c.args.layout.now interpreter_at (objects c)
-  tells = subst (TellsInterpreter c.args.layout.now interpreter_at) c.in_ok-objects.ensures.laid (c.in_ok-objects.ensures.interpreter room place_is)
-
-pub returns-clause-objects : goal.returns-clause-objects
-returns-clause-objects c = λ room. subst (λ ps. Stands (byte_at ps) interpreter_at (objects c)) (memory_built c) (objects_stand c room)
-
 pub returns-clause-named : goal.returns-clause-named
-returns-clause-named c = λ room word_room.
+returns-clause-named c = λ room word_room images regions is.
     let l = c.args.layout.now in
     let v = c.args.version.now in
-    let is = lock_back l c.requires (m c room) v c.args.machine (owner_place l interpreter_at (program_in c.args.program.now)) word_room
-    (words_there (image c) (words c) (objects c) (image_len c) (words_len c)) (λ at e. (tells c room).lock (m c room) (objects_stand c room) at e) in
-    subst (λ lock. lock_address_of c.args.machine image_known v l (byte_at (memory_of c.in_ok-core.core.items)) interpreter_at ≡ Ok lock) (sym c.lock_address.ensures)
-    (subst (λ ps. lock_address_of c.args.machine image_known v l (byte_at ps) interpreter_at ≡ Ok (built_lock l v c.args.machine)) (memory_built c) is)
+    let tells = subst (TellsInterpreter l interpreter_at) c.in_ok-objects.ensures.laid (c.in_ok-objects.ensures.interpreter room place_is) in
+    let named = lock_back l c.requires (byte_at regions) v c.args.machine (owner_place l interpreter_at (program_in c.args.program.now)) word_room
+        (words_stand c images regions is) (λ at e. tells.lock (byte_at regions) (objects_stand c images regions is room) at e) in
+    subst (λ lock. lock_address_of c.args.machine image_known v l (byte_at regions) interpreter_at ≡ Ok lock) (sym c.lock_address.ensures) named
 
 pub returns-clause-stacks : goal.returns-clause-stacks
-returns-clause-stacks c = λ room word_room config traces.
+returns-clause-stacks c = λ room word_room images regions is config traces.
     let l = c.args.layout.now in
     let v = c.args.version.now in
     let p = program_in c.args.program.now in
-    let there = objects_stand c room in
+    let there = objects_stand c images regions is room in
     let owner = subst (TellsOwner l interpreter_at p) c.in_ok-objects.ensures.laid (c.in_ok-objects.ensures.owner room place_is) in
     let told = subst (TellsStacks l interpreter_at p) c.in_ok-objects.ensures.laid (c.in_ok-objects.ensures.stacks room place_is) in
-    let names = lock_names l c.requires (m c room) v c.args.machine p c.in_ok-admit.ensures.covered word_room
-    (words_there (image c) (words c) (objects c) (image_len c) (words_len c)) (omega (arith, c.in_ok-holder.ensures)) there owner in
-    let is = told (m c room) (record { stands = there; none = none_at_zero (image c) (words c) (objects c) (image_len c) (words_len c) }) config (built_lock l v c.args.machine) (owner_id p) names traces in
-    subst (λ lock. AreStacksOver config l (byte_at (memory_of c.in_ok-core.core.items)) lock interpreter_at traces ↔ (traces ≡ program_told config l interpreter_at (owner_id p) p)) (sym c.lock_address.ensures)
-    (subst (λ ps. AreStacksOver config l (byte_at ps) (built_lock l v c.args.machine) interpreter_at traces ↔ (traces ≡ program_told config l interpreter_at (owner_id p) p)) (memory_built c) is)
+    let names = lock_names l c.requires (byte_at regions) v c.args.machine p c.in_ok-admit.ensures.covered word_room (words_stand c images regions is) (omega (arith, c.in_ok-holder.ensures)) there owner in
+    let right = told (byte_at regions) (record { stands = there; none = none_zero c images regions is }) config (built_lock l v c.args.machine) (owner_id p) names traces in
+    subst (λ lock. AreStacksOver config l (byte_at regions) lock interpreter_at traces ↔ (traces ≡ program_told config l interpreter_at (owner_id p) p)) (sym c.lock_address.ensures) right
 
 pub returns-clause-small : goal.returns-clause-small
 returns-clause-small c = λ room.
