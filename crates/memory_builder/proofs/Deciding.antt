@@ -9,12 +9,16 @@ use Rattle.memory_builder.specs.Program.Held.{Items}
 use Rattle.memory_builder.specs.Validity.{HasValidLocals, IsValidHeld, IsValidItem, IsValidLocal}
 use Rattle.memory_builder.proofs.Lists.{all_map, all_unmap, length_map}
 
-pub list_tells : (b : Bool) (items : List ProgramItem) → length items < 65536 → (IsTrue b ↔ AllByRecursion (λ x. IsValidItem (item_in x)) items)
+pub list_tells : (b : Bool) (items : List ProgramItem) → length items < 65536
+    → (IsTrue b ↔ AllByRecursion (λ x. IsValidItem (item_in x)) items)
     → IsTrue b ↔ IsValidHeld (Items (map item_in items))
-list_tells b items small h =
-    (λ t. (omega (arith, length_map item_in items), all_map IsValidItem item_in items (h.0 t)), λ v. h.1 (all_unmap IsValidItem item_in items v.1))
+list_tells b items small h = (
+  λ t. (omega (arith, length_map item_in items), all_map IsValidItem item_in items (h.0 t)),
+  λ v. h.1 (all_unmap IsValidItem item_in items v.1),
+)
 
-pub locals_tell : (b : Bool) (f : ProgramFrame) → f.args ≤ length f.locals.items → length f.locals.items ≤ 65535 → (IsTrue b ↔ AllByRecursion (λ x. IsValidLocal (local_in x)) f.locals.items)
+pub locals_tell : (b : Bool) (f : ProgramFrame) → f.args ≤ length f.locals.items → length f.locals.items ≤ 65535
+    → (IsTrue b ↔ AllByRecursion (λ x. IsValidLocal (local_in x)) f.locals.items)
     → IsTrue b ↔ HasValidLocals (frame_in f)
 locals_tell b f args few h = (
   λ t. record {

@@ -28,7 +28,8 @@ use Rattle.memory_builder.proofs.FramesBack.{IsMember, frame_even, length-frame,
 use Rattle.memory_builder.proofs.LocalsBack.{locals_back}
 
 module _ (l : Layout) (sound : IsSound l) (room : HasRoom l) (t : TypesAt) (m : Memory) where
-  module _ (a back : ℕ) (f : Frame) (some : a ≢ 0) (mul : a % 16 ≡ 0) (is : IsFrame l f) (h : IsMember l t m a back f) where
+  module _ (a back : ℕ) (f : Frame) (some : a ≢ 0) (mul : a % 16 ≡ 0) (is : IsFrame l f)
+      (h : IsMember l t m a back f) where
     abbrev member : MemberAt
     member = record { frame_at = a; frame = h.frame; code_at = code_place l a f; code = h.code }
 
@@ -43,9 +44,15 @@ module _ (l : Layout) (sound : IsSound l) (room : HasRoom l) (t : TypesAt) (m : 
     locals_is =
         let at : names_tuple_of l member ≡ tuple_place l a f = h.names_is in
         let first : (x : ℕ) → x ≡ x + 8 * 0 = λ x. omega arith in
-        let words : Stands m (names_tuple_of l member + l.tuple.at + 8 * 0) (address_array (addresses_from (name_size l) (names_place l a f) f.locals)) = rw at (rw (first (tuple_place l a f + l.tuple.at)) at h.words) in
-        let slots : Stands m (a + l.frame.locals + 8 * 0) (address_array (addresses_from (local_size l) (values_place l a f) f.locals)) = rw (first (a + l.frame.locals)) at h.slots in
-        let all = locals_back l sound room t m member f.args h.args_is f.locals 0 (names_place l a f) (values_place l a f) (omega arith) (values_even l sound room t a f mul) is.names words slots h.names h.values in
+        let words : Stands m (names_tuple_of l member + l.tuple.at + 8 * 0)
+        (address_array (addresses_from (name_size l) (names_place l a f) f.locals)) =
+        rw at (rw (first (tuple_place l a f + l.tuple.at)) at h.words) in
+        let slots : Stands m (a + l.frame.locals + 8 * 0) (address_array
+        (addresses_from (local_size l) (values_place l a f) f.locals)) =
+        rw (first (a + l.frame.locals)) at h.slots in
+        let all = locals_back l sound room t m member f.args h.args_is f.locals 0 (names_place l a f)
+        (values_place l a f) (omega arith) (values_even l sound t a f mul) is.names words slots h.names
+        h.values in
         rw (h.count_is, at, h.tuple_is) all
 
     asked_back : (asked : Bool) → asked_locals asked l m member ≡ Ok (asked_for asked l a f)
@@ -65,17 +72,22 @@ module _ (l : Layout) (sound : IsSound l) (room : HasRoom l) (t : TypesAt) (m : 
 
   -- ---- the frames of a thread
 
-  length-shown : (q : Asked) (last : Bool) (a : ℕ) (fs : List Frame) → length (shown_by last (values_at (frame_size l) (λ at f. Some (call_for q l at f)) a fs)) ≡ length fs
+  length-shown : (q : Asked) (last : Bool) (a : ℕ) (fs : List Frame)
+      → length (shown_by last (values_at (frame_size l) (λ at f. Some (call_for q l at f)) a fs)) ≡ length fs
   unfolding shown_by
   length-shown q last a [] = refl
   length-shown q last a (f ∷ fs) = ap suc (length-shown q last (a + frame_size l f) fs)
 
-  pub frames_back : (q : Asked) (a : ℕ) (fs : List Frame) → a ≢ 0 → a % 16 ≡ 0 → length fs ≤ 4096 → AllByRecursion (IsFrame l) fs
-      → Stands m a (laid_chain (frame_size l) (laid_frame l t) a fs) → AreFrames q l m (head_of a fs) (calls_for q l a fs)
+  pub frames_back : (q : Asked) (a : ℕ) (fs : List Frame) → a ≢ 0 → a % 16 ≡ 0 → length fs ≤ 4096
+      → AllByRecursion (IsFrame l) fs
+      → Stands m a (laid_chain (frame_size l) (laid_frame l t) a fs)
+      → AreFrames q l m (head_of a fs) (calls_for q l a fs)
   frames_back q a fs some mul few all s =
       let size = frame_size l in
-      let both = chain_back size (laid_frame l t) (length-frame l sound room t) m (IsFrame l) (λ at f. shown_at q l m at ≡ Ok (Some (call_for q l at f))) (back_of l m) (frame_even l sound room t)
-      (λ at to f some mul below is s. frame_back at to f some mul is (member_back l sound room t m at to f mul below is s) q)
+      let both = chain_back size (laid_frame l t) (length-frame l sound t) m (IsFrame l)
+      (λ at f. shown_at q l m at ≡ Ok (Some (call_for q l at f))) (back_of l m) (frame_even l sound t)
+      (λ at to f some mul below is s. frame_back at to f some mul is
+      (member_back l sound t room m at to f mul below is s) q)
       a fs some mul all s in
       record {
         members = addresses_from size a fs;

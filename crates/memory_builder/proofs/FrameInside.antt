@@ -16,12 +16,22 @@ len-instr InBytes start offset = refl
 len-instr Units start offset = refl
 len-instr Pointer start offset = refl
 
-pub entry_inside : (o : Option ℕ) (n size : ℕ) → ((at : ℕ) → o ≡ Some at → at + 1 ≤ size) → size ≤ n → (optional_write o (U8 1)).at + len_of (optional_write o (U8 1)).value ≤ n
+pub entry_inside : (o : Option ℕ) (n size : ℕ) → ((at : ℕ) → o ≡ Some at → at + 1 ≤ size) → size ≤ n
+    → (optional_write o (U8 1)).at + len_of (optional_write o (U8 1)).value ≤ n
 entry_inside None n size h le = omega arith
 entry_inside (Some at) n size h le = omega (arith, h at refl)
 
-pub frame_inside : (l : Layout) → IsSound l → (code back offset n : ℕ) (slots : List ℕ) → l.frame.size ≤ n → l.frame.locals + length slots ≤ n
+pub frame_inside : (l : Layout) → IsSound l → (code back offset n : ℕ) (slots : List ℕ) → l.frame.size ≤ n
+    → l.frame.locals + length slots ≤ n
     → EndBy n (map write_place (frame_writes l code back offset slots))
 frame_inside l sound code back offset n slots le fits =
-    let f = frame_fits sound in
-    (omega (arith, f.code), (omega (arith, f.back), (omega (arith, f.instr, len-instr l.lasti (start_in l code) offset), (entry_inside l.frame.entry n l.frame.size f.entry le, (omega arith, tt)))))
+    let f = frame_fits sound in (
+      omega (arith, f.code),
+      (
+        omega (arith, f.back),
+        (
+          omega (arith, f.instr, len-instr l.lasti (start_in l code) offset),
+          (entry_inside l.frame.entry n l.frame.size f.entry le, (omega arith, tt)),
+        ),
+      ),
+    )

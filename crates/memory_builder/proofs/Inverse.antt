@@ -26,17 +26,22 @@ use Rattle.memory_builder.proofs.Tellings.{program_shows}
 use Rattle.memory_builder.proofs.Valid.{program_whole}
 
 -- stacks that are right are the same
-same_stacks : (c : Config) (l : Layout) (m : Memory) (lock a : ℕ) (one other : List Trace) → AreStacksOver c l m lock a one → AreStacksOver c l m lock a other → one ≡ other
-same_stacks c l m lock a one other h g = ok_same one other (sym (over_whole c l m lock a one h) ∙ over_whole c l m lock a other g)
+same_stacks : (c : Config) (l : Layout) (m : Memory) (lock a : ℕ) (one other : List Trace)
+    → AreStacksOver c l m lock a one → AreStacksOver c l m lock a other → one ≡ other
+same_stacks c l m lock a one other h g = ok_same one other (sym (over_whole c l m lock a one h)
+    ∙ over_whole c l m lock a other g)
 
-module _ (l : Layout) (sound : IsSound l) (room : HasRoom l) (a : ℕ) (some : a ≢ 0) (mul : a % 16 ≡ 0) (p : Program) (valid : IsValidProgram (family_of l.lines) p) where
-  told_stacks : (m : Memory) → StandsAlone m a (laid_program l a p) → (c : Config) (lock holder_id : ℕ) → holder_id_at l m lock ≡ Ok holder_id
+module _ (l : Layout) (sound : IsSound l) (room : HasRoom l) (a : ℕ) (some : a ≢ 0) (mul : a % 16 ≡ 0) (p : Program)
+    (valid : IsValidProgram (family_of l.lines) p) where
+  told_stacks : (m : Memory) → StandsAlone m a (laid_program l a p) → (c : Config) (lock holder_id : ℕ)
+      → holder_id_at l m lock ≡ Ok holder_id
       → AreStacksOver c l m lock a (program_told c l a holder_id p)
   told_stacks m s c lock holder_id held =
       let is = program_whole l p valid in
       let st : StandProgram l sound m a p = stand_program l sound m a p s.stands in
       subst (λ ts. AreStacksOver c l m lock a ts) (program_shows l sound room m a p some mul is.threads st c holder_id)
-      (over_back l sound m s.none a (modules_word l sound room m a p some mul is st) c lock holder_id p (stacks_held l sound room m a p some mul is st (asked_of c) lock holder_id held))
+      (over_back l sound m s.none a (modules_word l sound room m a p some mul is st) c lock holder_id p
+      (stacks_held l sound room m a p some mul is st (asked_of c) lock holder_id held))
 
   pub tells_stacks : TellsStacks l a p (laid_program l a p)
   tells_stacks m s c lock holder_id held traces =
@@ -51,14 +56,19 @@ module _ (l : Layout) (sound : IsSound l) (room : HasRoom l) (a : ℕ) (some : a
       let st : StandProgram l sound m a p = stand_program l sound m a p s in
       by is st l.gil refl names
     where
-      by : (is : IsWhole l p) (st : StandProgram l sound m a p) (o : Option GilAt) → l.gil ≡ o → NamesOwner o l m a lock p → holder_id_at l m lock ≡ Ok (owner_id p)
-      by is st None e names = owner_held l sound room m a p some mul is st lock names.0 (holder_word l m lock e ∙ names.1)
+      by : (is : IsWhole l p) (st : StandProgram l sound m a p) (o : Option GilAt) → l.gil ≡ o
+          → NamesOwner o l m a lock p → holder_id_at l m lock ≡ Ok (owner_id p)
+      by is st None e names = owner_held l sound room m a p some mul is st lock names.0 (holder_word l m lock e
+          ∙ names.1)
       by is st (Some g) e names =
           let place : gil_place l a ≢ 0 = omega arith in
-          subst (λ n. holder_id_at l m n ≡ Ok (owner_id p)) (sym names) (owner_held l sound room m a p some mul is st (gil_place l a) place (gil_back l sound room m a p some mul is st g e))
+          subst (λ n. holder_id_at l m n ≡ Ok (owner_id p)) (sym names)
+          (owner_held l sound room m a p some mul is st (gil_place l a) place
+          (gil_back l sound room m a p some mul is st g e))
 
   pub tells_interpreter : TellsInterpreter l a (laid_program l a p)
   tells_interpreter = record {
     passes = λ m s. program_is l sound room m a p some mul (program_whole l p valid) (stand_program l sound m a p s);
-    lock = λ m s at e. gil_word l sound room m a p some mul (program_whole l p valid) (stand_program l sound m a p s) at e;
+    lock = λ m s at e. gil_word l sound room m a p some mul (program_whole l p valid)
+        (stand_program l sound m a p s) at e;
   }

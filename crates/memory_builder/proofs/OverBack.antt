@@ -32,18 +32,21 @@ module _ (l : Layout) (sound : IsSound l) (m : Memory) (none : m 0 ≡ None) whe
   dict_none None e = (BadDict, refl)
   dict_none (Some at) e =
       let r = some_is l.dict (λ (x : DictAt). IsRecord x.size (dict_places x)) at sound.groups.dict e in
-      let missing : record_at m 0 at.size ≡ Err (Missing 0 at.size) = record_lack m 0 at.size 0 (omega arith) r.positive none in
+      let missing : record_at m 0 at.size ≡ Err (Missing 0 at.size) =
+      record_lack m 0 at.size 0 (omega arith) r.positive none in
       (Missing 0 at.size, rw missing refl)
 
   no_dict : (e : Fault) × (dict_slots l m 0 ≡ Err e)
   unfolding dict_slots
   no_dict = dict_none l.dict refl
 
-  names_lost : (a : ℕ) → word_at m (a + l.interpreter.modules) ≡ Ok 0 → (id : ℕ) → name_by (interpreter_names_at l m a) id ≡ None
+  names_lost : (a : ℕ) → word_at m (a + l.interpreter.modules) ≡ Ok 0 → (id : ℕ)
+      → name_by (interpreter_names_at l m a) id ≡ None
   unfolding interpreter_names_at
   names_lost a word id = rw (word, no_dict.1) refl
 
-  pub names_none : (a : ℕ) → word_at m (a + l.interpreter.modules) ≡ Ok 0 → (id : ℕ) → name_by (names_at l m a) id ≡ None
+  pub names_none : (a : ℕ) → word_at m (a + l.interpreter.modules) ≡ Ok 0 → (id : ℕ)
+      → name_by (names_at l m a) id ≡ None
   unfolding names_at
   names_none a word id = by l.dicts
     where
@@ -55,18 +58,27 @@ module _ (l : Layout) (sound : IsSound l) (m : Memory) (none : m 0 ≡ None) whe
       by General = lost
       by Compact = lost
 
-unnamed : (names : ℕ → Option (List ℕ)) → ((id : ℕ) → names id ≡ None) → (l : Layout) (q : Asked) (owner a : ℕ) (ts : List Thread)
+unnamed : (names : ℕ → Option (List ℕ)) → ((id : ℕ) → names id ≡ None)
+    → (l : Layout) (q : Asked) (owner a : ℕ) (ts : List Thread)
     → map (by_name names) (map (by_holder owner) (traces_for q l a ts)) ≡ map (by_holder owner) (traces_for q l a ts)
 unnamed names none l q owner a [] = refl
-unnamed names none l q owner a (t ∷ ts) = ap₂ (λ n rest. by_holder owner (record (trace_for q l a t) { thread_name = n }) ∷ rest) (none t.id) (unnamed names none l q owner (a + thread_size l t) ts)
+unnamed names none l q owner a (t ∷ ts) = ap₂ (λ n rest. by_holder owner (record (trace_for q l a t) {
+  thread_name =
+      n;
+}) ∷ rest) (none t.id) (unnamed names none l q owner (a + thread_size l t) ts)
 
 -- ---- the stacks
 
-module _ (l : Layout) (sound : IsSound l) (m : Memory) (none : m 0 ≡ None) (a : ℕ) (word : word_at m (a + l.interpreter.modules) ≡ Ok 0) where
-  pub over_back : (c : Config) (lock owner : ℕ) (p : Program) → AreStacks (asked_of c) l m lock a (stacks_for (asked_of c) l a owner p)
-      → AreStacksOver c l m lock a (map (by_value (value_text l m (value_width c.dump_locals))) (stacks_for (asked_of c) l a owner p))
+module _ (l : Layout) (sound : IsSound l) (m : Memory) (none : m 0 ≡ None) (a : ℕ)
+    (word : word_at m (a + l.interpreter.modules) ≡ Ok 0) where
+  pub over_back : (c : Config) (lock owner : ℕ) (p : Program)
+      → AreStacks (asked_of c) l m lock a (stacks_for (asked_of c) l a owner p)
+      → AreStacksOver c l m lock a (map (by_value (value_text l m (value_width c.dump_locals)))
+      (stacks_for (asked_of c) l a owner p))
   over_back c lock owner p h = record {
     walked = stacks_for (asked_of c) l a owner p;
     stacks = h;
-    tells = ap (map (by_value (value_text l m (value_width c.dump_locals)))) (sym (unnamed (name_by (names_at l m a)) (names_none l sound m none a word) l (asked_of c) owner (first_place l a) p.threads));
+    tells = ap (map (by_value (value_text l m (value_width c.dump_locals))))
+        (sym (unnamed (name_by (names_at l m a)) (names_none l sound m none a word) l (asked_of c) owner
+        (first_place l a) p.threads));
   }

@@ -31,7 +31,8 @@ pub record IsFrame (l : Layout) (f : Frame) : Type 0 where
   pub offset : f.offset < 2 ^ 31
   pub even : f.offset % 2 ≡ 0
   pub table : length (coded_lines l f) < 65536
-  pub line : line_of (ranges_of (family_of l.lines) f.first (coded_lines l f)) (pos f.offset) ≡ line_of f.ranges (pos f.offset)
+  pub line : line_of (ranges_of (family_of l.lines) f.first (coded_lines l f)) (pos f.offset)
+      ≡ line_of f.ranges (pos f.offset)
   pub args : f.args ≤ length f.locals
   pub locals : length f.locals ≤ 65535
   pub names : AllByRecursion (λ (v : Local). IsBriefText v.name) f.locals
@@ -48,7 +49,8 @@ pub record IsThread (l : Layout) (t : Thread) : Type 0 where
 abbrev pub locals_for : Layout → ℕ → ℕ → ℕ → List Local → List LocalVariable
 locals_for l args index a [] = []
 locals_for l args index a (v ∷ vs) =
-    record { name = v.name; addr = a; arg = nat_lt index args; repr = None } ∷ locals_for l args (index + 1) (a + local_size l v) vs
+    record { name = v.name; addr = a; arg = nat_lt index args; repr = None }
+    ∷ locals_for l args (index + 1) (a + local_size l v) vs
 
 abbrev pub asked_for : Bool → Layout → ℕ → Frame → Option (List LocalVariable)
 asked_for false l a f = None
@@ -56,7 +58,8 @@ asked_for true l a f = Some (locals_for l f.args 0 (values_place l a f) f.locals
 
 -- the call of a frame that stands at an address
 abbrev pub call_for : Asked → Layout → ℕ → Frame → Call
-call_for q l a f = with_detail (call_named f.filename f.name true) (detail_with (line_told q.lineno f) (asked_for q.locals l a f))
+call_for q l a f = with_detail (call_named f.filename f.name true)
+    (detail_with (line_told q.lineno f) (asked_for q.locals l a f))
 
 -- those of the frames that are laid from an address on, each marked as the last one is
 abbrev pub calls_for : Asked → Layout → ℕ → List Frame → List Call

@@ -59,7 +59,8 @@ behind family at (r ∷ rs) e =
     omega (arith, s.begins, s.some, behind family r.end rs h.1)
 
 -- an offset inside of one of the ranges is below their end
-below_end : (family : LineFamily) (offset at : ℕ) (rs : List LineRange) → first_unordered family at rs ≡ None → IsTrue (list_any (holds offset) rs)
+below_end : (family : LineFamily) (offset at : ℕ) (rs : List LineRange) → first_unordered family at rs ≡ None
+    → IsTrue (list_any (holds offset) rs)
     → (offset < end_of at rs) × (offset < 2 ^ 31)
 unfolding end_of
 below_end family offset at [] e h = absurd (cc)
@@ -68,9 +69,12 @@ below_end family offset at (r ∷ rs) e h =
     let s = stands_so family at r stand.0 in
     by (holds offset r) refl h s.ends (behind family r.end rs stand.1) (below_end family offset r.end rs stand.1)
   where
-    by : (b : Bool) → holds offset r ≡ b → (b || list_any (holds offset) rs) ≡ true → r.end < 2 ^ 31 → r.end ≤ end_of r.end rs
-        → (IsTrue (list_any (holds offset) rs) → (offset < end_of r.end rs) × (offset < 2 ^ 31)) → (offset < end_of r.end rs) × (offset < 2 ^ 31)
-    by true here e small from rest = let below = holds_so offset r here in (omega (arith, below, from), omega (arith, below, small))
+    by : (b : Bool) → holds offset r ≡ b → (b || list_any (holds offset) rs) ≡ true → r.end < 2 ^ 31
+        → r.end ≤ end_of r.end rs
+        → (IsTrue (list_any (holds offset) rs) → (offset < end_of r.end rs) × (offset < 2 ^ 31))
+        → (offset < end_of r.end rs) × (offset < 2 ^ 31)
+    by true here e small from rest = let below = holds_so offset r here in
+        (omega (arith, below, from), omega (arith, below, small))
     by false here e small from rest = rest e
 
 -- ---- frames
@@ -97,7 +101,8 @@ frame_is l f h =
       offset = below.1;
       even = h.placed.even;
       table = h.codable.short;
-      line = keeps_lines family f.first f.ranges (coded_lines l f) (fits_line f.first h.placed.first) (lines_are f.ranges h.placed.ranges)
+      line = keeps_lines family f.first f.ranges (coded_lines l f) (fits_line f.first h.placed.first)
+          (lines_are f.ranges h.placed.ranges)
           (record { ordered = h.codable.ordered; bytes = refl; short = h.codable.short }) f.offset below.0;
       args = h.locals.args;
       locals = h.locals.few;
@@ -105,20 +110,23 @@ frame_is l f h =
       values = values_of f.locals h.locals.each;
     }
 
-frames_are : (l : Layout) (fs : List Frame) → AllByRecursion (IsValidFrame (family_of l.lines)) fs → AllByRecursion (IsFrame l) fs
+frames_are : (l : Layout) (fs : List Frame) → AllByRecursion (IsValidFrame (family_of l.lines)) fs
+    → AllByRecursion (IsFrame l) fs
 frames_are l [] h = tt
 frames_are l (f ∷ fs) h = (frame_is l f h.0, frames_are l fs h.1)
 
 -- ---- threads
 
-in_thread : (l : Layout) (earlier : List Thread) (o : Option Thread) → ((frame : ℕ) → IfSome o (λ t. IsValidIn (family_of l.lines) earlier t frame)) → IfSome o (IsThread l)
+in_thread : (l : Layout) (earlier : List Thread) (o : Option Thread)
+    → ((frame : ℕ) → IfSome o (λ t. IsValidIn (family_of l.lines) earlier t frame)) → IfSome o (IsThread l)
 in_thread l earlier None h = tt
 in_thread l earlier (Some t) h =
     let alone = (h 0).thread refl in
     record {
       id = alone.fits;
       few = alone.few;
-      frames = frames_are l t.frames (somewhere_all (IsValidFrame (family_of l.lines)) t.frames (λ frame. (h frame).call));
+      frames = frames_are l t.frames (somewhere_all (IsValidFrame (family_of l.lines)) t.frames
+          (λ frame. (h frame).call));
     }
 
 some_thread : (ts : List Thread) → 0 < length ts → ts ≢ []
@@ -129,6 +137,7 @@ pub program_whole : (l : Layout) (p : Program) → IsValidProgram (family_of l.l
 program_whole l p valid = record {
   some = some_thread p.threads ((valid 0 0).whole refl refl).some;
   few = (valid 4096 0).few refl refl;
-  threads = somewhere_all (IsThread l) p.threads (λ k. in_thread l (take k p.threads) (slice_get p.threads k) (λ frame. (valid k frame).within));
+  threads = somewhere_all (IsThread l) p.threads (λ k. in_thread l (take k p.threads) (slice_get p.threads k)
+      (λ frame. (valid k frame).within));
   owner = owner_valid (family_of l.lines) p valid;
 }

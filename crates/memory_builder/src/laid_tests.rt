@@ -1,13 +1,14 @@
 //! Programs that are laid into memory, as the readers of stacks read them.
-ghost use Rattle.py_fields.specs.Sound.{IsSound};
-
 use crate::{
     Program, ProgramFrame, ProgramItem, ProgramLocal, ProgramThread, ProgramValue, family_of,
     first_invalid, laid_program, objects_size,
 };
 use elf64_core::Text;
 use process_memory::{Part, Piece};
-use py_fields::Layout;
+use py_fields::{
+    CframeAt, CodeAt, Dicts, FrameAt, Frames, GilAt, HeapAt, Integers, InterpreterAt, KeysAt,
+    Lasti, Layout, Lines, Lock, Managed, ThreadAt, is_sound,
+};
 use py_lines::LineRange;
 use py_stacks::{Addresses, Config, Frame, LineNo, StackTrace, get_stack_over};
 use std::alloc::Global;
@@ -19,9 +20,80 @@ const START: u64 = 0x60_0000;
 /// More bytes than the objects of a test take.
 const LONGEST: u64 = 0x100_0000;
 
-/// What is read of them.
-const WANT: &str = "[32512] f:300 0 -1 1073741824 1152921504606846975 \
-    \"\" \"a\\\"b\" \"\u{e9}\" \"\u{20ac}\" \"\u{1f600}\" [\"s\", -1] [] <module>:4[7][9] g:5";
+/// What is read of the frames of a program's threads.
+const FIRST: &str = " f:300 0 1 -1 1073741824 -1073741824 1152921504606846975 -1152921504606846975 \
+    \"\" \"a\\\"b\" \"\u{e9}\" \"\u{20ac}\" \"\u{1f600}\" [\"s\", -1] [] <module>:4";
+
+const LAST: &str = " \u{1f600}:5";
+
+fn sample_3_10() -> Layout {
+    Layout {
+        first_minor: 10,
+        last_minor: 10,
+        lasti: Lasti::Units,
+        lines: Lines::Ranges,
+        ..Layout::sample()
+    }
+}
+
+fn sample_3_12() -> Layout {
+    Layout {
+        first_minor: 12,
+        last_minor: 12,
+        lock: Lock::Gil,
+        frames: Frames::Cframe,
+        lasti: Lasti::Pointer,
+        lines: Lines::Locations,
+        integers: Integers::Tagged,
+        dicts: Dicts::Compact,
+        managed: Managed::Tagged,
+        interpreter: InterpreterAt {
+            threads: 8,
+            modules: 16,
+            gil: Some(24),
+        },
+        thread: ThreadAt {
+            size: 96,
+            next: 8,
+            interp: 16,
+            id: 32,
+            frame: 56,
+            native_id: Some(40),
+        },
+        cframe: Some(CframeAt { current: 0 }),
+        frame: FrameAt {
+            size: 80,
+            code: 0,
+            back: 8,
+            instr: 56,
+            entry: Some(70),
+            locals: 72,
+            code_tag_bits: 0,
+        },
+        code: CodeAt {
+            start: Some(64),
+            ..Layout::sample().code
+        },
+        keys: Some(KeysAt {
+            size: 32,
+            used: 24,
+            slots: None,
+            log2: Some(9),
+            kind: Some(10),
+        }),
+        heap: Some(HeapAt {
+            size: 64,
+            cached_keys: 48,
+            inline: 24,
+        }),
+        gil: Some(GilAt {
+            size: 24,
+            locked: 16,
+            holder: 8,
+        }),
+        ..Layout::sample()
+    }
+}
 
 fn local(alloc: Global, name: &str, value: ProgramValue) -> Result<ProgramLocal, Fail> {
     let name = Text::of(alloc, name)?;
@@ -33,15 +105,34 @@ fn locals(alloc: Global) -> Result<Vec<ProgramLocal>, Fail> {
     let words = Text::of(alloc, "s")?;
     let items = vec![in alloc; ProgramItem::Words(words), ProgramItem::Number(-1)]?;
     let mut found = Vec::new(alloc);
-    for number in [0, -1, 1 << 30, (1 << 60) - 1] {
+    for number in [0, 1, -1, 1 << 30, -(1 << 30), (1 << 60) - 1, 1 - (1 << 60)] {
         found.push(local(alloc, "n", ProgramValue::Number(number))?)?;
     }
     for text in ["", "a'b", "\u{e9}", "\u{20ac}", "\u{1f600}"] {
-        let text = Text::of(alloc, text)?;
-        found.push(local(alloc, "t\u{20ac}", ProgramValue::Words(text))?)?;
+        let value = Text::of(alloc, text)?;
+        found.push(local(alloc, text, ProgramValue::Words(value))?)?;
     }
     found.push(local(alloc, "y", ProgramValue::List(items))?)?;
     found.push(local(alloc, "z", ProgramValue::List(Vec::new(alloc)))?)?;
+    Ok(found)
+}
+
+/// A text of so many characters, so many numbers in a list, and so many locals that are numbers.
+fn many(alloc: Global, chars: u32, items: u32, rest: u32) -> Result<Vec<ProgramLocal>, Fail> {
+    let mut text = String::new(alloc);
+    for _ in 0..chars {
+        text.push('a')?;
+    }
+    let mut list = Vec::new(alloc);
+    for _ in 0..items {
+        list.push(ProgramItem::Number(1))?;
+    }
+    let mut found = Vec::new(alloc);
+    found.push(local(alloc, "t", ProgramValue::Words(Text::from(text)))?)?;
+    found.push(local(alloc, "y", ProgramValue::List(list))?)?;
+    for _ in 0..rest {
+        found.push(local(alloc, "n", ProgramValue::Number(1))?)?;
+    }
     Ok(found)
 }
 
@@ -62,7 +153,7 @@ fn frame(
     }
     Ok(ProgramFrame {
         name: Text::of(alloc, name)?,
-        filename: Text::of(alloc, "a.py")?,
+        filename: Text::of(alloc, "\u{e9}.py")?,
         first: 3,
         ranges,
         offset,
@@ -71,23 +162,27 @@ fn frame(
     })
 }
 
-/// Three threads, of which one has no frames and another one has two.
+/// Three threads: of two frames, of none, and of one, which holds the lock.
 fn program(alloc: Global) -> Result<Program, Fail> {
-    let mut frames = Vec::new(alloc);
-    frames.push(frame(alloc, "f", 4, 2, locals(alloc)?)?)?;
-    frames.push(frame(alloc, "<module>", 6, 0, Vec::new(alloc))?)?;
-    let mut last = Vec::new(alloc);
-    last.push(frame(alloc, "g", 0, 0, Vec::new(alloc))?)?;
+    let first = vec![in alloc;
+        frame(alloc, "f", 4, 2, locals(alloc)?)?,
+        frame(alloc, "<module>", 6, 0, Vec::new(alloc))?,
+    ]?;
+    let last = vec![in alloc; frame(alloc, "\u{1f600}", 0, 0, Vec::new(alloc))?]?;
     let mut threads = Vec::new(alloc);
-    threads.push(ProgramThread { id: 32512, frames })?;
-    threads.push(ProgramThread {
-        id: 7,
-        frames: Vec::new(alloc),
-    })?;
-    threads.push(ProgramThread {
-        id: 9,
-        frames: last,
-    })?;
+    for (id, frames) in [(32512, first), (7, Vec::new(alloc)), (9, last)] {
+        threads.push(ProgramThread { id, frames })?;
+    }
+    Ok(Program {
+        threads,
+        owner: Some(2),
+    })
+}
+
+/// A thread of a frame of many locals, of which all are arguments.
+fn wide_program(alloc: Global) -> Result<Program, Fail> {
+    let frames = vec![in alloc; frame(alloc, "f", 4, 300, many(alloc, 4095, 1000, 298)?)?]?;
+    let threads = vec![in alloc; ProgramThread { id: 7, frames }]?;
     Ok(Program {
         threads,
         owner: None,
@@ -110,11 +205,12 @@ fn add_frame_text(alloc: Global, text: &mut String, frame: &Frame) -> Result<(),
     Ok(())
 }
 
-/// What traces say: the threads' ids, and their frames.
+/// What traces say: the threads' ids, whether they hold the lock, and their frames.
 fn text_of(alloc: Global, traces: &[StackTrace]) -> Result<String, Fail> {
     let mut text = String::new(alloc);
     for trace in traces {
-        let head = format!(in alloc; "[{}]", trace.thread_id)?;
+        let mark = if trace.owns_gil { "*" } else { "" };
+        let head = format!(in alloc; "[{}{}]", trace.thread_id, mark)?;
         text.push_str(head.as_str())?;
         for frame in &trace.frames {
             add_frame_text(alloc, &mut text, frame)?;
@@ -123,10 +219,11 @@ fn text_of(alloc: Global, traces: &[StackTrace]) -> Result<String, Fail> {
     Ok(text)
 }
 
-/// The bytes of a program that can be written, and how many its objects are said to take.
-fn laid(alloc: Global, program: &Program, layout: &Layout) -> Result<(Vec<u8>, u64), Fail>
-    requires { IsSound layout.now }
-{
+/// The stacks of a program that can be written, where its objects stand in memory and nothing else does.
+fn read_back(alloc: Global, program: &Program, layout: &Layout, lock: u64) -> Result<String, Fail> {
+    if !is_sound(layout) {
+        return Err(Fail::from("the layout isn't sound"));
+    }
     match first_invalid(alloc, program, family_of(layout.lines))? {
         Some(_) => return Err(Fail::from("it can't be written")),
         None => {}
@@ -136,21 +233,12 @@ fn laid(alloc: Global, program: &Program, layout: &Layout) -> Result<(Vec<u8>, u
         return Err(Fail::from("it is too long"));
     }
     let bytes = laid_program(alloc, program, layout, START)?;
-    Ok((bytes, size))
-}
-
-#[test]
-fn what_is_laid_is_read(rt: HostRuntime) -> Result<(), Fail> {
-    let alloc = rt.alloc();
-    let layout = Layout::sample();
-    let program = program(alloc)?;
-    let (bytes, size) = laid(alloc, &program, &layout)?;
-    assert!(rt; bytes.len() as u64 == size);
-    let mut pieces = Vec::new(alloc);
-    pieces.push(Piece {
-        start: START,
-        bytes,
-    })?;
+    let pieces = vec![in alloc;
+        Piece {
+            start: START,
+            bytes
+        },
+    ]?;
     let mut memory = Part::of(alloc, pieces);
     let config = Config {
         lineno: LineNo::LastInstruction,
@@ -159,10 +247,37 @@ fn what_is_laid_is_read(rt: HostRuntime) -> Result<(), Fail> {
     };
     let addresses = Addresses {
         interpreter: START,
-        lock: 0,
+        lock,
     };
-    let traces = get_stack_over(alloc, &mut memory, &layout, &addresses, &config)?;
-    let text = text_of(alloc, &traces)?;
-    assert!(rt; text.as_str() == WANT, "{text}");
+    let traces = get_stack_over(alloc, &mut memory, layout, &addresses, &config)?;
+    text_of(alloc, &traces)
+}
+
+#[test]
+fn what_is_laid_is_read(rt: HostRuntime) -> Result<(), Fail> {
+    let alloc = rt.alloc();
+    let program = program(alloc)?;
+    let cases = [
+        (Layout::sample(), 0, ""),
+        (sample_3_10(), 0, ""),
+        (sample_3_12(), 0, ""),
+        (sample_3_12(), START + 32, "*"),
+    ];
+    for (layout, lock, mark) in &cases {
+        let text = read_back(alloc, &program, layout, *lock)?;
+        let want = format!(in alloc; "[32512]{}[7][9{}]{}", FIRST, *mark, LAST)?;
+        assert!(rt; text.as_str() == want.as_str(), "{text}");
+    }
+    Ok(())
+}
+
+#[test]
+fn long_values_are_read(rt: HostRuntime) -> Result<(), Fail> {
+    let alloc = rt.alloc();
+    let program = wide_program(alloc)?;
+    for layout in &[sample_3_10(), sample_3_12()] {
+        let text = read_back(alloc, &program, layout, 0)?;
+        assert!(rt; text.as_str().len() == 9 + 4098 + 3001 + 298 * 2);
+    }
     Ok(())
 }

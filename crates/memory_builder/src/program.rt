@@ -230,11 +230,11 @@ pub fn holder_place(
 /// of its locals' names, its file's and function's names, and the names and values of its locals. Each begins at a
 /// multiple of 16 bytes from there.
 ///
-/// Where these bytes stand at `at`, which is a multiple of 16 and not 0, and address 0 has no byte, the stacks of the
-/// interpreter there are exactly those that the program tells: its threads in their order, each with its frames,
-/// their lines, and their locals with their values. The lock's record, or a word that names the owner's thread where
-/// the layout has no such record, tells the owner's id. For that the layout has to have room for the type of a value
-/// beside its other fields.
+/// They are as many as `objects_size` says. Where they stand at `at`, which is a multiple of 16 and not 0, and
+/// address 0 has no byte, the stacks of the interpreter there are exactly those that the program tells: its threads
+/// in their order, each with its frames, their lines, and their locals with their values. The lock's record, or a
+/// word that names the owner's thread where the layout has no such record, tells the owner's id. For that the layout
+/// has to have room for the type of a value beside its other fields.
 ///
 /// The one error is want of memory.
 pub fn laid_program(
@@ -247,6 +247,7 @@ pub fn laid_program(
     requires valid { IsValidProgram (family_of layout.now.lines) (program_in program.now) }
     requires fits { at + program_size layout.now (program_in program.now) < 2 ^ 62 }
     ensures laid { IfOk result (λ found. found.items ≡ laid_program layout.now at (program_in program.now)) }
+    ensures size { IfOk result (λ found. length found.items ≡ program_size layout.now (program_in program.now)) }
     ensures stacks { HasRoom layout.now → IsPlace at → IfOk result
         (λ found. TellsStacks layout.now at (program_in program.now) found.items) }
     ensures owner { HasRoom layout.now → IsPlace at → IfOk result

@@ -13,8 +13,12 @@ use Rattle.object_builder.proofs.TextsBack.{suits}
 pub kind_suits : (l : Layout) (cs : List ℕ) (k : TextKind) → k ≡ kind_for l.strings cs → Suits k cs
 kind_suits l cs k is = subst (λ k. Suits k cs) (sym is) (suits l.strings cs)
 
-pub text_writes_are : (l : Layout) (klass : Option ℕ) (cs : List ℕ) (k : TextKind) (units state start : ℕ) (bytes : List ℕ) (state_write klass_is : Write)
-    → k ≡ kind_for l.strings cs → units ≡ units_of k cs → state ≡ state_by (state_at l.string) k → state_write ≡ optional_write l.string.state (U32 state)
+pub text_writes_are : (l : Layout) (klass : Option ℕ) (cs : List ℕ) (k : TextKind) (units state start : ℕ)
+    (bytes : List ℕ) (state_write klass_is : Write)
+    → k ≡ kind_for l.strings cs → units ≡ units_of k cs → state ≡ state_by (state_at l.string) k
+    → state_write ≡ optional_write l.string.state (U32 state)
     → start ≡ start_of l.string k → bytes ≡ coded k cs → klass_is ≡ klass_write l klass
-    → record { at = l.string.length; value = U64 units } ∷ state_write ∷ record { at = start; value = Bytes bytes } ∷ klass_is ∷ [] ≡ text_writes l klass (kind_for l.strings cs) cs
-text_writes_are l klass cs k units state start bytes state_write klass_is kind_is a b c d e f = rw (c, a, b, d, e, f, kind_is) refl
+    → record { at = l.string.length; value = U64 units } ∷ state_write ∷ record { at = start; value = Bytes bytes }
+    ∷ klass_is ∷ [] ≡ text_writes l klass (kind_for l.strings cs) cs
+text_writes_are l klass cs k units state start bytes state_write klass_is kind_is a b c d e f =
+    rw (c, a, b, d, e, f, kind_is) refl

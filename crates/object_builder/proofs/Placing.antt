@@ -24,18 +24,22 @@ stands_left {m} {a} xs ys s = record {
 pub stands_right : {m : Memory} {a : ℕ} (xs ys : List ℕ) → Stands m a (xs ++ ys) → Stands m (a + length xs) ys
 stands_right {m} {a} xs ys s = record {
   ends = omega (arith, s.ends, length-append xs ys);
-  each = λ k lt. rw (add_assoc a (length xs) k) (s.each (length xs + k) (omega (arith, length-append xs ys)) ∙ ap Some (get_or-append-add xs ys k 0));
+  each = λ k lt. rw (add_assoc a (length xs) k) (s.each (length xs + k) (omega (arith, length-append xs ys))
+      ∙ ap Some (get_or-append-add xs ys k 0));
 }
 
 -- a record is read within its own bytes
-pub record_stands : {m : Memory} {a : ℕ} {bytes : List ℕ} (at n : ℕ) → Stands m a bytes → at + n ≤ length bytes → record_at m (a + at) n ≡ Ok (part at n bytes)
+pub record_stands : {m : Memory} {a : ℕ} {bytes : List ℕ} (at n : ℕ) → Stands m a bytes → at + n ≤ length bytes
+    → record_at m (a + at) n ≡ Ok (part at n bytes)
 record_stands {m} {a} {bytes} at zero s h = record_none m (a + at)
 record_stands {m} {a} {bytes} at (suc n) s h =
     let len : length (part at (suc n) bytes) ≡ suc n = length-part at (suc n) bytes h in
     rw len at (record_each m (a + at) (part at (suc n) bytes) (omega (arith, s.ends))
-    (λ k lt. rw (add_assoc a at k) (s.each (at + k) (omega arith) ∙ ap Some (sym (get_or-part at (suc n) bytes k 0 (omega arith))))))
+    (λ k lt. rw (add_assoc a at k) (s.each (at + k) (omega arith)
+    ∙ ap Some (sym (get_or-part at (suc n) bytes k 0 (omega arith))))))
 
-pub record_stands_first : {m : Memory} {a : ℕ} {bytes : List ℕ} (n : ℕ) → Stands m a bytes → n ≤ length bytes → record_at m a n ≡ Ok (take n bytes)
+pub record_stands_first : {m : Memory} {a : ℕ} {bytes : List ℕ} (n : ℕ) → Stands m a bytes → n ≤ length bytes
+    → record_at m a n ≡ Ok (take n bytes)
 record_stands_first {m} {a} {bytes} n s h = rw add-zero at (record_stands 0 n s (omega arith))
 
 -- an object in front of others
@@ -49,13 +53,19 @@ stands_last o s = stands_left o _ s
 
 pub length-aligned : (o : List ℕ) → length (aligned o) ≡ rounded (length o)
 unfolding aligned
-length-aligned o = omega (arith, length-append o (replicate {A = ℕ} (rounded (length o) - length o) 0), length-replicate {A = ℕ} (rounded (length o) - length o) 0)
+length-aligned o = omega (
+  arith,
+  length-append o (replicate {A = ℕ} (rounded (length o) - length o) 0),
+  length-replicate {A = ℕ} (rounded (length o) - length o) 0,
+)
 
-pub stands_rest : {m : Memory} {a : ℕ} (o rest : List ℕ) (n : ℕ) → length o ≡ n → Stands m a (aligned o ++ rest) → Stands m (a + rounded n) rest
+pub stands_rest : {m : Memory} {a : ℕ} (o rest : List ℕ) (n : ℕ) → length o ≡ n → Stands m a (aligned o ++ rest)
+    → Stands m (a + rounded n) rest
 stands_rest o rest n len s = rw (length-aligned o, len) at (stands_right (aligned o) rest s)
 
 -- a piece of memory stands there, behind pieces that it doesn't meet
-pub stands_first : (a : ℕ) (bytes : List ℕ) (ps : List Region) → a + length bytes < 2 ^ 63 → Stands (byte_at ((a, bytes) ∷ ps)) a bytes
+pub stands_first : (a : ℕ) (bytes : List ℕ) (ps : List Region) → a + length bytes < 2 ^ 63
+    → Stands (byte_at ((a, bytes) ∷ ps)) a bytes
 unfolding byte_at
 stands_first a bytes ps h = record {
   ends = h;
@@ -68,20 +78,30 @@ stands_first a bytes ps h = record {
 
 region_misses : (p : Region) (a : ℕ) → Misses p a 1 → region_byte p a ≡ None
 region_misses p a (inl below) =
-    elim (leb p.0 a) as (λ t. cond t (slice_get p.1 (a - p.0)) None ≡ None) [ true ↦ slice_get_past p.1 (a - p.0) (omega arith) | false ↦ refl ]
+    elim (leb p.0 a) as (λ t. cond t (slice_get p.1 (a - p.0)) None ≡ None) [
+      | true ↦
+          slice_get_past p.1 (a - p.0) (omega arith)
+      | false ↦ refl
+    ]
 region_misses p a (inr above) = let no : leb p.0 a ≡ false = lt-leb p.0 a (omega arith) in rw no refl
 
-pub stands_behind : (p : Region) (ps : List Region) (a : ℕ) (bytes : List ℕ) → Misses p a (length bytes) → Stands (byte_at ps) a bytes → Stands (byte_at (p ∷ ps)) a bytes
+pub stands_behind : (p : Region) (ps : List Region) (a : ℕ) (bytes : List ℕ) → Misses p a (length bytes)
+    → Stands (byte_at ps) a bytes → Stands (byte_at (p ∷ ps)) a bytes
 unfolding byte_at
 stands_behind p ps a bytes apart s = record {
   ends = s.ends;
   each = λ k lt.
-      let none : region_byte p (a + k) ≡ None = region_misses p (a + k) (elim apart [ inl below ↦ inl (omega arith) | inr above ↦ inr (omega arith) ]) in
+      let none : region_byte p (a + k) ≡ None = region_misses p (a + k) (elim apart [
+        | inl below ↦
+            inl (omega arith)
+        | inr above ↦ inr (omega arith)
+      ]) in
       rw none (s.each k lt);
 }
 
 -- a part of what stands, and what was written into it
-pub stands_part : {m : Memory} {a : ℕ} {bytes : List ℕ} (at n : ℕ) → at + n ≤ length bytes → Stands m a bytes → Stands m (a + at) (part at n bytes)
+pub stands_part : {m : Memory} {a : ℕ} {bytes : List ℕ} (at n : ℕ) → at + n ≤ length bytes → Stands m a bytes
+    → Stands m (a + at) (part at n bytes)
 stands_part {m} {a} {bytes} at n h s = record {
   ends = omega (arith, s.ends, length-part at n bytes h);
   each = λ k lt.
@@ -89,12 +109,22 @@ stands_part {m} {a} {bytes} at n h s = record {
       rw (add_assoc a at k) (s.each (at + k) (omega arith) ∙ ap Some (sym (get_or-part at n bytes k 0 below)));
 }
 
-pub stands_write : {m : Memory} {a : ℕ} (n : ℕ) (ws : List Write) (i : ℕ) (w : Write) → IsGroup n (map write_place ws) → slice_get ws i ≡ Some w → Stands m a (object n ws) → Stands m (a + w.at) (bytes_of w.value)
+pub stands_write : {m : Memory} {a : ℕ} (n : ℕ) (ws : List Write) (i : ℕ) (w : Write) → IsGroup n (map write_place ws)
+    → slice_get ws i ≡ Some w → Stands m a (object n ws) → Stands m (a + w.at) (bytes_of w.value)
 stands_write n ws i w g e s =
-    rw (part-object n ws i w g e) at (stands_part w.at (len_of w.value) (omega (arith, length-object n ws g, within n ws i w g e)) s)
+    rw (part-object n ws i w g e) at (stands_part w.at (len_of w.value) (omega (
+      arith,
+      length-object n ws g,
+      within n ws i w g e,
+    )) s)
 
-pub word_stands : {m : Memory} {a : ℕ} (n : ℕ) (ws : List Write) (i at v : ℕ) → IsGroup n (map write_place ws) → slice_get ws i ≡ Some (record { at = at; value = U64 v }) → v < 2 ^ 64 → Stands m a (object n ws) → word_at m (a + at) ≡ Ok v
+pub word_stands : {m : Memory} {a : ℕ} (n : ℕ) (ws : List Write) (i at v : ℕ) → IsGroup n (map write_place ws)
+    → slice_get ws i ≡ Some (record { at = at; value = U64 v }) → v < 2 ^ 64 → Stands m a (object n ws)
+    → word_at m (a + at) ≡ Ok v
 unfolding word_at bytes_of
 word_stands n ws i at v g e fits s =
     let here : at + 8 ≤ n = within n ws i (record { at = at; value = U64 v }) g e in
-    rw (record_stands at 8 s (omega (arith, length-object n ws g)), part-object n ws i (record { at = at; value = U64 v }) g e) (ap Ok (from_le_bytes-to_le_bytes_8 v fits))
+    rw (
+      record_stands at 8 s (omega (arith, length-object n ws g)),
+      part-object n ws i (record { at = at; value = U64 v }) g e,
+    ) (ap Ok (from_le_bytes-to_le_bytes_8 v fits))

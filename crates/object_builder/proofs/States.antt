@@ -45,12 +45,15 @@ module _ (s : StateAt) (bits : AreBits s) where
   apart_bits : s.compact_bit ≢ s.ascii_bit
   apart_bits = other_bit s.compact_bit s.ascii_bit bits.differ
 
-  shift_bits : (k : ℕ) (x y z : ℕ) → bit_at k s.kind_shift ≡ x → bit_at k (s.kind_shift + 1) ≡ y → bit_at k (s.kind_shift + 2) ≡ z → k / 2 ^ s.kind_shift % 8 ≡ x + 2 * y + 4 * z
+  shift_bits : (k : ℕ) (x y z : ℕ) → bit_at k s.kind_shift ≡ x → bit_at k (s.kind_shift + 1) ≡ y
+      → bit_at k (s.kind_shift + 2) ≡ z → k / 2 ^ s.kind_shift % 8 ≡ x + 2 * y + 4 * z
   shift_bits k x y z p q r = three_bits k s.kind_shift ∙ rw (p, q, r) refl
 
   -- two powers, the second beside the kind's bits
-  two_powers : (j i : ℕ) (x : ℕ) → bit_at (2 ^ j) i ≡ x → i ≢ s.compact_bit → x ≤ 1 → bit_at (bit_or (2 ^ j) (2 ^ s.compact_bit)) i ≡ x
-  two_powers j i x p apart le = bit_of_or (2 ^ j) (2 ^ s.compact_bit) i x 0 p (bit_at-pow_other s.compact_bit i apart) ∙ omega arith
+  two_powers : (j i : ℕ) (x : ℕ) → bit_at (2 ^ j) i ≡ x → i ≢ s.compact_bit → x ≤ 1
+      → bit_at (bit_or (2 ^ j) (2 ^ s.compact_bit)) i ≡ x
+  two_powers j i x p apart le = bit_of_or (2 ^ j) (2 ^ s.compact_bit) i x 0 p (bit_at-pow_other s.compact_bit i apart)
+      ∙ omega arith
 
   compact_set : (j : ℕ) → bit_at (bit_or (2 ^ j) (2 ^ s.compact_bit)) s.compact_bit ≡ 1
   compact_set j = bit_at_or (2 ^ j) (2 ^ s.compact_bit) s.compact_bit ∙ rw (bit_at-pow_same s.compact_bit) (omega arith)
@@ -76,8 +79,10 @@ module _ (s : StateAt) (bits : AreBits s) where
       let two = bit_or (2 ^ s.kind_shift) (2 ^ s.compact_bit) in
       let kind : state_of s Utf8 / 2 ^ s.kind_shift % 8 ≡ 1 = shift_bits (state_of s Utf8) 1 0 0
       (with_ascii two s.kind_shift 1 (omega arith) (kind_one s.kind_shift (omega arith)))
-      (with_ascii two (s.kind_shift + 1) 0 (omega arith) (kind_two s.kind_shift (s.kind_shift + 1) (omega arith) (omega arith)))
-      (with_ascii two (s.kind_shift + 2) 0 (omega arith) (kind_two s.kind_shift (s.kind_shift + 2) (omega arith) (omega arith))) in
+      (with_ascii two (s.kind_shift + 1) 0 (omega arith) (kind_two s.kind_shift (s.kind_shift + 1) (omega arith)
+      (omega arith)))
+      (with_ascii two (s.kind_shift + 2) 0 (omega arith) (kind_two s.kind_shift (s.kind_shift + 2) (omega arith)
+      (omega arith))) in
       let ascii : bit_at (state_of s Utf8) s.ascii_bit ≡ 1 = ascii_set two in
       rw (kind, ascii) refl
   kind_is Latin1 =
@@ -85,42 +90,52 @@ module _ (s : StateAt) (bits : AreBits s) where
       let d = beside_ascii in
       let e = apart_bits in
       let kind : state_of s Latin1 / 2 ^ s.kind_shift % 8 ≡ 1 = shift_bits (state_of s Latin1) 1 0 0
-      (kind_one s.kind_shift (omega arith)) (kind_two s.kind_shift (s.kind_shift + 1) (omega arith) (omega arith)) (kind_two s.kind_shift (s.kind_shift + 2) (omega arith) (omega arith)) in
-      let ascii : bit_at (state_of s Latin1) s.ascii_bit ≡ 0 = kind_two s.kind_shift s.ascii_bit (omega arith) (omega arith) in
+      (kind_one s.kind_shift (omega arith)) (kind_two s.kind_shift (s.kind_shift + 1) (omega arith) (omega arith))
+      (kind_two s.kind_shift (s.kind_shift + 2) (omega arith) (omega arith)) in
+      let ascii : bit_at (state_of s Latin1) s.ascii_bit ≡ 0 =
+      kind_two s.kind_shift s.ascii_bit (omega arith) (omega arith) in
       rw (kind, ascii) refl
   kind_is Utf16 =
       let c = beside_compact in
       let kind : state_of s Utf16 / 2 ^ s.kind_shift % 8 ≡ 2 = shift_bits (state_of s Utf16) 0 1 0
-      (kind_two (s.kind_shift + 1) s.kind_shift (omega arith) (omega arith)) (kind_one (s.kind_shift + 1) (omega arith)) (kind_two (s.kind_shift + 1) (s.kind_shift + 2) (omega arith) (omega arith)) in
+      (kind_two (s.kind_shift + 1) s.kind_shift (omega arith) (omega arith)) (kind_one (s.kind_shift + 1) (omega arith))
+      (kind_two (s.kind_shift + 1) (s.kind_shift + 2) (omega arith) (omega arith)) in
       rw kind refl
   kind_is Utf32 =
       let c = beside_compact in
       let kind : state_of s Utf32 / 2 ^ s.kind_shift % 8 ≡ 4 = shift_bits (state_of s Utf32) 0 0 1
-      (kind_two (s.kind_shift + 2) s.kind_shift (omega arith) (omega arith)) (kind_two (s.kind_shift + 2) (s.kind_shift + 1) (omega arith) (omega arith)) (kind_one (s.kind_shift + 2) (omega arith)) in
+      (kind_two (s.kind_shift + 2) s.kind_shift (omega arith) (omega arith))
+      (kind_two (s.kind_shift + 2) (s.kind_shift + 1) (omega arith) (omega arith))
+      (kind_one (s.kind_shift + 2) (omega arith)) in
       rw kind refl
 
-  pub place_is : (t : StringAt) → t.long_at ≡ Some s.long_at → (k : TextKind) (a : ℕ) (object : List ℕ) → place_in t s a object (state_of s k) ≡ a + start_of t k
+  pub place_is : (t : StringAt) → t.long_at ≡ Some s.long_at → (k : TextKind) (a : ℕ) (object : List ℕ)
+      → place_in t s a object (state_of s k) ≡ a + start_of t k
   unfolding place_in state_of
   place_is t long Utf8 a object =
       let d = apart_bits in
       let two = bit_or (2 ^ s.kind_shift) (2 ^ s.compact_bit) in
-      let compact : bit_at (state_of s Utf8) s.compact_bit ≡ 1 = with_ascii two s.compact_bit 1 (omega arith) (compact_set s.kind_shift) in
+      let compact : bit_at (state_of s Utf8) s.compact_bit ≡ 1 =
+      with_ascii two s.compact_bit 1 (omega arith) (compact_set s.kind_shift) in
       let ascii : bit_at (state_of s Utf8) s.ascii_bit ≡ 1 = ascii_set two in
       rw (compact, ascii) refl
   place_is t long Latin1 a object =
       let d = beside_ascii in
       let e = apart_bits in
-      let ascii : bit_at (state_of s Latin1) s.ascii_bit ≡ 0 = kind_two s.kind_shift s.ascii_bit (omega arith) (omega arith) in
+      let ascii : bit_at (state_of s Latin1) s.ascii_bit ≡ 0 =
+      kind_two s.kind_shift s.ascii_bit (omega arith) (omega arith) in
       rw (compact_set s.kind_shift, ascii, long) refl
   place_is t long Utf16 a object =
       let d = beside_ascii in
       let e = apart_bits in
-      let ascii : bit_at (state_of s Utf16) s.ascii_bit ≡ 0 = kind_two (s.kind_shift + 1) s.ascii_bit (omega arith) (omega arith) in
+      let ascii : bit_at (state_of s Utf16) s.ascii_bit ≡ 0 =
+      kind_two (s.kind_shift + 1) s.ascii_bit (omega arith) (omega arith) in
       rw (compact_set (s.kind_shift + 1), ascii, long) refl
   place_is t long Utf32 a object =
       let d = beside_ascii in
       let e = apart_bits in
-      let ascii : bit_at (state_of s Utf32) s.ascii_bit ≡ 0 = kind_two (s.kind_shift + 2) s.ascii_bit (omega arith) (omega arith) in
+      let ascii : bit_at (state_of s Utf32) s.ascii_bit ≡ 0 =
+      kind_two (s.kind_shift + 2) s.ascii_bit (omega arith) (omega arith) in
       rw (compact_set (s.kind_shift + 2), ascii, long) refl
 
   pow_small : (i : ℕ) → i ≤ 31 → 2 ^ i < 2 ^ 32
@@ -128,7 +143,11 @@ module _ (s : StateAt) (bits : AreBits s) where
 
   pub state_small : (k : TextKind) → state_of s k < 2 ^ 32
   unfolding state_of
-  state_small Utf8 = or_lt 32 _ _ (or_lt 32 _ _ (pow_small s.kind_shift (omega (arith, bits.shift))) (pow_small s.compact_bit bits.compact)) (pow_small s.ascii_bit bits.ascii)
-  state_small Latin1 = or_lt 32 _ _ (pow_small s.kind_shift (omega (arith, bits.shift))) (pow_small s.compact_bit bits.compact)
-  state_small Utf16 = or_lt 32 _ _ (pow_small (s.kind_shift + 1) (omega (arith, bits.shift))) (pow_small s.compact_bit bits.compact)
-  state_small Utf32 = or_lt 32 _ _ (pow_small (s.kind_shift + 2) (omega (arith, bits.shift))) (pow_small s.compact_bit bits.compact)
+  state_small Utf8 = or_lt 32 _ _ (or_lt 32 _ _ (pow_small s.kind_shift (omega (arith, bits.shift)))
+      (pow_small s.compact_bit bits.compact)) (pow_small s.ascii_bit bits.ascii)
+  state_small Latin1 = or_lt 32 _ _ (pow_small s.kind_shift (omega (arith, bits.shift)))
+      (pow_small s.compact_bit bits.compact)
+  state_small Utf16 = or_lt 32 _ _ (pow_small (s.kind_shift + 1) (omega (arith, bits.shift)))
+      (pow_small s.compact_bit bits.compact)
+  state_small Utf32 = or_lt 32 _ _ (pow_small (s.kind_shift + 2) (omega (arith, bits.shift)))
+      (pow_small s.compact_bit bits.compact)

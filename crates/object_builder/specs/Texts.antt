@@ -1,6 +1,6 @@
 -- Text objects, as they are written: of the least kind that has all of the characters.
 use Rattle.std.specs.Str.{all_scalars}
-use Rattle.std.specs.Prelude.{◌≡◌, ℕ, ◌+◌, ◌≤◌, ◌<◌, ◌^◌, take, true, Option, Some, None, List, [], ◌∷◌, length, if◌then◌else◌, encode_utf8_all}
+use Rattle.std.specs.Prelude.{Ok, ◌≡◌, ℕ, ◌+◌, ◌≤◌, ◌<◌, ◌^◌, take, true, Option, Some, None, List, [], ◌∷◌, length, if◌then◌else◌, encode_utf8_all}
 use Rattle.std.specs.Option.{unwrap_or}
 use Rattle.std.specs.Int.{w32, to_le_bytes}
 use Rattle.std.specs.Int.RustNames.{bit_or}
@@ -13,7 +13,9 @@ use Rattle.py_builtins.specs.declared.coding.TextKind.{TextKind}
 use Rattle.py_builtins.specs.declared.coding.TextKind.TheVariants.{Utf8, Latin1, Utf16, Utf32}
 use Rattle.py_builtins.specs.declared.strings.StateAt.{StateAt}
 use Rattle.py_builtins.specs.TextKind.{coded}
-use Rattle.py_builtins.specs.Texts.{state_at}
+use Rattle.process_memory.specs.Memory.{Memory}
+use Rattle.py_builtins.specs.Texts.{state_at, text_at}
+use Rattle.object_builder.specs.Placing.{Stands}
 use Rattle.object_builder.specs.Sizes.{all_under, text_len}
 use Rattle.object_builder.specs.Objects.{Write, object, optional_write}
 use Rattle.object_builder.specs.Objects.Value.{U64, U32, Bytes}
@@ -99,3 +101,9 @@ text_writes l klass k cs =
 
 unfoldable pub text_object : Layout → Option ℕ → List ℕ → List ℕ
 text_object l klass cs = object (text_len l cs) (text_writes l klass (kind_for l.strings cs) cs)
+
+-- ---- what it is read as
+
+-- in each memory in which the bytes stand, wherever that is, they are read as the text
+abbrev pub ReadsAsText : Layout → (text bytes : List ℕ) → Type 0
+ReadsAsText l text bytes = (m : Memory) (a : ℕ) → Stands m a bytes → text_at l m a ≡ Ok text

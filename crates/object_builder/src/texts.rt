@@ -1,12 +1,13 @@
 //! Texts, as they are laid: of the least kind that has all of their characters.
-ghost use Rattle.std.specs.Prelude.{◌≡◌, ◌≤◌, ◌<◌, ◌++◌, ◌^◌, ◌+◌, IfOk, Option, encode_utf8_all};
+ghost use Rattle.object_builder.specs.Room.{HasRoom};
+ghost use Rattle.std.specs.Prelude.{drop, length, ◌≡◌, ◌≤◌, ◌<◌, ◌++◌, ◌^◌, ◌+◌, IfOk, Option, encode_utf8_all};
 ghost use Rattle.std.specs.Str.{chars};
 ghost use Rattle.std.specs.List.{flat_map};
 ghost use Rattle.py_builtins.specs.TextKind.{coded};
 ghost use Rattle.py_builtins.specs.Texts.{state_at};
 ghost use Rattle.py_fields.specs.Sound.{IsSound};
 ghost use Rattle.object_builder.specs.Objects.{aligned};
-ghost use Rattle.object_builder.specs.Texts.{AreBits, Suits, code_bytes, kind_for, least_kind, units_of, state_of, state_by, start_of, klass_write, text_object};
+ghost use Rattle.object_builder.specs.Texts.{AreBits, Suits, code_bytes, ReadsAsText, kind_for, least_kind, units_of, state_of, state_by, start_of, klass_write, text_object};
 ghost use Rattle.object_builder.specs.Texts.{IsBriefText};
 ghost use Rattle.object_builder.specs.Writes.{write_of};
 
@@ -161,7 +162,9 @@ fn klass_write(layout: &Layout, klass: Option<u64>) -> Write<'static>
     }
 }
 
-/// Adds a text: one of a type where its address is given. The one error is want of memory.
+/// Adds the object of a text: one of a type where its address is given. It is of the least kind that has all
+/// characters of the text, where texts have a state. Where a layout has room for the type, what was added is read as
+/// the text, wherever it stands in memory. The one error is want of memory.
 #[tactic(auto, unfolding(crate::specs::Texts::text_object))]
 pub fn add_text(
     alloc: Global,
@@ -172,7 +175,10 @@ pub fn add_text(
 ) -> Result<(), AllocError>
     requires sound { IsSound layout.now }
     requires brief { IsBriefText text.now }
-    ensures { IfOk result (λ _. out.new.items ≡ out.old.items ++ aligned (text_object layout.now klass text.now)) }
+    ensures added { IfOk result (λ _. out.new.items ≡ out.old.items
+        ++ aligned (text_object layout.now klass text.now)) }
+    ensures reads { HasRoom layout.now → IfOk result
+        (λ _. ReadsAsText layout.now text.now (drop (length out.old.items) out.new.items)) }
 {
     let kind = kind_for(layout.strings, text);
     let bytes = coded(alloc, kind, text)?;

@@ -18,7 +18,13 @@ returns c =
     let l = c.args.layout.now in
     let raw = c.args.frame.now in
     let s = c.args.spots in
-    let count_is : c.len.result ≡ length (map local_in raw.locals.items) = omega (arith, c.len.ensures, raw.locals.ok.0, length_map local_in raw.locals.items) in
-    let first_is : c.unsigned_abs.result ≡ first_number (frame_in raw) = c.unsigned_abs.ensures.value ∙ ap unsigned_abs (to_z-of_z w32 raw.first (search rules)) in
-    subst (λ (n : ℕ). IfOk c.add_object.result (λ _. c.add_object.new.out.items ≡ c.args.out.now.items ++ aligned (object l.code.size (code_writes l raw.args n (first_number (frame_in raw)) s.file s.name s.table s.tuple)))) count_is
-    (subst (λ (n : ℕ). IfOk c.add_object.result (λ _. c.add_object.new.out.items ≡ c.args.out.now.items ++ aligned (object l.code.size (code_writes l raw.args c.len.result n s.file s.name s.table s.tuple)))) first_is c.add_object.ensures)
+    let count_is : c.len.result ≡ length (map local_in raw.locals.items) =
+    omega (arith, c.len.ensures, raw.locals.ok.0, length_map local_in raw.locals.items) in
+    let first_is : c.unsigned_abs.result ≡ first_number (frame_in raw) = c.unsigned_abs.ensures.value
+    ∙ ap unsigned_abs (to_z-of_z w32 raw.first (search rules)) in
+    subst (λ (n : ℕ). IfOk c.add_object.result (λ _. c.add_object.new.out.items ≡ c.args.out.now.items
+    ++ aligned (object l.code.size (code_writes l raw.args n
+    (first_number (frame_in raw)) s.file s.name s.table s.tuple)))) count_is
+    (subst (λ (n : ℕ). IfOk c.add_object.result (λ _. c.add_object.new.out.items ≡ c.args.out.now.items
+    ++ aligned (object l.code.size (code_writes l raw.args c.len.result n s.file s.name s.table s.tuple)))) first_is
+    c.add_object.ensures)

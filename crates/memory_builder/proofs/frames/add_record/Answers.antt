@@ -16,7 +16,8 @@ add_object-requires-clause-inside c =
         (
           omega (arith, f.instr, len, instr, len-instr l.lasti (c.args.code + c.from.result) c.args.frame.now.offset),
           (
-            subst (λ (w : Write). w.at + len_of w.value ≤ c.frame_len.result) (sym c.optional_write.ensures) (entry_inside l.frame.entry c.frame_len.result l.frame.size f.entry (omega (arith, len))),
+            subst (λ (w : Write). w.at + len_of w.value ≤ c.frame_len.result) (sym c.optional_write.ensures)
+                (entry_inside l.frame.entry c.frame_len.result l.frame.size f.entry (omega (arith, len))),
             (omega (arith, len, c.requires.slots), tt),
           ),
         ),

@@ -12,15 +12,21 @@ pub loop-local-init : goal.loop-local-init
 loop-local-init c = sym (append-nil c.args.out.now.items)
 
 pub add_text-requires-clause-brief : goal.add_text-requires-clause-brief
-add_text-requires-clause-brief c = (item_at IsValidLocal local_in c.args.locals.now c.loop-local.local-index c.local-item.result c.loop-local-test.true c.local-item.is c.requires.valid).name
+add_text-requires-clause-brief c = (item_at IsValidLocal local_in c.args.locals.now c.loop-local.local-index
+    c.local-item.result c.loop-local-test.true c.local-item.is c.requires.valid).name
 
 pub loop-local-preserved : goal.loop-local-preserved
 unfolding laid_name
 loop-local-preserved c =
-    flat_more (laid_name c.args.layout.now) local_in c.args.locals.now c.loop-local.local-index c.local-item.result c.args.out.now.items c.loop-local.out.items c.add_text.new.out.items
-    c.loop-local-test.true c.local-item.is c.loop-local.invariant c.in_ok-add_text.ensures
+    flat_more (laid_name c.args.layout.now) local_in c.args.locals.now c.loop-local.local-index c.local-item.result
+    c.args.out.now.items c.loop-local.out.items c.add_text.new.out.items
+    c.loop-local-test.true c.local-item.is c.loop-local.invariant c.in_ok-add_text.ensures.added
 
 pub returns : goal.returns
 returns c =
     c.loop-local.invariant ∙ ap (λ xs. c.args.out.now.items ++ flat_map (laid_name c.args.layout.now) xs)
-    (take_all (map local_in c.args.locals.now) c.loop-local.local-index (omega (arith, c.loop-local-test.false, length_map local_in c.args.locals.now)))
+    (take_all (map local_in c.args.locals.now) c.loop-local.local-index (omega (
+      arith,
+      c.loop-local-test.false,
+      length_map local_in c.args.locals.now,
+    )))

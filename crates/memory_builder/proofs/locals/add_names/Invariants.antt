@@ -6,4 +6,5 @@ use Rattle.memory_builder.proofs.locals.add_names.Given as goal
 
 -- the names so far
 abbrev pub invariant-loop-local : goal.invariant-loop-local
-invariant-loop-local l = l.out.items ≡ l.fn.out.items ++ flat_map (laid_name l.layout) (take l.local-index (map local_in l.locals))
+invariant-loop-local l = l.out.items ≡ l.fn.out.items ++ flat_map (laid_name l.layout)
+    (take l.local-index (map local_in l.locals))

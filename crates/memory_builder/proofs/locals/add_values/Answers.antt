@@ -14,32 +14,60 @@ unfolding laid_chain
 loop-local-init c = record { out = sym (append-nil c.args.out.now.items); here = omega arith }
 
 pub add_value-requires-clause-valid : goal.add_value-requires-clause-valid
-add_value-requires-clause-valid c = (item_at IsValidLocal local_in c.args.locals.now c.loop-local.local-index c.local-item.result c.loop-local-test.true c.local-item.is c.requires.valid).value
+add_value-requires-clause-valid c = (item_at IsValidLocal local_in c.args.locals.now c.loop-local.local-index
+    c.local-item.result c.loop-local-test.true c.local-item.is c.requires.valid).value
 
 pub add_value-requires-clause-fits : goal.add_value-requires-clause-fits
 unfolding local_size
-add_value-requires-clause-fits c = omega (arith, here_fits (local_size c.args.layout.now) local_in c.args.locals.now c.loop-local.local-index c.local-item.result c.args.at c.loop-local.here c.loop-local-test.true c.local-item.is c.loop-local.invariant.here c.requires.fits)
+add_value-requires-clause-fits c = omega (
+  arith,
+  here_fits (local_size c.args.layout.now) local_in c.args.locals.now
+      c.loop-local.local-index c.local-item.result c.args.at c.loop-local.here c.loop-local-test.true c.local-item.is
+      c.loop-local.invariant.here c.requires.fits,
+)
 
 pub value_size-here-requires-clause-valid : goal.value_size-here-requires-clause-valid
-value_size-here-requires-clause-valid c = (item_at IsValidLocal local_in c.args.locals.now c.loop-local.local-index c.local-item.result c.loop-local-test.true c.local-item.is c.requires.valid).value
+value_size-here-requires-clause-valid c = (item_at IsValidLocal local_in c.args.locals.now c.loop-local.local-index
+    c.local-item.result c.loop-local-test.true c.local-item.is c.requires.valid).value
 
 pub overflow_add-here : goal.overflow_add-here
 unfolding local_size
-overflow_add-here c = omega (arith, here_fits (local_size c.args.layout.now) local_in c.args.locals.now c.loop-local.local-index c.local-item.result c.args.at c.loop-local.here c.loop-local-test.true c.local-item.is c.loop-local.invariant.here c.requires.fits, c.value_size-here.ensures)
+overflow_add-here c = omega (
+  arith,
+  here_fits (local_size c.args.layout.now) local_in c.args.locals.now
+      c.loop-local.local-index c.local-item.result c.args.at c.loop-local.here c.loop-local-test.true c.local-item.is
+      c.loop-local.invariant.here c.requires.fits,
+  c.value_size-here.ensures,
+)
 
 pub loop-local-preserved : goal.loop-local-preserved
 unfolding local_size laid_local
 loop-local-preserved c =
     let l = c.args.layout.now in
-    let one = exact c.value_size-here.result (local_size l (local_in c.local-item.result)) c.value_size-here.ensures (omega (arith, here_fits (local_size c.args.layout.now) local_in c.args.locals.now c.loop-local.local-index c.local-item.result c.args.at c.loop-local.here c.loop-local-test.true c.local-item.is c.loop-local.invariant.here c.requires.fits)) in
+    let one = exact c.value_size-here.result (local_size l (local_in c.local-item.result)) c.value_size-here.ensures
+    (omega (
+      arith,
+      here_fits (local_size c.args.layout.now) local_in c.args.locals.now c.loop-local.local-index
+          c.local-item.result c.args.at c.loop-local.here c.loop-local-test.true c.local-item.is
+          c.loop-local.invariant.here c.requires.fits,
+    )) in
     record {
-      out = all_more (local_size l) (laid_local l c.args.types) local_in c.args.locals.now c.loop-local.local-index c.local-item.result c.args.at c.loop-local.here c.args.out.now.items c.loop-local.out.items c.add_value.new.out.items
-          c.loop-local-test.true c.local-item.is c.loop-local.invariant.out c.loop-local.invariant.here c.in_ok-add_value.ensures;
-      here = here_more (local_size l) local_in c.args.locals.now c.loop-local.local-index c.local-item.result c.args.at c.loop-local.here c.value_size-here.result (c.loop-local.here + c.value_size-here.result)
+      out = all_more (local_size l) (laid_local l c.args.types) local_in c.args.locals.now c.loop-local.local-index
+          c.local-item.result c.args.at c.loop-local.here c.args.out.now.items c.loop-local.out.items
+          c.add_value.new.out.items
+          c.loop-local-test.true c.local-item.is c.loop-local.invariant.out c.loop-local.invariant.here
+          c.in_ok-add_value.ensures;
+      here = here_more (local_size l) local_in c.args.locals.now c.loop-local.local-index c.local-item.result c.args.at
+          c.loop-local.here c.value_size-here.result (c.loop-local.here + c.value_size-here.result)
           c.loop-local-test.true c.local-item.is c.loop-local.invariant.here one refl;
     }
 
 pub returns : goal.returns
 returns c =
-    c.loop-local.invariant.out ∙ ap (λ xs. c.args.out.now.items ++ laid_all (local_size c.args.layout.now) (laid_local c.args.layout.now c.args.types) c.args.at xs)
-    (take_all (map local_in c.args.locals.now) c.loop-local.local-index (omega (arith, c.loop-local-test.false, length_map local_in c.args.locals.now)))
+    c.loop-local.invariant.out ∙ ap (λ xs. c.args.out.now.items
+    ++ laid_all (local_size c.args.layout.now) (laid_local c.args.layout.now c.args.types) c.args.at xs)
+    (take_all (map local_in c.args.locals.now) c.loop-local.local-index (omega (
+      arith,
+      c.loop-local-test.false,
+      length_map local_in c.args.locals.now,
+    )))

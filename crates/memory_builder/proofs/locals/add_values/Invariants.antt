@@ -8,6 +8,7 @@ use Rattle.memory_builder.proofs.locals.add_values.Given as goal
 -- the values so far, and the next address
 abbrev pub invariant-loop-local : goal.invariant-loop-local
 invariant-loop-local l = record {
-  out : l.out.items ≡ l.fn.out.items ++ laid_all (local_size l.layout) (laid_local l.layout l.types) l.at (take l.local-index (map local_in l.locals));
+  out : l.out.items ≡ l.fn.out.items ++ laid_all (local_size l.layout) (laid_local l.layout l.types) l.at
+      (take l.local-index (map local_in l.locals));
   here : l.here ≡ l.at + sum_by (local_size l.layout) (take l.local-index (map local_in l.locals));
 }

@@ -9,6 +9,7 @@ use Rattle.memory_builder.proofs.locals.name_addresses.Given as goal
 -- the addresses so far, and the next one
 abbrev pub invariant-loop-local : goal.invariant-loop-local
 invariant-loop-local l = record {
-  found : l.found.items ≡ address_array (addresses_from (name_size l.layout) l.at (take l.local-index (map local_in l.locals)));
+  found : l.found.items ≡ address_array (addresses_from (name_size l.layout) l.at
+      (take l.local-index (map local_in l.locals)));
   here : l.here ≡ l.at + sum_by (name_size l.layout) (take l.local-index (map local_in l.locals));
 }

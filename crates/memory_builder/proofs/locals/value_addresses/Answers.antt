@@ -15,14 +15,16 @@ unfolding address_array
 loop-local-init c = record { found = c.new-found.ensures.items; here = omega arith }
 
 pub value_size-here-requires-clause-valid : goal.value_size-here-requires-clause-valid
-value_size-here-requires-clause-valid c = (item_at IsValidLocal local_in c.args.locals.now c.loop-local.local-index c.local-item.result c.loop-local-test.true c.local-item.is c.requires.valid).value
+value_size-here-requires-clause-valid c = (item_at IsValidLocal local_in c.args.locals.now c.loop-local.local-index
+    c.local-item.result c.loop-local-test.true c.local-item.is c.requires.valid).value
 
 pub overflow_add-here : goal.overflow_add-here
 unfolding local_size
 overflow_add-here c =
     omega (
       arith,
-      here_fits (local_size c.args.layout.now) local_in c.args.locals.now c.loop-local.local-index c.local-item.result c.args.at c.loop-local.here
+      here_fits (local_size c.args.layout.now) local_in c.args.locals.now c.loop-local.local-index c.local-item.result
+          c.args.at c.loop-local.here
           c.loop-local-test.true c.local-item.is c.loop-local.invariant.here c.requires.fits,
       c.value_size-here.ensures,
     )
@@ -32,14 +34,27 @@ unfolding bytes_of local_size
 loop-local-preserved c =
     let l = c.args.layout.now in
     record {
-      found = address_more (local_size l) local_in c.args.locals.now c.loop-local.local-index c.local-item.result c.args.at c.loop-local.here c.loop-local.found.items c.extend_from_slice.new.self.items
+      found = address_more (local_size l) local_in c.args.locals.now c.loop-local.local-index c.local-item.result
+          c.args.at c.loop-local.here c.loop-local.found.items c.extend_from_slice.new.self.items
           c.loop-local-test.true c.local-item.is c.loop-local.invariant.found c.loop-local.invariant.here
           (c.in_ok-extend_from_slice.ensures.items ∙ ap (λ ys. c.loop-local.found.items ++ ys) c.to_le_bytes.ensures);
-      here = here_more (local_size l) local_in c.args.locals.now c.loop-local.local-index c.local-item.result c.args.at c.loop-local.here c.value_size-here.result (c.loop-local.here + c.value_size-here.result)
-          c.loop-local-test.true c.local-item.is c.loop-local.invariant.here (exact c.value_size-here.result (local_size l (local_in c.local-item.result)) c.value_size-here.ensures (omega (arith, here_fits (local_size c.args.layout.now) local_in c.args.locals.now c.loop-local.local-index c.local-item.result c.args.at c.loop-local.here c.loop-local-test.true c.local-item.is c.loop-local.invariant.here c.requires.fits))) refl;
+      here = here_more (local_size l) local_in c.args.locals.now c.loop-local.local-index c.local-item.result c.args.at
+          c.loop-local.here c.value_size-here.result (c.loop-local.here + c.value_size-here.result)
+          c.loop-local-test.true c.local-item.is c.loop-local.invariant.here
+          (exact c.value_size-here.result (local_size l (local_in c.local-item.result)) c.value_size-here.ensures
+          (omega (
+            arith,
+            here_fits (local_size c.args.layout.now) local_in c.args.locals.now
+                c.loop-local.local-index c.local-item.result c.args.at c.loop-local.here c.loop-local-test.true
+                c.local-item.is c.loop-local.invariant.here c.requires.fits,
+          ))) refl;
     }
 
 pub returns : goal.returns
 returns c =
     c.loop-local.invariant.found ∙ ap (λ xs. address_array (addresses_from (local_size c.args.layout.now) c.args.at xs))
-    (take_all (map local_in c.args.locals.now) c.loop-local.local-index (omega (arith, c.loop-local-test.false, length_map local_in c.args.locals.now)))
+    (take_all (map local_in c.args.locals.now) c.loop-local.local-index (omega (
+      arith,
+      c.loop-local-test.false,
+      length_map local_in c.args.locals.now,
+    )))

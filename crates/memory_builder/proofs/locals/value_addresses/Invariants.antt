@@ -9,6 +9,7 @@ use Rattle.memory_builder.proofs.locals.value_addresses.Given as goal
 -- the addresses so far, and the next one
 abbrev pub invariant-loop-local : goal.invariant-loop-local
 invariant-loop-local l = record {
-  found : l.found.items ≡ address_array (addresses_from (local_size l.layout) l.at (take l.local-index (map local_in l.locals)));
+  found : l.found.items ≡ address_array (addresses_from (local_size l.layout) l.at
+      (take l.local-index (map local_in l.locals)));
   here : l.here ≡ l.at + sum_by (local_size l.layout) (take l.local-index (map local_in l.locals));
 }

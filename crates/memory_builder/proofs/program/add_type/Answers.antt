@@ -11,5 +11,7 @@ returns c =
     let l = c.args.layout.now in
     let place_is = c.rounded.ensures.value ∙ ap rounded c.from.ensures in
     two_added c.add_type_name.result c.add_type_name.new.out.items c.args.out.now.items c.add_type_record.new.out.items
-    (aligned (object l.klass.size (type_writes l (c.args.at + rounded l.klass.size) c.args.flags))) (aligned (type_name c.args.name.now))
-    (c.in_ok-add_type_record.ensures ∙ ap (λ n. c.args.out.now.items ++ aligned (object l.klass.size (type_writes l (c.args.at + n) c.args.flags))) place_is) c.add_type_name.ensures
+    (aligned (object l.klass.size (type_writes l (c.args.at + rounded l.klass.size) c.args.flags)))
+    (aligned (type_name c.args.name.now))
+    (c.in_ok-add_type_record.ensures ∙ ap (λ n. c.args.out.now.items
+    ++ aligned (object l.klass.size (type_writes l (c.args.at + n) c.args.flags))) place_is) c.add_type_name.ensures

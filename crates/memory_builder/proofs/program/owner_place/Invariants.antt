@@ -6,4 +6,5 @@ use Rattle.memory_builder.proofs.program.owner_place.Given as goal
 
 -- where the thread stands that is next
 abbrev pub invariant-loop-thread : goal.invariant-loop-thread
-invariant-loop-thread l = l.here ≡ l.first + sum_by (thread_size l.layout) (take l.thread-index (map program_thread l.thread-items))
+invariant-loop-thread l = l.here ≡ l.first + sum_by (thread_size l.layout)
+    (take l.thread-index (map program_thread l.thread-items))

@@ -6,7 +6,8 @@ use Rattle.memory_builder.proofs.sizes.item_size.Goals as goal
 pub returns-in-Number-clause-value : goal.returns-in-Number-clause-value
 unfolding item_size
 returns-in-Number-clause-value c =
-    subst (λ x. c.rounded.result ≡ item_size c.args.layout.now (item_in x)) (sym c.in-Number.is) (c.rounded.ensures.value ∙ ap rounded c.number_len.ensures.value)
+    subst (λ x. c.rounded.result ≡ item_size c.args.layout.now (item_in x)) (sym c.in-Number.is)
+    (c.rounded.ensures.value ∙ ap rounded c.number_len.ensures.value)
 
 pub returns-in-Words-clause-value : goal.returns-in-Words-clause-value
 unfolding item_size

@@ -11,5 +11,7 @@ unfolding program_size
 returns c =
     let l = c.args.layout.now in
     let shared = c.shared_size.ensures in
-    added_once (shared_size l) (sum_by (thread_size l) (program_in c.args.program.now).threads) c.shared_size.result c.in_ok-threads.threads c.saturating_add.result
-    (shared.value ∙ fits_capped (shared_size l) (omega (arith, shared.value, shared.bound))) c.in_ok-threads.ensures c.saturating_add.ensures
+    added_once (shared_size l) (sum_by (thread_size l) (program_in c.args.program.now).threads) c.shared_size.result
+    c.in_ok-threads.threads c.saturating_add.result
+    (shared.value ∙ fits_capped (shared_size l) (omega (arith, shared.value, shared.bound))) c.in_ok-threads.ensures
+    c.saturating_add.ensures

@@ -15,9 +15,12 @@ returns-clause-value c =
     let raw = c.args.frame.now in
     let f = frame_in raw in
     let table_is : c.in_ok-table_len.table_len ≡ table_len l f =
-    c.in_ok-table_len.ensures.value ∙ ap (λ z. max l.bytes.size (l.bytes.at + length (coded (family_of l.lines) z c.deref.result.now))) (to_z-of_z w32 raw.first (search rules))
-    ∙ ap (λ rs. max l.bytes.size (l.bytes.at + length (coded (family_of l.lines) raw.first rs))) c.deref.ensures.value in
-    records_are l f c.rounded-3.result c.rounded-code.result c.rounded-4.result c.rounded-5.result c.rounded.result c.rounded-2.result
+    c.in_ok-table_len.ensures.value ∙ ap (λ z. max l.bytes.size
+    (l.bytes.at + length (coded (family_of l.lines) z c.deref.result.now))) (to_z-of_z w32 raw.first (search rules))
+    ∙ ap (λ rs. max l.bytes.size (l.bytes.at + length (coded (family_of l.lines) raw.first rs))) c.deref.ensures.value
+    in
+    records_are l f c.rounded-3.result c.rounded-code.result c.rounded-4.result c.rounded-5.result c.rounded.result
+    c.rounded-2.result
     (c.rounded-3.ensures.value ∙ ap rounded c.frame_len-frame_len.ensures.value)
     (c.rounded-code.ensures.value ∙ ap rounded c.from.ensures)
     (c.rounded-4.ensures.value ∙ ap rounded table_is)

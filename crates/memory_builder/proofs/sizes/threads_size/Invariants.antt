@@ -6,4 +6,5 @@ use Rattle.memory_builder.proofs.sizes.threads_size.Given as goal
 
 -- the threads so far
 abbrev pub invariant-loop-thread : goal.invariant-loop-thread
-invariant-loop-thread l = l.total ≡ capped (sum_by (thread_size l.layout) (take l.thread-index (map program_thread l.thread-items)))
+invariant-loop-thread l = l.total ≡ capped (sum_by (thread_size l.layout)
+    (take l.thread-index (map program_thread l.thread-items)))

@@ -12,7 +12,12 @@ unfolding held_size item_size
 returns-in-Number c =
     let l = c.args.layout.now in
     let is = c.rounded.ensures.value ∙ ap rounded c.number_len.ensures.value in
-    let fits = fits_capped (rounded (number_len l)) (omega (arith, c.rounded.ensures.bound, c.number_len.ensures.bound, is)) in
+    let fits = fits_capped (rounded (number_len l)) (omega (
+      arith,
+      c.rounded.ensures.bound,
+      c.number_len.ensures.bound,
+      is,
+    )) in
     subst (λ v. c.rounded.result ≡ capped (held_size l (program_value v))) (sym c.in-Number.is) (is ∙ fits)
 
 pub returns-in-Words : goal.returns-in-Words
@@ -20,7 +25,12 @@ unfolding held_size item_size
 returns-in-Words c =
     let l = c.args.layout.now in
     let is = c.rounded-in-Words.ensures.value ∙ ap rounded c.text_len.ensures.value in
-    let fits = fits_capped (rounded (text_len l c.in-Words.text)) (omega (arith, c.rounded-in-Words.ensures.bound, c.text_len.ensures.bound, is)) in
+    let fits = fits_capped (rounded (text_len l c.in-Words.text)) (omega (
+      arith,
+      c.rounded-in-Words.ensures.bound,
+      c.text_len.ensures.bound,
+      is,
+    )) in
     subst (λ v. c.rounded-in-Words.result ≡ capped (held_size l (program_value v))) (sym c.in-Words.is) (is ∙ fits)
 
 pub returns-in-List : goal.returns-in-List
@@ -28,7 +38,11 @@ unfolding held_size
 returns-in-List c =
     let l = c.args.layout.now in
     let items = c.in-List.items.items in
-    let here : c.list_size.result ≡ capped (rounded (list_len l) + rounded (8 * length items) + sum_by (item_size l) (map item_in items)) =
-    subst (λ (xs : List ProgramItem). c.list_size.result ≡ capped (rounded (list_len l) + rounded (8 * length xs) + sum_by (item_size l) (map item_in xs))) c.deref.ensures.value c.list_size.ensures in
+    let here : c.list_size.result ≡ capped (rounded (list_len l) + rounded (8 * length items) + sum_by (item_size l)
+    (map item_in items)) =
+    subst (λ (xs : List ProgramItem). c.list_size.result ≡ capped
+    (rounded (list_len l) + rounded (8 * length xs) + sum_by (item_size l) (map item_in xs))) c.deref.ensures.value
+    c.list_size.ensures in
     subst (λ v. c.list_size.result ≡ capped (held_size l (program_value v))) (sym c.in-List.is)
-    (here ∙ ap (λ n. capped (rounded (list_len l) + rounded (8 * n) + sum_by (item_size l) (map item_in items))) (sym (length_map item_in items)))
+    (here ∙ ap (λ n. capped (rounded (list_len l) + rounded (8 * n) + sum_by (item_size l) (map item_in items)))
+    (sym (length_map item_in items)))

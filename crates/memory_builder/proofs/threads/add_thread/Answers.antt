@@ -21,7 +21,8 @@ overflow_add-frames_at c =
 
 pub add_frames-requires-clause-valid : goal.add_frames-requires-clause-valid
 add_frames-requires-clause-valid c =
-    subst (λ (xs : List ProgramFrame). AllByRecursion (IsValidFrame (family_of c.args.layout.now.lines)) (map frame_in xs)) (sym c.deref-2.ensures.value) c.requires.valid
+    subst (λ (xs : List ProgramFrame). AllByRecursion (IsValidFrame (family_of c.args.layout.now.lines))
+    (map frame_in xs)) (sym c.deref-2.ensures.value) c.requires.valid
 
 pub add_frames-requires-clause-fits : goal.add_frames-requires-clause-fits
 unfolding thread_size
@@ -38,13 +39,23 @@ returns c =
     let t = program_thread c.args.thread.now in
     let record_is : c.rounded.result ≡ rounded l.thread.size = c.rounded.ensures.value ∙ ap rounded c.from.ensures in
     let cframe_is : c.args.at + c.rounded.result ≡ cframe_place l c.args.at = ap (λ n. c.args.at + n) record_is in
-    let frames_is : c.args.at + c.rounded.result + c.cframe_size.result ≡ frames_place l c.args.at = ap₂ (λ n k. n + k) cframe_is c.cframe_size.ensures.value in
+    let frames_is : c.args.at + c.rounded.result + c.cframe_size.result ≡ frames_place l c.args.at =
+    ap₂ (λ n k. n + k) cframe_is c.cframe_size.ensures.value in
     let first = head_of (frames_place l c.args.at) t.frames in
-    let first_is : c.frames_head-first.result ≡ first = c.frames_head-first.ensures ∙ ap₂ (λ n xs. head_of n (map frame_in xs)) frames_is c.deref.ensures.value in
-    let field_is : c.frame_field-frame.result ≡ frame_field l.cframe (cframe_place l c.args.at) first = c.frame_field-frame.ensures ∙ ap₂ (λ n k. frame_field l.cframe n k) cframe_is first_is in
-    three_added c.add_frames.result c.add_frames.new.out.items c.args.out.now.items c.add_thread_record.new.out.items c.add_cframe.new.out.items
-    (aligned (thread_object l c.args.interp c.args.at c.args.next t)) (laid_cframe l.cframe first) (laid_chain (frame_size l) (laid_frame l c.args.types) (frames_place l c.args.at) t.frames)
-    (c.in_ok-add_thread_record.ensures ∙ ap (λ n. c.args.out.now.items ++ aligned (object l.thread.size (thread_writes l c.args.next c.args.interp t.id n))) field_is)
+    let first_is : c.frames_head-first.result ≡ first = c.frames_head-first.ensures
+    ∙ ap₂ (λ n xs. head_of n (map frame_in xs)) frames_is c.deref.ensures.value in
+    let field_is : c.frame_field-frame.result ≡ frame_field l.cframe (cframe_place l c.args.at) first =
+    c.frame_field-frame.ensures ∙ ap₂ (λ n k. frame_field l.cframe n k) cframe_is first_is in
+    three_added c.add_frames.result c.add_frames.new.out.items c.args.out.now.items c.add_thread_record.new.out.items
+    c.add_cframe.new.out.items
+    (aligned (thread_object l c.args.interp c.args.at c.args.next t)) (laid_cframe l.cframe first)
+    (laid_chain (frame_size l) (laid_frame l c.args.types) (frames_place l c.args.at) t.frames)
+    (c.in_ok-add_thread_record.ensures ∙ ap (λ n. c.args.out.now.items
+    ++ aligned (object l.thread.size (thread_writes l c.args.next c.args.interp t.id n))) field_is)
     (c.in_ok-add_cframe.ensures ∙ ap (λ n. c.add_thread_record.new.out.items ++ laid_cframe l.cframe n) first_is)
-    (subst (λ (n : ℕ). IfOk c.add_frames.result (λ _. c.add_frames.new.out.items ≡ c.add_cframe.new.out.items ++ laid_chain (frame_size l) (laid_frame l c.args.types) n t.frames)) frames_is
-    (subst (λ (xs : List ProgramFrame). IfOk c.add_frames.result (λ _. c.add_frames.new.out.items ≡ c.add_cframe.new.out.items ++ laid_chain (frame_size l) (laid_frame l c.args.types) (c.args.at + c.rounded.result + c.cframe_size.result) (map frame_in xs))) c.deref-2.ensures.value c.add_frames.ensures))
+    (subst (λ (n : ℕ). IfOk c.add_frames.result (λ _. c.add_frames.new.out.items ≡ c.add_cframe.new.out.items
+    ++ laid_chain (frame_size l) (laid_frame l c.args.types) n t.frames)) frames_is
+    (subst (λ (xs : List ProgramFrame). IfOk c.add_frames.result
+    (λ _. c.add_frames.new.out.items ≡ c.add_cframe.new.out.items
+    ++ laid_chain (frame_size l) (laid_frame l c.args.types) (c.args.at + c.rounded.result + c.cframe_size.result)
+    (map frame_in xs))) c.deref-2.ensures.value c.add_frames.ensures))

@@ -10,5 +10,17 @@ unfolding thread_places
 add_object-requires-clause-inside c =
     let at = c.args.layout.now.thread in
     let inside = c.requires.thread.group.inside in
-    let native = subst (λ (p : Place). p.0 + p.1 ≤ at.size) (sym (place_optional at.native_id (U64 c.args.id))) inside.1.1.1.1.0 in
-    (inside.0, (inside.1.0, (inside.1.1.0, (inside.1.1.1.0, (subst (λ (w : Write). w.at + len_of w.value ≤ at.size) (sym c.optional_write.ensures) native, tt)))))
+    let native = subst (λ (p : Place). p.0 + p.1 ≤ at.size)
+    (sym (place_optional at.native_id (U64 c.args.id))) inside.1.1.1.1.0 in (
+      inside.0,
+      (
+        inside.1.0,
+        (
+          inside.1.1.0,
+          (
+            inside.1.1.1.0,
+            (subst (λ (w : Write). w.at + len_of w.value ≤ at.size) (sym c.optional_write.ensures) native, tt),
+          ),
+        ),
+      ),
+    )

@@ -12,9 +12,12 @@ use Rattle.memory_builder.proofs.threads.add_threads.Given as goal
 -- what is added, and the threads that are left, are the whole
 abbrev pub invariant-loop-thread : goal.invariant-loop-thread
 invariant-loop-thread l = record {
-  valid : AllByRecursion (λ (t : Thread). AllByRecursion (IsValidFrame (family_of l.layout.lines)) t.frames) (map program_thread l.rest);
-  whole : l.out.items ++ laid_chain (thread_size l.layout) (laid_thread l.layout l.types l.interp) l.here (map program_thread l.rest)
-      ≡ l.fn.out.items ++ laid_chain (thread_size l.layout) (laid_thread l.layout l.types l.interp) l.at (map program_thread l.threads);
+  valid : AllByRecursion (λ (t : Thread). AllByRecursion (IsValidFrame (family_of l.layout.lines)) t.frames)
+      (map program_thread l.rest);
+  whole : l.out.items ++ laid_chain (thread_size l.layout) (laid_thread l.layout l.types l.interp) l.here
+      (map program_thread l.rest)
+      ≡ l.fn.out.items ++ laid_chain (thread_size l.layout) (laid_thread l.layout l.types l.interp) l.at
+      (map program_thread l.threads);
   fits : l.here + sum_by (thread_size l.layout) (map program_thread l.rest) < 2 ^ 63;
 }
 

@@ -7,7 +7,8 @@ use Rattle.memory_builder.proofs.validity.first_invalid_frame.Goals as goal
 pub returns-then-not-branch : goal.returns-then-not-branch
 returns-then-not-branch c = record {
   fails = λ h.
-      let valid = item_held (IsValidFrame c.args.family) frame_in c.args.frames.now c.loop-i.i c.index-frames-i.result c.loop-i-test.true c.index-frames-i.is h in
+      let valid = item_held (IsValidFrame c.args.family) frame_in c.args.frames.now c.loop-i.i c.index-frames-i.result
+      c.loop-i-test.true c.index-frames-i.is h in
       let yes : IsTrue c.in_ok-is_valid_frame.field-0 = c.in_ok-is_valid_frame.ensures.1 valid in
       cc;
   before = c.loop-i.invariant;
@@ -15,9 +16,11 @@ returns-then-not-branch c = record {
 
 pub loop-i-preserved : goal.loop-i-preserved
 loop-i-preserved c =
-    let here = item_holds (IsValidFrame c.args.family) frame_in c.args.frames.now c.loop-i.i c.index-frames-i.result c.loop-i-test.true c.index-frames-i.is
+    let here = item_holds (IsValidFrame c.args.family) frame_in c.args.frames.now c.loop-i.i c.index-frames-i.result
+    c.loop-i-test.true c.index-frames-i.is
     (c.in_ok-is_valid_frame.ensures.0 c.if-not-branch.false) in
     below_more (IsValidCall c.args.family (map frame_in c.args.frames.now)) c.loop-i.i c.loop-i.invariant here
 
 pub returns : goal.returns
-returns c = each_there (IsValidFrame c.args.family) frame_in c.args.frames.now c.loop-i.i c.loop-i-test.false c.loop-i.invariant
+returns c = each_there (IsValidFrame c.args.family) frame_in c.args.frames.now c.loop-i.i c.loop-i-test.false
+    c.loop-i.invariant

@@ -12,5 +12,11 @@ returns-then-count-le-MOST_LOCALS c =
     let b = c.are_valid_locals.result in
     let f = c.args.frame.now in
     let few = c.if-count-le-MOST_LOCALS.true in
-    let each = subst (λ (xs : List ProgramLocal). IsTrue b ↔ AllByRecursion (λ x. IsValidLocal (local_in x)) xs) c.deref.ensures.value c.are_valid_locals.ensures in
-    locals_tell b f (omega (arith, c.len-count.ensures, few.0, f.locals.ok.0)) (omega (arith, c.len-count.ensures, few.1, f.locals.ok.0)) each
+    let each = subst (λ (xs : List ProgramLocal). IsTrue b ↔ AllByRecursion (λ x. IsValidLocal (local_in x)) xs)
+    c.deref.ensures.value c.are_valid_locals.ensures in
+    locals_tell b f (omega (arith, c.len-count.ensures, few.0, f.locals.ok.0)) (omega (
+      arith,
+      c.len-count.ensures,
+      few.1,
+      f.locals.ok.0,
+    )) each

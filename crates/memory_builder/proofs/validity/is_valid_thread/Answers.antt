@@ -14,7 +14,11 @@ returns-then-is_new c =
     let facts : (0 < t.id) × AllByRecursion (λ other. other.id ≢ t.id) c.args.earlier.now =
     elim c.if-thread-gt0.branch [
       | then-thread-gt0 w ↦ (w.if-thread-gt0.true, w.is_new.ensures.0 (sym w.value-is ∙ c.if-is_new.true))
-      | else-thread-gt0 w ↦ absurd (omega (arith, w.if-thread-gt0.false, ltb-true 0 t.id (sym w.value-is ∙ c.if-is_new.true)))
+      | else-thread-gt0 w ↦ absurd (omega (
+        arith,
+        w.if-thread-gt0.false,
+        ltb-true 0 t.id (sym w.value-is ∙ c.if-is_new.true),
+      ))
     ] in
     let count = length_map frame_in t.frames.items in (
       λ few. record {
@@ -33,7 +37,8 @@ returns-else-is_new c =
       λ yes. let clash : true ≡ false = sym yes ∙ c.if-is_new.false in cc,
       λ (valid : IsValidThread (map program_thread c.args.earlier.now) (program_thread t)).
           elim c.if-thread-gt0.branch [
-            | then-thread-gt0 w ↦ w.value-is ∙ w.is_new.ensures.1 (all_unmap (λ (other : Thread). other.id ≢ t.id) program_thread c.args.earlier.now valid.new)
+            | then-thread-gt0 w ↦ w.value-is ∙ w.is_new.ensures.1
+                (all_unmap (λ (other : Thread). other.id ≢ t.id) program_thread c.args.earlier.now valid.new)
             | else-thread-gt0 w ↦ absurd (omega (arith, w.if-thread-gt0.false, valid.positive))
           ],
     )

@@ -9,6 +9,7 @@ use Rattle.memory_builder.proofs.values.item_addresses.Given as goal
 -- the addresses so far, and the next one
 abbrev pub invariant-loop-item : goal.invariant-loop-item
 invariant-loop-item l = record {
-  found : l.found.items ≡ address_array (addresses_from (item_size l.layout) l.at (take l.item-index (map item_in l.items)));
+  found : l.found.items ≡ address_array (addresses_from (item_size l.layout) l.at
+      (take l.item-index (map item_in l.items)));
   here : l.here ≡ l.at + sum_by (item_size l.layout) (take l.item-index (map item_in l.items));
 }
