@@ -7,7 +7,6 @@ pub mod GeneratedValid
 pub mod Appending
 pub mod Lengths
 pub mod RuntimeWords
-pub mod ObjectsLength
 pub mod Reading
 pub mod SegmentsBack
 pub mod NotesBack

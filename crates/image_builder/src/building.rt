@@ -113,7 +113,7 @@ pub fn build(
         (λ m. FirstTells m (sources_of image_known) (Ok (Some version.now)))) }
     ensures head { HasWordRoom layout.now machine version.now → IfOk result (λ built. InEachMemory built.core.items
         (λ m. head_by layout.now.head image_known version.now layout.now m ≡ built.interpreter ∷ [])) }
-    ensures objects { HasRoom layout.now → IfOk result (λ built. InEachMemory built.core.items
+    ensures objects { IfOk result (λ built. InEachMemory built.core.items
         (λ m. Stands m built.interpreter (built_objects layout.now (program_in program.now)))) }
     ensures named { HasRoom layout.now → HasWordRoom layout.now machine version.now → IfOk result
         (λ built. InEachMemory built.core.items (λ m.
@@ -123,8 +123,7 @@ pub fn build(
             → AreStacksOver config layout.now m built.lock built.interpreter traces
                 ↔ (traces ≡ program_told config layout.now interpreter_at (owner_id (program_in program.now))
                     (program_in program.now)))) }
-    ensures small { HasRoom layout.now → IfOk result
-        (λ built. length built.core.items ≤ room_for layout.now (program_in program.now)) }
+    ensures small { IfOk result (λ built. length built.core.items ≤ room_for layout.now (program_in program.now)) }
 {
     admit(alloc, program, layout, version, machine)?;
     let objects = laid_program(alloc, program, layout, INTERPRETER)?;

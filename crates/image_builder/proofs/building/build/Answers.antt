@@ -24,7 +24,6 @@ use Rattle.image_memory.specs.Images.{Pushed}
 use Rattle.py_process.specs.Lock.{lock_address_of}
 use Rattle.py_stacks.specs.StacksOver.{AreStacksOver}
 use Rattle.object_builder.specs.Placing.{Stands}
-use Rattle.object_builder.specs.Room.{HasRoom}
 use Rattle.memory_builder.specs.Laid.{owner_id}
 use Rattle.memory_builder.specs.ReadBack.{IsPlace, TellsInterpreter, TellsOwner, TellsStacks}
 use Rattle.memory_builder.specs.Told.{program_told}
@@ -35,7 +34,6 @@ use Rattle.image_builder.proofs.MemoryBack.{image_there, in_each, none_at_zero, 
 use Rattle.image_builder.proofs.Numbers.{number_fits, number_is, version_told}
 use Rattle.image_builder.proofs.WordsBack.{head_back, lock_back, version_back}
 use Rattle.image_builder.proofs.Lengths.{length-core, length-image, length-words}
-use Rattle.image_builder.proofs.ObjectsLength.{length-program}
 use Rattle.image_builder.proofs.building.build.Goals as goal
 
 -- the core is of such parts
@@ -114,11 +112,11 @@ module _ (c : goal.After-drop-objects-2) (images : Pushed) (regions : List Regio
   none_zero : byte_at regions 0 ≡ None
   none_zero = none_at_zero c.args.machine (image c) (words c) (objects c) (image_len c) (words_len c) (core_short c) images regions backed
 
-  objects_stand : HasRoom c.args.layout.now → Stands (byte_at regions) interpreter_at (objects c)
-  objects_stand room =
+  objects_stand : Stands (byte_at regions) interpreter_at (objects c)
+  objects_stand =
       let built = c.in_ok-admit.ensures in
-      in_regions interpreter_at (objects c) (objects_there (image c) (words c) (objects c) (image_len c) (words_len c)
-      (omega (arith, built.room, length-program c.args.layout.now c.requires room interpreter_at (program_in c.args.program.now))))
+      let size : length (objects c) ≡ program_size c.args.layout.now (program_in c.args.program.now) = ap length (sym c.in_ok-objects.ensures.laid) ∙ c.in_ok-objects.ensures.size in
+      in_regions interpreter_at (objects c) (objects_there (image c) (words c) (objects c) (image_len c) (words_len c) (omega (arith, built.room, size)))
 
 pub returns-clause-told : goal.returns-clause-told
 returns-clause-told c = λ images regions is.
@@ -133,7 +131,7 @@ returns-clause-head c = λ room images regions is.
     head_back c.args.layout.now c.requires (byte_at regions) c.args.version.now c.args.machine (owner_place c.args.layout.now interpreter_at (program_in c.args.program.now)) room (words_stand c images regions is)
 
 pub returns-clause-objects : goal.returns-clause-objects
-returns-clause-objects c = λ room images regions is. objects_stand c images regions is room
+returns-clause-objects c = λ images regions is. objects_stand c images regions is
 
 place_is : IsPlace interpreter_at
 place_is = record { some = omega arith; even = refl }
@@ -144,7 +142,7 @@ returns-clause-named c = λ room word_room images regions is.
     let v = c.args.version.now in
     let tells = subst (TellsInterpreter l interpreter_at) c.in_ok-objects.ensures.laid (c.in_ok-objects.ensures.interpreter room place_is) in
     let named = lock_back l c.requires (byte_at regions) v c.args.machine (owner_place l interpreter_at (program_in c.args.program.now)) word_room
-        (words_stand c images regions is) (λ at e. tells.lock (byte_at regions) (objects_stand c images regions is room) at e) in
+        (words_stand c images regions is) (λ at e. tells.lock (byte_at regions) (objects_stand c images regions is) at e) in
     subst (λ lock. lock_address_of c.args.machine image_known v l (byte_at regions) interpreter_at ≡ Ok lock) (sym c.lock_address.ensures) named
 
 pub returns-clause-stacks : goal.returns-clause-stacks
@@ -152,7 +150,7 @@ returns-clause-stacks c = λ room word_room images regions is config traces.
     let l = c.args.layout.now in
     let v = c.args.version.now in
     let p = program_in c.args.program.now in
-    let there = objects_stand c images regions is room in
+    let there = objects_stand c images regions is in
     let owner = subst (TellsOwner l interpreter_at p) c.in_ok-objects.ensures.laid (c.in_ok-objects.ensures.owner room place_is) in
     let told = subst (TellsStacks l interpreter_at p) c.in_ok-objects.ensures.laid (c.in_ok-objects.ensures.stacks room place_is) in
     let names = lock_names l c.requires (byte_at regions) v c.args.machine p c.in_ok-admit.ensures.covered word_room (words_stand c images regions is) (omega (arith, c.in_ok-holder.ensures)) there owner in
@@ -160,12 +158,12 @@ returns-clause-stacks c = λ room word_room images regions is config traces.
     subst (λ lock. AreStacksOver config l (byte_at regions) lock interpreter_at traces ↔ (traces ≡ program_told config l interpreter_at (owner_id p) p)) (sym c.lock_address.ensures) right
 
 pub returns-clause-small : goal.returns-clause-small
-returns-clause-small c = λ room.
+returns-clause-small c =
     let l = c.args.layout.now in
     let p = program_in c.args.program.now in
     let built = c.in_ok-admit.ensures in
     let core = ap length c.in_ok-core.ensures ∙ length-core c.args.machine c.deref.result.now c.deref-2.result.now c.deref-3.result.now in
     let image = ap length (c.deref.ensures.value ∙ c.in_ok-image.ensures) ∙ length-image c.args.machine c.number_of.result in
     let words = ap length (c.deref-2.ensures.value ∙ c.in_ok-words.ensures) ∙ length-words l c.args.machine c.args.version.now c.in_ok-holder.holder c.requires in
-    let objects = ap length (c.deref-3.ensures.value ∙ c.in_ok-objects.ensures.laid) ∙ length-program l c.requires room interpreter_at p in
+    let objects = ap length (c.deref-3.ensures.value) ∙ c.in_ok-objects.ensures.size in
     omega (arith, built.room, core, image, words, objects)
