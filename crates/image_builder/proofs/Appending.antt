@@ -1,5 +1,5 @@
 -- What is added to bytes.
-use Rattle.std.proofs.Common.{◌≡◌, ◌∙◌, ◌+◌, ◌-◌, ◌<◌, ◌≤◌, ◌^◌, ℕ, zero, suc, List, [], ◌∷◌, ◌++◌, get_or, length, map, take, refl, sym, ap, ap₂, arith, append_assoc, append-nil, length-append}
+use Rattle.std.proofs.Common.{◌≡◌, ◌∙◌, ◌+◌, ◌-◌, ◌<◌, ◌≤◌, ℕ, zero, suc, List, [], ◌∷◌, ◌++◌, get_or, length, map, take, refl, ap, ap₂, arith, append_assoc, append-nil, length-append}
 use Rattle.std.proofs.Math.ListN.{replicate}
 use Rattle.std.specs.Prelude.{IfOk, Result, Ok, Err, if◌then◌else◌}
 use Rattle.std.specs.Result.{is_ok}
@@ -15,17 +15,21 @@ use Rattle.memory_builder.proofs.Sums.{take_all}
 use Rattle.image_builder.specs.Records.{filled, record_of}
 
 -- what a call added that went well
-pub if_added : {T E : Type 0} (r : Result T E) (new old xs : List ℕ) → new ≡ (if is_ok r then old ++ xs else old) → IfOk r (λ _. new ≡ old ++ xs)
+pub if_added : {T E : Type 0} (r : Result T E) (new old xs : List ℕ) → new ≡ (if is_ok r then old ++ xs else old)
+    → IfOk r (λ _. new ≡ old ++ xs)
 if_added (Ok u) new old xs h = h
 if_added (Err e) new old xs h = tt
 
 -- ---- records
 
 -- one field more
-pub field_more : (xs : List d.Value) (i : ℕ) (x : d.Value) (start out next : List ℕ) → i < length xs → out ≡ start ++ flat_map bytes_of (take i (map value_of xs))
-    → next ≡ out ++ bytes_of (value_of (get_or xs i x)) → next ≡ start ++ flat_map bytes_of (take (i + 1) (map value_of xs))
+pub field_more : (xs : List d.Value) (i : ℕ) (x : d.Value) (start out next : List ℕ) → i < length xs
+    → out ≡ start ++ flat_map bytes_of (take i (map value_of xs))
+    → next ≡ out ++ bytes_of (value_of (get_or xs i x)) → next ≡ start
+    ++ flat_map bytes_of (take (i + 1) (map value_of xs))
 field_more xs i x start out next small so_far added =
-    flat_more bytes_of value_of xs i (get_or xs i x) start out next small (get_or_default xs i x (get_or xs i x) small) so_far added
+    flat_more bytes_of value_of xs i (get_or xs i x) start out next small
+    (get_or_default xs i x (get_or xs i x) small) so_far added
 
 -- how long a record is
 abbrev pub span : List Value → ℕ
@@ -35,11 +39,13 @@ span (v ∷ vs) = len_of v + span vs
 pub length-record : (vs : List Value) → length (record_of vs) ≡ span vs
 unfolding record_of
 length-record [] = refl
-length-record (v ∷ vs) = length-append (bytes_of v) (record_of vs) ∙ ap₂ (λ a b. a + b) (length-bytes_of v) (length-record vs)
+length-record (v ∷ vs) = length-append (bytes_of v) (record_of vs)
+    ∙ ap₂ (λ a b. a + b) (length-bytes_of v) (length-record vs)
 
 -- ---- zeros behind bytes
 
-pub filled_is : (old bytes now : List ℕ) (size k n : ℕ) → length bytes ≤ size → k ≡ length old + size → now ≡ old ++ bytes → n ≡ length now
+pub filled_is : (old bytes now : List ℕ) (size k n : ℕ) → length bytes ≤ size → k ≡ length old + size
+    → now ≡ old ++ bytes → n ≡ length now
     → take k now ++ replicate (k - n) 0 ≡ old ++ filled size bytes
 unfolding filled
 filled_is old bytes now size k n inside k_is now_is n_is =

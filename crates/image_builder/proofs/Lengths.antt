@@ -1,5 +1,5 @@
 -- How long the parts of the files are.
-use Rattle.std.proofs.Common.{◌≡◌, ◌∙◌, ◌+◌, ◌-◌, ◌*◌, ◌/◌, ◌≤◌, ℕ, List, [], ◌∷◌, ◌++◌, length, refl, ap, arith, length-append}
+use Rattle.std.proofs.Common.{◌≡◌, ◌+◌, ◌*◌, ℕ, List, [], ◌∷◌, ◌++◌, length, refl, arith, length-append}
 use Rattle.elf64_core.specs.Notes.{padded}
 use Rattle.elf64_core.specs.declared.header.Machine.{Machine}
 use Rattle.elf64_core.specs.declared.section.Section.{Section}
@@ -21,17 +21,25 @@ use Rattle.image_builder.proofs.Appending.{length-filled, length-record}
 
 -- ---- headers
 
-pub length-header : (kind : ℕ) (machine : Machine) (segments sections_at sections names : ℕ) → length (record_of (file_fields kind machine segments sections_at sections names)) ≡ 64
-length-header kind machine segments sections_at sections names = length-record (file_fields kind machine segments sections_at sections names)
+pub length-header : (kind : ℕ) (machine : Machine) (segments sections_at sections names : ℕ)
+    → length (record_of (file_fields kind machine segments sections_at sections names)) ≡ 64
+length-header kind machine segments sections_at sections names =
+    length-record (file_fields kind machine segments sections_at sections names)
 
 pub length-segment : (s : Segment) → length (record_of (segment_fields s)) ≡ 56
 length-segment s = length-record (segment_fields s)
 
 pub length-segments : (ss : List Segment) → length (segment_headers ss) ≡ 56 * length ss
 length-segments [] = refl
-length-segments (s ∷ ss) = omega (arith, length-append (record_of (segment_fields s)) (segment_headers ss), length-segment s, length-segments ss)
+length-segments (s ∷ ss) = omega (
+  arith,
+  length-append (record_of (segment_fields s)) (segment_headers ss),
+  length-segment s,
+  length-segments ss,
+)
 
-pub length-section : (s : Section) (flags info align entry_size : ℕ) → length (section_header s flags info align entry_size) ≡ 64
+pub length-section : (s : Section) (flags info align entry_size : ℕ)
+    → length (section_header s flags info align entry_size) ≡ 64
 length-section s flags info align entry_size = length-record (section_fields s flags info align entry_size)
 
 pub length-symbol : (name value size : ℕ) → length (record_of (symbol_fields name value size)) ≡ 24
@@ -45,7 +53,13 @@ length-note kind desc =
     let head = record_of (note_fields 5 (length desc) kind) in
     let owner = owner_name ++ owner_padding in
     let body = filled (padded (length desc)) desc in
-    omega (arith, length-append head (owner ++ body), length-append owner body, length-record (note_fields 5 (length desc) kind), length-filled (padded (length desc)) desc (omega arith))
+    omega (
+      arith,
+      length-append head (owner ++ body),
+      length-append owner body,
+      length-record (note_fields 5 (length desc) kind),
+      length-filled (padded (length desc)) desc (omega arith),
+    )
 
 pub length-status : length (record_of status_fields) ≡ 112
 length-status = length-record status_fields
@@ -56,7 +70,14 @@ length-process =
     let head = record_of process_fields in
     let one = filled 16 process_name in
     let two = filled 80 process_name in
-    omega (arith, length-append head (one ++ two), length-append one two, length-record process_fields, length-filled 16 process_name (omega arith), length-filled 80 process_name (omega arith))
+    omega (
+      arith,
+      length-append head (one ++ two),
+      length-append one two,
+      length-record process_fields,
+      length-filled 16 process_name (omega arith),
+      length-filled 80 process_name (omega arith),
+    )
 
 pub length-table : length (record_of table_fields) ≡ 57
 length-table = length-record table_fields
@@ -86,9 +107,17 @@ unfolding core_head
 length-core_head machine objects =
     let head = record_of (file_fields 4 machine 4 0 0 0) in
     let headers = segment_headers (core_segments objects) in
-    omega (arith, length-append head (headers ++ core_notes), length-append headers core_notes, length-header 4 machine 4 0 0 0, length-segments (core_segments objects), length-notes)
+    omega (
+      arith,
+      length-append head (headers ++ core_notes),
+      length-append headers core_notes,
+      length-header 4 machine 4 0 0 0,
+      length-segments (core_segments objects),
+      length-notes,
+    )
 
-pub length-core : (machine : Machine) (image words objects : List ℕ) → length (core_file machine image words objects) ≡ 0x1000 + length image + length words + length objects
+pub length-core : (machine : Machine) (image words objects : List ℕ)
+    → length (core_file machine image words objects) ≡ 0x1000 + length image + length words + length objects
 unfolding core_file
 length-core machine image words objects =
     let head = filled 0x1000 (core_head machine (length objects)) in
@@ -97,12 +126,17 @@ length-core machine image words objects =
       length-append head (image ++ (words ++ objects)),
       length-append image (words ++ objects),
       length-append words objects,
-      length-filled 0x1000 (core_head machine (length objects)) (omega (arith, length-core_head machine (length objects))),
+      length-filled 0x1000 (core_head machine (length objects)) (omega (
+        arith,
+        length-core_head machine (length objects),
+      )),
     )
 
-pub length-words : (l : Layout) (machine : Machine) (v : Version) (holder : ℕ) → IsSound l → length (runtime_words l machine v holder) ≡ 0x2_0000
+pub length-words : (l : Layout) (machine : Machine) (v : Version) (holder : ℕ) → IsSound l
+    → length (runtime_words l machine v holder) ≡ 0x2_0000
 unfolding runtime_words
-length-words l machine v holder sound = length-inside 0x2_0000 (words_writes l machine v holder) (words_inside l machine v holder sound)
+length-words l machine v holder sound = length-inside 0x2_0000 (words_writes l machine v holder)
+    (words_inside l machine v holder sound)
 
 -- ---- the image
 
@@ -170,4 +204,12 @@ length-image machine number =
     let one = filled 0x1000 (image_head machine) in
     let two = filled 0x1000 (bytes_of (U32 number)) in
     let four : length (bytes_of (U32 number)) ≡ 4 = length-bytes_of (U32 number) in
-    omega (arith, length-append one two, length-filled 0x1000 (image_head machine) (omega (arith, length-image_head machine)), length-filled 0x1000 (bytes_of (U32 number)) (omega (arith, four)))
+    omega (
+      arith,
+      length-append one two,
+      length-filled 0x1000 (image_head machine) (omega (
+        arith,
+        length-image_head machine,
+      )),
+      length-filled 0x1000 (bytes_of (U32 number)) (omega (arith, four)),
+    )

@@ -1,6 +1,6 @@
 -- The words of the bss have room beside each other.
-use Rattle.std.proofs.Common.{◌≡◌, ℕ, ◌+◌, ◌≤◌, eqb, leb, cond, true, false, Bool, List, [], ◌∷◌, ◌++◌, map, refl, sym, subst, arith, rules, inl, inr}
-use Rattle.std.specs.Prelude.{Some, None, Option, ⊤, IsSome, IfSome}
+use Rattle.std.proofs.Common.{ℕ, ◌+◌, ◌≤◌, eqb, leb, cond, true, false, Bool, [], ◌∷◌, map, arith, inl, inr}
+use Rattle.std.specs.Prelude.{Some, None, Option, ⊤, IfSome}
 use Rattle.std.specs.Int.{is_in_range}
 use Rattle.elf64_core.specs.declared.header.Machine.{Machine}
 use Rattle.elf64_core.specs.declared.header.Machine.TheVariants.{X86_64, Aarch64, Other}
@@ -28,7 +28,13 @@ pub head_small : (v : Version) → (24 ≤ interp_head_offset v) × (interp_head
 unfolding interp_head_offset
 head_small v =
     chosen (eqb v.major 3) (head_of_3 v.minor) 24 24 40
-    (chosen (is_in_range 8 10 v.minor) 32 _ 24 40 (omega arith, omega arith) (chosen (is_in_range 11 12 v.minor) 40 24 24 40 (omega arith, omega arith) (omega arith, omega arith)))
+    (chosen (is_in_range 8 10 v.minor) 32 _ 24 40 (
+      omega arith,
+      omega arith,
+    ) (chosen (is_in_range 11 12 v.minor) 40 24 24 40 (omega arith, omega arith) (
+      omega arith,
+      omega arith,
+    )))
     (omega arith, omega arith)
 
 abbrev pub InRange : ℕ → Type 0
@@ -44,14 +50,27 @@ picked false o p h k = k
 
 minors_in : (a b c d minor : ℕ) → InRange a → InRange b → InRange c → InRange d → AllIn (by_minor a b c d minor)
 minors_in a b c d minor p q r s =
-    picked (eqb minor 7) (Some a) _ p (picked (eqb minor 8) (Some b) _ q (picked (is_in_range 9 10 minor) (Some c) _ r (picked (eqb minor 11) (Some d) None s tt)))
+    picked (eqb minor 7) (Some a) _ p (picked (eqb minor 8) (Some b) _ q
+    (picked (is_in_range 9 10 minor) (Some c) _ r (picked (eqb minor 11) (Some d) None s tt)))
 
 pub current_in : (machine : Machine) (v : Version) → AllIn (tstate_current_offset machine v)
 unfolding tstate_current_offset
 current_in X86_64 v = picked (eqb v.major 3) (current_of_3 X86_64 v) None
-    (minors_in _ _ 568 576 v.minor (chosen (leb v.patch 3) 1392 1480 568 1496 (omega arith, omega arith) (omega arith, omega arith)) (chosen (is_cinder v.build_metadata) 1384 1368 568 1496 (omega arith, omega arith) (omega arith, omega arith)) (omega arith, omega arith) (omega arith, omega arith)) tt
+    (minors_in _ _ 568 576 v.minor (chosen (leb v.patch 3) 1392 1480 568 1496 (omega arith, omega arith) (
+      omega arith,
+      omega arith,
+    )) (chosen (is_cinder v.build_metadata) 1384 1368 568 1496 (omega arith, omega arith) (
+      omega arith,
+      omega arith,
+    )) (omega arith, omega arith) (omega arith, omega arith)) tt
 current_in Aarch64 v = picked (eqb v.major 3) (current_of_3 Aarch64 v) None
-    (minors_in _ 1384 584 592 v.minor (chosen (leb v.patch 3) 1408 1496 568 1496 (omega arith, omega arith) (omega arith, omega arith)) (omega arith, omega arith) (omega arith, omega arith) (omega arith, omega arith)) tt
+    (minors_in _ 1384 584 592 v.minor (chosen (leb v.patch 3) 1408 1496 568 1496 (
+      omega arith,
+      omega arith,
+    ) (omega arith, omega arith)) (omega arith, omega arith) (omega arith, omega arith) (
+      omega arith,
+      omega arith,
+    )) tt
 current_in Other v = picked (eqb v.major 3) None None tt tt
 
 -- ---- the words lie inside
@@ -64,7 +83,8 @@ head_le Offsets v = omega arith
 abbrev IsLow : Option ℕ → Type 0
 IsLow o = IfSome o (λ at. at ≤ 0x1_0008)
 
-field_le : (h : Head) (o : Option OffsetsAt) → IfSome o (λ o. IsRecord o.size (offsets_places o)) → IsLow (head_field h o)
+field_le : (h : Head) (o : Option OffsetsAt) → IfSome o (λ o. IsRecord o.size (offsets_places o))
+    → IsLow (head_field h o)
 unfolding offsets_places
 field_le Symbol o h = tt
 field_le Runtime o h = tt
@@ -80,11 +100,13 @@ lock_le SymbolLock machine v = omega arith
 lock_le RuntimeLock machine v = low_of (tstate_current_offset machine v) (current_in machine v)
 lock_le Gil machine v = tt
 
-word_inside : (o : Option ℕ) (n : ℕ) → IsLow o → (write_place (optional_write o (U64 n))).0 + (write_place (optional_write o (U64 n))).1 ≤ 0x2_0000
+word_inside : (o : Option ℕ) (n : ℕ) → IsLow o → (write_place (optional_write o (U64 n))).0 +
+    (write_place (optional_write o (U64 n))).1 ≤ 0x2_0000
 word_inside None n h = omega arith
 word_inside (Some at) n h = omega (arith, h)
 
-pub words_inside : (l : Layout) (machine : Machine) (v : Version) (holder : ℕ) → IsSound l → EndBy 0x2_0000 (map write_place (words_writes l machine v holder))
+pub words_inside : (l : Layout) (machine : Machine) (v : Version) (holder : ℕ) → IsSound l
+    → EndBy 0x2_0000 (map write_place (words_writes l machine v holder))
 words_inside l machine v holder sound = (
   omega (arith, head_le l.head v),
   (
@@ -103,33 +125,43 @@ early_meets : (k : ℕ) (o : Option ℕ) → k ≤ 40 → AllIn o → IfSome o (
 early_meets k None near h = tt
 early_meets k (Some at) near h = inl (omega (arith, near, h.0))
 
-field_apart : (h : Head) (o : Option OffsetsAt) (v : Version) → IfSome o (λ o. IsRecord o.size (offsets_places o)) → IfSome (head_field h o) (λ at. Apart (head_place h v, 8) (at, 8))
+field_apart : (h : Head) (o : Option OffsetsAt) (v : Version) → IfSome o (λ o. IsRecord o.size (offsets_places o))
+    → IfSome (head_field h o) (λ at. Apart (head_place h v, 8) (at, 8))
 unfolding offsets_places
 field_apart Symbol o v h = tt
 field_apart Runtime o v h = tt
 field_apart Offsets None v h = tt
 field_apart Offsets (Some o) v h = let inside = h.group.inside.0 in inr (omega (arith, inside, h.short))
 
-word_apart : (h : Head) (k : Lock) (machine : Machine) (v : Version) → IfSome (lock_word_place k machine v) (λ at. Apart (head_place h v, 8) (at, 8))
+word_apart : (h : Head) (k : Lock) (machine : Machine) (v : Version)
+    → IfSome (lock_word_place k machine v) (λ at. Apart (head_place h v, 8) (at, 8))
 word_apart Symbol SymbolLock machine v = inr (omega arith)
-word_apart Symbol RuntimeLock machine v = low_meets 0x1_0010 (tstate_current_offset machine v) (omega arith) (current_in machine v)
+word_apart Symbol RuntimeLock machine v = low_meets 0x1_0010 (tstate_current_offset machine v) (omega arith)
+    (current_in machine v)
 word_apart Symbol Gil machine v = tt
 word_apart Runtime SymbolLock machine v = let small = head_small v in inl (omega (arith, small.1))
-word_apart Runtime RuntimeLock machine v = let small = head_small v in early_meets (interp_head_offset v) (tstate_current_offset machine v) small.1 (current_in machine v)
+word_apart Runtime RuntimeLock machine v = let small = head_small v in
+    early_meets (interp_head_offset v) (tstate_current_offset machine v) small.1 (current_in machine v)
 word_apart Runtime Gil machine v = tt
 word_apart Offsets SymbolLock machine v = inl (omega arith)
-word_apart Offsets RuntimeLock machine v = low_meets 0x1_0000 (tstate_current_offset machine v) (omega arith) (current_in machine v)
+word_apart Offsets RuntimeLock machine v = low_meets 0x1_0000 (tstate_current_offset machine v) (omega arith)
+    (current_in machine v)
 word_apart Offsets Gil machine v = tt
 
-all_apart : (a x y z : ℕ) (f k : Option ℕ) → IfSome f (λ at. Apart (a, 8) (at, 8)) → IfSome k (λ at. Apart (a, 8) (at, 8)) → IfSome f (λ b. IfSome k (λ c. Apart (b, 8) (c, 8)))
-    → AreApart (map write_place (record { at = a; value = U64 x } ∷ optional_write f (U64 y) ∷ optional_write k (U64 z) ∷ []))
+all_apart : (a x y z : ℕ) (f k : Option ℕ) → IfSome f (λ at. Apart (a, 8) (at, 8))
+    → IfSome k (λ at. Apart (a, 8) (at, 8)) → IfSome f (λ b. IfSome k (λ c. Apart (b, 8) (c, 8)))
+    → AreApart (map write_place (record { at = a; value = U64 x } ∷ optional_write f (U64 y) ∷ optional_write k (U64 z)
+    ∷ []))
 all_apart a x y z None None p q r = ((inr (omega arith), (inr (omega arith), tt)), ((inl (omega arith), tt), (tt, tt)))
 all_apart a x y z None (Some c) p q r = ((inr (omega arith), (q, tt)), ((inl (omega arith), tt), (tt, tt)))
 all_apart a x y z (Some b) None p q r = ((p, (inr (omega arith), tt)), ((inr (omega arith), tt), (tt, tt)))
 all_apart a x y z (Some b) (Some c) p q r = ((p, (q, tt)), ((r, tt), (tt, tt)))
 
-pub words_group : (l : Layout) (machine : Machine) (v : Version) (holder : ℕ) → IsSound l → HasWordRoom l machine v → IsGroup 0x2_0000 (map write_place (words_writes l machine v holder))
+pub words_group : (l : Layout) (machine : Machine) (v : Version) (holder : ℕ) → IsSound l → HasWordRoom l machine v
+    → IsGroup 0x2_0000 (map write_place (words_writes l machine v holder))
 words_group l machine v holder sound room = record {
   inside = words_inside l machine v holder sound;
-  apart = all_apart (head_place l.head v) 0x60_0000 0x1_0000 holder (head_field l.head l.offsets) (lock_word_place l.lock machine v) (field_apart l.head l.offsets v sound.groups.offsets) (word_apart l.head l.lock machine v) room;
+  apart = all_apart (head_place l.head v) 0x60_0000 0x1_0000 holder (head_field l.head l.offsets)
+      (lock_word_place l.lock machine v) (field_apart l.head l.offsets v sound.groups.offsets)
+      (word_apart l.head l.lock machine v) room;
 }

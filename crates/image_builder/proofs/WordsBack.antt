@@ -1,5 +1,5 @@
 -- The words of the bss lead to the interpreter and to the lock, and the image's number to the version.
-use Rattle.std.proofs.Common.{◌≡◌, ℕ, ◌+◌, ◌-◌, ◌<◌, ◌≤◌, ◌^◌, cond, List, [], ◌∷◌, ◌++◌, length, map, take, refl, sym, ap, ap₂, ◌∙◌, arith, rules, subst}
+use Rattle.std.proofs.Common.{◌≡◌, ℕ, ◌+◌, ◌-◌, ◌<◌, ◌^◌, cond, List, [], ◌∷◌, map, take, refl, sym, ap, ap₂, ◌∙◌, arith, rules, subst}
 use Rattle.std.specs.Prelude.{Some, None, Option, Ok, Err, IsSome, slice_get}
 use Rattle.std.specs.Option.{unwrap_or}
 use Rattle.std.specs.Int.{w32, to_le_bytes}
@@ -9,7 +9,7 @@ use Rattle.elf64_core.specs.Fields.{u64_in}
 use Rattle.elf64_core.specs.declared.header.Machine.{Machine}
 use Rattle.process_memory.specs.Memory.{Memory, Found, record_at, word_at}
 use Rattle.process_memory.specs.Memory.Fault.{Missing}
-use Rattle.py_version.specs.Offsets.{interp_head_offset, tstate_current_offset}
+use Rattle.py_version.specs.Offsets.{tstate_current_offset}
 use Rattle.py_version.specs.declared.version.Version.{Version}
 use Rattle.py_fields.specs.Places.{IsGroup, offsets_places}
 use Rattle.py_fields.specs.Sound.{IsSound, IsRecord}
@@ -39,7 +39,8 @@ some_of : {T : Type 0} (o : Option T) → IsSome o → (x : T) × (o ≡ Some x)
 some_of None e = absurd (search rules)
 some_of (Some x) e = (x, refl)
 
-module _ (l : Layout) (sound : IsSound l) (m : Memory) (v : Version) (machine : Machine) (holder : ℕ) (room : HasWordRoom l machine v) (s : Stands m 0x50_0000 (runtime_words l machine v holder)) where
+module _ (l : Layout) (sound : IsSound l) (m : Memory) (v : Version) (machine : Machine) (holder : ℕ)
+    (room : HasWordRoom l machine v) (s : Stands m 0x50_0000 (runtime_words l machine v holder)) where
   abbrev ws : List Write
   ws = words_writes l machine v holder
 
@@ -50,7 +51,8 @@ module _ (l : Layout) (sound : IsSound l) (m : Memory) (v : Version) (machine : 
   unfolding runtime_words
   stand = s
 
-  word_here : (i at n : ℕ) → slice_get ws i ≡ Some (record { at = at; value = U64 n }) → n < 2 ^ 64 → word_at m (0x50_0000 + at) ≡ Ok n
+  word_here : (i at n : ℕ) → slice_get ws i ≡ Some (record { at = at; value = U64 n }) → n < 2 ^ 64
+      → word_at m (0x50_0000 + at) ≡ Ok n
   word_here i at n e fits = word_stands 0x2_0000 ws i at n group e fits stand
 
   head_word : word_at m (0x50_0000 + head_place l.head v) ≡ Ok interpreter_at
@@ -59,15 +61,18 @@ module _ (l : Layout) (sound : IsSound l) (m : Memory) (v : Version) (machine : 
   head_at : (h : Head) → l.head ≡ h → word_at m (0x50_0000 + head_place h v) ≡ Ok interpreter_at
   head_at h e = subst (λ h. word_at m (0x50_0000 + head_place h v) ≡ Ok interpreter_at) e head_word
 
-  offsets_head : (o : OffsetsAt) → l.head ≡ Offsets → l.offsets ≡ Some o → head_by_offsets o m 0x50_0000 ≡ Ok interpreter_at
+  offsets_head : (o : OffsetsAt) → l.head ≡ Offsets → l.offsets ≡ Some o
+      → head_by_offsets o m 0x50_0000 ≡ Ok interpreter_at
   unfolding head_by_offsets offsets_places
   offsets_head o h e =
       let r = some_is l.offsets (λ (o : OffsetsAt). IsRecord o.size (offsets_places o)) o sound.groups.offsets e in
       let short = r.short in
       let object_is = object 0x2_0000 ws in
       let field = ap (λ x. Some (optional_write x (U64 0x1_0000))) (ap₂ head_field h e) in
-      let read : record_at m 0x50_0000 o.size ≡ Ok (take o.size object_is) = record_stands_first o.size stand (omega (arith, length-object 0x2_0000 ws group)) in
-      let first : u64_in (take o.size object_is) o.head ≡ 0x1_0000 = u64_read 0x2_0000 ws group o.size (omega arith) 1 o.head 0x1_0000 field (omega arith) r.group.inside.0 in
+      let read : record_at m 0x50_0000 o.size ≡ Ok (take o.size object_is) =
+      record_stands_first o.size stand (omega (arith, length-object 0x2_0000 ws group)) in
+      let first : u64_in (take o.size object_is) o.head ≡ 0x1_0000 =
+      u64_read 0x2_0000 ws group o.size (omega arith) 1 o.head 0x1_0000 field (omega arith) r.group.inside.0 in
       let second : word_at m (0x50_0000 + 0x1_0000) ≡ Ok interpreter_at = head_at Offsets h in
       rw (read, first) second
 
@@ -83,19 +88,23 @@ module _ (l : Layout) (sound : IsSound l) (m : Memory) (v : Version) (machine : 
 
   -- ---- the lock
 
-  pub lock_word_back : (at : ℕ) → lock_word_place l.lock machine v ≡ Some at → holder < 2 ^ 64 → word_at m (0x50_0000 + at) ≡ Ok holder
+  pub lock_word_back : (at : ℕ) → lock_word_place l.lock machine v ≡ Some at → holder < 2 ^ 64
+      → word_at m (0x50_0000 + at) ≡ Ok holder
   lock_word_back at e fits = word_here 2 at holder (ap (λ o. Some (optional_write o (U64 holder))) e) fits
 
-  pub lock_back : ((at : ℕ) → l.interpreter.gil ≡ Some at → word_at m (interpreter_at + at) ≡ Ok (gil_place l interpreter_at))
+  pub lock_back : ((at : ℕ) → l.interpreter.gil ≡ Some at →
+      word_at m (interpreter_at + at) ≡ Ok (gil_place l interpreter_at))
       → lock_address_of machine image_known v l m interpreter_at ≡ Ok (built_lock l v machine)
   unfolding lock_address_of lock_found
   lock_back gil_word = by l.lock refl
     where
       in_record : (o : Option ℕ) → AllIn o → unwrap_or (in_runtime (Some 0x50_0000) o) (Ok 0) ≡ Ok (runtime_lock o)
       in_record None h = refl
-      in_record (Some at) h = ap (λ t. cond {A = Found ℕ} t (Ok (0x50_0000 + at)) (Err (Missing (2 ^ 64 - 1) 8))) (lt-ltb (0x50_0000 + at) (2 ^ 64) (omega (arith, h.1)))
+      in_record (Some at) h = ap (λ t. cond {A = Found ℕ} t (Ok (0x50_0000 + at)) (Err (Missing (2 ^ 64 - 1) 8)))
+          (lt-ltb (0x50_0000 + at) (2 ^ 64) (omega (arith, h.1)))
 
-      by : (k : Lock) → l.lock ≡ k → unwrap_or (lock_by k machine image_known v l m interpreter_at) (Ok 0) ≡ Ok (built.lock_by k l v machine)
+      by : (k : Lock) → l.lock ≡ k → unwrap_or (lock_by k machine image_known v l m interpreter_at) (Ok 0)
+          ≡ Ok (built.lock_by k l v machine)
       by SymbolLock e = refl
       by RuntimeLock e = in_record (tstate_current_offset machine v) (current_in machine v)
       by Gil e =
@@ -105,8 +114,13 @@ module _ (l : Layout) (sound : IsSound l) (m : Memory) (v : Version) (machine : 
 -- ---- the version
 
 -- the number at `Py_Version` tells the version
-pub version_back : (m : Memory) (number : ℕ) → number < 2 ^ 32 → Stands m 0x40_1000 (to_le_bytes w32 number) → FirstTells m (sources_of image_known) (Ok (Some (version_of_number number)))
+pub version_back : (m : Memory) (number : ℕ) → number < 2 ^ 32 → Stands m 0x40_1000 (to_le_bytes w32 number)
+    → FirstTells m (sources_of image_known) (Ok (Some (version_of_number number)))
 unfolding sources_of FirstTells
 version_back m number fits s =
-    let read : record_at m 0x40_1000 4 ≡ Ok (to_le_bytes w32 number) = record_stands_first 4 s (omega arith) ∙ refl in
-    (Ok (Some (version_of_number number)), sym (rw read (ap (λ n. Ok (Some (version_of_number n))) (from_le_bytes-to_le_bytes_4 number fits))), refl)
+    let read : record_at m 0x40_1000 4 ≡ Ok (to_le_bytes w32 number) = record_stands_first 4 s (omega arith) ∙ refl in (
+      Ok (Some (version_of_number number)),
+      sym (rw read (ap (λ n. Ok (Some (version_of_number n)))
+          (from_le_bytes-to_le_bytes_4 number fits))),
+      refl,
+    )

@@ -1,5 +1,5 @@
 -- The core and the image of a program.
-use Rattle.std.specs.Prelude.{◌≡◌, ℕ, ◌+◌, Option, Some, None, List, unwrap_or}
+use Rattle.std.specs.Prelude.{ℕ, ◌+◌, Option, Some, None, List}
 use Rattle.elf64_core.specs.declared.header.Machine.{Machine}
 use Rattle.py_fields.specs.declared.layout.Layout.{Layout}
 use Rattle.py_fields.specs.declared.layout.Lock.{Lock}

@@ -1,12 +1,11 @@
 -- What the readers of cores find in a core that was built.
-use Rattle.std.specs.Prelude.{ℕ, ◌+◌, Option, Some, None, List, [], ◌∷◌, length, pos}
+use Rattle.std.specs.Prelude.{ℕ, Option, Some, None, List, [], ◌∷◌, pos}
 use Rattle.process_memory.specs.Memory.{Memory, Region, byte_at}
 use Rattle.image_memory.specs.Backed.{IsBackedMemory}
 use Rattle.image_memory.specs.Images.{Pushed}
 use Rattle.image_memory.specs.declared.maps.CoreMapRange.{CoreMapRange}
 use Rattle.image_memory.specs.declared.records.elf_prstatus.{elf_prstatus}
 use Rattle.image_memory.specs.declared.records.elf_prpsinfo.{elf_prpsinfo}
-use Rattle.elf64_core.specs.declared.segment.Segment.{Segment}
 use Rattle.image_builder.specs.CoreFiles.{image_path, process_name}
 use Rattle.image_builder.specs.Records.{filled}
 

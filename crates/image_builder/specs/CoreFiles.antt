@@ -1,8 +1,7 @@
 -- The core of a program, as Linux writes cores of 64-bit processes: the headers, the notes, and the memory of three
 -- segments, each from a page of the file on. Which addresses they have, and what the notes say, is this project's own.
-use Rattle.std.specs.Prelude.{ℕ, ◌+◌, ◌-◌, List, [], ◌∷◌, ◌++◌, length, codes}
+use Rattle.std.specs.Prelude.{ℕ, List, [], ◌∷◌, ◌++◌, length, codes}
 use Rattle.std.specs.List.{flat_map}
-use Rattle.std.proofs.Math.ListN.{replicate}
 use Rattle.elf64_core.specs.Notes.{padded}
 use Rattle.elf64_core.specs.declared.header.Machine.{Machine}
 use Rattle.elf64_core.specs.declared.segment.Segment.{Segment}

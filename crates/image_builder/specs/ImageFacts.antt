@@ -1,5 +1,5 @@
 -- What the readers of images find in an image that was built.
-use Rattle.std.specs.Prelude.{ℕ, Option, Some, None, List, [], ◌∷◌, ◌++◌, codes}
+use Rattle.std.specs.Prelude.{ℕ, Some, None, List, [], ◌∷◌, ◌++◌, codes}
 use Rattle.elf64_core.specs.Symbols.{SymbolEntry}
 use Rattle.py_process.specs.Facts.{Facts, Known}
 use Rattle.py_process.specs.SymbolMap.{address_of}

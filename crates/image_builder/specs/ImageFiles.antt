@@ -1,6 +1,6 @@
 -- The image of a program: an ELF file (System V gABI) of 0x2000 bytes with two segments, a bss and four symbols. Their
 -- names are those that CPython has; which addresses they have is this project's own.
-use Rattle.std.specs.Prelude.{ℕ, List, [], ◌∷◌, ◌++◌, codes, length}
+use Rattle.std.specs.Prelude.{ℕ, List, [], ◌∷◌, ◌++◌, codes}
 use Rattle.std.specs.List.{flat_map}
 use Rattle.elf64_core.specs.declared.header.Machine.{Machine}
 use Rattle.elf64_core.specs.declared.section.Section.{Section}

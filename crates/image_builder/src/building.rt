@@ -117,12 +117,12 @@ pub fn build(
         (λ m. Stands m built.interpreter (built_objects layout.now (program_in program.now)))) }
     ensures named { HasRoom layout.now → HasWordRoom layout.now machine version.now → IfOk result
         (λ built. InEachMemory built.core.items (λ m.
-            lock_address_of machine image_known version.now layout.now m built.interpreter ≡ Ok built.lock)) }
+        lock_address_of machine image_known version.now layout.now m built.interpreter ≡ Ok built.lock)) }
     ensures stacks { HasRoom layout.now → HasWordRoom layout.now machine version.now → IfOk result
         (λ built. InEachMemory built.core.items (λ m. (config : Config) (traces : List Trace)
-            → AreStacksOver config layout.now m built.lock built.interpreter traces
-                ↔ (traces ≡ program_told config layout.now interpreter_at (owner_id (program_in program.now))
-                    (program_in program.now)))) }
+        → AreStacksOver config layout.now m built.lock built.interpreter traces
+        ↔ (traces ≡ program_told config layout.now interpreter_at (owner_id (program_in program.now))
+        (program_in program.now)))) }
     ensures small { IfOk result (λ built. length built.core.items ≤ room_for layout.now (program_in program.now)) }
 {
     admit(alloc, program, layout, version, machine)?;

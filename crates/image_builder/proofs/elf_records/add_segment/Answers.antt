@@ -8,5 +8,6 @@ pub returns : goal.returns
 returns c =
     let s = c.args.segment.now in
     subst (λ (n : ℕ). IfOk c.add_record.result (λ _. c.add_record.new.out.items ≡ c.args.out.now.items
-    ++ record_of (U32 s.kind ∷ U32 s.flags ∷ U64 s.offset ∷ U64 s.addr ∷ U64 0 ∷ U64 s.file_size ∷ U64 s.mem_size ∷ U64 n ∷ [])))
+    ++ record_of (U32 s.kind ∷ U32 s.flags ∷ U64 s.offset ∷ U64 s.addr ∷ U64 0 ∷ U64 s.file_size ∷ U64 s.mem_size
+    ∷ U64 n ∷ [])))
     c.alignment.ensures c.add_record.ensures

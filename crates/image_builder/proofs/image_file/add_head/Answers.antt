@@ -1,4 +1,4 @@
-use Rattle.std.proofs.Common.{◌≡◌, ◌++◌, ap, subst}
+use Rattle.std.proofs.Common.{◌≡◌, ◌++◌, subst}
 use Rattle.std.specs.Prelude.{IfOk}
 use Rattle.memory_builder.proofs.Adding.{four_added, two_added}
 use Rattle.image_builder.specs.CoreFiles.{segment_headers}
@@ -17,7 +17,10 @@ returns c =
     let header = record_of (file_fields 2 c.args.machine 2 0xb0 4 3) in
     let headers = segment_headers image_segments in
     let before = c.add_symbols.new.out.items in
-    let last = subst (λ xs. IfOk r (λ _. new ≡ before ++ xs)) c.strings.ensures (if_added r new before c.strings.result.now c.extend_from_slice.ensures.items) in
-    two_added r new old c.add_file_header.new.out.items header (headers ++ (section_headers ++ (image_symbols ++ image_strings))) c.in_ok-add_file_header.ensures
-    (four_added r new c.add_file_header.new.out.items c.add_segments.new.out.items c.add_sections.new.out.items c.add_symbols.new.out.items headers section_headers image_symbols image_strings
+    let last = subst (λ xs. IfOk r (λ _. new ≡ before ++ xs)) c.strings.ensures
+    (if_added r new before c.strings.result.now c.extend_from_slice.ensures.items) in
+    two_added r new old c.add_file_header.new.out.items header (headers
+    ++ (section_headers ++ (image_symbols ++ image_strings))) c.in_ok-add_file_header.ensures
+    (four_added r new c.add_file_header.new.out.items c.add_segments.new.out.items c.add_sections.new.out.items
+    c.add_symbols.new.out.items headers section_headers image_symbols image_strings
     c.in_ok-add_segments.ensures c.in_ok-add_sections.ensures c.in_ok-add_symbols.ensures last)

@@ -1,5 +1,4 @@
-use Rattle.std.proofs.Common.{◌≡◌, ◌∙◌, ◌+◌, ◌-◌, ◌++◌, refl, sym, subst, ap, arith, take}
-use Rattle.std.proofs.Math.ListN.{replicate}
+use Rattle.std.proofs.Common.{◌≡◌, ◌∙◌, ◌+◌, ◌++◌, refl, arith}
 use Rattle.std.specs.Prelude.{IfOk, Ok, Err}
 use Rattle.image_builder.specs.Records.{filled}
 use Rattle.image_builder.proofs.Appending.{filled_is}
@@ -10,9 +9,12 @@ overflow_add-start c = omega (arith, c.len-start.ensures, c.args.out.now.ok, c.a
 
 pub returns : goal.returns
 returns c =
-    elim c.resize.result as (λ r. c.resize.result ≡ r → IfOk r (λ _. c.resize.new.self.items ≡ c.args.out.now.items ++ filled c.args.size c.args.bytes.now)) [
+    elim c.resize.result as (λ r. c.resize.result ≡ r → IfOk r (λ _. c.resize.new.self.items ≡ c.args.out.now.items
+    ++ filled c.args.size c.args.bytes.now)) [
       | Ok u ↦ λ e. (rw e at c.resize.ensures.items)
-          ∙ filled_is c.args.out.now.items c.args.bytes.now c.extend_from_slice.new.self.items c.args.size (c.len-start.result + c.args.size) c.extend_from_slice.new.self.len c.requires.inside
-          (omega (arith, c.len-start.ensures, c.args.out.now.ok.0)) c.in_ok-extend_from_slice.ensures.items c.extend_from_slice.new.self.ok.0
+          ∙ filled_is c.args.out.now.items c.args.bytes.now c.extend_from_slice.new.self.items c.args.size
+          (c.len-start.result + c.args.size) c.extend_from_slice.new.self.len c.requires.inside
+          (omega (arith, c.len-start.ensures, c.args.out.now.ok.0)) c.in_ok-extend_from_slice.ensures.items
+          c.extend_from_slice.new.self.ok.0
       | Err x ↦ λ e. tt
     ] refl

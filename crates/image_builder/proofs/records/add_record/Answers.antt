@@ -1,4 +1,4 @@
-use Rattle.std.proofs.Common.{◌≡◌, ◌∙◌, ◌++◌, ap, map, sym, append-nil, arith}
+use Rattle.std.proofs.Common.{◌∙◌, ◌++◌, ap, map, sym, append-nil, arith}
 use Rattle.std.specs.List.{flat_map}
 use Rattle.object_builder.specs.Objects.{bytes_of}
 use Rattle.object_builder.specs.Writes.{value_of}
@@ -13,10 +13,15 @@ loop-field-init c = sym (append-nil c.args.out.now.items)
 
 pub loop-field-preserved : goal.loop-field-preserved
 loop-field-preserved c =
-    field_more c.args.fields.now c.loop-field.field-index _ c.args.out.now.items c.loop-field.out.items c.add_field.new.out.items c.loop-field-test.true c.loop-field.invariant c.in_ok-add_field.ensures
+    field_more c.args.fields.now c.loop-field.field-index _ c.args.out.now.items c.loop-field.out.items
+    c.add_field.new.out.items c.loop-field-test.true c.loop-field.invariant c.in_ok-add_field.ensures
 
 pub returns : goal.returns
 unfolding record_of
 returns c =
     c.loop-field.invariant ∙ ap (λ xs. c.args.out.now.items ++ flat_map bytes_of xs)
-    (take_all (map value_of c.args.fields.now) c.loop-field.field-index (omega (arith, c.loop-field-test.false, length_map value_of c.args.fields.now)))
+    (take_all (map value_of c.args.fields.now) c.loop-field.field-index (omega (
+      arith,
+      c.loop-field-test.false,
+      length_map value_of c.args.fields.now,
+    )))

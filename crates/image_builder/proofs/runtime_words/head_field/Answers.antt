@@ -8,6 +8,7 @@ use Rattle.image_builder.proofs.runtime_words.head_field.Goals as goal
 pub returns-in_ok-layout-in-Offsets-clause-bound : goal.returns-in_ok-layout-in-Offsets-clause-bound
 unfolding offsets_places
 returns-in_ok-layout-in-Offsets-clause-bound c =
-    let r = some_is c.args.layout.now.offsets (λ (o : OffsetsAt). IsRecord o.size (offsets_places o)) c.in_ok-layout-in-Offsets.field-0 c.requires.groups.offsets c.in_ok-layout-in-Offsets.was in
+    let r = some_is c.args.layout.now.offsets (λ (o : OffsetsAt). IsRecord o.size (offsets_places o))
+    c.in_ok-layout-in-Offsets.field-0 c.requires.groups.offsets c.in_ok-layout-in-Offsets.was in
     let inside = r.group.inside.0 in
     omega (arith, inside, r.short)
