@@ -16,3 +16,4 @@ pub mod Numbers
 pub mod WordsBack
 pub mod MemoryBack
 pub mod OwnerBack
+pub mod FoundBack

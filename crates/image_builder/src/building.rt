@@ -2,7 +2,7 @@
 ghost use Rattle.std.specs.Prelude.{◌≡◌, ◌↔◌, ◌≤◌, ℕ, List, [], ◌∷◌, Some, Ok, length, IfOk, IfErr};
 ghost use Rattle.elf64_core.specs.Header.{machine_of};
 ghost use Rattle.image_memory.specs.Cores.{IsCore};
-ghost use Rattle.image_memory.specs.Maps.{AreMaps};
+ghost use Rattle.image_memory.specs.Maps.{AreMaps, in_maps};
 ghost use Rattle.image_memory.specs.Notes.{AreStatuses, IsProcess};
 ghost use Rattle.image_memory.specs.Pieces.{memory_of};
 ghost use Rattle.py_process.specs.Binary.{HasInfo, SaysFacts};
@@ -13,7 +13,7 @@ ghost use Rattle.py_process.specs.Lock.{lock_address_of};
 ghost use Rattle.object_builder.specs.Placing.{Stands};
 ghost use Rattle.memory_builder.specs.Laid.{owner_id};
 ghost use Rattle.memory_builder.specs.Told.{program_told};
-ghost use Rattle.py_process.specs.Candidates.{head_by};
+ghost use Rattle.py_process.specs.Candidates.{IsFirstOf, candidates_of, head_by};
 ghost use Rattle.py_process.specs.Sources.{FirstTells, sources_of, version_of_number};
 ghost use Rattle.py_fields.specs.Sound.{IsSound};
 ghost use Rattle.object_builder.specs.Room.{HasRoom};
@@ -113,6 +113,10 @@ pub fn build(
         (λ m. FirstTells m (sources_of image_known) (Ok (Some version.now)))) }
     ensures head { HasWordRoom layout.now machine version.now → IfOk result (λ built. InEachMemory built.core.items
         (λ m. head_by layout.now.head image_known version.now layout.now m ≡ built.interpreter ∷ [])) }
+    ensures found { HasRoom layout.now → HasWordRoom layout.now machine version.now → IfOk result
+        (λ built. InEachMemory built.core.items (λ m.
+        IsFirstOf (in_maps (built_maps (length (built_objects layout.now (program_in program.now))))) layout.now m
+        (candidates_of image_known version.now layout.now m) built.interpreter)) }
     ensures objects { IfOk result (λ built. InEachMemory built.core.items
         (λ m. Stands m built.interpreter (built_objects layout.now (program_in program.now)))) }
     ensures named { HasRoom layout.now → HasWordRoom layout.now machine version.now → IfOk result

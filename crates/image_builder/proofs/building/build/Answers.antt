@@ -29,6 +29,7 @@ use Rattle.memory_builder.specs.ReadBack.{IsPlace, TellsInterpreter, TellsOwner,
 use Rattle.memory_builder.specs.Told.{program_told}
 use Rattle.image_builder.proofs.OwnerBack.{lock_names}
 use Rattle.py_process.specs.Sources.{FirstTells, sources_of}
+use Rattle.image_builder.proofs.FoundBack.{is_first}
 use Rattle.image_builder.proofs.MemoryBack.{image_there, in_each, none_at_zero, number_there, objects_there, words_there}
 use Rattle.image_builder.proofs.Numbers.{number_fits, number_is, version_told}
 use Rattle.image_builder.proofs.WordsBack.{head_back, lock_back, version_back}
@@ -159,6 +160,21 @@ returns-clause-objects c = λ images regions is. objects_stand c images regions 
 
 place_is : IsPlace interpreter_at
 place_is = record { some = omega arith; even = refl }
+
+pub returns-clause-found : goal.returns-clause-found
+returns-clause-found c = λ room word_room images regions is.
+    let l = c.args.layout.now in
+    let v = c.args.version.now in
+    let p = program_in c.args.program.now in
+    let there = objects_stand c images regions is in
+    let size : length (objects c) ≡ program_size l p
+    = ap length (sym c.in_ok-objects.ensures.laid) ∙ c.in_ok-objects.ensures.size in
+    let tells = subst (TellsInterpreter l interpreter_at) c.in_ok-objects.ensures.laid
+    (c.in_ok-objects.ensures.interpreter room place_is) in
+    let head = head_back l c.requires (byte_at regions) v c.args.machine (owner_place l interpreter_at p) word_room
+    (words_stand c images regions is) in
+    is_first l c.requires room (byte_at regions) p c.in_ok-admit.ensures.valid (length (objects c)) size there
+    (tells.passes (byte_at regions) there) v head
 
 pub returns-clause-named : goal.returns-clause-named
 returns-clause-named c = λ room word_room images regions is.
