@@ -38,16 +38,23 @@ lies n a from below = in_third a (le-leb 0x60_0000 a from) (lt-ltb a (0x60_0000 
     in_third : (a : ℕ) → leb 0x60_0000 a ≡ true → ltb a (0x60_0000 + n) ≡ true → in_maps (built_maps n) a ≡ true
     in_third a e f = rw (e, f) (or_true _ _)
 
-module _ (l : Layout) (sound : IsSound l) (room : HasRoom l) (m : Memory) (p : Program) (valid : IsValidProgram (family_of l.lines) p) (n : ℕ) (size : n ≡ program_size l p)
+module _ (l : Layout) (sound : IsSound l) (room : HasRoom l) (m : Memory) (p : Program)
+    (valid : IsValidProgram (family_of l.lines) p) (n : ℕ) (size : n ≡ program_size l p)
     (st : Stands m interpreter_at (laid_program l interpreter_at p)) (passes : IsInterpreter l m interpreter_at) where
   abbrev first : ℕ
   first = first_place l interpreter_at
 
   -- the first thread begins inside of the objects
-  inside : (ts : List Thread) → ts ≢ [] → n ≡ shared_size l + sum_by (thread_size l) ts → IsTrue (in_maps (built_maps n) (head_of first ts))
+  inside : (ts : List Thread) → ts ≢ [] → n ≡ shared_size l + sum_by (thread_size l) ts
+      → IsTrue (in_maps (built_maps n) (head_of first ts))
   unfolding shared_size thread_size
   inside [] some is = absurd (some refl)
-  inside (t ∷ ts) some is = lies n first (omega arith) (omega (arith, is, sum_by-cons (thread_size l) t ts, sound.thread.positive))
+  inside (t ∷ ts) some is = lies n first (omega arith) (omega (
+    arith,
+    is,
+    sum_by-cons (thread_size l) t ts,
+    sound.thread.positive,
+  ))
 
   program_is_size : n ≡ shared_size l + sum_by (thread_size l) p.threads
   unfolding program_size
@@ -63,12 +70,14 @@ module _ (l : Layout) (sound : IsSound l) (room : HasRoom l) (m : Memory) (p : P
       record {
         lies = lies n interpreter_at (omega arith) (omega (arith, begins program_is_size));
         head = head_of first p.threads;
-        names = head_word l sound room m interpreter_at p (omega arith) refl whole (stand_program l sound m interpreter_at p st);
+        names = head_word l sound room m interpreter_at p (omega arith) refl whole
+            (stand_program l sound m interpreter_at p st);
         head_lies = inside p.threads whole.some program_is_size;
         is = passes;
       }
 
-  pub is_first : (v : Version) → head_by l.head image_known v l m ≡ interpreter_at ∷ [] → IsFirstOf (in_maps (built_maps n)) l m (candidates_of image_known v l m) interpreter_at
+  pub is_first : (v : Version) → head_by l.head image_known v l m ≡ interpreter_at ∷ []
+      → IsFirstOf (in_maps (built_maps n)) l m (candidates_of image_known v l m) interpreter_at
   unfolding candidates_of
   is_first v head = record {
     before = [];

@@ -17,3 +17,4 @@ pub mod WordsBack
 pub mod MemoryBack
 pub mod OwnerBack
 pub mod FoundBack
+pub mod KnownBack

@@ -6,6 +6,7 @@ use Rattle.image_memory.specs.Images.{Pushed}
 use Rattle.image_memory.specs.declared.maps.CoreMapRange.{CoreMapRange}
 use Rattle.image_memory.specs.declared.records.elf_prstatus.{elf_prstatus}
 use Rattle.image_memory.specs.declared.records.elf_prpsinfo.{elf_prpsinfo}
+use Rattle.py_process.specs.Programs.{Programs}
 use Rattle.image_builder.specs.CoreFiles.{image_path, process_name}
 use Rattle.image_builder.specs.Records.{filled}
 
@@ -23,6 +24,10 @@ map_of name flags offset addr size = record {
 abbrev pub built_maps : (objects : ℕ) → List CoreMapRange
 built_maps objects = map_of (Some image_path) 5 0x1000 0x40_0000 0x2000
     ∷ map_of None 6 0x3000 0x50_0000 0x2_0000 ∷ map_of None 6 0x2_3000 0x60_0000 objects ∷ []
+
+-- its program is the first of them; no library is mapped
+abbrev pub built_programs : Programs
+built_programs = record { program = map_of (Some image_path) 5 0x1000 0x40_0000 0x2000; library = None }
 
 -- its one status record
 abbrev pub built_status : elf_prstatus

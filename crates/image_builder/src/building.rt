@@ -14,12 +14,14 @@ ghost use Rattle.object_builder.specs.Placing.{Stands};
 ghost use Rattle.memory_builder.specs.Laid.{owner_id};
 ghost use Rattle.memory_builder.specs.Told.{program_told};
 ghost use Rattle.py_process.specs.Candidates.{IsFirstOf, candidates_of, head_by};
+ghost use Rattle.py_process.specs.Programs.{ArePrograms, IsKnown};
+ghost use Rattle.image_memory.specs.Mmap.{whole_view};
 ghost use Rattle.py_process.specs.Sources.{FirstTells, sources_of, version_of_number};
 ghost use Rattle.py_fields.specs.Sound.{IsSound};
 ghost use Rattle.object_builder.specs.Room.{HasRoom};
 ghost use Rattle.memory_builder.specs.Mirror.{program_in};
 ghost use Rattle.image_builder.specs.Built.{built_core, built_image, built_lock, built_objects, built_words};
-ghost use Rattle.image_builder.specs.CoreFacts.{InEachMemory, built_maps, built_memory, built_process, built_status};
+ghost use Rattle.image_builder.specs.CoreFacts.{InEachMemory, built_maps, built_memory, built_process, built_programs, built_status};
 ghost use Rattle.image_builder.specs.CoreFiles.{image_path as path_of_image};
 ghost use Rattle.image_builder.specs.Covered.{IsNumberOf};
 ghost use Rattle.image_builder.specs.ImageFacts.{image_facts, image_known};
@@ -107,6 +109,10 @@ pub fn build(
     ensures process { IfOk result (λ built. IsProcess built.core.items (Some built_process)) }
     ensures parsed { IfOk result (λ built. HasInfo built.image.items 0x40_0000) }
     ensures facts { IfOk result (λ built. SaysFacts built.image.items 0x40_0000 0x2000 image_facts) }
+    ensures programs { IfOk result (λ _. ArePrograms
+        (built_maps (length (built_objects layout.now (program_in program.now)))) built_programs) }
+    ensures known { IfOk result (λ built. IsKnown ((built.image_path, whole_view built.image.items) ∷ [])
+        built_programs image_known) }
     ensures version { IfOk result (λ _. (number : ℕ) → IsNumberOf version.now number
         → version_of_number number ≡ version.now) }
     ensures told { IfOk result (λ built. InEachMemory built.core.items

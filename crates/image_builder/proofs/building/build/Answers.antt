@@ -9,8 +9,8 @@ use Rattle.memory_builder.specs.Laid.{owner_place}
 use Rattle.memory_builder.specs.Mirror.{program_in}
 use Rattle.memory_builder.specs.Sizes.{program_size}
 use Rattle.image_builder.specs.Built.{built_core, built_image, built_lock, built_objects, built_words}
-use Rattle.image_builder.specs.CoreFacts.{built_maps, built_memory, built_process, built_status}
-use Rattle.image_builder.specs.CoreFiles.{core_file}
+use Rattle.image_builder.specs.CoreFacts.{built_maps, built_memory, built_process, built_programs, built_status}
+use Rattle.image_builder.specs.CoreFiles.{core_file, image_path as path_of_image}
 use Rattle.image_builder.specs.Covered.{number_of}
 use Rattle.image_builder.specs.ImageFiles.{image_file}
 use Rattle.image_builder.specs.RuntimeWords.{interpreter_at, runtime_words}
@@ -30,6 +30,9 @@ use Rattle.memory_builder.specs.Told.{program_told}
 use Rattle.image_builder.proofs.OwnerBack.{lock_names}
 use Rattle.py_process.specs.Sources.{FirstTells, sources_of}
 use Rattle.image_builder.proofs.FoundBack.{is_first}
+use Rattle.image_builder.proofs.KnownBack.{known_is, programs_are}
+use Rattle.image_memory.specs.Mmap.{whole_view}
+use Rattle.py_process.specs.Programs.{IsKnown}
 use Rattle.image_builder.proofs.MemoryBack.{image_there, in_each, none_at_zero, number_there, objects_there, words_there}
 use Rattle.image_builder.proofs.Numbers.{number_fits, number_is, version_told}
 use Rattle.image_builder.proofs.WordsBack.{head_back, lock_back, version_back}
@@ -106,6 +109,16 @@ returns-clause-parsed c = subst (λ xs. HasInfo xs 0x40_0000) (sym (image_built 
 pub returns-clause-facts : goal.returns-clause-facts
 returns-clause-facts c = subst (λ xs. SaysFacts xs 0x40_0000 0x2000 image_facts) (sym (image_built c))
     (image_says c.args.machine (number_of c.args.version.now))
+
+pub returns-clause-programs : goal.returns-clause-programs
+returns-clause-programs c = programs_are (length (objects c))
+
+pub returns-clause-known : goal.returns-clause-known
+returns-clause-known c =
+    let path = c.in_ok-of.ensures ∙ c.image_path.ensures in
+    subst (λ p. IsKnown ((p, whole_view c.in_ok-image.image.items) ∷ []) built_programs image_known) (sym path)
+    (subst (λ xs. IsKnown ((path_of_image, whole_view xs) ∷ []) built_programs image_known) (sym (image_built c))
+    (known_is c.args.machine (number_of c.args.version.now)))
 
 pub returns-clause-version : goal.returns-clause-version
 returns-clause-version c = λ number is. version_told c.args.version.now number c.in_ok-admit.ensures.covered.numbered is
