@@ -1,6 +1,6 @@
 -- What stands at a place of a list of what stands at each number.
-use Rattle.std.proofs.Common.{◌≡◌, ◌∙◌, ◌+◌, ◌<◌, ◌≤◌, ◌⊎◌, ℕ, zero, suc, List, [], ◌∷◌, ◌++◌, length, take, refl, sym, ap, subst, inl, inr, arith, length-append}
-use Rattle.std.specs.Prelude.{Option, Some, None, slice_get}
+use Rattle.std.proofs.Common.{◌≡◌, ◌∙◌, ◌+◌, ◌<◌, ◌≤◌, ℕ, zero, suc, List, [], ◌∷◌, ◌++◌, length, take, refl, sym, ap, subst, inl, inr, arith, length-append}
+use Rattle.std.specs.Prelude.{Some, slice_get}
 use Rattle.std.specs.List.{AllByRecursion}
 use Rattle.std.proofs.lemmas.Bool.{cases_lt}
 use Rattle.std.proofs.lemmas.List.{take-append-le}
@@ -32,7 +32,8 @@ get_each f zero k small = absurd (omega arith)
 get_each f (suc n) k small =
     elim (cases_lt k n) [
       | inl before ↦ get_left (each f n) (f n ∷ []) k (omega (arith, before, length_each f n)) ∙ get_each f n k before
-      | inr far ↦ (let same : n ≡ k = omega (arith, far) in get_seam (each f n) (f n) k (omega (arith, same, length_each f n)) ∙ ap (λ i. Some (f i)) same)
+      | inr far ↦ (let same : n ≡ k = omega (arith, far) in
+          get_seam (each f n) (f n) k (omega (arith, same, length_each f n)) ∙ ap (λ i. Some (f i)) same)
     ]
 
 pub take_each : {A : Type 0} (f : ℕ → A) (n k : ℕ) → k ≤ n → take k (each f n) ≡ each f k
@@ -42,18 +43,23 @@ take_each f zero (suc k) small = absurd (omega arith)
 take_each f (suc n) k small =
     elim (cases_lt n k) [
       | inl all ↦ (let same : k ≡ suc n = omega arith in
-          subst (λ i. take i (each f n ++ f n ∷ []) ≡ each f i) (sym same) (all_of (each f n ++ f n ∷ []) (suc n) (length_each f (suc n))))
-      | inr before ↦ take-append-le k (each f n) (f n ∷ []) (omega (arith, before, length_each f n)) ∙ take_each f n k before
+          subst (λ i. take i (each f n ++ f n ∷ []) ≡ each f i) (sym same)
+          (all_of (each f n ++ f n ∷ []) (suc n) (length_each f (suc n))))
+      | inr before ↦ take-append-le k (each f n) (f n ∷ []) (omega (arith, before, length_each f n))
+          ∙ take_each f n k before
     ]
   where
     all_of : {A : Type 0} (xs : List A) (i : ℕ) → length xs ≡ i → take i xs ≡ xs
     all_of xs i is = ap (λ m. take m xs) (sym is) ∙ take-length xs
 
-all_push : {A : Type 0} (P : A → Type 0) (xs : List A) (y : A) → AllByRecursion P xs → P y → AllByRecursion P (xs ++ y ∷ [])
+all_push : {A : Type 0} (P : A → Type 0) (xs : List A) (y : A) → AllByRecursion P xs → P y
+    → AllByRecursion P (xs ++ y ∷ [])
 all_push P [] y h here = (here, h)
 all_push P (x ∷ xs) y h here = (h.0, all_push P xs y h.1 here)
 
-pub all_each : {A : Type 0} (P : A → Type 0) (f : ℕ → A) (n : ℕ) → ((k : ℕ) → k < n → P (f k)) → AllByRecursion P (each f n)
+pub all_each : {A : Type 0} (P : A → Type 0) (f : ℕ → A) (n : ℕ) → ((k : ℕ) → k < n → P (f k))
+    → AllByRecursion P (each f n)
 unfolding each
 all_each P f zero h = tt
-all_each P f (suc n) h = all_push P (each f n) (f n) (all_each P f n (λ k small. h k (omega (arith, small)))) (h n (omega arith))
+all_each P f (suc n) h = all_push P (each f n) (f n) (all_each P f n (λ k small. h k (omega (arith, small))))
+    (h n (omega arith))

@@ -4,3 +4,17 @@ pub mod Admitting
 pub mod Releases
 pub mod EachAt
 pub mod GeneratedValid
+pub mod Appending
+pub mod Lengths
+pub mod RuntimeWords
+pub mod Reading
+pub mod SegmentsBack
+pub mod NotesBack
+pub mod CoreBack
+pub mod ImageBack
+pub mod Numbers
+pub mod WordsBack
+pub mod MemoryBack
+pub mod OwnerBack
+pub mod FoundBack
+pub mod KnownBack

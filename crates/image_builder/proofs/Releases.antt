@@ -1,6 +1,6 @@
 -- The flags of a version, and the byte that they have in its number.
-use Rattle.std.proofs.Common.{◌≡◌, ◌∙◌, ◌+◌, ◌-◌, ◌*◌, ◌<◌, ◌≤◌, ℕ, zero, suc, Bool, true, false, List, [], ◌∷◌, ◌++◌, refl, sym, ap, subst, inl, inr, arith, length}
-use Rattle.std.specs.Prelude.{Option, Some, None, MatchOption, IsTrue, ◌↔◌, codes, if◌then◌else◌, ◌&&◌, ◌==◌, option_map, encode_utf8_all, ◌⊎◌, ◌^◌}
+use Rattle.std.proofs.Common.{◌≡◌, ◌∙◌, ◌+◌, ◌-◌, ◌*◌, ◌<◌, ◌≤◌, ℕ, zero, suc, Bool, true, false, List, [], ◌∷◌, ◌++◌, refl, sym, ap, inl, inr, arith}
+use Rattle.std.specs.Prelude.{Option, Some, None, MatchOption, IsTrue, ◌↔◌, codes, if◌then◌else◌, ◌&&◌, ◌==◌, option_map, encode_utf8_all, ◌⊎◌}
 use Rattle.std.specs.Option.{is_some}
 use Rattle.std.specs.Fmt.{decimal, digits}
 use Rattle.std.specs.Int.{is_in_range}
@@ -33,7 +33,8 @@ serial_small (suc (suc (suc (suc (suc (suc (suc (suc (suc (suc (suc (suc zero)))
 serial_small (suc (suc (suc (suc (suc (suc (suc (suc (suc (suc (suc (suc (suc zero))))))))))))) h = refl
 serial_small (suc (suc (suc (suc (suc (suc (suc (suc (suc (suc (suc (suc (suc (suc zero)))))))))))))) h = refl
 serial_small (suc (suc (suc (suc (suc (suc (suc (suc (suc (suc (suc (suc (suc (suc (suc zero))))))))))))))) h = refl
-serial_small (suc (suc (suc (suc (suc (suc (suc (suc (suc (suc (suc (suc (suc (suc (suc (suc k)))))))))))))))) h = absurd (omega (arith, h))
+serial_small (suc (suc (suc (suc (suc (suc (suc (suc (suc (suc (suc (suc (suc (suc (suc (suc k)))))))))))))))) h =
+    absurd (omega (arith, h))
 
 teen : (k : ℕ) → k ≤ 5 → decimal (10 + k) ≡ 49 ∷ (48 + k) ∷ []
 unfolding digits
@@ -63,59 +64,79 @@ one_digit ones n is value =
     let same : ones ≡ 48 + n = omega arith in
     (omega arith, ap (λ d. d ∷ []) same ∙ sym (decimal_digit n (omega arith)))
 
-two_digit : (tens ones n : ℕ) → (tens == 49 && is_in_range 48 53 ones) ≡ true → ones - 38 ≡ n → (n < 16) × (tens ∷ ones ∷ [] ≡ decimal n)
+two_digit : (tens ones n : ℕ) → (tens == 49 && is_in_range 48 53 ones) ≡ true → ones - 38 ≡ n
+    → (n < 16) × (tens ∷ ones ∷ [] ≡ decimal n)
 two_digit tens ones n is value =
     let p = and_parts (tens == 49) (is_in_range 48 53 ones) is in
     let first : tens ≡ 49 = (Decides-eqb tens 49).0 p.0 in
     let low : 48 ≤ ones = grind (arith, nat_tests, p.1) in
     let high : ones ≤ 53 = grind (arith, nat_tests, p.1) in
-    let same : ones ≡ 38 + n = omega arith in
-    (omega arith, ap (λ t. t ∷ ones ∷ []) first ∙ ap (λ d. 49 ∷ d ∷ []) same ∙ sym (decimal_teen n (omega arith) (omega arith)))
+    let same : ones ≡ 38 + n = omega arith in (
+      omega arith,
+      ap (λ t. t ∷ ones ∷ []) first ∙ ap (λ d. 49 ∷ d ∷ []) same
+          ∙ sym (decimal_teen n (omega arith) (omega arith)),
+    )
 
 serial_back : (ds : List ℕ) (n : ℕ) → serial_of ds ≡ Some n → (n < 16) × (ds ≡ decimal n)
 serial_back [] n e = absurd (cc)
 serial_back (ones ∷ []) n e = let p = chose (is_in_range 48 57 ones) (ones - 48) n e in one_digit ones n p.0 p.1
-serial_back (tens ∷ ones ∷ []) n e = let p = chose (tens == 49 && is_in_range 48 53 ones) (ones - 38) n e in two_digit tens ones n p.0 p.1
+serial_back (tens ∷ ones ∷ []) n e = let p = chose (tens == 49 && is_in_range 48 53 ones) (ones - 38) n e in
+    two_digit tens ones n p.0 p.1
 serial_back (a ∷ b ∷ c ∷ rest) n e = absurd (cc)
 
 -- ---- letters and a serial number
 
-behind_back : (level : ℕ) (ds : List ℕ) (byte : ℕ) (o : Option ℕ) → serial_of ds ≡ o → option_map (λ serial. 16 * level + serial) o ≡ Some byte
+behind_back : (level : ℕ) (ds : List ℕ) (byte : ℕ) (o : Option ℕ) → serial_of ds ≡ o
+    → option_map (λ serial. 16 * level + serial) o ≡ Some byte
     → (letters flags : List ℕ) → flags ≡ letters ++ ds → IsPreFinal letters level flags byte
 behind_back level ds byte None is e letters flags are = absurd (cc)
 behind_back level ds byte (Some n) is e letters flags are =
     let p = serial_back ds n is in
-    record { serial = n; small = p.0; flags_are = are ∙ ap (λ xs. letters ++ xs) p.1; byte_is = sym (same_Some (16 * level + n) byte e) }
+    record {
+      serial = n;
+      small = p.0;
+      flags_are = are ∙ ap (λ xs. letters ++ xs) p.1;
+      byte_is =
+          sym (same_Some (16 * level + n) byte e);
+    }
 
 -- which of two a test chose
-test_chose : (b : Bool) (x y : Option ℕ) (o : Option ℕ) → (if b then x else y) ≡ o → ((b ≡ true) × (x ≡ o)) ⊎ ((b ≡ false) × (y ≡ o))
+test_chose : (b : Bool) (x y : Option ℕ) (o : Option ℕ) → (if b then x else y) ≡ o
+    → ((b ≡ true) × (x ≡ o)) ⊎ ((b ≡ false) × (y ≡ o))
 test_chose true x y o e = inl (refl, e)
 test_chose false x y o e = inr (refl, e)
 
 pub found_is : (flags : List ℕ) (byte : ℕ) → release_byte flags ≡ Some byte → IsReleaseByte flags byte
 found_is [] byte e = inl (refl, sym (same_Some 0xF0 byte e))
 found_is (c ∷ rest) byte e =
-    elim (test_chose (c == 97) (byte_behind 10 rest) (if c == 98 then byte_behind 11 rest else (if c == 114 then candidate_byte rest else None)) (Some byte) e) [
-      | inl a ↦ inr (inl (behind_back 10 rest byte (serial_of rest) refl a.1 (codes "a") (c ∷ rest) (ap (λ x. x ∷ rest) ((Decides-eqb c 97).0 a.0))))
-      | inr more ↦ elim (test_chose (c == 98) (byte_behind 11 rest) (if c == 114 then candidate_byte rest else None) (Some byte) more.1) [
-        | inl b ↦ inr (inr (inl (behind_back 11 rest byte (serial_of rest) refl b.1 (codes "b") (c ∷ rest) (ap (λ x. x ∷ rest) ((Decides-eqb c 98).0 b.0)))))
-        | inr last ↦ elim (test_chose (c == 114) (candidate_byte rest) None (Some byte) last.1) [
-          | inl r ↦ inr (inr (inr (candidate c rest byte ((Decides-eqb c 114).0 r.0) r.1)))
-          | inr none ↦ (let clash : None ≡ Some byte = none.1 in cc)
-        ]
-      ]
+    elim (test_chose (c == 97) (byte_behind 10 rest) (if c == 98 then byte_behind 11 rest else
+    (if c == 114 then candidate_byte rest else None)) (Some byte) e) [
+      | inl a ↦ inr (inl (behind_back 10 rest byte (serial_of rest) refl a.1 (codes "a") (c
+          ∷ rest) (ap (λ x. x ∷ rest) ((Decides-eqb c 97).0 a.0))))
+      | inr more ↦ elim (test_chose (c == 98) (byte_behind 11 rest) (if c == 114 then candidate_byte rest else None)
+          (Some byte) more.1) [
+            | inl b ↦ inr (inr (inl (behind_back 11 rest byte (serial_of rest) refl b.1 (codes "b") (c
+                ∷ rest) (ap (λ x. x ∷ rest) ((Decides-eqb c 98).0 b.0)))))
+            | inr last ↦ elim (test_chose (c == 114) (candidate_byte rest) None (Some byte) last.1) [
+              | inl r ↦ inr (inr (inr (candidate c rest byte ((Decides-eqb c 114).0 r.0) r.1)))
+              | inr none ↦ (let clash : None ≡ Some byte = none.1 in cc)
+            ]
+          ]
     ]
   where
-    candidate : (c : ℕ) (rest : List ℕ) (byte : ℕ) → c ≡ 114 → candidate_byte rest ≡ Some byte → IsPreFinal (codes "rc") 12 (c ∷ rest) byte
+    candidate : (c : ℕ) (rest : List ℕ) (byte : ℕ) → c ≡ 114 → candidate_byte rest ≡ Some byte
+        → IsPreFinal (codes "rc") 12 (c ∷ rest) byte
     candidate c [] byte is e = absurd (cc)
     candidate c (d ∷ ds) byte is e =
         elim (test_chose (d == 99) (byte_behind 12 ds) None (Some byte) e) [
-          | inl t ↦ behind_back 12 ds byte (serial_of ds) refl t.1 (codes "rc") (c ∷ d ∷ ds) (ap (λ x. x ∷ d ∷ ds) is ∙ ap (λ x. 114 ∷ x ∷ ds) ((Decides-eqb d 99).0 t.0))
+          | inl t ↦ behind_back 12 ds byte (serial_of ds) refl t.1 (codes "rc") (c ∷ d ∷ ds) (ap (λ x. x ∷ d ∷ ds) is
+              ∙ ap (λ x. 114 ∷ x ∷ ds) ((Decides-eqb d 99).0 t.0))
           | inr none ↦ (let clash : None ≡ Some byte = none.1 in cc)
         ]
 
 -- what is written so is found
-behind_found : (level serial byte : ℕ) → serial < 16 → byte ≡ 16 * level + serial → byte_behind level (decimal serial) ≡ Some byte
+behind_found : (level serial byte : ℕ) → serial < 16 → byte ≡ 16 * level + serial
+    → byte_behind level (decimal serial) ≡ Some byte
 behind_found level serial byte small is =
     ap (option_map (λ n. 16 * level + n)) (serial_small serial small) ∙ ap (λ n. Some n) (sym is)
 
@@ -134,7 +155,8 @@ ascii_same : (flags bytes xs : List ℕ) → bytes ≡ encode_utf8_all flags →
 ascii_same flags bytes xs is ascii e = is ∙ ap encode_utf8_all e ∙ encodes-IsAscii xs ascii
 
 behind_ascii : (letters : List ℕ) (serial : ℕ) → IsAscii letters → serial < 16 → IsAscii (letters ++ decimal serial)
-behind_ascii letters serial ascii small = IsAscii-append letters (decimal serial) ascii (IsAscii-decimal serial (omega (arith, small)))
+behind_ascii letters serial ascii small = IsAscii-append letters (decimal serial) ascii
+    (IsAscii-decimal serial (omega (arith, small)))
 
 a_ascii : IsAscii (codes "a")
 a_ascii = IsAscii-cons 97 [] (omega arith) IsAscii-nil
@@ -145,42 +167,59 @@ b_ascii = IsAscii-cons 98 [] (omega arith) IsAscii-nil
 rc_ascii : IsAscii (codes "rc")
 rc_ascii = IsAscii-cons 114 (99 ∷ []) (omega arith) (IsAscii-cons 99 [] (omega arith) IsAscii-nil)
 
-final_there : (letters : List ℕ) (level : ℕ) (flags bytes : List ℕ) (byte : ℕ) → IsAscii letters → bytes ≡ encode_utf8_all flags → IsPreFinal letters level bytes byte → IsPreFinal letters level flags byte
+final_there : (letters : List ℕ) (level : ℕ) (flags bytes : List ℕ) (byte : ℕ) → IsAscii letters
+    → bytes ≡ encode_utf8_all flags → IsPreFinal letters level bytes byte → IsPreFinal letters level flags byte
 final_there letters level flags bytes byte ascii is h = record {
   serial = h.serial;
   small = h.small;
-  flags_are = same_ascii flags bytes (letters ++ decimal h.serial) is (behind_ascii letters h.serial ascii h.small) h.flags_are;
+  flags_are = same_ascii flags bytes (letters ++ decimal h.serial) is
+      (behind_ascii letters h.serial ascii h.small) h.flags_are;
   byte_is = h.byte_is;
 }
 
-final_here : (letters : List ℕ) (level : ℕ) (flags bytes : List ℕ) (byte : ℕ) → IsAscii letters → bytes ≡ encode_utf8_all flags → IsPreFinal letters level flags byte → IsPreFinal letters level bytes byte
+final_here : (letters : List ℕ) (level : ℕ) (flags bytes : List ℕ) (byte : ℕ) → IsAscii letters
+    → bytes ≡ encode_utf8_all flags → IsPreFinal letters level flags byte → IsPreFinal letters level bytes byte
 final_here letters level flags bytes byte ascii is h = record {
   serial = h.serial;
   small = h.small;
-  flags_are = ascii_same flags bytes (letters ++ decimal h.serial) is (behind_ascii letters h.serial ascii h.small) h.flags_are;
+  flags_are = ascii_same flags bytes (letters ++ decimal h.serial) is
+      (behind_ascii letters h.serial ascii h.small) h.flags_are;
   byte_is = h.byte_is;
 }
 
-chars_there : (flags bytes : List ℕ) (byte : ℕ) → bytes ≡ encode_utf8_all flags → IsReleaseByte bytes byte → IsReleaseByte flags byte
+chars_there : (flags bytes : List ℕ) (byte : ℕ) → bytes ≡ encode_utf8_all flags → IsReleaseByte bytes byte
+    → IsReleaseByte flags byte
 chars_there flags bytes byte is (inl final) = inl (same_ascii flags bytes [] is IsAscii-nil final.0, final.1)
 chars_there flags bytes byte is (inr (inl h)) = inr (inl (final_there (codes "a") 10 flags bytes byte a_ascii is h))
-chars_there flags bytes byte is (inr (inr (inl h))) = inr (inr (inl (final_there (codes "b") 11 flags bytes byte b_ascii is h)))
-chars_there flags bytes byte is (inr (inr (inr h))) = inr (inr (inr (final_there (codes "rc") 12 flags bytes byte rc_ascii is h)))
+chars_there flags bytes byte is (inr (inr (inl h))) = inr (inr
+    (inl (final_there (codes "b") 11 flags bytes byte b_ascii is h)))
+chars_there flags bytes byte is (inr (inr (inr h))) = inr (inr
+    (inr (final_there (codes "rc") 12 flags bytes byte rc_ascii is h)))
 
-chars_here : (flags bytes : List ℕ) (byte : ℕ) → bytes ≡ encode_utf8_all flags → IsReleaseByte flags byte → IsReleaseByte bytes byte
+chars_here : (flags bytes : List ℕ) (byte : ℕ) → bytes ≡ encode_utf8_all flags → IsReleaseByte flags byte
+    → IsReleaseByte bytes byte
 chars_here flags bytes byte is (inl final) = inl (ascii_same flags bytes [] is IsAscii-nil final.0, final.1)
 chars_here flags bytes byte is (inr (inl h)) = inr (inl (final_here (codes "a") 10 flags bytes byte a_ascii is h))
-chars_here flags bytes byte is (inr (inr (inl h))) = inr (inr (inl (final_here (codes "b") 11 flags bytes byte b_ascii is h)))
-chars_here flags bytes byte is (inr (inr (inr h))) = inr (inr (inr (final_here (codes "rc") 12 flags bytes byte rc_ascii is h)))
+chars_here flags bytes byte is (inr (inr (inl h))) = inr (inr
+    (inl (final_here (codes "b") 11 flags bytes byte b_ascii is h)))
+chars_here flags bytes byte is (inr (inr (inr h))) = inr (inr
+    (inr (final_here (codes "rc") 12 flags bytes byte rc_ascii is h)))
 
 pub byte_tells : (r : Option ℕ) (flags bytes : List ℕ) → bytes ≡ encode_utf8_all flags → r ≡ release_byte bytes
     → MatchOption r ((byte : ℕ) → ¬ IsReleaseByte flags byte) (IsReleaseByte flags)
-byte_tells None flags bytes is r_is = λ byte h. let found = is_found bytes byte (chars_here flags bytes byte is h) in let clash : None ≡ Some byte = r_is ∙ found in cc
+byte_tells None flags bytes is r_is = λ byte h. let found = is_found bytes byte (chars_here flags bytes byte is h) in
+    let clash : None ≡ Some byte = r_is ∙ found in cc
 byte_tells (Some byte) flags bytes is r_is = chars_there flags bytes byte is (found_is bytes byte (sym r_is))
 
 -- ---- whether there is one
 
-pub has_one : (r : Option ℕ) (b : Bool) (flags : List ℕ) → MatchOption r ((byte : ℕ) → ¬ IsReleaseByte flags byte) (IsReleaseByte flags) → b ≡ is_some r
+pub has_one : (r : Option ℕ) (b : Bool) (flags : List ℕ) → MatchOption r ((byte : ℕ)
+    → ¬ IsReleaseByte flags byte) (IsReleaseByte flags) → b ≡ is_some r
     → IsTrue b ↔ HasReleaseByte flags
 has_one None b flags h is = (λ t. let clash : false ≡ true = sym is ∙ t in cc, λ x. absurd (h x.0 x.1))
 has_one (Some byte) b flags h is = (λ t. (byte, h), λ x. is)
+
+-- the bytes of the flags have the same byte
+pub byte_same : (flags bytes : List ℕ) → bytes ≡ encode_utf8_all flags → HasReleaseByte flags
+    → release_byte bytes ≡ release_byte flags
+byte_same flags bytes is h = is_found bytes h.0 (chars_here flags bytes h.0 is h.1) ∙ sym (is_found flags h.0 h.1)

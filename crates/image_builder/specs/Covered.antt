@@ -2,6 +2,7 @@
 -- low byte has a release's level and serial number; so a version that no such number tells can't be written.
 use Rattle.std.specs.Prelude.{◌≡◌, ℕ, ◌+◌, ◌*◌, ◌-◌, ◌<◌, ◌≤◌, ◌⊎◌, ◌==◌, ◌&&◌, if◌then◌else◌, Option, Some, None, option_map, IsSome, List, [], ◌∷◌, ◌++◌, codes}
 use Rattle.std.specs.Fmt.{decimal}
+use Rattle.std.specs.Option.{unwrap_or}
 use Rattle.std.specs.Int.{is_in_range}
 use Rattle.elf64_core.specs.declared.header.Machine.{Machine}
 use Rattle.py_version.specs.declared.version.Version.{Version}
@@ -66,6 +67,10 @@ pub record IsNumberOf (v : Version) (number : ℕ) : Type 0 where
   pub byte : ℕ
   pub flags : IsReleaseByte v.release_flags byte
   pub parts : number ≡ ((v.major * 256 + v.minor) * 256 + v.patch) * 256 + byte
+
+-- that number, by the byte that is found for the flags
+unfoldable pub number_of : Version → ℕ
+number_of v = ((v.major * 256 + v.minor) * 256 + v.patch) * 256 + unwrap_or (release_byte v.release_flags) 0
 
 -- the layout is one of the version, the version has a number, and an owner has a place where it is named
 pub record IsCovered (l : Layout) (v : Version) (machine : Machine) (owner : Option ℕ) : Type 0 where

@@ -1,3 +1,11 @@
+pub mod Built
+pub mod CoreFacts
+pub mod CoreFiles
 pub mod Covered
+pub mod ElfRecords
 pub mod Generated
+pub mod ImageFacts
+pub mod ImageFiles
+pub mod Records
 pub mod Refusals
+pub mod RuntimeWords

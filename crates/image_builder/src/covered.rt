@@ -2,7 +2,7 @@
 ghost use Rattle.std.specs.Prelude.{◌≡◌, ◌↔◌, ◌≤◌, IsTrue, ℕ, IsSome, IfSome, MatchOption};
 ghost use Rattle.py_fields.specs.declared.layout.Lock.TheVariants.{Runtime};
 ghost use Rattle.py_version.specs.Offsets.{tstate_current_offset};
-ghost use Rattle.image_builder.specs.Covered.{serial_of, byte_behind, candidate_byte, release_byte, IsReleaseByte, HasReleaseByte, IsNumbered, IsCovered};
+ghost use Rattle.image_builder.specs.Covered.{serial_of, byte_behind, candidate_byte, release_byte, IsReleaseByte, HasReleaseByte, IsNumbered, IsCovered, number_of};
 
 use elf64_core::{Machine, Text};
 use py_fields::{Layout, Lock};
@@ -69,6 +69,16 @@ fn is_numbered(version: &Version) -> bool
         && version.patch <= 255
         && has_byte(&version.release_flags)
         && version.build_metadata.is_none()
+}
+
+/// CPython's number of a version that has one.
+pub(crate) fn number_of(version: &Version) -> u32
+    requires { IsNumbered version.now }
+    ensures { result ≡ number_of version.now }
+{
+    let byte = release_byte(version.release_flags.as_str().as_bytes()).unwrap_or(0);
+    let release = (version.major as u32 * 256 + version.minor as u32) * 256 + version.patch as u32;
+    release * 256 + u32::from(byte)
 }
 
 /// Whether a program with this owner can be written for a layout, a version and a machine.

@@ -1,9 +1,11 @@
-//! Programs of seeds, and which programs are refused.
+//! Programs of seeds, which programs are refused, and the files of one that isn't.
 use crate::admission::admit;
-use crate::{BuildError, Program, ProgramFrame, ProgramThread, generate};
+use crate::{BuildError, Program, ProgramFrame, ProgramThread, build, generate};
 use elf64_core::{Machine, Text};
+use image_memory::CoreDump;
 use py_fields::{Layout, is_sound};
 use py_lines::LineRange;
+use py_process::parse_binary;
 use py_version::Version;
 use std::alloc::Global;
 use std::test::Fail;
@@ -153,5 +155,24 @@ fn faults_and_sizes_are_refused(rt: HostRuntime) -> Result<(), Fail> {
     let needed = (1 << 18) + shared + 5 * (64 + 4096 * frame_size);
     let answer = admit(alloc, &many, &layout, &version, machine);
     assert!(rt; answer == Err(BuildError::NoRoom { needed }));
+    Ok(())
+}
+
+#[test]
+fn files_are_built_and_read(rt: HostRuntime) -> Result<(), Fail> {
+    let alloc = rt.alloc();
+    let mut program = small(alloc, 32512, "a.py")?;
+    program.owner = Some(0);
+    let version = version(alloc, 9, 0, "")?;
+    let layout = Layout::sample();
+    let built = build(alloc, &program, &layout, &version, Machine::X86_64)?;
+    // The interpreter, three types with their names, a thread, and two frames with what goes with them.
+    let objects = 32 + 3 * (48 + 128) + 64 + 2 * (64 + 64 + 48 + 32 + 80 + 80);
+    assert!(rt; built.core.len() == 0x2_3000 + objects);
+    assert!(rt; built.interpreter == 0x60_0000 && built.lock == 0x50_0238);
+    let info = parse_binary(alloc, &built.image, 0x40_0000, 0x2000)?;
+    assert!(rt; info.bss_addr == 0x50_0000 && info.bss_size == 0x2_0000);
+    let core = CoreDump::new(alloc, built.core)?;
+    assert!(rt; core.maps().len() == 3);
     Ok(())
 }

@@ -1,5 +1,5 @@
 -- What a valid program is, and where its parts stand.
-use Rattle.std.proofs.Common.{◌+◌, ◌<◌, ◌^◌, ℕ, List, refl, arith}
+use Rattle.std.proofs.Common.{◌≡◌, ◌+◌, ◌<◌, ◌^◌, ℕ, List, refl, arith}
 use Rattle.std.specs.Prelude.{Option, Some, None, IfSome, length, take, slice_get}
 use Rattle.std.specs.List.{AllByRecursion, sum_by}
 use Rattle.py_fields.specs.declared.layout.Layout.{Layout}
@@ -32,3 +32,8 @@ pub threads_fit : (l : Layout) (a : ℕ) (p : Program) → a + program_size l p 
     → first_place l a + sum_by (thread_size l) p.threads < 2 ^ 62
 unfolding program_size shared_size
 threads_fit l a p h = omega arith
+
+-- the first thread stands behind what all share
+pub first_is : (l : Layout) (a n : ℕ) → n ≡ shared_size l → a + n ≡ first_place l a
+unfolding shared_size
+first_is l a n is = omega (arith, is)

@@ -12,7 +12,7 @@ mod validity;
 mod values;
 
 pub use parts::{Program, ProgramFrame, ProgramItem, ProgramLocal, ProgramThread, ProgramValue};
-pub use program::laid_program;
+pub use program::{holder_place, laid_program, lock_record_place};
 pub use sizes::{family_of, objects_size};
 pub use validity::{FramePlace, first_invalid};
 

@@ -5,7 +5,7 @@ ghost use Rattle.py_fields.specs.Places.{gil_places};
 ghost use Rattle.py_fields.specs.Sound.{IsRecord, IsSound};
 ghost use Rattle.py_stacks.specs.Lines.{family_of};
 ghost use Rattle.memory_builder.specs.Chains.{addresses_from};
-ghost use Rattle.memory_builder.specs.Laid.{interpreter_writes, is_held, laid_gil, laid_type, laid_program, place_or_none, three_types, type_name, type_writes, types_at};
+ghost use Rattle.memory_builder.specs.Laid.{gil_place, interpreter_writes, is_held, laid_gil, laid_type, laid_program, owner_place as place_of_owner, place_or_none, three_types, type_name, type_writes, types_at};
 ghost use Rattle.memory_builder.specs.Mirror.{program_in};
 ghost use Rattle.memory_builder.specs.Program.{Thread};
 ghost use Rattle.memory_builder.specs.Validity.{IsValidFrame, IsValidProgram};
@@ -15,7 +15,7 @@ ghost use Rattle.object_builder.specs.Room.{HasRoom};
 ghost use Rattle.memory_builder.specs.Sizes.{interpreter_len, program_size, thread_size, type_size};
 
 use crate::parts::Program;
-use crate::sizes::{gil_size, interpreter_len, thread_size};
+use crate::sizes::{gil_size, interpreter_len, shared_size, thread_size};
 use crate::threads::{add_threads, threads_head};
 use crate::values::TypesAt;
 use object_builder::{Value, Write, add_object, optional_write, rounded};
@@ -197,6 +197,31 @@ fn owner_place(
         here += thread_size(alloc, layout, thread)?;
     }
     Ok(here)
+}
+
+/// Where the lock's record stands, where the layout has one, of an interpreter that stands at an address.
+pub fn lock_record_place(layout: &Layout, at: u64) -> u64
+    requires sound { IsSound layout.now }
+    requires fits { at < 2 ^ 62 }
+    ensures { result ≡ gil_place layout.now at }
+{
+    at + rounded(interpreter_len(layout))
+}
+
+/// Where the thread stands that holds the lock, of a program whose objects stand in memory from an address on; 0 where
+/// none holds it. The one error is want of memory.
+pub fn holder_place(
+    alloc: Global,
+    program: &Program,
+    layout: &Layout,
+    at: u64,
+) -> Result<u64, AllocError>
+    requires sound { IsSound layout.now }
+    requires valid { IsValidProgram (family_of layout.now.lines) (program_in program.now) }
+    requires fits { at + program_size layout.now (program_in program.now) < 2 ^ 62 }
+    ensures { IfOk result (λ place. place ≡ place_of_owner layout.now at (program_in program.now)) }
+{
+    owner_place(alloc, layout, at + shared_size(layout), program)
 }
 
 /// The objects of a program, one behind the other, as they are to stand in memory from an address on: the interpreter

@@ -269,7 +269,7 @@ pub(crate) fn gil_size(gil: Option<GilAt>) -> u64
 }
 
 /// How much all threads share: the interpreter, the lock's record, and the types.
-fn shared_size(layout: &Layout) -> u64
+pub(crate) fn shared_size(layout: &Layout) -> u64
     requires { IsSound layout.now }
     ensures value { result ≡ shared_size layout.now }
     ensures bound { result < 2 ^ 37 }

@@ -13,7 +13,8 @@ loop-thread-init c = ap (map program_thread) c.new-threads.ensures.items ∙ sym
 
 pub loop-thread-preserved : goal.loop-thread-preserved
 loop-thread-preserved c =
-    one_more program_thread (thread_of c.args.seed) c.loop-thread.thread c.loop-thread.threads.items c.push.new.self.items c.in_ok-thread_of.field-0
+    one_more program_thread (thread_of c.args.seed) c.loop-thread.thread c.loop-thread.threads.items
+    c.push.new.self.items c.in_ok-thread_of.field-0
     c.in_ok-push.ensures.items c.loop-thread.invariant c.in_ok-thread_of.ensures
 
 abbrev with_threads : List Thread → Program
@@ -26,4 +27,5 @@ returns-clause-same c =
     ap with_threads (c.loop-thread.invariant ∙ ap (each (thread_of c.args.seed)) all)
 
 pub returns-clause-valid : goal.returns-clause-valid
-returns-clause-valid c = λ family. subst (λ p. IsValidProgram family p) (sym (returns-clause-same c)) (generated_valid family c.args.seed)
+returns-clause-valid c = λ family. subst (λ p. IsValidProgram family p) (sym (returns-clause-same c))
+    (generated_valid family c.args.seed)

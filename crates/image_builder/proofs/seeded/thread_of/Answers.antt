@@ -9,5 +9,6 @@ loop-frame-init c = ap (map frame_in) c.new-frames.ensures.items ∙ sym (each_n
 
 pub loop-frame-preserved : goal.loop-frame-preserved
 loop-frame-preserved c =
-    one_more frame_in (frame_of c.args.seed c.args.thread) c.loop-frame.frame c.loop-frame.frames.items c.push.new.self.items c.in_ok-frame_of.field-0
+    one_more frame_in (frame_of c.args.seed c.args.thread) c.loop-frame.frame c.loop-frame.frames.items
+    c.push.new.self.items c.in_ok-frame_of.field-0
     c.in_ok-push.ensures.items c.loop-frame.invariant c.in_ok-frame_of.ensures
