@@ -120,7 +120,7 @@ def functions() -> Iterator[Row]:
     for what, at, shown in (
         ("a function", 0x80, "outer"), ("the last byte of one", 0xFF, "outer"), ("one within another", 0xA0, "inner"), ("behind that", 0xC8, "wide"),
         ("of one value the shorter", 0xBF, "tight"), ("of one value and size the first", 0xD8, "first"), ("one of no bytes", 0xE8, "outer"),
-        ("no function", 0x110, "0x600110"), ("no segment's bytes", 0x10, "0x600010"), ("Cython's name", 0x168, "cont0_array"),
+        ("no function", 0x110, "0x600110"), ("no segment's bytes", 0x10, "0x600010"), ("Cython's name", 0x168, "mtrand_cont0_array"),
         ("a thread's begin in another library", 0x148, "start_thread"), ("a process's begin in another library", 0x128, "__libc_start_main"),
     ):
         yield merged(f"functions: {what}", [0x600000 + at], f"    {shown} (/lib/ext.so)\n" + FRAMES)

@@ -31,13 +31,13 @@ use Rattle.core_merge.proofs.Ordering.{ordered_once}
 abbrev pub Once : {T : Type 0} → (Result T CoreMergeError → Type 0) → Type 0
 Once {T} Right = (a b : Result T CoreMergeError) → Right a → Right b → a ≡ b
 
-err_is : {T : Type 0} (d e : CoreMergeError) → ◌≡◌ {A = Result T CoreMergeError} (Err d) (Err e) → d ≡ e
+pub err_is : {T : Type 0} (d e : CoreMergeError) → ◌≡◌ {A = Result T CoreMergeError} (Err d) (Err e) → d ≡ e
 err_is d e h = cc
 
 ok_is : {T : Type 0} (x y : T) → ◌≡◌ {A = Result T CoreMergeError} (Ok x) (Ok y) → x ≡ y
 ok_is x y h = cc
 
-ok_err : {T : Type 0} (x : T) (e : CoreMergeError) → ◌≡◌ {A = Result T CoreMergeError} (Ok x) (Err e) → ⊥
+pub ok_err : {T : Type 0} (x : T) (e : CoreMergeError) → ◌≡◌ {A = Result T CoreMergeError} (Ok x) (Err e) → ⊥
 ok_err x e h = cc
 
 pub then_once : {T U : Type 0} (First : Result T CoreMergeError → Type 0) (Rest : T → Result U CoreMergeError → Type 0)

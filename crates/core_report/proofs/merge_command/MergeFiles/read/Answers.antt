@@ -22,7 +22,7 @@ returns-in_err-addresses-clause-read g c =
     let first = c.in_ok-report.ensures.read (merge m)
     (merge_asks m _ _ _ c.as_bytes-core.ensures.value c.as_bytes-layouts.ensures.value c.deref.ensures.value) in
     let count = first.1 ∙ ap length c.deref.ensures.value in
-    rw (p.1, p.2) (is_unread old (g.F.Files.seen c.read-report.new.files) (g.F.Files.seen c.read_file.new.files) (merge m)
+    rw (p.1, p.2) (is_unread old (g.F.Files.seen c.read.new.files) (g.F.Files.seen c.read_file.new.files) (merge m)
     (report_contents c.in_ok-report.report) _ c.in_err-addresses.field-0.0 first.0.read
     (merge_next m c.in_ok-report.report _ count c.as_bytes.ensures.value) first.0.failed c.in_err-addresses.ensures.trouble)
 
@@ -35,6 +35,6 @@ returns-clause-read g c =
     let count = first.1 ∙ ap length c.deref.ensures.value in
     let files : MergeFiles = record { report = c.in_ok-report.report; addresses = c.in_ok-addresses.addresses } in
     merge_has old (g.F.Files.seen c.read_file.new.files) m files count
-    (more old.told (g.F.Files.seen c.read-report.new.files).told (merge m) (report_contents c.in_ok-report.report) _
+    (more old.told (g.F.Files.seen c.read.new.files).told (merge m) (report_contents c.in_ok-report.report) _
     c.in_ok-addresses.addresses.items first.0.read (merge_next m c.in_ok-report.report _ count c.as_bytes.ensures.value)
-    c.read-report.ensures.told c.in_ok-addresses.ensures.given.0) (c.in_ok-addresses.ensures.given.1 ∙ first.0.failed)
+    c.read.ensures.told c.in_ok-addresses.ensures.given.0) (c.in_ok-addresses.ensures.given.1 ∙ first.0.failed)
