@@ -1,0 +1,4 @@
+pub mod Joining
+pub mod Appending
+pub mod ReadBack
+pub mod Pieces

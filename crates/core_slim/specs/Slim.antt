@@ -1,0 +1,67 @@
+-- A slim core: a core of some ranges of the memory of another one alone, with all that its notes say. That ranges which
+-- touch are one segment, that it can be written, and that nothing else is taken over, is this project's own rule.
+use Rattle.std.specs.Prelude.{◌≡◌, ℕ, ◌+◌, ◌-◌, ◌<◌, ◌≤◌, List, [], ◌∷◌, ◌++◌, length, map, unwrap_or, Result, Ok, Err, ⊤}
+use Rattle.std.specs.Global.{Vec}
+use Rattle.std.specs.List.{flat_map}
+use Rattle.elf64_core.specs.Header.{load_kind, machine_of, note_kind}
+use Rattle.elf64_core.specs.Notes.{padded}
+use Rattle.elf64_core.specs.declared.segment.Segment.{Segment}
+use Rattle.process_memory.specs.Memory.{Memory, Region, byte_at, bytes_at}
+use Rattle.process_memory.specs.declared.memory.Span.{Span}
+use Rattle.image_memory.specs.Backed.{Backed, regions_of}
+use Rattle.image_memory.specs.Notes.{note_bytes}
+use Rattle.core_slim.specs.Files.{contents_start, file_of, zeros}
+use Rattle.core_slim.specs.Joined.{AreJoined}
+use Rattle.core_slim.specs.declared.error.SlimError.{SlimError}
+use Rattle.core_slim.specs.declared.error.SlimError.TheVariants.{TooManyPieces, OutOfMemory}
+
+-- the bytes of a piece that is wholly in memory
+abbrev pub piece_bytes : Memory → Span → List ℕ
+piece_bytes m p = unwrap_or (bytes_at m p.start p.len) []
+
+-- notes, filled with zero bytes to a multiple of 4
+abbrev pub filled : List ℕ → List ℕ
+filled notes = notes ++ zeros (padded (length notes) - length notes)
+
+-- the segment of a piece whose bytes begin at an offset: it is loaded, and can be read and written
+abbrev pub piece_segment : ℕ → Span → Segment
+piece_segment offset p = record {
+  kind = load_kind;
+  flags = 6;
+  offset = offset;
+  addr = p.start;
+  file_size = p.len;
+  mem_size = p.len;
+}
+
+-- the segment of so many bytes of notes
+abbrev pub notes_segment : (offset size : ℕ) → Segment
+notes_segment offset size = record {
+  kind = note_kind;
+  flags = 0;
+  offset = offset;
+  addr = 0;
+  file_size = size;
+  mem_size = 0;
+}
+
+-- the segments of pieces whose bytes follow each other from an offset on, and then that of notes
+abbrev pub slim_segments : (offset size : ℕ) → List Span → List Segment
+slim_segments offset size [] = notes_segment offset size ∷ []
+slim_segments offset size (p ∷ ps) = piece_segment offset p ∷ slim_segments (offset + p.len) size ps
+
+-- the slim core of some pieces: one load segment for each, in order, and one note segment; then the pieces' bytes, and
+-- the core's own note segments, in order
+unfoldable pub slim_core : Backed → List Span → List ℕ
+slim_core dump pieces =
+    let notes = flat_map filled (note_bytes dump.core) in
+    file_of (machine_of dump.core) (slim_segments (contents_start (length pieces + 1)) (length notes) pieces)
+    (flat_map (piece_bytes (byte_at (regions_of dump))) pieces ++ notes)
+
+-- the slim core of some ranges, or that they have more pieces than a header can count beside the notes
+abbrev pub IsSlimmed : Backed → List Span → Result (Vec ℕ) SlimError → Type 0
+IsSlimmed dump ranges (Ok bytes) =
+    (pieces : List Span) × AreJoined ranges pieces × (length pieces ≤ 65533) × (bytes.items ≡ slim_core dump pieces)
+IsSlimmed dump ranges (Err (TooManyPieces count)) =
+    (pieces : List Span) × AreJoined ranges pieces × (65533 < length pieces) × (count ≡ length pieces)
+IsSlimmed dump ranges (Err OutOfMemory) = ⊤
