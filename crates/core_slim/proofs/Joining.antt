@@ -1,7 +1,7 @@
 -- The pieces of ranges.
-use Rattle.std.proofs.Common.{◌≡◌, ℕ, zero, suc, ◌+◌, ◌-◌, ◌<◌, ◌≤◌, Bool, true, false, cond, leb, ltb, List, [], ◌∷◌, ◌++◌, length, get_or, refl, sym, ap, ap₂, ◌∙◌, arith, append_assoc, drop, ◌^◌, subst, inl, inr, ⊎_elim, ◌||◌, ◌&&◌}
-use Rattle.std.specs.Prelude.{All, IsSome, filter, max}
-use Rattle.std.specs.List.{AllPairs, list_any}
+use Rattle.std.proofs.Common.{◌≡◌, ℕ, zero, suc, ◌+◌, ◌-◌, ◌<◌, ◌≤◌, Bool, true, false, leb, ltb, List, [], ◌∷◌, ◌++◌, length, get_or, refl, sym, ap, ap₂, ◌∙◌, arith, append_assoc, drop, ◌^◌, subst, inl, inr, ◌||◌, ◌&&◌}
+use Rattle.std.specs.Prelude.{All, IsSome, filter}
+use Rattle.std.specs.List.{AllPairs}
 use Rattle.std.specs.List.Sorted.{IsNonDecreasingBy, IsPermutation}
 use Rattle.std.proofs.lemmas.Bool.{cases_lt}
 use Rattle.std.proofs.lemmas.Bool.Decides.{nat_tests}
@@ -52,10 +52,10 @@ apart_rises low (p ∷ ps) some apart from = (
 
 -- ---- addresses
 
-covers_before : (a : ℕ) (s : Span) → a < s.start → covers a s ≡ false
+pub covers_before : (a : ℕ) (s : Span) → a < s.start → covers a s ≡ false
 covers_before a s lt = let no : leb s.start a ≡ false = grind (arith, nat_tests) in rw no refl
 
-covers_behind : (a : ℕ) (s : Span) → s.start + s.len ≤ a → covers a s ≡ false
+pub covers_behind : (a : ℕ) (s : Span) → s.start + s.len ≤ a → covers a s ≡ false
 covers_behind a s le =
     let no : ltb a (s.start + s.len) ≡ false = grind (arith, nat_tests) in
     rw no (elim (leb s.start a) as (λ b. b && false ≡ false) [ true ↦ refl | false ↦ refl ])
@@ -305,7 +305,7 @@ lies_of (s ∷ ss) zero d a lt is_in = rw is_in refl
 lies_of (s ∷ ss) (suc k) d a lt is_in =
     let more = lies_of ss k d a (omega arith) is_in in rw more (elim (covers a s) as (λ b. (b || true) ≡ true) [ true ↦ refl | false ↦ refl ])
 
-in_span : (a : ℕ) (s : Span) → covers a s ≡ true → (s.start ≤ a) × (a < s.start + s.len)
+pub in_span : (a : ℕ) (s : Span) → covers a s ≡ true → (s.start ≤ a) × (a < s.start + s.len)
 in_span a s is_in = by_tests (leb s.start a) (ltb a (s.start + s.len)) refl refl is_in
   where
     by_tests : (x y : Bool) → leb s.start a ≡ x → ltb a (s.start + s.len) ≡ y → (x && y) ≡ true → (s.start ≤ a) × (a < s.start + s.len)

@@ -1,15 +1,15 @@
 -- The bytes of pieces, and the segments of these.
-use Rattle.std.proofs.Common.{◌≡◌, ℕ, zero, suc, ◌+◌, ◌-◌, ◌*◌, ◌/◌, ◌%◌, ◌<◌, ◌≤◌, ◌^◌, List, [], ◌∷◌, ◌++◌, length, take, drop, get_or, refl, sym, ap, ap₂, subst, ◌∙◌, rules, arith, inl, inr, add-zero, add_assoc, append_assoc, length-append}
-use Rattle.std.specs.Prelude.{Option, Some, None, IsSome, slice_get, unwrap_or, replicate}
+use Rattle.std.proofs.Common.{◌≡◌, ℕ, zero, suc, ◌+◌, ◌-◌, ◌%◌, ◌<◌, ◌≤◌, ◌^◌, List, [], ◌∷◌, ◌++◌, length, take, drop, get_or, refl, sym, ap, ap₂, ◌∙◌, arith, inl, inr, add-zero, add_assoc, append_assoc, length-append}
+use Rattle.std.specs.Prelude.{Some, None, slice_get, unwrap_or, replicate}
 use Rattle.std.specs.List.{flat_map}
 use Rattle.std.proofs.Math.ListN.{get_or-append}
 use Rattle.std.proofs.lemmas.Bool.{cases_lt}
-use Rattle.std.proofs.lemmas.List.{drop_all, drop_more, get_or-append-add, take-replicate}
-use Rattle.std.proofs.lemmas.Option.{get_or_from_slice_get, same_Some, slice_get_past, slice_get_within}
+use Rattle.std.proofs.lemmas.List.{drop_more, get_or-append-add, take-replicate}
+use Rattle.std.proofs.lemmas.Option.{get_or_from_slice_get, slice_get_within}
 use Rattle.elf64_core.specs.Notes.{padded}
 use Rattle.elf64_core.specs.declared.header.Machine.{Machine}
 use Rattle.elf64_core.specs.declared.segment.Segment.{Segment}
-use Rattle.process_memory.specs.Memory.{Memory, Region, byte_at, bytes_at, in_front}
+use Rattle.process_memory.specs.Memory.{Memory, Region, byte_at, bytes_at}
 use Rattle.process_memory.specs.Seen.{HoldsSpan}
 use Rattle.process_memory.specs.declared.memory.Span.{Span}
 use Rattle.process_memory.proofs.Records.{byte_at-below}
@@ -126,10 +126,10 @@ slim_together dump pieces segments notes are is =
     together (file_header (number_of (machine_of dump.core)) (length segments)) (flat_map program_header segments) bytes notes
     ∙ ap (λ (ss : List Segment). file_header (number_of (machine_of dump.core)) (length ss) ++ (flat_map program_header ss ++ (bytes ++ notes))) is
     ∙ ap
-      (λ (ns : List ℕ).
-      let ss = slim_segments (contents_start (length pieces + 1)) (length ns) pieces in
-      file_header (number_of (machine_of dump.core)) (length ss) ++ (flat_map program_header ss ++ (bytes ++ ns)))
-      are
+    (λ (ns : List ℕ).
+    let ss = slim_segments (contents_start (length pieces + 1)) (length ns) pieces in
+    file_header (number_of (machine_of dump.core)) (length ss) ++ (flat_map program_header ss ++ (bytes ++ ns)))
+    are
 
 -- what was written part by part
 pub slim_made : (dump : Backed) (pieces : List Span) (core : List ℕ) (notes : List ℕ) (start size : ℕ) (segments : List Segment) (machine : Machine) (none one two whole : List ℕ)
@@ -142,4 +142,4 @@ slim_made dump pieces core notes start size segments machine none one two whole 
     whole_is
     ∙ ap (λ b. b ++ notes) (two_is ∙ ap (λ b. b ++ flat_map (piece_bytes (byte_at (regions_of dump))) pieces) (one_is ∙ ap₂ header none_is (machine_is ∙ ap machine_of core_is)))
     ∙ slim_together dump pieces segments notes (notes_are ∙ ap (λ c. flat_map filled (note_bytes c)) core_is)
-      (segments_are ∙ ap₂ (λ s z. slim_segments s z pieces) start_is size_is)
+    (segments_are ∙ ap₂ (λ s z. slim_segments s z pieces) start_is size_is)

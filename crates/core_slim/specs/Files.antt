@@ -1,7 +1,7 @@
 -- Files of segments, by the System V gABI for 64-bit little-endian files: a header of 64 bytes, right behind it a
 -- program header of 56 bytes for each segment, and the segments' bytes. That each field which no rule names is 0, the
 -- type of the file among them, is this project's own rule.
-use Rattle.std.specs.Prelude.{ℕ, ◌+◌, ◌*◌, List, [], ◌∷◌, ◌++◌, length, replicate}
+use Rattle.std.specs.Prelude.{ℕ, ◌+◌, ◌*◌, List, ◌++◌, length, replicate}
 use Rattle.std.specs.Int.{w64, w32, w16, to_le_bytes}
 use Rattle.std.specs.List.{flat_map}
 use Rattle.elf64_core.specs.Header.{identity}

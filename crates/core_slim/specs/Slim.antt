@@ -1,17 +1,17 @@
 -- A slim core: a core of some ranges of the memory of another one alone, with all that its notes say. That ranges which
 -- touch are one segment, that it can be written, and that nothing else is taken over, is this project's own rule.
-use Rattle.std.specs.Prelude.{◌≡◌, ℕ, ◌+◌, ◌-◌, ◌<◌, ◌≤◌, List, [], ◌∷◌, ◌++◌, length, map, unwrap_or, Result, Ok, Err, ⊤}
-use Rattle.std.specs.Global.{Vec}
+use Rattle.std.specs.Prelude.{◌≡◌, ℕ, ◌+◌, ◌-◌, ◌<◌, ◌≤◌, List, [], ◌∷◌, ◌++◌, length, unwrap_or, None, Result, Ok, Err, ⊤, if◌then◌else◌}
 use Rattle.std.specs.List.{flat_map}
 use Rattle.elf64_core.specs.Header.{load_kind, machine_of, note_kind}
 use Rattle.elf64_core.specs.Notes.{padded}
+use Rattle.elf64_core.specs.Outcomes.{IsUnless}
 use Rattle.elf64_core.specs.declared.segment.Segment.{Segment}
-use Rattle.process_memory.specs.Memory.{Memory, Region, byte_at, bytes_at}
+use Rattle.process_memory.specs.Memory.{Memory, byte_at, bytes_at}
 use Rattle.process_memory.specs.declared.memory.Span.{Span}
 use Rattle.image_memory.specs.Backed.{Backed, regions_of}
 use Rattle.image_memory.specs.Notes.{note_bytes}
 use Rattle.core_slim.specs.Files.{contents_start, file_of, zeros}
-use Rattle.core_slim.specs.Joined.{AreJoined}
+use Rattle.core_slim.specs.Joined.{AreJoined, lies_in}
 use Rattle.core_slim.specs.declared.error.SlimError.{SlimError}
 use Rattle.core_slim.specs.declared.error.SlimError.TheVariants.{TooManyPieces, OutOfMemory}
 
@@ -58,10 +58,20 @@ slim_core dump pieces =
     file_of (machine_of dump.core) (slim_segments (contents_start (length pieces + 1)) (length notes) pieces)
     (flat_map (piece_bytes (byte_at (regions_of dump))) pieces ++ notes)
 
--- the slim core of some ranges, or that they have more pieces than a header can count beside the notes
-abbrev pub IsSlimmed : Backed → List Span → Result (Vec ℕ) SlimError → Type 0
+-- the slim core of some ranges, or that they have more pieces than a header can count beside the notes; want of memory
+-- may always be answered
+abbrev pub IsSlimmed : Backed → List Span → Result (List ℕ) SlimError → Type 0
 IsSlimmed dump ranges (Ok bytes) =
-    (pieces : List Span) × AreJoined ranges pieces × (length pieces ≤ 65533) × (bytes.items ≡ slim_core dump pieces)
+    (pieces : List Span) × AreJoined ranges pieces × (length pieces ≤ 65533) × (bytes ≡ slim_core dump pieces)
 IsSlimmed dump ranges (Err (TooManyPieces count)) =
     (pieces : List Span) × AreJoined ranges pieces × (65533 < length pieces) × (count ≡ length pieces)
 IsSlimmed dump ranges (Err OutOfMemory) = ⊤
+
+-- a right answer is the answer, want of memory aside
+abbrev pub IsSoleSlim : Backed → List Span → Result (List ℕ) SlimError → Type 0
+IsSoleSlim dump ranges result = (answer : Result (List ℕ) SlimError) → IsSlimmed dump ranges answer
+    → ¬ (answer ≡ Err OutOfMemory) → IsUnless OutOfMemory answer result
+
+-- a memory at the addresses of some ranges alone
+abbrev pub part_of : List Span → Memory → Memory
+part_of ranges m addr = if lies_in ranges addr then m addr else None

@@ -1,4 +1,4 @@
-//! Slim cores: what some ranges of a core's memory need, as a core of its own.
+//! Slim cores: some ranges of a core's memory, and all that its notes say, as a core of its own.
 #![tactic(auto)]
 
 mod error;

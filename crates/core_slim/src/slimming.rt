@@ -1,9 +1,15 @@
 //! A core of some ranges of another one's memory.
-ghost use Rattle.std.specs.Prelude.{◌≡◌, ◌≤◌, All, IfOk, length};
+ghost use Rattle.std.specs.Prelude.{◌≡◌, ◌≤◌, ◌↔◌, ℕ, All, IfOk, List, Option, length};
+ghost use Rattle.elf64_core.specs.Header.{machine_of};
+ghost use Rattle.image_memory.specs.Cores.{IsCore};
+ghost use Rattle.image_memory.specs.Notes.{AreStatuses, IsProcess};
+ghost use Rattle.image_memory.specs.Pieces.{memory_of};
+ghost use Rattle.image_memory.specs.declared.records.elf_prstatus.{elf_prstatus as Status};
+ghost use Rattle.image_memory.specs.declared.records.elf_prpsinfo.{elf_prpsinfo as Process};
 ghost use Rattle.image_memory.specs.Backed.{regions_of};
 ghost use Rattle.process_memory.specs.Memory.{byte_at};
-ghost use Rattle.process_memory.specs.Seen.{HoldsSpan};
-ghost use Rattle.core_slim.specs.Slim.{IsSlimmed, slim_core};
+ghost use Rattle.process_memory.specs.Seen.{HoldsSpan, items_of};
+ghost use Rattle.core_slim.specs.Slim.{IsSlimmed, IsSoleSlim, part_of, slim_core};
 
 use crate::SlimError;
 use crate::headers::{add_headers, contents_start};
@@ -21,7 +27,8 @@ const MOST_PIECES: usize = 65533;
 fn slim_of(alloc: Global, dump: &BackedDump, pieces: &[Span]) -> Result<Vec<u8>, AllocError>
     requires held { All (HoldsSpan (byte_at (regions_of dump.now))) pieces.now }
     requires few { length pieces.now ≤ 65533 }
-    ensures { IfOk result (λ bytes. bytes.items ≡ slim_core dump.now pieces.now) }
+    ensures bytes { IfOk result (λ bytes. bytes.items ≡ slim_core dump.now pieces.now) }
+    ensures core { IsCore dump.now.core }
 {
     let core = dump.core();
     let notes = filled_notes(alloc, core)?;
@@ -34,10 +41,35 @@ fn slim_of(alloc: Global, dump: &BackedDump, pieces: &[Span]) -> Result<Vec<u8>,
     Ok(bytes)
 }
 
-/// A core of some ranges of a dump's memory.
+/// A core of some ranges of a dump's memory alone, each of which is wholly in memory, and of all that the notes of the
+/// dump's core say: the bytes of its file.
+///
+/// It has one load segment for each piece of the ranges, in ascending order, readable and writable, and then one
+/// segment of notes, which has the bytes of the core's own note segments, in order, each filled with zero bytes to a
+/// multiple of 4. A piece is a longest interval of addresses that all lie in some range, whichever segments or images
+/// have their bytes: ranges that touch or overlap are one piece, and a range of no bytes has none. The header and the
+/// program headers stand in front of the segments' bytes, and nothing stands between these. Fields that say none of
+/// this are 0, so that a file's type tells of no core; `CoreDump::new` doesn't look at it.
+///
+/// What is read of it: the machine, the status records and the last process record of the core, and a memory that has
+/// a byte at exactly the addresses of the ranges, which is the byte of the dump's memory there.
+///
+/// `TooManyPieces` comes exactly where the ranges have more than 65533 pieces, which it counts, want of memory aside.
+/// Else the one error is want of memory. It takes the time of a sort of the ranges, and each byte is copied once.
 pub fn slim(alloc: Global, dump: &BackedDump, ranges: &[Span]) -> Result<Vec<u8>, SlimError>
     requires held { All (HoldsSpan (byte_at (regions_of dump.now))) ranges.now }
-    ensures right { IsSlimmed dump.now ranges.now result }
+    ensures right { IsSlimmed dump.now ranges.now (items_of result) }
+    // what is right is the answer, want of memory aside
+    ensures only { IsSoleSlim dump.now ranges.now (items_of result) }
+    // what is read of it
+    ensures core { IfOk result (λ bytes. IsCore bytes.items) }
+    ensures machine { IfOk result (λ bytes. machine_of bytes.items ≡ machine_of dump.now.core) }
+    ensures memory { IfOk result (λ bytes. (addr : ℕ) → byte_at (memory_of bytes.items) addr
+        ≡ part_of ranges.now (byte_at (regions_of dump.now)) addr) }
+    ensures statuses { IfOk result (λ bytes. (statuses : List Status)
+        → AreStatuses bytes.items statuses ↔ AreStatuses dump.now.core statuses) }
+    ensures process { IfOk result (λ bytes. (process : Option Process)
+        → IsProcess bytes.items process ↔ IsProcess dump.now.core process) }
 {
     let pieces = joined_pieces(alloc, ranges)?;
     if pieces.len() > MOST_PIECES {

@@ -1,4 +1,4 @@
-use Rattle.std.proofs.Common.{arith, ◌+◌, ap, sym, ◌∙◌, ◌++◌, ◌∷◌, [], get_or, refl, length, subst}
+use Rattle.std.proofs.Common.{arith, ◌+◌, ap, sym, ◌∙◌, ◌++◌, get_or, subst}
 use Rattle.std.specs.Prelude.{Vec}
 use Rattle.std.specs.Global.{Global}
 use Rattle.std.proofs.lemmas.List.{drop_all}

@@ -1,4 +1,4 @@
-use Rattle.std.proofs.Common.{◌≡◌, ◌++◌, ◌≤◌, ◌+◌, ◌-◌, ◌^◌, ap, sym, ◌∙◌, arith, append_assoc, refl, subst, length}
+use Rattle.std.proofs.Common.{◌≡◌, ◌++◌, ◌+◌, ap, ◌∙◌, arith, append_assoc, refl, subst, length}
 use Rattle.image_memory.specs.Backed.{regions_of}
 use Rattle.process_memory.specs.Memory.{byte_at}
 use Rattle.core_slim.proofs.Pieces.{AreCopied, all_copied, held_ends, more_copied}
