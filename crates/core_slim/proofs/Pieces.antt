@@ -116,30 +116,34 @@ length-slim_segments offset size (p ∷ ps) = omega (arith, length-slim_segments
 together : (a b c d : List ℕ) → ((a ++ b) ++ c) ++ d ≡ a ++ (b ++ (c ++ d))
 together a b c d = simp append_assoc
 
-pub slim_together : (dump : Backed) (pieces : List Span) (segments : List Segment) (notes : List ℕ)
-    → notes ≡ flat_map filled (note_bytes dump.core) → segments ≡ slim_segments (contents_start (length pieces + 1)) (length notes) pieces
-    → ((file_header (number_of (machine_of dump.core)) (length segments) ++ flat_map program_header segments)
-    ++ flat_map (piece_bytes (byte_at (regions_of dump))) pieces) ++ notes ≡ slim_core dump pieces
+pub slim_together : (core : List ℕ) (m : Memory) (pieces : List Span) (segments : List Segment) (notes : List ℕ)
+    → notes ≡ flat_map filled (note_bytes core) → segments ≡ slim_segments (contents_start (length pieces + 1)) (length notes) pieces
+    → ((file_header (number_of (machine_of core)) (length segments) ++ flat_map program_header segments)
+    ++ flat_map (piece_bytes m) pieces) ++ notes ≡ slim_core core m pieces
 unfolding slim_core file_of
-slim_together dump pieces segments notes are is =
-    let bytes = flat_map (piece_bytes (byte_at (regions_of dump))) pieces in
-    together (file_header (number_of (machine_of dump.core)) (length segments)) (flat_map program_header segments) bytes notes
-    ∙ ap (λ (ss : List Segment). file_header (number_of (machine_of dump.core)) (length ss) ++ (flat_map program_header ss ++ (bytes ++ notes))) is
+slim_together core m pieces segments notes are is =
+    let bytes = flat_map (piece_bytes m) pieces in
+    together (file_header (number_of (machine_of core)) (length segments)) (flat_map program_header segments) bytes notes
+    ∙ ap (λ (ss : List Segment). file_header (number_of (machine_of core)) (length ss) ++ (flat_map program_header ss ++ (bytes ++ notes))) is
     ∙ ap
     (λ (ns : List ℕ).
     let ss = slim_segments (contents_start (length pieces + 1)) (length ns) pieces in
-    file_header (number_of (machine_of dump.core)) (length ss) ++ (flat_map program_header ss ++ (bytes ++ ns)))
+    file_header (number_of (machine_of core)) (length ss) ++ (flat_map program_header ss ++ (bytes ++ ns)))
     are
 
 -- what was written part by part
-pub slim_made : (dump : Backed) (pieces : List Span) (core : List ℕ) (notes : List ℕ) (start size : ℕ) (segments : List Segment) (machine : Machine) (none one two whole : List ℕ)
-    → core ≡ dump.core → notes ≡ flat_map filled (note_bytes core) → start ≡ contents_start (length pieces + 1) → size ≡ length notes
-    → segments ≡ slim_segments start size pieces → none ≡ [] → machine ≡ machine_of core
+pub slim_made : (core : List ℕ) (m : Memory) (pieces : List Span) (found notes : List ℕ) (start size : ℕ)
+    (segments : List Segment) (machine : Machine) (none one two whole : List ℕ)
+    → found ≡ core → notes ≡ flat_map filled (note_bytes found) → start ≡ contents_start (length pieces + 1)
+    → size ≡ length notes → segments ≡ slim_segments start size pieces → none ≡ [] → machine ≡ machine_of found
     → one ≡ (none ++ file_header (number_of machine) (length segments)) ++ flat_map program_header segments
-    → two ≡ one ++ flat_map (piece_bytes (byte_at (regions_of dump))) pieces → whole ≡ two ++ notes → whole ≡ slim_core dump pieces
-slim_made dump pieces core notes start size segments machine none one two whole core_is notes_are start_is size_is segments_are none_is machine_is one_is two_is whole_is =
-    let header = λ (e : List ℕ) (m : Machine). (e ++ file_header (number_of m) (length segments)) ++ flat_map program_header segments in
-    whole_is
-    ∙ ap (λ b. b ++ notes) (two_is ∙ ap (λ b. b ++ flat_map (piece_bytes (byte_at (regions_of dump))) pieces) (one_is ∙ ap₂ header none_is (machine_is ∙ ap machine_of core_is)))
-    ∙ slim_together dump pieces segments notes (notes_are ∙ ap (λ c. flat_map filled (note_bytes c)) core_is)
+    → two ≡ one ++ flat_map (piece_bytes m) pieces → whole ≡ two ++ notes → whole ≡ slim_core core m pieces
+slim_made core m pieces found notes start size segments machine none one two whole same notes_are start_is size_is
+    segments_are none_is machine_is one_is two_is whole_is =
+    let bytes = flat_map (piece_bytes m) pieces in
+    let headers = λ (e : List ℕ) (h : Machine).
+    (e ++ file_header (number_of h) (length segments)) ++ flat_map program_header segments in
+    let headed = one_is ∙ ap₂ headers none_is (machine_is ∙ ap machine_of same) in
+    whole_is ∙ ap (λ b. b ++ notes) (two_is ∙ ap (λ b. b ++ bytes) headed)
+    ∙ slim_together core m pieces segments notes (notes_are ∙ ap (λ c. flat_map filled (note_bytes c)) same)
     (segments_are ∙ ap₂ (λ s z. slim_segments s z pieces) start_is size_is)

@@ -1,15 +1,10 @@
 //! A core of some ranges of another one's memory.
-ghost use Rattle.std.specs.Prelude.{◌≡◌, ◌≤◌, ◌↔◌, ℕ, All, IfOk, List, Option, length};
-ghost use Rattle.elf64_core.specs.Header.{machine_of};
+ghost use Rattle.std.specs.Prelude.{◌≡◌, ◌≤◌, All, IfOk, length};
 ghost use Rattle.image_memory.specs.Cores.{IsCore};
-ghost use Rattle.image_memory.specs.Notes.{AreStatuses, IsProcess};
-ghost use Rattle.image_memory.specs.Pieces.{memory_of};
-ghost use Rattle.image_memory.specs.declared.records.elf_prstatus.{elf_prstatus as Status};
-ghost use Rattle.image_memory.specs.declared.records.elf_prpsinfo.{elf_prpsinfo as Process};
 ghost use Rattle.image_memory.specs.Backed.{regions_of};
 ghost use Rattle.process_memory.specs.Memory.{byte_at};
 ghost use Rattle.process_memory.specs.Seen.{HoldsSpan, items_of};
-ghost use Rattle.core_slim.specs.Slim.{IsSlimmed, IsSoleSlim, part_of, slim_core};
+ghost use Rattle.core_slim.specs.Slim.{IsSlimmed, IsSoleSlim, Keeps, slim_core};
 
 use crate::SlimError;
 use crate::headers::{add_headers, contents_start};
@@ -27,7 +22,7 @@ const MOST_PIECES: usize = 65533;
 fn slim_of(alloc: Global, dump: &BackedDump, pieces: &[Span]) -> Result<Vec<u8>, AllocError>
     requires held { All (HoldsSpan (byte_at (regions_of dump.now))) pieces.now }
     requires few { length pieces.now ≤ 65533 }
-    ensures bytes { IfOk result (λ bytes. bytes.items ≡ slim_core dump.now pieces.now) }
+    ensures bytes { IfOk result (λ bytes. bytes.items ≡ slim_core dump.now.core (byte_at (regions_of dump.now)) pieces.now) }
     ensures core { IsCore dump.now.core }
 {
     let core = dump.core();
@@ -58,18 +53,12 @@ fn slim_of(alloc: Global, dump: &BackedDump, pieces: &[Span]) -> Result<Vec<u8>,
 /// Else the one error is want of memory. It takes the time of a sort of the ranges, and each byte is copied once.
 pub fn slim(alloc: Global, dump: &BackedDump, ranges: &[Span]) -> Result<Vec<u8>, SlimError>
     requires held { All (HoldsSpan (byte_at (regions_of dump.now))) ranges.now }
-    ensures right { IsSlimmed dump.now ranges.now (items_of result) }
+    ensures right { IsSlimmed dump.now.core (byte_at (regions_of dump.now)) ranges.now (items_of result) }
     // what is right is the answer, want of memory aside
-    ensures only { IsSoleSlim dump.now ranges.now (items_of result) }
+    ensures only { IsSoleSlim dump.now.core (byte_at (regions_of dump.now)) ranges.now (items_of result) }
     // what is read of it
-    ensures core { IfOk result (λ bytes. IsCore bytes.items) }
-    ensures machine { IfOk result (λ bytes. machine_of bytes.items ≡ machine_of dump.now.core) }
-    ensures memory { IfOk result (λ bytes. (addr : ℕ) → byte_at (memory_of bytes.items) addr
-        ≡ part_of ranges.now (byte_at (regions_of dump.now)) addr) }
-    ensures statuses { IfOk result (λ bytes. (statuses : List Status)
-        → AreStatuses bytes.items statuses ↔ AreStatuses dump.now.core statuses) }
-    ensures process { IfOk result (λ bytes. (process : Option Process)
-        → IsProcess bytes.items process ↔ IsProcess dump.now.core process) }
+    ensures keeps { IfOk result (λ bytes.
+        Keeps dump.now.core (byte_at (regions_of dump.now)) ranges.now bytes.items) }
 {
     let pieces = joined_pieces(alloc, ranges)?;
     if pieces.len() > MOST_PIECES {

@@ -6,7 +6,7 @@ use Rattle.process_memory.specs.Seen.{HoldsSpan}
 use Rattle.core_slim.specs.Slim.{slim_core}
 use Rattle.core_slim.specs.declared.error.SlimError.TheVariants.{TooManyPieces}
 use Rattle.core_slim.proofs.Joining.{pieces_held}
-use Rattle.core_slim.proofs.Kept.{IsKept, kept_core, kept_process, kept_statuses, slim_kept}
+use Rattle.core_slim.proofs.Kept.{slim_keeps}
 use Rattle.core_slim.proofs.Pieces.{held_ends}
 use Rattle.core_slim.proofs.Sole.{slim_only}
 use Rattle.core_slim.proofs.slimming.slim.Goals as goal
@@ -22,24 +22,27 @@ slim_of-requires-clause-held c =
 pub returns-then-len-gt-MOST_PIECES-clause-only : goal.returns-then-len-gt-MOST_PIECES-clause-only
 returns-then-len-gt-MOST_PIECES-clause-only c =
     let ps = c.in_ok-pieces.pieces.items in
-    slim_only c.args.dump.now c.args.ranges.now (Err (TooManyPieces c.len-then-len-gt-MOST_PIECES.result))
-    (ps, c.in_ok-pieces.ensures, omega (arith, c.in_ok-pieces.pieces.ok.0), c.len-then-len-gt-MOST_PIECES.ensures ∙ c.in_ok-pieces.pieces.ok.0)
+    let dump = c.args.dump.now in
+    slim_only dump.core (byte_at (regions_of dump)) c.args.ranges.now
+    (Err (TooManyPieces c.len-then-len-gt-MOST_PIECES.result)) (
+      ps,
+      c.in_ok-pieces.ensures,
+      omega (arith, c.in_ok-pieces.pieces.ok.0),
+      c.len-then-len-gt-MOST_PIECES.ensures ∙ c.in_ok-pieces.pieces.ok.0,
+    )
 
 pub returns : goal.returns
 returns c =
-    let ps = c.in_ok-pieces.pieces.items in
     let dump = c.args.dump.now in
+    let m = byte_at (regions_of dump) in
     let ranges = c.args.ranges.now in
+    let ps = c.in_ok-pieces.pieces.items in
+    let bytes = c.in_ok-bytes.bytes.items in
     let few : length ps ≤ 65533 = omega (arith, c.in_ok-pieces.pieces.ok.0) in
-    let is : c.in_ok-bytes.bytes.items ≡ slim_core dump ps = c.in_ok-bytes.ensures.bytes ∙ ap (slim_core dump) c.deref.ensures.value in
-    let kept : IsKept dump ranges c.in_ok-bytes.bytes.items = slim_kept dump ranges ps c.in_ok-bytes.bytes.items c.requires.held c.in_ok-pieces.ensures few is (omega (arith, c.in_ok-bytes.bytes.ok.0, c.in_ok-bytes.bytes.ok.1, c.in_ok-bytes.bytes.small)) in
-    let core = c.in_ok-bytes.ensures.core in
+    let is : bytes ≡ slim_core dump.core m ps = c.in_ok-bytes.ensures.bytes ∙ ap (slim_core dump.core m) c.deref.ensures.value in
     record {
       right = (ps, c.in_ok-pieces.ensures, few, is);
-      only = slim_only dump ranges (Ok c.in_ok-bytes.bytes.items) (ps, c.in_ok-pieces.ensures, few, is);
-      core = kept_core dump ranges c.in_ok-bytes.bytes.items core kept;
-      machine = kept.machine;
-      memory = kept.memory;
-      statuses = kept_statuses dump ranges c.in_ok-bytes.bytes.items core kept;
-      process = kept_process dump ranges c.in_ok-bytes.bytes.items core kept;
+      only = slim_only dump.core m ranges (Ok bytes) (ps, c.in_ok-pieces.ensures, few, is);
+      keeps = slim_keeps dump.core (regions_of dump) ranges ps bytes c.in_ok-bytes.ensures.core c.requires.held
+          c.in_ok-pieces.ensures few is (omega (arith, c.in_ok-bytes.bytes.ok.0, c.in_ok-bytes.bytes.ok.1, c.in_ok-bytes.bytes.small));
     }
