@@ -60,7 +60,7 @@ covers_behind a s le =
     let no : ltb a (s.start + s.len) ≡ false = grind (arith, nat_tests) in
     rw no (elim (leb s.start a) as (λ b. b && false ≡ false) [ true ↦ refl | false ↦ refl ])
 
-covers_within : (a : ℕ) (s : Span) → s.start ≤ a → a < s.start + s.len → covers a s ≡ true
+pub covers_within : (a : ℕ) (s : Span) → s.start ≤ a → a < s.start + s.len → covers a s ≡ true
 covers_within a s le lt =
     let yes : leb s.start a ≡ true = grind (arith, nat_tests) in
     let also : ltb a (s.start + s.len) ≡ true = grind (arith, nat_tests) in
@@ -299,7 +299,7 @@ none_joins ranges (s ∷ ss) pieces is none same = absurd (omega (arith, none))
 
 -- ---- pieces of ranges that are in memory
 
-lies_of : (ss : List Span) (k : ℕ) (d : Span) (a : ℕ) → k < length ss → covers a (get_or ss k d) ≡ true → lies_in ss a ≡ true
+pub lies_of : (ss : List Span) (k : ℕ) (d : Span) (a : ℕ) → k < length ss → covers a (get_or ss k d) ≡ true → lies_in ss a ≡ true
 lies_of [] k d a lt is_in = absurd (omega arith)
 lies_of (s ∷ ss) zero d a lt is_in = rw is_in refl
 lies_of (s ∷ ss) (suc k) d a lt is_in =

@@ -6,3 +6,4 @@ pub mod Regions
 pub mod Sole
 pub mod NotesBack
 pub mod Kept
+pub mod Parts

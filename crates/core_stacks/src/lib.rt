@@ -9,8 +9,10 @@ mod printing;
 mod programs;
 mod python_core;
 mod reporting;
+mod slimmed_error;
 mod stacks_in;
 
 pub use core_walk::walk;
 pub use python_core::PythonCoreDump;
 pub use reporting::{report, report_counted};
+pub use slimmed_error::SlimmedError;
