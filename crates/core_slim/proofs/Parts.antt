@@ -23,7 +23,7 @@ part_held m part ranges same held = record {
       let at : get_or ranges k s ≡ s = get_or_from_slice_get ranges k s s is in
       let there : IsSome (m (s.start + j)) = subst (HoldsSpan m) at (held k s lt) j less in
       let here : covers (s.start + j) (get_or ranges k s) ≡ true =
-          ap (covers (s.start + j)) at ∙ covers_within (s.start + j) s (omega arith) (omega arith) in
+      ap (covers (s.start + j)) at ∙ covers_within (s.start + j) s (omega arith) (omega arith) in
       let lies : lies_in ranges (s.start + j) ≡ true = lies_of ranges k s (s.start + j) lt here in
       subst IsSome (sym (same (s.start + j) ∙ ap (λ t. cond t (m (s.start + j)) None) lies)) there;
 }

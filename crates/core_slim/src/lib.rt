@@ -5,6 +5,8 @@ mod error;
 mod headers;
 mod joined;
 mod slimming;
+#[cfg(test)]
+mod tests;
 mod writing;
 
 pub use error::SlimError;
