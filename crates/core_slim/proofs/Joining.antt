@@ -27,7 +27,8 @@ rises_some : (low : ℕ) (ps : List Span) → Rises low ps → All (λ p. 0 < p.
 rises_some low [] r = All-nil (λ p. 0 < p.len)
 rises_some low (p ∷ ps) r = All-cons (λ p. 0 < p.len) p ps r.1 (rises_some (p.start + p.len + 1) ps r.2)
 
-rises_from : (low : ℕ) (ps : List Span) → Rises low ps → (k : ℕ) (d : Span) → k < length ps → low ≤ (get_or ps k d).start
+rises_from : (low : ℕ) (ps : List Span) → Rises low ps → (k : ℕ) (d : Span) → k < length ps
+    → low ≤ (get_or ps k d).start
 rises_from low [] r k d lt = absurd (omega arith)
 rises_from low (p ∷ ps) r zero d lt = r.0
 rises_from low (p ∷ ps) r (suc k) d lt = omega (arith, r.0, rises_from (p.start + p.len + 1) ps r.2 k d (omega arith))
@@ -35,9 +36,11 @@ rises_from low (p ∷ ps) r (suc k) d lt = omega (arith, r.0, rises_from (p.star
 rises_apart : (low : ℕ) (ps : List Span) → Rises low ps → AllPairs EndsBefore ps
 rises_apart low [] r i j d ij lt = absurd (omega arith)
 rises_apart low (p ∷ ps) r zero zero d ij lt = absurd (omega arith)
-rises_apart low (p ∷ ps) r zero (suc j) d ij lt = omega (arith, rises_from (p.start + p.len + 1) ps r.2 j d (omega arith))
+rises_apart low (p ∷ ps) r zero (suc j) d ij lt =
+    omega (arith, rises_from (p.start + p.len + 1) ps r.2 j d (omega arith))
 rises_apart low (p ∷ ps) r (suc i) zero d ij lt = absurd (omega arith)
-rises_apart low (p ∷ ps) r (suc i) (suc j) d ij lt = rises_apart (p.start + p.len + 1) ps r.2 i j d (omega arith) (omega arith)
+rises_apart low (p ∷ ps) r (suc i) (suc j) d ij lt =
+    rises_apart (p.start + p.len + 1) ps r.2 i j d (omega arith) (omega arith)
 
 apart_rises : (low : ℕ) (ps : List Span) → All (λ p. 0 < p.len) ps → AllPairs EndsBefore ps
     → ((d : Span) → 0 < length ps → low ≤ (get_or ps 0 d).start) → Rises low ps
@@ -93,7 +96,8 @@ ends low high p q ps qs r s same start =
           let a = q.start + q.len in
           let there : covers a p ≡ true = covers_within a p (omega arith) lt in
           let here : lies_in (p ∷ ps) a ≡ true = rw there refl in
-          let none : lies_in (q ∷ qs) a ≡ false = rw (covers_behind a q (omega arith), lies_before (q.start + q.len + 1) qs a s.2 (omega arith)) refl in
+          let none : lies_in (q ∷ qs) a ≡ false =
+          rw (covers_behind a q (omega arith), lies_before (q.start + q.len + 1) qs a s.2 (omega arith)) refl in
           absurd (let e = same a in cc)
       | inr le ↦ le
     ]
@@ -129,8 +133,10 @@ once low (p ∷ ps) (q ∷ qs) r s same =
     let end2 = ends low low q p qs ps s r (λ a. sym (same a)) (sym start) in
     let len : p.len ≡ q.len = omega arith in
     let equal : p ≡ q = λ i. record { start = start i; len = len i } in
-    let s3 : Rises (p.start + p.len + 1) qs = rises_earlier (q.start + q.len + 1) (p.start + p.len + 1) qs (omega arith) s.2 in
-    let same' : (a : ℕ) → lies_in (p ∷ ps) a ≡ lies_in (p ∷ qs) a = λ a. same a ∙ ap (λ (x : Span). lies_in (x ∷ qs) a) (sym equal) in
+    let s3 : Rises (p.start + p.len + 1) qs =
+    rises_earlier (q.start + q.len + 1) (p.start + p.len + 1) qs (omega arith) s.2 in
+    let same' : (a : ℕ) → lies_in (p ∷ ps) a ≡ lies_in (p ∷ qs) a =
+    λ a. same a ∙ ap (λ (x : Span). lies_in (x ∷ qs) a) (sym equal) in
     ap₂ (λ x xs. x ∷ xs) equal (once (p.start + p.len + 1) ps qs r.2 s3 (after p ps qs r.2 s3 same'))
 
 pub joined_once : (ranges ps qs : List Span) → AreJoined ranges ps → AreJoined ranges qs → ps ≡ qs
@@ -142,7 +148,8 @@ joined_once ranges ps qs one two =
 
 -- ---- joining
 
-covers_both : (a : ℕ) (s t : Span) → s.start ≤ t.start → t.start ≤ s.start + s.len → covers a (both s t) ≡ (covers a s || covers a t)
+covers_both : (a : ℕ) (s t : Span) → s.start ≤ t.start → t.start ≤ s.start + s.len
+    → covers a (both s t) ≡ (covers a s || covers a t)
 covers_both a s t le meets = grind (arith, nat_tests)
 
 ascends_earlier : (low lower : ℕ) (ss : List Span) → lower ≤ low → Ascends low ss → Ascends lower ss
@@ -155,7 +162,11 @@ joined_rises last (s ∷ ss) some h =
     elim (cases_lt (last.start + last.len) s.start) [
       | inl lt ↦
           let no : leb s.start (last.start + last.len) ≡ false = grind (arith, nat_tests) in
-          rw no (omega arith, some, rises_earlier s.start (last.start + last.len + 1) (joined s ss) (omega arith) (joined_rises s ss h.1 h.2))
+          rw no (
+            omega arith,
+            some,
+            rises_earlier s.start (last.start + last.len + 1) (joined s ss) (omega arith) (joined_rises s ss h.1 h.2),
+          )
       | inr le ↦
           let yes : leb s.start (last.start + last.len) ≡ true = grind (arith, nat_tests) in
           rw yes (joined_rises (both last s) ss (omega arith) (ascends_earlier s.start last.start ss h.0 h.2))
@@ -165,7 +176,8 @@ or_assoc : (x y z : Bool) → ((x || y) || z) ≡ (x || (y || z))
 or_assoc true y z = refl
 or_assoc false y z = refl
 
-joined_same : (last : Span) (ss : List Span) (a : ℕ) → Ascends last.start ss → lies_in (joined last ss) a ≡ (covers a last || lies_in ss a)
+joined_same : (last : Span) (ss : List Span) (a : ℕ) → Ascends last.start ss
+    → lies_in (joined last ss) a ≡ (covers a last || lies_in ss a)
 joined_same last [] a h = refl
 joined_same last (s ∷ ss) a h =
     elim (cases_lt (last.start + last.len) s.start) [
@@ -175,13 +187,19 @@ joined_same last (s ∷ ss) a h =
       | inr le ↦
           let yes : leb s.start (last.start + last.len) ≡ true = grind (arith, nat_tests) in
           rw (yes, joined_same (both last s) ss a (ascends_earlier s.start last.start ss h.0 h.2))
-          (ap (λ b. b || lies_in ss a) (covers_both a last s h.0 le) ∙ or_assoc (covers a last) (covers a s) (lies_in ss a))
+          (ap (λ b. b || lies_in ss a) (covers_both a last s h.0 le)
+          ∙ or_assoc (covers a last) (covers a s) (lies_in ss a))
     ]
 
-pub are_joined : (last : Span) (ss : List Span) → 0 < last.len → Ascends last.start ss → AreJoined (last ∷ ss) (joined last ss)
+pub are_joined : (last : Span) (ss : List Span) → 0 < last.len → Ascends last.start ss
+    → AreJoined (last ∷ ss) (joined last ss)
 are_joined last ss some h =
     let rises = joined_rises last ss some h in
-    record { some = rises_some last.start (joined last ss) rises; apart = rises_apart last.start (joined last ss) rises; same = λ a. joined_same last ss a h }
+    record {
+      some = rises_some last.start (joined last ss) rises;
+      apart = rises_apart last.start (joined last ss) rises;
+      same = λ a. joined_same last ss a h;
+    }
 
 -- ---- the loop
 
@@ -193,16 +211,19 @@ pub record IsJoining (first : Span) (others pieces : List Span) (last : Span) (n
   pub fits : last.start + last.len ≤ 2 ^ 64 - 1
 
 -- the range of a number, where it begins, and where it ends
-pub next_range : (low number : ℕ) (others : List Span) (d : Span) → number < length others → Ascends low (drop number others)
+pub next_range : (low number : ℕ) (others : List Span) (d : Span) → number < length others
+    → Ascends low (drop number others)
     → Ascends low (get_or others number d ∷ drop (number + 1) others)
 next_range low number others d lt h = let e = drop_more others number d lt in rw e at h
 
-pub next_fits : (low number : ℕ) (others : List Span) (d : Span) → number < length others → Ascends low (drop number others) → All EndsInTime others
+pub next_fits : (low number : ℕ) (others : List Span) (d : Span) → number < length others
+    → Ascends low (drop number others) → All EndsInTime others
     → (get_or others number d).start + (get_or others number d).len ≤ 2 ^ 64 - 1
 next_fits low number others d lt h fit = fit number d lt (next_range low number others d lt h).1
 
 pub joins_in : (first : Span) (others pieces : List Span) (last : Span) (number : ℕ) (d : Span) → number < length others
-    → IsJoining first others pieces last number → All EndsInTime others → (get_or others number d).start ≤ last.start + last.len
+    → IsJoining first others pieces last number → All EndsInTime others
+    → (get_or others number d).start ≤ last.start + last.len
     → IsJoining first others pieces (both last (get_or others number d)) (number + 1)
 joins_in first others pieces last number d lt is fit le =
     let s = get_or others number d in
@@ -217,8 +238,10 @@ joins_in first others pieces last number d lt is fit le =
       fits = omega (arith, is.fits, h.0, next_fits last.start number others d lt is.ascends fit);
     }
 
-pub joins_apart : (first : Span) (others pieces : List Span) (last : Span) (number : ℕ) (d : Span) → number < length others
-    → IsJoining first others pieces last number → All EndsInTime others → last.start + last.len < (get_or others number d).start
+pub joins_apart : (first : Span) (others pieces : List Span) (last : Span) (number : ℕ) (d : Span)
+    → number < length others
+    → IsJoining first others pieces last number → All EndsInTime others
+    → last.start + last.len < (get_or others number d).start
     → IsJoining first others (pieces ++ last ∷ []) (get_or others number d) (number + 1)
 joins_apart first others pieces last number d lt is fit less =
     let s = get_or others number d in
@@ -242,7 +265,8 @@ ascending low [] some rise from = tt
 ascending low (s ∷ ss) some rise from = (
   from s (omega arith),
   All-head (λ s. 0 < s.len) s ss some,
-  ascending s.start ss (All-tail (λ s. 0 < s.len) s ss some) (λ i j d ij lt. rise (suc i) (suc j) d (omega arith) (omega arith))
+  ascending s.start ss (All-tail (λ s. 0 < s.len) s ss some)
+      (λ i j d ij lt. rise (suc i) (suc j) d (omega arith) (omega arith))
       (λ d lt. rise 0 1 d (omega arith) (omega arith)),
 )
 
@@ -258,7 +282,9 @@ lies_occupied (s ∷ ss) a =
           rw (yes, lies_occupied ss a) refl
       | inr le ↦
           let no : ltb 0 s.len ≡ false = grind (arith, nat_tests) in
-          let none : covers a s ≡ false = elim (cases_lt a s.start) [ inl lt ↦ covers_before a s lt | inr over ↦ covers_behind a s (omega arith) ] in
+          let none : covers a s ≡ false =
+          elim (cases_lt a s.start)
+          [ inl lt ↦ covers_before a s lt | inr over ↦ covers_behind a s (omega arith) ] in
           rw (no, none, lies_occupied ss a) refl
     ]
 
@@ -269,21 +295,26 @@ pub record AreSorted (ranges sorted : List Span) : Type 0 where
   pub fit : All EndsInTime sorted
   pub same : (a : ℕ) → lies_in sorted a ≡ lies_in ranges a
 
-pub are_sorted : (ranges some sorted : List Span) → All EndsInTime ranges → some ≡ filter occupies ranges → IsPermutation some sorted
+pub are_sorted : (ranges some sorted : List Span) → All EndsInTime ranges → some ≡ filter occupies ranges
+    → IsPermutation some sorted
     → IsNonDecreasingBy (λ (s : Span). s.start) sorted → AreSorted ranges sorted
 are_sorted ranges some sorted fit is moved rise = record {
   some = All-permutation (λ (s : Span). 0 < s.len) some sorted moved
       (λ k d lt. rw is (ltb-true 0 _ (filter_passes occupies ranges k d (rw is at lt))));
   rise = rise;
   fit = All-permutation EndsInTime some sorted moved (rw is (All-filter occupies EndsInTime ranges fit));
-  same = λ a. sym (list_any-IsPermutation (covers a) some sorted moved) ∙ ap (λ ss. lies_in ss a) is ∙ lies_occupied ranges a;
+  same =
+      λ a. sym (list_any-IsPermutation (covers a) some sorted moved) ∙ ap (λ ss. lies_in ss a) is
+      ∙ lies_occupied ranges a;
 }
 
 pub first_joins : (ranges : List Span) (first : Span) (others : List Span) → AreSorted ranges (first ∷ others)
-    → (0 < first.len) × Ascends first.start others × EndsInTime first × All EndsInTime others × AreJoined ranges (joined first others)
+    → (0 < first.len) × Ascends first.start others × EndsInTime first × All EndsInTime others × AreJoined ranges
+    (joined first others)
 first_joins ranges first others is =
     let some : 0 < first.len = All-head (λ s. 0 < s.len) first others is.some in
-    let up : Ascends first.start (first ∷ others) = ascending first.start (first ∷ others) is.some is.rise (λ d lt. omega arith) in
+    let up : Ascends first.start (first ∷ others) =
+    ascending first.start (first ∷ others) is.some is.rise (λ d lt. omega arith) in
     let joins = are_joined first others some up.2 in (
       some,
       up.2,
@@ -292,32 +323,43 @@ first_joins ranges first others is =
       record { some = joins.some; apart = joins.apart; same = λ a. joins.same a ∙ is.same a },
     )
 
-pub none_joins : (ranges sorted pieces : List Span) → AreSorted ranges sorted → length sorted ≡ 0 → pieces ≡ [] → AreJoined ranges pieces
+pub none_joins : (ranges sorted pieces : List Span) → AreSorted ranges sorted → length sorted ≡ 0 → pieces ≡ []
+    → AreJoined ranges pieces
 none_joins ranges [] pieces is none same =
-    subst (AreJoined ranges) (sym same) (record { some = All-nil (λ p. 0 < p.len); apart = λ i j d ij lt. absurd (omega arith); same = is.same })
+    subst (AreJoined ranges) (sym same) (record {
+      some = All-nil (λ p. 0 < p.len);
+      apart = λ i j d ij lt. absurd (omega arith);
+      same = is.same;
+    })
 none_joins ranges (s ∷ ss) pieces is none same = absurd (omega (arith, none))
 
 -- ---- pieces of ranges that are in memory
 
-pub lies_of : (ss : List Span) (k : ℕ) (d : Span) (a : ℕ) → k < length ss → covers a (get_or ss k d) ≡ true → lies_in ss a ≡ true
+pub lies_of : (ss : List Span) (k : ℕ) (d : Span) (a : ℕ) → k < length ss → covers a (get_or ss k d) ≡ true
+    → lies_in ss a ≡ true
 lies_of [] k d a lt is_in = absurd (omega arith)
 lies_of (s ∷ ss) zero d a lt is_in = rw is_in refl
 lies_of (s ∷ ss) (suc k) d a lt is_in =
-    let more = lies_of ss k d a (omega arith) is_in in rw more (elim (covers a s) as (λ b. (b || true) ≡ true) [ true ↦ refl | false ↦ refl ])
+    let more =
+    lies_of ss k d a (omega arith) is_in in rw more
+    (elim (covers a s) as (λ b. (b || true) ≡ true) [ true ↦ refl | false ↦ refl ])
 
 pub in_span : (a : ℕ) (s : Span) → covers a s ≡ true → (s.start ≤ a) × (a < s.start + s.len)
 in_span a s is_in = by_tests (leb s.start a) (ltb a (s.start + s.len)) refl refl is_in
   where
-    by_tests : (x y : Bool) → leb s.start a ≡ x → ltb a (s.start + s.len) ≡ y → (x && y) ≡ true → (s.start ≤ a) × (a < s.start + s.len)
+    by_tests : (x y : Bool) → leb s.start a ≡ x → ltb a (s.start + s.len) ≡ y → (x && y) ≡ true
+        → (s.start ≤ a) × (a < s.start + s.len)
     by_tests true true h k e = (grind (arith, nat_tests), grind (arith, nat_tests))
     by_tests true false h k e = absurd (cc)
     by_tests false y h k e = absurd (cc)
 
 lies_held : (m : Memory) (ss : List Span) (a : ℕ) → All (HoldsSpan m) ss → lies_in ss a ≡ true → IsSome (m a)
 lies_held m [] a held is_in = absurd (cc)
-lies_held m (s ∷ ss) a held is_in = by_test (covers a s) refl (λ e. lies_held m ss a (All-tail (HoldsSpan m) s ss held) e) is_in
+lies_held m (s ∷ ss) a held is_in =
+    by_test (covers a s) refl (λ e. lies_held m ss a (All-tail (HoldsSpan m) s ss held) e) is_in
   where
-    by_test : (b : Bool) → covers a s ≡ b → (lies_in ss a ≡ true → IsSome (m a)) → (b || lies_in ss a) ≡ true → IsSome (m a)
+    by_test : (b : Bool) → covers a s ≡ b → (lies_in ss a ≡ true → IsSome (m a)) → (b || lies_in ss a) ≡ true
+        → IsSome (m a)
     by_test true here rest e =
         let h = in_span a s here in
         let at : s.start + (a - s.start) ≡ a = omega arith in
@@ -325,7 +367,8 @@ lies_held m (s ∷ ss) a held is_in = by_test (covers a s) refl (λ e. lies_held
     by_test false here rest e = rest e
 
 -- pieces of ranges that are wholly in memory are too
-pub pieces_held : (m : Memory) (ranges pieces : List Span) → All (HoldsSpan m) ranges → AreJoined ranges pieces → All (HoldsSpan m) pieces
+pub pieces_held : (m : Memory) (ranges pieces : List Span) → All (HoldsSpan m) ranges → AreJoined ranges pieces
+    → All (HoldsSpan m) pieces
 pieces_held m ranges pieces held is = λ k d lt j less.
     let p = get_or pieces k d in
     let here : covers (p.start + j) p ≡ true = covers_within (p.start + j) p (omega arith) (omega arith) in

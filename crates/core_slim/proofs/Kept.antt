@@ -1,6 +1,6 @@
 -- What is read of a slim core.
 use Rattle.std.proofs.Common.{◌≡◌, ℕ, cond, ◌+◌, ◌-◌, ◌<◌, ◌≤◌, ◌^◌, List, [], ◌∷◌, ◌++◌, length, take, drop, map, refl, sym, ap, ap₂, subst, ◌∙◌, arith}
-use Rattle.std.specs.Prelude.{All, Option, filter, filter_map, ◌↔◌, None}
+use Rattle.std.specs.Prelude.{All, Option, filter, filter_map, None}
 use Rattle.std.specs.List.{flat_map}
 use Rattle.std.proofs.lemmas.List.{take_all}
 use Rattle.elf64_core.specs.Header.{FitsFile, IsAccepted, machine_of, segments_of}
@@ -78,14 +78,17 @@ module _ (core : List ℕ) (rs : List Region) (ranges pieces : List Span) (held 
 
     segments_are : segments_of file ≡ segments
     segments_are =
-        file_segments (machine_of core) segments contents (room_back file notes (length notes) rs refl short start pieces follows) (omega (arith, count))
+        file_segments (machine_of core) segments contents
+        (room_back file notes (length notes) rs refl short start pieces follows) (omega (arith, count))
 
     file_accepted : IsAccepted file
     file_accepted = record {
       header = file_header_is (machine_of core) segments contents;
       readable = record {
         table = file_table (machine_of core) segments contents (omega (arith, count));
-        segments = subst (All (FitsFile file)) (sym segments_are) (fits_back file notes (length notes) rs refl short start pieces follows);
+        segments =
+            subst (All (FitsFile file)) (sym segments_are)
+            (fits_back file notes (length notes) rs refl short start pieces follows);
       };
     }
 
@@ -107,7 +110,8 @@ module _ (core : List ℕ) (rs : List Region) (ranges pieces : List Span) (held 
     file_kept : IsKept core m ranges file
     file_kept =
         let at = notes_back file notes (length notes) rs refl short start pieces follows in
-        let one : note_segments file ≡ notes_segment at.0 (length notes) ∷ [] = ap (filter is_note) segments_are ∙ at.1 in
+        let one : note_segments file ≡ notes_segment at.0 (length notes) ∷ [] =
+        ap (filter is_note) segments_are ∙ at.1 in
         record {
           accepted = file_accepted;
           machine = file_machine (machine_of core) segments contents;

@@ -1,20 +1,20 @@
 -- The memory of a slim core is a part of the whole memory, with all of the ranges.
-use Rattle.std.proofs.Common.{◌≡◌, ℕ, ◌+◌, ◌<◌, ◌≤◌, cond, Bool, true, false, List, length, get_or, refl, sym, ap, subst, ◌∙◌, arith}
-use Rattle.std.specs.Prelude.{All, IsSome, None, Option, Some, slice_get}
+use Rattle.std.proofs.Common.{◌≡◌, ℕ, ◌+◌, cond, Bool, true, false, List, get_or, sym, ap, subst, ◌∙◌, arith}
+use Rattle.std.specs.Prelude.{All, IsSome, None, Option, Some}
 use Rattle.std.proofs.lemmas.Option.{get_or_from_slice_get, slice_get_within}
-use Rattle.process_memory.specs.Memory.{Memory, byte_at}
+use Rattle.process_memory.specs.Memory.{Memory}
 use Rattle.process_memory.specs.Seen.{HoldsSpan, IsPartWith}
 use Rattle.process_memory.specs.declared.memory.Span.{Span}
-use Rattle.image_memory.specs.Pieces.{memory_of}
 use Rattle.core_slim.specs.Joined.{covers, lies_in}
-use Rattle.core_slim.specs.Slim.{Keeps, part_of}
+use Rattle.core_slim.specs.Slim.{part_of}
 use Rattle.core_slim.proofs.Joining.{covers_within, lies_of}
 
 kept_byte : (t : Bool) (o : Option ℕ) (b : ℕ) → cond t o None ≡ Some b → o ≡ Some b
 kept_byte true o b is = is
 kept_byte false o b is = absurd (cc)
 
-pub part_held : (m part : Memory) (ranges : List Span) → ((a : ℕ) → part a ≡ part_of ranges m a) → All (HoldsSpan m) ranges
+pub part_held : (m part : Memory) (ranges : List Span) → ((a : ℕ) → part a ≡ part_of ranges m a)
+    → All (HoldsSpan m) ranges
     → IsPartWith m ranges part
 part_held m part ranges same held = record {
   agrees = λ a b is. kept_byte (lies_in ranges a) (m a) b (sym (same a) ∙ is);

@@ -13,7 +13,6 @@ use Rattle.process_memory.specs.Memory.{Memory, Region, byte_at, bytes_at}
 use Rattle.process_memory.specs.Seen.{HoldsSpan}
 use Rattle.process_memory.specs.declared.memory.Span.{Span}
 use Rattle.process_memory.proofs.Records.{byte_at-below}
-use Rattle.image_memory.specs.Backed.{Backed, regions_of}
 use Rattle.image_memory.specs.Notes.{note_bytes}
 use Rattle.elf64_core.specs.Header.{machine_of}
 use Rattle.core_slim.specs.Slim.{filled, piece_bytes, piece_segment, slim_core, slim_segments}
@@ -21,13 +20,15 @@ use Rattle.core_slim.specs.Files.{contents_start, file_header, file_of, number_o
 
 -- ---- bytes
 
-bytes_each : (m : Memory) (a : ℕ) (bs : List ℕ) → ((k : ℕ) → k < length bs → m (a + k) ≡ Some (get_or bs k 0)) → bytes_at m a (length bs) ≡ Some bs
+bytes_each : (m : Memory) (a : ℕ) (bs : List ℕ) → ((k : ℕ) → k < length bs → m (a + k) ≡ Some (get_or bs k 0))
+    → bytes_at m a (length bs) ≡ Some bs
 unfolding bytes_at
 bytes_each m a [] h = refl
 bytes_each m a (b ∷ bs) h =
     let here : m (a + 0) ≡ Some b = h 0 (omega arith) in
     let here2 : m a ≡ Some b = rw add-zero at here in
-    let rest : bytes_at m (a + 1) (length bs) ≡ Some bs = bytes_each m (a + 1) bs (λ k lt. rw (add_assoc a 1 k) (next k lt)) in
+    let rest : bytes_at m (a + 1) (length bs) ≡ Some bs =
+    bytes_each m (a + 1) bs (λ k lt. rw (add_assoc a 1 k) (next k lt)) in
     rw (here2, rest) refl
   where
     next : (k : ℕ) → k < length bs → m (a + (1 + k)) ≡ Some (get_or bs k 0)
@@ -59,19 +60,23 @@ more_copied m start count next bytes run is more sum = record {
 pub all_copied : (m : Memory) (p : Span) (bytes : List ℕ) → AreCopied m p.start p.len bytes → bytes ≡ piece_bytes m p
 all_copied m p bytes is =
     let there : bytes_at m p.start p.len ≡ Some bytes =
-    ap (bytes_at m p.start) (sym is.counted) ∙ bytes_each m p.start bytes (λ k lt. is.each k (omega (arith, is.counted))) in
+    ap (bytes_at m p.start) (sym is.counted)
+    ∙ bytes_each m p.start bytes (λ k lt. is.each k (omega (arith, is.counted))) in
     sym (ap (λ o. unwrap_or o []) there)
 
 -- a piece that is in memory ends at 2^64 - 1 at most
 pub held_ends : (rs : List Region) (p : Span) → 0 < p.len → HoldsSpan (byte_at rs) p → p.start + p.len ≤ 2 ^ 64 - 1
 held_ends rs p some held =
-    let last : p.start + (p.len - 1) < 2 ^ 64 - 1 = byte_at-below rs (p.start + (p.len - 1)) (held (p.len - 1) (omega arith)) in
+    let last : p.start + (p.len - 1) < 2 ^ 64 - 1 =
+    byte_at-below rs (p.start + (p.len - 1)) (held (p.len - 1) (omega arith)) in
     omega (arith, last)
 
 -- ---- segments
 
-pub segment_more : (whole segments next : List Segment) (offset further size : ℕ) (ps : List Span) (i : ℕ) (d : Span) → i < length ps
-    → segments ++ slim_segments offset size (drop i ps) ≡ whole → next ≡ segments ++ piece_segment offset (get_or ps i d) ∷ []
+pub segment_more : (whole segments next : List Segment) (offset further size : ℕ) (ps : List Span) (i : ℕ) (d : Span)
+    → i < length ps
+    → segments ++ slim_segments offset size (drop i ps) ≡ whole
+    → next ≡ segments ++ piece_segment offset (get_or ps i d) ∷ []
     → further ≡ offset + (get_or ps i d).len → next ++ slim_segments further size (drop (i + 1) ps) ≡ whole
 segment_more whole segments next offset further size ps i d lt is more sum =
     let p = get_or ps i d in
@@ -82,25 +87,29 @@ segment_more whole segments next offset further size ps i d lt is more sum =
 
 -- ---- notes
 
-fills_by : (notes fill : List ℕ) (missing : ℕ) → missing ≡ padded (length notes) - length notes → fill ≡ zeros missing → notes ++ fill ≡ filled notes
+fills_by : (notes fill : List ℕ) (missing : ℕ) → missing ≡ padded (length notes) - length notes → fill ≡ zeros missing
+    → notes ++ fill ≡ filled notes
 fills_by notes fill missing same is = ap (λ bytes. notes ++ bytes) (is ∙ ap zeros same)
 
 missing_of : (n missing : ℕ) → missing ≡ (4 - n % 4) % 4 → (missing ≤ 3) × (missing ≡ padded n - n)
 missing_of n missing is = (omega arith, omega arith)
 
-pub fills : (notes : List ℕ) (missing : ℕ) → missing ≡ (4 - length notes % 4) % 4 → notes ++ take missing (replicate 3 0) ≡ filled notes
+pub fills : (notes : List ℕ) (missing : ℕ) → missing ≡ (4 - length notes % 4) % 4
+    → notes ++ take missing (replicate 3 0) ≡ filled notes
 fills notes missing is =
     let n = missing_of (length notes) missing is in
     fills_by notes (take missing (replicate 3 0)) missing n.1 (take-replicate missing 3 0 n.0)
 
 pub note_more : (whole bytes next notes : List ℕ) (all : List (List ℕ)) (i : ℕ) → slice_get all i ≡ Some notes
-    → bytes ++ flat_map filled (drop i all) ≡ whole → next ≡ bytes ++ filled notes → next ++ flat_map filled (drop (i + 1) all) ≡ whole
+    → bytes ++ flat_map filled (drop i all) ≡ whole → next ≡ bytes ++ filled notes
+    → next ++ flat_map filled (drop (i + 1) all) ≡ whole
 note_more whole bytes next notes all i is before more =
     let lt = slice_get_within all i notes is in
     let same : get_or all i notes ≡ notes = get_or_from_slice_get all i notes notes is in
     ap (λ b. b ++ flat_map filled (drop (i + 1) all)) more
     ∙ append_assoc bytes (filled notes) (flat_map filled (drop (i + 1) all))
-    ∙ ap (λ b. bytes ++ b) (sym (ap (flat_map filled) (drop_more all i notes lt ∙ ap (λ n. n ∷ drop (i + 1) all) same))) ∙ before
+    ∙ ap (λ b. bytes ++ b)
+    (sym (ap (flat_map filled) (drop_more all i notes lt ∙ ap (λ n. n ∷ drop (i + 1) all) same))) ∙ before
 
 pub past_end : {X : Type 0} (xs : List X) (i : ℕ) → slice_get xs i ≡ None → length xs ≤ i
 past_end [] i is = omega arith
@@ -117,14 +126,19 @@ together : (a b c d : List ℕ) → ((a ++ b) ++ c) ++ d ≡ a ++ (b ++ (c ++ d)
 together a b c d = simp append_assoc
 
 pub slim_together : (core : List ℕ) (m : Memory) (pieces : List Span) (segments : List Segment) (notes : List ℕ)
-    → notes ≡ flat_map filled (note_bytes core) → segments ≡ slim_segments (contents_start (length pieces + 1)) (length notes) pieces
+    → notes ≡ flat_map filled (note_bytes core)
+    → segments ≡ slim_segments (contents_start (length pieces + 1)) (length notes) pieces
     → ((file_header (number_of (machine_of core)) (length segments) ++ flat_map program_header segments)
     ++ flat_map (piece_bytes m) pieces) ++ notes ≡ slim_core core m pieces
 unfolding slim_core file_of
 slim_together core m pieces segments notes are is =
     let bytes = flat_map (piece_bytes m) pieces in
-    together (file_header (number_of (machine_of core)) (length segments)) (flat_map program_header segments) bytes notes
-    ∙ ap (λ (ss : List Segment). file_header (number_of (machine_of core)) (length ss) ++ (flat_map program_header ss ++ (bytes ++ notes))) is
+    together (file_header (number_of (machine_of core)) (length segments)) (flat_map program_header segments) bytes
+    notes
+    ∙ ap
+    (λ (ss : List Segment).
+    file_header (number_of (machine_of core)) (length ss) ++ (flat_map program_header ss ++ (bytes ++ notes)))
+    is
     ∙ ap
     (λ (ns : List ℕ).
     let ss = slim_segments (contents_start (length pieces + 1)) (length ns) pieces in

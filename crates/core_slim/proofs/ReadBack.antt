@@ -23,7 +23,8 @@ add_sub : (a n : ℕ) → a + n - a ≡ n
 add_sub a n = omega arith
 
 range_behind : (front bytes : List ℕ) (o n : ℕ)
-    → take (length front + o + n - (length front + o)) (drop (length front + o) (front ++ bytes)) ≡ take (o + n - o) (drop o bytes)
+    → take (length front + o + n - (length front + o)) (drop (length front + o) (front ++ bytes)) ≡ take (o + n - o)
+    (drop o bytes)
 range_behind front bytes o n =
     ap (λ k. take k (drop (length front + o) (front ++ bytes))) (add_sub (length front + o) n ∙ sym (add_sub o n))
     ∙ ap (take (o + n - o)) (drop_behind front bytes o)
@@ -60,7 +61,8 @@ header_back s rest fits =
     let addr = from_le_bytes-to_le_bytes_8 s.addr fits.addr in
     let file_size = from_le_bytes-to_le_bytes_8 s.file_size fits.file_size in
     let mem_size = from_le_bytes-to_le_bytes_8 s.mem_size fits.mem_size in
-    λ i. record { kind = kind i; flags = flags i; offset = offset i; addr = addr i; file_size = file_size i; mem_size = mem_size i }
+    λ i. record
+    { kind = kind i; flags = flags i; offset = offset i; addr = addr i; file_size = file_size i; mem_size = mem_size i }
 
 segment_behind : (front bytes : List ℕ) → segment_in (front ++ bytes) (length front) ≡ segment_in bytes 0
 unfolding segment_in
@@ -72,16 +74,20 @@ segment_behind front bytes =
     let addr = u64_behind front bytes 16 in
     let file_size = u64_behind front bytes 32 in
     let mem_size = u64_behind front bytes 40 in
-    λ i. record { kind = kind i; flags = flags i; offset = offset i; addr = addr i; file_size = file_size i; mem_size = mem_size i }
+    λ i. record
+    { kind = kind i; flags = flags i; offset = offset i; addr = addr i; file_size = file_size i; mem_size = mem_size i }
 
-segments_back : (front contents : List ℕ) (segments : List Segment) (at : ℕ) → AllByRecursion HasRoom segments → at ≡ length front
+segments_back : (front contents : List ℕ) (segments : List Segment) (at : ℕ) → AllByRecursion HasRoom segments
+    → at ≡ length front
     → segments_from (front ++ (flat_map program_header segments ++ contents)) at (length segments) ≡ segments
 unfolding segments_from
 segments_back front contents [] at fits is = refl
 segments_back front contents (s ∷ ss) at fits is =
     let more = flat_map program_header ss ++ contents in
-    let here : flat_map program_header (s ∷ ss) ++ contents ≡ program_header s ++ more = append_assoc (program_header s) (flat_map program_header ss) contents in
-    let bytes : front ++ (flat_map program_header (s ∷ ss) ++ contents) ≡ front ++ (program_header s ++ more) = ap (λ b. front ++ b) here in
+    let here : flat_map program_header (s ∷ ss) ++ contents ≡ program_header s ++ more =
+    append_assoc (program_header s) (flat_map program_header ss) contents in
+    let bytes : front ++ (flat_map program_header (s ∷ ss) ++ contents) ≡ front ++ (program_header s ++ more) =
+    ap (λ b. front ++ b) here in
     let next : front ++ (flat_map program_header (s ∷ ss) ++ contents) ≡ (front ++ program_header s) ++ more =
     bytes ∙ sym (append_assoc front (program_header s) more) in
     let one : segment_in (front ++ (flat_map program_header (s ∷ ss) ++ contents)) at ≡ s =
@@ -100,7 +106,9 @@ length-file_header machine count = refl
 
 length-headers : (segments : List Segment) → length (flat_map program_header segments) ≡ 56 * length segments
 length-headers [] = omega arith
-length-headers (s ∷ ss) = omega (arith, length-append (program_header s) (flat_map program_header ss), length-program_header s, length-headers ss)
+length-headers (s ∷ ss) =
+    omega
+    (arith, length-append (program_header s) (flat_map program_header ss), length-program_header s, length-headers ss)
 
 machine_back : (machine : Machine) → machine_named (number_of machine) ≡ machine
 machine_back X86_64 = refl
@@ -130,7 +138,8 @@ module _ (machine : Machine) (segments : List Segment) (contents : List ℕ) whe
 
   pub file_machine : machine_of file ≡ machine
   unfolding file_of file_header u16_in
-  file_machine = ap machine_named (from_le_bytes-to_le_bytes_2 (number_of machine) (machine_fits machine)) ∙ machine_back machine
+  file_machine =
+      ap machine_named (from_le_bytes-to_le_bytes_2 (number_of machine) (machine_fits machine)) ∙ machine_back machine
 
   pub file_length : length file ≡ contents_start (length segments) + length contents
   unfolding file_of
@@ -152,14 +161,17 @@ module _ (machine : Machine) (segments : List Segment) (contents : List ℕ) whe
         length-file_header (number_of machine) (length segments),
         length-headers segments,
       ) in
-      ap (drop (contents_start (length segments))) (sym (append_assoc (file_header (number_of machine) (length segments)) (flat_map program_header segments) contents))
+      ap (drop (contents_start (length segments)))
+      (sym
+      (append_assoc (file_header (number_of machine) (length segments)) (flat_map program_header segments) contents))
       ∙ drop_at front contents (contents_start (length segments)) long
 
   pub file_segments : AllByRecursion HasRoom segments → length segments < 2 ^ 16 → segments_of file ≡ segments
   unfolding file_of
   file_segments fits few =
       ap (λ a. segments_from file a (segment_count file)) table_at ∙ ap (segments_from file 64) (count_at few)
-      ∙ segments_back (file_header (number_of machine) (length segments)) contents segments 64 fits (sym (length-file_header (number_of machine) (length segments)))
+      ∙ segments_back (file_header (number_of machine) (length segments)) contents segments 64 fits
+      (sym (length-file_header (number_of machine) (length segments)))
 
   pub file_header_is : IsElf64 file
   unfolding file_of file_header

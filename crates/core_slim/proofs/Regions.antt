@@ -35,10 +35,13 @@ bytes_there m a (suc n) h =
     let at0 : IsSome (m (a + 0)) = h 0 (omega arith) in
     let here : IsSome (m a) = rw add-zero at at0 in
     let b = some_of (m a) here in
-    let rest = bytes_there m (a + 1) n (λ k lt. let e : a + suc k ≡ (a + 1) + k = omega arith in rw e at (h (suc k) (omega arith))) in
+    let rest =
+    bytes_there m (a + 1) n
+    (λ k lt. let e : a + suc k ≡ (a + 1) + k = omega arith in rw e at (h (suc k) (omega arith))) in
     (b.0 ∷ rest.0, ap₂ in_front b.1 rest.1, omega (arith, rest.2), each (b.0) rest.0 b.1 rest.3)
   where
-    each : (b : ℕ) (bs : List ℕ) → m a ≡ Some b → ((k : ℕ) → k < n → m (a + 1 + k) ≡ slice_get bs k) → (k : ℕ) → k < suc n → m (a + k) ≡ slice_get (b ∷ bs) k
+    each : (b : ℕ) (bs : List ℕ) → m a ≡ Some b → ((k : ℕ) → k < n → m (a + 1 + k) ≡ slice_get bs k) → (k : ℕ)
+        → k < suc n → m (a + k) ≡ slice_get (b ∷ bs) k
     each b bs is more zero lt = let e : a + 0 ≡ a = omega arith in ap m e ∙ is
     each b bs is more (suc k) lt = let e : a + suc k ≡ (a + 1) + k = omega arith in ap m e ∙ more k (omega arith)
 
@@ -57,7 +60,8 @@ are_there m p held =
 abbrev pub piece_region : Memory → Span → Region
 piece_region m p = (p.start, piece_bytes m p)
 
-region_within : (m : Memory) (p : Span) (a : ℕ) → HoldsSpan m p → covers a p ≡ true → region_byte (piece_region m p) a ≡ m a
+region_within : (m : Memory) (p : Span) (a : ℕ) → HoldsSpan m p → covers a p ≡ true
+    → region_byte (piece_region m p) a ≡ m a
 region_within m p a held is =
     let t = are_there m p held in
     let i = in_span a p is in
@@ -65,7 +69,8 @@ region_within m p a held is =
     let at : p.start + (a - p.start) ≡ a = omega arith in
     rw from (sym (ap m (sym at) ∙ t.each (a - p.start) (omega arith)))
 
-region_outside : (m : Memory) (p : Span) (a : ℕ) → HoldsSpan m p → covers a p ≡ false → region_byte (piece_region m p) a ≡ None
+region_outside : (m : Memory) (p : Span) (a : ℕ) → HoldsSpan m p → covers a p ≡ false
+    → region_byte (piece_region m p) a ≡ None
 region_outside m p a held out =
     let t = are_there m p held in
     elim (cases_lt a p.start) [
@@ -73,7 +78,8 @@ region_outside m p a held out =
       | inr le ↦
           let from : leb p.start a ≡ true = grind (arith, nat_tests) in
           let past : p.start + p.len ≤ a = elim (cases_lt a (p.start + p.len)) [
-            | inl less ↦ let also : ltb a (p.start + p.len) ≡ true = grind (arith, nat_tests) in absurd (let e = rw (from, also) at out in cc)
+            | inl less ↦ let also : ltb a (p.start + p.len) ≡ true =
+                grind (arith, nat_tests) in absurd (let e = rw (from, also) at out in cc)
             | inr over ↦ over
           ] in
           rw from (slice_get_past (piece_bytes m p) (a - p.start) (omega (arith, t.counted)))
@@ -89,14 +95,19 @@ first_back m [] a held = refl
 first_back m (p ∷ ps) a held =
     by_test (covers a p) refl (All-head (HoldsSpan m) p ps held) (first_back m ps a (All-tail (HoldsSpan m) p ps held))
   where
-    by_test : (t : Bool) → covers a p ≡ t → HoldsSpan m p → first_byte (map (piece_region m) ps) a ≡ cond (lies_in ps a) (m a) None
-        → first_of (region_byte (piece_region m p) a) (first_byte (map (piece_region m) ps) a) ≡ cond (covers a p || lies_in ps a) (m a) None
+    by_test : (t : Bool) → covers a p ≡ t → HoldsSpan m p
+        → first_byte (map (piece_region m) ps) a ≡ cond (lies_in ps a) (m a) None
+        → first_of (region_byte (piece_region m p) a) (first_byte (map (piece_region m) ps) a) ≡ cond
+        (covers a p || lies_in ps a) (m a) None
     by_test true is here rest =
         let i = in_span a p is in
         let at : p.start + (a - p.start) ≡ a = omega arith in
         let there : IsSome (m a) = rw at at (here (a - p.start) (omega arith)) in
-        rw is (ap (λ o. first_of o (first_byte (map (piece_region m) ps) a)) (region_within m p a here is) ∙ first_of_some (m a) _ there)
-    by_test false is here rest = rw is (ap (λ o. first_of o (first_byte (map (piece_region m) ps) a)) (region_outside m p a here is) ∙ rest)
+        rw is
+        (ap (λ o. first_of o (first_byte (map (piece_region m) ps) a)) (region_within m p a here is)
+        ∙ first_of_some (m a) _ there)
+    by_test false is here rest =
+        rw is (ap (λ o. first_of o (first_byte (map (piece_region m) ps) a)) (region_outside m p a here is) ∙ rest)
 
 pub bytes_back : (rs : List Region) (ps : List Span) (a : ℕ) → All (HoldsSpan (byte_at rs)) ps
     → byte_at (map (piece_region (byte_at rs)) ps) a ≡ cond (lies_in ps a) (byte_at rs a) None
@@ -114,7 +125,8 @@ bytes_back rs ps a held =
 
 -- ---- the segments
 
-module _ (file notes : List ℕ) (size : ℕ) (rs : List Region) (counted : size ≡ length notes) (short : length file < 2 ^ 63) where
+module _ (file notes : List ℕ) (size : ℕ) (rs : List Region) (counted : size ≡ length notes)
+    (short : length file < 2 ^ 63) where
   abbrev m : Memory
   m = byte_at rs
 
@@ -128,7 +140,8 @@ module _ (file notes : List ℕ) (size : ℕ) (rs : List Region) (counted : size
   here_held : (offset : ℕ) (p : Span) (ps : List Span) → Follows offset (p ∷ ps) → HoldsSpan m p
   here_held offset p ps f = All-head (HoldsSpan m) p ps f.held
 
-  here_bytes : (offset : ℕ) (p : Span) (ps : List Span) → Follows offset (p ∷ ps) → drop offset file ≡ piece_bytes m p ++ (flat_map (piece_bytes m) ps ++ notes)
+  here_bytes : (offset : ℕ) (p : Span) (ps : List Span) → Follows offset (p ∷ ps)
+      → drop offset file ≡ piece_bytes m p ++ (flat_map (piece_bytes m) ps ++ notes)
   here_bytes offset p ps f = f.bytes ∙ append_assoc (piece_bytes m p) (flat_map (piece_bytes m) ps) notes
 
   here_ends : (offset : ℕ) (p : Span) (ps : List Span) → Follows offset (p ∷ ps) → p.start + p.len ≤ 2 ^ 64 - 1
@@ -164,11 +177,13 @@ module _ (file notes : List ℕ) (size : ℕ) (rs : List Region) (counted : size
       let t = are_there m p (here_held offset p ps f) in
       let least : min p.len p.len ≡ p.len = omega arith in
       let bytes : take (min p.len p.len) (drop offset file) ≡ piece_bytes m p =
-      ap₂ take least (here_bytes offset p ps f) ∙ take_at (piece_bytes m p) (flat_map (piece_bytes m) ps ++ notes) p.len t.counted in
+      ap₂ take least (here_bytes offset p ps f)
+      ∙ take_at (piece_bytes m p) (flat_map (piece_bytes m) ps ++ notes) p.len t.counted in
       ap₂ (λ bs rs. (p.start, bs) ∷ rs) bytes (regions_back (offset + p.len) ps (follows_next offset p ps f))
 
   pub notes_back : (offset : ℕ) (ps : List Span) → Follows offset ps
-      → (end : ℕ) × (filter is_note (slim_segments offset size ps) ≡ notes_segment end size ∷ []) × (drop end file ≡ notes)
+      → (end : ℕ) × (filter is_note (slim_segments offset size ps) ≡ notes_segment end size ∷ []) ×
+      (drop end file ≡ notes)
   notes_back offset [] f = (offset, refl, f.bytes)
   notes_back offset (p ∷ ps) f = notes_back (offset + p.len) ps (follows_next offset p ps f)
 
@@ -178,14 +193,23 @@ module _ (file notes : List ℕ) (size : ℕ) (rs : List Region) (counted : size
   pub fits_back : (offset : ℕ) (ps : List Span) → Follows offset ps → All (FitsFile file) (slim_segments offset size ps)
   fits_back offset [] f =
       All-cons (FitsFile file) (notes_segment offset size) []
-      (record { loaded = λ e. absurd (omega (arith, e)); noted = λ e. inr (notes_fit offset f); mapped = λ e. absurd (omega (arith, e)) })
+      (record {
+        loaded = λ e. absurd (omega (arith, e));
+        noted = λ e. inr (notes_fit offset f);
+        mapped = λ e. absurd (omega (arith, e));
+      })
       (All-nil (FitsFile file))
   fits_back offset (p ∷ ps) f =
       All-cons (FitsFile file) (piece_segment offset p) (slim_segments (offset + p.len) size ps)
-      (record { loaded = λ e. inr (here_fits offset p ps f); noted = λ e. absurd (omega (arith, e)); mapped = λ e. here_ends offset p ps f })
+      (record {
+        loaded = λ e. inr (here_fits offset p ps f);
+        noted = λ e. absurd (omega (arith, e));
+        mapped = λ e. here_ends offset p ps f;
+      })
       (fits_back (offset + p.len) ps (follows_next offset p ps f))
 
-  pub room_back : (offset : ℕ) (ps : List Span) → Follows offset ps → AllByRecursion HasRoom (slim_segments offset size ps)
+  pub room_back : (offset : ℕ) (ps : List Span) → Follows offset ps
+      → AllByRecursion HasRoom (slim_segments offset size ps)
   room_back offset [] f = (
     record {
       kind = omega arith;

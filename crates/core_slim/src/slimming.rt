@@ -22,7 +22,8 @@ const MOST_PIECES: usize = 65533;
 fn slim_of(alloc: Global, dump: &BackedDump, pieces: &[Span]) -> Result<Vec<u8>, AllocError>
     requires held { All (HoldsSpan (byte_at (regions_of dump.now))) pieces.now }
     requires few { length pieces.now ≤ 65533 }
-    ensures bytes { IfOk result (λ bytes. bytes.items ≡ slim_core dump.now.core (byte_at (regions_of dump.now)) pieces.now) }
+    ensures bytes { IfOk result (λ bytes.
+        bytes.items ≡ slim_core dump.now.core (byte_at (regions_of dump.now)) pieces.now) }
     ensures core { IsCore dump.now.core }
 {
     let core = dump.core();

@@ -23,8 +23,10 @@ use Rattle.core_stacks.specs.declared.slimmed_error.SlimmedError.{SlimmedError}
 use Rattle.core_stacks.specs.declared.slimmed_error.SlimmedError.TheVariants.{Core}
 
 -- a right answer over a part that holds all of a footprint
-answered : (m part : Memory) (f : Finding) (config : Config) (traces : List Trace) (ranges : List Span) → IsFootprint m f config traces ranges
-    → IsPartWith m ranges part → (answer : Result (List Trace) CoreError) → StacksSay part f config answer → HasStacksOrNone m f config answer
+answered : (m part : Memory) (f : Finding) (config : Config) (traces : List Trace) (ranges : List Span)
+    → IsFootprint m f config traces ranges
+    → IsPartWith m ranges part → (answer : Result (List Trace) CoreError) → StacksSay part f config answer
+    → HasStacksOrNone m f config answer
 answered m part f config traces ranges is within answer says =
     ⊎_elim
     (λ memory. subst (HasStacksOrNone m f config) (sym memory) tt)
@@ -40,7 +42,8 @@ same_finding o again bytes layouts sole is =
     λ i. record { version = is.version_is i; layout = layout i; addresses = is.addresses_are i }
 
 pub keeps_stacks : (o : Opened) (config : Config) (traces : List Trace) (ranges : List Span) (bytes : List ℕ)
-    → IsFootprint (opened_memory o) o.finding config traces ranges → Keeps o.core (opened_memory o) ranges bytes → IsSlimOf o config bytes
+    → IsFootprint (opened_memory o) o.finding config traces ranges → Keeps o.core (opened_memory o) ranges bytes
+    → IsSlimOf o config bytes
 keeps_stacks o config traces ranges bytes footprint keeps = record {
   ranges = ranges;
   keeps = keeps;
@@ -58,12 +61,15 @@ refused_as : (e : CoreError) → e ≢ core.OutOfMemory → refusal_of_core e �
 refused_as core.OutOfMemory kept = absurd (kept refl)
 refused_as e kept = refl
 
-pub refused : (o : Opened) (config : Config) (e : CoreError) (refusal : SlimmedError) → StacksSay (opened_memory o) o.finding config (Err e)
+pub refused : (o : Opened) (config : Config) (e : CoreError) (refusal : SlimmedError)
+    → StacksSay (opened_memory o) o.finding config (Err e)
     → refusal ≡ refusal_of_core e → SlimmedSays o config (Err refusal)
 refused o config core.OutOfMemory refusal says is = subst (λ r. SlimmedSays o config (Err r)) (sym is) tt
-refused o config e refusal says is = subst (λ (r : SlimmedError). SlimmedSays o config (Err r)) (sym is) ((λ same. absurd (cc)), says)
+refused o config e refusal says is =
+    subst (λ (r : SlimmedError). SlimmedSays o config (Err r)) (sym is) ((λ same. absurd (cc)), says)
 
-pub cause_told : (o : Opened) (config : Config) (e : CoreError) (refusal : SlimmedError) → IsSole (StacksSay (opened_memory o) o.finding config) (Err e)
+pub cause_told : (o : Opened) (config : Config) (e : CoreError) (refusal : SlimmedError)
+    → IsSole (StacksSay (opened_memory o) o.finding config) (Err e)
     → refusal ≡ refusal_of_core e → TellsCause o config (Err refusal)
 cause_told o config e refusal sole is error kept says =
     ⊎_elim

@@ -17,7 +17,8 @@ joined_pieces-requires c = λ k d lt some. held_ends (regions_of c.args.dump.now
 pub slim_of-requires-clause-held : goal.slim_of-requires-clause-held
 slim_of-requires-clause-held c =
     let m = byte_at (regions_of c.args.dump.now) in
-    subst (All (HoldsSpan m)) (sym c.deref.ensures.value) (pieces_held m c.args.ranges.now c.in_ok-pieces.pieces.items c.requires.held c.in_ok-pieces.ensures)
+    subst (All (HoldsSpan m)) (sym c.deref.ensures.value)
+    (pieces_held m c.args.ranges.now c.in_ok-pieces.pieces.items c.requires.held c.in_ok-pieces.ensures)
 
 pub returns-then-len-gt-MOST_PIECES-clause-only : goal.returns-then-len-gt-MOST_PIECES-clause-only
 returns-then-len-gt-MOST_PIECES-clause-only c =
@@ -39,10 +40,12 @@ returns c =
     let ps = c.in_ok-pieces.pieces.items in
     let bytes = c.in_ok-bytes.bytes.items in
     let few : length ps ≤ 65533 = omega (arith, c.in_ok-pieces.pieces.ok.0) in
-    let is : bytes ≡ slim_core dump.core m ps = c.in_ok-bytes.ensures.bytes ∙ ap (slim_core dump.core m) c.deref.ensures.value in
+    let is : bytes ≡ slim_core dump.core m ps =
+    c.in_ok-bytes.ensures.bytes ∙ ap (slim_core dump.core m) c.deref.ensures.value in
     record {
       right = (ps, c.in_ok-pieces.ensures, few, is);
       only = slim_only dump.core m ranges (Ok bytes) (ps, c.in_ok-pieces.ensures, few, is);
       keeps = slim_keeps dump.core (regions_of dump) ranges ps bytes c.in_ok-bytes.ensures.core c.requires.held
-          c.in_ok-pieces.ensures few is (omega (arith, c.in_ok-bytes.bytes.ok.0, c.in_ok-bytes.bytes.ok.1, c.in_ok-bytes.bytes.small));
+          c.in_ok-pieces.ensures few is
+          (omega (arith, c.in_ok-bytes.bytes.ok.0, c.in_ok-bytes.bytes.ok.1, c.in_ok-bytes.bytes.small));
     }

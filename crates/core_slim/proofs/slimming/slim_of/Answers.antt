@@ -15,7 +15,10 @@ add_headers-requires c =
 
 pub returns-clause-bytes : goal.returns-clause-bytes
 returns-clause-bytes c =
-    slim_made c.args.dump.now.core (byte_at (regions_of c.args.dump.now)) c.args.pieces.now c.core-core.result.now c.deref-2.result.now c.contents_start-start.result c.len.result c.deref.result.now c.machine.result c.new-bytes.result.items c.add_headers.new.bytes.items c.add_pieces.new.bytes.items c.extend_from_slice.new.self.items
+    slim_made c.args.dump.now.core (byte_at (regions_of c.args.dump.now)) c.args.pieces.now c.core-core.result.now
+    c.deref-2.result.now c.contents_start-start.result c.len.result c.deref.result.now c.machine.result
+    c.new-bytes.result.items c.add_headers.new.bytes.items c.add_pieces.new.bytes.items
+    c.extend_from_slice.new.self.items
     c.core-core.ensures.same
     (c.deref-2.ensures.value ∙ c.in_ok-notes.ensures)
     c.contents_start-start.ensures

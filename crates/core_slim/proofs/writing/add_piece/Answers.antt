@@ -17,8 +17,12 @@ loop-done-preserved c =
     record {
       within = omega (arith, short);
       copied = i.copied ++ run;
-      are = more_copied m c.args.piece.start c.loop-done.done (c.loop-done.done + length run) i.copied run i.are c.in-Some.ensures.bytes refl;
-      bytes = c.in_ok-extend_from_slice-in-Some.ensures.items ∙ ap (λ b. b ++ run) i.bytes ∙ append_assoc c.args.bytes.now.items i.copied run;
+      are =
+          more_copied m c.args.piece.start c.loop-done.done (c.loop-done.done + length run) i.copied run i.are
+          c.in-Some.ensures.bytes refl;
+      bytes =
+          c.in_ok-extend_from_slice-in-Some.ensures.items ∙ ap (λ b. b ++ run) i.bytes
+          ∙ append_assoc c.args.bytes.now.items i.copied run;
     }
 
 pub returns : goal.returns
@@ -26,5 +30,6 @@ returns c =
     let i = c.loop-done.invariant in
     let m = byte_at (regions_of c.args.dump.now) in
     let all : c.loop-done.done ≡ c.args.piece.len = omega (arith, i.within) in
-    let copied = all_copied m c.args.piece i.copied (subst (λ n. AreCopied m c.args.piece.start n i.copied) all i.are) in
+    let copied =
+    all_copied m c.args.piece i.copied (subst (λ n. AreCopied m c.args.piece.start n i.copied) all i.are) in
     i.bytes ∙ ap (λ b. c.args.bytes.now.items ++ b) copied

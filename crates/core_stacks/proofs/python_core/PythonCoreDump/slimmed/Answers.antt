@@ -16,14 +16,17 @@ returns-in_err-_traces-clause-right c =
 pub returns-in_err-_traces-clause-cause : goal.returns-in_err-_traces-clause-cause
 returns-in_err-_traces-clause-cause c =
     let p = err_from_is_err_and c.from_residual.result c.from_residual.ensures.1 in
-    rw p.1 (cause_told c.args.self.now c.args.config.now c.in_err-_traces.field-0.0 p.0 c.in_err-_traces.ensures.only p.2)
+    rw p.1
+    (cause_told c.args.self.now c.args.config.now c.in_err-_traces.field-0.0 p.0 c.in_err-_traces.ensures.only p.2)
 
 pub returns-clause-keeps : goal.returns-clause-keeps
 returns-clause-keeps c =
     let ranges = c.in_ok-_traces.ranges.items in
     let bytes = c.in_ok-bytes.bytes.items in
     let dump = c.self.inside.dump in
-    let own = subst (λ rs. Keeps dump.core (byte_at (regions_of dump)) rs bytes) c.deref.ensures.value c.in_ok-bytes.ensures.keeps in
+    let own =
+        subst (λ rs. Keeps dump.core (byte_at (regions_of dump)) rs bytes) c.deref.ensures.value
+        c.in_ok-bytes.ensures.keeps in
     let keeps = subst (λ (o : Opened). Keeps o.core (opened_memory o) ranges bytes) c.self.view_is own in
     keeps_stacks c.args.self.now c.args.config.now (map trace_of c.in_ok-_traces._traces.items) ranges bytes
     c.in_ok-_traces.ensures.footprint keeps
