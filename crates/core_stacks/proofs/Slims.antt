@@ -1,14 +1,14 @@
 -- Over a slim core of a footprint the stacks are those of the whole memory.
 use Rattle.std.proofs.Common.{◌≡◌, ◌≢◌, ℕ, List, refl, sym, ap, subst, ◌∙◌, inl, inr, ⊎_elim}
-use Rattle.std.specs.Prelude.{All, Result, Ok, Err}
+use Rattle.std.specs.Prelude.{Result, Ok, Err}
 use Rattle.process_memory.specs.Memory.{Memory, byte_at}
-use Rattle.process_memory.specs.Seen.{HoldsSpan, IsPartWith}
+use Rattle.process_memory.specs.Seen.{IsPartWith}
 use Rattle.process_memory.specs.declared.memory.Span.{Span}
 use Rattle.py_fields.specs.declared.layout.Layout.{Layout}
 use Rattle.py_stacks.specs.declared.config.Config.{Config}
 use Rattle.py_stacks.specs.Threads.{Trace}
 use Rattle.py_process.specs.Findings.{Finding}
-use Rattle.py_process.specs.Reports.{HasStacks, StacksSay}
+use Rattle.py_process.specs.Reports.{StacksSay}
 use Rattle.py_process.specs.declared.core_error.CoreError.{CoreError}
 use Rattle.py_process.specs.declared.core_error.CoreError.TheVariants as core
 use Rattle.py_process.proofs.Agreement.{err_is, kept_or, ok_kept}
@@ -17,7 +17,7 @@ use Rattle.core_slim.specs.Slim.{Keeps}
 use Rattle.core_slim.proofs.Parts.{part_held, whole_held}
 use Rattle.core_stacks.specs.Footprints.{IsFootprint}
 use Rattle.core_stacks.specs.Opened.{IsOpenedAt, Opened, opened_memory}
-use Rattle.core_stacks.specs.Slimmed.{HasStacksOrNone, IsSlimOf, IsSoleLayout, KeepsStacks, SlimmedSays, TellsCause, refusal_of_core}
+use Rattle.core_stacks.specs.Slimmed.{HasStacksOrNone, IsSlimOf, IsSoleLayout, SlimmedSays, TellsCause, refusal_of_core}
 use Rattle.core_stacks.specs.Sole.{IsSole}
 use Rattle.core_stacks.specs.declared.slimmed_error.SlimmedError.{SlimmedError}
 use Rattle.core_stacks.specs.declared.slimmed_error.SlimmedError.TheVariants.{Core}
