@@ -25,8 +25,8 @@ returns-clause-keeps c =
     let bytes = c.in_ok-bytes.bytes.items in
     let dump = c.self.inside.dump in
     let own =
-        subst (λ rs. Keeps dump.core (byte_at (regions_of dump)) rs bytes) c.deref.ensures.value
-        c.in_ok-bytes.ensures.keeps in
+    subst (λ rs. Keeps dump.core (byte_at (regions_of dump)) rs bytes) c.deref.ensures.value
+    c.in_ok-bytes.ensures.keeps in
     let keeps = subst (λ (o : Opened). Keeps o.core (opened_memory o) ranges bytes) c.self.view_is own in
     keeps_stacks c.args.self.now c.args.config.now (map trace_of c.in_ok-_traces._traces.items) ranges bytes
     c.in_ok-_traces.ensures.footprint keeps
