@@ -16,3 +16,4 @@ pub mod Steps
 pub mod Unfaulted
 pub mod WalkFaults
 pub mod Walked
+pub mod Slims

@@ -7,3 +7,4 @@ pub mod Sole
 pub mod Notes
 pub mod Reached
 pub mod Footprints
+pub mod Slimmed

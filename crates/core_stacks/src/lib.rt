@@ -9,9 +9,11 @@ mod printing;
 mod programs;
 mod python_core;
 mod reporting;
+mod slimmed_error;
 mod stacks_in;
 
 pub use core_walk::walk;
 pub use found::PythonBinaries;
 pub use python_core::PythonCoreDump;
 pub use reporting::{report, report_counted};
+pub use slimmed_error::SlimmedError;

@@ -2,12 +2,14 @@
 ghost use Rattle.std.specs.Prelude.{◌≡◌, ℕ, IfErr, IfOk, map, option_map};
 ghost use Rattle.process_memory.specs.Layers.{plain};
 ghost use Rattle.process_memory.specs.Memory.{Memory, byte_at};
+ghost use Rattle.process_memory.specs.Seen.{items_of};
 ghost use Rattle.image_memory.specs.Backed.{regions_of};
 ghost use Rattle.py_fields.specs.Sound.{IsSound};
 ghost use Rattle.py_stacks.specs.Threads.{trace_of};
 ghost use Rattle.py_process.specs.Facts.{facts_of};
 ghost use Rattle.py_process.specs.Reports.{StacksSay, traces_in};
 ghost use Rattle.core_stacks.specs.Footprints.{IsFootprint, traces_with};
+ghost use Rattle.core_stacks.specs.Slimmed.{IsSlimOf, SlimmedSays, TellsCause};
 ghost use Rattle.core_stacks.specs.Sole.{IsSole, Settles};
 ghost use Rattle.core_stacks.specs.Opened.{IsFoundIn, IsLeft, Opened, Opens, OpensAt, opened_first, opened_memory};
 ghost use Rattle.core_stacks.specs.Printing.{IsPrintedBy, IsTextOf};
@@ -16,7 +18,9 @@ ghost use Rattle.core_stacks.specs.Seen.{AreBinaries, finding_of};
 use crate::finding::find_in_dump;
 use crate::found::{Found, PythonBinaries};
 use crate::printing::text_of_traces;
+use crate::slimmed_error::SlimmedError;
 use crate::stacks_in::stacks_in;
+use core_slim::slim;
 use core_texts::PrintError;
 use image_memory::{BackedDump, BackedView, CoreDump, Images};
 use outside::Sink;
@@ -234,6 +238,24 @@ impl PythonCoreDump {
         ensures found { IsFoundIn self.now → IfErr result (IsLeft self.now config.now) }
     {
         read_footprint(self.alloc, &self.dump, &self.found, config)
+    }
+
+    /// The bytes of a core of this process that has what `footprint` lists of its memory alone: the slim core of these
+    /// ranges (`core_slim::slim`), with all that the notes of this process's core say. `CoreDump::new` accepts it, and
+    /// opened by `with_addresses` with the same layouts and with `version` and `addresses`, `get_stack` answers the
+    /// stacks of this process for the same `Config`, or want of memory, and nothing else.
+    ///
+    /// - `Core` exactly where `footprint` answers this error, and that is another one than want of memory.
+    /// - `TooManyPieces` exactly where the ranges have more than 65533 pieces.
+    /// - `OutOfMemory` where there was no memory left.
+    pub fn slimmed(&self, config: &Config) -> Result<Vec<u8>, SlimmedError>
+        ensures right { SlimmedSays self.now config.now (items_of result) }
+        ensures cause { TellsCause self.now config.now (items_of result) }
+        ensures keeps { IfOk result (λ bytes. IsSlimOf self.now config.now bytes.items) }
+    {
+        let (_traces, ranges) = self.footprint(config)?;
+        let bytes = slim(self.alloc, &self.dump, &ranges)?;
+        Ok(bytes)
     }
 
     /// Prints traces of this core, by one write of the whole text, under the name of the core's file: the signal that

@@ -1,0 +1,9 @@
+pub mod Joining
+pub mod Appending
+pub mod ReadBack
+pub mod Pieces
+pub mod Regions
+pub mod Sole
+pub mod NotesBack
+pub mod Kept
+pub mod Parts
