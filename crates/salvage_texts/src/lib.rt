@@ -1,0 +1,21 @@
+//! The text of fronts: the interpreters of a process, their threads and frames, as far as their chains go, and how each
+//! of these ends.
+//!
+//! Names come out of a broken memory: what they hold of control characters and quotes is escaped, so that none forges a
+//! line.
+#![tactic(auto)]
+
+mod ends;
+mod escape;
+mod interpreter;
+mod marks;
+mod salvaged;
+mod standing;
+mod thread;
+
+pub use escape::push_escaped;
+pub use marks::{Crash, LockState, crashed_at, is_crashed};
+pub use salvaged::{Salvaged, SalvagedInterpreter, salvaged_text};
+
+#[cfg(test)]
+mod tests;
