@@ -1,6 +1,5 @@
 pub mod Escape
 pub mod Ends
 pub mod Standings
-pub mod Marks
 pub mod Threads
 pub mod Salvaged

@@ -1,14 +1,14 @@
 -- The text of what is left of a process's stacks.
-use Rattle.std.specs.Prelude.{ℕ, ◌+◌, ◌++◌, nat_lt, Bool, true, false, if◌then◌else◌, is_some, List, [], length, map, drop, take, position, Option, Some, None, codes}
+use Rattle.std.specs.Prelude.{ℕ, ◌+◌, ◌++◌, nat_lt, Bool, true, false, if◌then◌else◌, List, [], length, map, drop, take, Option, Some, None, codes}
 use Rattle.std.specs.List.{concat}
 use Rattle.py_fronts.specs.declared.fronts.InterpreterFront.{InterpreterFront}
-use Rattle.salvage_texts.specs.declared.marks.Crash.{Crash}
-use Rattle.salvage_texts.specs.declared.marks.LockState.{LockState}
-use Rattle.salvage_texts.specs.declared.marks.LockState.TheVariants.{Holder, Unreadable}
-use Rattle.salvage_texts.specs.declared.salvaged.Salvaged.{Salvaged}
-use Rattle.salvage_texts.specs.declared.salvaged.SalvagedInterpreter.{SalvagedInterpreter}
+use Rattle.salvage_marks.specs.declared.crash.Crash.{Crash}
+use Rattle.salvage_marks.specs.declared.lock.LockState.{LockState}
+use Rattle.salvage_marks.specs.declared.lock.LockState.TheVariants.{Holder, Unreadable}
+use Rattle.salvage_marks.specs.declared.salvaged.Salvaged.{Salvaged}
+use Rattle.salvage_marks.specs.declared.salvaged.SalvagedInterpreter.{SalvagedInterpreter}
 use Rattle.salvage_texts.specs.Ends.{address_text, missing_text, threads_end_text}
-use Rattle.salvage_texts.specs.Marks.{is_crashed}
+use Rattle.salvage_marks.specs.Salvaged.{first_crashed}
 use Rattle.salvage_texts.specs.Threads.{threads_text}
 
 -- the line of an interpreter, where there are several
@@ -28,13 +28,6 @@ interpreter_text several crash i = heading_text several i.front ++ (lock_text i.
 
 abbrev pub interpreters_text : Bool → Option Crash → List SalvagedInterpreter → List ℕ
 interpreters_text several crash is = concat (map (λ i. interpreter_text several crash i) is)
-
--- whether a thread of an interpreter got the signal
-abbrev pub has_crashed : Option Crash → SalvagedInterpreter → Bool
-has_crashed crash i = is_some (position (λ thread. is_crashed crash thread) i.front.threads.threads.items)
-
-abbrev pub first_crashed : Option Crash → List SalvagedInterpreter → Option ℕ
-first_crashed crash is = position (λ i. has_crashed crash i) is
 
 abbrev pub placed_interpreters : Bool → Option Crash → List SalvagedInterpreter → Option ℕ → List ℕ
 placed_interpreters several crash is None = interpreters_text several crash is

@@ -1,5 +1,5 @@
 //! Names and values within a line.
-ghost use Rattle.std.specs.Prelude.{◌≡◌, ◌++◌, IfOk, OnOk, encode_utf8_all, string_bytes};
+ghost use Rattle.std.specs.Prelude.{◌≡◌, ◌≢◌, ◌≤◌, ◌++◌, true, All, IfOk, OnOk, encode_utf8_all, string_bytes};
 ghost use Rattle.salvage_texts.specs.Escape.{escaped, escaped_character, is_control, stands_plain};
 
 use elf64_core::Text;
@@ -43,16 +43,20 @@ fn characters(alloc: Global, text: &Text) -> Result<Vec<char>, AllocError>
 
 /// Appends a name or a value, in which each control character stands as `\u{..}` with its code; and in a name each quote
 /// and backslash too. The one error is want of memory.
+#[tactic(auto, unfolding(crate::specs::Escape::escaped))]
 pub fn push_escaped(
     alloc: Global,
     text: &mut String,
     is_name: bool,
     shown: &Text,
 ) -> Result<(), AllocError>
-    ensures { OnOk result (string_bytes text.new ≡ string_bytes text.old ++ escaped is_name shown.now) }
+    ensures adds { OnOk result (string_bytes text.new ≡ string_bytes text.old ++ escaped is_name shown.now) }
+    // it ends no line, nor is it taken for more than one
+    ensures one_line { All (λ byte. 32 ≤ byte) (escaped is_name shown.now) }
+    ensures no_quote { is_name ≡ true → All (λ byte. byte ≢ 34) (escaped is_name shown.now) }
 {
-    let shown = characters(alloc, shown)?;
-    for c in &shown {
+    let chars = characters(alloc, shown)?;
+    for c in &chars {
         push_character(text, is_name, *c)?;
     }
     Ok(())

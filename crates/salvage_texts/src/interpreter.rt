@@ -3,10 +3,9 @@ ghost use Rattle.std.specs.Prelude.{◌≡◌, ◌++◌, OnOk, string_bytes};
 ghost use Rattle.salvage_texts.specs.Salvaged.{heading_text, interpreter_text, interpreters_text, lock_text};
 
 use crate::ends::{push_missing, push_threads_end};
-use crate::marks::{Crash, LockState};
-use crate::salvaged::SalvagedInterpreter;
 use crate::thread::push_threads;
 use py_fronts::InterpreterFront;
+use salvage_marks::{Crash, LockState, SalvagedInterpreter};
 use std::alloc::{AllocError, Global};
 
 /// The line of an interpreter, where there are several.

@@ -8,14 +8,12 @@
 mod ends;
 mod escape;
 mod interpreter;
-mod marks;
 mod salvaged;
 mod standing;
 mod thread;
 
 pub use escape::push_escaped;
-pub use marks::{Crash, LockState, crashed_at, is_crashed};
-pub use salvaged::{Salvaged, SalvagedInterpreter, salvaged_text};
+pub use salvaged::salvaged_text;
 
 #[cfg(test)]
 mod tests;

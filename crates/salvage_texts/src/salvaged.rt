@@ -1,47 +1,10 @@
-//! What is left of a process's stacks, and its text.
-ghost use Rattle.std.specs.Prelude.{◌≡◌, ◌++◌, IfOk, OnOk, is_some, position, string_bytes};
-ghost use Rattle.salvage_texts.specs.Salvaged.{first_crashed, has_crashed, ordered_text, salvaged_text};
+//! The text of what is left of a process's stacks.
+ghost use Rattle.std.specs.Prelude.{◌≡◌, ◌++◌, IfOk, OnOk, string_bytes};
+ghost use Rattle.salvage_texts.specs.Salvaged.{ordered_text, salvaged_text};
 
 use crate::interpreter::push_interpreters;
-use crate::marks::{Crash, LockState, crashed_at};
-use py_fronts::InterpreterFront;
+use salvage_marks::{Crash, Salvaged, SalvagedInterpreter, first_crashed};
 use std::alloc::{AllocError, Global};
-
-/// An interpreter, as far as its chains go, with its lock.
-#[derive(Debug, Drop)]
-pub struct SalvagedInterpreter {
-    /// The interpreter.
-    pub front: InterpreterFront,
-    /// Its lock.
-    pub lock: LockState,
-}
-
-/// What is left of a process's stacks.
-#[derive(Debug, Drop)]
-pub struct Salvaged {
-    /// The interpreters that are shown.
-    pub interpreters: Vec<SalvagedInterpreter>,
-    /// Whether there are more.
-    pub more: bool,
-    /// The thread that got a signal, where one did.
-    pub crash: Option<Crash>,
-}
-
-/// Whether a thread of an interpreter got the signal.
-fn has_crashed(crash: Option<Crash>, interpreter: &SalvagedInterpreter) -> bool
-    ensures { result ≡ has_crashed crash interpreter.now }
-{
-    crashed_at(crash, &interpreter.front.threads.threads).is_some()
-}
-
-/// The index of the first interpreter of which a thread got the signal, where there is one.
-fn first_crashed(crash: Option<Crash>, interpreters: &[SalvagedInterpreter]) -> Option<usize>
-    ensures { result ≡ first_crashed crash interpreters.now }
-{
-    interpreters
-        .iter()
-        .position(|interpreter| has_crashed(crash, interpreter))
-}
 
 /// The lines of all interpreters: of the first one of which a thread got the signal, and then of the others.
 fn push_ordered(

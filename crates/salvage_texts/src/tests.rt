@@ -1,9 +1,10 @@
 //! The text of a broken process, written out by hand.
-use crate::{Crash, LockState, Salvaged, SalvagedInterpreter, salvaged_text};
+use crate::salvaged_text;
 use elf64_core::Text;
 use py_builtins::ObjectError;
 use py_fronts::{ChainEnd, FramesFront, InterpreterFront, Standing, ThreadFront, ThreadsFront};
 use py_stacks::{Frame, LocalVariable, StackError};
+use salvage_marks::{Crash, LockState, Salvaged, SalvagedInterpreter};
 use std::alloc::{AllocError, Global};
 use std::test::Fail;
 

@@ -4,9 +4,9 @@ ghost use Rattle.py_stacks.specs.Shown.{id_text};
 ghost use Rattle.salvage_texts.specs.Threads.{frames_text, mark_text, reversed_text, thread_line, thread_text, threads_text};
 
 use crate::ends::{push_frames_end, push_more};
-use crate::marks::{Crash, LockState, crashed_at, holds_lock, is_crashed};
 use crate::standing::push_standings;
 use py_fronts::{FramesFront, ThreadFront};
+use salvage_marks::{Crash, LockState, crashed_at, holds_lock, is_crashed};
 use std::alloc::{AllocError, Global};
 
 /// The id that the system gave in decimal, where there is one, else the interpreter's in hexadecimal.

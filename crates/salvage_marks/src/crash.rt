@@ -1,17 +1,8 @@
-//! What threads are marked by: the lock of their interpreter, and the signal that the process got.
+//! The thread that got the signal of a process.
 ghost use Rattle.std.specs.Prelude.{◌≡◌, position};
-ghost use Rattle.salvage_texts.specs.Marks.{holds_lock, is_crashed, is_id};
+ghost use Rattle.salvage_marks.specs.Crashes.{is_crashed, is_id};
 
 use py_fronts::ThreadFront;
-
-/// What is known of the lock of an interpreter.
-#[derive(Clone, Copy, Debug, PartialEq, Eq)]
-pub enum LockState {
-    /// The id of the thread that holds it; 0 where none does, or nothing tells where the lock is.
-    Holder(u64),
-    /// What tells it is not in memory: `len` bytes at `addr`.
-    Unreadable { addr: u64, len: u64 },
-}
 
 /// The thread that got the signal of a process: the one that the first status record of its core is of.
 #[derive(Clone, Copy, Debug, PartialEq, Eq)]
@@ -54,14 +45,4 @@ pub fn crashed_at(crash: Option<Crash>, threads: &[ThreadFront]) -> Option<usize
     ensures { result ≡ position (λ thread. is_crashed crash thread) threads.now }
 {
     threads.iter().position(|thread| is_crashed(crash, thread))
-}
-
-/// Whether a thread holds the lock of its interpreter.
-pub(crate) fn holds_lock(lock: LockState, thread: &ThreadFront) -> bool
-    ensures { result ≡ holds_lock lock thread.now }
-{
-    match lock {
-        LockState::Holder(holder) => thread.thread_id == holder,
-        LockState::Unreadable { .. } => false,
-    }
 }
