@@ -5,7 +5,7 @@ ghost use Rattle.py_fields.specs.Sound.{IsSound};
 ghost use Rattle.py_stacks.specs.Holder.{holder_id_at};
 ghost use Rattle.py_process.specs.Facts.{known_of};
 ghost use Rattle.py_fronts.specs.Answers.{IsOrNoMemory};
-ghost use Rattle.salvage_marks.specs.Locks.{holder_told, holds_lock, lock_told};
+ghost use Rattle.salvage_marks.specs.Locks.{IsGone, holder_told, holds_lock, lock_told};
 
 use elf64_core::Machine;
 use image_memory::ContainsAddr;
@@ -52,6 +52,16 @@ fn state_at<P: ProcessMemory>(
     }
 }
 
+/// A lock whose address is not in memory. Else memory was wanting, since the holder alone is not asked for.
+fn gone(error: LockError) -> Result<LockState, StackError>
+    ensures { IsGone error result }
+{
+    match error {
+        LockError::Unreadable { addr, len } => Ok(LockState::Unreadable { addr, len }),
+        _ => Err(StackError::OutOfMemory),
+    }
+}
+
 /// The state of an interpreter's own lock: who holds it, or what is not in memory of what tells it.
 ///
 /// The lock is found as `py_process::get_threadstate_address` says, and its holder read as
@@ -80,7 +90,6 @@ pub fn lock_state<M: ContainsAddr, P: ProcessMemory>(
     );
     match found {
         Ok(lock) => state_at(lock, process, layout),
-        Err(LockError::Unreadable { addr, len }) => Ok(LockState::Unreadable { addr, len }),
-        Err(_) => Err(StackError::OutOfMemory),
+        Err(error) => gone(error),
     }
 }
