@@ -2,7 +2,8 @@
 use Rattle.std.proofs.Common.{◌≡◌, ◌≢◌, ℕ, zero, suc, ◌+◌, ◌/◌, ◌%◌, ◌<◌, ◌≤◌, Bool, true, false, cond, ltb, leb, List, [], ◌∷◌, ◌++◌, refl, sym, ap, ◌∙◌, arith}
 use Rattle.std.proofs.lemmas.Bool.Decides.{nat_tests}
 use Rattle.std.proofs.lemmas.List.Elements.{All-append, All-cons, All-nil, All-weaker}
-use Rattle.std.specs.Prelude.{All, ◌||◌, ◌&&◌, not, nat_eq, nat_lt, ◌==◌, if◌then◌else◌, codes, encode_utf8}
+use Rattle.std.specs.Prelude.{All, ◌||◌, ◌&&◌, not, nat_eq, nat_le, nat_lt, ◌==◌, if◌then◌else◌, codes}
+use Rattle.std.specs.Char.{encode_utf8}
 use Rattle.std.specs.Fmt.{digits, digits_onto, digit_glyph}
 use Rattle.std.specs.List.{flat_map}
 use Rattle.salvage_texts.specs.Escape.{escaped, escaped_character, is_control, stands_plain}
@@ -35,28 +36,42 @@ code_plain : (is_name : Bool) (c : ℕ) → All (Plain is_name) (codes "\\u{" ++
 code_plain is_name c =
     let P = Plain is_name in
     let close : All P (codes "}") = All-cons P 125 [] (from_48 is_name 125 (omega arith)) (All-nil P) in
-    let open_it : All P (codes "\\u{") = All-cons P 92 _ (from_48 is_name 92 (omega arith)) (All-cons P 117 _ (from_48 is_name 117 (omega arith)) (All-cons P 123 [] (from_48 is_name 123 (omega arith)) (All-nil P))) in
+    let open_it : All P (codes "\\u{") = All-cons P 92 (117 ∷ 123 ∷ []) (from_48 is_name 92 (omega arith)) (All-cons P 117 (123 ∷ []) (from_48 is_name 117 (omega arith)) (All-cons P 123 [] (from_48 is_name 123 (omega arith)) (All-nil P))) in
     All-append P (codes "\\u{") (digits 16 false c ++ codes "}") open_it (All-append P (digits 16 false c) (codes "}") (digits_plain is_name c) close)
+
+one_plain : (is_name : Bool) (a : ℕ) → Plain is_name a → All (Plain is_name) (a ∷ [])
+one_plain is_name a h = All-cons (Plain is_name) a [] h (All-nil (Plain is_name))
+
+two_plain : (is_name : Bool) (a b : ℕ) → 48 ≤ a → 48 ≤ b → All (Plain is_name) (a ∷ b ∷ [])
+two_plain is_name a b h k = All-cons (Plain is_name) a (b ∷ []) (from_48 is_name a h) (one_plain is_name b (from_48 is_name b k))
+
+three_plain : (is_name : Bool) (a b c : ℕ) → 48 ≤ a → 48 ≤ b → 48 ≤ c → All (Plain is_name) (a ∷ b ∷ c ∷ [])
+three_plain is_name a b c h k i = All-cons (Plain is_name) a (b ∷ c ∷ []) (from_48 is_name a h) (two_plain is_name b c k i)
+
+four_plain : (is_name : Bool) (a b c d : ℕ) → 48 ≤ a → 48 ≤ b → 48 ≤ c → 48 ≤ d → All (Plain is_name) (a ∷ b ∷ c ∷ d ∷ [])
+four_plain is_name a b c d h k i j = All-cons (Plain is_name) a (b ∷ c ∷ d ∷ []) (from_48 is_name a h) (three_plain is_name b c d k i j)
+
+more_48 : (b : ℕ) → 48 ≤ 128 + b
+more_48 b = omega arith
 
 encode_plain : (is_name : Bool) (c : ℕ) → Plain is_name c → All (Plain is_name) (encode_utf8 c)
 unfolding encode_utf8
 encode_plain is_name c h =
     let P = Plain is_name in
-    let more : (b : ℕ) → Plain is_name (128 + b) = λ b. from_48 is_name (128 + b) (omega arith) in
     elim (ltb c 128) as (λ t. All P (cond t (c ∷ []) (cond (ltb c 2048) ((192 + c / 64) ∷ (128 + c % 64) ∷ []) (cond (ltb c 65536) ((224 + c / 4096) ∷ (128 + c / 64 % 64) ∷ (128 + c % 64) ∷ []) ((240 + c / 262144) ∷ (128 + c / 4096 % 64) ∷ (128 + c / 64 % 64) ∷ (128 + c % 64) ∷ []))))) [
-      | true ↦ All-cons P c [] h (All-nil P)
+      | true ↦ one_plain is_name c h
       | false ↦ elim (ltb c 2048) as (λ t. All P (cond t ((192 + c / 64) ∷ (128 + c % 64) ∷ []) (cond (ltb c 65536) ((224 + c / 4096) ∷ (128 + c / 64 % 64) ∷ (128 + c % 64) ∷ []) ((240 + c / 262144) ∷ (128 + c / 4096 % 64) ∷ (128 + c / 64 % 64) ∷ (128 + c % 64) ∷ [])))) [
-        | true ↦ All-cons P (192 + c / 64) _ (from_48 is_name (192 + c / 64) (omega arith)) (All-cons P (128 + c % 64) [] (more (c % 64)) (All-nil P))
+        | true ↦ two_plain is_name (192 + c / 64) (128 + c % 64) (omega arith) (more_48 (c % 64))
         | false ↦ elim (ltb c 65536) as (λ t. All P (cond t ((224 + c / 4096) ∷ (128 + c / 64 % 64) ∷ (128 + c % 64) ∷ []) ((240 + c / 262144) ∷ (128 + c / 4096 % 64) ∷ (128 + c / 64 % 64) ∷ (128 + c % 64) ∷ []))) [
-          | true ↦ All-cons P (224 + c / 4096) _ (from_48 is_name (224 + c / 4096) (omega arith)) (All-cons P (128 + c / 64 % 64) _ (more (c / 64 % 64)) (All-cons P (128 + c % 64) [] (more (c % 64)) (All-nil P)))
-          | false ↦ All-cons P (240 + c / 262144) _ (from_48 is_name (240 + c / 262144) (omega arith)) (All-cons P (128 + c / 4096 % 64) _ (more (c / 4096 % 64)) (All-cons P (128 + c / 64 % 64) _ (more (c / 64 % 64)) (All-cons P (128 + c % 64) [] (more (c % 64)) (All-nil P))))
+          | true ↦ three_plain is_name (224 + c / 4096) (128 + c / 64 % 64) (128 + c % 64) (omega arith) (more_48 (c / 64 % 64)) (more_48 (c % 64))
+          | false ↦ four_plain is_name (240 + c / 262144) (128 + c / 4096 % 64) (128 + c / 64 % 64) (128 + c % 64) (omega arith) (more_48 (c / 4096 % 64)) (more_48 (c / 64 % 64)) (more_48 (c % 64))
         ]
       ]
     ]
 
-or_false : (a b : Bool) → (a || b) ≡ false → (a ≡ false) × (b ≡ false)
-or_false false b e = (refl, e)
-or_false true b e = absurd (cc)
+first_of_four : (a b c d : Bool) → (((a || b) || c) || d) ≡ false → a ≡ false
+first_of_four false b c d e = refl
+first_of_four true b c d e = absurd (cc)
 
 -- a character that stands for itself
 stands_safe : (is_name : Bool) (c : ℕ) → stands_plain is_name c ≡ true → Plain is_name c
@@ -73,7 +88,7 @@ stands_safe is_name c e = by_control (is_control c) refl e
     by_control : (control : Bool) → is_control c ≡ control → (if control then false else not (is_name && (nat_eq c 34 || nat_eq c 92))) ≡ true → Plain is_name c
     by_control true is e = absurd (cc)
     by_control false is e =
-        let low : nat_lt c 32 ≡ false = (or_false (nat_lt c 32) _ is).0 in
+        let low : nat_lt c 32 ≡ false = first_of_four (nat_lt c 32) (nat_le 127 c && nat_lt c 160) (nat_eq c 0x2028) (nat_eq c 0x2029) is in
         (grind (arith, nat_tests), by_quote is_name e)
 
 character_plain : (is_name : Bool) (c : ℕ) (stands : Bool) → stands_plain is_name c ≡ stands → All (Plain is_name) (escaped_character is_name c)

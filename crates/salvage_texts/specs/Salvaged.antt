@@ -11,11 +11,14 @@ use Rattle.salvage_texts.specs.Ends.{address_text, missing_text, threads_end_tex
 use Rattle.salvage_marks.specs.Salvaged.{first_crashed}
 use Rattle.salvage_texts.specs.Threads.{threads_text}
 
+abbrev pub searched_text : Bool → List ℕ
+searched_text searched = if searched then codes " (found by search)" else []
+
 -- the line of an interpreter, where there are several
 abbrev pub heading_text : Bool → InterpreterFront → List ℕ
 heading_text false i = []
 heading_text true i = codes "Interpreter " ++ (address_text i.address
-    ++ ((if i.searched then codes " (found by search)" else []) ++ codes "\n"))
+    ++ (searched_text i.searched ++ codes "\n"))
 
 -- the line of a lock that can't be read
 abbrev pub lock_text : LockState → List ℕ

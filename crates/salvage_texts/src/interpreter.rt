@@ -1,12 +1,22 @@
 //! The lines of interpreters.
 ghost use Rattle.std.specs.Prelude.{◌≡◌, ◌++◌, OnOk, string_bytes};
-ghost use Rattle.salvage_texts.specs.Salvaged.{heading_text, interpreter_text, interpreters_text, lock_text};
+ghost use Rattle.salvage_texts.specs.Salvaged.{heading_text, interpreter_text, interpreters_text, lock_text, searched_text};
 
 use crate::ends::{push_missing, push_threads_end};
 use crate::thread::push_threads;
 use py_fronts::InterpreterFront;
 use salvage_marks::{Crash, LockState, SalvagedInterpreter};
 use std::alloc::{AllocError, Global};
+
+/// How an interpreter was found, where by search alone.
+fn push_searched(text: &mut String, searched: bool) -> Result<(), AllocError>
+    ensures { OnOk result (string_bytes text.new ≡ string_bytes text.old ++ searched_text searched) }
+{
+    if searched {
+        return text.push_str(" (found by search)");
+    }
+    Ok(())
+}
 
 /// The line of an interpreter, where there are several.
 fn push_heading(
@@ -21,9 +31,7 @@ fn push_heading(
     }
     let address = front.address;
     write!(text, "Interpreter 0x{address:x}")?;
-    if front.searched {
-        text.push_str(" (found by search)")?;
-    }
+    push_searched(text, front.searched)?;
     text.push_str("\n")
 }
 
