@@ -1,10 +1,10 @@
 -- The frames of a whole chain of members are those of a report.
-use Rattle.std.proofs.Common.{◌≡◌, ◌≢◌, ℕ, zero, suc, ◌+◌, ◌<◌, ◌≤◌, Bool, true, false, cond, List, [], ◌∷◌, ◌++◌, length, map, refl, sym, ◌∙◌, ap, arith, append_assoc, length-append}
+use Rattle.std.proofs.Common.{◌≡◌, ◌≢◌, ℕ, zero, suc, ◌≤◌, Bool, true, false, cond, List, [], ◌∷◌, ◌++◌, length, map, refl, sym, ◌∙◌, ap, arith}
 use Rattle.std.proofs.lemmas.Bool.Decides.{nat_tests}
-use Rattle.std.specs.Prelude.{Option, Some, None, Ok, Err, IsOkAnd, nat_eq, not, ◌||◌, is_none}
+use Rattle.std.specs.Prelude.{Option, Some, None, Ok, Err, nat_eq, not, ◌||◌, is_none}
 use Rattle.std.specs.List.{filter}
 use Rattle.elf64_core.specs.Fields.{u64_in}
-use Rattle.process_memory.specs.Memory.{Fault, Found, Memory, ◌>>=◌}
+use Rattle.process_memory.specs.Memory.{Found, Memory, ◌>>=◌}
 use Rattle.process_memory.specs.Walk.{IsChain}
 use Rattle.process_memory.proofs.Founds.{bound, ok_same}
 use Rattle.py_fields.specs.declared.layout.Layout.{Layout}
@@ -28,7 +28,8 @@ marked (Some c) mark = bare_call (with_mark c mark) ∷ []
 
 -- ---- a member that a report shows, or skips
 
-plain_kept : (l : Layout) (m : Memory) (r : MemberAt) (p part : Option Call) → detailed nothing l m r p ≡ Ok part → (is_none p ≡ is_none part) × ((mark : Bool) → marked p mark ≡ marked part mark)
+plain_kept : (l : Layout) (m : Memory) (r : MemberAt) (p part : Option Call) → detailed nothing l m r p ≡ Ok part
+    → (is_none p ≡ is_none part) × ((mark : Bool) → marked p mark ≡ marked part mark)
 plain_kept l m r None part e =
     let same : None ≡ part = ok_same None part e in
     (ap is_none same, λ mark. ap (λ o. marked o mark) same)
@@ -45,7 +46,8 @@ kept_frames kept s = cond kept (frames_among (s ∷ [])) []
 
 module _ (q : Asked) (l : Layout) (m : Memory) (a : ℕ) (r : MemberAt) where
   by_name : (file : List ℕ) (name : Found (List ℕ)) (hidden : Bool) → is_hidden file ≡ hidden
-      → kept_frames (not hidden) (standing_named q l m a r (texts_of (Ok file) name)) ≡ marked (visible (Some file) (readable name) (is_entered l.frame r.frame)) (has_no_caller l m (back_by l r))
+      → kept_frames (not hidden) (standing_named q l m a r (texts_of (Ok file) name)) ≡ marked
+      (visible (Some file) (readable name) (is_entered l.frame r.frame)) (has_no_caller l m (back_by l r))
   unfolding frames_among visible
   by_name file (Ok name) true e = rw e refl
   by_name file (Ok name) false e = rw e refl
@@ -53,31 +55,39 @@ module _ (q : Asked) (l : Layout) (m : Memory) (a : ℕ) (r : MemberAt) where
   by_name file (Err f) false e = refl
 
   by_texts : (file name : Found (List ℕ)) (no_file : Bool) → (no_file ≡ true → (cs : List ℕ) → file ≢ Ok cs)
-      → kept_frames (not (no_file || hides file)) (standing_named q l m a r (texts_of file name)) ≡ marked (visible (readable file) (readable name) (is_entered l.frame r.frame)) (has_no_caller l m (back_by l r))
+      → kept_frames (not (no_file || hides file)) (standing_named q l m a r (texts_of file name)) ≡ marked
+      (visible (readable file) (readable name) (is_entered l.frame r.frame)) (has_no_caller l m (back_by l r))
   unfolding frames_among visible
   by_texts (Ok file) name true bare = absurd (bare refl file refl)
   by_texts (Ok file) name false bare = by_name file name (is_hidden file) refl
   by_texts (Err f) name true bare = refl
   by_texts (Err f) name false bare = refl
 
-null_file : (l : Layout) (m : Memory) (at : ℕ) → NoTextAtNull l m → nat_eq at 0 ≡ true → (cs : List ℕ) → text_at l m at ≢ Ok cs
+null_file : (l : Layout) (m : Memory) (at : ℕ) → NoTextAtNull l m → nat_eq at 0 ≡ true → (cs : List ℕ)
+    → text_at l m at ≢ Ok cs
 null_file l m zero bare e cs there = bare cs there
-null_file l m (suc at) bare e cs there = let none : suc at ≡ 0 = grind (arith, nat_tests) in absurd (omega (arith, none))
+null_file l m (suc at) bare e cs there = let none : suc at ≡ 0 = grind (arith, nat_tests) in absurd
+    (omega (arith, none))
 
 -- what stands for a member, where it is kept, is what a report shows of it
-member_frames : (q : Asked) (l : Layout) (m : Memory) (a : ℕ) (r : MemberAt) (part : Option Call) → NoTextAtNull l m → records_at l m a ≡ Ok r → shown_at nothing l m a ≡ Ok part
+member_frames : (q : Asked) (l : Layout) (m : Memory) (a : ℕ) (r : MemberAt) (part : Option Call) → NoTextAtNull l m
+    → records_at l m a ≡ Ok r → shown_at nothing l m a ≡ Ok part
     → kept_frames (is_kept l m a) (standing_at q l m a) ≡ marked part (has_no_caller l m (back_by l r))
 unfolding is_kept standing_at texts_at is_left_out shown_at
 member_frames q l m a r part bare there shown =
     let detail : detailed nothing l m r (plain_by l m r) ≡ Ok part = detail_of (records_at l m a) there shown in
-    rw there (by_texts q l m a r (text_at l m (u64_in r.code l.code.filename)) (text_at l m (u64_in r.code l.code.name)) (nat_eq (u64_in r.code l.code.filename) 0) (null_file l m (u64_in r.code l.code.filename) bare)
+    rw there (by_texts q l m a r (text_at l m (u64_in r.code l.code.filename))
+    (text_at l m (u64_in r.code l.code.name)) (nat_eq (u64_in r.code l.code.filename) 0)
+    (null_file l m (u64_in r.code l.code.filename) bare)
     ∙ (plain_kept l m r (plain_by l m r) part detail).1 (has_no_caller l m (back_by l r)))
   where
-    detail_of : (d : Found MemberAt) → d ≡ Ok r → (d >>= (λ r. detailed nothing l m r (plain_by l m r))) ≡ Ok part → detailed nothing l m r (plain_by l m r) ≡ Ok part
+    detail_of : (d : Found MemberAt) → d ≡ Ok r → (d >>= (λ r. detailed nothing l m r (plain_by l m r))) ≡ Ok part
+        → detailed nothing l m r (plain_by l m r) ≡ Ok part
     detail_of d e s = ap (λ v. v >>= (λ r. detailed nothing l m r (plain_by l m r))) (sym e) ∙ s
 
 -- whether a caller is shown is whether it is the next one that isn't skipped
-caller_mark : (l : Layout) (m : Memory) (back : ℕ) (members : List ℕ) (parts : List (Option Call)) → IsChain (back_of l m) back members → map (shown_at nothing l m) members ≡ map Ok parts
+caller_mark : (l : Layout) (m : Memory) (back : ℕ) (members : List ℕ) (parts : List (Option Call))
+    → IsChain (back_of l m) back members → map (shown_at nothing l m) members ≡ map Ok parts
     → has_no_caller l m back ≡ begins_hidden true parts
 unfolding IsChain has_no_caller back_of shown_at
 caller_mark l m zero [] [] chain each = refl
@@ -117,17 +127,22 @@ among_few (IsFrame c f ∷ xs) = omega (arith, among_few xs)
 among_few (IsMember a f ∷ xs) = omega (arith, among_few xs)
 
 kept_first : (q : Asked) (l : Layout) (m : Memory) (x : ℕ) (xs : List ℕ) (kept : Bool) → is_kept l m x ≡ kept
-    → frames_among (map (standing_at q l m) (filter (is_kept l m) (x ∷ xs))) ≡ kept_frames kept (standing_at q l m x) ++ frames_among (map (standing_at q l m) (filter (is_kept l m) xs))
-kept_first q l m x xs true e = rw e (among_one (standing_at q l m x) (map (standing_at q l m) (filter (is_kept l m) xs)))
+    → frames_among (map (standing_at q l m) (filter (is_kept l m) (x ∷ xs))) ≡ kept_frames kept
+    (standing_at q l m x) ++ frames_among (map (standing_at q l m) (filter (is_kept l m) xs))
+kept_first q l m x xs true e = rw e
+    (among_one (standing_at q l m x) (map (standing_at q l m) (filter (is_kept l m) xs)))
 kept_first q l m x xs false e = rw e refl
 
-shown_first : (p : Option Call) (ps : List (Option Call)) → map bare_call (shown_by true (p ∷ ps)) ≡ marked p (begins_hidden true ps) ++ map bare_call (shown_by true ps)
+shown_first : (p : Option Call) (ps : List (Option Call))
+    → map bare_call (shown_by true (p ∷ ps)) ≡ marked p (begins_hidden true ps) ++ map bare_call (shown_by true ps)
 unfolding shown_by
 shown_first None ps = refl
 shown_first (Some c) ps = refl
 
-pub chain_frames : (q : Asked) (l : Layout) (m : Memory) (first : ℕ) (members : List ℕ) (parts : List (Option Call)) → NoTextAtNull l m → IsChain (back_of l m) first members
-    → map (shown_at nothing l m) members ≡ map Ok parts → frames_among (map (standing_at q l m) (filter (is_kept l m) members)) ≡ map bare_call (shown_by true parts)
+pub chain_frames : (q : Asked) (l : Layout) (m : Memory) (first : ℕ) (members : List ℕ) (parts : List (Option Call))
+    → NoTextAtNull l m → IsChain (back_of l m) first members
+    → map (shown_at nothing l m) members ≡ map Ok parts → frames_among
+    (map (standing_at q l m) (filter (is_kept l m) members)) ≡ map bare_call (shown_by true parts)
 unfolding IsChain frames_among shown_by back_of
 chain_frames q l m first [] [] bare chain each = refl
 chain_frames q l m first [] (p ∷ ps) bare chain each = absurd (cc)
@@ -139,7 +154,8 @@ chain_frames q l m first (x ∷ xs) (p ∷ ps) bare chain each =
     let head : shown_at nothing l m x ≡ Ok p = cc in
     let tail : map (shown_at nothing l m) xs ≡ map Ok ps = cc in
     let here = member_frames q l m x r.0 p bare r.1 head in
-    let mark : has_no_caller l m (back_by l r.0) ≡ begins_hidden true ps = ap (has_no_caller l m) back ∙ caller_mark l m n.0 xs ps n.2 tail in
+    let mark : has_no_caller l m (back_by l r.0) ≡ begins_hidden true ps = ap (has_no_caller l m) back
+    ∙ caller_mark l m n.0 xs ps n.2 tail in
     kept_first q l m x xs (is_kept l m x) refl
     ∙ ap (λ cs. cs ++ frames_among (map (standing_at q l m) (filter (is_kept l m) xs))) (here ∙ ap (marked p) mark)
     ∙ ap (λ cs. marked p (begins_hidden true ps) ++ cs) (chain_frames q l m n.0 xs ps bare n.2 tail)

@@ -85,8 +85,8 @@ const UNREADABLE: ChainEnd = ChainEnd::Unreadable {
     len: 64,
 };
 
-/// How the frames of a thread are shown: the first member, and how many may be met; the names of the first and the last,
-/// with the number between them; how many were met, and the end.
+/// How the frames of a thread are shown: the first member, and how many may be met; the names of the first and the
+/// last, with the number between them; how many were met, and the end.
 type Shown = (u64, u64, &'static str, u64, &'static str, u64, ChainEnd);
 
 /// Fronts of at most one first and one last frame, or of both alone.
@@ -235,8 +235,8 @@ fn threads_end_as_their_chain_does(rt: HostRuntime) -> Result<(), Fail> {
     Ok(())
 }
 
-/// Interpreters: two whose first thread is the same one, which names the first of them; one that the record of the first
-/// names; one with a whole chain of threads, one with a broken one, and one that has none any more.
+/// Interpreters: two whose first thread is the same one, which names the first of them; one that the record of the
+/// first names; one with a whole chain of threads, one with a broken one, and one that has none any more.
 const TWIN: u64 = 0x1200;
 
 const LISTED: u64 = 0x1300;

@@ -1,5 +1,5 @@
--- The thread that got the signal of a process. That a thread pointer of x86-64 (`fs_base`) is the id that the interpreter
--- gave is glibc's `pthread_self`.
+-- The thread that got the signal of a process. That a thread pointer of x86-64 (`fs_base`) is the id that the
+-- interpreter gave is glibc's `pthread_self`.
 use Rattle.std.specs.Prelude.{ℕ, nat_eq, nat_lt, Bool, true, false, if◌then◌else◌, List, length, Option, Some, None}
 use Rattle.elf64_core.specs.Fields.{u16_in, u32_in, u64_in}
 use Rattle.elf64_core.specs.declared.header.Machine.{Machine}
@@ -7,8 +7,8 @@ use Rattle.elf64_core.specs.declared.header.Machine.TheVariants.{X86_64}
 use Rattle.py_fronts.specs.declared.thread_front.ThreadFront.{ThreadFront}
 use Rattle.salvage_marks.specs.declared.crash.Crash.{Crash}
 
--- where the signal, the thread's id and, on x86-64, the thread pointer stand in a status record (Linux's elf_prstatus of
--- 64-bit processes, in which the registers of x86-64 begin at 112)
+-- where the signal, the thread's id and, on x86-64, the thread pointer stand in a status record (Linux's elf_prstatus
+-- of 64-bit processes, in which the registers of x86-64 begin at 112)
 abbrev pub signal_place : ℕ
 signal_place = 12
 

@@ -14,7 +14,8 @@ pub struct Crash {
     pub thread_pointer: Option<u64>,
 }
 
-/// Where the signal and the thread's id stand in a status record (Linux's `elf_prstatus` of 64-bit processes), in bytes.
+/// Where the signal and the thread's id stand in a status record (Linux's `elf_prstatus` of 64-bit processes), in
+/// bytes.
 const PR_CURSIG: usize = 12;
 
 const PR_PID: usize = 32;
@@ -64,8 +65,8 @@ fn is_id(told: Option<u64>, id: u64) -> bool
     }
 }
 
-/// Whether a thread is the one that got the signal, by the system's id or by the interpreter's. None is, where no signal
-/// is known.
+/// Whether a thread is the one that got the signal, by the system's id or by the interpreter's. None is, where no
+/// signal is known.
 pub fn is_crashed(crash: Option<Crash>, thread: &ThreadFront) -> bool
     ensures { result ≡ is_crashed crash thread.now }
 {

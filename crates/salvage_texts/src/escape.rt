@@ -41,8 +41,8 @@ fn characters(alloc: Global, text: &Text) -> Result<Vec<char>, AllocError>
     text.as_str().chars().collect(alloc)
 }
 
-/// Appends a name or a value, in which each control character stands as `\u{..}` with its code; and in a name each quote
-/// and backslash too. The one error is want of memory.
+/// Appends a name or a value, in which each control character stands as `\u{..}` with its code; and in a name each
+/// quote and backslash too. The one error is want of memory.
 #[tactic(auto, unfolding(crate::specs::Escape::escaped))]
 pub fn push_escaped(
     alloc: Global,

@@ -29,9 +29,9 @@ fn push_ordered(
 /// is missing of its lock and of its threads, and its threads, each with its frames and how these end; and last, where
 /// there are more than 16 interpreters, a line that says so.
 ///
-/// A thread is marked where it holds the lock of its interpreter, and where it got the signal. The first interpreter with
-/// such a thread stands first, and in it that thread; else interpreters stand in order, and the threads of each from the
-/// last to the first. The one error is want of memory.
+/// A thread is marked where it holds the lock of its interpreter, and where it got the signal. The first interpreter
+/// with such a thread stands first, and in it that thread; else interpreters stand in order, and the threads of each
+/// from the last to the first. The one error is want of memory.
 pub fn salvaged_text(alloc: Global, salvaged: &Salvaged) -> Result<String, AllocError>
     ensures { IfOk result (λ text. string_bytes text ≡ salvaged_text salvaged.now) }
 {

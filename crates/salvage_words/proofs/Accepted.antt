@@ -20,7 +20,8 @@ unfolding clap_on_literals
 salvage_is_plain = refl
 
 -- words without a fault are taken
-pub taken : (words : List Text) → fault_of salvage_app words ≡ [] → taken_rows words ≡ Some (matches_of salvage_app words)
+pub taken : (words : List Text) → fault_of salvage_app words ≡ []
+    → taken_rows words ≡ Some (matches_of salvage_app words)
 unfolding taken_rows
 taken words none = ap (λ kinds. rows_without kinds (matches_of salvage_app words)) none
 
@@ -28,7 +29,8 @@ none_with : (kinds : Kinds) (k : ErrorKind) (rows : List Row) → IsAmong k kind
 none_with [] k rows among = absurd among
 none_with (x ∷ xs) k rows among = refl
 
-pub unless_memory : (kinds : Kinds) (e : Error) → HasKind kinds e → kind_of e ≢ kind.OutOfMemory → IsAmong (kind_of e) kinds
+pub unless_memory : (kinds : Kinds) (e : Error) → HasKind kinds e → kind_of e ≢ kind.OutOfMemory
+    → IsAmong (kind_of e) kinds
 unless_memory kinds e (inl memory) ne = absurd (ne memory)
 unless_memory kinds e (inr among) ne = among
 
@@ -38,6 +40,7 @@ unfolding taken_rows
 not_taken words k among = none_with (fault_of salvage_app words) k (matches_of salvage_app words) among
 
 pub refused : {S T : Type 0} (seen : S → T) (asked : Option T) (e : ArgsError) (k : ErrorKind)
-    → (e ≡ OutOfMemory) ↔ (k ≡ kind.OutOfMemory) → (k ≢ kind.OutOfMemory → asked ≡ None) → AnswersWords seen asked (Err e)
+    → (e ≡ OutOfMemory) ↔ (k ≡ kind.OutOfMemory) → (k ≢ kind.OutOfMemory → asked ≡ None) → AnswersWords seen asked
+    (Err e)
 refused seen asked Refused k both none = none (λ is. absurd (let h : Refused ≡ OutOfMemory = both.1 is in cc))
 refused seen asked OutOfMemory k both none = tt

@@ -32,7 +32,7 @@ fn limit_in(word: &str) -> Option<usize>
 
 /// The same, where it is said, and else 100.
 pub(crate) fn limit_of(word: Option<&str>) -> Option<usize>
-    ensures is { result ≡ limit_of (option_map (λ word. word.now) word) }
+    ensures is { result ≡ limit_of (option_map (λ word. word.now) word.entry) }
     ensures few { IfSome result (λ limit. limit ≤ 4096) }
 {
     match word {

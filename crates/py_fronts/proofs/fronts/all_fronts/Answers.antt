@@ -15,10 +15,15 @@ read_interpreters-requires-clause-shown g c =
 
 pub returns-in_err-interpreters : goal.returns-in_err-interpreters
 returns-in_err-interpreters g c =
-    let p = err_from_is_err_and c.from_residual-in_err-interpreters.result c.from_residual-in_err-interpreters.ensures.1 in
-    rw p.1 (lost_then _ c.in_ok-finds.ensures.answer (reading_wider (2 ^ 64) c.in_err-interpreters.ensures (omega arith)) p.2 (omega arith))
+    let p = err_from_is_err_and c.from_residual-in_err-interpreters.result
+    c.from_residual-in_err-interpreters.ensures.1 in
+    rw p.1 (lost_then _ c.in_ok-finds.ensures.answer
+    (reading_wider (2 ^ 64) c.in_err-interpreters.ensures (omega arith)) p.2 (omega arith))
 
 pub returns : goal.returns
 returns g c =
-    reading_gives _ _ (reading_then _ c.in_ok-finds.ensures.answer (reading_wider (2 ^ 64) c.in_ok-interpreters.ensures (omega arith))
-    (λ m a b. fronts_found (g.M.ContainsAddr.contains c.args.info.now.maps) (known_of c.args.info.now) c.args.version.now c.args.layout.now m c.args.asked c.args.limit (finds_of c.in_ok-finds.finds) _ _ a c.deref.ensures.value b)) (omega arith) (λ m h. h)
+    reading_gives _ _
+    (reading_then _ c.in_ok-finds.ensures.answer (reading_wider (2 ^ 64) c.in_ok-interpreters.ensures (omega arith))
+    (λ m a b. fronts_found (g.M.ContainsAddr.contains c.args.info.now.maps) (known_of c.args.info.now)
+    c.args.version.now c.args.layout.now m c.args.asked c.args.limit (finds_of c.in_ok-finds.finds) _ _ a
+    c.deref.ensures.value b)) (omega arith) (λ m h. h)

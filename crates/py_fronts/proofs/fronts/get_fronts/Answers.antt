@@ -7,4 +7,5 @@ use Rattle.py_fronts.proofs.fronts.get_fronts.Goals as goal
 pub returns-clause-report : goal.returns-clause-report
 returns-clause-report g c =
     reading_gives _ _ c.all_fronts.ensures (le_refl _)
-    (λ m a. fronts_agree (g.M.ContainsAddr.contains c.args.info.now.maps) (known_of c.args.info.now) c.args.version.now c.args.layout.now m c.args.asked c.args.limit c.all_fronts.result a)
+    (λ m a. fronts_agree (g.M.ContainsAddr.contains c.args.info.now.maps) (known_of c.args.info.now)
+    c.args.version.now c.args.layout.now m c.args.asked c.args.limit c.all_fronts.result a)

@@ -4,4 +4,5 @@ use Rattle.salvage_texts.specs.Escape.{escaped_character}
 use Rattle.salvage_texts.proofs.escape.push_escaped.Given as goal
 
 abbrev pub invariant-loop-c : goal.invariant-loop-c
-invariant-loop-c l = string_bytes l.text ≡ string_bytes l.initial.text ++ flat_map (escaped_character l.is_name) (take l.c-index l.c-items)
+invariant-loop-c l = string_bytes l.text ≡ string_bytes l.initial.text ++ flat_map (escaped_character l.is_name)
+    (take l.c-index l.c-items)

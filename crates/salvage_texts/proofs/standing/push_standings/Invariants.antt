@@ -4,4 +4,5 @@ use Rattle.salvage_texts.specs.Standings.{standing_text}
 use Rattle.salvage_texts.proofs.standing.push_standings.Given as goal
 
 abbrev pub invariant-loop-standing : goal.invariant-loop-standing
-invariant-loop-standing l = string_bytes l.text ≡ string_bytes l.initial.text ++ concat (map (λ x. standing_text x) (take l.standing-index l.standings))
+invariant-loop-standing l = string_bytes l.text ≡ string_bytes l.initial.text ++ concat
+    (map (λ x. standing_text x) (take l.standing-index l.standings))

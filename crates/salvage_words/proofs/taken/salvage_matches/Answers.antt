@@ -9,7 +9,8 @@ pub returns-in-Ok : goal.returns-in-Ok
 returns-in-Ok c =
     let words = texts c.args.words.now in
     let is = c.in_ok-command.ensures in
-    let none : fault_of salvage_app words ≡ [] = ap (λ a. fault_of a words) (sym is) ∙ c.in-Ok.ensures.kinds (ap is_simple_and_free is ∙ salvage_is_simple) in
+    let none : fault_of salvage_app words ≡ [] = ap (λ a. fault_of a words) (sym is)
+    ∙ c.in-Ok.ensures.kinds (ap is_simple_and_free is ∙ salvage_is_simple) in
     let rows = (c.in-Ok.ensures.matches (ap is_simple is ∙ salvage_is_plain)).0 ∙ ap (λ a. matches_of a words) is in
     taken words none ∙ ap (λ rs. Some rs) (sym rows)
 
@@ -19,6 +20,8 @@ returns-in-Err c =
     let error = c.in-Err.error in
     let is = c.in_ok-command.ensures in
     let fails : HasKind (fault_of salvage_app words) error =
-    subst (λ a. HasKind (fault_of a words) error) is (c.in-Err.ensures.kinds (ap is_simple_and_free is ∙ salvage_is_simple)) in
+    subst (λ a. HasKind (fault_of a words) error) is
+    (c.in-Err.ensures.kinds (ap is_simple_and_free is ∙ salvage_is_simple)) in
     refused (λ matches. rows_of (found_of matches)) _ c.refusal.result c.kind.result c.refusal.ensures.memory
-    (λ ne. not_taken words (kind_of error) (unless_memory (fault_of salvage_app words) error fails (λ memory. ne (c.kind.ensures ∙ memory))))
+    (λ ne. not_taken words (kind_of error)
+    (unless_memory (fault_of salvage_app words) error fails (λ memory. ne (c.kind.ensures ∙ memory))))
