@@ -13,3 +13,6 @@ pub mod HeadSteps
 pub mod FindSteps
 pub mod FindLaws
 pub mod FrontSteps
+pub mod MemberFrames
+pub mod ReportLaws
+pub mod AllFound

@@ -11,3 +11,4 @@ pub mod Candidates
 pub mod Interpreters
 pub mod ShownInterpreters
 pub mod Fronts
+pub mod BesideReports

@@ -1,8 +1,11 @@
 -- Which interpreters are shown, in the subject's own words.
 use Rattle.std.specs.Prelude.{◌≡◌, ◌≢◌, ℕ, ◌≤◌, Bool, true, false, All, List, [], ◌∷◌, length, Ok, ⊤}
 use Rattle.process_memory.specs.Memory.{Memory}
+use Rattle.py_version.specs.declared.version.Version.{Version}
 use Rattle.py_fields.specs.declared.layout.Layout.{Layout}
 use Rattle.py_stacks.specs.Interpreter.{interpreter_named_by, threads_head}
+use Rattle.py_process.specs.Facts.{Known}
+use Rattle.py_fronts.specs.Candidates.{named_candidates, record_candidates, searched_candidates}
 use Rattle.py_fronts.specs.declared.interpreters.FoundInterpreter.{FoundInterpreter}
 use Rattle.py_fronts.specs.Front.Ending.{Whole}
 use Rattle.py_fronts.specs.Interpreters.{Finds, interpreter_limit, is_found}
@@ -30,3 +33,19 @@ pub record AreShown (contains : ℕ → Bool) (l : Layout) (m : Memory) (r : Fin
   pub each : All (IsShown contains l m) r.found
   pub once : EachOnce r.found
   pub few : length r.found ≤ interpreter_limit
+
+-- an address was found, if it is an interpreter's; for one that is found by search alone, if its threads are whole too
+abbrev pub IsTaken : (ℕ → Bool) → Layout → Memory → Finds → ℕ → Type 0
+IsTaken contains l m r a = (head : ℕ) → IsHeaded contains l m a head → is_found r.found a ≡ true
+
+abbrev pub IsTakenWhole : (ℕ → Bool) → Layout → Memory → Finds → ℕ → Type 0
+IsTakenWhole contains l m r a = (head : ℕ) → IsHeaded contains l m a head → (threads_front l a m head).ending ≡ Whole
+    → is_found r.found a ≡ true
+
+-- none is left out: of the addresses that are named, of those that the record of one that is shown names, and of those
+-- that are found by search alone
+pub record AreAll (contains : ℕ → Bool) (k : Known) (v : Version) (l : Layout) (m : Memory) (r : Finds) : Type 0 where
+  pub named : All (IsTaken contains l m r) (named_candidates k v l m)
+  pub recorded : All (λ (one : FoundInterpreter). All (IsTaken contains l m r) (record_candidates l m one.address))
+      r.found
+  pub searched : All (IsTakenWhole contains l m r) (searched_candidates k m)

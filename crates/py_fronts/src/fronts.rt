@@ -4,6 +4,7 @@ ghost use Rattle.process_memory.specs.Seen.{Reading};
 ghost use Rattle.py_fields.specs.Sound.{IsSound};
 ghost use Rattle.py_process.specs.Facts.{known_of};
 ghost use Rattle.py_fronts.specs.Answers.{IsOrNoMemory};
+ghost use Rattle.py_fronts.specs.BesideReports.{AgreeWithReport};
 ghost use Rattle.py_fronts.specs.Fronts.{Fronting, fronts_at, fronts_result, interpreters_fronts, interpreters_most, interpreters_result};
 
 use crate::interpreters::find_interpreters;
@@ -77,12 +78,8 @@ fn read_interpreters<P: ProcessMemory>(
     Ok(interpreters)
 }
 
-/// The interpreters of a process, each with its threads as far as their chain goes, each of these with its frames as
-/// far as theirs goes: what `find_interpreters` finds and `get_threads_front` says of each, where 4,194,304 members may
-/// be met in all.
-///
-/// The one error is want of memory.
-pub fn get_fronts<M: ContainsAddr, P: ProcessMemory>(
+/// See `get_fronts`.
+fn all_fronts<M: ContainsAddr, P: ProcessMemory>(
     alloc: Global,
     info: &PythonProcessInfo<M>,
     process: &mut P,
@@ -104,4 +101,34 @@ pub fn get_fronts<M: ContainsAddr, P: ProcessMemory>(
         interpreters,
         more: finds.more,
     })
+}
+
+/// The interpreters of a process, each with its threads as far as their chain goes, each of these with its frames as
+/// far as theirs goes: what `find_interpreters` finds and `get_threads_front` says of each, where 4,194,304 members may
+/// be met in all.
+///
+/// Where there is a report of the same memory, its interpreter is among them, if each of its threads names it and there
+/// are no more than are shown; and its threads and frames are those of the report.
+///
+/// The one error is want of memory.
+pub fn get_fronts<M: ContainsAddr, P: ProcessMemory>(
+    alloc: Global,
+    info: &PythonProcessInfo<M>,
+    process: &mut P,
+    version: &Version,
+    layout: &Layout,
+    asked: Asked,
+    limit: usize,
+) -> Result<Fronts, StackError>
+    requires sound { IsSound layout.now }
+    requires few { limit ≤ 4096 }
+    ensures answer { Fronting (known_of info.now) version.now layout.now asked limit (P.seen process.old)
+        (P.seen process.new) (λ m. IsOrNoMemory
+        (fronts_at (M.contains info.now.maps) (known_of info.now) version.now layout.now m asked limit)
+        (fronts_result result)) }
+    ensures report { Fronting (known_of info.now) version.now layout.now asked limit (P.seen process.old)
+        (P.seen process.new) (λ m. IfOk (fronts_result result) (λ fronts.
+        AgreeWithReport (M.contains info.now.maps) (known_of info.now) version.now layout.now m fronts)) }
+{
+    all_fronts(alloc, info, process, version, layout, asked, limit)
 }

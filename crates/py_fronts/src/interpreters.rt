@@ -1,16 +1,17 @@
 //! Which interpreters of a process are shown.
-ghost use Rattle.std.specs.Prelude.{◌≡◌, ◌+◌, ◌*◌, ◌≤◌, ◌^◌, Err, IfOk, MatchOption, None, Ok, OnOk, length};
+ghost use Rattle.std.specs.Prelude.{◌≡◌, ◌+◌, ◌*◌, ◌≤◌, ◌^◌, Err, false, IfOk, MatchOption, None, Ok, OnOk, length};
 ghost use Rattle.process_memory.specs.Memory.{byte_at};
 ghost use Rattle.process_memory.specs.Seen.{Reading, ReadingBelow};
 ghost use Rattle.py_fields.specs.Sound.{IsSound};
 ghost use Rattle.py_stacks.specs.StackError.{stack_fault};
 ghost use Rattle.py_process.specs.Facts.{known_of};
 ghost use Rattle.py_fronts.specs.Answers.{IsOrNoMemory};
+ghost use Rattle.py_fronts.specs.BesideReports.{FindsReported};
 ghost use Rattle.py_fronts.specs.Candidates.{named_candidates, searched_candidates};
 ghost use Rattle.py_stacks.specs.Interpreter.{interpreter_named_by, threads_head};
 ghost use Rattle.py_fronts.specs.Interpreters.{HeadIs, Looking, Takes, address_at, after_candidate, after_candidates, after_record_of, after_records, candidate_reads, ending_result, finds_of, finds_result, headed_at, headed_by, interpreters_at, is_found, names_it, record_reads, shown_head, whole_head, with_one};
 ghost use Rattle.py_fronts.specs.ChainEnds.{ending_of};
-ghost use Rattle.py_fronts.specs.ShownInterpreters.{AreShown};
+ghost use Rattle.py_fronts.specs.ShownInterpreters.{AreAll, AreShown};
 ghost use Rattle.py_fronts.specs.ThreadFronts.{threads_front};
 
 use crate::ChainEnd;
@@ -390,6 +391,13 @@ pub fn find_interpreters<M: ContainsAddr, P: ProcessMemory>(
         (finds_result result)) }
     ensures right { Looking (known_of info.now) version.now layout.now (P.seen process.old) (P.seen process.new)
         (λ m. IfOk result (λ finds. AreShown (M.contains info.now.maps) layout.now m (finds_of finds))) }
+    // none is left out
+    ensures all { Looking (known_of info.now) version.now layout.now (P.seen process.old) (P.seen process.new) (λ m.
+        IfOk result (λ finds. finds.more ≡ false
+        → AreAll (M.contains info.now.maps) (known_of info.now) version.now layout.now m (finds_of finds))) }
+    ensures report { Looking (known_of info.now) version.now layout.now (P.seen process.old) (P.seen process.new) (λ m.
+        IfOk result (λ finds.
+        FindsReported (M.contains info.now.maps) (known_of info.now) version.now layout.now m (finds_of finds))) }
 {
     find_all(alloc, info, process, version, layout)
 }

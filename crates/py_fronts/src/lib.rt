@@ -12,6 +12,8 @@ mod fronts;
 mod interpreters;
 mod members;
 mod standing;
+#[cfg(test)]
+mod tests;
 mod thread_front;
 mod threads;
 

@@ -1,8 +1,10 @@
 //! The front of an interpreter's threads, as it is asked for.
-ghost use Rattle.std.specs.Prelude.{◌≡◌, ◌≤◌, ◌+◌, ◌*◌, IfOk, length};
+ghost use Rattle.std.specs.Prelude.{◌≡◌, ◌≤◌, ◌+◌, ◌*◌, IfOk, Ok, length};
 ghost use Rattle.process_memory.specs.Seen.{Reading};
 ghost use Rattle.py_fields.specs.Sound.{IsSound};
+ghost use Rattle.py_stacks.specs.Interpreter.{threads_head};
 ghost use Rattle.py_fronts.specs.Answers.{IsOrNoMemory};
+ghost use Rattle.py_fronts.specs.BesideReports.{AgreesWithReport};
 ghost use Rattle.py_fronts.specs.FirstThreads.{AreFirstThreads};
 ghost use Rattle.py_fronts.specs.FrameFronts.{ends_reads};
 ghost use Rattle.py_fronts.specs.ThreadFronts.{ThreadsShown, front_shown, left_after, threads_front, threads_of, threads_reads, threads_result};
@@ -56,6 +58,10 @@ pub fn get_threads_front<P: ProcessMemory>(
         (P.seen process.new) (λ m. (shown : ThreadsShown)
         → AreFirstThreads asked layout.now m limit left.old interpreter head shown
         → IsOrNoMemory shown (threads_result result)) }
+    // its threads are those of a report, where there is one
+    ensures report { Reading (threads_reads asked limit left.old left.new result) (P.seen process.old)
+        (P.seen process.new) (λ m. IfOk result (λ front. threads_head layout.now m interpreter ≡ Ok head
+        → AgreesWithReport layout.now m interpreter (threads_of front))) }
     ensures left { IfOk result (λ front. left.new ≡ left_after left.old (threads_of front).threads) }
     ensures fewer { left.new ≤ left.old }
     ensures few { IfOk result (λ front. length front.threads.items ≤ 4096) }

@@ -1,9 +1,25 @@
 use Rattle.std.proofs.Math.Nat.{le_refl}
 use Rattle.process_memory.proofs.Reading.{reading_gives}
 use Rattle.py_process.specs.Facts.{known_of}
+use Rattle.py_fronts.proofs.AllFound.{all_found}
+use Rattle.py_fronts.proofs.ReportLaws.{reported_found}
 use Rattle.py_fronts.proofs.FindLaws.{shown_right}
 use Rattle.py_fronts.proofs.interpreters.find_interpreters.Goals as goal
 
 pub returns-clause-right : goal.returns-clause-right
 returns-clause-right g c =
-    reading_gives _ _ c.find_all.ensures (le_refl _) (λ m a. shown_right (g.M.ContainsAddr.contains c.args.info.now.maps) (known_of c.args.info.now) c.args.version.now c.args.layout.now m c.find_all.result a)
+    reading_gives _ _ c.find_all.ensures (le_refl _)
+    (λ m a. shown_right (g.M.ContainsAddr.contains c.args.info.now.maps) (known_of c.args.info.now)
+    c.args.version.now c.args.layout.now m c.find_all.result a)
+
+pub returns-clause-all : goal.returns-clause-all
+returns-clause-all g c =
+    reading_gives _ _ c.find_all.ensures (le_refl _)
+    (λ m a. all_found (g.M.ContainsAddr.contains c.args.info.now.maps) (known_of c.args.info.now)
+    c.args.version.now c.args.layout.now m c.find_all.result a)
+
+pub returns-clause-report : goal.returns-clause-report
+returns-clause-report g c =
+    reading_gives _ _ c.find_all.ensures (le_refl _)
+    (λ m a. reported_found (g.M.ContainsAddr.contains c.args.info.now.maps) (known_of c.args.info.now)
+    c.args.version.now c.args.layout.now m c.find_all.result a)

@@ -1,0 +1,302 @@
+-- A front shows the threads and frames of a report, where there is one.
+use Rattle.std.proofs.Common.{◌≡◌, ℕ, zero, suc, ◌-◌, ◌<◌, inl, inr, ◌⊎◌, min, Bool, true, false, leb, List, [], ◌∷◌, ◌++◌, length, map, refl, sym, ◌∙◌, ap, arith}
+use Rattle.std.proofs.lemmas.Bool.{leb-false, leb-true}
+use Rattle.std.proofs.lemmas.Bool.Decides.{nat_tests}
+use Rattle.std.proofs.lemmas.List.{length-map, map-append}
+use Rattle.std.proofs.lemmas.List.Elements.{All-cons, All-contains, All-head, All-nil, All-tail, Contains-append_cases, Contains-append_left, Contains-append_right}
+use Rattle.std.specs.Prelude.{All, Contains, ◌||◌, IfOk, Option, Some, None, Ok, Err, Result, nat_eq}
+use Rattle.std.specs.List.{filter}
+use Rattle.elf64_core.specs.Fields.{u64_in}
+use Rattle.process_memory.specs.Memory.{Found, Memory, ◌>>=◌, record_at}
+use Rattle.process_memory.specs.Walk.{IsChain}
+use Rattle.process_memory.proofs.Founds.{bound, ok_same}
+use Rattle.py_version.specs.declared.version.Version.{Version}
+use Rattle.py_fields.specs.declared.layout.Layout.{Layout}
+use Rattle.py_stacks.specs.declared.asked.Asked.{Asked}
+use Rattle.py_stacks.specs.Asking.{nothing}
+use Rattle.py_stacks.specs.Frames.{AreFrames, Call, back_of, member_limit}
+use Rattle.py_stacks.specs.Interpreter.{interpreter_named_by, named_at, threads_head}
+use Rattle.py_stacks.specs.Threads.{AreTraces, AreTracesOf, IsTraceOf, Trace, thread_after, thread_limit}
+use Rattle.py_stacks.specs.declared.error.StackError.{StackError}
+use Rattle.py_process.specs.Candidates.{IsInterpreterIn, candidates_of, head_by, runtime_words, section_words, words_of_image}
+use Rattle.py_process.specs.Facts.{Facts, Known}
+use Rattle.py_process.specs.Reports.{bare_call}
+use Rattle.py_fronts.specs.declared.fronts.Fronts.{Fronts}
+use Rattle.py_fronts.specs.declared.interpreters.FoundInterpreter.{FoundInterpreter}
+use Rattle.py_fronts.specs.declared.interpreters.FoundInterpreters.{FoundInterpreters}
+use Rattle.py_fronts.specs.declared.thread_front.ThreadsFront.{ThreadsFront}
+use Rattle.py_fronts.specs.Answers.{IsOrNoMemory}
+use Rattle.py_fronts.specs.BesideReports.{AgreeWithReport, AgreesWithReport, FindsReported, IsReported, NameIt, NoTextAtNull, ShowTraces, ShowsCalls, ShowsTrace, frames_among, is_shown}
+use Rattle.py_fronts.specs.Candidates.{bss_of_image, named_candidates, runtime_of_image, searched_candidates}
+use Rattle.py_fronts.specs.FirstFrames.{ShowsEnds}
+use Rattle.py_fronts.specs.FrameFronts.{FramesShown, all_members_limit, chain_from, chain_of_thread, frames_shown, thread_members_limit}
+use Rattle.py_fronts.specs.Front.{Break, Front, Leads, front_at, or_lost}
+use Rattle.py_fronts.specs.Front.Ending.{Whole, Cut}
+use Rattle.py_fronts.specs.Fronts.{InterpreterShown, fronts_at, fronts_result, interpreter_front, interpreters_fronts, threads_from}
+use Rattle.py_fronts.specs.Interpreters.{Finds, finds_of, finds_result, interpreters_at, is_found}
+use Rattle.py_fronts.specs.Members.{caller_of, is_kept, members_front}
+use Rattle.py_fronts.specs.ShownInterpreters.{AreAll, IsHeaded, IsShown, IsTaken, IsTakenWhole}
+use Rattle.py_fronts.specs.Standings.{Stood, standing_at}
+use Rattle.py_fronts.specs.ThreadFronts.{after_record, front_shown, left_after, thread_of, thread_shown, threads_front, threads_of, threads_result, threads_shown}
+use Rattle.py_fronts.proofs.AllFound.{interpreters_all}
+use Rattle.py_fronts.proofs.FindLaws.{interpreters_shown}
+use Rattle.py_fronts.proofs.FirstFrameLaws.{ends_found}
+use Rattle.py_fronts.proofs.FrontLaws.{chain_front, front_full, front_more, front_only, some_next}
+use Rattle.py_fronts.proofs.MemberFrames.{among_append, among_few, chain_frames}
+
+-- ---- frames
+
+-- a chain that has more members than are met is cut where so many were met
+cut_front : (next : ℕ → Result ℕ Break) (to : ℕ → Found ℕ) (k head : ℕ) (members : List ℕ)
+    → ((a n : ℕ) → to a ≡ Ok n → next a ≡ Ok n) → IsChain to head members → k < length members
+    → ((front_at next k head).ending ≡ Cut) × (length (front_at next k head).members ≡ k)
+unfolding IsChain
+cut_front next to k head [] same chain more = absurd (omega (arith, more))
+cut_front next to zero head (x ∷ xs) same chain more =
+    let full = front_full next head chain.0 in
+    (ap (λ (f : Front). f.ending) full, ap (λ (f : Front). length f.members) full)
+cut_front next to (suc k) head (x ∷ xs) same chain more =
+    let n = some_next (to x) (λ n. IsChain to n xs) chain.2 in
+    let step : next head ≡ Ok n.0 = ap next (sym chain.1) ∙ same x n.0 n.1 in
+    let here = front_more next k head n.0 chain.0 step in
+    let rest = cut_front next to k n.0 xs same n.2 (omega (arith, more)) in
+    (ap (λ (f : Front). f.ending) here ∙ rest.0, ap (λ (f : Front). length f.members) here ∙ omega (arith, rest.1))
+
+no_loss : (l : Layout) (m : Memory) (a n : ℕ) → back_of l m a ≡ Ok n → or_lost (back_of l m a) ≡ Ok n
+no_loss l m a n e = rw e refl
+
+ends_calls : (q : Asked) (l : Layout) (m : Memory) (limit : ℕ) (kept : List ℕ) (frames : FramesShown)
+    (calls : List Call) → ShowsEnds q l m limit kept frames
+    → frames_among (map (standing_at q l m) kept) ≡ map bare_call calls → ShowsCalls frames calls
+ends_calls q l m limit kept frames calls ends all =
+    let st : ℕ → Stood = standing_at q l m in
+    let split : frames_among (map st kept) ≡ frames_among
+    (map st ends.first) ++ (frames_among (map st ends.hidden) ++ frames_among (map st ends.last)) =
+    ap (λ xs. frames_among (map st xs)) ends.parts
+    ∙ ap frames_among (map-append st ends.first (ends.hidden ++ ends.last))
+    ∙ among_append (map st ends.first) (map st (ends.hidden ++ ends.last))
+    ∙ ap (λ xs. frames_among (map st ends.first) ++ frames_among xs) (map-append st ends.hidden ends.last)
+    ∙ ap (λ xs. frames_among (map st ends.first) ++ xs) (among_append (map st ends.hidden) (map st ends.last)) in
+    record {
+      hidden = frames_among (map st ends.hidden);
+      fewer = omega (arith, among_few (map st ends.hidden), length-map ends.hidden st, ends.counts);
+      parts = sym all ∙ split
+          ∙ ap (λ xs. frames_among xs ++ (frames_among (map st ends.hidden) ++ frames_among (map st ends.last)))
+          (sym ends.shows_first)
+          ∙ ap (λ xs. frames_among frames.first ++ (frames_among (map st ends.hidden) ++ frames_among xs))
+          (sym ends.shows_last);
+    }
+
+abbrev ShowsFrames : FramesShown → List Call → Type 0
+ShowsFrames frames calls = ((frames.ending ≡ Whole) × ShowsCalls frames calls)
+    ⊎ ((frames.ending ≡ Cut) × (frames.met < member_limit))
+
+frames_by : (q : Asked) (l : Layout) (m : Memory) (limit most first : ℕ) (calls : List Call) → NoTextAtNull l m
+    → (h : AreFrames nothing l m first calls) → (fits : Bool) → leb (length h.members) most ≡ fits
+    → ShowsFrames (frames_shown q l m limit (chain_from l m most (Ok first))) calls
+unfolding frames_shown
+frames_by q l m limit most first calls bare h true e =
+    let front = chain_front (caller_of l m) (back_of l m) most first h.members (no_loss l m) h.chain
+    (leb-true (length h.members) most e) in
+    let all = chain_frames q l m first h.members h.parts bare h.chain h.each ∙ ap (map bare_call) (sym h.shows) in
+    let kept : filter (is_kept l m) (members_front l m most first).members ≡ filter (is_kept l m) h.members = ap
+    (λ (f : Front). filter (is_kept l m) f.members) front in
+    inl (
+      ap (λ (f : Front). f.ending) front,
+      ends_calls q l m limit _ _ calls
+          (ends_found q l m limit (chain_from l m most (Ok first)))
+          (ap (λ xs. frames_among (map (standing_at q l m) xs)) kept ∙ all),
+    )
+frames_by q l m limit most first calls bare h false e =
+    let cut = cut_front (caller_of l m) (back_of l m) most first h.members (no_loss l m) h.chain
+    (leb-false (length h.members) most e) in
+    inr (cut.0, omega (arith, cut.1, leb-false (length h.members) most e, h.met))
+
+-- ---- threads
+
+after_named : (l : Layout) (i n : ℕ) (d : Found (List ℕ))
+    → (d >>= (λ thread. Ok (u64_in thread l.thread.next))) ≡ Ok n
+    → (d >>= (λ thread. Ok (u64_in thread l.thread.interp))) ≡ Ok i
+    → after_record l i d ≡ Ok n
+after_named l i n (Err f) next named = absurd (cc)
+after_named l i n (Ok thread) next named =
+    let is : u64_in thread l.thread.interp ≡ i = ok_same _ i named in
+    let same : nat_eq (u64_in thread l.thread.interp) i ≡ true = grind (arith, nat_tests) in
+    rw same (ap Ok (ok_same (u64_in thread l.thread.next) n next))
+
+named_next : (l : Layout) (i : ℕ) (m : Memory) (a n : ℕ) → thread_after l m a ≡ Ok n
+    → interpreter_named_by l m a ≡ Ok i → thread_of l i m a ≡ Ok n
+unfolding thread_after interpreter_named_by thread_of
+named_next l i m a n next named = after_named l i n (record_at m a l.thread.size) next named
+
+named_leads : (l : Layout) (i : ℕ) (m : Memory) (head : ℕ) (threads : List ℕ) → NameIt l m i threads
+    → IsChain (thread_after l m) head threads → Leads (thread_of l i m) head threads 0
+unfolding IsChain Leads
+named_leads l i m head [] named chain = chain
+named_leads l i m head (x ∷ xs) named chain =
+    let n = some_next (thread_after l m x) (λ n. IsChain (thread_after l m) n xs) chain.2 in
+    let here = All-head (λ a. interpreter_named_by l m a ≡ Ok i) x xs named in
+    let rest = All-tail (λ a. interpreter_named_by l m a ≡ Ok i) x xs named in
+    (chain.0, chain.1, rw (named_next l i m x n.0 n.1 here) (named_leads l i m n.0 xs rest n.2))
+
+thread_shows : (q : Asked) (l : Layout) (m : Memory) (limit left a : ℕ) (trace : Trace) → NoTextAtNull l m
+    → IsTraceOf nothing l m a trace → ShowsTrace (thread_shown q l m limit left a) trace
+unfolding thread_shown chain_of_thread
+thread_shows q l m limit left a trace bare h =
+    let r = h.read in
+    let first = h.names in
+    let shown = frames_by q l m limit (min left thread_members_limit) h.first trace.frames bare h.frames
+    (leb (length h.frames.members) (min left thread_members_limit)) refl in
+    record {
+      thread_id = rw r (sym (ap (λ (t : Trace). t.thread_id) h.fields));
+      os_thread_id = rw r (sym (ap (λ (t : Trace). t.os_thread_id) h.fields));
+      frames = rw (r, first) shown;
+    }
+
+threads_show : (q : Asked) (l : Layout) (m : Memory) (limit left : ℕ) (threads : List ℕ) (traces : List Trace)
+    → NoTextAtNull l m → AreTracesOf nothing l m threads traces
+    → ShowTraces (threads_shown q l m limit left threads) traces
+unfolding threads_shown
+threads_show q l m limit left [] [] bare h = tt
+threads_show q l m limit left [] (t ∷ ts) bare h = absurd h
+threads_show q l m limit left (a ∷ rest) [] bare h = absurd h
+threads_show q l m limit left (a ∷ rest) (t ∷ ts) bare h = (
+  thread_shows q l m limit left a t bare h.0,
+  threads_show q l m limit
+      (left - (thread_shown q l m limit left a).frames.met) rest ts bare h.1,
+)
+
+whole_threads : (l : Layout) (m : Memory) (i head : ℕ) (traces : List Trace) (are : AreTraces nothing l m i traces)
+    → NameIt l m i are.threads → threads_head l m i ≡ Ok head
+    → threads_front l i m head ≡ record { members = are.threads; ending = Whole }
+whole_threads l m i head traces are named there =
+    let same : are.head ≡ head = ok_same are.head head (sym are.names ∙ there) in
+    let chain : IsChain (thread_after l m) head are.threads = rw (← same) are.chain in
+    front_only (thread_of l i m) thread_limit head are.threads Whole 0
+    (named_leads l i m head are.threads named chain) are.within refl
+
+-- the front of an interpreter's threads from its first one on
+front_agrees : (q : Asked) (l : Layout) (m : Memory) (limit left i head : ℕ) → threads_head l m i ≡ Ok head
+    → AgreesWithReport l m i (front_shown q l m limit left (threads_front l i m head))
+front_agrees q l m limit left i head there traces are named bare =
+    let front = whole_threads l m i head traces are named there in
+    rw front (record { whole = refl; threads = threads_show q l m limit left are.threads traces bare are.each })
+
+pub threads_agree : (q : Asked) (l : Layout) (m : Memory) (limit left i head : ℕ) (r : Result ThreadsFront StackError)
+    → IsOrNoMemory (front_shown q l m limit left (threads_front l i m head)) (threads_result r)
+    → IfOk r (λ front. threads_head l m i ≡ Ok head → AgreesWithReport l m i (threads_of front))
+threads_agree q l m limit left i head (Ok front) e = λ there. rw e (front_agrees q l m limit left i head there)
+threads_agree q l m limit left i head (Err e) h = tt
+
+-- ---- the interpreter of a report is found
+
+in_image : (m : Memory) (image : Option Facts) (a : ℕ) → Contains (words_of_image m image) a
+    → Contains (runtime_of_image m image) a ⊎ Contains (bss_of_image m image) a
+in_image m None a h = inl h
+in_image m (Some facts) a h = Contains-append_cases (runtime_words m facts.pyruntime_addr facts.pyruntime_size)
+    (section_words m facts.bss_addr facts.bss_size) a h
+
+in_either : (k : Known) (v : Version) (l : Layout) (m : Memory) (a : ℕ) → Contains (candidates_of k v l m) a
+    → Contains (named_candidates k v l m) a ⊎ Contains (searched_candidates k m) a
+unfolding candidates_of named_candidates searched_candidates
+in_either k v l m a h =
+    elim (Contains-append_cases (head_by l.head k v l m) (words_of_image m k.program ++ words_of_image m k.library) a
+    h) [
+      | inl head ↦ inl
+          (Contains-append_left (head_by l.head k v l m)
+          (runtime_of_image m k.program ++ runtime_of_image m k.library) a head)
+      | inr words ↦ elim (Contains-append_cases (words_of_image m k.program) (words_of_image m k.library) a words) [
+        | inl program ↦ elim (in_image m k.program a program) [
+          | inl one ↦ inl
+              (Contains-append_right (head_by l.head k v l m)
+              (runtime_of_image m k.program ++ runtime_of_image m k.library) a
+              (Contains-append_left (runtime_of_image m k.program) (runtime_of_image m k.library) a one))
+          | inr one ↦ inr (Contains-append_left (bss_of_image m k.program) (bss_of_image m k.library) a one)
+        ]
+        | inr library ↦ elim (in_image m k.library a library) [
+          | inl one ↦ inl
+              (Contains-append_right (head_by l.head k v l m)
+              (runtime_of_image m k.program ++ runtime_of_image m k.library) a
+              (Contains-append_right (runtime_of_image m k.program) (runtime_of_image m k.library) a one))
+          | inr one ↦ inr (Contains-append_right (bss_of_image m k.program) (bss_of_image m k.library) a one)
+        ]
+      ]
+    ]
+
+names_back : (l : Layout) (m : Memory) (a head : ℕ) → named_at l m a ≡ Ok a → threads_head l m a ≡ Ok head
+    → interpreter_named_by l m head ≡ Ok a
+unfolding named_at
+names_back l m a head named there =
+    let h = bound (threads_head l m a) (interpreter_named_by l m) a named in
+    ap (interpreter_named_by l m) (ok_same head h.0 (sym there ∙ h.1)) ∙ h.2
+
+reported_headed : (c : ℕ → Bool) (l : Layout) (m : Memory) (a : ℕ) → c 0 ≡ false → (is : IsInterpreterIn c l m a)
+    → IsHeaded c l m a is.head
+reported_headed c l m a null is =
+    record {
+      lies = is.lies;
+      names = is.names;
+      some = λ z. let both : false ≡ true = sym null ∙ ap c (sym z) ∙ is.head_lies in cc;
+      head_lies = is.head_lies;
+      named = names_back l m a is.head is.is.named is.names;
+    }
+
+reported_by : (c : ℕ → Bool) (k : Known) (v : Version) (l : Layout) (m : Memory) (r : Finds) → AreAll c k v l m r
+    → c 0 ≡ false → (a : ℕ) → IsReported c k v l m a → is_found r.found a ≡ true
+reported_by c k v l m r all null a h =
+    let here : Contains (candidates_of k v l m) a = rw h.first.parts
+    (Contains-append_right h.first.before (a ∷ h.first.after) a (0, omega arith, refl)) in
+    let headed = reported_headed c l m a null h.first.is in
+    elim (in_either k v l m a here) [
+      | inl named ↦ All-contains (IsTaken c l m r) (named_candidates k v l m) a all.named named h.first.is.head headed
+      | inr searched ↦ All-contains (IsTakenWhole c l m r) (searched_candidates k m) a all.searched searched
+          h.first.is.head headed
+          (ap (λ (f : Front). f.ending) (whole_threads l m a h.first.is.head h.traces h.are h.named headed.names))
+    ]
+
+pub reported_found : (c : ℕ → Bool) (k : Known) (v : Version) (l : Layout) (m : Memory)
+    (r : Result FoundInterpreters StackError) → IsOrNoMemory (interpreters_at c k v l m) (finds_result r)
+    → IfOk r (λ finds. FindsReported c k v l m (finds_of finds))
+reported_found c k v l m (Ok finds) e = λ few null a h. ap (λ (x : Finds). is_found x.found a) e
+    ∙ reported_by c k v l m (interpreters_at c k v l m)
+    (interpreters_all c k v l m (ap (λ (x : Finds). x.more) (sym e) ∙ few)) null a h
+reported_found c k v l m (Err e) h = tt
+
+-- ---- all fronts
+
+each_agrees : (c : ℕ → Bool) (q : Asked) (l : Layout) (m : Memory) (limit left : ℕ) (found : List FoundInterpreter)
+    → All (IsShown c l m) found
+    → All (λ (one : InterpreterShown). AgreesWithReport l m one.address one.threads)
+    (interpreters_fronts q l m limit left found)
+unfolding interpreters_fronts
+each_agrees c q l m limit left [] h = All-nil (λ (one : InterpreterShown). AgreesWithReport l m one.address one.threads)
+each_agrees c q l m limit left (one ∷ rest) h =
+    All-cons (λ (one : InterpreterShown). AgreesWithReport l m one.address one.threads)
+    (interpreter_front q l m limit left one)
+    (interpreters_fronts q l m limit (left_after left (threads_from q l m limit left one).threads) rest)
+    (front_agrees q l m limit left one.address one.head (All-head (IsShown c l m) one rest h).headed.names)
+    (each_agrees c q l m limit (left_after left (threads_from q l m limit left one).threads) rest
+    (All-tail (IsShown c l m) one rest h))
+
+same_addresses : (q : Asked) (l : Layout) (m : Memory) (limit left : ℕ) (found : List FoundInterpreter) (a : ℕ)
+    → is_shown (interpreters_fronts q l m limit left found) a ≡ is_found found a
+unfolding interpreters_fronts
+same_addresses q l m limit left [] a = refl
+same_addresses q l m limit left (one ∷ rest) a = ap (λ b. nat_eq one.address a || b)
+    (same_addresses q l m limit (left_after left (threads_from q l m limit left one).threads) rest a)
+
+agree_at : (c : ℕ → Bool) (k : Known) (v : Version) (l : Layout) (m : Memory) (q : Asked) (limit : ℕ)
+    → AgreeWithReport c k v l m (fronts_at c k v l m q limit)
+unfolding fronts_at
+agree_at c k v l m q limit = record {
+  shown = λ few null a h. same_addresses q l m limit all_members_limit (interpreters_at c k v l m).found a
+      ∙ reported_by c k v l m (interpreters_at c k v l m) (interpreters_all c k v l m few) null a h;
+  each = each_agrees c q l m limit all_members_limit (interpreters_at c k v l m).found
+      (interpreters_shown c k v l m).each;
+}
+
+pub fronts_agree : (c : ℕ → Bool) (k : Known) (v : Version) (l : Layout) (m : Memory) (q : Asked) (limit : ℕ)
+    (r : Result Fronts StackError) → IsOrNoMemory (fronts_at c k v l m q limit) (fronts_result r)
+    → IfOk (fronts_result r) (λ fronts. AgreeWithReport c k v l m fronts)
+fronts_agree c k v l m q limit (Ok fronts) e = rw e (agree_at c k v l m q limit)
+fronts_agree c k v l m q limit (Err e) h = tt

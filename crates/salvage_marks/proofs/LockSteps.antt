@@ -1,0 +1,38 @@
+-- The state of a lock, in its two steps.
+use Rattle.std.proofs.Common.{◌≡◌, ℕ, refl}
+use Rattle.std.specs.Prelude.{Ok, Err, Some, Result, unwrap_or}
+use Rattle.elf64_core.specs.declared.header.Machine.{Machine}
+use Rattle.process_memory.specs.Memory.{Memory}
+use Rattle.process_memory.specs.Memory.Fault.{Missing}
+use Rattle.py_version.specs.declared.version.Version.{Version}
+use Rattle.py_fields.specs.declared.layout.Layout.{Layout}
+use Rattle.py_stacks.specs.declared.config.Config.{Config}
+use Rattle.py_stacks.specs.declared.error.StackError.{StackError}
+use Rattle.py_stacks.specs.Holder.{holder_id_at}
+use Rattle.py_process.specs.Facts.{Known}
+use Rattle.py_process.specs.Lock.{LockIs, lock_address_of, lock_found}
+use Rattle.py_process.specs.declared.lock_error.LockError.{LockError}
+use Rattle.py_process.specs.declared.lock_error.LockError.TheVariants as lock
+use Rattle.py_fronts.specs.Answers.{IsOrNoMemory}
+use Rattle.salvage_marks.specs.declared.lock.LockState.{LockState}
+use Rattle.salvage_marks.specs.declared.lock.LockState.TheVariants.{Unreadable}
+use Rattle.salvage_marks.specs.Locks.{IsGone, holder_told, lock_told}
+
+pub lock_held : (machine : Machine) (k : Known) (v : Version) (l : Layout) (m : Memory) (a at : ℕ)
+    (result : Result LockState StackError) → unwrap_or (lock_found machine k v l m a) (Ok 0) ≡ Ok at
+    → IsOrNoMemory (holder_told (holder_id_at l m at)) result → IsOrNoMemory (lock_told machine k v l m a) result
+unfolding lock_told lock_address_of
+lock_held machine k v l m a at result e h = rw e h
+
+gone : (machine : Machine) (k : Known) (v : Version) (l : Layout) (m : Memory) (a addr len : ℕ)
+    → lock_found machine k v l m a ≡ Some (Err (Missing addr len)) → Unreadable addr len ≡ lock_told machine k v l m a
+unfolding lock_told lock_address_of
+gone machine k v l m a addr len e = rw e refl
+
+pub lock_gone : (machine : Machine) (k : Known) (v : Version) (l : Layout) (m : Memory) (a : ℕ) (config : Config)
+    (error : LockError) (result : Result LockState StackError) → LockIs config (lock_found machine k v l m a)
+    (Err error)
+    → IsGone error result → IsOrNoMemory (lock_told machine k v l m a) result
+lock_gone machine k v l m a config (lock.Unreadable addr len) result h is = rw is (gone machine k v l m a addr len h)
+lock_gone machine k v l m a config lock.NoLock result h is = rw is refl
+lock_gone machine k v l m a config lock.OutOfMemory result h is = rw is refl

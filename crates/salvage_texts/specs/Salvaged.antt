@@ -1,0 +1,46 @@
+-- The text of what is left of a process's stacks.
+use Rattle.std.specs.Prelude.{ℕ, ◌+◌, ◌++◌, nat_lt, Bool, true, false, if◌then◌else◌, List, [], length, map, drop, take, Option, Some, None, codes}
+use Rattle.std.specs.List.{concat}
+use Rattle.py_fronts.specs.declared.fronts.InterpreterFront.{InterpreterFront}
+use Rattle.salvage_marks.specs.declared.crash.Crash.{Crash}
+use Rattle.salvage_marks.specs.declared.lock.LockState.{LockState}
+use Rattle.salvage_marks.specs.declared.lock.LockState.TheVariants.{Holder, Unreadable}
+use Rattle.salvage_marks.specs.declared.salvaged.Salvaged.{Salvaged}
+use Rattle.salvage_marks.specs.declared.salvaged.SalvagedInterpreter.{SalvagedInterpreter}
+use Rattle.salvage_texts.specs.Ends.{address_text, missing_text, threads_end_text}
+use Rattle.salvage_marks.specs.Salvaged.{first_crashed}
+use Rattle.salvage_texts.specs.Threads.{threads_text}
+
+abbrev pub searched_text : Bool → List ℕ
+searched_text searched = if searched then codes " (found by search)" else []
+
+-- the line of an interpreter, where there are several
+abbrev pub heading_text : Bool → InterpreterFront → List ℕ
+heading_text false i = []
+heading_text true i = codes "Interpreter " ++ (address_text i.address
+    ++ (searched_text i.searched ++ codes "\n"))
+
+-- the line of a lock that can't be read
+abbrev pub lock_text : LockState → List ℕ
+lock_text (Holder holder) = []
+lock_text (Unreadable addr len) = codes "... lock " ++ (missing_text addr len ++ codes "\n")
+
+abbrev pub interpreter_text : Bool → Option Crash → SalvagedInterpreter → List ℕ
+interpreter_text several crash i = heading_text several i.front ++ (lock_text i.lock
+    ++ (threads_end_text i.front.threads.end ++ threads_text i.lock crash i.front.threads.threads.items))
+
+abbrev pub interpreters_text : Bool → Option Crash → List SalvagedInterpreter → List ℕ
+interpreters_text several crash is = concat (map (λ i. interpreter_text several crash i) is)
+
+abbrev pub placed_interpreters : Bool → Option Crash → List SalvagedInterpreter → Option ℕ → List ℕ
+placed_interpreters several crash is None = interpreters_text several crash is
+placed_interpreters several crash is (Some i) = interpreters_text several crash (take 1 (drop i is))
+    ++ (interpreters_text several crash (take i is) ++ interpreters_text several crash (drop (i + 1) is))
+
+-- the first one of which a thread got the signal, where there is one, and then the others in order
+abbrev pub ordered_text : Option Crash → List SalvagedInterpreter → List ℕ
+ordered_text crash is = placed_interpreters (nat_lt 1 (length is)) crash is (first_crashed crash is)
+
+abbrev pub salvaged_text : Salvaged → List ℕ
+salvaged_text s = ordered_text s.crash s.interpreters.items
+    ++ (if s.more then codes "... more than 16 interpreters\n" else [])

@@ -1,0 +1,65 @@
+-- The lines of frames, and of members that have none.
+use Rattle.std.specs.Prelude.{ℕ, ℤ, pos, negsuc, ◌++◌, ◌==◌, true, false, if◌then◌else◌, List, [], map, Option, Some, None, Vec, codes, decimal}
+use Rattle.std.specs.Fmt.{signed_decimal}
+use Rattle.std.specs.Global.{Global}
+use Rattle.std.specs.List.{concat}
+use Rattle.py_builtins.specs.declared.error.ObjectError.{ObjectError}
+use Rattle.py_builtins.specs.declared.error.ObjectError.TheVariants as object
+use Rattle.py_stacks.specs.declared.error.StackError.{StackError}
+use Rattle.py_stacks.specs.declared.error.StackError.TheVariants as stack
+use Rattle.py_stacks.specs.declared.trace.Frame.{Frame}
+use Rattle.py_stacks.specs.declared.trace.LocalVariable.{LocalVariable}
+use Rattle.py_fronts.specs.declared.standing.Standing.{Standing}
+use Rattle.py_fronts.specs.declared.standing.Standing.TheVariants as standing
+use Rattle.salvage_texts.specs.Ends.{missing_text}
+use Rattle.salvage_texts.specs.Escape.{escaped}
+
+-- a line's number, where it is known
+abbrev pub line_text : ℤ → List ℕ
+line_text (pos n) = if n == 0 then [] else codes ":" ++ decimal n
+line_text (negsuc n) = codes ":" ++ signed_decimal (negsuc n)
+
+-- a frame's function, file and line
+abbrev pub frame_line : Frame → List ℕ
+frame_line f = codes "    " ++ (escaped true f.name ++ (codes " (" ++ (escaped true f.filename
+    ++ (line_text f.line ++ codes ")\n"))))
+
+-- a value, or a question mark where it isn't shown
+abbrev pub value_text : Option (List ℕ) → List ℕ
+value_text (Some value) = escaped false value
+value_text None = codes "?"
+
+abbrev pub local_text : LocalVariable → List ℕ
+local_text v = codes "        " ++ (escaped true v.name ++ (codes ": " ++ (value_text v.repr ++ codes "\n")))
+
+abbrev pub locals_text : List LocalVariable → List ℕ
+locals_text locals = concat (map (λ v. local_text v) locals)
+
+-- the lines of locals, where they were asked for and are there
+abbrev pub shown_locals : Option (Vec LocalVariable Global) → List ℕ
+shown_locals None = []
+shown_locals (Some locals) = locals_text locals.items
+
+-- why a frame's locals can't be read
+abbrev pub fault_text : StackError → List ℕ
+fault_text (stack.Unreadable addr len) = missing_text addr len
+fault_text (stack.LocalsLimit count) = codes "more than 65535"
+fault_text _ = codes "with a bad name or count"
+
+abbrev pub locals_fault : Option StackError → List ℕ
+locals_fault None = []
+locals_fault (Some fault) = codes "        ... locals " ++ (fault_text fault ++ codes "\n")
+
+-- why a member has no names
+abbrev pub why_text : ObjectError → List ℕ
+why_text (object.Unreadable addr len) = missing_text addr len
+why_text (object.TooLong len) = codes "a name that is too long"
+why_text _ = codes "a name that is no text"
+
+-- the lines of what stands for a member
+abbrev pub standing_text : Standing → List ℕ
+standing_text (standing.Frame frame fault) = frame_line frame ++ (shown_locals frame.locals ++ locals_fault fault)
+standing_text (standing.Member address why) = codes "    ? (" ++ (why_text why ++ codes ")\n")
+
+abbrev pub standings_text : List Standing → List ℕ
+standings_text standings = concat (map (λ s. standing_text s) standings)

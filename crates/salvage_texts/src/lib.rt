@@ -1,0 +1,19 @@
+//! The text of fronts: the interpreters of a process, their threads and frames, as far as their chains go, and how each
+//! of these ends.
+//!
+//! Names come out of a broken memory: what they hold of control characters and quotes is escaped, so that none forges a
+//! line.
+#![tactic(auto)]
+
+mod ends;
+mod escape;
+mod interpreter;
+mod salvaged;
+mod standing;
+mod thread;
+
+pub use escape::push_escaped;
+pub use salvaged::salvaged_text;
+
+#[cfg(test)]
+mod tests;

@@ -1,0 +1,44 @@
+//! The text of what is left of a process's stacks.
+ghost use Rattle.std.specs.Prelude.{◌≡◌, ◌++◌, IfOk, OnOk, string_bytes};
+ghost use Rattle.salvage_texts.specs.Salvaged.{ordered_text, salvaged_text};
+
+use crate::interpreter::push_interpreters;
+use salvage_marks::{Crash, Salvaged, SalvagedInterpreter, first_crashed};
+use std::alloc::{AllocError, Global};
+
+/// The lines of all interpreters: of the first one of which a thread got the signal, and then of the others.
+fn push_ordered(
+    alloc: Global,
+    text: &mut String,
+    crash: Option<Crash>,
+    interpreters: &[SalvagedInterpreter],
+) -> Result<(), AllocError>
+    ensures { OnOk result (string_bytes text.new ≡ string_bytes text.old ++ ordered_text crash interpreters.now) }
+{
+    let is_several = interpreters.len() > 1;
+    let Some(index) = first_crashed(crash, interpreters) else {
+        return push_interpreters(alloc, text, is_several, crash, interpreters);
+    };
+    let first = &interpreters[index..index + 1];
+    push_interpreters(alloc, text, is_several, crash, first)?;
+    push_interpreters(alloc, text, is_several, crash, &interpreters[..index])?;
+    push_interpreters(alloc, text, is_several, crash, &interpreters[index + 1..])
+}
+
+/// The text of what is left: each interpreter with the line of its address, where there are several, the lines of what
+/// is missing of its lock and of its threads, and its threads, each with its frames and how these end; and last, where
+/// there are more than 16 interpreters, a line that says so.
+///
+/// A thread is marked where it holds the lock of its interpreter, and where it got the signal. The first interpreter
+/// with such a thread stands first, and in it that thread; else interpreters stand in order, and the threads of each
+/// from the last to the first. The one error is want of memory.
+pub fn salvaged_text(alloc: Global, salvaged: &Salvaged) -> Result<String, AllocError>
+    ensures { IfOk result (λ text. string_bytes text ≡ salvaged_text salvaged.now) }
+{
+    let mut text = String::new(alloc);
+    push_ordered(alloc, &mut text, salvaged.crash, &salvaged.interpreters)?;
+    if salvaged.more {
+        text.push_str("... more than 16 interpreters\n")?;
+    }
+    Ok(text)
+}

@@ -1,0 +1,145 @@
+//! The lines of frames, and of members that have none.
+ghost use Rattle.std.specs.Prelude.{◌≡◌, ◌++◌, OnOk, map, string_bytes};
+ghost use Rattle.std.specs.List.{concat};
+ghost use Rattle.salvage_texts.specs.Standings.{fault_text, frame_line, line_text, local_text, locals_fault, locals_text, shown_locals, standing_text, standings_text, value_text, why_text};
+
+use crate::ends::push_missing;
+use crate::escape::push_escaped;
+use elf64_core::Text;
+use py_builtins::ObjectError;
+use py_fronts::Standing;
+use py_stacks::{Frame, LocalVariable, StackError};
+use std::alloc::{AllocError, Global};
+
+/// A line's number, where it is known.
+fn push_line(text: &mut String, line: i32) -> Result<(), AllocError>
+    ensures { OnOk result (string_bytes text.new ≡ string_bytes text.old ++ line_text line) }
+{
+    if line == 0 {
+        return Ok(());
+    }
+    write!(text, ":{line}")
+}
+
+/// A frame's function, file and line.
+fn push_frame_line(alloc: Global, text: &mut String, frame: &Frame) -> Result<(), AllocError>
+    ensures { OnOk result (string_bytes text.new ≡ string_bytes text.old ++ frame_line frame.now) }
+{
+    text.push_str("    ")?;
+    push_escaped(alloc, text, true, &frame.name)?;
+    text.push_str(" (")?;
+    push_escaped(alloc, text, true, &frame.filename)?;
+    push_line(text, frame.line)?;
+    text.push_str(")\n")
+}
+
+/// A value, or a question mark where it is not shown.
+fn push_value(alloc: Global, text: &mut String, value: &Option<Text>) -> Result<(), AllocError>
+    ensures { OnOk result (string_bytes text.new ≡ string_bytes text.old ++ value_text value.now) }
+{
+    match value {
+        Some(value) => push_escaped(alloc, text, false, value),
+        None => text.push_str("?"),
+    }
+}
+
+/// The line of a local.
+fn push_local(alloc: Global, text: &mut String, local: &LocalVariable) -> Result<(), AllocError>
+    ensures { OnOk result (string_bytes text.new ≡ string_bytes text.old ++ local_text local.now) }
+{
+    text.push_str("        ")?;
+    push_escaped(alloc, text, true, &local.name)?;
+    text.push_str(": ")?;
+    push_value(alloc, text, &local.repr)?;
+    text.push_str("\n")
+}
+
+/// The lines of locals.
+fn push_locals(alloc: Global, text: &mut String, locals: &[LocalVariable]) -> Result<(), AllocError>
+    ensures { OnOk result (string_bytes text.new ≡ string_bytes text.old ++ locals_text locals.now) }
+{
+    for local in locals {
+        push_local(alloc, text, local)?;
+    }
+    Ok(())
+}
+
+/// The lines of locals, where they were asked for and are there.
+fn push_shown_locals(
+    alloc: Global,
+    text: &mut String,
+    locals: &Option<Vec<LocalVariable>>,
+) -> Result<(), AllocError>
+    ensures { OnOk result (string_bytes text.new ≡ string_bytes text.old ++ shown_locals locals.now) }
+{
+    match locals {
+        Some(locals) => push_locals(alloc, text, locals),
+        None => Ok(()),
+    }
+}
+
+/// Why a frame's locals can't be read.
+fn push_fault(text: &mut String, fault: &StackError) -> Result<(), AllocError>
+    ensures { OnOk result (string_bytes text.new ≡ string_bytes text.old ++ fault_text fault.now) }
+{
+    match fault {
+        StackError::Unreadable { addr, len } => push_missing(text, *addr, *len),
+        StackError::LocalsLimit { .. } => text.push_str("more than 65535"),
+        _ => text.push_str("with a bad name or count"),
+    }
+}
+
+/// The line of why a frame's locals were asked for and are not there.
+fn push_locals_fault(text: &mut String, fault: &Option<StackError>) -> Result<(), AllocError>
+    ensures { OnOk result (string_bytes text.new ≡ string_bytes text.old ++ locals_fault fault.now) }
+{
+    let Some(fault) = fault else {
+        return Ok(());
+    };
+    text.push_str("        ... locals ")?;
+    push_fault(text, fault)?;
+    text.push_str("\n")
+}
+
+/// Why a member has no names.
+fn push_why(text: &mut String, why: &ObjectError) -> Result<(), AllocError>
+    ensures { OnOk result (string_bytes text.new ≡ string_bytes text.old ++ why_text why.now) }
+{
+    match why {
+        ObjectError::Unreadable { addr, len } => push_missing(text, *addr, *len),
+        ObjectError::TooLong { .. } => text.push_str("a name that is too long"),
+        _ => text.push_str("a name that is no text"),
+    }
+}
+
+/// The lines of what stands for a member.
+fn push_standing(alloc: Global, text: &mut String, standing: &Standing) -> Result<(), AllocError>
+    ensures { OnOk result (string_bytes text.new ≡ string_bytes text.old ++ standing_text standing.now) }
+{
+    match standing {
+        Standing::Frame { frame, fault } => {
+            push_frame_line(alloc, text, frame)?;
+            push_shown_locals(alloc, text, &frame.locals)?;
+            push_locals_fault(text, fault)
+        }
+        Standing::Member { why, .. } => {
+            text.push_str("    ? (")?;
+            push_why(text, why)?;
+            text.push_str(")\n")
+        }
+    }
+}
+
+/// The lines of what stands for some members, in order.
+pub(crate) fn push_standings(
+    alloc: Global,
+    text: &mut String,
+    standings: &[Standing],
+) -> Result<(), AllocError>
+    ensures { OnOk result (string_bytes text.new ≡ string_bytes text.old ++ standings_text standings.now) }
+{
+    for standing in standings {
+        push_standing(alloc, text, standing)?;
+    }
+    Ok(())
+}

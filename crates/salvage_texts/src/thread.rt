@@ -1,0 +1,109 @@
+//! The lines of threads.
+ghost use Rattle.std.specs.Prelude.{◌≡◌, ◌++◌, OnOk, string_bytes};
+ghost use Rattle.py_stacks.specs.Shown.{id_text};
+ghost use Rattle.salvage_texts.specs.Threads.{frames_text, mark_text, reversed_text, thread_line, thread_text, threads_text};
+
+use crate::ends::{push_frames_end, push_more};
+use crate::standing::push_standings;
+use py_fronts::{FramesFront, ThreadFront};
+use salvage_marks::{Crash, LockState, crashed_at, holds_lock, is_crashed};
+use std::alloc::{AllocError, Global};
+
+/// The id that the system gave in decimal, where there is one, else the interpreter's in hexadecimal.
+fn push_id(text: &mut String, thread: &ThreadFront) -> Result<(), AllocError>
+    ensures { OnOk result (string_bytes text.new
+        ≡ string_bytes text.old ++ id_text thread.now.os_thread_id thread.now.thread_id) }
+{
+    match thread.os_thread_id {
+        Some(os) => write!(text, "{os}"),
+        None => {
+            let id = thread.thread_id;
+            write!(text, "0x{id:X}")
+        }
+    }
+}
+
+/// A mark, where it is one.
+fn push_mark(text: &mut String, is_marked: bool, mark: &str) -> Result<(), AllocError>
+    ensures { OnOk result (string_bytes text.new ≡ string_bytes text.old ++ mark_text is_marked mark.now) }
+{
+    if is_marked {
+        return text.push_str(mark);
+    }
+    Ok(())
+}
+
+/// The line of a thread.
+fn push_thread_line(
+    text: &mut String,
+    lock: LockState,
+    crash: Option<Crash>,
+    thread: &ThreadFront,
+) -> Result<(), AllocError>
+    ensures { OnOk result (string_bytes text.new ≡ string_bytes text.old ++ thread_line lock crash thread.now) }
+{
+    text.push_str("Thread ")?;
+    push_id(text, thread)?;
+    push_mark(text, holds_lock(lock, thread), " (gil)")?;
+    push_mark(text, is_crashed(crash, thread), " (crashed)")?;
+    text.push_str("\n")
+}
+
+/// The lines of a thread's frames, and of their end.
+fn push_frames(alloc: Global, text: &mut String, frames: &FramesFront) -> Result<(), AllocError>
+    ensures { OnOk result (string_bytes text.new ≡ string_bytes text.old ++ frames_text frames.now) }
+{
+    push_standings(alloc, text, &frames.first)?;
+    push_more(text, frames.between)?;
+    push_standings(alloc, text, &frames.last)?;
+    push_frames_end(text, frames.end, frames.met)
+}
+
+/// The lines of a thread.
+fn push_thread(
+    alloc: Global,
+    text: &mut String,
+    lock: LockState,
+    crash: Option<Crash>,
+    thread: &ThreadFront,
+) -> Result<(), AllocError>
+    ensures { OnOk result (string_bytes text.new ≡ string_bytes text.old ++ thread_text lock crash thread.now) }
+{
+    push_thread_line(text, lock, crash, thread)?;
+    push_frames(alloc, text, &thread.frames)
+}
+
+/// The lines of some threads, from the last to the first.
+fn push_reversed(
+    alloc: Global,
+    text: &mut String,
+    lock: LockState,
+    crash: Option<Crash>,
+    threads: &[ThreadFront],
+) -> Result<(), AllocError>
+    ensures { OnOk result (string_bytes text.new ≡ string_bytes text.old ++ reversed_text lock crash threads.now) }
+{
+    for thread in threads.iter().rev() {
+        push_thread(alloc, text, lock, crash, thread)?;
+    }
+    Ok(())
+}
+
+/// The lines of an interpreter's threads: of the first one that got the signal, and then of the others, from the last
+/// to the first.
+pub(crate) fn push_threads(
+    alloc: Global,
+    text: &mut String,
+    lock: LockState,
+    crash: Option<Crash>,
+    threads: &[ThreadFront],
+) -> Result<(), AllocError>
+    ensures { OnOk result (string_bytes text.new ≡ string_bytes text.old ++ threads_text lock crash threads.now) }
+{
+    let Some(index) = crashed_at(crash, threads) else {
+        return push_reversed(alloc, text, lock, crash, threads);
+    };
+    push_reversed(alloc, text, lock, crash, &threads[index..index + 1])?;
+    push_reversed(alloc, text, lock, crash, &threads[index + 1..])?;
+    push_reversed(alloc, text, lock, crash, &threads[..index])
+}

@@ -1,0 +1,16 @@
+use Rattle.std.proofs.Common.{◌∙◌, ap₂}
+use Rattle.std.proofs.lemmas.Result.{IfOk-weaker}
+use Rattle.clap.specs.Words.{with_rule}
+use Rattle.salvage_words.proofs.taken.salvage_command.Goals as goal
+
+pub returns : goal.returns
+returns c =
+    let one = c.in_ok-arg.ensures.shape c.core_arg.ensures.local
+    ∙ ap₂ with_rule c.new.ensures.app c.core_arg.ensures.rule in
+    let two = c.in_ok-arg-2.ensures.shape c.layouts_arg.ensures.local ∙ ap₂ with_rule one c.layouts_arg.ensures.rule in
+    let three = c.in_ok-arg-3.ensures.shape c.frames_arg.ensures.local ∙ ap₂ with_rule two c.frames_arg.ensures.rule in
+    let four = c.in_ok-arg-4.ensures.shape c.locals_arg.ensures.local ∙ ap₂ with_rule three c.locals_arg.ensures.rule in
+    let five = c.in_ok-arg-5.ensures.shape c.json_arg.ensures.local ∙ ap₂ with_rule four c.json_arg.ensures.rule in
+    IfOk-weaker c.arg-6.result _ _
+    (λ command added. added.shape c.images_arg.ensures.local ∙ ap₂ with_rule five c.images_arg.ensures.rule)
+    c.arg-6.ensures

@@ -1,0 +1,85 @@
+-- The words of `pysalvage`: what clap takes for one simple command, and what they ask for.
+use Rattle.std.specs.Prelude.{ℕ, ◌&&◌, Bool, true, false, nat_le, if◌then◌else◌, List, [], ◌∷◌, Option, Some, None, codes, bytes_eq, option_and_then, option_map}
+use Rattle.clap.specs.Words.{App, Row, Rule, Text, count_of, fault_of, first_of, matches_of, new_app, new_rule, with_rule}
+use Rattle.clap.specs.declared.builder.ArgAction.TheVariants.{Set}
+use Rattle.core_words.specs.Dump.{flag_rule, image_words, images_of, images_rule, is_set, locals_rule, option_value_of, rows_without, wanted_rule}
+use Rattle.core_words.specs.Words.{digits_in}
+
+-- ---- the command, as clap is told of it
+
+-- CORE
+abbrev pub core_rule : Rule
+core_rule = record (new_rule (codes "core")) { action = Some Set; required = true }
+
+-- -n N, --frames N
+abbrev pub frames_rule : Rule
+frames_rule = record (new_rule (codes "frames")) { short = Some 110; long = Some (codes "frames"); action = Some Set }
+
+abbrev pub salvage_app : App
+salvage_app = with_rule (with_rule (with_rule (with_rule (with_rule (with_rule (new_app (codes "pysalvage")) core_rule)
+    (wanted_rule (codes "layouts") None)) frames_rule) locals_rule) (flag_rule (codes "json") (Some 106))) images_rule
+
+-- what clap finds, where it takes the words; it reads none of the first, which stands for the program's name
+unfoldable pub taken_rows : List Text → Option (List Row)
+taken_rows words = rows_without (fault_of salvage_app words) (matches_of salvage_app words)
+
+-- ---- what they ask for
+
+abbrev pub in_limits : ℕ → Option ℕ
+in_limits n = if nat_le 1 n && nat_le n 4096 then Some n else None
+
+-- a number of frames, of 1 to 4 decimal digits, from 1 to 4096
+abbrev pub limit_in : List ℕ → Option ℕ
+limit_in word = option_and_then in_limits (digits_in 10 4 word)
+
+-- the same, where it is said, and else 100
+abbrev pub limit_of : Option (List ℕ) → Option ℕ
+limit_of None = Some 100
+limit_of (Some word) = limit_in word
+
+-- what is left of the core of this name, by a layout file, with files under the paths at which they were mapped
+pub record Salvage : Type 0 where
+  pub core : List ℕ
+  pub layouts : List ℕ
+  pub limit : ℕ
+  pub locals : ℕ
+  pub json : Bool
+  pub images : List (List ℕ × List ℕ)
+
+abbrev pub salvage_by : List Row → ℕ → List (List ℕ × List ℕ) → Salvage
+salvage_by rows limit images = record {
+  core = option_value_of (codes "core") rows;
+  layouts = option_value_of (codes "layouts") rows;
+  limit = limit;
+  locals = count_of (codes "locals") rows;
+  json = is_set (codes "json") rows;
+  images = images;
+}
+
+abbrev pub salvage_with : List Row → ℕ → Option Salvage
+salvage_with rows limit = option_map (λ images. salvage_by rows limit images) (images_of (image_words rows))
+
+-- what is asked for by what clap found, where the number is one, and each word of an image has an equals sign
+abbrev pub salvage_found : List Row → Option Salvage
+salvage_found rows = option_and_then (λ limit. salvage_with rows limit) (limit_of (first_of (codes "frames") rows))
+
+abbrev pub salvage_words : List Text → Option Salvage
+salvage_words words = option_and_then salvage_found (taken_rows words)
+
+pub data Wanted : Type 0 where
+  help : Wanted
+  version : Wanted
+  salvage : Salvage → Wanted
+
+-- the words after the program's name are this one alone
+abbrev pub is_alone : Text → List Text → Bool
+is_alone word [] = false
+is_alone word (name ∷ []) = false
+is_alone word (name ∷ only ∷ []) = bytes_eq only word
+is_alone word (name ∷ first ∷ second ∷ rest) = false
+
+abbrev pub words_asked : List Text → Option Wanted
+words_asked words =
+    if is_alone (codes "--help") words then Some help
+    else if is_alone (codes "--version") words then Some version
+    else option_map (λ s. salvage s) (salvage_words words)

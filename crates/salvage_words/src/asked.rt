@@ -1,0 +1,106 @@
+//! What the words of `pysalvage` ask for.
+ghost use Rattle.std.specs.Prelude.{◌≡◌};
+ghost use Rattle.clap.specs.Words.{found_of, rows_of};
+ghost use Rattle.core_words.specs.Answers.{AnswersWords};
+ghost use Rattle.core_words.specs.Words.{texts};
+ghost use Rattle.salvage_words.specs.Salvage.{is_alone, salvage_found, salvage_words, words_asked};
+ghost use Rattle.salvage_words.specs.Seen.{asked_by, asked_salvage};
+
+use crate::found::{images_given, is_set, option_text, wanted_name};
+use crate::limit::limit_of;
+use crate::taken::salvage_matches;
+use clap::ArgMatches;
+use core_words::ArgsError;
+use elf64_core::Name;
+use std::alloc::Global;
+
+/// What is asked for of a core.
+#[derive(Debug, Drop)]
+pub struct SalvageWords {
+    /// The core's file.
+    pub core: Name,
+    /// The layout file.
+    pub layouts: Name,
+    /// How many frames of a thread are shown first, and how many last: from 1 to 4096.
+    pub limit: usize,
+    /// How often locals were asked for, at most 255.
+    pub locals: u64,
+    /// Whether JSON was.
+    pub json: bool,
+    /// The path at which the process had a file mapped, and the name of such a file, by each image's word, in
+    /// order.
+    pub images: Vec<(Name, Name)>,
+}
+
+/// What the words ask for.
+#[derive(Debug, Drop)]
+pub enum Asked {
+    /// The help.
+    Help,
+    /// The version of the program.
+    Version,
+    /// What is left of a core.
+    Salvage(SalvageWords),
+}
+
+/// Whether the words after the program's name are this one alone.
+fn is_alone(words: &[String], word: &str) -> bool
+    ensures { result ≡ is_alone word.now (texts words.now) }
+{
+    match words {
+        [_, only] => only.as_str() == word,
+        _ => false,
+    }
+}
+
+/// What is asked for of a core, by what clap found.
+fn salvage_by(alloc: Global, matches: &ArgMatches<'_>) -> Result<SalvageWords, ArgsError>
+    ensures { AnswersWords asked_salvage (salvage_found (rows_of (found_of matches.now))) result }
+{
+    let Some(limit) = limit_of(option_text(matches, "frames")) else {
+        return Err(ArgsError::Refused);
+    };
+    let core = wanted_name(alloc, matches, "core")?;
+    let layouts = wanted_name(alloc, matches, "layouts")?;
+    let images = images_given(alloc, matches)?;
+    Ok(SalvageWords {
+        core,
+        layouts,
+        limit,
+        locals: u64::from(matches.get_count("locals")),
+        json: is_set(matches, "json"),
+        images,
+    })
+}
+
+/// What is asked for of a core by the words.
+fn salvage_words(alloc: Global, words: &[String]) -> Result<SalvageWords, ArgsError>
+    ensures { AnswersWords asked_salvage (salvage_words (texts words.now)) result }
+{
+    let matches = salvage_matches(alloc, words)?;
+    salvage_by(alloc, &matches)
+}
+
+/// What the words ask for: `CORE --layouts FILE [-n N] [-l].. [-j] [PATH=FILE]..` behind the program's name, of which
+/// nothing is read; or `--help` or `--version` alone.
+///
+/// Clap takes the words, in any order that it knows: the core's file; `--layouts` with a value, once; `-n` or
+/// `--frames` with a value, at most once, a number from 1 to 4096 in decimal digits, which is 100 unless it is said;
+/// `-j` or `--json`, at most once; `-l` or `--locals`, any number of times; and the images, none or more, each with a
+/// path, the first equals sign, and the name of a file. A bundle as `-lj` and `--layouts=FILE` are taken, and behind
+/// `--` each word is the core's or an image's.
+///
+/// - `Refused` exactly where clap does not take the words for that command, the number is none of these, or a word of
+///   an image has no equals sign.
+/// - `OutOfMemory` where there was no memory left.
+pub fn read_words(alloc: Global, words: &[String]) -> Result<Asked, ArgsError>
+    ensures { AnswersWords asked_by (words_asked (texts words.now)) result }
+{
+    if is_alone(words, "--help") {
+        return Ok(Asked::Help);
+    }
+    if is_alone(words, "--version") {
+        return Ok(Asked::Version);
+    }
+    Ok(Asked::Salvage(salvage_words(alloc, words)?))
+}

@@ -1,0 +1,13 @@
+//! The words of `pysalvage`, by clap.
+#![tactic(auto)]
+
+mod asked;
+mod found;
+mod limit;
+mod taken;
+
+pub use asked::{Asked, SalvageWords, read_words};
+pub use core_words::ArgsError;
+
+#[cfg(test)]
+mod tests;
