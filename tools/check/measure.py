@@ -16,11 +16,12 @@ import tempfile
 from dataclasses import dataclass
 from datetime import date
 from pathlib import Path
+from random import Random
 from typing import List, Sequence, Tuple
 
-from made import EXAMPLE, Objects, Segment, core_file, layout_of
+from made import EXAMPLE, Objects, Segment, Symbol, core_file, image_file, layout_of
 from row import HEAP as INTERPRETER
-from rows_dump import PROGRAM as IMAGE, bss, mapped
+from rows_dump import PROGRAM as IMAGE, bss, files_of, mapped, small
 
 FILLER = 0x100000000
 """Where the segments begin that hold nothing of Python."""
@@ -139,6 +140,26 @@ def measured(program: str, shape: Shape, folder: Path, times: int) -> str:
     return row(cells)
 
 
+def merged(program: str, folder: Path, times: int) -> str:
+    """A line on a merge: 100,000 addresses, each at random in a library of 40,000 functions of 16 bytes."""
+    count, numbers = 40000, Random(1)
+    functions = [Symbol(f"function_{number}", 0x78 + 16 * number, 16, 0x12) for number in range(count)]
+    library = image_file([Segment(0x78, bytes(16 * count), 5)], None, functions)
+    places = [numbers.randrange(16 * count) for _ in range(100000)]
+    data = small(more=[Segment(0x600000, b"", 5, 16 * count + 0x1000, b"/lib/ext.so")])
+    addresses = "".join(f"0x{0x600078 + place:x}\n" for place in places).encode()
+    files = {**files_of(data), "ext": library, "addresses": addresses}
+    for name, held in files.items():
+        (folder / name).write_bytes(held)
+    paths = [str(folder / name) for name in ("core", "layouts", "addresses", "image", "ext")]
+    command = [program, "merge", *paths[:2], "0", paths[2], f"/usr/bin/python3.9={paths[3]}", f"/lib/ext.so={paths[4]}"]
+    seconds, memory = min(ran(command, folder / "out") for _ in range(times))
+    lines = [f"    function_{place // 16} (/lib/ext.so)" for place in places] + ["    f (a.py)", "    <module> (a.py)"]
+    if (folder / "out").read_text().splitlines() != lines:
+        raise Failure("the merge doesn't print the functions that the addresses lie in")
+    return f"`merge` of {len(places)} addresses in a library of {count} functions: {seconds:.2f} s, {memory:.0f} MiB."
+
+
 def row(cells: Sequence[str]) -> str:
     """A row of the table."""
     return "| " + " | ".join(cells) + " |"
@@ -168,6 +189,7 @@ def main() -> int:
             except Failure as reason:
                 print(f"measure: FAILED: {reason}", file=sys.stderr)
                 return 1
+        print("\n" + merged(words.program, Path(folder), words.times), flush=True)
     return 0
 
 
