@@ -41,7 +41,7 @@ module _ (l : Layout) (sound : IsSound l) (m : Memory) (v : Version) (machine : 
       → Names lock
   by_word lock some no_gil word =
       let none = none_of l.gil (λ h. no_gil (sound.has_groups.gil.0 h)) in
-      tells m objects lock (subst (λ o. NamesOwner o l m interpreter_at lock p) (sym none) (some, word))
+      tells.held m objects lock (subst (λ o. NamesOwner o l m interpreter_at lock p) (sym none) (some, word))
 
   by_runtime : (o : Option ℕ) → l.lock ≡ Runtime → tstate_current_offset machine v ≡ o → Names (runtime_lock o)
   unfolding holder_id_at
@@ -64,5 +64,5 @@ module _ (l : Layout) (sound : IsSound l) (m : Memory) (v : Version) (machine : 
       by Runtime e = by_runtime (tstate_current_offset machine v) e refl
       by Gil e =
           let g = some_of l.gil (sound.has_groups.gil.1 e) in
-          tells m objects (gil_place l interpreter_at) (subst
+          tells.held m objects (gil_place l interpreter_at) (subst
           (λ o. NamesOwner o l m interpreter_at (gil_place l interpreter_at) p) (sym g.1) refl)
