@@ -1,0 +1,136 @@
+#!/usr/bin/env python3
+"""Measures what the cores that ask for most cost, within limits: seconds, memory, and the status.
+
+    tools/check/worst.py --program crates/pystacks/out/pystacks [--seconds 60] [--memory 2000] [--only WORD]
+
+The cores are laid out by the example of docs/LAYOUTS.md. docs/HOSTILE.md has the table.
+"""
+
+import argparse
+import os
+import resource
+import subprocess
+import sys
+import tempfile
+from dataclasses import dataclass
+from pathlib import Path
+from typing import Callable, Dict, Iterator, Sequence, Tuple
+
+from made import EXAMPLE, Objects, Segment, core_file, image_file, layout_of
+from measure import Shape, core, machine, row
+from row import HEAP
+from rows_dump import BSS, GOOD, PROGRAM, files_of, mapped, of_locals
+
+SKIPPED = "<shim>"
+"""The file name of members of a chain that are not shown."""
+
+LONG = "f" * 4095
+
+
+@dataclass(frozen=True)
+class Case:
+    """A core that asks for much, and the words of the command over it."""
+
+    what: str
+    words: str
+    files: Callable[[], Dict[str, bytes]]
+
+
+def with_bss(words: int, objects: Objects, *first: int) -> Dict[str, bytes]:
+    """A core of some objects whose bss has so many words: `first`, and then the interpreter at the heap's begin again and again."""
+    held = [*first, *[HEAP] * (words - len(first))]
+    data = b"".join(it.to_bytes(8, "little") for it in held)
+    program = image_file([Segment(0x400000, b"", 5, 0x1000)], (BSS, len(data)))
+    return files_of(core_file([objects.segment(6), mapped(), Segment(BSS, data, 6)]), program=program)
+
+
+def interpreter(file: str, name: str, frames: int, threads: int = 1, back: bool = False) -> Objects:
+    """An interpreter whose threads have the same frames; with `back` these go on in a ring."""
+    objects = Objects(layout_of(EXAMPLE), HEAP)
+    place = objects.record("interpreter")
+    code = objects.record("code", None, filename=objects.text(file), name=objects.text(name))
+    first = objects.frames([code] * frames)
+    if back:
+        size = -(-objects.group("frame")["size"] // 16) * 16
+        objects.word(first + size * (frames - 1) + objects.group("frame")["back"], first)
+    objects.threads(place, [{"id": 0x7F00 + at, "frame": first} for at in range(threads)])
+    return objects
+
+
+def nested(objects: Objects, numbers: int, texts: int) -> Sequence[int]:
+    """A list within a list, 60 deep, each of which has the next one twice."""
+    lists, held = objects.klass("list", 25), objects.number(7, numbers)
+    for _ in range(60):
+        items = objects.free()
+        objects.word(items, held)
+        objects.word(items + 8, held)
+        held = objects.of_class(objects.record("list", None, count=2, items=items), lists)
+    return [held] * 26
+
+
+def cases() -> Iterator[Case]:
+    """All of them."""
+    yield Case("4096 threads of the same 4096 frames", GOOD, lambda: with_bss(2, interpreter("a.py", "f", 4096, 4096)))
+    yield Case("the same, with texts of 4095 characters", GOOD, lambda: with_bss(2, interpreter(LONG, LONG, 4096, 4096)))
+    yield Case("4096 threads of the same 16,384 members, none of them shown", GOOD,
+               lambda: with_bss(2, interpreter(SKIPPED, "f", 16384, 4096)))
+    yield Case("65,533 segments", GOOD, lambda: files_of(core(Shape("", segments=65533))))
+    for words in (1000, 10_000, 100_000):
+        yield Case(f"a bss of {words:,} words, each an interpreter whose frames are a ring of one", GOOD,
+                   lambda words=words: with_bss(words, interpreter("a.py", "f", 1, back=True)))
+    yield Case("a bss of 1,000 words, each an interpreter whose frames are a ring of members that aren't shown", GOOD,
+               lambda: with_bss(1000, interpreter(SKIPPED, "f", 1, back=True)))
+    yield Case("lists in lists, 26 variables, within 128 characters each", f"{GOOD} -l",
+               lambda: files_of(of_locals(nested, "abcdefghijklmnopqrstuvwxyz", 0)))
+    yield Case("the same, within 32,640 characters each", GOOD + " -" + "l" * 255,
+               lambda: files_of(of_locals(nested, "abcdefghijklmnopqrstuvwxyz", 0)))
+
+
+def limited(seconds: int, memory: int) -> None:
+    """Limits the process that becomes the program."""
+    resource.setrlimit(resource.RLIMIT_AS, (memory, memory))
+    resource.setrlimit(resource.RLIMIT_CPU, (seconds, seconds))
+
+
+def measured(program: str, case: Case, folder: str, seconds: int, memory: int) -> Tuple[str, int]:
+    """The row of a case, and how its process ended."""
+    size = 0
+    for name, data in case.files().items():
+        Path(folder, name).write_bytes(data)
+        size += len(data) if name == "core" else 0
+    with open(Path(folder, "out"), "wb") as out:
+        child = subprocess.Popen(
+            [program, *case.words.split()], cwd=folder, stdin=subprocess.DEVNULL, stdout=out, stderr=subprocess.PIPE,
+            preexec_fn=lambda: limited(seconds, memory))
+        said = child.stderr.read().decode("utf-8", "replace").strip().replace("pystacks: ", "")
+        _, status, used = os.wait4(child.pid, 0)
+        child.returncode = status
+    ended = f"{os.WEXITSTATUS(status)}" if os.WIFEXITED(status) else f"none within {seconds} s"
+    time = f"{used.ru_utime + used.ru_stime:.2f}"
+    return row([case.what, f"{size / 1e6:.2f}", time, f"{used.ru_maxrss / 1024:.0f}", ended, said and f"`{said}`"]), status
+
+
+def main() -> int:
+    """The command."""
+    parser = argparse.ArgumentParser(description=__doc__, formatter_class=argparse.RawDescriptionHelpFormatter)
+    parser.add_argument("--program", required=True, help="the built program")
+    parser.add_argument("--seconds", type=int, default=60, help="the most seconds of a run (default: 60)")
+    parser.add_argument("--memory", type=int, default=2000, help="the most MB of a run (default: 2000)")
+    parser.add_argument("--only", default="", help="the cases in whose name this stands")
+    words = parser.parse_args()
+    heads = ["core", "MB", "s", "MiB", "status", "line"]
+    print(f"{machine()}; within {words.seconds} s and {words.memory} MB.\n")
+    print(row(heads) + "\n|" + "---|" * len(heads), flush=True)
+    odd = 0
+    for case in cases():
+        if words.only in case.what:
+            with tempfile.TemporaryDirectory(prefix="worst-") as folder:
+                text, status = measured(os.path.abspath(words.program), case, folder, words.seconds, words.memory * 10 ** 6)
+            # (9 and 24 are the signals by which the limit of seconds ends a process)
+            odd += os.WIFSIGNALED(status) and os.WTERMSIG(status) not in (9, 24)
+            print(text, flush=True)
+    return 1 if odd else 0
+
+
+if __name__ == "__main__":
+    sys.exit(main())
