@@ -22,6 +22,7 @@ from typing import BinaryIO, Callable, Dict, List, Optional, Tuple
 # (what only looks at a core leaves nothing behind)
 sys.dont_write_bytecode = True
 
+from core_collapse import run_collapsed
 from core_maps import Use, Wanted, build_id, builds_in, is_text, machine_of, maps_of, wanted_files
 from core_gaps import entries_in
 from core_group import Apart, run_group, shared_files, shared_machine, told
@@ -242,7 +243,7 @@ def command_of(words: argparse.Namespace, core: str, machine: Optional[int]) -> 
     """The program's words without those of images."""
     layouts = os.fspath(words.layouts or layouts_of(machine))
     parts = [os.fspath(words.program or PROGRAM), "dump", f"--core={core}", f"--layouts={layouts}"]
-    return as_words(parts, words.core) + [b"-l"] * words.locals + [b"-j"] * words.json
+    return as_words(parts, words.core) + [b"-l"] * words.locals + [b"-j"] * (words.json or words.collapsed)
 
 
 def group(words: argparse.Namespace) -> int:
@@ -285,6 +286,9 @@ def show(words: argparse.Namespace, name: str) -> int:
     command = command_of(words, f"/proc/self/fd/{new.file.fileno()}" if new else name, machine)
     shown_files = [it for it in files if words.locals or it.use is not Use.MEMORY]
     command += image_words(shown_files, os.fsencode(words.root), machine)
+    if words.collapsed:
+        fds = [new.file.fileno()] if new else []
+        return run_collapsed(command, fds, b"/proc/self/fd/%d" % fds[0] if fds else b"", os.fsencode(name))
     if new:
         return run_over(command, new.file.fileno(), os.fsencode(name))
     os.execv(command[0], command)
@@ -297,6 +301,7 @@ def main() -> int:
     parser.add_argument("--group", action="store_true", help="group the cores by their stacks")
     parser.add_argument("-l", "--locals", action="count", default=0, help="show locals; twice, longer ones")
     parser.add_argument("-j", "--json", action="store_true", help="as JSON")
+    parser.add_argument("--collapsed", action="store_true", help="as flame graph tools read stacks: a line for each, with its threads' number")
     parser.add_argument("--root", metavar="DIR", default="", help="look for the mapped files below this folder")
     parser.add_argument("--program", metavar="P", help="the built program (default: the one in crates/pystacks/out)")
     parser.add_argument("--layouts", metavar="FILE", help="the layout file (default: the core's machine's in layouts/)")
@@ -304,8 +309,10 @@ def main() -> int:
     parser.add_argument("--maps", metavar="FILE", default="", help="the process's maps, for a core without a file table")
     parser.add_argument("--anyway", action="store_true", help="read a core that is longer than half of the free memory")
     words = parser.parse_args()
-    if words.group and (words.locals or words.json or words.keep or words.maps):
-        parser.error("--group takes no -l, -j, --keep and --maps")
+    if words.group and (words.locals or words.json or words.collapsed or words.keep or words.maps):
+        parser.error("--group takes no -l, -j, --collapsed, --keep and --maps")
+    if words.collapsed and (words.locals or words.json):
+        parser.error("--collapsed takes no -l and -j")
     if len(words.core) > 1 and not words.group:
         parser.error("several cores are taken with --group alone")
     try:
