@@ -1,14 +1,13 @@
 """Changes of files for hostile input: of bytes, words, lengths, addresses and links, stretches that are copied, and cuts.
 And the changes of which the rules tell the answer."""
 
-import struct
 from dataclasses import dataclass
 from random import Random
-from typing import Callable, Dict, List, Sequence, Tuple
+from typing import Callable, Dict, Tuple
 
-from made import Segment, Symbol, image_file
-from row import CALLER, CODE, FRAME, HEAP, THREAD
-from rows_dump import BSS, GOOD, PROGRAM, files_of, small
+from made import Segment, image_file
+from row import CALLER, FRAME, HEAP, THREAD
+from rows_dump import BSS, GOOD, files_of, small
 
 Files = Dict[str, bytes]
 

@@ -19,7 +19,7 @@ from typing import Callable, Dict, Iterator, Sequence, Tuple
 from made import EXAMPLE, Objects, Segment, core_file, image_file, layout_of
 from measure import Shape, core, machine, row
 from row import HEAP
-from rows_dump import BSS, GOOD, PROGRAM, files_of, mapped, of_locals
+from rows_dump import BSS, GOOD, files_of, mapped, of_locals
 
 SKIPPED = "<shim>"
 """The file name of members of a chain that are not shown."""
