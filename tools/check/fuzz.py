@@ -41,7 +41,7 @@ STATUSES = {name: {0, 1, 2, 3, 5, 6} | more for name, more in (
     ("dump", set()), ("walk", set()), ("triage", set()), ("reach", {9}), ("merge", {7}))}
 """The statuses that a command has, less 4: the output can always be written here."""
 
-HOLES = {"ADDR": rb"0x[0-9a-f]+", "N": rb"-?\d+", "M": rb"\d+", "V": rb"\S+", "KEY": rb"[a-z0-9_.]+", "PATH": rb".*", "NAME": rb".*"}
+HOLES = {"ADDR": rb"0x[0-9a-f]+", "N": rb"-?\d+", "M": rb"\d+", "V": rb"\S+", "KEY": rb".*", "PATH": rb".*", "NAME": rb".*"}
 
 
 def lines_of_page() -> Dict[int, List["re.Pattern[bytes]"]]:
