@@ -18,3 +18,8 @@ pub mod MemoryBack
 pub mod OwnerBack
 pub mod FoundBack
 pub mod KnownBack
+pub mod RestBack
+pub mod ShownBack
+pub mod FramesOnce
+pub mod InverseBack
+pub mod ShownExample

@@ -6,6 +6,8 @@ pub mod ElfRecords
 pub mod Generated
 pub mod ImageFacts
 pub mod ImageFiles
+pub mod Inverse
 pub mod Records
 pub mod Refusals
 pub mod RuntimeWords
+pub mod Shown

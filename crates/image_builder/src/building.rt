@@ -14,8 +14,10 @@ ghost use Rattle.object_builder.specs.Placing.{Stands};
 ghost use Rattle.memory_builder.specs.Laid.{owner_id};
 ghost use Rattle.memory_builder.specs.Told.{program_told};
 ghost use Rattle.py_process.specs.Candidates.{IsFirstOf, candidates_of, head_by};
+ghost use Rattle.py_process.specs.Findings.{finding};
 ghost use Rattle.py_process.specs.Programs.{ArePrograms, IsKnown};
 ghost use Rattle.image_memory.specs.Mmap.{whole_view};
+ghost use Rattle.py_process.specs.Reports.{AsksNoOther};
 ghost use Rattle.py_process.specs.Sources.{FirstTells, sources_of, version_of_number};
 ghost use Rattle.py_fields.specs.Sound.{IsSound};
 ghost use Rattle.object_builder.specs.Room.{HasRoom};
@@ -25,8 +27,10 @@ ghost use Rattle.image_builder.specs.CoreFacts.{InEachMemory, built_maps, built_
 ghost use Rattle.image_builder.specs.CoreFiles.{image_path as path_of_image};
 ghost use Rattle.image_builder.specs.Covered.{IsNumberOf};
 ghost use Rattle.image_builder.specs.ImageFacts.{image_facts, image_known};
+ghost use Rattle.image_builder.specs.Inverse.{FindsAlone, HasFramesOf, IsReadableAsAsked, IsReportOf, image_alone};
 ghost use Rattle.image_builder.specs.Refusals.{IsBuildable, IsUnbuilt, room_for};
 ghost use Rattle.image_builder.specs.RuntimeWords.{HasWordRoom, interpreter_at};
+ghost use Rattle.image_builder.specs.Shown.{shown_report};
 
 use crate::BuildError;
 use crate::admission::admit;
@@ -79,6 +83,11 @@ fn lock_address(layout: &Layout, version: &Version, machine: Machine) -> u64
 /// `/usr/bin/python3` for its image. It has the image's 0x2000 bytes at 0x400000, the image's bss of 0x20000 bytes at
 /// 0x500000, and the program's objects from 0x600000 on, with the interpreter first. The words of the bss by which a
 /// reader finds the interpreter and the holder of the lock name them; the version's number stands at `Py_Version`.
+///
+/// Where the layout has room for the types of values, and for the word of the lock beside the runtime record's field,
+/// all that was built is read back from the core with the image under its path: the interpreter and the lock that a
+/// search finds are the built ones, a report is owed to each `Config` that asks for neither native frames nor those of
+/// other processes, and the one right report shows the program (`shown_report`), addresses of locals aside.
 ///
 /// `Uncovered`, `NotValid` and `NoRoom` come for the causes that `BuildError` names, in that order. Else the one error
 /// is want of memory. The files are written in one pass each.
@@ -133,6 +142,22 @@ pub fn build(
         → AreStacksOver config layout.now m built.lock built.interpreter traces
         ↔ (traces ≡ program_told config layout.now interpreter_at (owner_id (program_in program.now))
         (program_in program.now)))) }
+    // of the core, the image under its path and this layout alone: what is found is what was built
+    ensures finds { HasRoom layout.now → HasWordRoom layout.now machine version.now → IfOk result
+        (λ built. FindsAlone built.core.items (image_alone built.image_path built.image.items) (layout.now ∷ [])
+        (finding version.now layout.now built.interpreter built.lock)) }
+    ensures readable { HasRoom layout.now → HasWordRoom layout.now machine version.now → IfOk result
+        (λ built. IsReadableAsAsked built.core.items (image_alone built.image_path built.image.items)
+        (layout.now ∷ [])) }
+    // and what is shown is the program, for each `Config`
+    ensures frames { HasRoom layout.now → HasWordRoom layout.now machine version.now → IfOk result
+        (λ built. (config : Config)
+        → HasFramesOf built.core.items (image_alone built.image_path built.image.items) (layout.now ∷ [])
+        (shown_report config layout.now version.now (program_in program.now))) }
+    ensures report { HasRoom layout.now → HasWordRoom layout.now machine version.now → IfOk result
+        (λ built. (config : Config) → AsksNoOther config
+        → IsReportOf built.core.items (image_alone built.image_path built.image.items) (layout.now ∷ []) config
+        (shown_report config layout.now version.now (program_in program.now))) }
     ensures small { IfOk result (λ built. length built.core.items ≤ room_for layout.now (program_in program.now)) }
 {
     admit(alloc, program, layout, version, machine)?;

@@ -3,7 +3,7 @@ use Rattle.std.specs.Prelude.{Some, None, Ok, ◌↔◌}
 use Rattle.elf64_core.specs.Header.{machine_of}
 use Rattle.image_memory.specs.Cores.{IsCore}
 use Rattle.image_memory.specs.Maps.{AreMaps}
-use Rattle.image_memory.specs.Notes.{AreStatuses, IsProcess}
+use Rattle.image_memory.specs.Notes.{AreCoreNotes, AreStatuses, IsProcess}
 use Rattle.image_memory.specs.Pieces.{memory_of}
 use Rattle.memory_builder.specs.Laid.{owner_place}
 use Rattle.memory_builder.specs.Mirror.{program_in}
@@ -14,12 +14,12 @@ use Rattle.image_builder.specs.CoreFiles.{core_file, image_path as path_of_image
 use Rattle.image_builder.specs.Covered.{number_of}
 use Rattle.image_builder.specs.ImageFiles.{image_file}
 use Rattle.image_builder.specs.RuntimeWords.{interpreter_at, runtime_words}
-use Rattle.image_builder.proofs.CoreBack.{core_is, core_machine, core_memory_is, maps_are, process_is, statuses_are}
+use Rattle.image_builder.proofs.CoreBack.{core_is, core_machine, core_memory_is, core_notes_are, maps_are, process_is, statuses_are}
 use Rattle.py_process.specs.Binary.{HasInfo, SaysFacts}
 use Rattle.image_builder.specs.ImageFacts.{image_facts, image_known}
 use Rattle.image_builder.proofs.ImageBack.{image_info, image_says}
 use Rattle.process_memory.specs.Memory.{Region, byte_at}
-use Rattle.image_memory.specs.Backed.{IsBackedMemory}
+use Rattle.image_memory.specs.Backed.{IsBackedMemory, backed_memory_of}
 use Rattle.image_memory.specs.Images.{Pushed}
 use Rattle.py_process.specs.Lock.{lock_address_of}
 use Rattle.py_stacks.specs.StacksOver.{AreStacksOver}
@@ -27,6 +27,7 @@ use Rattle.object_builder.specs.Placing.{Stands}
 use Rattle.memory_builder.specs.Laid.{owner_id}
 use Rattle.memory_builder.specs.ReadBack.{IsPlace, TellsInterpreter, TellsOwner, TellsStacks}
 use Rattle.memory_builder.specs.Told.{program_told}
+use Rattle.memory_builder.proofs.Alone.{owner_alone}
 use Rattle.image_builder.proofs.OwnerBack.{lock_names}
 use Rattle.py_process.specs.Sources.{FirstTells, sources_of}
 use Rattle.image_builder.proofs.FoundBack.{is_first}
@@ -37,6 +38,11 @@ use Rattle.image_builder.proofs.MemoryBack.{image_there, in_each, none_at_zero, 
 use Rattle.image_builder.proofs.Numbers.{number_fits, number_is, version_told}
 use Rattle.image_builder.proofs.WordsBack.{head_back, lock_back, version_back}
 use Rattle.image_builder.proofs.Lengths.{length-core, length-image, length-words}
+use Rattle.image_builder.specs.RuntimeWords.{HasWordRoom}
+use Rattle.image_builder.proofs.InverseBack.{IsWritten, finds_by, has_frames, is_readable, is_report}
+use Rattle.image_builder.proofs.NotesBack.{core_entry, three_notes}
+use Rattle.object_builder.specs.Room.{HasRoom}
+use Rattle.py_stacks.specs.Lines.{family_of}
 use Rattle.image_builder.proofs.building.build.Goals as goal
 
 -- the core is of such parts
@@ -231,3 +237,87 @@ returns-clause-small c =
     ∙ length-words l c.args.machine c.args.version.now c.in_ok-holder.holder c.requires in
     let objects = ap length (c.deref-3.ensures.value) ∙ c.in_ok-objects.ensures.size in
     omega (arith, built.room, core, image, words, objects)
+
+-- ---- all of it
+
+-- the pieces of memory that the core and some images have
+abbrev pieces_with : goal.After-drop-objects-2 → Pushed → List Region
+pieces_with c images = backed_memory_of c.in_ok-core.core.items (core_entry ∷ []) images
+
+backed_with : (c : goal.After-drop-objects-2) (images : Pushed)
+    → IsBackedMemory c.in_ok-core.core.items images (pieces_with c images)
+backed_with c images = record {
+  notes = three_notes;
+  entries = core_entry ∷ [];
+  found = subst (λ xs. AreCoreNotes xs three_notes (core_entry ∷ [])) (sym (core_built c))
+      (core_notes_are c.args.machine (image c) (words c) (objects c) (image_len c) (words_len c) (core_short c));
+  says = refl;
+}
+
+module _ (c : goal.After-drop-objects-2) (images : Pushed) (known : IsKnown images built_programs image_known)
+    (room : HasRoom c.args.layout.now) (word_room : HasWordRoom c.args.layout.now c.args.machine c.args.version.now)
+  where
+    abbrev pieces : List Region
+    pieces = pieces_with c images
+
+    abbrev the_lock : ℕ
+    the_lock = built_lock c.args.layout.now c.args.version.now c.args.machine
+
+    is_backed : IsBackedMemory c.in_ok-core.core.items images pieces
+    is_backed = backed_with c images
+
+    written : IsWritten c.in_ok-core.core.items images c.args.layout.now c.args.version.now
+        (program_in c.args.program.now) the_lock
+    written =
+        let l = c.args.layout.now in
+        let v = c.args.version.now in
+        let p = program_in c.args.program.now in
+        let m = byte_at pieces in
+        record {
+          core_is = returns-clause-accepted c;
+          dumped = record { maps = built_maps (length (objects c)); pieces = pieces };
+          is_dumped = record { are_maps = returns-clause-maps c; memory = is_backed };
+          programs = programs_are (length (objects c));
+          known = known;
+          covers = c.in_ok-admit.ensures.covered.covers;
+          told = returns-clause-told c images pieces is_backed;
+          first = returns-clause-found c room word_room images pieces is_backed;
+          named = subst (λ machine. lock_address_of machine image_known v l m interpreter_at ≡ Ok the_lock)
+              (sym (returns-clause-machine c))
+              (subst (λ lock. lock_address_of c.args.machine image_known v l m interpreter_at ≡ Ok lock)
+              c.lock_address.ensures (returns-clause-named c room word_room images pieces is_backed));
+          stacks = λ config traces. subst (λ lock. AreStacksOver config l m lock interpreter_at traces ↔
+              (traces ≡ program_told config l interpreter_at (owner_id p) p)) c.lock_address.ensures
+              (returns-clause-stacks c room word_room images pieces is_backed config traces);
+          statuses = returns-clause-statuses c;
+          process = returns-clause-process c;
+          alone = owner_alone (family_of l.lines) p c.in_ok-admit.ensures.valid;
+        }
+
+pub returns-clause-finds : goal.returns-clause-finds
+returns-clause-finds c = λ room word_room.
+    let l = c.args.layout.now in
+    let v = c.args.version.now in
+    finds_by c.in_ok-core.core.items _ l v (program_in c.args.program.now) _ (built_lock l v c.args.machine)
+    c.lock_address.ensures (written c _ (returns-clause-known c) room word_room)
+
+pub returns-clause-readable : goal.returns-clause-readable
+returns-clause-readable c = λ room word_room.
+    let l = c.args.layout.now in
+    let v = c.args.version.now in
+    is_readable c.in_ok-core.core.items _ l v (program_in c.args.program.now) (built_lock l v c.args.machine)
+    (written c _ (returns-clause-known c) room word_room)
+
+pub returns-clause-frames : goal.returns-clause-frames
+returns-clause-frames c = λ room word_room.
+    let l = c.args.layout.now in
+    let v = c.args.version.now in
+    has_frames c.in_ok-core.core.items _ l v (program_in c.args.program.now) (built_lock l v c.args.machine)
+    (written c _ (returns-clause-known c) room word_room)
+
+pub returns-clause-report : goal.returns-clause-report
+returns-clause-report c = λ room word_room.
+    let l = c.args.layout.now in
+    let v = c.args.version.now in
+    is_report c.in_ok-core.core.items _ l v (program_in c.args.program.now) (built_lock l v c.args.machine)
+    (written c _ (returns-clause-known c) room word_room)
