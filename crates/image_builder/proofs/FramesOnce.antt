@@ -34,7 +34,8 @@ PlainIs m v l a result = (walked : List Trace) × AreTraces nothing l m a walked
 
 plain_agree : (m : Memory) (v : Version) (l : Layout) (a : ℕ) → Agree (PlainIs m v l a)
 plain_agree m v l a x y (ws, are, is) (us, those, is') nx ny =
-    let same : ws ≡ us = ok_same ws us (sym (traces_whole nothing l m a ws are) ∙ traces_whole nothing l m a us those) in
+    let same : ws ≡ us = ok_same ws us
+    (sym (traces_whole nothing l m a ws are) ∙ traces_whole nothing l m a us those) in
     is ∙ ap (λ ts. Ok (v, map bare_trace ts)) same ∙ sym is'
 
 module _ (bytes : List ℕ) (images : Pushed) (layouts : List Layout) where

@@ -38,7 +38,7 @@ use Rattle.image_builder.specs.ImageFacts.{image_known}
 use Rattle.image_builder.specs.Inverse.{FindsAlone, HasFramesOf, IsReadableAsAsked, IsReportOf}
 use Rattle.image_builder.specs.Records.{filled}
 use Rattle.image_builder.specs.RuntimeWords.{interpreter_at}
-use Rattle.image_builder.specs.Shown.{HaveSameFrames, shown_report, without_addresses}
+use Rattle.image_builder.specs.Shown.{shown_report, without_addresses}
 use Rattle.image_builder.proofs.FramesOnce.{frames_moved, frames_once}
 use Rattle.image_builder.proofs.RestBack.{is_ok, kept_has_locals}
 use Rattle.image_builder.proofs.ShownBack.{program_unplaced, traces_bare}
@@ -130,7 +130,8 @@ module _ (core : List ℕ) (images : Pushed) (l : Layout) (v : Version) (p : Pro
         λ h. found_same g
             (subst (λ d. IsFound (memory_in d) (machine_of core) d.maps images (l ∷ []) g) same h),
         λ e. subst (λ x. IsFound (memory_in d) (machine_of core) d.maps images (l ∷ []) x) (sym e)
-            (subst (λ d. IsFound (memory_in d) (machine_of core) d.maps images (l ∷ []) is_finding) (sym same) is_found),
+            (subst (λ d. IsFound (memory_in d) (machine_of core) d.maps images (l ∷ []) is_finding)
+            (sym same) is_found),
       )
 
   -- ---- what is right

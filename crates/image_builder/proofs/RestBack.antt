@@ -4,7 +4,7 @@ use Rattle.std.specs.Int.{w32, cast_signed}
 use Rattle.std.proofs.lemmas.Bool.{leb-true}
 use Rattle.std.specs.Prelude.{Some, Option, Ok, Err, IsOk, IsOkAnd, ◌⊎◌}
 use Rattle.elf64_core.specs.Fields.{u32_in}
-use Rattle.process_memory.specs.Memory.{Memory, Found, Fault, record_at}
+use Rattle.process_memory.specs.Memory.{Memory, Found, record_at}
 use Rattle.process_memory.specs.Memory.Fault.{BadValue, LocalsLimit}
 use Rattle.process_memory.specs.Walk.{IsChain}
 use Rattle.process_memory.proofs.Founds.{bound, ok_same}

@@ -3,7 +3,6 @@ use Rattle.std.proofs.Common.{◌≡◌, ℕ, true, false, Bool, List, [], ◌�
 use Rattle.std.specs.Prelude.{ℤ, pos, Some, None, codes, option_map}
 use Rattle.py_fields.specs.declared.layout.Layout.{Layout}
 use Rattle.py_lines.specs.Lines.{line_among}
-use Rattle.py_lines.specs.declared.lines.LineRange.{LineRange}
 use Rattle.py_stacks.specs.Asking.{default_config}
 use Rattle.py_stacks.specs.Frames.{Call}
 use Rattle.py_version.specs.declared.version.Version.{Version}
