@@ -170,7 +170,7 @@ locals seed t j few small = record {
   );
 }
 
-frame_valid : (family : LineFamily) (seed t j : ℕ) → t < 256 → j < 16 → IsValidFrame family (frame_of seed t j)
+pub frame_valid : (family : LineFamily) (seed t j : ℕ) → t < 256 → j < 16 → IsValidFrame family (frame_of seed t j)
 frame_valid family seed t j few small = record {
   named = named seed t j small;
   placed = placed seed t j small;

@@ -1,6 +1,6 @@
 -- What stands in the memory of a built core, whatever image is handed in.
 use Rattle.std.proofs.Common.{◌≡◌, ℕ, ◌+◌, ◌-◌, ◌<◌, ◌≤◌, ◌^◌, Bool, true, false, cond, ltb, List, [], ◌∷◌, ◌++◌, length, refl, sym, ap, ap₂, ◌∙◌, arith, inl, subst}
-use Rattle.std.specs.Prelude.{Some, None, Option, filter, filter_map, option_and_then, option_map}
+use Rattle.std.specs.Prelude.{Ok, Some, None, Option, filter, filter_map, option_and_then, option_map}
 use Rattle.std.specs.Int.{w32, to_le_bytes}
 use Rattle.process_memory.specs.Memory.{Memory, Region, byte_at, first_byte, first_of, region_byte}
 use Rattle.image_memory.specs.Backed.{IsBackedMemory, backed_region, region_by, region_of_image}
@@ -10,6 +10,8 @@ use Rattle.elf64_core.specs.declared.header.Machine.{Machine}
 use Rattle.elf64_core.specs.declared.segment.Segment.{Segment}
 use Rattle.object_builder.specs.Objects.{bytes_of}
 use Rattle.object_builder.specs.Objects.Value.{U32}
+use Rattle.py_fields.specs.declared.layout.Layout.{Layout}
+use Rattle.py_stacks.specs.Holder.{holder_id_at}
 use Rattle.object_builder.specs.Placing.{Stands}
 use Rattle.object_builder.proofs.Placing.{stands_behind, stands_first, stands_right}
 use Rattle.std.specs.List.{cons_option}
@@ -67,6 +69,16 @@ module _ (image words objects : List ℕ) (image_len : length image ≡ 0x2000) 
       ∷ []) 0x60_0000 objects (inl (omega (arith, image_len)))
       (stands_behind (0x50_0000, words) ((0x60_0000, objects) ∷ []) 0x60_0000 objects (inl (omega (arith, words_len)))
       (stands_first 0x60_0000 objects [] (omega (arith, short))))
+
+-- and at address 0 there is nothing
+pub none_alone : (image words objects : List ℕ) → byte_at (built_memory image words objects) 0 ≡ None
+unfolding byte_at
+none_alone image words objects = refl
+
+-- where no lock is named no thread holds it
+pub no_holder : (l : Layout) (m : Memory) → holder_id_at l m 0 ≡ Ok 0
+unfolding holder_id_at
+no_holder l m = refl
 
 -- ---- with images behind them
 

@@ -1,12 +1,20 @@
 -- What is read of a core that was written and of the image beside it: what was written, and nothing else.
 use Rattle.std.specs.Prelude.{◌≡◌, ◌↔◌, ℕ, List, [], ◌∷◌}
 use Rattle.elf64_core.specs.Header.{machine_of}
+use Rattle.image_memory.specs.Cores.{IsCore}
 use Rattle.image_memory.specs.Images.{Pushed}
 use Rattle.image_memory.specs.Mmap.{whole_view}
+use Rattle.image_memory.specs.Pieces.{memory_of}
+use Rattle.process_memory.specs.Memory.{byte_at}
 use Rattle.py_fields.specs.declared.layout.Layout.{Layout}
 use Rattle.py_stacks.specs.declared.config.Config.{Config}
+use Rattle.py_stacks.specs.StacksOver.{AreStacksOver}
+use Rattle.py_stacks.specs.Threads.{Trace}
 use Rattle.py_process.specs.Findings.{Finding, IsFound}
 use Rattle.py_process.specs.Reports.{AsksNoOther, Dumped, HasFrames, IsDumped, IsReadable, IsRight, Reported, memory_in}
+use Rattle.memory_builder.specs.Program.{Program}
+use Rattle.memory_builder.specs.Told.{program_told}
+use Rattle.image_builder.specs.RuntimeWords.{interpreter_at}
 use Rattle.image_builder.specs.Shown.{HaveSameFrames, without_addresses}
 
 -- an image, handed in whole under its path, and no other
@@ -34,3 +42,11 @@ pub record IsReportOf (core : List ℕ) (images : Pushed) (layouts : List Layout
   pub report : Reported
   pub right : (r : Reported) → IsRight core images layouts c r ↔ (r ≡ report)
   pub shows : without_addresses report ≡ shown
+
+-- it is a core, and over its memory alone the stacks of the interpreter that was laid are exactly those of the program,
+-- where no lock tells a holder, as a walk by handed-in addresses reads them
+pub record IsCoreOf (l : Layout) (p : Program) (core : List ℕ) : Type 0 where
+  pub is_core : IsCore core
+  pub stacks : (c : Config) (traces : List Trace)
+      → AreStacksOver c l (byte_at (memory_of core)) 0 interpreter_at traces
+      ↔ (traces ≡ program_told c l interpreter_at 0 p)

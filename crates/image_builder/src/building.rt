@@ -27,7 +27,7 @@ ghost use Rattle.image_builder.specs.CoreFacts.{InEachMemory, built_maps, built_
 ghost use Rattle.image_builder.specs.CoreFiles.{image_path as path_of_image};
 ghost use Rattle.image_builder.specs.Covered.{IsNumberOf};
 ghost use Rattle.image_builder.specs.ImageFacts.{image_facts, image_known};
-ghost use Rattle.image_builder.specs.Inverse.{FindsAlone, HasFramesOf, IsReadableAsAsked, IsReportOf, image_alone};
+ghost use Rattle.image_builder.specs.Inverse.{FindsAlone, HasFramesOf, IsCoreOf, IsReadableAsAsked, IsReportOf, image_alone};
 ghost use Rattle.image_builder.specs.Refusals.{IsBuildable, IsUnbuilt, room_for};
 ghost use Rattle.image_builder.specs.RuntimeWords.{HasWordRoom, interpreter_at};
 ghost use Rattle.image_builder.specs.Shown.{shown_report};
@@ -158,6 +158,9 @@ pub fn build(
         (λ built. (config : Config) → AsksNoOther config
         → IsReportOf built.core.items (image_alone built.image_path built.image.items) (layout.now ∷ []) config
         (shown_report config layout.now version.now (program_in program.now))) }
+    // the core alone has the stacks of the program, by no lock
+    ensures alone { HasRoom layout.now → IfOk result
+        (λ built. IsCoreOf layout.now (program_in program.now) built.core.items) }
     ensures small { IfOk result (λ built. length built.core.items ≤ room_for layout.now (program_in program.now)) }
 {
     admit(alloc, program, layout, version, machine)?;

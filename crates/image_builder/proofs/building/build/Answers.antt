@@ -34,7 +34,7 @@ use Rattle.image_builder.proofs.FoundBack.{is_first}
 use Rattle.image_builder.proofs.KnownBack.{known_is, programs_are}
 use Rattle.image_memory.specs.Mmap.{whole_view}
 use Rattle.py_process.specs.Programs.{IsKnown}
-use Rattle.image_builder.proofs.MemoryBack.{image_there, in_each, none_at_zero, number_there, objects_there, words_there}
+use Rattle.image_builder.proofs.MemoryBack.{image_there, in_each, no_holder, none_alone, none_at_zero, number_there, objects_there, words_there}
 use Rattle.image_builder.proofs.Numbers.{number_fits, number_is, version_told}
 use Rattle.image_builder.proofs.WordsBack.{head_back, lock_back, version_back}
 use Rattle.image_builder.proofs.Lengths.{length-core, length-image, length-words}
@@ -321,3 +321,25 @@ returns-clause-report c = λ room word_room.
     let v = c.args.version.now in
     is_report c.in_ok-core.core.items _ l v (program_in c.args.program.now) (built_lock l v c.args.machine)
     (written c _ (returns-clause-known c) room word_room)
+
+pub returns-clause-alone : goal.returns-clause-alone
+returns-clause-alone c = λ room.
+    let l = c.args.layout.now in
+    let p = program_in c.args.program.now in
+    let memory : memory_of c.in_ok-core.core.items ≡ built_memory (image c) (words c) (objects c) =
+    ap memory_of (core_built c)
+    ∙ core_memory_is c.args.machine (image c) (words c) (objects c) (image_len c) (words_len c) (core_short c) in
+    let size : length (objects c) ≡ program_size l p =
+    ap length (sym c.in_ok-objects.ensures.laid) ∙ c.in_ok-objects.ensures.size in
+    let there = objects_there (image c) (words c) (objects c) (image_len c) (words_len c)
+    (omega (arith, c.in_ok-admit.ensures.room, size)) in
+    let told = subst (TellsStacks l interpreter_at p) c.in_ok-objects.ensures.laid
+    (c.in_ok-objects.ensures.stacks room place_is) in
+    record {
+      is_core = returns-clause-accepted c;
+      stacks = λ config traces. subst (λ rs. AreStacksOver config l (byte_at rs) 0 interpreter_at traces
+          ↔ (traces ≡ program_told config l interpreter_at 0 p)) (sym memory)
+          (told (byte_at (built_memory (image c) (words c) (objects c)))
+          (record { stands = there; none = none_alone (image c) (words c) (objects c) }) config 0 0
+          (no_holder l (byte_at (built_memory (image c) (words c) (objects c)))) traces);
+    }
