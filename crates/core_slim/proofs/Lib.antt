@@ -1,5 +1,4 @@
 pub mod Joining
-pub mod Fewer
 pub mod Appending
 pub mod ReadBack
 pub mod Pieces
