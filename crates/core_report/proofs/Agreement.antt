@@ -59,7 +59,7 @@ one_apart : (l : Layout) → NoneClash (l ∷ [])
 one_apart l = search rules
 
 -- a slim core, and that what the stacks need has too many pieces, may both be right: both count as one
-pub settled : ℕ → ℕ
+abbrev pub settled : ℕ → ℕ
 settled n = if n == 8 then 0 else n
 
 pub settled-other : (n : ℕ) → n ≢ 8 → settled n ≡ n

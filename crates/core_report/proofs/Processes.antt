@@ -90,8 +90,8 @@ abbrev OfCore : List (List ℕ × List ℕ) → List ℕ → List ℕ → List (
 OfCore named core text images cause = (e : CoreError) × (list : List Layout) × (cause ≡ Core e) × IsRightFor text (Ok list)
     × OpenedIs core (images_read named images) list (Err e)
 
-module _ (named : List (List ℕ × List ℕ)) (core text : List ℕ) (images : List (List ℕ)) where
-  why : (cause : Cause) → OpensBy named (core ∷ text ∷ images) (Err cause) → OfLayouts text cause ⊎ OfCore named core text images cause
+module _ (named : List (List ℕ × List ℕ)) (bytes text : List ℕ) (images : List (List ℕ)) where
+  why : (cause : Cause) → OpensBy named (bytes ∷ text ∷ images) (Err cause) → OfLayouts text cause ⊎ OfCore named bytes text images cause
   why (Layouts e) h = inl (e, refl, h)
   why (Core e) h = inr (e, h.0, refl, h.1, h.2)
   why (Reach e) h = absurd h
@@ -102,60 +102,57 @@ module _ (named : List (List ℕ × List ℕ)) (core text : List ℕ) (images : 
   why OutOfMemory h = absurd h
 
   kept : {T : Type 0} (cause : Cause) (e : CoreError) → cause ≡ Core e → cause_status cause ≢ 5 → steps.IsKept {T = T} (Err e)
-  kept cause e is ne same = err_kept e (core_one e (λ five. ne (ap cause_status is ∙ five))).1 (by (steps.err_is e core.OutOfMemory same))
-    where
-      by : e ≡ core.OutOfMemory → ◌≡◌ {A = Result Opened CoreError} (Err e) (Err core.OutOfMemory)
-      by is = λ i. Err (is i)
+  kept cause e is ne same = (core_one e (λ five. ne (ap cause_status is ∙ five))).1 (steps.err_is e core.OutOfMemory same)
 
   one_list : (a b : List Layout) → IsRightFor text (Ok a) → IsRightFor text (Ok b) → a ≡ b
   one_list a b one other = ok_unique (IsRightFor text) (right-unique text) a b one other
 
-  open_one : (a b : Opened) → OpensBy named (core ∷ text ∷ images) (Ok a) → OpensBy named (core ∷ text ∷ images) (Ok b) → a ≡ b
+  open_one : (a b : Opened) → OpensBy named (bytes ∷ text ∷ images) (Ok a) → OpensBy named (bytes ∷ text ∷ images) (Ok b) → a ≡ b
   open_one a b (list, says, one) (more, also, other) =
-      steps.ok_is a b (opened_agree core (images_read named images) list (chooses_once list (text_apart text list says)) (Ok a) (Ok b) one
-      (subst (λ l. OpenedIs core (images_read named images) l (Ok b)) (one_list more list also says) other) (steps.ok_kept a) (steps.ok_kept b))
+      steps.ok_is a b (opened_agree bytes (images_read named images) list (chooses_once list (text_apart text list says)) (Ok a) (Ok b) one
+      (subst (λ l. OpenedIs bytes (images_read named images) l (Ok b)) (one_list more list also says) other) (steps.ok_kept a) (steps.ok_kept b))
 
-  open_apart : (o : Opened) (cause : Cause) → OpensBy named (core ∷ text ∷ images) (Ok o) → OpensBy named (core ∷ text ∷ images) (Err cause)
+  open_apart : (o : Opened) (cause : Cause) → OpensBy named (bytes ∷ text ∷ images) (Ok o) → OpensBy named (bytes ∷ text ∷ images) (Err cause)
       → cause_status cause ≢ 5 → ⊥
   open_apart o cause (list, says, one) other ne = ⊎_elim
       (λ p. flaw_apart (IsRightFor text) (right-unique text) list p.0 (flaw_status p.0 (λ five. ne (ap cause_status p.1 ∙ five))).1 says p.2)
-      (λ p. steps.ok_not_err o p.0 (opened_agree core (images_read named images) list (chooses_once list (text_apart text list says)) (Ok o) (Err p.0) one
-      (subst (λ l. OpenedIs core (images_read named images) l (Err p.0)) (one_list p.1 list p.3 says) p.4) (steps.ok_kept o) (kept cause p.0 p.2 ne)))
+      (λ p. steps.ok_not_err o p.0 (opened_agree bytes (images_read named images) list (chooses_once list (text_apart text list says)) (Ok o) (Err p.0) one
+      (subst (λ l. OpenedIs bytes (images_read named images) l (Err p.0)) (one_list p.1 list p.3 says) p.4) (steps.ok_kept o) (kept cause p.0 p.2 ne)))
       (why cause other)
 
-  open_alike : (a b : Cause) → OpensBy named (core ∷ text ∷ images) (Err a) → OpensBy named (core ∷ text ∷ images) (Err b)
+  open_alike : (a b : Cause) → OpensBy named (bytes ∷ text ∷ images) (Err a) → OpensBy named (bytes ∷ text ∷ images) (Err b)
       → cause_status a ≢ 5 → cause_status b ≢ 5 → cause_status a ≡ cause_status b
   open_alike a b one other na nb = by (why a one) (why b other)
     where
       flawed : (c : Cause) (p : OfLayouts text c) → cause_status c ≢ 5 → cause_status c ≡ 6
       flawed c p ne = ap cause_status p.1 ∙ (flaw_status p.0 (λ five. ne (ap cause_status p.1 ∙ five))).0
-      failed : (c : Cause) (p : OfCore named core text images c) → cause_status c ≢ 5 → cause_status c ≡ 1
+      failed : (c : Cause) (p : OfCore named bytes text images c) → cause_status c ≢ 5 → cause_status c ≡ 1
       failed c p ne = ap cause_status p.2 ∙ (core_one p.0 (λ five. ne (ap cause_status p.2 ∙ five))).0
       never : (c : Cause) (p : OfLayouts text c) (list : List Layout) → cause_status c ≢ 5 → IsRightFor text (Ok list) → ⊥
       never c p list ne says = flaw_apart (IsRightFor text) (right-unique text) list p.0 (flaw_status p.0 (λ five. ne (ap cause_status p.1 ∙ five))).1 says p.2
-      by : OfLayouts text a ⊎ OfCore named core text images a → OfLayouts text b ⊎ OfCore named core text images b → cause_status a ≡ cause_status b
+      by : OfLayouts text a ⊎ OfCore named bytes text images a → OfLayouts text b ⊎ OfCore named bytes text images b → cause_status a ≡ cause_status b
       by (inl p) (inl q) = flawed a p na ∙ sym (flawed b q nb)
       by (inl p) (inr q) = absurd (never a p q.1 na q.3)
       by (inr p) (inl q) = absurd (never b q p.1 nb p.3)
       by (inr p) (inr q) = failed a p na ∙ sym (failed b q nb)
 
-  open_sound : (config : Config) (list : List Layout) → IsRightFor text (Ok list) → IsReadable core (images_read named images) list config
-      → (cause : Cause) → OpensBy named (core ∷ text ∷ images) (Err cause) → cause_status cause ≢ 5 → ⊥
+  open_sound : (config : Config) (list : List Layout) → IsRightFor text (Ok list) → IsReadable bytes (images_read named images) list config
+      → (cause : Cause) → OpensBy named (bytes ∷ text ∷ images) (Err cause) → cause_status cause ≢ 5 → ⊥
   open_sound config list says good cause h ne = ⊎_elim
       (λ p. flaw_apart (IsRightFor text) (right-unique text) list p.0 (flaw_status p.0 (λ five. ne (ap cause_status p.1 ∙ five))).1 says p.2)
-      (λ p. report_complete core (images_read named images) list config (text_apart text list says) good p.0
-      (unopened core (images_read named images) list config p.0 (subst (λ l. OpenedIs core (images_read named images) l (Err p.0)) (one_list p.1 list p.3 says) p.4))
+      (λ p. report_complete bytes (images_read named images) list config (text_apart text list says) good p.0
+      (unopened bytes (images_read named images) list config p.0 (subst (λ l. OpenedIs bytes (images_read named images) l (Err p.0)) (one_list p.1 list p.3 says) p.4))
       (kept cause p.0 p.2 ne))
       (why cause h)
 
   -- a process that is opened has its stacks
-  stacks_sound : (config : Config) (list : List Layout) → IsRightFor text (Ok list) → IsReadable core (images_read named images) list config
-      → (o : Opened) → OpensBy named (core ∷ text ∷ images) (Ok o) → (e : CoreError) → e ≢ core.OutOfMemory
+  stacks_sound : (config : Config) (list : List Layout) → IsRightFor text (Ok list) → IsReadable bytes (images_read named images) list config
+      → (o : Opened) → OpensBy named (bytes ∷ text ∷ images) (Ok o) → (e : CoreError) → e ≢ core.OutOfMemory
       → StacksSay (opened_memory o) o.finding config (Err e) → ⊥
   stacks_sound config list says good o (more, also, opened) e ne stacks =
-      report_complete core (images_read named images) list config (text_apart text list says) good e
-      (unstacked_process core (images_read named images) list config o e
-      (subst (λ l. OpenedIs core (images_read named images) l (Ok o)) (one_list more list also says) opened) stacks) (err_kept e ne)
+      report_complete bytes (images_read named images) list config (text_apart text list says) good e
+      (unstacked_process bytes (images_read named images) list config o e
+      (subst (λ l. OpenedIs bytes (images_read named images) l (Ok o)) (one_list more list also says) opened) stacks) (err_kept e ne)
 
 -- the same for all contents
 opens_exclude : (named : List (List ℕ × List ℕ)) (contents : List (List ℕ)) → Excludes (λ cause. cause) (OpensBy named contents)

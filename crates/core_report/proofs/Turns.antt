@@ -210,9 +210,9 @@ abbrev Named : Type 0
 Named = List (List ℕ × List ℕ)
 
 -- a command that keeps the files of a report alone asks for them
-report_asks : (command : Command) (c l : List ℕ) (named : Named) → kept_files command ≡ c ∷ l ∷ map (λ image. image.1) named
-    → (core layouts : List ℕ) (images : Named) → core ≡ c → layouts ≡ l → images ≡ named → AsksReport command core layouts images
-report_asks command c l named kept core layouts images one two three = record {
+report_asks : (command : Command) (c l : List ℕ) (pairs : Named) → kept_files command ≡ c ∷ l ∷ map (λ image. image.1) pairs
+    → (core layouts : List ℕ) (images : Named) → core ≡ c → layouts ≡ l → images ≡ pairs → AsksReport command core layouts images
+report_asks command c l pairs kept core layouts images one two three = record {
   rest = [];
   asked = kept ∙ (λ i. sym one i ∷ sym two i ∷ map (λ (image : List ℕ × List ℕ). image.1) (sym three i))
       ∙ ap (λ m. core ∷ layouts ∷ m) (sym (append-nil (map (λ (image : List ℕ × List ℕ). image.1) images)));
@@ -240,12 +240,12 @@ report_count files images count =
     omega (arith, length-map files.images.items (λ (f : Vec ℕ Global). f.items), count, length-map images (λ (image : List ℕ × List ℕ). image.1))
 
 -- and what it reads is all
-report_has : (command : Command) (c l : List ℕ) (named : Named) → kept_files command ≡ c ∷ l ∷ map (λ image. image.1) named
-    → later_files command ≡ [] → (old new : FilesSeen) (files : ReportFiles) (images : Named) → images ≡ named
+report_has : (command : Command) (c l : List ℕ) (pairs : Named) → kept_files command ≡ c ∷ l ∷ map (λ image. image.1) pairs
+    → later_files command ≡ [] → (old new : FilesSeen) (files : ReportFiles) (images : Named) → images ≡ pairs
     → HasReportFiles old new command (length images) (Ok files) → HasAll old new command (report_contents files)
-report_has command c l named kept later old new files images are has =
+report_has command c l pairs kept later old new files images are has =
     has_all old new command (report_contents files) later has.0.read
-    (report_count files named (has.1 ∙ ap length are) ∙ sym (ap length kept)) has.0.failed
+    (report_count files pairs (has.1 ∙ ap length are) ∙ sym (ap length kept)) has.0.failed
 
 pub dump_has : (old new : FilesSeen) (d : Dump) (files : ReportFiles) (images : Named) → images ≡ d.images
     → HasReportFiles old new (dump d) (length images) (Ok files) → HasAll old new (dump d) (report_contents files)

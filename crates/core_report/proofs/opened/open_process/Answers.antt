@@ -1,8 +1,6 @@
-use Rattle.std.proofs.Common.{◌∙◌, Err, Ok, ap, subst}
+use Rattle.std.proofs.Common.{Err, Ok, refl, subst}
 use Rattle.std.proofs.lemmas.Result.{err_from_is_err_and}
 use Rattle.core_report.specs.Opening.{OpenedIs}
-use Rattle.core_report.specs.Outcome.{images_read}
-use Rattle.core_report.specs.Reading.{contents}
 use Rattle.core_report.proofs.opened.open_process.Goals as goal
 
 pub returns-in_err-layouts : goal.returns-in_err-layouts
@@ -25,7 +23,7 @@ returns-in_err-process c =
       c.in_ok-layouts.layouts,
       says,
       subst (λ images. OpenedIs core images c.in_ok-layouts.layouts (Err c.in_err-process.field-0.0))
-          (c.in_ok-images.ensures ∙ ap (λ w. images_read w (contents c.args.files.images.items)) c.deref-2.ensures.value)
+          c.in_ok-images.ensures
           c.in_err-process.ensures,
     ))
 
@@ -37,6 +35,6 @@ returns c =
       c.in_ok-layouts.layouts,
       says,
       subst (λ images. OpenedIs core images c.in_ok-layouts.layouts (Ok c.in_ok-process.process))
-          (c.in_ok-images.ensures ∙ ap (λ w. images_read w (contents c.args.files.images.items)) c.deref-2.ensures.value)
+          c.in_ok-images.ensures
           c.in_ok-process.ensures,
     )
