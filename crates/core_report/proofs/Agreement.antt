@@ -1,6 +1,7 @@
 -- Two outcomes of a command over the same contents have one status, want of memory aside; and over contents with
--- which nothing is wrong no outcome is a cause.
+-- which nothing is wrong no outcome is a cause: of walks, reports, groups, objects and merged threads.
 use Rattle.std.proofs.Common.{◌≡◌, ◌≢◌, ◌⊎◌, ℕ, List, [], ◌∷◌, Result, Ok, Err, refl, sym, ap, subst, ◌∙◌, ◌<◌, Bool, arith, inl, inr, ⊎_elim, rules}
+use Rattle.std.proofs.lemmas.Bool.{cond-false}
 use Rattle.std.proofs.lemmas.Bool.Decides.{eqb_tells}
 use Rattle.py_fields.specs.declared.layout.Layout.{Layout}
 use Rattle.py_fields.specs.Samples.{sample_layout}
@@ -11,7 +12,7 @@ use Rattle.py_layout.specs.Lists.{AreSound, Clash}
 use Rattle.py_layout.specs.File.{IsRightFor}
 use Rattle.image_memory.specs.Images.{Pushed}
 use Rattle.py_stacks.specs.declared.config.Config.{Config}
-use Rattle.std.specs.Prelude.{Vec, map}
+use Rattle.std.specs.Prelude.{Vec, map, ◌==◌, if◌then◌else◌}
 use Rattle.std.specs.Global.{Global}
 use Rattle.py_stacks.specs.Frames.{Call}
 use Rattle.py_stacks.specs.Threads.{Trace, trace_of}
@@ -57,10 +58,20 @@ one_sound l s = record { each = search rules; apart = search rules }
 one_apart : (l : Layout) → NoneClash (l ∷ [])
 one_apart l = search rules
 
--- two outcomes have one status, unless memory ran out
+-- a slim core, and that what the stacks need has too many pieces, may both be right: both count as one
+abbrev pub settled : ℕ → ℕ
+settled n = if n == 8 then 0 else n
+
+pub settled-other : (n : ℕ) → n ≢ 8 → settled n ≡ n
+settled-other n ne = ⊎_elim (λ p. absurd (ne p.1)) (λ p. cond-false (n == 8) 0 n p.0) (eqb_tells n 8)
+
+abbrev pub outcome_class : Outcome → ℕ
+outcome_class outcome = settled (outcome_status outcome)
+
+-- two outcomes count as one, unless memory ran out
 abbrev pub Agree : (Outcome → Type 0) → Type 0
 Agree Right = (a b : Outcome) → Right a → Right b → outcome_status a ≢ 5 → outcome_status b ≢ 5
-    → outcome_status a ≡ outcome_status b
+    → outcome_class a ≡ outcome_class b
 
 -- no cause is right but want of memory, and those that a command has of its own
 abbrev pub NoCause : (Outcome → Type 0) → Type 0
@@ -77,14 +88,14 @@ pub record Excludes {T E : Type 0} (as_cause : E → Cause) (First : Result T E 
 -- what follows either of two values of the first step agrees
 abbrev AgreeAfter : {T E : Type 0} → (Result T E → Type 0) → (T → Outcome → Type 0) → Type 0
 AgreeAfter {T} {E} First Rest = (x y : T) → First (Ok x) → First (Ok y) → (a b : Outcome) → Rest x a → Rest y b
-    → outcome_status a ≢ 5 → outcome_status b ≢ 5 → outcome_status a ≡ outcome_status b
+    → outcome_status a ≢ 5 → outcome_status b ≢ 5 → outcome_class a ≡ outcome_class b
 
 pub then_agree : {T E : Type 0} (as_cause : E → Cause) (First : Result T E → Type 0) (Rest : T → Outcome → Type 0)
     → Excludes as_cause First → AgreeAfter First Rest → Agree (OutcomeThen as_cause First Rest)
 then_agree {T} {E} as_cause First Rest excludes agree a b one other na nb = ⊎_elim
     (λ p. ⊎_elim
-    (λ q. ap outcome_status p.1 ∙ excludes.alike p.0 q.0 p.2 q.2 (own a p.0 p.1 na) (own b q.0 q.1 nb)
-    ∙ sym (ap outcome_status q.1))
+    (λ q. ap outcome_class p.1 ∙ ap settled (excludes.alike p.0 q.0 p.2 q.2 (own a p.0 p.1 na) (own b q.0 q.1 nb))
+    ∙ sym (ap outcome_class q.1))
     (λ q. absurd (excludes.apart q.0 p.0 q.1 p.2 (own a p.0 p.1 na))) other)
     (λ p. ⊎_elim (λ q. absurd (excludes.apart p.0 q.0 p.1 q.2 (own b q.0 q.1 nb)))
     (λ q. agree p.0 q.0 p.1 q.1 a b p.2 q.2 na nb) other) one
@@ -116,17 +127,17 @@ ok_same a b is = cc
 err_same : (a b : LayoutError) → ◌≡◌ {A = Laid} (Err a) (Err b) → a ≡ b
 err_same a b is = cc
 
-ok_unique : (Says : Laid → Type 0) → Unique Says → (a b : List Layout) → Says (Ok a) → Says (Ok b) → a ≡ b
+pub ok_unique : (Says : Laid → Type 0) → Unique Says → (a b : List Layout) → Says (Ok a) → Says (Ok b) → a ≡ b
 ok_unique Says unique a b one other =
     ⊎_elim (ok_same a b) (λ is. absurd (ok_err a layout.OutOfMemory is))
     (unique (Ok a) (Ok b) one other (ok_err b layout.OutOfMemory))
 
-flaw_apart : (Says : Laid → Type 0) → Unique Says → (a : List Layout) (e : LayoutError) → e ≢ layout.OutOfMemory
+pub flaw_apart : (Says : Laid → Type 0) → Unique Says → (a : List Layout) (e : LayoutError) → e ≢ layout.OutOfMemory
     → Says (Ok a) → Says (Err e) → ⊥
 flaw_apart Says unique a e ne one other =
     ⊎_elim (ok_err a e) (ok_err a layout.OutOfMemory) (unique (Ok a) (Err e) one other (λ is. ne (err_same e layout.OutOfMemory is)))
 
-flaw_status : (e : LayoutError) → layouts_status e ≢ 5 → (layouts_status e ≡ 6) × (e ≢ layout.OutOfMemory)
+pub flaw_status : (e : LayoutError) → layouts_status e ≢ 5 → (layouts_status e ≡ 6) × (e ≢ layout.OutOfMemory)
 flaw_status layout.NotToml ne = (refl, λ is. cc)
 flaw_status (layout.Shape table key) ne = (refl, λ is. cc)
 flaw_status (layout.Unsound table) ne = (refl, λ is. cc)
@@ -168,7 +179,7 @@ source_apart (file name) (text ∷ more ∷ rest) list says = absurd says
 
 -- ---- the work over a core
 
-core_one : (e : CoreError) → core_status e ≢ 5 → (core_status e ≡ 1) × (e ≢ core.OutOfMemory)
+pub core_one : (e : CoreError) → core_status e ≢ 5 → (core_status e ≡ 1) × (e ≢ core.OutOfMemory)
 core_one core.NotElf64 ne = (refl, λ is. cc)
 core_one core.BadHeader ne = (refl, λ is. cc)
 core_one core.NoNotes ne = (refl, λ is. cc)
@@ -198,13 +209,13 @@ core_exclude First apart = record {
   alike = λ e f one other ne nf. (core_one e ne).0 ∙ sym (core_one f nf).0;
 }
 
-cause_is : (a b : Cause) → ◌≡◌ {A = Outcome} (Err a) (Err b) → a ≡ b
+pub cause_is : (a b : Cause) → ◌≡◌ {A = Outcome} (Err a) (Err b) → a ≡ b
 cause_is a b is = cc
 
-text_agree : (s t : List ℕ) (a b : Outcome) → a ≡ Ok s → b ≡ Ok t → outcome_status a ≡ outcome_status b
-text_agree s t a b one other = ap outcome_status one ∙ sym (ap outcome_status other)
+pub text_agree : (s t : List ℕ) (a b : Outcome) → a ≡ Ok s → b ≡ Ok t → outcome_class a ≡ outcome_class b
+text_agree s t a b one other = ap outcome_class one ∙ sym (ap outcome_class other)
 
-text_sound : (text : List ℕ) → NoCause (λ outcome. outcome ≡ Ok text)
+pub text_sound : (text : List ℕ) → NoCause (λ outcome. outcome ≡ Ok text)
 text_sound text cause ne is = absurd (cc is)
 
 -- ---- walks
@@ -227,7 +238,7 @@ walked_agree w bytes list apart = then_agree (λ error. Core error) (WalkAnswers
     (core_exclude (WalkAnswers w bytes list) (walk_apart w bytes list apart))
     (λ s t one other a b p q na nb. text_agree _ _ a b p q)
 
-walk_agree : (w : Walk) (contents : List (List ℕ)) → Agree (IsWalkOutcome w contents)
+pub walk_agree : (w : Walk) (contents : List (List ℕ)) → Agree (IsWalkOutcome w contents)
 walk_agree w [] a b one other na nb = absurd one
 walk_agree w (bytes ∷ rest) a b one other na nb =
     layouts_agree (SourceSays w.layouts rest) (IsWalkedBy w bytes) (source_unique w.layouts rest)
@@ -239,7 +250,7 @@ walked_sound w bytes list apart good = then_sound (λ error. Core error) (WalkAn
     (λ e error ne. walk_complete bytes list w.version w.addresses apart good e error (lost_kept e (core_one e ne).1))
     (λ traces found. text_sound (walk_text w.version traces.items))
 
-walk_sound : (w : Walk) (contents : List (List ℕ)) → IsFaultlessWalk w contents → NoCause (IsWalkOutcome w contents)
+pub walk_sound : (w : Walk) (contents : List (List ℕ)) → IsFaultlessWalk w contents → NoCause (IsWalkOutcome w contents)
 walk_sound w [] good cause ne is = absurd good
 walk_sound w (bytes ∷ rest) (list, says, good) cause ne is =
     layouts_sound (SourceSays w.layouts rest) (IsWalkedBy w bytes) (source_unique w.layouts rest) list says
@@ -250,7 +261,7 @@ walk_sound w (bytes ∷ rest) (list, says, good) cause ne is =
 err_of : (r : Reported) (e : CoreError) → ◌≡◌ {A = Result Reported CoreError} (Ok r) (Err e) → ⊥
 err_of r e is = cc
 
-err_kept : (e : CoreError) → e ≢ core.OutOfMemory → ◌≡◌ {A = Result Reported CoreError} (Err e) (Err core.OutOfMemory) → ⊥
+pub err_kept : (e : CoreError) → e ≢ core.OutOfMemory → ◌≡◌ {A = Result Reported CoreError} (Err e) (Err core.OutOfMemory) → ⊥
 err_kept e ne is = ne (cc)
 
 -- a report and a cause aren't both right
@@ -265,10 +276,10 @@ dumped_agree d bytes images list apart = then_agree (λ error. Core error) (Repo
     (core_exclude (ReportAnswers d.config bytes images list) (report_apart d.config bytes images list apart))
     (λ s t one other a b p q na nb. text_agree _ _ a b p q)
 
-text_apart : (text : List ℕ) (list : List Layout) → IsRightFor text (Ok list) → NoneClash list
+pub text_apart : (text : List ℕ) (list : List Layout) → IsRightFor text (Ok list) → NoneClash list
 text_apart text list says = says.sound.apart
 
-dump_agree : (d : Dump) (contents : List (List ℕ)) → Agree (IsDumpOutcome d contents)
+pub dump_agree : (d : Dump) (contents : List (List ℕ)) → Agree (IsDumpOutcome d contents)
 dump_agree d [] a b one other na nb = absurd one
 dump_agree d (bytes ∷ []) a b one other na nb = absurd one
 dump_agree d (bytes ∷ text ∷ images) a b one other na nb =
@@ -281,7 +292,7 @@ dumped_sound d bytes images list apart good = then_sound (λ error. Core error) 
     (λ e error ne. report_complete bytes images list d.config apart good e error (err_kept e (core_one e ne).1))
     (λ r found. text_sound (shown_report d r))
 
-dump_sound : (d : Dump) (contents : List (List ℕ)) → IsFaultlessDump d contents → NoCause (IsDumpOutcome d contents)
+pub dump_sound : (d : Dump) (contents : List (List ℕ)) → IsFaultlessDump d contents → NoCause (IsDumpOutcome d contents)
 dump_sound d [] good cause ne is = absurd good
 dump_sound d (bytes ∷ []) good cause ne is = absurd good
 dump_sound d (bytes ∷ text ∷ images) (list, says, good) cause ne is =
@@ -293,12 +304,12 @@ dump_sound d (bytes ∷ text ∷ images) (list, says, good) cause ne is =
 triaged_agree : (t : Triage) (contents : List (List ℕ)) (list : List Layout) → Agree (IsTriagedBy t contents list)
 triaged_agree t contents list a b (s, one, is) (u, other, same) na nb = text_agree s u a b is same
 
-triage_agree : (t : Triage) (contents : List (List ℕ)) → Agree (IsTriageOutcome t contents)
+pub triage_agree : (t : Triage) (contents : List (List ℕ)) → Agree (IsTriageOutcome t contents)
 triage_agree t [] a b one other na nb = absurd one
 triage_agree t (text ∷ contents) a b one other na nb =
     layouts_agree (IsRightFor text) (IsTriagedBy t contents) (right-unique text) (λ list says. triaged_agree t contents list) a b one other na nb
 
-triage_sound : (t : Triage) (contents : List (List ℕ)) → IsFaultlessTriage t contents → NoCause (IsTriageOutcome t contents)
+pub triage_sound : (t : Triage) (contents : List (List ℕ)) → IsFaultlessTriage t contents → NoCause (IsTriageOutcome t contents)
 triage_sound t [] good cause ne is = absurd good
 triage_sound t (text ∷ contents) (list, says) cause ne is =
     layouts_sound (IsRightFor text) (IsTriagedBy t contents) (right-unique text) list says (λ c n p. text_sound p.0 c n p.2) cause ne is
@@ -330,7 +341,7 @@ from_agree s thread = then_agree (λ error. Reach error) (LeadsTo s thread) (λ 
     (led_exclude s thread) (λ x y one other a b p q na nb. text_agree _ _ a b p q)
 
 in_agree : (index : ℕ) (s : Stacked) → Agree (IsReachedIn index s)
-in_agree index s a b (inl one) (inl other) na nb = ap outcome_status one.1 ∙ sym (ap outcome_status other.1)
+in_agree index s a b (inl one) (inl other) na nb = ap outcome_class one.1 ∙ sym (ap outcome_class other.1)
 in_agree index s a b (inl one) (inr other) na nb = absurd (none-some other.0 (sym one.0 ∙ other.1))
 in_agree index s a b (inr one) (inl other) na nb = absurd (none-some one.0 (sym other.0 ∙ one.1))
 in_agree index s a b (inr one) (inr other) na nb =
@@ -342,7 +353,7 @@ reached_agree r bytes images list apart = then_agree (λ error. Core error) (Sta
     (λ s t one other a b p q na nb. in_agree r.index s a b p (subst (λ u. IsReachedIn r.index u b)
     (ok_is t s (stacked_agree bytes images list locals_asked (chooses_once list apart) (Ok t) (Ok s) other one (ok_kept t) (ok_kept s))) q) na nb)
 
-reach_agree : (r : AsksReach) (contents : List (List ℕ)) → Agree (IsReachOutcome r contents)
+pub reach_agree : (r : AsksReach) (contents : List (List ℕ)) → Agree (IsReachOutcome r contents)
 reach_agree r [] a b one other na nb = absurd one
 reach_agree r (bytes ∷ []) a b one other na nb = absurd one
 reach_agree r (bytes ∷ text ∷ images) a b one other na nb =
@@ -363,7 +374,7 @@ reached_sound r bytes images list apart good = then_sound (λ error. Core error)
     (λ e error ne. report_complete bytes images list locals_asked apart good e (unstacked bytes images list locals_asked e error) (err_kept e (core_one e ne).1))
     (λ s found. in_sound r.index s)
 
-reach_sound : (r : AsksReach) (contents : List (List ℕ)) → IsFaultlessReach r contents → NoCause (IsReachOutcome r contents)
+pub reach_sound : (r : AsksReach) (contents : List (List ℕ)) → IsFaultlessReach r contents → NoCause (IsReachOutcome r contents)
 reach_sound r [] good cause ne is = absurd good
 reach_sound r (bytes ∷ []) good cause ne is = absurd good
 reach_sound r (bytes ∷ text ∷ images) (list, says, good) cause ne is =
@@ -380,7 +391,7 @@ merge_exclude core images python thread text = record {
       ap merge_status (merge_err_is e f (core_merge_once core images python thread.frames text (Err e) (Err f) one other));
 }
 
-merged_text_agree : (s t : List Call) (a b : Outcome) → IsMergedText s a → IsMergedText t b → outcome_status a ≡ outcome_status b
+merged_text_agree : (s t : List Call) (a b : Outcome) → IsMergedText s a → IsMergedText t b → outcome_class a ≡ outcome_class b
 merged_text_agree s t a b one other = text_agree _ _ a b one.2 other.2
 
 merging_agree : (core : List ℕ) (images : Pushed) (python : ℕ → Bool) (thread : Trace) (text : List ℕ)
@@ -397,7 +408,7 @@ merged_from_agree core images text thread a b (p, l, are, one) (q, k, also, othe
     (subst (λ y. OutcomeThen (λ error. Merge error) (CoreMergeIs core images (python_in q y) thread.frames text) IsMergedText b) (sym both.1) other)) na nb
 
 merged_in_agree : (index : ℕ) (core : List ℕ) (images : Pushed) (text : List ℕ) (s : Stacked) → Agree (IsMergedIn index core images text s)
-merged_in_agree index core images text s a b (inl one) (inl other) na nb = ap outcome_status one.1 ∙ sym (ap outcome_status other.1)
+merged_in_agree index core images text s a b (inl one) (inl other) na nb = ap outcome_class one.1 ∙ sym (ap outcome_class other.1)
 merged_in_agree index core images text s a b (inl one) (inr other) na nb = absurd (none-some other.0 (sym one.0 ∙ other.1))
 merged_in_agree index core images text s a b (inr one) (inl other) na nb = absurd (none-some one.0 (sym other.0 ∙ one.1))
 merged_in_agree index core images text s a b (inr one) (inr other) na nb =
@@ -410,7 +421,7 @@ merged_agree m core images text list apart = then_agree (λ error. Core error) (
     (λ s t one other a b p q na nb. merged_in_agree m.index core images text s a b p (subst (λ u. IsMergedIn m.index core images text u b)
     (ok_is t s (stacked_agree core images list default_config (chooses_once list apart) (Ok t) (Ok s) other one (ok_kept t) (ok_kept s))) q) na nb)
 
-merge_agree : (m : AsksMerge) (contents : List (List ℕ)) → Agree (IsMergeOutcome m contents)
+pub merge_agree : (m : AsksMerge) (contents : List (List ℕ)) → Agree (IsMergeOutcome m contents)
 merge_agree m [] a b one other na nb = absurd one
 merge_agree m (core ∷ []) a b one other na nb = absurd one
 merge_agree m (core ∷ layouts ∷ rest) a b (text, is, one) (more, also, other) na nb =
@@ -438,69 +449,9 @@ merged_sound m core images text list apart good = then_sound (λ error. Core err
     (λ e error ne. report_complete core images list default_config apart good e (unstacked core images list default_config e error) (err_kept e (core_one e ne).1))
     (λ s found. merged_in_sound m.index core images text s)
 
-merge_sound : (m : AsksMerge) (contents : List (List ℕ)) → IsFaultlessMerge m contents → NoCause (IsMergeOutcome m contents)
+pub merge_sound : (m : AsksMerge) (contents : List (List ℕ)) → IsFaultlessMerge m contents → NoCause (IsMergeOutcome m contents)
 merge_sound m [] good cause ne is = absurd good
 merge_sound m (core ∷ []) good cause ne is = absurd good
 merge_sound m (core ∷ layouts ∷ rest) (list, says, good) cause ne (text, last, is) =
     layouts_sound (IsRightFor layouts) (IsMergedBy m core (images_read m.images rest) text) (right-unique layouts) list says
     (merged_sound m core (images_read m.images rest) text list (text_apart layouts list says) good) cause ne is
-
--- ---- commands
-
-pub outcomes_agree : (command : Command) (contents : List (List ℕ)) → Agree (IsOutcome command contents)
-outcomes_agree (walk w) contents a b one other na nb = walk_agree w contents a b one other na nb
-outcomes_agree (dump d) contents a b one other na nb = dump_agree d contents a b one other na nb
-outcomes_agree (triage t) contents a b one other na nb = triage_agree t contents a b one other na nb
-outcomes_agree (reach r) contents a b one other na nb = reach_agree r contents a b one other na nb
-outcomes_agree (merge m) contents a b one other na nb = merge_agree m contents a b one other na nb
-
-pub no_cause : (command : Command) (contents : List (List ℕ)) → IsFaultless command contents → NoCause (IsOutcome command contents)
-no_cause (walk w) contents good = walk_sound w contents good
-no_cause (dump d) contents good = dump_sound d contents good
-no_cause (triage t) contents good = triage_sound t contents good
-no_cause (reach r) contents good = reach_sound r contents good
-no_cause (merge m) contents good = merge_sound m contents good
-
--- ---- a cause has none of the statuses of the other ends
-
-pub record IsOwn (n : ℕ) : Type 0 where
-  pub not_0 : n ≢ 0
-  pub not_2 : n ≢ 2
-  pub not_3 : n ≢ 3
-  pub not_4 : n ≢ 4
-
-own : (n : ℕ) → (n ≡ 1) ⊎ (4 < n) → IsOwn n
-own n h = record {
-  not_0 = λ is. omega (arith, h, is);
-  not_2 = λ is. omega (arith, h, is);
-  not_3 = λ is. omega (arith, h, is);
-  not_4 = λ is. omega (arith, h, is);
-}
-
-pub cases_five : (n : ℕ) → (n ≡ 5) ⊎ (n ≢ 5)
-cases_five n = ⊎_elim (λ p. inl p.1) (λ p. inr p.1) (eqb_tells n 5)
-
-core_own : (e : CoreError) → IsOwn (core_status e)
-core_own e = own (core_status e)
-    (⊎_elim (λ five. inr (omega (arith, five))) (λ ne. inl (core_one e ne).0) (cases_five (core_status e)))
-
-layouts_own : (e : LayoutError) → IsOwn (layouts_status e)
-layouts_own e = own (layouts_status e) (inr
-    (⊎_elim (λ five. omega (arith, five)) (λ ne. omega (arith, (flaw_status e ne).0)) (cases_five (layouts_status e))))
-
-reach_status_own : (e : ReachError) → IsOwn (reach_status e)
-reach_status_own reaching.ReachLimit = own 9 (inr (omega arith))
-reach_status_own reaching.OutOfMemory = own 5 (inr (omega arith))
-
-merge_status_own : (e : CoreMergeError) → IsOwn (merge_status e)
-merge_status_own merging.OutOfMemory = own 5 (inr (omega arith))
-merge_status_own _ = own 7 (inr (omega arith))
-
-pub cause_own : (cause : Cause) → IsOwn (cause_status cause)
-cause_own (Core e) = core_own e
-cause_own (Layouts e) = layouts_own e
-cause_own (Reach e) = reach_status_own e
-cause_own (ReachIndex index) = own 9 (inr (omega arith))
-cause_own (Merge e) = merge_status_own e
-cause_own (MergeIndex index) = own 7 (inr (omega arith))
-cause_own OutOfMemory = own 5 (inr (omega arith))

@@ -1,12 +1,14 @@
 pub mod Agreement
 pub mod Appending
 pub mod Binaries
+pub mod Commands
 pub mod Ends
 pub mod Grouping
 pub mod Headline
 pub mod Judging
 pub mod Leading
 pub mod Opening
+pub mod Processes
 pub mod Stacked
 pub mod Threads
 pub mod Turns

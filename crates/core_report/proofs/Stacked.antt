@@ -34,7 +34,7 @@ module _ (bytes : List ℕ) (images : Pushed) (layouts : List Layout) (config : 
   -- ---- the causes are a report's
 
   -- a cause of the first step, or of what follows its value
-  step : {T U V : Type 0} (First : Result T CoreError → Type 0) (Rest : T → Result U CoreError → Type 0) (Other : T → Result V CoreError → Type 0) (e : CoreError)
+  pub step : {T U V : Type 0} (First : Result T CoreError → Type 0) (Rest : T → Result U CoreError → Type 0) (Other : T → Result V CoreError → Type 0) (e : CoreError)
       → ((x : T) → Rest x (Err e) → Other x (Err e)) → Then First Rest (Err e) → Then First Other (Err e)
   step {T} {U} {V} First Rest Other e rest (inl (error, first, is)) = inl (error, first, by (err_is e error is))
     where

@@ -17,7 +17,7 @@ use Rattle.core_report.specs.declared.report_files.ReportFiles.{ReportFiles}
 use Rattle.core_report.specs.Outcome.{IsOutcome, SourceSays, TextSays, cause_status}
 use Rattle.core_report.specs.Run.{Comes, ComesTo, HasAll, HasFirst, HasImages, HasMergeFiles, HasReportFiles, HasWalkFiles, IsReadTrouble, IsTroubled}
 use Rattle.core_words.specs.Dump.{Dump}
-use Rattle.core_words.specs.Words.{Command, LayoutSource, Merge, Reach, Triage, Walk, dump, merge, reach, triage, walk, kept_files, later_files, source_files, sample, file as named}
+use Rattle.core_words.specs.Words.{Command, LayoutSource, Locate, Merge, Reach, Slim, Triage, Walk, dump, locate, merge, reach, slim, triage, walk, kept_files, later_files, source_files, sample, file as named}
 use Rattle.core_report.specs.Reading.{AsksImages, AsksReport, Stops, StopsTriage, IsNext, IsAll, AreFiles, IsRead, contents, merge_contents, report_contents, text_contents, walk_contents}
 
 -- one file more
@@ -48,6 +48,8 @@ goes_on (dump d) contents lt stops = stops
 goes_on (triage t) contents lt stops = triage_goes_on t contents lt stops
 goes_on (reach r) contents lt stops = stops
 goes_on (merge m) contents lt stops = stops
+goes_on (locate l) contents lt stops = stops
+goes_on (slim s) contents lt stops = stops
 
 get-front : (xs ys : List (List ℕ)) (k : ℕ) (x : List ℕ) → slice_get xs k ≡ Some x → slice_get (xs ++ ys) k ≡ Some x
 get-front [] ys k x is = absurd (none-some x is)
@@ -204,34 +206,62 @@ pub report_images : (command : Command) (core layouts : List ℕ) (images : List
 report_images command core layouts images bytes text asks =
     record { front = core ∷ layouts ∷ []; rest = asks.rest; asked = asks.asked; count = refl }
 
-pub dump_asks : (d : Dump) (core layouts : List ℕ) (images : List (List ℕ × List ℕ)) → core ≡ d.core → layouts ≡ d.layouts → images ≡ d.images
-    → AsksReport (dump d) core layouts images
-dump_asks d core layouts images one two three = record {
+abbrev Named : Type 0
+Named = List (List ℕ × List ℕ)
+
+-- a command that keeps the files of a report alone asks for them
+report_asks : (command : Command) (c l : List ℕ) (pairs : Named) → kept_files command ≡ c ∷ l ∷ map (λ image. image.1) pairs
+    → (core layouts : List ℕ) (images : Named) → core ≡ c → layouts ≡ l → images ≡ pairs → AsksReport command core layouts images
+report_asks command c l pairs kept core layouts images one two three = record {
   rest = [];
-  asked = (λ i. sym one i ∷ sym two i ∷ map (λ (image : List ℕ × List ℕ). image.1) (sym three i)) ∙ ap (λ m. core ∷ layouts ∷ m) (sym (append-nil (map (λ (image : List ℕ × List ℕ). image.1) images)));
+  asked = kept ∙ (λ i. sym one i ∷ sym two i ∷ map (λ (image : List ℕ × List ℕ). image.1) (sym three i))
+      ∙ ap (λ m. core ∷ layouts ∷ m) (sym (append-nil (map (λ (image : List ℕ × List ℕ). image.1) images)));
 }
 
-pub reach_asks : (r : Reach) (core layouts : List ℕ) (images : List (List ℕ × List ℕ)) → core ≡ r.core → layouts ≡ r.layouts → images ≡ r.images
+pub dump_asks : (d : Dump) (core layouts : List ℕ) (images : Named) → core ≡ d.core → layouts ≡ d.layouts → images ≡ d.images
+    → AsksReport (dump d) core layouts images
+dump_asks d = report_asks (dump d) d.core d.layouts d.images refl
+
+pub reach_asks : (r : Reach) (core layouts : List ℕ) (images : Named) → core ≡ r.core → layouts ≡ r.layouts → images ≡ r.images
     → AsksReport (reach r) core layouts images
-reach_asks r core layouts images one two three = record {
-  rest = [];
-  asked = (λ i. sym one i ∷ sym two i ∷ map (λ (image : List ℕ × List ℕ). image.1) (sym three i)) ∙ ap (λ m. core ∷ layouts ∷ m) (sym (append-nil (map (λ (image : List ℕ × List ℕ). image.1) images)));
-}
+reach_asks r = report_asks (reach r) r.core r.layouts r.images refl
+
+pub locate_asks : (l : Locate) (core layouts : List ℕ) (images : Named) → core ≡ l.core → layouts ≡ l.layouts → images ≡ l.images
+    → AsksReport (locate l) core layouts images
+locate_asks l = report_asks (locate l) l.core l.layouts l.images refl
+
+pub slim_asks : (s : Slim) (core layouts : List ℕ) (images : Named) → core ≡ s.core → layouts ≡ s.layouts → images ≡ s.images
+    → AsksReport (slim s) core layouts images
+slim_asks s = report_asks (slim s) s.core s.layouts s.images refl
 
 report_count : (files : ReportFiles) (images : List (List ℕ × List ℕ)) → length files.images.items ≡ length images
     → length (report_contents files) ≡ suc (suc (length (map (λ (image : List ℕ × List ℕ). image.1) images)))
 report_count files images count =
     omega (arith, length-map files.images.items (λ (f : Vec ℕ Global). f.items), count, length-map images (λ (image : List ℕ × List ℕ). image.1))
 
-pub dump_has : (old new : FilesSeen) (d : Dump) (files : ReportFiles) (images : List (List ℕ × List ℕ)) → images ≡ d.images
-    → HasReportFiles old new (dump d) (length images) (Ok files) → HasAll old new (dump d) (report_contents files)
-dump_has old new d files images are has =
-    has_all old new (dump d) (report_contents files) refl has.0.read (report_count files d.images (has.1 ∙ ap length are)) has.0.failed
+-- and what it reads is all
+report_has : (command : Command) (c l : List ℕ) (pairs : Named) → kept_files command ≡ c ∷ l ∷ map (λ image. image.1) pairs
+    → later_files command ≡ [] → (old new : FilesSeen) (files : ReportFiles) (images : Named) → images ≡ pairs
+    → HasReportFiles old new command (length images) (Ok files) → HasAll old new command (report_contents files)
+report_has command c l pairs kept later old new files images are has =
+    has_all old new command (report_contents files) later has.0.read
+    (report_count files pairs (has.1 ∙ ap length are) ∙ sym (ap length kept)) has.0.failed
 
-pub reach_has : (old new : FilesSeen) (r : Reach) (files : ReportFiles) (images : List (List ℕ × List ℕ)) → images ≡ r.images
+pub dump_has : (old new : FilesSeen) (d : Dump) (files : ReportFiles) (images : Named) → images ≡ d.images
+    → HasReportFiles old new (dump d) (length images) (Ok files) → HasAll old new (dump d) (report_contents files)
+dump_has old new d = report_has (dump d) d.core d.layouts d.images refl refl old new
+
+pub reach_has : (old new : FilesSeen) (r : Reach) (files : ReportFiles) (images : Named) → images ≡ r.images
     → HasReportFiles old new (reach r) (length images) (Ok files) → HasAll old new (reach r) (report_contents files)
-reach_has old new r files images are has =
-    has_all old new (reach r) (report_contents files) refl has.0.read (report_count files r.images (has.1 ∙ ap length are)) has.0.failed
+reach_has old new r = report_has (reach r) r.core r.layouts r.images refl refl old new
+
+pub locate_has : (old new : FilesSeen) (l : Locate) (files : ReportFiles) (images : Named) → images ≡ l.images
+    → HasReportFiles old new (locate l) (length images) (Ok files) → HasAll old new (locate l) (report_contents files)
+locate_has old new l = report_has (locate l) l.core l.layouts l.images refl refl old new
+
+pub slim_has : (old new : FilesSeen) (s : Slim) (files : ReportFiles) (images : Named) → images ≡ s.images
+    → HasReportFiles old new (slim s) (length images) (Ok files) → HasAll old new (slim s) (report_contents files)
+slim_has old new s = report_has (slim s) s.core s.layouts s.images refl refl old new
 
 -- a merge asks for the file of its addresses last
 pub merge_asks : (m : Merge) (core layouts : List ℕ) (images : List (List ℕ × List ℕ)) → core ≡ m.core → layouts ≡ m.layouts → images ≡ m.images

@@ -3,6 +3,7 @@ pub mod Grouped
 pub mod Judging
 pub mod Stacked
 pub mod Stacks
+pub mod Opening
 pub mod Outcome
 pub mod Lines
 pub mod Merged

@@ -14,7 +14,7 @@ use Rattle.object_reach.specs.declared.reached.ReachError.{ReachError}
 use Rattle.object_reach.specs.declared.reached.ReachError.TheVariants as reach
 use Rattle.core_texts.specs.Parts.{address_text}
 use Rattle.core_report.specs.declared.cause.Cause.{Cause}
-use Rattle.core_report.specs.declared.cause.Cause.TheVariants.{Core, Layouts, Merge, MergeIndex, Reach, ReachIndex, OutOfMemory}
+use Rattle.core_report.specs.declared.cause.Cause.TheVariants.{Core, Layouts, Merge, MergeIndex, Reach, ReachIndex, TooManyPieces, OutOfMemory}
 
 -- what so many bytes at this address are, after these words
 abbrev pub range_parts : List ℕ → ℕ → ℕ → List (List ℕ)
@@ -68,6 +68,7 @@ cause_parts (Reach error) = reach_parts error
 cause_parts (ReachIndex index) = codes "no such thread: " ∷ decimal index ∷ []
 cause_parts (Merge error) = merge_parts error
 cause_parts (MergeIndex index) = codes "cannot merge" ∷ []
+cause_parts (TooManyPieces count) = codes "too many pieces: " ∷ decimal count ∷ []
 cause_parts OutOfMemory = codes "out of memory" ∷ []
 
 abbrev pub file_parts : List ℕ → FileFault → List (List ℕ)

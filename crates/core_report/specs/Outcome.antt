@@ -11,7 +11,7 @@ use Rattle.py_stacks.specs.declared.trace.StackTrace.{StackTrace}
 use Rattle.py_process.specs.declared.core_error.CoreError.{CoreError}
 use Rattle.py_process.specs.declared.core_error.CoreError.TheVariants as core
 use Rattle.core_words.specs.Dump.{Dump}
-use Rattle.core_words.specs.Words.{Command, LayoutSource, Merge as AsksMerge, Reach as AsksReach, Triage, Walk, dump, file, merge, reach, sample, triage, walk}
+use Rattle.core_words.specs.Words.{Command, LayoutSource, Locate as AsksLocate, Merge as AsksMerge, Reach as AsksReach, Slim as AsksSlim, Triage, Walk, dump, file, locate, merge, reach, sample, slim, triage, walk}
 use Rattle.core_texts.specs.Text.{frames_text, report_text, walk_text}
 use Rattle.core_texts.specs.Tree.{report_json}
 use Rattle.image_memory.specs.Images.{Pushed}
@@ -28,14 +28,17 @@ use Rattle.py_process.specs.Facts.{Facts}
 use Rattle.py_stacks.specs.Asking.{default_config}
 use Rattle.py_stacks.specs.Frames.{Call}
 use Rattle.py_stacks.specs.declared.trace.Frame.{Frame}
+use Rattle.core_stacks.specs.Opened.{Opened}
 use Rattle.core_stacks.specs.Seen.{AreBinaries}
+use Rattle.core_stacks.specs.Slimmed.{SlimmedSays}
 use Rattle.object_reach.specs.declared.reached.ReachError.{ReachError}
 use Rattle.object_reach.specs.declared.reached.ReachError.TheVariants as reaching
 use Rattle.object_reach.specs.declared.reached.ReachObject.{ReachObject}
 use Rattle.core_report.specs.declared.cause.Cause.{Cause}
-use Rattle.core_report.specs.declared.cause.Cause.TheVariants.{Core, Layouts, Merge, MergeIndex, Reach, ReachIndex, OutOfMemory}
+use Rattle.core_report.specs.declared.cause.Cause.TheVariants.{Core, Layouts, Merge, MergeIndex, Reach, ReachIndex, TooManyPieces, OutOfMemory}
 use Rattle.core_report.specs.Grouped.{IsGroupedText}
 use Rattle.core_report.specs.Merged.{python_in}
+use Rattle.core_report.specs.Opening.{OpenedIs, level_asked, locate_text, slim_cause}
 use Rattle.core_report.specs.Stacked.{LeadsTo, Stacked, StackedIs, locals_asked, reach_text}
 
 -- a command's text, or the cause why there is none
@@ -178,6 +181,32 @@ IsMergeOutcome m (core ∷ layouts ∷ rest) outcome = (text : List ℕ) × (dro
     (IsMergedBy m core (images_read m.images rest) text) outcome
 IsMergeOutcome m _ outcome = ⊥
 
+-- the process by the contents of the files of a report, or the cause why nothing is found of it: the layouts are judged
+-- first
+abbrev pub OpensBy : List (List ℕ × List ℕ) → List (List ℕ) → Result Opened Cause → Type 0
+OpensBy named (core ∷ text ∷ images) (Ok o) = (layouts : List Layout) × IsRightFor text (Ok layouts)
+    × OpenedIs core (images_read named images) layouts (Ok o)
+OpensBy named (core ∷ text ∷ images) (Err (Layouts error)) = IsRightFor text (Err error)
+OpensBy named (core ∷ text ∷ images) (Err (Core error)) = (layouts : List Layout) × IsRightFor text (Ok layouts)
+    × OpenedIs core (images_read named images) layouts (Err error)
+OpensBy named _ _ = ⊥
+
+-- the version of Python that ran, and where its interpreter is
+abbrev pub IsLocated : Opened → Outcome → Type 0
+IsLocated o outcome = outcome ≡ Ok (locate_text o.finding.version o.finding.addresses)
+
+abbrev pub IsLocateOutcome : AsksLocate → List (List ℕ) → Outcome → Type 0
+IsLocateOutcome l contents outcome = OutcomeThen (λ cause. cause) (OpensBy l.images contents) IsLocated outcome
+
+-- the bytes of a slim core for these stacks, or why there is none
+abbrev pub IsSlimmedFrom : ℕ → Opened → Outcome → Type 0
+IsSlimmedFrom level o outcome =
+    OutcomeThen slim_cause (SlimmedSays o (level_asked level)) (λ bytes text. text ≡ Ok bytes) outcome
+
+abbrev pub IsSlimOutcome : AsksSlim → List (List ℕ) → Outcome → Type 0
+IsSlimOutcome s contents outcome =
+    OutcomeThen (λ cause. cause) (OpensBy s.images contents) (IsSlimmedFrom s.level) outcome
+
 -- what a command comes to over the contents of all that it asks for
 abbrev pub IsOutcome : Command → List (List ℕ) → Outcome → Type 0
 IsOutcome (walk w) contents outcome = IsWalkOutcome w contents outcome
@@ -185,6 +214,8 @@ IsOutcome (dump d) contents outcome = IsDumpOutcome d contents outcome
 IsOutcome (triage t) contents outcome = IsTriageOutcome t contents outcome
 IsOutcome (reach r) contents outcome = IsReachOutcome r contents outcome
 IsOutcome (merge m) contents outcome = IsMergeOutcome m contents outcome
+IsOutcome (locate l) contents outcome = IsLocateOutcome l contents outcome
+IsOutcome (slim s) contents outcome = IsSlimOutcome s contents outcome
 
 -- ---- contents with which nothing is wrong
 
@@ -212,12 +243,20 @@ IsFaultlessMerge m (core ∷ text ∷ rest) = (layouts : List Layout) × IsRight
     × IsReadable core (images_read m.images rest) layouts default_config
 IsFaultlessMerge m _ = ⊥
 
+-- the stacks of the process of a core can be read, as they are asked for
+abbrev pub IsFaultlessProcess : List (List ℕ × List ℕ) → Config → List (List ℕ) → Type 0
+IsFaultlessProcess named config (core ∷ text ∷ images) = (layouts : List Layout) × IsRightFor text (Ok layouts)
+    × IsReadable core (images_read named images) layouts config
+IsFaultlessProcess named config _ = ⊥
+
 abbrev pub IsFaultless : Command → List (List ℕ) → Type 0
 IsFaultless (walk w) contents = IsFaultlessWalk w contents
 IsFaultless (dump d) contents = IsFaultlessDump d contents
 IsFaultless (triage t) contents = IsFaultlessTriage t contents
 IsFaultless (reach r) contents = IsFaultlessReach r contents
 IsFaultless (merge m) contents = IsFaultlessMerge m contents
+IsFaultless (locate l) contents = IsFaultlessProcess l.images default_config contents
+IsFaultless (slim s) contents = IsFaultlessProcess s.images (level_asked s.level) contents
 
 -- the causes that a command may come to though nothing is wrong with its files
 abbrev pub IsOwnCause : Cause → Type 0
@@ -225,6 +264,7 @@ IsOwnCause (Reach error) = ⊤
 IsOwnCause (ReachIndex index) = ⊤
 IsOwnCause (Merge error) = ⊤
 IsOwnCause (MergeIndex index) = ⊤
+IsOwnCause (TooManyPieces count) = ⊤
 IsOwnCause _ = ⊥
 
 -- ---- statuses
@@ -253,6 +293,7 @@ cause_status (Reach error) = reach_status error
 cause_status (ReachIndex index) = 9
 cause_status (Merge error) = merge_status error
 cause_status (MergeIndex index) = 7
+cause_status (TooManyPieces count) = 8
 cause_status OutOfMemory = 5
 
 abbrev pub outcome_status : Outcome → ℕ
@@ -263,6 +304,11 @@ outcome_status (Err cause) = cause_status cause
 abbrev pub IsAnswer : (Outcome → Type 0) → Result (Vec ℕ Global) Cause → Type 0
 IsAnswer Right (Ok text) = Right (Ok text.items)
 IsAnswer Right (Err cause) = cause_status cause ≢ 5 → Right (Err cause)
+
+-- the process is opened by these contents, or not by a cause, unless memory ran out
+abbrev pub IsOpening : List (List ℕ × List ℕ) → List (List ℕ) → Result Opened Cause → Type 0
+IsOpening named contents (Ok o) = OpensBy named contents (Ok o)
+IsOpening named contents (Err cause) = cause_status cause ≢ 5 → OpensBy named contents (Err cause)
 
 -- the layouts, or their error, are what is said, unless memory ran out
 abbrev pub IsJudged : (Result (List Layout) LayoutError → Type 0) → Result (List Layout) Cause → Type 0

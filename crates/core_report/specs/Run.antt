@@ -1,5 +1,5 @@
 -- What a run of the top call means.
-use Rattle.std.specs.Prelude.{◌≡◌, ◌≢◌, ◌++◌, ℕ, List, [], ◌∷◌, length, map, Option, Some, None, IsSome, Result, Ok, Err, codes, Vec}
+use Rattle.std.specs.Prelude.{◌≡◌, ◌≢◌, ◌⊎◌, ◌++◌, ℕ, List, [], ◌∷◌, length, map, Option, Some, None, IsSome, Result, Ok, Err, codes, Vec}
 use Rattle.std.specs.Global.{Global}
 use Rattle.std.specs.List.{concat}
 use Rattle.outside.specs.Files.{FailedNames, FilesSeen, Told}
@@ -147,6 +147,10 @@ pub record EndsItself (command : Command) (contents : List (List ℕ)) (status :
   pub own : IsOwnCause cause
   pub is : IsOutcome command contents (Err cause)
   pub status_is : status ≡ cause_status cause
+
+-- a slim core was written, or a front of one, or there were too many pieces, or memory ran out
+abbrev pub MayBeSlim : ℕ → Type 0
+MayBeSlim status = (status ≡ 0) ⊎ ((status ≡ 4) ⊎ ((status ≡ 5) ⊎ (status ≡ 8)))
 
 -- ---- the steps of a run
 

@@ -3,6 +3,7 @@ ghost use Rattle.std.specs.Prelude.{◌≡◌};
 ghost use Rattle.core_report.specs.Outcome.{cause_status};
 
 use core_merge::CoreMergeError;
+use core_stacks::SlimmedError;
 use object_reach::ReachError;
 use py_layout::LayoutError;
 use py_process::CoreError;
@@ -23,6 +24,8 @@ pub(crate) enum Cause {
     Merge(CoreMergeError),
     /// A thread was to be merged with native addresses, and there are no more threads than this number.
     MergeIndex { index: u64 },
+    /// What the stacks of a process need has this many pieces, more than a core's header can count.
+    TooManyPieces { count: u64 },
     /// There was no memory left.
     OutOfMemory,
 }
@@ -41,6 +44,7 @@ impl Cause {
             Cause::Core(_) => 1,
             Cause::Layouts(_) => 6,
             Cause::Merge(_) | Cause::MergeIndex { .. } => 7,
+            Cause::TooManyPieces { .. } => 8,
             Cause::Reach(ReachError::ReachLimit) | Cause::ReachIndex { .. } => 9,
         }
     }
@@ -83,6 +87,20 @@ impl From<CoreMergeError> for Cause {
 
     fn from(error: CoreMergeError) -> Cause {
         Cause::Merge(error)
+    }
+}
+
+impl From<SlimmedError> for Cause {
+    ghost use Rattle.core_report.specs.Opening.{slim_cause};
+
+    ghost from_gives = { λ error cause. cause ≡ slim_cause error };
+
+    fn from(error: SlimmedError) -> Cause {
+        match error {
+            SlimmedError::Core(error) => Cause::Core(error),
+            SlimmedError::TooManyPieces { count } => Cause::TooManyPieces { count },
+            SlimmedError::OutOfMemory => Cause::OutOfMemory,
+        }
     }
 }
 

@@ -9,14 +9,16 @@ ghost use Rattle.core_words.specs.Seen.{asked_command};
 ghost use Rattle.core_report.specs.declared.cause.Cause.{Cause as Why};
 ghost use Rattle.core_report.specs.Headline.{HasReported};
 ghost use Rattle.core_report.specs.Outcome.{IsFaultless, IsOutcome, cause_status};
-ghost use Rattle.core_report.specs.Run.{Comes, EndsItself, HasEnded, HasRun, Reaches, TellsContents, end_after, ran};
+ghost use Rattle.core_report.specs.Run.{Comes, EndsItself, HasEnded, HasRun, MayBeSlim, Reaches, TellsContents, end_after, ran};
 
 use crate::cause::Cause;
 use crate::dump_command::dump_over;
 use crate::lines::tell;
+use crate::locate_command::locate_over;
 use crate::merge_command::{MergeFiles, merge_over};
 use crate::reach_command::reach_over;
 use crate::report_files::ReportFiles;
+use crate::slim_command::slim_over;
 use crate::triage_command::{TriageFiles, triage_over};
 use crate::trouble::Trouble;
 use crate::walk_command::{WalkFiles, walk_over};
@@ -56,6 +58,16 @@ fn text_of<'a, F: Files>(
         Command::Merge(words) => {
             let read = MergeFiles::read(alloc, words, files)?;
             Ok(merge_over(alloc, words, read)?)
+        }
+        Command::Locate(words) => {
+            let (core, layouts) = (words.core.as_bytes(), words.layouts.as_bytes());
+            let read = ReportFiles::read(alloc, core, layouts, &words.images, files)?;
+            Ok(locate_over(alloc, words, read)?)
+        }
+        Command::Slim(words) => {
+            let (core, layouts) = (words.core.as_bytes(), words.layouts.as_bytes());
+            let read = ReportFiles::read(alloc, core, layouts, &words.images, files)?;
+            Ok(slim_over(alloc, words, read)?)
         }
     }
 }
@@ -103,6 +115,8 @@ fn execute<'a, F: Files, S: Sink>(
 /// - 7: the frames of a thread were to be merged with native addresses, and there is no thread of that number, a line
 ///   of the addresses is none, maps overlap, a place in a file passes 2^64 - 1, or the steps don't fit the frames
 ///   (`core_merge::merge_thread`).
+/// - 8: a slim core was asked for, and what the stacks need has more than 65533 pieces
+///   (`core_stacks::PythonCoreDump::slimmed`).
 /// - 9: what a thread's locals lead to was asked for, and there is no thread of that number, or they lead to more than
 ///   2^20 objects or 2^24 slots (`object_reach::reach`).
 pub fn run<F: Files, S: Sink, E: Sink>(
@@ -117,7 +131,7 @@ pub fn run<F: Files, S: Sink, E: Sink>(
         (ran (F.seen files.old) (F.seen files.new) (S.seen out.old) (S.seen out.new))
         (E.seen err.old) (E.seen err.new) result }
 
-    ensures statuses { (result ≤ 7) ⊎ (result ≡ 9) }
+    ensures statuses { result ≤ 9 }
 
     // status 0 comes only after the whole text of what the command comes to was written
     ensures printed { result ≡ 0 → (text : List ℕ)
@@ -142,12 +156,18 @@ pub fn run<F: Files, S: Sink, E: Sink>(
     ensures all_read { result ≢ 3 → (F.seen files.new).failed ≡ (F.seen files.old).failed }
     ensures told { (F.seen files.new).told ≡ (F.seen files.old).told }
 
-    // where the files tell, each cause has its status, want of memory aside
+    // where the files tell, each cause has its status, want of memory aside; of too many pieces the next clause speaks
     ensures only { (command : Asked) (contents : List (List ℕ)) (cause : Why)
         → TellsContents (command_of (texts words.now)) (F.seen files.old).told command contents
-        → IsOutcome command contents (Err cause) → cause_status cause ≢ 5
+        → IsOutcome command contents (Err cause) → cause_status cause ≢ 5 → cause_status cause ≢ 8
         → (F.seen files.new).failed ≡ (F.seen files.old).failed
         → (result ≡ cause_status cause) ⊎ (result ≡ 5) }
+
+    // which ranges are a footprint of stacks isn't settled: where some have too many pieces, others may have few
+    ensures pieces { (command : Asked) (contents : List (List ℕ)) (cause : Why)
+        → TellsContents (command_of (texts words.now)) (F.seen files.old).told command contents
+        → IsOutcome command contents (Err cause) → cause_status cause ≡ 8
+        → (F.seen files.new).failed ≡ (F.seen files.old).failed → MayBeSlim result }
 
     // where nothing is wrong with what they tell, and no write fails, the text is written, want of memory aside, unless
     // the command comes to a cause of its own: of walks, reports and cores in groups there is none

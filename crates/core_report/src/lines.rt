@@ -160,6 +160,9 @@ pub(crate) fn cause_parts<'a>(cause: &'a Cause) -> Parts<'a>
         }
         Cause::Merge(error) => merge_parts(error),
         Cause::MergeIndex { .. } => text_part("cannot merge"),
+        Cause::TooManyPieces { count } => {
+            parts(&[Part::Text("too many pieces: "), Part::Decimal(*count)])
+        }
         Cause::OutOfMemory => text_part("out of memory"),
     }
 }

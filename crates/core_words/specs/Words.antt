@@ -1,5 +1,5 @@
 -- The words of a command line, as lists of bytes, and what they ask for.
-use Rattle.std.specs.Prelude.{ℕ, ◌≤◌, ⊤, ◌^◌, ◌==◌, ◌&&◌, Bool, nat_lt, nat_le, nat_eq, if◌then◌else◌, List, [], ◌∷◌, ◌++◌, length, take, drop, map, Option, Some, None, option_and_then, option_map, bytes_eq, codes, string_bytes, String}
+use Rattle.std.specs.Prelude.{ℕ, ◌≤◌, ⊤, ◌^◌, ◌&&◌, Bool, nat_lt, nat_le, nat_eq, if◌then◌else◌, List, [], ◌∷◌, ◌++◌, length, take, drop, map, Option, Some, None, option_and_then, option_map, bytes_eq, codes, string_bytes, String}
 use Rattle.std.specs.List.{list_all, position_or_len, starts_with, before_first, after_first}
 use Rattle.std.specs.Char.{digit_value}
 use Rattle.std.specs.Str.Parse.{digits_value}
@@ -73,6 +73,19 @@ pub record Merge : Type 0 where
   pub addresses : List ℕ
   pub images : List (List ℕ × List ℕ)
 
+-- where the interpreter of the process of a core and its lock are, by a layout file and images so
+pub record Locate : Type 0 where
+  pub core : List ℕ
+  pub layouts : List ℕ
+  pub images : List (List ℕ × List ℕ)
+
+-- a core of what the stacks of another one need, with so much of the locals' values, by a layout file and images so
+pub record Slim : Type 0 where
+  pub core : List ℕ
+  pub layouts : List ℕ
+  pub level : ℕ
+  pub images : List (List ℕ × List ℕ)
+
 -- what words ask for
 pub data Command : Type 0 where
   walk : Walk → Command
@@ -80,6 +93,8 @@ pub data Command : Type 0 where
   triage : Triage → Command
   reach : Reach → Command
   merge : Merge → Command
+  locate : Locate → Command
+  slim : Slim → Command
 
 -- a walk of these parts, where all are there
 abbrev pub walk_by : List ℕ → LayoutSource → Option Version → Option ℕ → Option ℕ → Option Walk
@@ -135,6 +150,22 @@ merge_words (core ∷ layouts ∷ index ∷ addresses ∷ words) =
     merge_by core layouts (word_number index) addresses words
 merge_words _ = None
 
+-- CORE LAYOUTS [PATH=FILE]..
+abbrev pub locate_words : List (List ℕ) → Option Locate
+locate_words (core ∷ layouts ∷ words) =
+    option_map (λ images. record { core = core; layouts = layouts; images = images }) (images_of words)
+locate_words _ = None
+
+abbrev pub slim_by : List ℕ → List ℕ → Option ℕ → List (List ℕ) → Option Slim
+slim_by core layouts None words = None
+slim_by core layouts (Some level) words =
+    option_map (λ images. record { core = core; layouts = layouts; level = level; images = images }) (images_of words)
+
+-- CORE LAYOUTS LEVEL [PATH=FILE]..
+abbrev pub slim_words : List (List ℕ) → Option Slim
+slim_words (core ∷ layouts ∷ level ∷ words) = slim_by core layouts (word_number level) words
+slim_words _ = None
+
 -- the command's name, and then its words
 abbrev pub command_of : List (List ℕ) → Option Command
 command_of [] = None
@@ -143,6 +174,8 @@ command_of (name ∷ words) =
     if bytes_eq name (codes "triage") then option_map (λ t. triage t) (triage_words words) else
     if bytes_eq name (codes "reach") then option_map (λ r. reach r) (reach_words words) else
     if bytes_eq name (codes "merge") then option_map (λ m. merge m) (merge_words words) else
+    if bytes_eq name (codes "locate") then option_map (λ l. locate l) (locate_words words) else
+    if bytes_eq name (codes "slim") then option_map (λ s. slim s) (slim_words words) else
     option_map (λ d. dump d) (dump_words (name ∷ words))
 
 -- no command names more than 4096 cores to be put in groups
@@ -162,6 +195,8 @@ kept_files (dump d) = d.core ∷ d.layouts ∷ map (λ image. image.1) d.images
 kept_files (triage t) = t.layouts ∷ map (λ image. image.1) t.images
 kept_files (reach r) = r.core ∷ r.layouts ∷ map (λ image. image.1) r.images
 kept_files (merge m) = m.core ∷ m.layouts ∷ (map (λ image. image.1) m.images ++ m.addresses ∷ [])
+kept_files (locate l) = l.core ∷ l.layouts ∷ map (λ image. image.1) l.images
+kept_files (slim s) = s.core ∷ s.layouts ∷ map (λ image. image.1) s.images
 
 -- the names of those that are read in its work, one at a time
 abbrev pub later_files : Command → List (List ℕ)
@@ -170,6 +205,8 @@ later_files (dump d) = []
 later_files (triage t) = t.cores
 later_files (reach r) = []
 later_files (merge m) = []
+later_files (locate l) = []
+later_files (slim s) = []
 
 -- all the files that a command names, in the order in which they are read
 abbrev pub files_of : Command → List (List ℕ)

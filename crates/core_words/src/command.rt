@@ -1,13 +1,15 @@
 //! What words ask for.
 ghost use Rattle.std.specs.Prelude.{IfOk, option_map};
 ghost use Rattle.core_words.specs.Answers.{AnswersWords};
-ghost use Rattle.core_words.specs.Words.{HasFewCores, command_of, merge, merge_words, reach, reach_words, texts, triage, triage_words, walk, walk_words};
+ghost use Rattle.core_words.specs.Words.{HasFewCores, command_of, locate, locate_words, merge, merge_words, reach, reach_words, slim, slim_words, texts, triage, triage_words, walk, walk_words};
 ghost use Rattle.core_words.specs.Seen.{asked_command};
 
 use crate::args_error::ArgsError;
 use crate::dump::{DumpWords, config_from_args};
+use crate::locate::{LocateWords, locate_words};
 use crate::merge::{MergeWords, merge_words};
 use crate::reach::{ReachWords, reach_words};
+use crate::slim::{SlimWords, slim_words};
 use crate::triage::{TriageWords, triage_words};
 use crate::walk::{WalkWords, walk_words};
 use std::alloc::Global;
@@ -25,19 +27,24 @@ pub enum Command<'a> {
     Reach(ReachWords<'a>),
     /// The frames of a thread of a core, merged with native addresses.
     Merge(MergeWords<'a>),
+    /// Where the interpreter of the process of a core is.
+    Locate(LocateWords<'a>),
+    /// A core of what the stacks of another one need.
+    Slim(SlimWords<'a>),
 }
 
 /// What the words ask for, the first of which is the command's name: `walk CORE LAYOUTS VERSION INTERP LOCK`,
 /// `triage LAYOUTS CORE.. [PATH=FILE]..`, `reach CORE LAYOUTS INDEX [PATH=FILE]..`,
-/// `merge CORE LAYOUTS INDEX ADDRESSES [PATH=FILE]..`, or the words of a report, as `config_from_args` takes them.
+/// `merge CORE LAYOUTS INDEX ADDRESSES [PATH=FILE]..`, `locate CORE LAYOUTS [PATH=FILE]..`,
+/// `slim CORE LAYOUTS LEVEL [PATH=FILE]..`, or the words of a report, as `config_from_args` takes them.
 ///
 /// Of a walk `LAYOUTS` is `sample`, for `py_fields::Layout::sample`, or else the name of a layout file. `VERSION` is
 /// three runs of 1 to 3 decimal digits joined by dots. `INTERP` and `LOCK` are 1 to 20 decimal digits, or
 /// `0x` and 1 to 16 hexadecimal digits of either case, of a number below 2^64.
 ///
 /// Of `triage` the cores are the words before the first with an equals sign, 1 to 4096 of them; of `reach` and
-/// `merge` `INDEX` is a number as `INTERP` is. From there on each word is an image's: a path, the first equals sign, and the name of a
-/// file.
+/// `merge` `INDEX` is a number as `INTERP` is, of `slim` `LEVEL`. Behind the others each word is an image's: a path, the
+/// first equals sign, and the name of a file.
 ///
 /// - `Refused` exactly where the words are no such words.
 /// - `OutOfMemory` where there was no memory left.
@@ -59,6 +66,12 @@ pub fn read_words(alloc: Global, words: &[String]) -> Result<Command<'_>, ArgsEr
     }
     if name.as_str() == "merge" {
         return merge_command(alloc, rest);
+    }
+    if name.as_str() == "locate" {
+        return locate_command(alloc, rest);
+    }
+    if name.as_str() == "slim" {
+        return slim_command(alloc, rest);
     }
     match config_from_args(alloc, words) {
         Ok(words) => Ok(Command::Dump(words)),
@@ -102,6 +115,26 @@ fn merge_command(alloc: Global, words: &[String]) -> Result<Command<'_>, ArgsErr
 {
     match merge_words(alloc, words) {
         Ok(words) => Ok(Command::Merge(words)),
+        Err(error) => Err(error),
+    }
+}
+
+/// Where the interpreter is, by the words behind the name.
+fn locate_command(alloc: Global, words: &[String]) -> Result<Command<'_>, ArgsError>
+    ensures { AnswersWords asked_command (option_map (λ l. locate l) (locate_words (texts words.now))) result }
+{
+    match locate_words(alloc, words) {
+        Ok(words) => Ok(Command::Locate(words)),
+        Err(error) => Err(error),
+    }
+}
+
+/// A slim core, by the words behind the name.
+fn slim_command(alloc: Global, words: &[String]) -> Result<Command<'_>, ArgsError>
+    ensures { AnswersWords asked_command (option_map (λ s. slim s) (slim_words (texts words.now))) result }
+{
+    match slim_words(alloc, words) {
+        Ok(words) => Ok(Command::Slim(words)),
         Err(error) => Err(error),
     }
 }

@@ -4,9 +4,11 @@
 mod args_error;
 mod command;
 mod dump;
+mod locate;
 mod merge;
 mod numbers;
 mod reach;
+mod slim;
 mod taken;
 mod triage;
 mod walk;
@@ -14,9 +16,11 @@ mod walk;
 pub use args_error::ArgsError;
 pub use command::{Command, read_words};
 pub use dump::{DumpWords, config_from_args};
+pub use locate::LocateWords;
 pub use merge::MergeWords;
 pub use numbers::Release;
 pub use reach::ReachWords;
+pub use slim::SlimWords;
 pub use triage::TriageWords;
 pub use walk::{LayoutSource, WalkWords};
 

@@ -1,6 +1,6 @@
 use Rattle.core_words.specs.Words.{command_of, texts}
 use Rattle.core_report.specs.Run.{end_after}
-use Rattle.core_report.proofs.Ends.{run_all_read, run_asked, run_complete, run_nothing_out, run_only, run_printed, run_refused, run_silent, run_status, run_unread}
+use Rattle.core_report.proofs.Ends.{run_all_read, run_asked, run_complete, run_nothing_out, run_only, run_pieces, run_printed, run_refused, run_silent, run_status, run_unread}
 use Rattle.core_report.proofs.Headline.{reported_of_run}
 use Rattle.core_report.proofs.command.run.Goals as goal
 
@@ -44,6 +44,9 @@ returns-clause-all_read g c = run_all_read (returns-clause-right g c)
 
 pub returns-clause-only : goal.returns-clause-only
 returns-clause-only g c = run_only (returns-clause-right g c)
+
+pub returns-clause-pieces : goal.returns-clause-pieces
+returns-clause-pieces g c = run_pieces (returns-clause-right g c)
 
 pub returns-clause-complete : goal.returns-clause-complete
 returns-clause-complete g c = run_complete (returns-clause-right g c)

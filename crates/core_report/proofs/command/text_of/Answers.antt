@@ -1,9 +1,9 @@
 use Rattle.std.proofs.Common.{◌≡◌, ap, length, refl}
 use Rattle.std.proofs.lemmas.Result.{err_from_is_err_and}
-use Rattle.core_words.specs.Seen.{asked_dump, asked_merge, asked_reach, asked_triage, asked_walk}
-use Rattle.core_words.specs.Words.{dump, merge, reach, triage, walk}
+use Rattle.core_words.specs.Seen.{asked_dump, asked_locate, asked_merge, asked_reach, asked_slim, asked_triage, asked_walk}
+use Rattle.core_words.specs.Words.{dump, locate, merge, reach, slim, triage, walk}
 use Rattle.core_report.specs.Reading.{merge_contents, report_contents, walk_contents}
-use Rattle.core_report.proofs.Turns.{caused_of, comes_from, comes_of, dump_asks, dump_has, reach_asks, reach_has, troubled_from}
+use Rattle.core_report.proofs.Turns.{caused_of, comes_from, comes_of, dump_asks, dump_has, locate_asks, locate_has, reach_asks, reach_has, slim_asks, slim_has, troubled_from}
 use Rattle.core_report.proofs.command.text_of.Goals as goal
 
 pub returns-in_err-walk_over-in-Walk-clause-comes : goal.returns-in_err-walk_over-in-Walk-clause-comes
@@ -75,3 +75,51 @@ pub returns-in_ok-merge_over-in-Merge-clause-comes : goal.returns-in_ok-merge_ov
 returns-in_ok-merge_over-in-Merge-clause-comes g c =
     let read = c.in_ok-read-in-Merge in
     rw c.in-Merge.is (comes_of _ _ (merge (asked_merge c.in-Merge.words)) (merge_contents read.read) c.in_ok-merge_over-in-Merge.field-0 read.ensures.read.0 c.in_ok-merge_over-in-Merge.ensures)
+
+pub returns-in_err-read-in-Locate-clause-comes : goal.returns-in_err-read-in-Locate-clause-comes
+returns-in_err-read-in-Locate-clause-comes g c =
+    let p = err_from_is_err_and c.from_residual-in_err-read-in-Locate.result c.from_residual-in_err-read-in-Locate.ensures.1 in
+    let l = asked_locate c.in-Locate.words in
+    rw (c.in-Locate.is, p.1, p.2) (c.in_err-read-in-Locate.ensures.read (locate l)
+    (locate_asks l _ _ _ c.as_bytes-core-in-Locate.ensures.value c.as_bytes-layouts-in-Locate.ensures.value c.deref-in-Locate.ensures.value))
+
+pub returns-in_err-locate_over-in-Locate-clause-comes : goal.returns-in_err-locate_over-in-Locate-clause-comes
+returns-in_err-locate_over-in-Locate-clause-comes g c =
+    let p = err_from_is_err_and c.from_residual-in_err-locate_over-in-Locate.result c.from_residual-in_err-locate_over-in-Locate.ensures.1 in
+    let read = c.in_ok-read-in-Locate in
+    let l = asked_locate c.in-Locate.words in
+    let has = locate_has _ _ l read.read _ c.deref-in-Locate.ensures.value
+    (read.ensures.read (locate l) (locate_asks l _ _ _ c.as_bytes-core-in-Locate.ensures.value c.as_bytes-layouts-in-Locate.ensures.value c.deref-in-Locate.ensures.value)) in
+    rw (c.in-Locate.is, p.1, p.2) (caused_of _ _ (locate l) (report_contents read.read) _ has c.in_err-locate_over-in-Locate.ensures)
+
+pub returns-in_ok-locate_over-in-Locate-clause-comes : goal.returns-in_ok-locate_over-in-Locate-clause-comes
+returns-in_ok-locate_over-in-Locate-clause-comes g c =
+    let read = c.in_ok-read-in-Locate in
+    let l = asked_locate c.in-Locate.words in
+    let has = locate_has _ _ l read.read _ c.deref-in-Locate.ensures.value
+    (read.ensures.read (locate l) (locate_asks l _ _ _ c.as_bytes-core-in-Locate.ensures.value c.as_bytes-layouts-in-Locate.ensures.value c.deref-in-Locate.ensures.value)) in
+    rw c.in-Locate.is (comes_of _ _ (locate l) (report_contents read.read) c.in_ok-locate_over-in-Locate.field-0 has c.in_ok-locate_over-in-Locate.ensures)
+
+pub returns-in_err-read-in-Slim-clause-comes : goal.returns-in_err-read-in-Slim-clause-comes
+returns-in_err-read-in-Slim-clause-comes g c =
+    let p = err_from_is_err_and c.from_residual-in_err-read-in-Slim.result c.from_residual-in_err-read-in-Slim.ensures.1 in
+    let s = asked_slim c.in-Slim.words in
+    rw (c.in-Slim.is, p.1, p.2) (c.in_err-read-in-Slim.ensures.read (slim s)
+    (slim_asks s _ _ _ c.as_bytes-core-in-Slim.ensures.value c.as_bytes-layouts-in-Slim.ensures.value c.deref-in-Slim.ensures.value))
+
+pub returns-in_err-slim_over-in-Slim-clause-comes : goal.returns-in_err-slim_over-in-Slim-clause-comes
+returns-in_err-slim_over-in-Slim-clause-comes g c =
+    let p = err_from_is_err_and c.from_residual-in_err-slim_over-in-Slim.result c.from_residual-in_err-slim_over-in-Slim.ensures.1 in
+    let read = c.in_ok-read-in-Slim in
+    let s = asked_slim c.in-Slim.words in
+    let has = slim_has _ _ s read.read _ c.deref-in-Slim.ensures.value
+    (read.ensures.read (slim s) (slim_asks s _ _ _ c.as_bytes-core-in-Slim.ensures.value c.as_bytes-layouts-in-Slim.ensures.value c.deref-in-Slim.ensures.value)) in
+    rw (c.in-Slim.is, p.1, p.2) (caused_of _ _ (slim s) (report_contents read.read) _ has c.in_err-slim_over-in-Slim.ensures)
+
+pub returns-in_ok-slim_over-in-Slim-clause-comes : goal.returns-in_ok-slim_over-in-Slim-clause-comes
+returns-in_ok-slim_over-in-Slim-clause-comes g c =
+    let read = c.in_ok-read-in-Slim in
+    let s = asked_slim c.in-Slim.words in
+    let has = slim_has _ _ s read.read _ c.deref-in-Slim.ensures.value
+    (read.ensures.read (slim s) (slim_asks s _ _ _ c.as_bytes-core-in-Slim.ensures.value c.as_bytes-layouts-in-Slim.ensures.value c.deref-in-Slim.ensures.value)) in
+    rw c.in-Slim.is (comes_of _ _ (slim s) (report_contents read.read) c.in_ok-slim_over-in-Slim.field-0 has c.in_ok-slim_over-in-Slim.ensures)

@@ -1,4 +1,4 @@
-use Rattle.std.proofs.Common.{◌≡◌, ◌∙◌, ap, ap₂, length, sym, map}
+use Rattle.std.proofs.Common.{◌≡◌, ◌∙◌, ◌++◌, ap, ap₂, length, sym, map}
 use Rattle.std.specs.List.{sum_by}
 use Rattle.std.proofs.lemmas.List.{length-map}
 use Rattle.py_process.specs.Reports.{reported_of}
@@ -21,4 +21,5 @@ returns c =
     let frames : c.frames_of.result ≡ sum_by (λ (t : Thread). length t.frames) (generated seed).threads =
     c.frames_of.ensures ∙ ap frames_shown c.deref.ensures.value
     ∙ ap capped (frames_counted seed (reported_of report) is) ∙ sym (fits_capped _ (frames_few seed)) in
-    c.in_ok-push_parts.ensures ∙ ap₂ (counts_text seed) threads frames
+    c.in_ok-push_parts.ensures ∙ ap (λ xs. xs ++ counts_text seed c.len.result c.frames_of.result) c.new-text.ensures.items
+    ∙ ap₂ (counts_text seed) threads frames

@@ -1,0 +1,79 @@
+-- Two outcomes of a command over the same contents have one status, want of memory aside, but that a slim core and too
+-- many pieces may both be right; and over contents with which nothing is wrong no outcome is a cause but a command's own.
+use Rattle.std.proofs.Common.{◌≡◌, ◌≢◌, ◌⊎◌, ℕ, List, ◌<◌, arith, inl, inr, ⊎_elim}
+use Rattle.std.proofs.lemmas.Bool.Decides.{eqb_tells}
+use Rattle.py_layout.specs.declared.error.LayoutError.{LayoutError}
+use Rattle.py_process.specs.declared.core_error.CoreError.{CoreError}
+use Rattle.core_words.specs.Words.{Command, dump, locate, merge, reach, slim, triage, walk}
+use Rattle.core_merge.specs.declared.error.CoreMergeError.{CoreMergeError}
+use Rattle.core_merge.specs.declared.error.CoreMergeError.TheVariants as merging
+use Rattle.object_reach.specs.declared.reached.ReachError.{ReachError}
+use Rattle.object_reach.specs.declared.reached.ReachError.TheVariants as reaching
+use Rattle.core_report.specs.declared.cause.Cause.{Cause}
+use Rattle.core_report.specs.declared.cause.Cause.TheVariants.{Core, Layouts, Merge, MergeIndex, Reach, ReachIndex, TooManyPieces, OutOfMemory}
+use Rattle.core_report.specs.Outcome.{IsFaultless, IsOutcome, cause_status, core_status, layouts_status, merge_status, reach_status}
+use Rattle.core_report.proofs.Agreement.{Agree, NoCause, core_one, dump_agree, dump_sound, flaw_status, merge_agree, merge_sound, reach_agree, reach_sound, triage_agree, triage_sound, walk_agree, walk_sound}
+use Rattle.core_report.proofs.Processes.{locate_agree, locate_sound, slim_agree, slim_sound}
+
+pub outcomes_agree : (command : Command) (contents : List (List ℕ)) → Agree (IsOutcome command contents)
+outcomes_agree (walk w) contents a b one other na nb = walk_agree w contents a b one other na nb
+outcomes_agree (dump d) contents a b one other na nb = dump_agree d contents a b one other na nb
+outcomes_agree (triage t) contents a b one other na nb = triage_agree t contents a b one other na nb
+outcomes_agree (reach r) contents a b one other na nb = reach_agree r contents a b one other na nb
+outcomes_agree (merge m) contents a b one other na nb = merge_agree m contents a b one other na nb
+outcomes_agree (locate l) contents a b one other na nb = locate_agree l contents a b one other na nb
+outcomes_agree (slim s) contents a b one other na nb = slim_agree s contents a b one other na nb
+
+pub no_cause : (command : Command) (contents : List (List ℕ)) → IsFaultless command contents → NoCause (IsOutcome command contents)
+no_cause (walk w) contents good = walk_sound w contents good
+no_cause (dump d) contents good = dump_sound d contents good
+no_cause (triage t) contents good = triage_sound t contents good
+no_cause (reach r) contents good = reach_sound r contents good
+no_cause (merge m) contents good = merge_sound m contents good
+no_cause (locate l) contents good = locate_sound l contents good
+no_cause (slim s) contents good = slim_sound s contents good
+
+-- ---- a cause has none of the statuses of the other ends
+
+pub record IsOwn (n : ℕ) : Type 0 where
+  pub not_0 : n ≢ 0
+  pub not_2 : n ≢ 2
+  pub not_3 : n ≢ 3
+  pub not_4 : n ≢ 4
+
+own : (n : ℕ) → (n ≡ 1) ⊎ (4 < n) → IsOwn n
+own n h = record {
+  not_0 = λ is. omega (arith, h, is);
+  not_2 = λ is. omega (arith, h, is);
+  not_3 = λ is. omega (arith, h, is);
+  not_4 = λ is. omega (arith, h, is);
+}
+
+pub cases_five : (n : ℕ) → (n ≡ 5) ⊎ (n ≢ 5)
+cases_five n = ⊎_elim (λ p. inl p.1) (λ p. inr p.1) (eqb_tells n 5)
+
+core_own : (e : CoreError) → IsOwn (core_status e)
+core_own e = own (core_status e)
+    (⊎_elim (λ five. inr (omega (arith, five))) (λ ne. inl (core_one e ne).0) (cases_five (core_status e)))
+
+layouts_own : (e : LayoutError) → IsOwn (layouts_status e)
+layouts_own e = own (layouts_status e) (inr
+    (⊎_elim (λ five. omega (arith, five)) (λ ne. omega (arith, (flaw_status e ne).0)) (cases_five (layouts_status e))))
+
+reach_status_own : (e : ReachError) → IsOwn (reach_status e)
+reach_status_own reaching.ReachLimit = own 9 (inr (omega arith))
+reach_status_own reaching.OutOfMemory = own 5 (inr (omega arith))
+
+merge_status_own : (e : CoreMergeError) → IsOwn (merge_status e)
+merge_status_own merging.OutOfMemory = own 5 (inr (omega arith))
+merge_status_own _ = own 7 (inr (omega arith))
+
+pub cause_own : (cause : Cause) → IsOwn (cause_status cause)
+cause_own (Core e) = core_own e
+cause_own (Layouts e) = layouts_own e
+cause_own (Reach e) = reach_status_own e
+cause_own (ReachIndex index) = own 9 (inr (omega arith))
+cause_own (Merge e) = merge_status_own e
+cause_own (MergeIndex index) = own 7 (inr (omega arith))
+cause_own (TooManyPieces count) = own 8 (inr (omega arith))
+cause_own OutOfMemory = own 5 (inr (omega arith))
