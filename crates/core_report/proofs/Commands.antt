@@ -4,7 +4,7 @@ use Rattle.std.proofs.Common.{◌≡◌, ◌≢◌, ◌⊎◌, ℕ, List, ◌<�
 use Rattle.std.proofs.lemmas.Bool.Decides.{eqb_tells}
 use Rattle.py_layout.specs.declared.error.LayoutError.{LayoutError}
 use Rattle.py_process.specs.declared.core_error.CoreError.{CoreError}
-use Rattle.core_words.specs.Words.{Command, dump, locate, merge, reach, slim, triage, walk}
+use Rattle.core_words.specs.Words.{Command, dump, locate, merge, reach, seeded, slim, triage, walk}
 use Rattle.core_merge.specs.declared.error.CoreMergeError.{CoreMergeError}
 use Rattle.core_merge.specs.declared.error.CoreMergeError.TheVariants as merging
 use Rattle.object_reach.specs.declared.reached.ReachError.{ReachError}
@@ -13,7 +13,7 @@ use Rattle.core_report.specs.declared.cause.Cause.{Cause}
 use Rattle.core_report.specs.declared.cause.Cause.TheVariants.{Core, Layouts, Merge, MergeIndex, Reach, ReachIndex, TooManyPieces, OutOfMemory}
 use Rattle.core_report.specs.Outcome.{IsFaultless, IsOutcome, cause_status, core_status, layouts_status, merge_status, reach_status}
 use Rattle.core_report.proofs.Agreement.{Agree, NoCause, core_one, dump_agree, dump_sound, flaw_status, merge_agree, merge_sound, reach_agree, reach_sound, triage_agree, triage_sound, walk_agree, walk_sound}
-use Rattle.core_report.proofs.Processes.{locate_agree, locate_sound, slim_agree, slim_sound}
+use Rattle.core_report.proofs.Processes.{locate_agree, locate_sound, sample_agree, sample_sound, slim_agree, slim_sound}
 
 pub outcomes_agree : (command : Command) (contents : List (List ℕ)) → Agree (IsOutcome command contents)
 outcomes_agree (walk w) contents a b one other na nb = walk_agree w contents a b one other na nb
@@ -23,6 +23,7 @@ outcomes_agree (reach r) contents a b one other na nb = reach_agree r contents a
 outcomes_agree (merge m) contents a b one other na nb = merge_agree m contents a b one other na nb
 outcomes_agree (locate l) contents a b one other na nb = locate_agree l contents a b one other na nb
 outcomes_agree (slim s) contents a b one other na nb = slim_agree s contents a b one other na nb
+outcomes_agree (seeded s) contents a b one other na nb = sample_agree s contents a b one other na nb
 
 pub no_cause : (command : Command) (contents : List (List ℕ)) → IsFaultless command contents → NoCause (IsOutcome command contents)
 no_cause (walk w) contents good = walk_sound w contents good
@@ -32,6 +33,7 @@ no_cause (reach r) contents good = reach_sound r contents good
 no_cause (merge m) contents good = merge_sound m contents good
 no_cause (locate l) contents good = locate_sound l contents good
 no_cause (slim s) contents good = slim_sound s contents good
+no_cause (seeded s) contents good = sample_sound s contents
 
 -- ---- a cause has none of the statuses of the other ends
 

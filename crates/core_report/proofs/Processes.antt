@@ -1,6 +1,6 @@
 -- Where an interpreter is, and slim cores: two outcomes over the same contents agree, and over contents with which
 -- nothing is wrong no outcome is a cause but that there are too many pieces.
-use Rattle.std.proofs.Common.{◌≡◌, ◌≢◌, ◌⊎◌, ℕ, List, [], ◌∷◌, Result, Ok, Err, refl, sym, ap, subst, ◌∙◌, inl, inr, ⊎_elim}
+use Rattle.std.proofs.Common.{◌≡◌, ◌≢◌, ◌⊎◌, ℕ, Bool, true, false, List, [], ◌∷◌, Result, Ok, Err, refl, sym, ap, subst, ◌∙◌, inl, inr, ⊎_elim}
 use Rattle.elf64_core.specs.Header.{machine_of}
 use Rattle.image_memory.specs.Cores.{IsCore}
 use Rattle.image_memory.specs.Images.{Pushed}
@@ -29,11 +29,11 @@ use Rattle.core_stacks.specs.declared.slimmed_error.SlimmedError.{SlimmedError}
 use Rattle.core_stacks.specs.declared.slimmed_error.SlimmedError.TheVariants as slim
 use Rattle.core_stacks.proofs.Layouts.{chooses_once}
 use Rattle.core_stacks.proofs.ReportLaws.{report_complete}
-use Rattle.core_words.specs.Words.{Locate as AsksLocate, Slim as AsksSlim}
+use Rattle.core_words.specs.Words.{Locate as AsksLocate, Sample as AsksSample, Slim as AsksSlim}
 use Rattle.core_report.specs.declared.cause.Cause.{Cause}
 use Rattle.core_report.specs.declared.cause.Cause.TheVariants.{Core, Layouts, Merge, MergeIndex, Reach, ReachIndex, TooManyPieces, OutOfMemory}
 use Rattle.core_report.specs.Opening.{IsOpenedWith, OpenedCore, OpenedIs, level_asked, locate_text, slim_cause}
-use Rattle.core_report.specs.Outcome.{IsFaultlessProcess, IsLocateOutcome, IsLocated, IsOwnCause, IsSlimOutcome, IsSlimmedFrom, OpensBy, Outcome, cause_status, images_read, outcome_status}
+use Rattle.core_report.specs.Outcome.{IsFaultlessProcess, IsLocateOutcome, IsLocated, IsOwnCause, IsSampleOutcome, IsSampledAs, IsSlimOutcome, IsSlimmedFrom, OpensBy, Outcome, cause_status, images_read, outcome_status}
 use Rattle.core_report.proofs.Agreement.{Agree, Excludes, NoCause, cause_is, core_one, err_kept, flaw_apart, flaw_status, ok_unique, outcome_class, settled, text_agree, text_apart, text_sound, then_agree, then_sound}
 use Rattle.core_report.proofs.Stacked.{step}
 
@@ -177,6 +177,24 @@ locate_sound l (core ∷ []) good = absurd good
 locate_sound l (core ∷ text ∷ images) (list, says, good) = then_sound (λ cause. cause) (OpensBy l.images (core ∷ text ∷ images)) IsLocated
     (open_sound l.images core text images default_config list says good)
     (λ o opened. text_sound (locate_text o.finding.version o.finding.addresses))
+
+-- ---- programs that are made up
+
+sampled_agree : (core : Bool) (seed : ℕ) → Agree (IsSampledAs core seed)
+sampled_agree false seed a b one other na nb = text_agree _ _ a b one other
+sampled_agree true seed a b one other na nb = text_agree one.0 other.0 a b one.2 other.2
+
+pub sample_agree : (s : AsksSample) (contents : List (List ℕ)) → Agree (IsSampleOutcome s contents)
+sample_agree s [] = sampled_agree s.core s.seed
+sample_agree s (x ∷ xs) a b one other na nb = absurd one
+
+sampled_sound : (core : Bool) (seed : ℕ) → NoCause (IsSampledAs core seed)
+sampled_sound false seed cause ne is = absurd (let h : _ = is in cc)
+sampled_sound true seed cause ne is = absurd (let h : _ = is.2 in cc)
+
+pub sample_sound : (s : AsksSample) (contents : List (List ℕ)) → NoCause (IsSampleOutcome s contents)
+sample_sound s [] = sampled_sound s.core s.seed
+sample_sound s (x ∷ xs) cause ne is = absurd is
 
 -- ---- slim cores
 

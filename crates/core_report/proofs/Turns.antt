@@ -17,7 +17,7 @@ use Rattle.core_report.specs.declared.report_files.ReportFiles.{ReportFiles}
 use Rattle.core_report.specs.Outcome.{IsOutcome, SourceSays, TextSays, cause_status}
 use Rattle.core_report.specs.Run.{Comes, ComesTo, HasAll, HasFirst, HasImages, HasMergeFiles, HasReportFiles, HasWalkFiles, IsReadTrouble, IsTroubled}
 use Rattle.core_words.specs.Dump.{Dump}
-use Rattle.core_words.specs.Words.{Command, LayoutSource, Locate, Merge, Reach, Slim, Triage, Walk, dump, locate, merge, reach, slim, triage, walk, kept_files, later_files, source_files, sample, file as named}
+use Rattle.core_words.specs.Words.{Command, LayoutSource, Locate, Merge, Reach, Sample, Slim, Triage, Walk, dump, locate, merge, reach, seeded, slim, triage, walk, kept_files, later_files, source_files, sample, file as named}
 use Rattle.core_report.specs.Reading.{AsksImages, AsksReport, Stops, StopsTriage, IsNext, IsAll, AreFiles, IsRead, contents, merge_contents, report_contents, text_contents, walk_contents}
 
 -- one file more
@@ -50,6 +50,7 @@ goes_on (reach r) contents lt stops = stops
 goes_on (merge m) contents lt stops = stops
 goes_on (locate l) contents lt stops = stops
 goes_on (slim s) contents lt stops = stops
+goes_on (seeded s) contents lt stops = stops
 
 get-front : (xs ys : List (List ℕ)) (k : ℕ) (x : List ℕ) → slice_get xs k ≡ Some x → slice_get (xs ++ ys) k ≡ Some x
 get-front [] ys k x is = absurd (none-some x is)
@@ -262,6 +263,10 @@ locate_has old new l = report_has (locate l) l.core l.layouts l.images refl refl
 pub slim_has : (old new : FilesSeen) (s : Slim) (files : ReportFiles) (images : Named) → images ≡ s.images
     → HasReportFiles old new (slim s) (length images) (Ok files) → HasAll old new (slim s) (report_contents files)
 slim_has old new s = report_has (slim s) s.core s.layouts s.images refl refl old new
+
+-- a program that is made up asks for no file
+pub sample_has : (files : FilesSeen) (s : Sample) → HasAll files files (seeded s) []
+sample_has files s = has_all files files (seeded s) [] refl tt refl refl
 
 -- a merge asks for the file of its addresses last
 pub merge_asks : (m : Merge) (core layouts : List ℕ) (images : List (List ℕ × List ℕ)) → core ≡ m.core → layouts ≡ m.layouts → images ≡ m.images

@@ -1,5 +1,5 @@
 -- What a command comes to over the contents of its files.
-use Rattle.std.specs.Prelude.{◌≡◌, ◌≢◌, ◌⊎◌, ℕ, List, [], ◌∷◌, drop, length, slice_get, ⊤, Option, Some, None, Result, Ok, Err, Vec, if◌then◌else◌}
+use Rattle.std.specs.Prelude.{◌≡◌, ◌≢◌, ◌⊎◌, ℕ, Bool, true, false, List, [], ◌∷◌, drop, length, slice_get, ⊤, Option, Some, None, Result, Ok, Err, Vec, if◌then◌else◌}
 use Rattle.std.specs.Global.{Global}
 use Rattle.py_fields.specs.declared.layout.Layout.{Layout}
 use Rattle.py_fields.specs.Samples.{sample_layout}
@@ -11,7 +11,7 @@ use Rattle.py_stacks.specs.declared.trace.StackTrace.{StackTrace}
 use Rattle.py_process.specs.declared.core_error.CoreError.{CoreError}
 use Rattle.py_process.specs.declared.core_error.CoreError.TheVariants as core
 use Rattle.core_words.specs.Dump.{Dump}
-use Rattle.core_words.specs.Words.{Command, LayoutSource, Locate as AsksLocate, Merge as AsksMerge, Reach as AsksReach, Slim as AsksSlim, Triage, Walk, dump, file, locate, merge, reach, sample, slim, triage, walk}
+use Rattle.core_words.specs.Words.{Command, LayoutSource, Locate as AsksLocate, Merge as AsksMerge, Reach as AsksReach, Sample as AsksSample, Slim as AsksSlim, Triage, Walk, dump, file, locate, merge, reach, sample, seeded, slim, triage, walk}
 use Rattle.core_texts.specs.Text.{frames_text, report_text, walk_text}
 use Rattle.core_texts.specs.Tree.{report_json}
 use Rattle.image_memory.specs.Images.{Pushed}
@@ -37,6 +37,9 @@ use Rattle.object_reach.specs.declared.reached.ReachObject.{ReachObject}
 use Rattle.core_report.specs.declared.cause.Cause.{Cause}
 use Rattle.core_report.specs.declared.cause.Cause.TheVariants.{Core, Layouts, Merge, MergeIndex, Reach, ReachIndex, TooManyPieces, OutOfMemory}
 use Rattle.core_report.specs.Grouped.{IsGroupedText}
+use Rattle.image_builder.specs.Generated.{generated}
+use Rattle.image_builder.specs.Inverse.{IsCoreOf}
+use Rattle.program_report.specs.Samples.{sample_text}
 use Rattle.core_report.specs.Merged.{python_in}
 use Rattle.core_report.specs.Opening.{OpenedIs, level_asked, locate_text, slim_cause}
 use Rattle.core_report.specs.Stacked.{LeadsTo, Stacked, StackedIs, locals_asked, reach_text}
@@ -207,6 +210,17 @@ abbrev pub IsSlimOutcome : AsksSlim → List (List ℕ) → Outcome → Type 0
 IsSlimOutcome s contents outcome =
     OutcomeThen (λ cause. cause) (OpensBy s.images contents) (IsSlimmedFrom s.level) outcome
 
+-- three lines of the program of a seed, or the bytes of a core that has the stacks of that program (`IsCoreOf`), laid
+-- by the example of a layout
+abbrev pub IsSampledAs : (core : Bool) → ℕ → Outcome → Type 0
+IsSampledAs false seed outcome = outcome ≡ Ok (sample_text seed (generated seed))
+IsSampledAs true seed outcome =
+    (bytes : List ℕ) × IsCoreOf sample_layout (generated seed) bytes × (outcome ≡ Ok bytes)
+
+abbrev pub IsSampleOutcome : AsksSample → List (List ℕ) → Outcome → Type 0
+IsSampleOutcome s [] outcome = IsSampledAs s.core s.seed outcome
+IsSampleOutcome s _ outcome = ⊥
+
 -- what a command comes to over the contents of all that it asks for
 abbrev pub IsOutcome : Command → List (List ℕ) → Outcome → Type 0
 IsOutcome (walk w) contents outcome = IsWalkOutcome w contents outcome
@@ -216,6 +230,7 @@ IsOutcome (reach r) contents outcome = IsReachOutcome r contents outcome
 IsOutcome (merge m) contents outcome = IsMergeOutcome m contents outcome
 IsOutcome (locate l) contents outcome = IsLocateOutcome l contents outcome
 IsOutcome (slim s) contents outcome = IsSlimOutcome s contents outcome
+IsOutcome (seeded s) contents outcome = IsSampleOutcome s contents outcome
 
 -- ---- contents with which nothing is wrong
 
@@ -257,6 +272,7 @@ IsFaultless (reach r) contents = IsFaultlessReach r contents
 IsFaultless (merge m) contents = IsFaultlessMerge m contents
 IsFaultless (locate l) contents = IsFaultlessProcess l.images default_config contents
 IsFaultless (slim s) contents = IsFaultlessProcess s.images (level_asked s.level) contents
+IsFaultless (seeded s) contents = ⊤
 
 -- the causes that a command may come to though nothing is wrong with its files
 abbrev pub IsOwnCause : Cause → Type 0

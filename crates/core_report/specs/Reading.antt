@@ -5,7 +5,7 @@ use Rattle.outside.specs.Files.{Told, Gives}
 use Rattle.py_layout.specs.File.{IsRightFor}
 use Rattle.py_layout.specs.declared.error.LayoutError.{LayoutError}
 use Rattle.py_layout.specs.declared.error.LayoutError.TheVariants as layout
-use Rattle.core_words.specs.Words.{Command, Triage, dump, files_of, kept_files, locate, merge, reach, slim, triage, walk}
+use Rattle.core_words.specs.Words.{Command, Triage, dump, files_of, kept_files, locate, merge, reach, seeded, slim, triage, walk}
 use Rattle.core_report.specs.declared.walk_command.WalkFiles.{WalkFiles}
 use Rattle.core_report.specs.declared.report_files.ReportFiles.{ReportFiles}
 use Rattle.core_report.specs.declared.merge_command.MergeFiles.{MergeFiles}
@@ -32,6 +32,7 @@ Stops (reach r) contents = ⊥
 Stops (merge m) contents = ⊥
 Stops (locate l) contents = ⊥
 Stops (slim s) contents = ⊥
+Stops (seeded s) contents = ⊥
 
 -- this is the file that is asked for after these contents
 pub record IsNext (command : Command) (contents : List (List ℕ)) (name : List ℕ) : Type 0 where

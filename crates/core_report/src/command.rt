@@ -18,6 +18,7 @@ use crate::locate_command::locate_over;
 use crate::merge_command::{MergeFiles, merge_over};
 use crate::reach_command::reach_over;
 use crate::report_files::ReportFiles;
+use crate::sample_command::sample_over;
 use crate::slim_command::slim_over;
 use crate::triage_command::{TriageFiles, triage_over};
 use crate::trouble::Trouble;
@@ -69,6 +70,7 @@ fn text_of<'a, F: Files>(
             let read = ReportFiles::read(alloc, core, layouts, &words.images, files)?;
             Ok(slim_over(alloc, words, read)?)
         }
+        Command::Sample(words) => Ok(sample_over(alloc, words)?),
     }
 }
 

@@ -17,6 +17,7 @@ mod opened;
 mod reach_command;
 mod reading;
 mod report_files;
+mod sample_command;
 mod slim_command;
 mod triage_command;
 mod trouble;

@@ -8,12 +8,13 @@ use Rattle.core_words.specs.declared.walk.WalkWords.{WalkWords}
 use Rattle.core_words.specs.declared.walk.LayoutSource.{LayoutSource}
 use Rattle.core_words.specs.declared.walk.LayoutSource.TheVariants.{Sample, File}
 use Rattle.core_words.specs.declared.command.Command.{Command}
-use Rattle.core_words.specs.declared.command.Command.TheVariants.{Walk, Dump as Dumped, Triage as Grouped, Reach as Reached, Merge as Merged, Locate as Located, Slim as Slimmed}
+use Rattle.core_words.specs.declared.command.Command.TheVariants.{Walk, Dump as Dumped, Triage as Grouped, Reach as Reached, Merge as Merged, Locate as Located, Slim as Slimmed, Sample as Sampled}
 use Rattle.core_words.specs.declared.dump.DumpWords.{DumpWords}
 use Rattle.core_words.specs.declared.triage.TriageWords.{TriageWords}
 use Rattle.core_words.specs.declared.locate.LocateWords.{LocateWords}
 use Rattle.core_words.specs.declared.merge.MergeWords.{MergeWords}
 use Rattle.core_words.specs.declared.reach.ReachWords.{ReachWords}
+use Rattle.core_words.specs.declared.sample.SampleWords.{SampleWords}
 use Rattle.core_words.specs.declared.slim.SlimWords.{SlimWords}
 
 abbrev pub asked_version : Release → Version
@@ -55,6 +56,9 @@ asked_locate l = record { core = l.core.now; layouts = l.layouts.now; images = l
 abbrev pub asked_slim : SlimWords → words.Slim
 asked_slim s = record { core = s.core.now; layouts = s.layouts.now; level = s.level; images = s.images.items }
 
+abbrev pub asked_sample : SampleWords → words.Sample
+asked_sample s = record { seed = s.seed; core = s.core }
+
 abbrev pub asked_command : Command → words.Command
 asked_command (Walk w) = words.walk (asked_walk w)
 asked_command (Dumped d) = words.dump (asked_dump d)
@@ -63,3 +67,4 @@ asked_command (Reached r) = words.reach (asked_reach r)
 asked_command (Merged m) = words.merge (asked_merge m)
 asked_command (Located l) = words.locate (asked_locate l)
 asked_command (Slimmed s) = words.slim (asked_slim s)
+asked_command (Sampled s) = words.seeded (asked_sample s)

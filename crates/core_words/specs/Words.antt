@@ -1,5 +1,9 @@
 -- The words of a command line, as lists of bytes, and what they ask for.
+<<<<<<< HEAD
 use Rattle.std.specs.Prelude.{ℕ, ◌≤◌, ⊤, ◌^◌, ◌&&◌, Bool, nat_lt, nat_le, nat_eq, if◌then◌else◌, List, [], ◌∷◌, ◌++◌, length, take, drop, map, Option, Some, None, option_and_then, option_map, bytes_eq, codes, string_bytes, String}
+=======
+use Rattle.std.specs.Prelude.{ℕ, ◌≤◌, ⊤, ◌^◌, ◌==◌, ◌&&◌, Bool, true, false, nat_lt, nat_le, nat_eq, if◌then◌else◌, List, [], ◌∷◌, ◌++◌, length, take, drop, map, Option, Some, None, option_and_then, option_map, bytes_eq, codes, string_bytes, String}
+>>>>>>> 1244a74 (wip: words of sample, its checks)
 use Rattle.std.specs.List.{list_all, position_or_len, starts_with, before_first, after_first}
 use Rattle.std.specs.Char.{digit_value}
 use Rattle.std.specs.Str.Parse.{digits_value}
@@ -86,6 +90,11 @@ pub record Slim : Type 0 where
   pub level : ℕ
   pub images : List (List ℕ × List ℕ)
 
+-- a program that is made up of a number: how much its report shows, or its core
+pub record Sample : Type 0 where
+  pub seed : ℕ
+  pub core : Bool
+
 -- what words ask for
 pub data Command : Type 0 where
   walk : Walk → Command
@@ -95,6 +104,7 @@ pub data Command : Type 0 where
   merge : Merge → Command
   locate : Locate → Command
   slim : Slim → Command
+  seeded : Sample → Command
 
 -- a walk of these parts, where all are there
 abbrev pub walk_by : List ℕ → LayoutSource → Option Version → Option ℕ → Option ℕ → Option Walk
@@ -166,6 +176,15 @@ abbrev pub slim_words : List (List ℕ) → Option Slim
 slim_words (core ∷ layouts ∷ level ∷ words) = slim_by core layouts (word_number level) words
 slim_words _ = None
 
+abbrev pub sample_by : List ℕ → Bool → Option Sample
+sample_by seed core = option_map (λ n. record { seed = n; core = core }) (word_number seed)
+
+-- N, or N core
+abbrev pub sample_words : List (List ℕ) → Option Sample
+sample_words (seed ∷ []) = sample_by seed false
+sample_words (seed ∷ what ∷ []) = if bytes_eq what (codes "core") then sample_by seed true else None
+sample_words _ = None
+
 -- the command's name, and then its words
 abbrev pub command_of : List (List ℕ) → Option Command
 command_of [] = None
@@ -176,6 +195,7 @@ command_of (name ∷ words) =
     if bytes_eq name (codes "merge") then option_map (λ m. merge m) (merge_words words) else
     if bytes_eq name (codes "locate") then option_map (λ l. locate l) (locate_words words) else
     if bytes_eq name (codes "slim") then option_map (λ s. slim s) (slim_words words) else
+    if bytes_eq name (codes "sample") then option_map (λ s. seeded s) (sample_words words) else
     option_map (λ d. dump d) (dump_words (name ∷ words))
 
 -- no command names more than 4096 cores to be put in groups
@@ -197,6 +217,7 @@ kept_files (reach r) = r.core ∷ r.layouts ∷ map (λ image. image.1) r.images
 kept_files (merge m) = m.core ∷ m.layouts ∷ (map (λ image. image.1) m.images ++ m.addresses ∷ [])
 kept_files (locate l) = l.core ∷ l.layouts ∷ map (λ image. image.1) l.images
 kept_files (slim s) = s.core ∷ s.layouts ∷ map (λ image. image.1) s.images
+kept_files (seeded s) = []
 
 -- the names of those that are read in its work, one at a time
 abbrev pub later_files : Command → List (List ℕ)
@@ -207,6 +228,7 @@ later_files (reach r) = []
 later_files (merge m) = []
 later_files (locate l) = []
 later_files (slim s) = []
+later_files (seeded s) = []
 
 -- all the files that a command names, in the order in which they are read
 abbrev pub files_of : Command → List (List ℕ)

@@ -1,7 +1,7 @@
 //! What words ask for.
 ghost use Rattle.std.specs.Prelude.{IfOk, option_map};
 ghost use Rattle.core_words.specs.Answers.{AnswersWords};
-ghost use Rattle.core_words.specs.Words.{HasFewCores, command_of, locate, locate_words, merge, merge_words, reach, reach_words, slim, slim_words, texts, triage, triage_words, walk, walk_words};
+ghost use Rattle.core_words.specs.Words.{HasFewCores, command_of, locate, locate_words, merge, merge_words, reach, reach_words, sample_words, seeded, slim, slim_words, texts, triage, triage_words, walk, walk_words};
 ghost use Rattle.core_words.specs.Seen.{asked_command};
 
 use crate::args_error::ArgsError;
@@ -9,6 +9,7 @@ use crate::dump::{DumpWords, config_from_args};
 use crate::locate::{LocateWords, locate_words};
 use crate::merge::{MergeWords, merge_words};
 use crate::reach::{ReachWords, reach_words};
+use crate::sample::{SampleWords, sample_words};
 use crate::slim::{SlimWords, slim_words};
 use crate::triage::{TriageWords, triage_words};
 use crate::walk::{WalkWords, walk_words};
@@ -31,19 +32,21 @@ pub enum Command<'a> {
     Locate(LocateWords<'a>),
     /// A core of what the stacks of another one need.
     Slim(SlimWords<'a>),
+    /// What is shown of a program that is made up, or its core.
+    Sample(SampleWords),
 }
 
 /// What the words ask for, the first of which is the command's name: `walk CORE LAYOUTS VERSION INTERP LOCK`,
 /// `triage LAYOUTS CORE.. [PATH=FILE]..`, `reach CORE LAYOUTS INDEX [PATH=FILE]..`,
 /// `merge CORE LAYOUTS INDEX ADDRESSES [PATH=FILE]..`, `locate CORE LAYOUTS [PATH=FILE]..`,
-/// `slim CORE LAYOUTS LEVEL [PATH=FILE]..`, or the words of a report, as `config_from_args` takes them.
+/// `slim CORE LAYOUTS LEVEL [PATH=FILE]..`, `sample N`, `sample N core`, or the words of a report, as `config_from_args` takes them.
 ///
 /// Of a walk `LAYOUTS` is `sample`, for `py_fields::Layout::sample`, or else the name of a layout file. `VERSION` is
 /// three runs of 1 to 3 decimal digits joined by dots. `INTERP` and `LOCK` are 1 to 20 decimal digits, or
 /// `0x` and 1 to 16 hexadecimal digits of either case, of a number below 2^64.
 ///
 /// Of `triage` the cores are the words before the first with an equals sign, 1 to 4096 of them; of `reach` and
-/// `merge` `INDEX` is a number as `INTERP` is, of `slim` `LEVEL`. Behind the others each word is an image's: a path, the
+/// `merge` `INDEX` is a number as `INTERP` is, of `slim` `LEVEL`, of `sample` `N`. Behind the others each word is an image's: a path, the
 /// first equals sign, and the name of a file.
 ///
 /// - `Refused` exactly where the words are no such words.
@@ -72,6 +75,9 @@ pub fn read_words(alloc: Global, words: &[String]) -> Result<Command<'_>, ArgsEr
     }
     if name.as_str() == "slim" {
         return slim_command(alloc, rest);
+    }
+    if name.as_str() == "sample" {
+        return sample_command(rest);
     }
     match config_from_args(alloc, words) {
         Ok(words) => Ok(Command::Dump(words)),
@@ -136,5 +142,15 @@ fn slim_command(alloc: Global, words: &[String]) -> Result<Command<'_>, ArgsErro
     match slim_words(alloc, words) {
         Ok(words) => Ok(Command::Slim(words)),
         Err(error) => Err(error),
+    }
+}
+
+/// A program that is made up, by the words behind the name.
+fn sample_command<'a>(words: &'a [String]) -> Result<Command<'a>, ArgsError>
+    ensures { AnswersWords asked_command (option_map (λ s. seeded s) (sample_words (texts words.now))) result }
+{
+    match sample_words(words) {
+        Some(words) => Ok(Command::Sample(words)),
+        None => Err(ArgsError::Refused),
     }
 }

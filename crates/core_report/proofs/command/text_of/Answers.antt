@@ -1,9 +1,9 @@
-use Rattle.std.proofs.Common.{◌≡◌, ap, length, refl}
+use Rattle.std.proofs.Common.{◌≡◌, [], ap, length, refl}
 use Rattle.std.proofs.lemmas.Result.{err_from_is_err_and}
-use Rattle.core_words.specs.Seen.{asked_dump, asked_locate, asked_merge, asked_reach, asked_slim, asked_triage, asked_walk}
-use Rattle.core_words.specs.Words.{dump, locate, merge, reach, slim, triage, walk}
+use Rattle.core_words.specs.Seen.{asked_dump, asked_locate, asked_merge, asked_reach, asked_sample, asked_slim, asked_triage, asked_walk}
+use Rattle.core_words.specs.Words.{dump, locate, merge, reach, seeded, slim, triage, walk}
 use Rattle.core_report.specs.Reading.{merge_contents, report_contents, walk_contents}
-use Rattle.core_report.proofs.Turns.{caused_of, comes_from, comes_of, dump_asks, dump_has, locate_asks, locate_has, reach_asks, reach_has, slim_asks, slim_has, troubled_from}
+use Rattle.core_report.proofs.Turns.{caused_of, comes_from, comes_of, dump_asks, dump_has, locate_asks, locate_has, reach_asks, reach_has, sample_has, slim_asks, slim_has, troubled_from}
 use Rattle.core_report.proofs.command.text_of.Goals as goal
 
 pub returns-in_err-walk_over-in-Walk-clause-comes : goal.returns-in_err-walk_over-in-Walk-clause-comes
@@ -123,3 +123,14 @@ returns-in_ok-slim_over-in-Slim-clause-comes g c =
     let has = slim_has _ _ s read.read _ c.deref-in-Slim.ensures.value
     (read.ensures.read (slim s) (slim_asks s _ _ _ c.as_bytes-core-in-Slim.ensures.value c.as_bytes-layouts-in-Slim.ensures.value c.deref-in-Slim.ensures.value)) in
     rw c.in-Slim.is (comes_of _ _ (slim s) (report_contents read.read) c.in_ok-slim_over-in-Slim.field-0 has c.in_ok-slim_over-in-Slim.ensures)
+
+pub returns-in_err-sample_over-in-Sample-clause-comes : goal.returns-in_err-sample_over-in-Sample-clause-comes
+returns-in_err-sample_over-in-Sample-clause-comes g c =
+    let p = err_from_is_err_and c.from_residual-in_err-sample_over-in-Sample.result c.from_residual-in_err-sample_over-in-Sample.ensures.1 in
+    let s = asked_sample c.in-Sample.words in
+    rw (c.in-Sample.is, p.1, p.2) (caused_of _ _ (seeded s) [] _ (sample_has _ s) c.in_err-sample_over-in-Sample.ensures)
+
+pub returns-in_ok-sample_over-in-Sample-clause-comes : goal.returns-in_ok-sample_over-in-Sample-clause-comes
+returns-in_ok-sample_over-in-Sample-clause-comes g c =
+    let s = asked_sample c.in-Sample.words in
+    rw c.in-Sample.is (comes_of _ _ (seeded s) [] c.in_ok-sample_over-in-Sample.field-0 (sample_has _ s) c.in_ok-sample_over-in-Sample.ensures)
