@@ -21,6 +21,7 @@ import rows_dump
 import rows_listing
 import rows_merge
 import rows_reach
+import rows_sample
 import rows_search
 import rows_slim
 import rows_triage
@@ -88,7 +89,7 @@ def main() -> int:
     parser.add_argument("--only", default="", help="the rows in whose name this stands")
     parser.add_argument("--list", action="store_true", help="print the names of the rows, and run none")
     words = parser.parse_args()
-    lists = [(words.program, [*rows_walk.rows(), *rows_dump.rows(), *rows_search.rows(), *rows_triage.rows(), *rows_reach.rows(), *rows_merge.rows(), *rows_slim.rows()]), (words.listing, rows_listing.rows())]
+    lists = [(words.program, [*rows_walk.rows(), *rows_dump.rows(), *rows_search.rows(), *rows_triage.rows(), *rows_reach.rows(), *rows_merge.rows(), *rows_slim.rows(), *rows_sample.rows()]), (words.listing, rows_listing.rows())]
     chosen = [(program, [row for row in rows if words.only in row.what]) for program, rows in lists]
     names = [row.what for _, rows in chosen for row in rows]
     assert len(set(names)) == len(names), "two rows of one name"

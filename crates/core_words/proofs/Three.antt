@@ -1,8 +1,8 @@
--- Words of which there are too few.
-use Rattle.std.proofs.Common.{◌≡◌, ◌<◌, List, [], ◌∷◌, length, None, refl, arith}
+-- Words of which there are too few, or too many.
+use Rattle.std.proofs.Common.{◌≡◌, ◌<◌, ◌≤◌, List, [], ◌∷◌, length, None, refl, arith}
 use Rattle.std.specs.Prelude.{String}
 use Rattle.std.specs.Global.{Global}
-use Rattle.core_words.specs.Words.{locate_words, merge_words, reach_words, slim_words, texts}
+use Rattle.core_words.specs.Words.{locate_words, merge_words, reach_words, sample_words, slim_words, texts}
 
 pub not_two : (words : List (String Global)) → length words < 2 → locate_words (texts words) ≡ None
 not_two [] lt = refl
@@ -27,3 +27,9 @@ not_four (a ∷ []) lt = refl
 not_four (a ∷ b ∷ []) lt = refl
 not_four (a ∷ b ∷ c ∷ []) lt = refl
 not_four (a ∷ b ∷ c ∷ d ∷ words) lt = absurd (omega (arith, lt))
+
+pub too_many : (words : List (String Global)) → 3 ≤ length words → None ≡ sample_words (texts words)
+too_many [] le = absurd (omega (arith, le))
+too_many (a ∷ []) le = absurd (omega (arith, le))
+too_many (a ∷ b ∷ []) le = absurd (omega (arith, le))
+too_many (a ∷ b ∷ c ∷ words) le = refl
