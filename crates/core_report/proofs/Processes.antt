@@ -185,7 +185,7 @@ sampled_agree false seed a b one other na nb = text_agree _ _ a b one other
 sampled_agree true seed a b one other na nb = text_agree one.0 other.0 a b one.2 other.2
 
 pub sample_agree : (s : AsksSample) (contents : List (List ℕ)) → Agree (IsSampleOutcome s contents)
-sample_agree s [] = sampled_agree s.core s.seed
+sample_agree s [] a b one other na nb = sampled_agree s.core s.seed a b one other na nb
 sample_agree s (x ∷ xs) a b one other na nb = absurd one
 
 sampled_sound : (core : Bool) (seed : ℕ) → NoCause (IsSampledAs core seed)
@@ -193,7 +193,7 @@ sampled_sound false seed cause ne is = absurd (let h : _ = is in cc)
 sampled_sound true seed cause ne is = absurd (let h : _ = is.2 in cc)
 
 pub sample_sound : (s : AsksSample) (contents : List (List ℕ)) → NoCause (IsSampleOutcome s contents)
-sample_sound s [] = sampled_sound s.core s.seed
+sample_sound s [] cause ne is = sampled_sound s.core s.seed cause ne is
 sample_sound s (x ∷ xs) cause ne is = absurd is
 
 -- ---- slim cores

@@ -128,9 +128,11 @@ pub returns-in_err-sample_over-in-Sample-clause-comes : goal.returns-in_err-samp
 returns-in_err-sample_over-in-Sample-clause-comes g c =
     let p = err_from_is_err_and c.from_residual-in_err-sample_over-in-Sample.result c.from_residual-in_err-sample_over-in-Sample.ensures.1 in
     let s = asked_sample c.in-Sample.words in
-    rw (c.in-Sample.is, p.1, p.2) (caused_of _ _ (seeded s) [] _ (sample_has _ s) c.in_err-sample_over-in-Sample.ensures)
+    let seen = g.F.Files.seen c.args.files.now in
+    rw (c.in-Sample.is, p.1, p.2) (caused_of seen seen (seeded s) [] _ (sample_has seen s) c.in_err-sample_over-in-Sample.ensures)
 
 pub returns-in_ok-sample_over-in-Sample-clause-comes : goal.returns-in_ok-sample_over-in-Sample-clause-comes
 returns-in_ok-sample_over-in-Sample-clause-comes g c =
     let s = asked_sample c.in-Sample.words in
-    rw c.in-Sample.is (comes_of _ _ (seeded s) [] c.in_ok-sample_over-in-Sample.field-0 (sample_has _ s) c.in_ok-sample_over-in-Sample.ensures)
+    let seen = g.F.Files.seen c.args.files.now in
+    rw c.in-Sample.is (comes_of seen seen (seeded s) [] c.in_ok-sample_over-in-Sample.field-0 (sample_has seen s) c.in_ok-sample_over-in-Sample.ensures)
