@@ -5,7 +5,8 @@
 
 The machine, segments, sections, symbols and the build id are compared line by line; of a Python binary or library also
 the bss, and the addresses of _PyRuntime and Py_Version, as for an image that is mapped where it is linked. Without FILE
-these are the running Python, its libpython if it has one, /bin/sh, and the core of the stored run. A word of readelf
+these are the running Python, its libpython if it has one, /bin/sh, the core of the stored run, and the core and the image
+of a program that `listing` builds, of which readelf is to warn of nothing. A word of readelf
 whose number isn't known here is compared with any number, and has one line. What can't be tried here has one line that
 says why. The status is 0 exactly where nothing that was tried failed.
 """
@@ -17,9 +18,11 @@ import shutil
 import subprocess
 import sys
 import sysconfig
+import tempfile
 from pathlib import Path
 from typing import Dict, Iterator, List, Optional, Set, Tuple
 
+import rows_built
 from rooms import ROOT
 
 STORED_CORE = ROOT / "crates" / "pystacks" / "data" / "core"
@@ -191,6 +194,29 @@ def compare(program: str, path: str, is_python: bool, words: Words) -> Optional[
     return None
 
 
+def warnings(path: str) -> str:
+    """What readelf says on the standard error of a file's headers, symbols and notes, or warns of beside them."""
+    words = ["readelf", "-lSsnW", path]
+    ran = subprocess.run(words, stdout=subprocess.PIPE, stderr=subprocess.STDOUT, env={**os.environ, "LC_ALL": "C"})
+    lines = ran.stdout.decode("utf-8", "replace").splitlines()
+    return "; ".join(line for line in lines if re.search("readelf:|[Ww]arning|[Ee]rror|corrupt", line))
+
+
+def compare_built(program: str) -> Optional[str]:
+    """What differs first in the files of programs that are built, or what readelf warns of there, if anything."""
+    for machine in ("x86-64", "aarch64"):
+        for version, text in rows_built.SAMPLES:
+            files = rows_built.built(os.path.abspath(program), text, "locals", version, machine)
+            with tempfile.TemporaryDirectory(prefix="built-") as folder:
+                for part in ("core", "image"):
+                    path = os.path.join(folder, part)
+                    Path(path).write_bytes(files[part])
+                    difference = compare(program, path, part == "image", Words()) or warnings(path)
+                    if difference:
+                        return f"{part} of {version}, {machine}: {difference}"
+    return None
+
+
 def default_files() -> List[str]:
     """The running Python, its library if it has one, the shell, and the core of the stored run."""
     library = os.path.join(sysconfig.get_config_var("LIBDIR") or "", sysconfig.get_config_var("INSTSONAME") or "")
@@ -216,6 +242,10 @@ def main() -> int:
         print(f"compare_elf: {path}: {difference or 'agrees with readelf'}")
         if words.unknown:
             print(f"compare_elf: {path}: not compared, as their numbers aren't known here: {', '.join(sorted(words.unknown))}")
+        status = 1 if difference else status
+    if not args.file:
+        difference = compare_built(args.program)
+        print(f"compare_elf: programs that are built: {difference or 'agree with readelf, which warns of nothing'}")
         status = 1 if difference else status
     return status
 

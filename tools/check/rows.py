@@ -3,8 +3,8 @@
 
     tools/check/rows.py --program crates/pystacks/out/pystacks [--listing FILE] [--only WORD] [--list]
 
-Each row runs in a folder of its own that holds its files. The rows of `listing` run where that is built. The status is 0
-exactly where each row came out as it says.
+Each row runs in a folder of its own that holds its files. The rows of `listing`, and those of programs whose cores it
+writes, run where that is built. The status is 0 exactly where each row came out as it says.
 """
 
 import argparse
@@ -17,6 +17,7 @@ from concurrent.futures import ThreadPoolExecutor
 from pathlib import Path
 from typing import List, Optional
 
+import rows_built
 import rows_dump
 import rows_listing
 import rows_merge
@@ -90,6 +91,11 @@ def main() -> int:
     parser.add_argument("--list", action="store_true", help="print the names of the rows, and run none")
     words = parser.parse_args()
     lists = [(words.program, [*rows_walk.rows(), *rows_dump.rows(), *rows_search.rows(), *rows_triage.rows(), *rows_reach.rows(), *rows_merge.rows(), *rows_slim.rows(), *rows_sample.rows()]), (words.listing, rows_listing.rows())]
+    if os.path.isfile(words.listing):
+        listing = os.path.abspath(words.listing)
+        lists += [(words.program, rows_built.rows(listing)), (words.listing, rows_built.listing_rows(listing))]
+    else:
+        print(f"rows: those of built programs are not known: there is no {words.listing}")
     chosen = [(program, [row for row in rows if words.only in row.what]) for program, rows in lists]
     names = [row.what for _, rows in chosen for row in rows]
     assert len(set(names)) == len(names), "two rows of one name"

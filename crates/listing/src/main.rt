@@ -1,18 +1,27 @@
 //! What is read in a file, line by line, for comparison with other readers: `listing elf FILE [ADDR SIZE]`,
-//! `listing maps FILE` and `listing footprint LAYOUTS CORE [PATH=FILE]..`.
+//! `listing maps FILE` and `listing footprint LAYOUTS CORE [PATH=FILE]..`; and the files of programs that are built:
+//! `listing built LAYOUTS PROGRAM VERSION MACHINE PART`.
 //!
 //! Of an ELF file the machine, each segment, each section, each symbol and the build id have a line; with
 //! ADDR and SIZE, decimal numbers, also what the file says as an image that is mapped there. Of maps text,
 //! which is read as that of the process 1, each line has one. All these numbers are decimal. A name that is no
 //! text is `?`, and `-` stands for none. Of a core each read of its stacks, by a layout file and the files that its
-//! process had mapped, has a line in order: the start and the size of the range, in hexadecimal digits. This is a
-//! tool of the repository, and no command of `pystacks`.
+//! process had mapped, has a line in order: the start and the size of the range, in hexadecimal digits.
+//!
+//! A program that is built is `frames`, of one thread of two frames, `locals`, in which that thread holds the lock and
+//! its first frame has two locals, or the number of a seed. The machine is `x86-64`, `aarch64` or `other`. The part is
+//! `core` or `image`, whose bytes are written, or `places`, the addresses of the interpreter and the lock. Where nothing
+//! is built, one line says why.
+//!
+//! This is a tool of the repository, and no command of `pystacks`.
 #![tactic(auto)]
 
+mod built;
 mod elf_file;
 mod footprint;
 mod maps_file;
 
+use built::list_built;
 use elf_file::list_elf;
 use footprint::list_footprint;
 use maps_file::list_maps;
@@ -51,6 +60,7 @@ fn run<R: Env + Files + Print + Alloc<A = Global>>(rt: &R) -> io::Result<()> {
         "elf" => list_elf(&mut out, rt.alloc(), &bytes, map_of(rest))?,
         "maps" => list_maps(&mut out, rt.alloc(), &bytes)?,
         "footprint" => list_footprint(&mut out, rt, &bytes, rest)?,
+        "built" => list_built(&mut out, rt.alloc(), &bytes, rest)?,
         _ => writeln!(out, "refused")?,
     }
     out.flush()
