@@ -42,7 +42,7 @@ rises_apart low (p ∷ ps) r (suc i) zero d ij lt = absurd (omega arith)
 rises_apart low (p ∷ ps) r (suc i) (suc j) d ij lt =
     rises_apart (p.start + p.len + 1) ps r.2 i j d (omega arith) (omega arith)
 
-apart_rises : (low : ℕ) (ps : List Span) → All (λ p. 0 < p.len) ps → AllPairs EndsBefore ps
+pub apart_rises : (low : ℕ) (ps : List Span) → All (λ p. 0 < p.len) ps → AllPairs EndsBefore ps
     → ((d : Span) → 0 < length ps → low ≤ (get_or ps 0 d).start) → Rises low ps
 apart_rises low [] some apart from = tt
 apart_rises low (p ∷ ps) some apart from = (
@@ -69,7 +69,7 @@ covers_within a s le lt =
     let also : ltb a (s.start + s.len) ≡ true = grind (arith, nat_tests) in
     rw (yes, also) refl
 
-lies_before : (low : ℕ) (ps : List Span) (a : ℕ) → Rises low ps → a < low → lies_in ps a ≡ false
+pub lies_before : (low : ℕ) (ps : List Span) (a : ℕ) → Rises low ps → a < low → lies_in ps a ≡ false
 lies_before low [] a r lt = refl
 lies_before low (p ∷ ps) a r lt =
     rw (covers_before a p (omega (arith, r.0)), lies_before (p.start + p.len + 1) ps a r.2 (omega (arith, r.0))) refl

@@ -1,4 +1,5 @@
 pub mod Joining
+pub mod Fewer
 pub mod Appending
 pub mod ReadBack
 pub mod Pieces

@@ -1,10 +1,11 @@
 //! A core of some ranges of another one's memory.
-ghost use Rattle.std.specs.Prelude.{◌≡◌, ◌≤◌, All, IfOk, length};
+ghost use Rattle.std.specs.Prelude.{◌≡◌, ◌≤◌, ℕ, All, Err, IfOk, length};
 ghost use Rattle.image_memory.specs.Cores.{IsCore};
 ghost use Rattle.image_memory.specs.Backed.{regions_of};
 ghost use Rattle.process_memory.specs.Memory.{byte_at};
 ghost use Rattle.process_memory.specs.Seen.{HoldsSpan, items_of};
 ghost use Rattle.core_slim.specs.Slim.{IsSlimmed, IsSoleSlim, Keeps, slim_core};
+ghost use Rattle.core_slim.specs.declared.error.SlimError.TheVariants.{TooManyPieces};
 
 use crate::SlimError;
 use crate::headers::{add_headers, contents_start};
@@ -50,13 +51,16 @@ fn slim_of(alloc: Global, dump: &BackedDump, pieces: &[Span]) -> Result<Vec<u8>,
 /// What is read of it: the machine, the status records and the last process record of the core, and a memory that has
 /// a byte at exactly the addresses of the ranges, which is the byte of the dump's memory there.
 ///
-/// `TooManyPieces` comes exactly where the ranges have more than 65533 pieces, which it counts, want of memory aside.
+/// `TooManyPieces` comes exactly where the ranges have more than 65533 pieces, which it counts, want of memory aside;
+/// so never where there are no more than 65533 ranges.
 /// Else the one error is want of memory. It takes the time of a sort of the ranges, and each byte is copied once.
 pub fn slim(alloc: Global, dump: &BackedDump, ranges: &[Span]) -> Result<Vec<u8>, SlimError>
     requires held { All (HoldsSpan (byte_at (regions_of dump.now))) ranges.now }
     ensures right { IsSlimmed dump.now.core (byte_at (regions_of dump.now)) ranges.now (items_of result) }
     // what is right is the answer, want of memory aside
     ensures only { IsSoleSlim dump.now.core (byte_at (regions_of dump.now)) ranges.now (items_of result) }
+    // there are no more pieces than ranges
+    ensures few { (count : ℕ) → items_of result ≡ Err (TooManyPieces count) → count ≤ length ranges.now }
     // what is read of it
     ensures keeps { IfOk result (λ bytes.
         Keeps dump.now.core (byte_at (regions_of dump.now)) ranges.now bytes.items) }

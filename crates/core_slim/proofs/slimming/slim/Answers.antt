@@ -5,6 +5,7 @@ use Rattle.process_memory.specs.Memory.{byte_at}
 use Rattle.process_memory.specs.Seen.{HoldsSpan}
 use Rattle.core_slim.specs.Slim.{slim_core}
 use Rattle.core_slim.specs.declared.error.SlimError.TheVariants.{TooManyPieces}
+use Rattle.core_slim.proofs.Fewer.{pieces_few}
 use Rattle.core_slim.proofs.Joining.{pieces_held}
 use Rattle.core_slim.proofs.Kept.{slim_keeps}
 use Rattle.core_slim.proofs.Pieces.{held_ends}
@@ -32,6 +33,12 @@ returns-then-len-gt-MOST_PIECES-clause-only c =
       c.len-then-len-gt-MOST_PIECES.ensures ∙ c.in_ok-pieces.pieces.ok.0,
     )
 
+pub returns-then-len-gt-MOST_PIECES-clause-few : goal.returns-then-len-gt-MOST_PIECES-clause-few
+returns-then-len-gt-MOST_PIECES-clause-few c = λ count is.
+    let counted : count ≡ c.len-then-len-gt-MOST_PIECES.result = cc in
+    let few = pieces_few c.args.ranges.now c.in_ok-pieces.pieces.items c.in_ok-pieces.ensures in
+    omega (arith, counted, few, c.len-then-len-gt-MOST_PIECES.ensures, c.in_ok-pieces.pieces.ok.0)
+
 pub returns : goal.returns
 returns c =
     let dump = c.args.dump.now in
@@ -45,6 +52,7 @@ returns c =
     record {
       right = (ps, c.in_ok-pieces.ensures, few, is);
       only = slim_only dump.core m ranges (Ok bytes) (ps, c.in_ok-pieces.ensures, few, is);
+      few = λ count same. absurd (cc);
       keeps = slim_keeps dump.core (regions_of dump) ranges ps bytes c.in_ok-bytes.ensures.core c.requires.held
           c.in_ok-pieces.ensures few is
           (omega (arith, c.in_ok-bytes.bytes.ok.0, c.in_ok-bytes.bytes.ok.1, c.in_ok-bytes.bytes.small));
