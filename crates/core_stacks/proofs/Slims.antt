@@ -1,5 +1,5 @@
 -- Over a slim core of a footprint the stacks are those of the whole memory.
-use Rattle.std.proofs.Common.{◌≡◌, ◌≢◌, ℕ, List, refl, sym, ap, subst, ◌∙◌, inl, inr, ⊎_elim}
+use Rattle.std.proofs.Common.{◌≡◌, ◌≢◌, ◌≤◌, ℕ, List, arith, refl, sym, ap, subst, ◌∙◌, inl, inr, ⊎_elim}
 use Rattle.std.specs.Prelude.{Result, Ok, Err}
 use Rattle.process_memory.specs.Memory.{Memory, byte_at}
 use Rattle.process_memory.specs.Seen.{IsPartWith}
@@ -15,12 +15,14 @@ use Rattle.py_process.proofs.Agreement.{err_is, kept_or, ok_kept}
 use Rattle.py_process.proofs.StackCauses.{stacks_agree}
 use Rattle.core_slim.specs.Slim.{Keeps}
 use Rattle.core_slim.proofs.Parts.{part_held, whole_held}
+use Rattle.core_slim.specs.declared.error.SlimError.{SlimError}
+use Rattle.core_slim.specs.declared.error.SlimError.TheVariants as slim
 use Rattle.core_stacks.specs.Footprints.{IsFootprint}
 use Rattle.core_stacks.specs.Opened.{IsOpenedAt, Opened, opened_memory}
-use Rattle.core_stacks.specs.Slimmed.{HasStacksOrNone, IsSlimOf, IsSoleLayout, SlimmedSays, TellsCause, refusal_of_core}
+use Rattle.core_stacks.specs.Slimmed.{HasStacksOrNone, IsSlimOf, IsSoleLayout, SlimmedSays, TellsCause, refusal_of_core, refusal_of_slim}
 use Rattle.core_stacks.specs.Sole.{IsSole}
 use Rattle.core_stacks.specs.declared.slimmed_error.SlimmedError.{SlimmedError}
-use Rattle.core_stacks.specs.declared.slimmed_error.SlimmedError.TheVariants.{Core}
+use Rattle.core_stacks.specs.declared.slimmed_error.SlimmedError.TheVariants.{Core, TooManyPieces}
 
 -- a right answer over a part that holds all of a footprint
 answered : (m part : Memory) (f : Finding) (config : Config) (traces : List Trace) (ranges : List Span)
@@ -76,3 +78,21 @@ cause_told o config e refusal sole is error kept says =
     (λ same. let e_is : e ≡ error = cc in inl (ap (λ r. Err r) (is ∙ ap refusal_of_core e_is ∙ refused_as error kept)))
     (λ memory. let e_is : e ≡ core.OutOfMemory = cc in inr (ap (λ r. Err r) (is ∙ ap refusal_of_core e_is)))
     (sole (Err error) says (λ lost. kept (err_is error core.OutOfMemory lost)))
+
+-- ---- how many pieces there are
+
+-- a cause of stacks is no count of pieces
+pub no_pieces : (e : CoreError) (refusal : SlimmedError) (count bound : ℕ) → refusal ≡ refusal_of_core e
+    → ◌≡◌ {A = Result (List ℕ) SlimmedError} (Err refusal) (Err (TooManyPieces count)) → count ≤ bound
+no_pieces core.OutOfMemory refusal count bound is same = absurd (cc)
+no_pieces e refusal count bound is same = absurd (cc)
+
+-- and that of a slim core is no greater than that of its ranges
+pub few_pieces : (e : SlimError) (refusal : SlimmedError) (n bound : ℕ)
+    → ((count : ℕ) → ◌≡◌ {A = Result (List ℕ) SlimError} (Err e) (Err (slim.TooManyPieces count)) → count ≤ n) → n ≤ bound
+    → refusal ≡ refusal_of_slim e → (count : ℕ)
+    → ◌≡◌ {A = Result (List ℕ) SlimmedError} (Err refusal) (Err (TooManyPieces count)) → count ≤ bound
+few_pieces (slim.TooManyPieces m) refusal n bound few le is count same =
+    let counted : m ≡ count = cc in
+    omega (arith, few m refl, le, counted)
+few_pieces slim.OutOfMemory refusal n bound few le is count same = absurd (cc)

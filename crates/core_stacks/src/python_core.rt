@@ -1,5 +1,5 @@
 //! A core of a Python process.
-ghost use Rattle.std.specs.Prelude.{◌≡◌, ℕ, IfErr, IfOk, map, option_map};
+ghost use Rattle.std.specs.Prelude.{◌≡◌, ◌+◌, ◌≤◌, ℕ, Err, IfErr, IfOk, map, option_map};
 ghost use Rattle.process_memory.specs.Layers.{plain};
 ghost use Rattle.process_memory.specs.Memory.{Memory, byte_at};
 ghost use Rattle.process_memory.specs.Seen.{items_of};
@@ -9,7 +9,9 @@ ghost use Rattle.py_stacks.specs.Threads.{trace_of};
 ghost use Rattle.py_process.specs.Facts.{facts_of};
 ghost use Rattle.py_process.specs.Reports.{StacksSay, traces_in};
 ghost use Rattle.core_stacks.specs.Footprints.{IsFootprint, traces_with};
+ghost use Rattle.core_stacks.specs.Reached.{finding_cost};
 ghost use Rattle.core_stacks.specs.Slimmed.{IsSlimOf, SlimmedSays, TellsCause};
+ghost use Rattle.core_stacks.specs.declared.slimmed_error.SlimmedError.TheVariants.{TooManyPieces};
 ghost use Rattle.core_stacks.specs.Sole.{IsSole, Settles};
 ghost use Rattle.core_stacks.specs.Opened.{IsFoundIn, IsLeft, Opened, Opens, OpensAt, opened_first, opened_memory};
 ghost use Rattle.core_stacks.specs.Printing.{IsPrintedBy, IsTextOf};
@@ -246,11 +248,15 @@ impl PythonCoreDump {
     /// stacks of this process for the same `Config`, or want of memory, and nothing else.
     ///
     /// - `Core` exactly where `footprint` answers this error, and that is another one than want of memory.
-    /// - `TooManyPieces` exactly where the ranges have more than 65533 pieces.
+    /// - `TooManyPieces` exactly where the ranges have more than 65533 pieces: never where the stacks take no more reads
+    ///   than that.
     /// - `OutOfMemory` where there was no memory left.
     pub fn slimmed(&self, config: &Config) -> Result<Vec<u8>, SlimmedError>
         ensures right { SlimmedSays self.now config.now (items_of result) }
         ensures cause { TellsCause self.now config.now (items_of result) }
+        // no more pieces than the reads that a footprint may list
+        ensures few { (count : ℕ) → items_of result ≡ Err (TooManyPieces count)
+            → count ≤ 13 + finding_cost config.now (opened_memory self.now) self.now.finding }
         ensures keeps { IfOk result (λ bytes. IsSlimOf self.now config.now bytes.items) }
     {
         let (_traces, ranges) = self.footprint(config)?;
