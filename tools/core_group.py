@@ -6,15 +6,11 @@ or were written on different machines, they can't be handed over together.
 """
 
 import os
-import subprocess
-import tempfile
-from dataclasses import dataclass
+from dataclasses import dataclass, field
 from typing import BinaryIO, Dict, List, Optional, Sequence
 
 from core_maps import Use, Wanted, machine_of, wanted_files
-from core_run import end_as, write_all
-
-CANNOT_WRITE = 4
+from core_run import Answer, answer_of
 
 
 class Apart(Exception):
@@ -87,27 +83,51 @@ def renamed(line: bytes, names: Dict[bytes, bytes]) -> bytes:
     """A line of groups, with the user's name for a core: it stands behind four blanks, to the end of the line or to a
     colon."""
     if line.startswith(b"    "):
-        name, colon, rest = line[4:].rstrip(b"\n").partition(b": ")
+        name, colon, rest = line[4:].partition(b": ")
         if name in names:
-            return b"    " + names[name] + colon + rest + b"\n"
+            return b"    " + names[name] + colon + rest
     return line
 
 
-def run_group(command: List[bytes], cores: Sequence[Core]) -> int:
-    """Runs the program over several cores, and returns its status."""
+@dataclass
+class Group:
+    """A part of the program's text: a group with its cores, or those that are refused."""
+
+    lines: List[str] = field(default_factory=list)
+    first: bytes = b""
+    """The name of its first core."""
+
+    @property
+    def is_group(self) -> bool:
+        """Whether it is one of cores that have stacks."""
+        return self.lines[0].startswith("Group ")
+
+
+def renamed_text(text: bytes, cores: Sequence[Core]) -> bytes:
+    """The program's text, with the user's names for cores that were prepared."""
     own = {core.word: core.name for core in cores if core.prepared}
+    return b"\n".join(renamed(line, own) for line in text.split(b"\n"))
+
+
+def groups_of(text: bytes) -> List[Group]:
+    """The program's text in parts, where no name has a newline."""
+    groups: List[Group] = []
+    for line in text.split(b"\n")[:-1]:
+        if not line.startswith(b"    ") or not groups:
+            groups.append(Group())
+        elif not groups[-1].first:
+            groups[-1].first = line[4:]
+        groups[-1].lines.append(line.decode("utf-8", "backslashreplace"))
+    return groups
+
+
+def group_answer(command: Sequence[bytes], cores: Sequence[Core]) -> Answer:
+    """Runs the program over several cores, with the user's names in its lines of faults."""
     fds = [core.prepared.fileno() for core in cores if core.prepared]
-    with tempfile.TemporaryFile() as out, tempfile.TemporaryFile() as lines:
-        status = subprocess.call(command, pass_fds=fds, stdout=out, stderr=lines)
-        out.seek(0)
-        lines.seek(0)
-        said = lines.read()
-        for word, name in own.items():
-            said = said.replace(b": " + word + b"\n", b": " + name + b"\n").replace(b" " + word + b"\n", b" " + name + b"\n")
-        try:
-            for line in out:
-                write_all(1, renamed(line, own))
-        except OSError:
-            status, said = CANNOT_WRITE, b"pystacks: cannot write\n"
-    write_all(2, said)
-    return end_as(status)
+    answer = answer_of(command, fds, b"", b"")
+    said = answer.said
+    for core in cores:
+        if core.prepared:
+            said = said.replace(b": " + core.word + b"\n", b": " + core.name + b"\n")
+            said = said.replace(b" " + core.word + b"\n", b" " + core.name + b"\n")
+    return Answer(answer.status, answer.out, said)

@@ -40,7 +40,7 @@ from child_cores import CASES, Core, Failure, Skip, Thread, Told, core_names, le
 from core_maps import Use, machine_of, wanted_files
 from core_prepare import Wishes, prepared
 from derive_layout import Build, Derived, DeriveError, How, build_of, derive, same_version, told_of
-from dump_core import image_words
+from core_images import image_words
 from find_pythons import pythons
 from footprints import Footprint, blotted, footprint_of
 from layout_plan import plan_of

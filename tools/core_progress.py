@@ -1,0 +1,63 @@
+"""A line of progress on a terminal, while a large core is prepared."""
+
+import sys
+import time
+from contextlib import contextmanager
+from typing import Iterator, Optional
+
+LARGE = 500_000_000
+"""The least bytes of a core at which there is such a line."""
+
+EVERY = 0.2
+"""How many seconds pass between two of them at least."""
+
+
+class Progress:
+    """How many bytes were read so far."""
+
+    def __init__(self) -> None:
+        self.done = 0
+        self.last = time.monotonic()
+
+    def add(self, size: int) -> None:
+        """Adds some bytes, and writes the line anew where it is time."""
+        self.done += size
+        now = time.monotonic()
+        if now - self.last >= EVERY:
+            self.last = now
+            self.write(f"preparing: {self.done / 1e6:.0f} MB read")
+
+    def write(self, text: str) -> None:
+        """Writes a text in place of the last one. (What was longer is cleared.)"""
+        sys.stderr.write(f"\rdump_core: {text}\x1b[K")
+        sys.stderr.flush()
+
+    def end(self) -> None:
+        """Clears the line."""
+        sys.stderr.write("\r\x1b[K")
+        sys.stderr.flush()
+
+
+SHOWN: Optional[Progress] = None
+"""What is shown at the moment, if anything is."""
+
+
+def read(size: int) -> None:
+    """Tells that so many bytes were read."""
+    if SHOWN is not None:
+        SHOWN.add(size)
+
+
+@contextmanager
+def shown_for(size: int) -> Iterator[None]:
+    """Shows the progress of a core of this size, where it is large and there is a terminal."""
+    global SHOWN
+    if size < LARGE or not sys.stderr.isatty():
+        yield
+        return
+    SHOWN = Progress()
+    try:
+        yield
+    finally:
+        SHOWN.end()
+        SHOWN = None
