@@ -15,7 +15,7 @@ try:
     out = open({folder!r} + "/" + name, "rb").read()
 except OSError:
     out = b""
-sys.stdout.buffer.write(out)
+sys.stdout.buffer.write(b"" if {status} else out)
 sys.stdout.flush()
 sys.stderr.buffer.write({said!r})
 sys.exit({status})
