@@ -63,3 +63,12 @@ def signal_name(number: int) -> Optional[str]:
     if FIRST_REAL_TIME <= number <= LAST_SIGNAL:
         return f"SIGRTMIN+{number - FIRST_REAL_TIME}" if number > FIRST_REAL_TIME else "SIGRTMIN"
     return None
+
+
+HIDDEN = re.compile("[\x00-\x1f\x7f-\x9f\u061c\u200e\u200f\u2028-\u202e\u2066-\u2069\ud800-\udfff\ufdd0-\ufdef\ufffe\uffff]")
+"""What a page shows escaped: control characters, and those that turn the direction of what follows."""
+
+
+def in_page(text: str) -> str:
+    """A text of a core as a page shows it, before its markup is escaped."""
+    return HIDDEN.sub(escaped, text)
