@@ -12,6 +12,7 @@ dl.head { display: grid; grid-template-columns: max-content 1fr; gap: .1rem 1rem
 dl.head dt, caption { color: var(--dim); }
 dl.head dd { margin: 0; }
 b.bad, .end { color: var(--bad); }
+b.bad { white-space: nowrap; }
 .box { max-height: 26rem; overflow: auto; border: 1px solid var(--line); padding: 0 .6rem; }
 table { border-collapse: collapse; width: 100%; }
 caption { text-align: left; padding: .3rem 0; }

@@ -89,7 +89,7 @@ class Answer:
 def answer_of(command: Sequence[bytes], fds: Sequence[int], own: bytes, name: bytes) -> Answer:
     """Runs the program over a core, of which it has the word `own` and the user another name, and keeps what it writes."""
     with tempfile.TemporaryFile() as out, tempfile.TemporaryFile() as lines:
-        status = subprocess.call(list(command), pass_fds=list(fds), stdin=subprocess.DEVNULL, stdout=out, stderr=lines)
+        status = subprocess.call(list(command), pass_fds=list(fds), stdout=out, stderr=lines)
         length = out.seek(0, 2)
         if status == 0 and length > LONGEST_ANSWER:
             line = f"the program wrote {length} bytes, more than {LONGEST_ANSWER}: --plain passes its text on"

@@ -19,6 +19,17 @@ sys.dont_write_bytecode = True
 NO_PROGRAM = 127
 
 
+def without(module):
+    """Says which module is missing. Returns the status."""
+    if module.startswith("core_"):
+        sys.stderr.write("dump_core: %s.py isn't beside dump_core.py: it needs the other files of its folder\n" % module)
+        sys.stderr.write("dump_core: next: copy the whole folder, or let tools/install.py --to FOLDER do so\n")
+    else:
+        sys.stderr.write("dump_core: this Python lacks its own module %s\n" % (module or "of some name"))
+        sys.stderr.write("dump_core: next: run the tool by a Python that has its whole standard library\n")
+    return NO_PROGRAM
+
+
 def main():
     """The command. Returns the status."""
     if sys.version_info < (3, 8):
@@ -27,10 +38,7 @@ def main():
     try:
         from core_command import main as run
     except ImportError as error:
-        name = (error.name or "a module") + ".py"
-        sys.stderr.write("dump_core: %s isn't beside dump_core.py: it needs the other files of its folder\n" % name)
-        sys.stderr.write("dump_core: next: copy the whole folder, or let tools/install.py --to FOLDER do so\n")
-        return NO_PROGRAM
+        return without(error.name or "")
     name = os.path.basename(sys.argv[0])
     return run("tools/dump_core.py" if name == "dump_core.py" else name, sys.argv[1:])
 
