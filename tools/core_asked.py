@@ -19,11 +19,15 @@ from core_faults import BAD_WORDS, NO_PROGRAM, NO_ROOM, Fault, say, shown
 from core_images import LONGEST, finder_below, image_words, maps_in, opened, read_core
 from core_maps import Use, is_text
 from core_model import Report
-from core_places import PROGRAM, SALVAGE, layouts_of, program_at
+from core_places import NOT_RUN, PROGRAM, SALVAGE, layouts_of, program_at
 from core_prepare import Prepared, Unprepared, Wishes, available, prepared
 from core_progress import shown_for
 from core_run import Answer, answer_of
 from core_what import check_kind
+
+
+ROOM = "make room, or name another folder by TMPDIR, or another file by --keep"
+"""What to do where a core that is prepared can't be written."""
 
 
 def free_memory() -> Optional[int]:
@@ -53,7 +57,8 @@ def ready(core: Optional[BinaryIO], words: argparse.Namespace) -> Optional[Prepa
         with shown_for(os.fstat(core.fileno()).st_size):
             new = prepared(core, wishes)
     except Unprepared as reason:
-        raise Fault(str(reason), reason.status) from None
+        then = ROOM if reason.status == NO_ROOM else ""
+        raise Fault(str(reason), reason.status, then) from None
     if new:
         say("; ".join(new.said))
     elif words.keep:
@@ -100,7 +105,7 @@ class Asked:
         try:
             return answer_of(command, self.fds, os.fsencode(self.word), os.fsencode(self.name))
         except OSError as error:
-            raise Fault(f"cannot run {shown(command[0])}: {error.strerror}", NO_PROGRAM) from None
+            raise Fault(f"cannot run {shown(command[0])}: {error.strerror}", NO_PROGRAM, NOT_RUN) from None
 
 
 def asked_of(words: argparse.Namespace, name: str) -> Asked:

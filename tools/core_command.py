@@ -13,7 +13,7 @@ from core_faults import BAD_WORDS, CANNOT_WRITE, NO_PROGRAM, NO_ROOM, Fault, say
 from core_group import Apart, Core, group_answer, groups_of, renamed_text, shared_files, shared_machine, told
 from core_images import image_words, opened
 from core_page import group_page, report_page
-from core_places import PROGRAM, layouts_of, program_at
+from core_places import NOT_RUN, PROGRAM, layouts_of, program_at
 from core_prepare import Prepared
 from core_run import end_as, run_over, write_all
 from core_sources import Sources
@@ -204,7 +204,7 @@ def run(words: argparse.Namespace) -> int:
             return group(words)
         return collapse(words) if words.collapsed else show(words, words.core[0])
     except OSError as error:
-        raise Fault(f"cannot run {shown(os.fsencode(program))}: {error.strerror}", NO_PROGRAM) from None
+        raise Fault(f"cannot run {shown(os.fsencode(program))}: {error.strerror}", NO_PROGRAM, NOT_RUN) from None
 
 
 def main(name: str, given: List[str]) -> int:

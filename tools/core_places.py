@@ -38,6 +38,10 @@ BUILD = "(cd crates/pystacks && rt run -- walk data/core sample 3.9.0 0x10000 0)
 """What builds the program."""
 
 
+NOT_RUN = "see that it is a program of this machine, and that it may be run"
+"""What to do where it can't be run."""
+
+
 def machine_name(number: int) -> str:
     """A machine's name, or its number."""
     return NAMES.get(number, f"machine {number}")

@@ -1,8 +1,8 @@
 """What a file is that is no core of a 64-bit little-endian process: so that its user needn't guess."""
 
-import os
 import struct
-from typing import BinaryIO, Optional, Tuple
+from dataclasses import dataclass
+from typing import BinaryIO, Optional
 
 from core_faults import NO_STACKS, Fault, shown
 from core_maps import read_at
@@ -20,24 +20,32 @@ CORE = 4
 OTHER_READERS = "gdb reads such a core: gdb PROGRAM CORE"
 
 
-def said_of(head: bytes) -> Optional[Tuple[str, str]]:
-    """What the first 64 bytes tell of a file that isn't read, and what to do next; nothing of one that may be a core."""
+@dataclass(frozen=True)
+class NoCore:
+    """What a file is that isn't read, and what to do next."""
+
+    line: str
+    then: str
+
+
+def no_core(head: bytes) -> Optional[NoCore]:
+    """What the first 64 bytes tell of a file that isn't read; nothing of one that may be a core."""
     if not head:
-        return "is empty", "see that the disk has room, and that `ulimit -c` is unlimited, before the next one"
+        return NoCore("is empty", "see that the disk has room, and that `ulimit -c` is unlimited, before the next one")
     if not head.startswith(ELF):
-        return "is no ELF file, and so no core", "`file` says what it is; cores packed by gzip, xz, bzip2, zstd and lz4 are taken"
+        return NoCore("is no ELF file, and so no core", "`file` says what it is; cores packed by gzip, xz, bzip2, zstd and lz4 are taken")
     if len(head) < 20:
-        return "ends within its first 20 bytes", "copy the core anew"
+        return NoCore("ends within its first 20 bytes", "copy the core anew")
     order = ">" if head[5] == BIG else "<"
     kind, machine = struct.unpack_from(f"{order}2H", head, 16)
     what = "a core" if kind == CORE else KINDS.get(kind, "an ELF file")
     if head[4] == NARROW:
-        return f"is {what} of a 32-bit machine, {machine_name(machine)}: only 64-bit processes are read", OTHER_READERS
+        return NoCore(f"is {what} of a 32-bit machine, {machine_name(machine)}: only 64-bit processes are read", OTHER_READERS)
     if head[5] == BIG:
-        return f"is {what} of a big-endian machine, {machine_name(machine)}: only little-endian ones are read", OTHER_READERS
+        return NoCore(f"is {what} of a big-endian machine, {machine_name(machine)}: only little-endian ones are read", OTHER_READERS)
     if kind in KINDS:
         then = "/proc/sys/kernel/core_pattern says where cores go; `readelf -h` says CORE of one"
-        return f"is {what} for {machine_name(machine)}, and no core", then
+        return NoCore(f"is {what} for {machine_name(machine)}, and no core", then)
     return None
 
 
@@ -46,8 +54,8 @@ def check_kind(file: Optional[BinaryIO], name: bytes) -> None:
     if file is None:
         return
     try:
-        found = said_of(read_at(file, 0, 64))
+        found = no_core(read_at(file, 0, 64))
     except OSError:
         return
     if found:
-        raise Fault(f"{shown(name)} {found[0]}", NO_STACKS, found[1])
+        raise Fault(f"{shown(name)} {found.line}", NO_STACKS, found.then)
