@@ -46,6 +46,7 @@ from footprints import Footprint, blotted, footprint_of
 from layout_plan import plan_of
 from layout_swaps import swaps
 from real_groups import check_objects, groups_text, kept
+from real_tool import check_tool
 
 
 HOLDER_IN_DUMP = True
@@ -408,6 +409,7 @@ def over_core(program: Path, derived: Derived, core: Core, room: Path) -> Walk:
         notice_wrong(program, core, room, derived)
     check_dump(program, core, layouts, derived)
     check_prepared(program, core, layouts)
+    check_tool(program, core.path, layouts, images_of(core.path, False))
     if core.told.led and derived.with_dicts:
         check_reach(program, core, layouts)
     return run
