@@ -1,5 +1,5 @@
-"""A core as it is handed to a program: prepared where it has to be, with its images and layouts; and what the programs tell
-of it.
+"""A core as it is handed to a program: prepared where it has to be, with its images and layouts; and what the programs
+tell of it.
 
 Where `pysalvage` is there it is asked, since it shows what is left of a broken process. It tells no names of threads, so
 these are those of `pystacks dump`, where that gives a report. Where `pysalvage` isn't there `pystacks dump` is asked alone.
@@ -10,7 +10,7 @@ import json
 import os
 from dataclasses import dataclass
 from pathlib import Path
-from typing import BinaryIO, Dict, List, Optional, Sequence, Tuple
+from typing import BinaryIO, Dict, List, Optional, Sequence
 
 import core_dump
 import core_salvage
@@ -186,6 +186,8 @@ def told_by_dump(words: argparse.Namespace, it: Asked) -> Told:
     if answer.status != 0:
         return Told(answer)
     text = it.answer(dump_command(words, it))
+    if text.status != 0:
+        return Told(text)
     report = core_dump.report_of(parsed(answer.out), parsed(text.out), it.word, it.name)
     return Told(answer, report, core_dump.tree_of(report, json.loads(parsed(answer.out))))
 

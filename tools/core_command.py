@@ -55,7 +55,10 @@ def sources_of(words: argparse.Namespace) -> Optional[Sources]:
     """Where source lines come from, if they are shown. A page has them always."""
     if words.source is None and not words.html:
         return None
-    return Sources(words.root, words.source or "")
+    written = None
+    if len(words.core) == 1 and os.path.isfile(words.core[0]):
+        written = os.path.getmtime(words.core[0])
+    return Sources(words.root, words.source or "", written)
 
 
 def style_of(words: argparse.Namespace) -> Style:

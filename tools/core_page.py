@@ -173,8 +173,10 @@ def table_part(caption: str, heads: Sequence[str], rows: Sequence[str]) -> str:
         return "<p>There are none.</p>"
     columns = "".join(f"<th scope=\"col\">{it}</th>" for it in heads)
     return (
-        "<p id=\"find\" hidden><label>Search <input id=\"word\" type=\"search\"></label> <span id=\"count\" role=\"status\"></span></p>\n"
-        f"<div class=\"box\" tabindex=\"0\" role=\"region\" aria-label=\"Overview\">\n<table>\n<caption>{caption}</caption>\n<thead><tr>{columns}</tr></thead>\n<tbody>\n" + "\n".join(rows) + "\n</tbody>\n</table>\n</div>")
+        "<p id=\"find\" hidden><label>Search <input id=\"word\" type=\"search\"></label>"
+        " <span id=\"count\" role=\"status\"></span></p>\n"
+        "<div class=\"box\" tabindex=\"0\" role=\"region\" aria-label=\"Overview\">\n"
+        f"<table>\n<caption>{caption}</caption>\n<thead><tr>{columns}</tr></thead>\n<tbody>\n" + "\n".join(rows) + "\n</tbody>\n</table>\n</div>")
 
 
 # ---- a core

@@ -5,7 +5,7 @@ A core can name any file. So only regular files of Python are opened, and none t
 
 import os
 import stat
-from typing import Dict, List, Optional, Sequence
+from typing import Dict, List, Optional, Sequence, Set
 
 ENDINGS = (".py", ".pyw", ".pyx", ".pxd", ".pxi")
 LONGEST = 16 << 20
@@ -13,6 +13,9 @@ LONGEST = 16 << 20
 
 WIDEST = 200
 """The most characters of a line that are shown."""
+
+NEWER = "    (the file is newer than the core)"
+"""What stands behind a line that may have been another."""
 
 MOST = 10_000
 """The most files that are looked for."""
@@ -22,8 +25,11 @@ class Sources:
     """The files of sources, each read once."""
 
     def __init__(self, root: str = "", folder: str = "", written: Optional[float] = None) -> None:
-        self.root, self.folder, self.written = root, folder, written
+        self.root, self.folder = root, folder
+        self.written = written
+        """When the core was written, if that is known. A file that is newer may have had other lines then."""
         self.files: Dict[str, Sequence[str]] = {}
+        self.newer: Set[str] = set()
 
     def places(self, name: str) -> List[str]:
         """Where a file may be: below the folder of sources by the longest end of its path that is there, and as it is
@@ -41,6 +47,8 @@ class Sources:
         if name not in self.files:
             path = next((it for it in self.places(name) if is_source(it)), None) if len(self.files) < MOST else None
             self.files[name] = self.read(path) if path else ()
+            if path and self.written is not None and os.stat(path).st_mtime > self.written:
+                self.newer.add(name)
         return self.files[name]
 
     def read(self, path: str) -> Sequence[str]:
@@ -55,7 +63,8 @@ class Sources:
         """A line of a file, without the blanks around it; nothing where it isn't there or is empty."""
         lines = self.lines(name) if number > 0 else ()
         text = lines[number - 1].strip() if number <= len(lines) and number > 0 else ""
-        return (text if len(text) <= WIDEST else text[:WIDEST] + "...") or None
+        shown = text if len(text) <= WIDEST else text[:WIDEST] + "..."
+        return shown + (NEWER if name in self.newer else "") if shown else None
 
 
 def below(folder: str, name: str) -> str:

@@ -6,7 +6,7 @@ import re
 from pathlib import Path
 from typing import List, Sequence
 
-from core_places import LAYOUTS, MACHINES, PROGRAM, ROOT, SALVAGE, commit
+from core_places import LAYOUTS, MACHINES, PROGRAM, SALVAGE, commit
 
 PROJECT = "pystacks 0.1"
 

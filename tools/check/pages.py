@@ -72,7 +72,8 @@ def frames(*names: str) -> Tuple[Frame, ...]:
 def wide() -> Report:
     """A report of 200 threads, of which 190 are equal."""
     rows = (Local("order", "{\"id\": 7, \"total\": float 0x4033fd70a3d70a3d}", True), Local("state", '"open"'))
-    crashed = Thread(0x7F00, (Frame("charge", "/srv/shop/payment.py", 41, rows), *frames("checkout", "serve", "<module>")), 4711, "MainThread", True, True)
+    stack = (Frame("charge", "/srv/shop/payment.py", 41, rows), *frames("checkout", "serve", "<module>"))
+    crashed = Thread(0x7F00, stack, 4711, "MainThread", True, True)
     pool = [Thread(number, frames("wait", "get", "work", "run", "_bootstrap"), 4712 + number, f"pool-{number}") for number in range(190)]
     others = [Thread(1000 + number, frames(f"poll_{number % 4}", "loop", "run", "_bootstrap"), 5000 + number, f"poll-{number}",
                      end="unreadable at 0x7f10a2c0b760, 88 bytes" if number == 8 else "") for number in range(9)]

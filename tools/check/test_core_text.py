@@ -57,7 +57,8 @@ class Stacks(unittest.TestCase):
 
     def test_marks(self):
         one = Thread(0x7F00, (F, MAIN), 13, "Main\"Thread\n", True, True)
-        self.assertEqual(text(threads(one)), HEAD + "\nThread 13 (gil) (crashed): \"Main\\u{22}Thread\\u{a}\"\n    f (a.py:5)\n    <module> (a.py:9)\n")
+        wanted = "Thread 13 (gil) (crashed): \"Main\\u{22}Thread\\u{a}\"\n    f (a.py:5)\n    <module> (a.py:9)\n"
+        self.assertEqual(text(threads(one)), f"{HEAD}\n{wanted}")
 
     def test_ends(self):
         one = Thread(0xAB, (F, Frame(why="unreadable at 0x10, 48 bytes"), MAIN), first=2, between=18324, end="unreadable at 0x20008, 8 bytes")
@@ -202,6 +203,11 @@ class Lines(unittest.TestCase):
         (self.folder / "folder.py").mkdir()
         for name in (self.put("secret", "key"), str(self.folder / "pipe.py"), str(self.folder / "folder.py"), "/dev/zero", "/a\0.py", ""):
             self.assertIsNone(Sources().line(name, 1), name)
+
+    def test_newer(self):
+        path = self.put("a.py", "one")
+        self.assertEqual(Sources("", "", os.stat(path).st_mtime - 1).line(path, 1), "one    (the file is newer than the core)")
+        self.assertEqual(Sources("", "", os.stat(path).st_mtime).line(path, 1), "one")
 
     def test_escaped(self):
         path = self.put("a.py", "x = 1  # \x1b[2J")

@@ -17,7 +17,7 @@ from pathlib import Path
 from rooms import TOOLS  # (first: it makes the other rooms known)
 
 import stand_ins
-from core_places import PROGRAM, ROOT, SALVAGE
+from core_places import PROGRAM, SALVAGE
 from made import EXAMPLE, core_file
 from row import TEXT
 from stand_ins import frame, interpreter, salvage, thread

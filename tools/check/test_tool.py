@@ -15,7 +15,6 @@ from pathlib import Path
 from rooms import TOOLS  # (first: it makes the other rooms known)
 
 import core_progress
-import core_words
 import stand_ins
 from made import AARCH64, Segment, core_file, elf_file
 from stand_ins import frame, interpreter, local, salvage, thread
@@ -24,6 +23,18 @@ TOOL = TOOLS / "dump_core.py"
 
 POOL = [thread(number, [frame("wait", "pool.py", 12), frame("run", "pool.py", 3)], 100 + number) for number in range(10)]
 CRASHED = thread(0x7F00, [frame("boom", "a.py", 5), frame("<module>", "a.py", 9)], 99, True, True)
+
+SLOW = b"""\
+import os, time
+own = os.pread
+
+def pread(*words):
+    time.sleep(0.3)
+    return own(*words)
+
+os.pread = pread
+"""
+"""What makes the reading of files slow."""
 
 HEAD = "Signal 11 (SIGSEGV): {core}\nProcess 4711: python3 a.py\nPython v3.11.7\n\n"
 
@@ -173,6 +184,7 @@ class Shown(Case):
 
     def test_sources(self):
         path = self.put("srv/a.py", b"one\n  two\n")
+        os.utime(path, (0, 0))
         self.programs(salvage(interpreter([thread(1, [frame("f", str(path), 2), frame("g", "/srv/a.py", 1)])])))
         self.assertNotIn("two", self.tool()[1])
         self.assertIn(f"    f ({path}:2)\n        > two\n    g (/srv/a.py:1)\n", self.tool("--source")[1])
@@ -334,8 +346,8 @@ class Terminal(Case):
         self.programs(salvage(interpreter([CRASHED])))
         data = core_file([Segment(0x100000, b"x" * (1 << 20), 6)])
         self.core.write_bytes(data)
-        slow = {"PYTHONPATH": str(self.put("slow/sitecustomize.py", b"import os, time\nown = os.pread\n\ndef pread(*words):\n    time.sleep(0.3)\n    return own(*words)\n\nos.pread = pread\n").parent)}
-        self.assertIn("dump_core: preparing: ", self.on_terminal("--anyway", environment=slow, size=600_000_000))
+        slow = self.put("slow/sitecustomize.py", SLOW).parent
+        self.assertIn("dump_core: preparing: ", self.on_terminal("--anyway", environment={"PYTHONPATH": str(slow)}, size=600_000_000))
 
 
 if __name__ == "__main__":
