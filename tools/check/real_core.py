@@ -409,7 +409,8 @@ def over_core(program: Path, derived: Derived, core: Core, room: Path) -> Walk:
         notice_wrong(program, core, room, derived)
     check_dump(program, core, layouts, derived)
     check_prepared(program, core, layouts)
-    check_tool(program, core.path, layouts, images_of(core.path, False))
+    if JSON_IN_DUMP:
+        check_tool(program, core.path, layouts, images_of(core.path, False))
     if core.told.led and derived.with_dicts:
         check_reach(program, core, layouts)
     return run
