@@ -219,6 +219,21 @@ class Shown(Case):
         lines = "<module> (a.py:9);boom (a.py:5) 1\nrun (pool.py:3);wait (pool.py:12) 10\n"
         self.assertEqual(self.tool("--collapsed"), (0, lines, ""))
 
+    def test_page(self):
+        self.programs(salvage(interpreter([CRASHED, *POOL])), names={0x7F00: "<script>"})
+        page = self.folder / "page.html"
+        for _ in range(2):
+            # (an earlier page is written over)
+            self.assertEqual(self.tool(f"--html={page}"), (0, "", f"dump_core: the page is in {page}\n"))
+        text = page.read_text(encoding="utf-8")
+        self.assertEqual((text.count("<script>"), text.count("&lt;script&gt;") > 1, text.count("10 threads: ")), (1, True, 1))
+        before = self.core.read_bytes()
+        status, out, said = self.tool(f"--html={self.core}")
+        self.assertEqual((status, out, said.splitlines()[0]), (2, "", f"dump_core: {self.core} is no page, and isn't written over"))
+        self.assertEqual(self.core.read_bytes(), before)
+        status, out, said = self.tool(f"--html={self.folder}/none/page.html")
+        self.assertEqual((status, out, said.splitlines()[0]), (4, "", f"dump_core: cannot write {self.folder}/none/page.html: No such file or directory"))
+
     def test_closed_pipe(self):
         self.programs(salvage(interpreter([thread(1, [frame("f" * 1000)] * 1000)])))
         command = f"{sys.executable} -B {TOOL} --program={self.program} {self.core} | true; exit ${{PIPESTATUS[0]}}"
@@ -240,6 +255,19 @@ class Groups(Case):
         shown = head + "".join(f"        {line}\n" for line in stacks.splitlines()) + "Refused" + rest
         self.assertEqual(self.tool("--group", core=[self.core, *more]), (0, shown, ""))
         self.assertEqual(self.tool("--group", "--plain", core=[self.core, *more]), (0, text, ""))
+
+    def test_page(self):
+        text = f"Group 1: 1\n    {self.core}\nRefused: 1\n    {self.program}: <script>\n"
+        self.programs(salvage(interpreter([CRASHED, *POOL])))
+        stand_ins.program(self.program, stand_ins.dump_json([CRASHED, *POOL]), stand_ins.text_of([CRASHED, *POOL]), text)
+        page = self.folder / "page.html"
+        self.assertEqual(self.tool("--group", f"--html={page}", core=[self.core, self.program])[:2], (0, ""))
+        shown = page.read_text(encoding="utf-8")
+        self.assertEqual([shown.count(it) for it in ("<h2>Group 1: 1</h2>", "10 threads: ", "Refused: 1", "<script>")], [1, 1, 1, 1])
+
+    def test_refused(self):
+        self.programs(threads=[], status=5, said=b"pystacks: out of memory\n")
+        self.assertEqual(self.tool("--group"), (5, "", "pystacks: out of memory\n"))
 
     def test_names(self):
         self.programs(threads=[])
