@@ -13,17 +13,18 @@ EVERY = 0.2
 
 
 class Progress:
-    """How many bytes were read so far."""
+    """How many bytes were read so far, of a core of which this many are known. (One that is packed has more.)"""
 
-    def __init__(self) -> None:
-        self.done = 0
+    def __init__(self, size: int) -> None:
+        self.size, self.done = size, 0
         self.last = time.monotonic()
+        self.is_written = False
 
     def add(self, size: int) -> None:
         """Adds some bytes, and writes the line anew where it is time."""
         self.done += size
         now = time.monotonic()
-        if now - self.last >= EVERY:
+        if now - self.last >= EVERY and max(self.size, self.done) >= LARGE:
             self.last = now
             self.write(f"preparing: {self.done / 1e6:.0f} MB read")
 
@@ -31,11 +32,13 @@ class Progress:
         """Writes a text in place of the last one. (What was longer is cleared.)"""
         sys.stderr.write(f"\rdump_core: {text}\x1b[K")
         sys.stderr.flush()
+        self.is_written = True
 
     def end(self) -> None:
-        """Clears the line."""
-        sys.stderr.write("\r\x1b[K")
-        sys.stderr.flush()
+        """Clears the line, if there is one."""
+        if self.is_written:
+            sys.stderr.write("\r\x1b[K")
+            sys.stderr.flush()
 
 
 SHOWN: Optional[Progress] = None
@@ -50,12 +53,12 @@ def read(size: int) -> None:
 
 @contextmanager
 def shown_for(size: int) -> Iterator[None]:
-    """Shows the progress of a core of this size, where it is large and there is a terminal."""
+    """Shows the progress of a core whose file has this size, where it is large and there is a terminal."""
     global SHOWN
-    if size < LARGE or not sys.stderr.isatty():
+    if not sys.stderr.isatty():
         yield
         return
-    SHOWN = Progress()
+    SHOWN = Progress(size)
     try:
         yield
     finally:

@@ -361,12 +361,16 @@ class Terminal(Case):
     def test_progress(self):
         self.programs(salvage(interpreter([CRASHED])))
         self.assertNotIn("preparing", self.on_terminal())
-        said = []
-        shown = core_progress.Progress()
-        shown.write, shown.last = said.append, 0.0
-        shown.add(1_500_000)
-        shown.add(1)
-        self.assertEqual(said, ["preparing: 2 MB read"])
+        for size, parts, lines in (
+            (500_000_000, (1_500_000, 1), ["preparing: 2 MB read"]), (499_999_999, (1_500_000, 1), []),
+            (1_000_000, (499_000_000, 1_000_000, 1), ["preparing: 500 MB read"]),
+        ):
+            said = []
+            shown = core_progress.Progress(size)
+            shown.write, shown.last = said.append, 0.0
+            for part in parts:
+                shown.add(part)
+            self.assertEqual(said, lines)
 
     def test_progress_of_a_large_core(self):
         # (a core of 600 MB, of which all but the front are holes, and a gzip of it on top would take long: the line is shown
