@@ -9,8 +9,9 @@ from typing import Dict, Iterable, List, Optional
 
 from core_asked import Asked, Told, asked_of, checked, dump_command, ready, told_of
 from core_collapse import collapsed_lines, counts_of
+from core_escape import in_line
 from core_faults import BAD_WORDS, CANNOT_WRITE, NO_PROGRAM, NO_ROOM, Fault, say, shown
-from core_group import Apart, Core, group_answer, groups_of, renamed_text, shared_files, shared_machine, told
+from core_group import Apart, Core, Group, group_answer, groups_of, renamed_text, shared_files, shared_machine, told
 from core_images import image_words, opened
 from core_page import group_page, report_page
 from core_places import NOT_RUN, PROGRAM, layouts_of, program_at
@@ -68,8 +69,14 @@ def style_of(words: argparse.Namespace) -> Style:
 
 def refused(it: Told) -> int:
     """Says what the program said of a core without a report, and returns its status."""
-    write_all(2, it.answer.said)
+    write_all(2, one_line(it.answer.said))
     return end_as(it.answer.status)
+
+
+def one_line(said: bytes) -> bytes:
+    """The program's line, with control characters escaped: it may name a path of the core. Nothing stays nothing."""
+    text = said.decode("utf-8", "backslashreplace")
+    return in_line(text[:-1] if text.endswith("\n") else text).encode("utf-8") + b"\n" if text else b""
 
 
 # ---- one core
@@ -136,7 +143,7 @@ def collapse(words: argparse.Namespace) -> int:
 
 def said_of(name: str, it: Told) -> int:
     """Says of which of several cores there is no report, and returns the status."""
-    write_all(2, os.fsencode(name) + b": " + it.answer.said)
+    write_all(2, one_line(os.fsencode(name) + b": " + it.answer.said))
     return it.answer.status
 
 
@@ -164,7 +171,7 @@ def group(words: argparse.Namespace) -> int:
     command = checked([os.fspath(program_at(words.program, PROGRAM)), "triage", layouts], words.core)
     images = image_words(files, os.fsencode(words.root), machine)
     answer = group_answer([*command, *(core.word for core in cores), *images], cores)
-    write_all(2, answer.said)
+    write_all(2, answer.said if words.plain else one_line(answer.said))
     if answer.status != 0:
         return end_as(answer.status)
     text = renamed_text(answer.out, cores)
@@ -172,19 +179,19 @@ def group(words: argparse.Namespace) -> int:
         write_all(1, text)
         return 0
     asked = {core.name: Asked(os.fsdecode(core.name), core.prepared, layouts, images) for core in cores}
-    groups = groups_of(text)
+    groups = groups_of(text, list(asked))
     if words.html:
-        stacks = {it.first: told_of(words, asked[it.first]).report for it in groups if it.is_group}
+        stacks = {it.first: told_of(words, asked[it.first]).report for it in groups if it.is_group and it.first in asked}
         return page_written(words, group_page(groups, stacks, style_of(words)))
     return written(group_lines(words, groups, asked))
 
 
-def group_lines(words: argparse.Namespace, groups: List, asked: Dict[bytes, Asked]) -> Iterable[str]:
+def group_lines(words: argparse.Namespace, groups: List[Group], asked: Dict[bytes, Asked]) -> Iterable[str]:
     """The program's text of groups, and behind each group the stacks of its first core."""
     style = style_of(words)
     for it in groups:
         yield from it.lines
-        if it.is_group:
+        if it.is_group and it.first in asked:
             report = told_of(words, asked[it.first]).report
             for line in stacks_lines(report, style) if report else ():
                 yield f"        {line}"

@@ -7,8 +7,9 @@ or were written on different machines, they can't be handed over together.
 
 import os
 from dataclasses import dataclass, field
-from typing import BinaryIO, Dict, List, Optional, Sequence
+from typing import BinaryIO, Collection, Dict, List, Optional, Sequence
 
+from core_escape import in_line
 from core_maps import Use, Wanted, machine_of, wanted_files
 from core_run import Answer, answer_of
 
@@ -93,14 +94,21 @@ def renamed(line: bytes, names: Dict[bytes, bytes]) -> bytes:
 class Group:
     """A part of the program's text: a group with its cores, or those that are refused."""
 
-    lines: List[str] = field(default_factory=list)
-    first: bytes = b""
-    """The name of its first core."""
+    title: str
+    cores: List[bytes] = field(default_factory=list)
+    """The names of its cores; of those that are refused with the cause behind each."""
+    is_group: bool = True
+    """Whether it is one of cores that have stacks."""
 
     @property
-    def is_group(self) -> bool:
-        """Whether it is one of cores that have stacks."""
-        return self.lines[0].startswith("Group ")
+    def first(self) -> bytes:
+        """The name of its first core."""
+        return self.cores[0] if self.cores else b""
+
+    @property
+    def lines(self) -> List[str]:
+        """Its lines: causes name paths of the core, and so no line is as it stands there."""
+        return [in_line(self.title), *(f"    {in_line(it.decode('utf-8', 'backslashreplace'))}" for it in self.cores)]
 
 
 def renamed_text(text: bytes, cores: Sequence[Core]) -> bytes:
@@ -109,16 +117,32 @@ def renamed_text(text: bytes, cores: Sequence[Core]) -> bytes:
     return b"\n".join(renamed(line, own) for line in text.split(b"\n"))
 
 
-def groups_of(text: bytes) -> List[Group]:
-    """The program's text in parts, where no name has a newline."""
+def groups_of(text: bytes, names: Collection[bytes]) -> List[Group]:
+    """The program's text in parts. A core's name is one of these, none of which has a newline; a cause may have any, and
+    stands behind all groups."""
+    front, refused, causes = text.partition(b"Refused: ") if text.startswith(b"Refused: ") else text.partition(b"\nRefused: ")
     groups: List[Group] = []
-    for line in text.split(b"\n")[:-1]:
-        if not line.startswith(b"    ") or not groups:
-            groups.append(Group())
-        elif not groups[-1].first:
-            groups[-1].first = line[4:]
-        groups[-1].lines.append(line.decode("utf-8", "backslashreplace"))
+    for line in front.split(b"\n"):
+        if line.startswith(b"    ") and groups:
+            groups[-1].cores.append(line[4:])
+        elif line:
+            groups.append(Group(line.decode("utf-8", "backslashreplace")))
+    if refused:
+        title, *lines = causes.split(b"\n")
+        groups.append(Group("Refused: " + title.decode("ascii", "replace"), refused_of(lines, names), False))
     return groups
+
+
+def refused_of(lines: Sequence[bytes], names: Collection[bytes]) -> List[bytes]:
+    """The refused cores with their causes. A line that begins with no core's name goes on with the cause before it."""
+    found: List[bytes] = []
+    for line in lines:
+        if line.startswith(b"    ") and any(line[4:].startswith(name + b": ") for name in names):
+            found.append(line[4:])
+        elif found:
+            found[-1] += b"\n" + line
+    # (the text ends with a newline)
+    return [*found[:-1], found[-1].rstrip(b"\n")] if found else []
 
 
 def group_answer(command: Sequence[bytes], cores: Sequence[Core]) -> Answer:

@@ -250,7 +250,7 @@ def group_row(number: int, it: Group, report: Optional[Report]) -> str:
     one = next((thread for thread in threads if thread.marks), threads[0] if threads else None)
     newest = text(newest_of(one)) if one else ""
     return (
-        f"<tr><td data-v=\"{number}\"><a href=\"#g{number}\">Group {number}</a></td><td>{len(it.lines) - 1}</td>"
+        f"<tr><td data-v=\"{number}\"><a href=\"#g{number}\">Group {number}</a></td><td>{len(it.cores)}</td>"
         f"<td>{newest}</td><td>{len(threads)}</td></tr>")
 
 

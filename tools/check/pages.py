@@ -91,7 +91,8 @@ def grouped() -> str:
     """A page of groups."""
     text = b"Group 1: 3\n    cores/core.4711\n    cores/core.4802\n    cores/core.5120\nGroup 2: 1\n    cores/core.6001\nRefused: 1\n    cores/core.6100: no note segment\n"
     other = Report((Interpreter((Thread(1, frames("commit", "flush", "<module>"), 6001, "MainThread", True),)),), "3.11.7", 6, (6001, "python3 shop.py"))
-    return group_page(groups_of(text), {b"cores/core.4711": wide(), b"cores/core.6001": other}, Style())
+    names = [f"cores/core.{number}".encode("ascii") for number in (4711, 4802, 5120, 6001, 6100)]
+    return group_page(groups_of(text, names), {b"cores/core.4711": wide(), b"cores/core.6001": other}, Style())
 
 
 def real_core(folder: Path) -> Path:

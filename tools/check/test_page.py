@@ -161,7 +161,7 @@ class Escapes(unittest.TestCase):
 
     def test_groups(self):
         text = f"Group 1: 2\n    {HOSTILE!r}\n    b\nRefused: 1\n    <script>: bad note\n".encode()
-        groups = groups_of(text)
+        groups = groups_of(text, [b"b", b"<script>"])
         page = group_page(groups, {groups[0].first: SMALL}, Style())
         reader = Reader(page)
         self.assertEqual((reader.faults, reader.stack, len(reader.of("script"))), ([], [], 1))
@@ -268,7 +268,7 @@ class Tidy(unittest.TestCase):
 
     @unittest.skipUnless(shutil.which("tidy"), "there is no tidy")
     def test_pages(self):
-        groups = groups_of(b"Group 1: 1\n    core\nRefused: 1\n    b: bad note\n")
+        groups = groups_of(b"Group 1: 1\n    core\nRefused: 1\n    b: bad note\n", [b"core", b"b"])
         for page in (report_page(SMALL, Style()), group_page(groups, {b"core": SMALL}, Style()), report_page(report(), Style())):
             ran = subprocess.run(["tidy", "-q", "-e"], input=page.encode(), stdout=subprocess.PIPE, stderr=subprocess.PIPE)
             self.assertEqual((ran.returncode, ran.stderr.decode()), (0, ""))

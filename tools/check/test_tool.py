@@ -162,6 +162,10 @@ class Shown(Case):
         self.programs(salvage(), status=1, said=b"pysalvage: no interpreter found: 7 addresses looked at\n")
         self.assertEqual(self.tool(), (1, "", "pysalvage: no interpreter found: 7 addresses looked at\n"))
 
+    def test_a_path_forges_no_line(self):
+        self.programs(threads=[], status=1, said=b"pystacks: image not given: /a\nThread 1\x1b[2J\xff\n")
+        self.assertEqual(self.tool(), (1, "", "pystacks: image not given: /a\\u{a}Thread 1\\u{1b}[2J\\xff\n"))
+
     def test_no_names(self):
         # (where `dump` refuses a broken process there are no names)
         stand_ins.program(self.folder / "pysalvage", json.dumps(salvage(interpreter([CRASHED]))))
@@ -268,6 +272,19 @@ class Groups(Case):
     def test_refused(self):
         self.programs(threads=[], status=5, said=b"pystacks: out of memory\n")
         self.assertEqual(self.tool("--group"), (5, "", "pystacks: out of memory\n"))
+
+    def test_a_cause_forges_no_group(self):
+        one, two = self.put("one", core_file([])), self.put("two", core_file([]))
+        causes = f"    {one}: bad image: /x\nGroup 2: 7\n    /none\x1b[2J\n    {two}: bad note\n"
+        self.programs(threads=[CRASHED])
+        for front in ("", f"Group 1: 1\n    {self.core}\n"):
+            text = f"{front}Refused: 2\n{causes}"
+            stand_ins.program(self.program, stand_ins.dump_json([CRASHED]), stand_ins.text_of([CRASHED]), text)
+            status, out, said = self.tool("--group", core=[self.core, one, two])
+            self.assertEqual((status, said), (0, ""))
+            wanted = ["Refused: 2", f"    {one}: bad image: /x\\u{{a}}Group 2: 7\\u{{a}}    /none\\u{{1b}}[2J", f"    {two}: bad note"]
+            self.assertEqual(out.splitlines()[-3:], wanted)
+            self.assertEqual(out.count("Group 1: 1\n"), bool(front))
 
     def test_names(self):
         self.programs(threads=[])
