@@ -65,6 +65,14 @@ def program_at(named: Optional[str], usual: Path) -> Path:
     return program
 
 
+def salvage_at(named: Optional[str], usual: Path) -> Optional[Path]:
+    """The program `pysalvage`: the one that is named, which has to be there, or the usual one, if it is there."""
+    if named and not Path(named).is_file():
+        raise Fault(f"there is no program {shown(os.fsencode(named))}", NO_PROGRAM, "build pysalvage, or leave --salvage out")
+    program = Path(named) if named else usual
+    return program if program.is_file() else None
+
+
 def commit() -> str:
     """The commit of the tool's files, where they are in a clone or the folder was installed from one; else nothing."""
     kept = ROOT / "COMMIT"

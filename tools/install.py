@@ -18,7 +18,7 @@ from typing import List, Optional
 sys.dont_write_bytecode = True
 
 from core_faults import BAD_WORDS, CANNOT_WRITE, Fault, shown
-from core_places import LAYOUTS, MACHINES, PROGRAM, ROOT, SALVAGE, commit, program_at
+from core_places import LAYOUTS, MACHINES, PROGRAM, ROOT, SALVAGE, commit, program_at, salvage_at
 
 PAGES = ("CORES", "DIFFERENCES", "DUMP", "HOSTILE", "LAYOUTS", "MERGE", "MESSAGES", "REACH", "SALVAGE", "SPEED", "TOOL", "TRIAGE", "WALK")
 """The pages of docs for users."""
@@ -103,7 +103,7 @@ def main(given: Optional[List[str]] = None) -> int:
     words = parser.parse_args(given)
     try:
         folder = Path(os.path.abspath(words.to))
-        salvage = program_at(words.salvage, SALVAGE) if words.salvage or SALVAGE.is_file() else None
+        salvage = salvage_at(words.salvage, SALVAGE)
         program = program_at(words.program, PROGRAM)
         check_folder(folder)
         folder.mkdir(parents=True, exist_ok=True)

@@ -319,6 +319,11 @@ class Words(Case):
             self.assertEqual((status, out, "Traceback" in said), (2, "", False), words)
         self.assertIn("so name it behind the core", self.tool("--source", self.core, core=())[2])
 
+    def test_no_salvage(self):
+        self.programs(threads=[])
+        status, out, said = self.tool("--salvage", self.folder / "none")
+        self.assertEqual((status, out, said.splitlines()[0]), (127, "", f"dump_core: there is no program {self.folder / 'none'}"))
+
     def test_folders(self):
         self.programs(threads=[])
         for option in ("--root", "--source"):
