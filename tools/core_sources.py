@@ -4,6 +4,7 @@ A core can name any file. So only regular files of Python are opened, and none t
 """
 
 import os
+import re
 import stat
 from typing import Dict, List, Optional, Sequence, Set
 
@@ -13,6 +14,9 @@ LONGEST = 16 << 20
 
 WIDEST = 200
 """The most characters of a line that are shown."""
+
+NO_PATH = re.compile("[\0\ud800-\udfff]")
+"""What no path has."""
 
 NEWER = "    (the file is newer than the core)"
 """What stands behind a line that may have been another."""
@@ -35,7 +39,7 @@ class Sources:
         """Where a file may be: below the folder of sources by the longest end of its path that is there, and as it is
         named, below the root."""
         parts = [it for it in name.split("/") if it not in ("", ".")]
-        if ".." in parts or "\0" in name or not name.endswith(ENDINGS):
+        if ".." in parts or NO_PATH.search(name) or not name.endswith(ENDINGS):
             return []
         found = [below(self.folder, "/".join(parts[at:])) for at in range(len(parts))] if self.folder else []
         if name.startswith("/"):

@@ -201,7 +201,7 @@ class Lines(unittest.TestCase):
         # (a core can name any file)
         os.mkfifo(self.folder / "pipe.py")
         (self.folder / "folder.py").mkdir()
-        for name in (self.put("secret", "key"), str(self.folder / "pipe.py"), str(self.folder / "folder.py"), "/dev/zero", "/a\0.py", ""):
+        for name in (self.put("secret", "key"), str(self.folder / "pipe.py"), str(self.folder / "folder.py"), "/dev/zero", "/a\0.py", "/\ud800.py", "/" + "a" * 5000 + ".py", ""):
             self.assertIsNone(Sources().line(name, 1), name)
 
     def test_newer(self):
