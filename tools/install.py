@@ -86,6 +86,8 @@ def put(folder: Path, program: Path, salvage: Optional[Path]) -> List[str]:
         source = ROOT / "docs" / f"{page}.md"
         if source.is_file():
             copied(source, folder / "docs" / source.name)
+    for source in sorted((ROOT / "docs" / "pictures").glob("*.png")):
+        copied(source, folder / "docs" / "pictures" / source.name)
     door = folder / "bin" / "pystacks-core"
     door.write_text(DOOR, encoding="ascii")
     door.chmod(0o755)

@@ -67,6 +67,8 @@ class Installed(Case):
         self.assertEqual(sorted(it.name for it in (to / "bin").iterdir()), ["pysalvage", "pystacks", "pystacks-core"])
         self.assertEqual(sorted(it.name for it in (to / "layouts").iterdir()), ["cpython-aarch64.toml", "cpython-x86_64.toml"])
         self.assertTrue({"MESSAGES.md", "CORES.md", "DUMP.md"} <= {it.name for it in (to / "docs").iterdir()})
+        page = (to / "docs/TOOL.md").read_text(encoding="utf-8")
+        self.assertTrue(all((to / "docs" / it).is_file() for it in re.findall(r"\((pictures/[^)]*)\)", page)))
         self.assertFalse({"PROVED.md", "DECISIONS.md"} & {it.name for it in (to / "docs").iterdir()})
         self.assertTrue(all(os.access(it, os.X_OK) for it in (to / "bin").iterdir()))
         self.assertFalse([it for it in to.rglob("*") if "check" in it.parts or it.suffix in (".antt", ".rt", ".pyc")])
