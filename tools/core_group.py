@@ -6,15 +6,12 @@ or were written on different machines, they can't be handed over together.
 """
 
 import os
-import subprocess
-import tempfile
-from dataclasses import dataclass
-from typing import BinaryIO, Dict, List, Optional, Sequence
+from dataclasses import dataclass, field
+from typing import BinaryIO, Collection, Dict, List, Optional, Sequence
 
+from core_escape import in_line
 from core_maps import Use, Wanted, machine_of, wanted_files
-from core_run import end_as, write_all
-
-CANNOT_WRITE = 4
+from core_run import Answer, answer_of
 
 
 class Apart(Exception):
@@ -87,27 +84,74 @@ def renamed(line: bytes, names: Dict[bytes, bytes]) -> bytes:
     """A line of groups, with the user's name for a core: it stands behind four blanks, to the end of the line or to a
     colon."""
     if line.startswith(b"    "):
-        name, colon, rest = line[4:].rstrip(b"\n").partition(b": ")
+        name, colon, rest = line[4:].partition(b": ")
         if name in names:
-            return b"    " + names[name] + colon + rest + b"\n"
+            return b"    " + names[name] + colon + rest
     return line
 
 
-def run_group(command: List[bytes], cores: Sequence[Core]) -> int:
-    """Runs the program over several cores, and returns its status."""
+@dataclass
+class Group:
+    """A part of the program's text: a group with its cores, or those that are refused."""
+
+    title: str
+    cores: List[bytes] = field(default_factory=list)
+    """The names of its cores; of those that are refused with the cause behind each."""
+    is_group: bool = True
+    """Whether it is one of cores that have stacks."""
+
+    @property
+    def first(self) -> bytes:
+        """The name of its first core."""
+        return self.cores[0] if self.cores else b""
+
+    @property
+    def lines(self) -> List[str]:
+        """Its lines: causes name paths of the core, and so no line is as it stands there."""
+        return [in_line(self.title), *(f"    {in_line(it.decode('utf-8', 'backslashreplace'))}" for it in self.cores)]
+
+
+def renamed_text(text: bytes, cores: Sequence[Core]) -> bytes:
+    """The program's text, with the user's names for cores that were prepared."""
     own = {core.word: core.name for core in cores if core.prepared}
+    return b"\n".join(renamed(line, own) for line in text.split(b"\n"))
+
+
+def groups_of(text: bytes, names: Collection[bytes]) -> List[Group]:
+    """The program's text in parts. A core's name is one of these, none of which has a newline; a cause may have any, and
+    stands behind all groups."""
+    front, refused, causes = text.partition(b"Refused: ") if text.startswith(b"Refused: ") else text.partition(b"\nRefused: ")
+    groups: List[Group] = []
+    for line in front.split(b"\n"):
+        if line.startswith(b"    ") and groups:
+            groups[-1].cores.append(line[4:])
+        elif line:
+            groups.append(Group(line.decode("utf-8", "backslashreplace")))
+    if refused:
+        title, *lines = causes.split(b"\n")
+        groups.append(Group("Refused: " + title.decode("ascii", "replace"), refused_of(lines, names), False))
+    return groups
+
+
+def refused_of(lines: Sequence[bytes], names: Collection[bytes]) -> List[bytes]:
+    """The refused cores with their causes. A line that begins with no core's name goes on with the cause before it."""
+    found: List[bytes] = []
+    for line in lines:
+        if line.startswith(b"    ") and any(line[4:].startswith(name + b": ") for name in names):
+            found.append(line[4:])
+        elif found:
+            found[-1] += b"\n" + line
+    # (the text ends with a newline)
+    return [*found[:-1], found[-1].rstrip(b"\n")] if found else []
+
+
+def group_answer(command: Sequence[bytes], cores: Sequence[Core]) -> Answer:
+    """Runs the program over several cores, with the user's names in its lines of faults."""
     fds = [core.prepared.fileno() for core in cores if core.prepared]
-    with tempfile.TemporaryFile() as out, tempfile.TemporaryFile() as lines:
-        status = subprocess.call(command, pass_fds=fds, stdout=out, stderr=lines)
-        out.seek(0)
-        lines.seek(0)
-        said = lines.read()
-        for word, name in own.items():
-            said = said.replace(b": " + word + b"\n", b": " + name + b"\n").replace(b" " + word + b"\n", b" " + name + b"\n")
-        try:
-            for line in out:
-                write_all(1, renamed(line, own))
-        except OSError:
-            status, said = CANNOT_WRITE, b"pystacks: cannot write\n"
-    write_all(2, said)
-    return end_as(status)
+    answer = answer_of(command, fds, b"", b"")
+    said = answer.said
+    for core in cores:
+        if core.prepared:
+            said = said.replace(b": " + core.word + b"\n", b": " + core.name + b"\n")
+            said = said.replace(b" " + core.word + b"\n", b" " + core.name + b"\n")
+    return Answer(answer.status, answer.out, said)

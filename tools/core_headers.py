@@ -9,6 +9,7 @@ import struct
 from dataclasses import dataclass, replace
 from typing import BinaryIO, Iterator, List, Optional, Sequence, Tuple
 
+import core_progress
 from core_maps import EXTENDED, LOAD, NOTE, header_of, read_at
 
 PAGE = 4096
@@ -92,6 +93,7 @@ def blocks(fd: int, start: int, end: int) -> Iterator[Tuple[int, bytes]]:
         data = os.pread(fd, min(BLOCK, end - at), at)
         if not data:
             return
+        core_progress.read(len(data))
         yield at, data
         at += len(data)
 

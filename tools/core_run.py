@@ -8,11 +8,15 @@ import resource
 import signal
 import subprocess
 import tempfile
-from typing import BinaryIO, List
+from dataclasses import dataclass
+from typing import BinaryIO, List, Sequence
+
+from core_faults import CANNOT_WRITE, NO_ROOM, Fault
 
 CHUNK = 1 << 16
 
-CANNOT_WRITE = 4
+LONGEST_ANSWER = 1 << 28
+"""The most bytes of an answer that the tool reads whole: a hostile core can have gigabytes of names."""
 
 
 def write_all(fd: int, data: bytes) -> None:
@@ -70,3 +74,27 @@ def run_over(command: List[bytes], fd: int, name: bytes) -> int:
     except OSError:
         pass
     return end_as(status)
+
+
+@dataclass(frozen=True)
+class Answer:
+    """What the program answered."""
+
+    status: int
+    out: bytes
+    said: bytes
+    """Its lines, with the user's name for the core."""
+
+
+def answer_of(command: Sequence[bytes], fds: Sequence[int], own: bytes, name: bytes) -> Answer:
+    """Runs the program over a core, of which it has the word `own` and the user another name, and keeps what it writes."""
+    with tempfile.TemporaryFile() as out, tempfile.TemporaryFile() as lines:
+        status = subprocess.call(list(command), pass_fds=list(fds), stdout=out, stderr=lines)
+        length = out.seek(0, 2)
+        if status == 0 and length > LONGEST_ANSWER:
+            line = f"the program wrote {length} bytes, more than {LONGEST_ANSWER}: --plain passes its text on"
+            raise Fault(line, NO_ROOM)
+        out.seek(0)
+        lines.seek(0)
+        said = lines.read()
+        return Answer(status, out.read() if status == 0 else b"", said.replace(own, name) if own != name else said)

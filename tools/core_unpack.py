@@ -16,6 +16,7 @@ import zlib
 from contextlib import contextmanager
 from typing import BinaryIO, Callable, ContextManager, Dict, Iterator, List, Optional, Tuple
 
+import core_progress
 from core_headers import BLOCK, write_at
 from core_sparse import used_in
 
@@ -164,9 +165,11 @@ def fill(stream: BinaryIO, target: BinaryIO) -> None:
 def next_block(stream: BinaryIO) -> bytes:
     """The next block of a stream."""
     try:
-        return stream.read(BLOCK)
+        data = stream.read(BLOCK)
     except ENDINGS as error:
         raise BrokeOff from error
+    core_progress.read(len(data))
+    return data
 
 
 def put(target: BinaryIO, data: bytes, at: int) -> None:

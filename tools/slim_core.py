@@ -5,8 +5,8 @@
     tools/slim_core.py CORE -l --out FILE    # with what the values of locals need too
 
 Where the core has to be prepared, or images are missing, that is said as `dump_core.py` says it. Behind that one line
-says what was written, and the next one has the words of the program that show the stacks of the small core. It has a
-few kilobytes for each thread, and the same signal and process; bytes of names and values of the process are in it.
+says what was written, and on the standard output stand the words of the program that show the stacks of the small core.
+It has some kilobytes for each thread, and the same signal and process; names and values of the process are in it.
 """
 
 import argparse
@@ -15,82 +15,77 @@ import re
 import subprocess
 import sys
 import tempfile
-from pathlib import Path
 from typing import List, Tuple
 
 sys.dont_write_bytecode = True
 
-from core_maps import Use
-from dump_core import BAD_WORDS, BUILD, NO_PROGRAM, PROGRAM, Fault, as_words, image_words, layouts_of, opened, read_core, ready, shown
+from core_asked import Asked, asked_of, checked
+from core_faults import CANNOT_WRITE, NO_PROGRAM, Fault, shown
+from core_places import PROGRAM, program_at
+from core_run import Answer
 
 LOCATED = re.compile(r"Python v(\d+\.\d+\.\d+)\S*\nInterpreter (0x[0-9a-f]+)\nLock (0x[0-9a-f]+)\n")
 """What `pystacks locate` prints: of a version `walk` takes the numbers."""
 
-NO_PLACE = 4
+
+def fault_of(answer: Answer) -> Fault:
+    """The program's own line and status."""
+    line = answer.said.decode("utf-8", "backslashreplace").strip() or f"the program ended with status {answer.status}"
+    return Fault(line, answer.status if answer.status > 0 else NO_PROGRAM)
 
 
-def said(done: "subprocess.CompletedProcess[bytes]", own: bytes, name: bytes) -> Fault:
-    """The program's line, with the user's name for the core, and its status."""
-    line = done.stderr.replace(own, name).decode("utf-8", "backslashreplace").strip() or f"the program ended with status {done.returncode}"
-    return Fault(line, done.returncode if done.returncode > 0 else NO_PROGRAM)
-
-
-def located(command: List[bytes], images: List[bytes], fds: List[int], name: bytes) -> Tuple[str, str, str]:
+def located(command: List[bytes], it: Asked) -> Tuple[str, str, str]:
     """The version, the interpreter's address and the lock's."""
-    done = subprocess.run([command[0], b"locate", *command[1:], *images], stdout=subprocess.PIPE, stderr=subprocess.PIPE, pass_fds=fds, check=False)
-    if done.returncode:
-        raise said(done, command[1], name)
-    found = LOCATED.fullmatch(done.stdout.decode("ascii", "replace"))
+    answer = it.answer([command[0], b"locate", *command[1:], *it.images])
+    if answer.status:
+        raise fault_of(answer)
+    found = LOCATED.fullmatch(answer.out.decode("ascii", "replace"))
     if not found:
-        raise Fault(f"the program says {done.stdout!r} of where the interpreter is", NO_PROGRAM)
+        raise Fault(f"the program says {answer.out!r} of where the interpreter is", NO_PROGRAM)
     version, interpreter, lock = found.groups()
     return version, interpreter, lock
 
 
-def slimmed(command: List[bytes], level: int, images: List[bytes], fds: List[int], name: bytes, out: str) -> int:
-    """Writes the small core, under its name only once it is whole. Returns its length."""
-    folder = os.path.dirname(os.path.abspath(out))
-    try:
-        with tempfile.NamedTemporaryFile(dir=folder, prefix=".slim-", delete=False) as file:
-            part = file.name
-            done = subprocess.run(
-                [command[0], b"slim", *command[1:], b"%d" % level, *images], stdout=file, stderr=subprocess.PIPE, pass_fds=fds, check=False)
-    except OSError as error:
-        raise Fault(f"cannot write {shown(os.fsencode(out))}: {error.strerror}", NO_PLACE) from None
+def written(command: List[bytes], it: Asked, level: int, part: int) -> None:
+    """Writes the small core into an open file."""
+    words = [command[0], b"slim", *command[1:], b"%d" % level, *it.images]
+    done = subprocess.run(words, stdin=subprocess.DEVNULL, stdout=part, stderr=subprocess.PIPE, pass_fds=it.fds, check=False)
     if done.returncode:
-        os.unlink(part)
-        raise said(done, command[1], name)
-    length = os.path.getsize(part)
-    # (as a file that this user makes has them)
-    mask = os.umask(0)
-    os.umask(mask)
-    os.chmod(part, 0o666 & ~mask)
-    os.replace(part, out)
+        raise fault_of(Answer(done.returncode, b"", done.stderr.replace(os.fsencode(it.word), os.fsencode(it.name))))
+
+
+def slimmed(command: List[bytes], it: Asked, level: int, out: str) -> int:
+    """Writes the small core, under its name only once it is whole. Returns its length."""
+    name = ""
+    try:
+        with tempfile.NamedTemporaryFile(dir=os.path.dirname(os.path.abspath(out)), prefix=".slim-", delete=False) as part:
+            name = part.name
+            written(command, it, level, part.fileno())
+            length = os.fstat(part.fileno()).st_size
+        # (as a file that this user makes has them)
+        mask = os.umask(0)
+        os.umask(mask)
+        os.chmod(name, 0o666 & ~mask)
+        os.replace(name, out)
+        name = ""
+    except OSError as error:
+        raise Fault(f"cannot write {shown(os.fsencode(out))}: {error.strerror}", CANNOT_WRITE) from None
+    finally:
+        if name and os.path.exists(name):
+            os.unlink(name)
     return length
 
 
 def run(words: argparse.Namespace) -> int:
     """Makes the small core, and says how it is read."""
-    program = words.program or os.fspath(PROGRAM)
-    if not os.path.isfile(program):
-        raise Fault(f"there is no program {shown(os.fsencode(program))}: {BUILD} builds it", NO_PROGRAM)
-    core = opened(words.core)
-    new = ready(core, words)
-    machine, files = read_core(new.file if new else core)
-    fds = [new.file.fileno()] if new else []
-    layouts = os.fspath(words.layouts or layouts_of(machine))
-    command = as_words([program, f"/proc/self/fd/{fds[0]}" if fds else words.core, layouts], [words.core])
-    wanted = [it for it in files if words.locals or it.use is not Use.MEMORY]
-    images = image_words(wanted, os.fsencode(words.root), machine)
-    name = os.fsencode(words.core)
+    program = os.fspath(program_at(words.program, PROGRAM))
+    it = asked_of(words, words.core)
+    command = checked([program, it.word, it.layouts], [it.name])
     out = words.out or f"{words.core}.slim"
-    try:
-        version, interpreter, lock = located(command, images, fds, name)
-        length = slimmed(command, words.locals, images, fds, name, out)
-    except OSError as error:
-        raise Fault(f"cannot run {shown(os.fsencode(program))}: {error.strerror}", NO_PROGRAM) from None
+    version, interpreter, lock = located(command, it)
+    length = slimmed(command, it, words.locals, out)
     print(f"slim_core: {shown(os.fsencode(out))} has {length} bytes", file=sys.stderr)
-    print(" ".join([program, "walk", out, layouts, version, interpreter, lock]))
+    print(" ".join([program, "walk", out, it.layouts, version, interpreter, lock]))
     return 0
 
 
@@ -106,13 +101,15 @@ def main() -> int:
     parser.add_argument("--maps", metavar="FILE", default="", help="the process's maps, for a core without a file table")
     parser.add_argument("--anyway", action="store_true", help="read a core that is longer than half of the free memory")
     words = parser.parse_args()
-    words.keep = ""
+    words.keep, words.plain, words.group = "", False, False
     if words.root and not os.path.isdir(words.root):
         parser.error(f"there is no folder {words.root}")
     try:
         return run(words)
     except Fault as fault:
         print(f"slim_core: {fault}", file=sys.stderr)
+        if fault.then:
+            print(f"slim_core: next: {fault.then}", file=sys.stderr)
         return fault.status
 
 

@@ -27,6 +27,7 @@ from carry_layouts import numbers_by_key
 from child_cores import Case, Core, Failure, Skip, leave_core
 from core_gaps import entries_in
 from core_maps import Use, machine_of, wanted_files
+from core_places import machine_name
 from derive_layout import Build, Derived, DeriveError, build_of
 from file_tables import TableError, add_file_table
 from made import AARCH64, X86_64, layout_of
@@ -114,9 +115,11 @@ def check_machine(program: Path, core: Core, layouts: Path, derived: Derived) ->
 
 
 def by_tool(*words: object) -> Walk:
-    """Runs the tool. Its line on zero pages, which it leaves out of a core, is no fault."""
-    run = ran([sys.executable, "-B", TOOLS / "dump_core.py", *words])
+    """Runs the tool, which passes the program's text on. Its line on zero pages, which it leaves out of a core, is no fault,
+    and neither is what it says to do next."""
+    run = ran([sys.executable, "-B", TOOLS / "dump_core.py", "--plain", *words])
     said = [it for it in run.err.splitlines() if not it.endswith("are zero pages, and left out")]
+    said = [it for it in said if not it.startswith("dump_core: next: ")]
     return replace(run, err="\n".join(said))
 
 
@@ -131,13 +134,14 @@ def check_other_images(program: Path, core: Core, room: Path) -> None:
     own = os.path.realpath(sys.executable)
     with open(core.path, "rb") as file, open(own, "rb") as image:
         needed = next(os.fsdecode(it.name) for it in wanted_files(file) if it.use is Use.NEEDED)
-        if machine_of(image) in (None, AARCH64):
+        machine = machine_of(image)
+        if machine in (None, AARCH64):
             return
     other = room / "other" / needed[1:]
     other.parent.mkdir(parents=True)
     shutil.copyfile(own, other)
     run = by_tool(core.path, "--program", program, "--root", room / "other")
-    lines = [f"dump_core: no image of {needed} (needed; {other} is of another machine)"]
+    lines = [f"dump_core: no image of {needed} (needed; {other} is of another machine, {machine_name(machine)})"]
     lines.append(f"pystacks: image not given: {needed}")
     if (run.status, run.out, run.err.splitlines()) != (1, "", lines):
         raise Failure(f"over images of another machine the tool ended with status {run.status}: {run.err}")

@@ -20,8 +20,8 @@ PAGE = ROOT / "docs" / "MESSAGES.md"
 SPECS = [ROOT / "crates" / "core_report" / "specs" / name for name in ("Lines.antt", "Run.antt")]
 """The definitions that have the texts of the program's lines."""
 
-FAULTS = {"Fault", "Missing", "Unprepared", "NoUnpacker", "NoSpace"}
-"""What the tool raises with a line in it."""
+FAULTS = {"Fault", "Missing", "Unprepared", "NoUnpacker", "NoSpace", "NoCore", "Apart", "Unexpected", "say"}
+"""What the tool raises, makes or calls with a line in it, and with what to do next."""
 
 SHORT = 4
 """Parts shorter than this tell nothing: they stand everywhere."""
@@ -40,23 +40,34 @@ def parts_of(value: ast.expr) -> Iterator[str]:
 
 
 def is_said(call: ast.Call) -> bool:
-    """Whether a call says a line: it makes a fault, adds to what was done, or prints on the standard error."""
+    """Whether a call says a line: it makes a fault, adds to what was done, or writes on the standard error."""
     function = call.func
     if isinstance(function, ast.Name):
         return function.id in FAULTS or (function.id == "print" and any(it.arg == "file" for it in call.keywords))
+    if isinstance(function, ast.Attribute) and function.attr == "write":
+        return "stderr" in ast.dump(function.value)
     return isinstance(function, ast.Attribute) and function.attr == "append" and "said" in ast.dump(function.value)
 
 
+def is_line(node: ast.Assign) -> bool:
+    """Whether a text gets a name by which it is said later."""
+    return any(isinstance(it, ast.Name) and it.id in ("line", "then") for it in node.targets)
+
+
 def texts_of_tool(source: str) -> Iterator[str]:
-    """The texts of the tool's lines, part by part."""
+    """The texts of the tool's lines, part by part, and of what to do next."""
     for node in ast.walk(ast.parse(source)):
-        if isinstance(node, ast.Call) and is_said(node) and node.args:
-            yield from parts_of(node.args[0])
+        if isinstance(node, ast.Call) and is_said(node):
+            for value in [*node.args, *(it.value for it in node.keywords if it.arg == "then")]:
+                yield from parts_of(value)
+        elif isinstance(node, ast.Assign) and is_line(node):
+            yield from parts_of(node.value)
 
 
 def missing(page: str, texts: List[str]) -> List[str]:
     """The texts that the page lacks."""
-    trimmed = [text.replace("dump_core: ", "").strip(" ;:,()") for text in texts]
+    parts = [part for text in texts for part in re.split(r"%[sd]|\\x1b\[K|\n|\r", text)]
+    trimmed = [re.sub(r"^((dump_core|install|next): )+", "", part).strip(" ;:,()\x1b[K") for part in parts]
     return [text for text in trimmed if len(text) >= SHORT and text not in page]
 
 

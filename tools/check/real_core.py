@@ -40,12 +40,13 @@ from child_cores import CASES, Core, Failure, Skip, Thread, Told, core_names, le
 from core_maps import Use, machine_of, wanted_files
 from core_prepare import Wishes, prepared
 from derive_layout import Build, Derived, DeriveError, How, build_of, derive, same_version, told_of
-from dump_core import image_words
+from core_images import image_words
 from find_pythons import pythons
 from footprints import Footprint, blotted, footprint_of
 from layout_plan import plan_of
 from layout_swaps import swaps
 from real_groups import check_objects, groups_text, kept
+from real_tool import check_tool
 
 
 HOLDER_IN_DUMP = True
@@ -408,6 +409,8 @@ def over_core(program: Path, derived: Derived, core: Core, room: Path) -> Walk:
         notice_wrong(program, core, room, derived)
     check_dump(program, core, layouts, derived)
     check_prepared(program, core, layouts)
+    if JSON_IN_DUMP:
+        check_tool(program, core.path, layouts, images_of(core.path, False))
     if core.told.led and derived.with_dicts:
         check_reach(program, core, layouts)
     return run

@@ -1,7 +1,6 @@
 #!/usr/bin/env python3
 """Stacks as flame graph tools read them: which lines they are, and that dump_core.py prints those of the program's JSON."""
 
-import json
 import subprocess
 import sys
 import tempfile
@@ -10,8 +9,10 @@ from pathlib import Path
 
 from rooms import TOOLS  # (first: it makes the other rooms known)
 
+import stand_ins
 from core_collapse import collapsed
-from dump_core import PROGRAM
+from core_model import Frame, Thread
+from core_places import PROGRAM
 from made import EXAMPLE, core_file
 from row import heap
 from rows_dump import PROGRAM as IMAGE, bss, mapped
@@ -19,12 +20,12 @@ from rows_dump import PROGRAM as IMAGE, bss, mapped
 
 def frame(name, filename="a.py", line=0):
     """A frame."""
-    return {"name": name, "filename": filename, "line": line}
+    return Frame(name, filename, line)
 
 
-def thread(*frames):
+def thread(*frames, **more):
     """A thread, with its newest frame first."""
-    return {"frames": list(frames)}
+    return Thread(1, frames, **more)
 
 
 class Lines(unittest.TestCase):
@@ -45,39 +46,47 @@ class Lines(unittest.TestCase):
     def test_odd_names(self):
         self.assertEqual(collapsed([thread(frame("a;b\n\\", "\u2028é\x9f.py"))]), [r"a\x3bb\x0a\x5c (\u2028é\x9f.py) 1"])
 
+    def test_broken_chains(self):
+        cut = thread(frame("f"), frame("g"), first=1, between=7, end="unreadable at 0x10, 8 bytes")
+        self.assertEqual(collapsed([cut]), ["... unreadable at 0x10, 8 bytes;g (a.py);... 7 more frames;f (a.py) 1"])
+        self.assertEqual(collapsed([thread(Frame(why="a name; no text"))]), [r"? (a name\x3b no text) 1"])
+
 
 class Tool(unittest.TestCase):
     """What dump_core.py prints."""
 
-    def ran(self, script, *words, core=b""):
-        """Runs the tool over a core, and a program that is this script, or the built one."""
+    def ran(self, *words, threads=None, status=0, said=b"", core=b"", cores=1):
+        """Runs the tool over some cores, and a program that has these threads, or the built one."""
         with tempfile.TemporaryDirectory(prefix="collapse-") as name:
             folder = Path(name)
-            (folder / "core").write_bytes(core)
+            names = [folder / f"core{number}" for number in range(cores)]
+            for path in names:
+                path.write_bytes(core or core_file([]))
             program = PROGRAM
-            if script is not None:
-                program = folder / "program"
-                program.write_text("#!/bin/sh\n" + script, encoding="utf-8")
-                program.chmod(0o700)
+            if threads is not None:
+                tree, text = stand_ins.dump_json(threads), stand_ins.text_of(threads)
+                program = stand_ins.program(folder / "program", tree, text, "", status, said)
             (folder / "usr/bin").mkdir(parents=True)
             (folder / "usr/bin/python3.9").write_bytes(IMAGE)
-            return subprocess.run(
+            ran = subprocess.run(
                 [sys.executable, str(TOOLS / "dump_core.py"), f"--program={program}", f"--root={folder}", "--collapsed", *words,
-                 str(folder / "core")], stdin=subprocess.DEVNULL, stdout=subprocess.PIPE, stderr=subprocess.PIPE, universal_newlines=True)
+                 *names], stdin=subprocess.DEVNULL, stdout=subprocess.PIPE, stderr=subprocess.PIPE, universal_newlines=True)
+            return ran.returncode, ran.stdout, ran.stderr.replace(name, "")
 
     def test_text(self):
-        tree = json.dumps([thread(frame("f"), frame("<module>"))])
-        ran = self.ran(f"case \"$*\" in *-j*) echo '{tree}';; esac")
-        self.assertEqual((ran.returncode, ran.stdout, ran.stderr), (0, "<module> (a.py);f (a.py) 1\n", ""))
+        threads = [stand_ins.thread(7, [stand_ins.frame("f", line=0), stand_ins.frame("<module>", line=0)])]
+        self.assertEqual(self.ran(threads=threads), (0, "<module> (a.py);f (a.py) 1\n", ""))
+        self.assertEqual(self.ran(threads=threads, cores=3), (0, "<module> (a.py);f (a.py) 3\n", ""))
 
     def test_refused(self):
-        ran = self.ran("echo pystacks: bad note >&2; exit 1")
-        self.assertEqual((ran.returncode, ran.stdout, ran.stderr), (1, "", "pystacks: bad note\n"))
+        refused = {"threads": [], "status": 1, "said": b"pystacks: bad note\n"}
+        self.assertEqual(self.ran(**refused), (1, "", "pystacks: bad note\n"))
+        lines = "/core0: pystacks: bad note\n/core1: pystacks: bad note\n"
+        self.assertEqual(self.ran(cores=2, **refused), (1, "", lines))
 
     def test_words(self):
-        for word in ("-l", "-j", "--group"):
-            ran = self.ran("exit 0", word)
-            self.assertEqual((ran.returncode, ran.stdout), (2, ""))
+        for word in ("-l", "-j", "--group", "--plain", "--html=page"):
+            self.assertEqual(self.ran(word, threads=[])[:2], (2, ""), word)
 
     @unittest.skipUnless(Path(PROGRAM).is_file(), "the program is not built")
     def test_built_program(self):
@@ -85,8 +94,8 @@ class Tool(unittest.TestCase):
         with tempfile.NamedTemporaryFile("w", suffix=".toml") as layouts:
             layouts.write(EXAMPLE)
             layouts.flush()
-            ran = self.ran(None, f"--layouts={layouts.name}", core=core)
-        self.assertEqual((ran.returncode, ran.stdout, ran.stderr), (0, "<module> (a.py);f (a.py) 1\n", ""))
+            ran = self.ran(f"--layouts={layouts.name}", core=core)
+        self.assertEqual(ran, (0, "<module> (a.py);f (a.py) 1\n", ""))
 
 
 if __name__ == "__main__":

@@ -19,7 +19,7 @@ from rooms import TOOLS  # (first: it makes the other rooms known)
 from carry_layouts import FIRST
 from core_gaps import entries_in
 from core_maps import is_library, maps_of, segments_of
-from dump_core import LAYOUTS, PROGRAM
+from core_places import LAYOUTS, PROGRAM
 from file_tables import TableError, add_file_table
 from join_layouts import joined, single_files
 from layout_plan import VERSIONS
@@ -80,16 +80,18 @@ class Case(unittest.TestCase):
         return os.fsencode(path)
 
     def tool(self, *words, program=None) -> Tuple[int, bytes, str]:
-        """What the tool comes to: status, output, and what was said."""
+        """What the tool comes to: status, output, and what was said, without what to do next, which is kept."""
         command = [sys.executable, "-B", TOOL, "--program", program or self.program, *words]
         streams = {"stdin": subprocess.DEVNULL, "stdout": subprocess.PIPE, "stderr": subprocess.PIPE}
         ran = subprocess.run(command, timeout=60, **streams)
-        return ran.returncode, ran.stdout, ran.stderr.decode("utf-8", "replace")
+        lines = ran.stderr.decode("utf-8", "replace").splitlines(keepends=True)
+        self.then = [it for it in lines if it.startswith("dump_core: next: ")]
+        return ran.returncode, ran.stdout, "".join(it for it in lines if it not in self.then)
 
     def handed(self, core: bytes, *words) -> Tuple[List[bytes], str]:
         """The words for images that a core comes to with locals, and what was said."""
         path = self.put("core", core)
-        status, out, said = self.tool(path, "-l", *words)
+        status, out, said = self.tool(path, "--plain", "-l", *words)
         self.assertEqual(status, 0, said)
         expected = [b"dump", b"--core=" + path, b"--layouts=" + os.fsencode(LAYOUTS), b"-l"]
         self.assertEqual(out.split(b"\0")[:4], expected)
@@ -131,7 +133,7 @@ class Words(Case):
         # (a report without locals reads nothing of other files)
         maps = [mapped(0x1000, self.python), mapped(0x2000, self.other, 4), mapped(0x3000, self.library)]
         path = self.put("core", core_file(maps))
-        _, out, said = self.tool(path)
+        _, out, said = self.tool(path, "--plain")
         self.assertEqual((out.split(b"\0")[3:], said), (self.words(self.python, self.library), ""))
 
     def test_many(self):
@@ -147,10 +149,11 @@ class Words(Case):
         images, said = self.handed(core_file([mapped(0x1000, self.python), mapped(0x2000, gone)]))
         self.assertEqual(images, [self.python + b"=" + self.python])
         name = os.fsdecode(gone)
-        self.assertEqual(said, f"dump_core: no image of {name} (needed; there is no file {name})\n")
+        self.assertEqual(said, f"dump_core: no image of {name} (needed; there is no file {name}; --root FOLDER looks below FOLDER)\n")
+        self.assertEqual(self.then, [])
         images, said = self.handed(core_file([mapped(0x1000, gone[:-3]), mapped(0x2000, gone)]))
         self.assertEqual((images, said.count("\n")), ([], 1))
-        self.assertIn(f"no image of {name} (needed; there is no file {name}), {name[:-3]} (not needed; ", said)
+        self.assertIn(f"no image of {name} (needed; there is no file {name}; --root FOLDER looks below FOLDER), {name[:-3]} (not needed; ", said)
         images, said = self.handed(core_file([mapped(0x1000, gone[:-3]), mapped(0x2000, self.library)]))
         self.assertEqual(images, [self.library + b"=" + self.library])
         self.assertIn("(not needed; there is no file", said)
@@ -232,9 +235,10 @@ class Words(Case):
         images, said = self.handed(data)
         self.assertEqual((images, said.count("\n")), ([], 1))
         self.assertIn("(needed; ", said)
-        self.assertIn("is of another machine", said)
+        self.assertIn("is of another machine, aarch64", said)
+        self.assertIn("--root FOLDER", self.then[0])
         path = self.put("core", data[:18] + b"\xb7" + data[19:])
-        status, out, said = self.tool(path, "-l", "--layouts", LAYOUTS)
+        status, out, said = self.tool(path, "--plain", "-l", "--layouts", LAYOUTS)
         self.assertEqual((status, said), (0, ""))
         self.assertEqual(out.split(b"\0")[4:], self.words(self.python, self.other))
 
@@ -269,6 +273,7 @@ class Faults(Case):
         for core in ("none", "."):
             status, out, said = self.tool(core, program=self.fake("pystacks: cannot read it\n", "sys.exit(3)"))
             self.assertEqual((status, said), (3, "pystacks: cannot read it\n"))
+            _, out, _ = self.tool(core, "--plain")
             self.assertEqual(out.split(b"\0"), [b"dump", b"--core=" + core.encode(), b"--layouts=" + os.fsencode(LAYOUTS)])
 
     def test_status(self):
@@ -296,28 +301,28 @@ class Faults(Case):
 
     def test_layouts(self):
         core = self.put("core", core_file([]))
-        _, out, _ = self.tool(core, "--layouts", "my.toml")
+        _, out, _ = self.tool(core, "--plain", "--layouts", "my.toml")
         self.assertEqual(out.split(b"\0")[2:], [b"--layouts=my.toml"])
 
     def test_options(self):
         core = self.put("core", core_file([]))
         expected = [b"--layouts=" + os.fsencode(LAYOUTS)]
         for words, added in ((["-l"], ["-l"]), (["-ll", "-j"], ["-l", "-l", "-j"]), (["-j", "--locals"], ["-l", "-j"])):
-            status, out, said = self.tool(core, *words)
+            status, out, said = self.tool(core, "--plain", *words)
             self.assertEqual((status, said), (0, ""))
             self.assertEqual(out.split(b"\0")[2:], expected + [os.fsencode(it) for it in added])
 
     def test_machine(self):
         whole = core_file([])
         for number, layouts in ((b"\x3e", LAYOUTS), (b"\xb7", LAYOUTS.with_name("cpython-aarch64.toml"))):
-            _, out, said = self.tool(self.put("core", whole[:18] + number + whole[19:]))
+            _, out, said = self.tool(self.put("core", whole[:18] + number + whole[19:]), "--plain")
             self.assertEqual((out.split(b"\0")[2:], said), ([b"--layouts=" + os.fsencode(layouts)], ""))
             self.assertTrue(layouts.is_file())
         core = self.put("core", whole[:18] + b"\x28" + whole[19:])
         status, out, said = self.tool(core)
         self.assertEqual((status, out, said.count("\n")), (2, b"", 1))
-        self.assertTrue(said.startswith("dump_core: layouts/ has none of the core's machine, 40: "), said)
-        self.assertEqual(self.tool(core, "--layouts", LAYOUTS)[::2], (0, ""))
+        self.assertTrue(said.startswith("dump_core: layouts/ has none of the core's machine, arm: "), said)
+        self.assertEqual(self.tool(core, "--plain", "--layouts", LAYOUTS)[::2], (0, ""))
 
 
 MAPS = b"""\
@@ -345,7 +350,7 @@ class Groups(Case):
         first = core_file([mapped(0x1000, self.python)])
         second = core_file([mapped(0x1000, self.library, 4, built(1)), mapped(0x2000, self.library), mapped(0x3000, self.python)])
         cores = self.cores(first, second, b"none", first)
-        status, out, said = self.tool("--group", *cores)
+        status, out, said = self.tool("--group", "--plain", *cores)
         images = [it + b"=" + it for it in (self.python, self.library)]
         self.assertEqual((status, said), (0, ""))
         self.assertEqual(out.split(b"\0"), [b"triage", os.fsencode(LAYOUTS), *cores, *images])
@@ -367,7 +372,7 @@ class Groups(Case):
         cores = self.cores(*[core_file([mapped(0x1000, self.python)])] * 80)
         resource.setrlimit(resource.RLIMIT_NOFILE, (64, hard))
         try:
-            status, out, said = self.tool("--group", *cores)
+            status, out, said = self.tool("--group", "--plain", *cores)
         finally:
             resource.setrlimit(resource.RLIMIT_NOFILE, (soft, hard))
         self.assertEqual((status, said, len(out.split(b"\0"))), (0, "", 83))

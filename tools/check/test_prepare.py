@@ -29,7 +29,9 @@ import core_sparse
 from core_gaps import entries_in
 from core_prepare import Prepared, Unprepared, Wishes, available, prepared
 from core_reader import Reader, reader
-from dump_core import LONGEST, PROGRAM as BUILT, free_memory
+from core_asked import free_memory
+from core_images import LONGEST
+from core_places import PROGRAM as BUILT
 from find_pythons import pythons
 from made import EXAMPLE, NOTE, Segment, core_file, elf_file, file_table, note
 from row import TEXT, heap

@@ -1,0 +1,111 @@
+"""Programs that stand in for `pystacks` and `pysalvage` in tests of the tool: they write what they are told to. And what
+such programs write: trees of threads, as the JSON of either has them.
+"""
+
+import json
+import sys
+from pathlib import Path
+from typing import Any, Dict, List, Optional, Sequence
+
+SCRIPT = """#!{python} -IS
+import sys
+words = sys.argv[1:]
+name = "json" if "-j" in words else "triage" if words[:1] == ["triage"] else "text"
+try:
+    out = open({folder!r} + "/" + name, "rb").read()
+except OSError:
+    out = b""
+sys.stdout.buffer.write(b"" if {status} else out)
+sys.stdout.flush()
+sys.stderr.buffer.write({said!r})
+sys.exit({status})
+"""
+"""A program that writes the file `json`, `triage` or `text`, by its words."""
+
+Tree = Dict[str, Any]
+
+WHOLE = {"kind": "whole"}
+
+
+def program(path: Path, json_text: str = "", text: str = "", triage: str = "", status: int = 0, said: bytes = b"") -> Path:
+    """Writes a program that writes these."""
+    folder = path.with_name(f"{path.name}.said")
+    folder.mkdir(exist_ok=True)
+    for name, data in (("json", json_text), ("text", text), ("triage", triage)):
+        (folder / name).write_text(data, encoding="utf-8", errors="surrogatepass")
+    path.write_text(SCRIPT.format(python=sys.executable, folder=str(folder), status=status, said=said), encoding="utf-8")
+    path.chmod(0o700)
+    return path
+
+
+# ---- what `pysalvage` writes
+
+
+def frame(name: str, filename: str = "a.py", line: int = 1, rows: Optional[List[Tree]] = None, fault: Optional[Tree] = None) -> Tree:
+    """A member with a frame."""
+    return {"filename": filename, "line": line, "locals": rows, "locals_fault": fault, "name": name}
+
+
+def local(name: str, value: Optional[str], is_argument: bool = False) -> Tree:
+    """A local."""
+    return {"address": "0x1000", "arg": is_argument, "name": name, "repr": value}
+
+
+def thread(
+    number: int, first: Sequence[Tree] = (), native: Optional[int] = None, gil: bool = False, crashed: bool = False,
+    last: Sequence[Tree] = (), between: int = 0, end: Tree = WHOLE, met: Optional[int] = None,
+) -> Tree:
+    """A thread."""
+    count = len(first) + between + len(last)
+    frames = {"between": between, "end": end, "first": list(first), "last": list(last), "met": count if met is None else met}
+    return {"address": hex(number), "crashed": crashed, "frames": frames, "gil": gil, "os_thread_id": native, "thread_id": number}
+
+
+def interpreter(threads: Sequence[Tree], address: int = 0x10000, searched: bool = False, lock: Optional[Tree] = None, end: Tree = WHOLE) -> Tree:
+    """An interpreter."""
+    holder = next((it["thread_id"] for it in threads if it["gil"]), 0)
+    return {
+        "address": hex(address), "lock": lock or {"holder": holder, "kind": "read"}, "searched": searched,
+        "threads": list(threads), "threads_end": end,
+    }
+
+
+def salvage(*interpreters: Tree, signal: Optional[int] = 11, arguments: Optional[str] = "python3 a.py", more: bool = False) -> Tree:
+    """All of a core."""
+    process = None if arguments is None else {"arguments": arguments, "pid": 4711}
+    return {"interpreters": list(interpreters), "more": more, "process": process, "signal": signal, "version": "3.11.7"}
+
+
+# ---- what `pystacks dump` writes
+
+
+def dump_thread(tree: Tree, name: Optional[str] = None) -> Tree:
+    """A thread of `dump`, by one of `pysalvage`."""
+    rows = []
+    for it in tree["frames"]["first"] + tree["frames"]["last"]:
+        shown = it["locals"] and [{"addr": 4096, "arg": row["arg"], "name": row["name"], "repr": row["repr"]} for row in it["locals"]]
+        rows.append({
+            "filename": it["filename"], "is_entry": True, "is_shim_entry": False, "line": it["line"], "locals": shown,
+            "module": None, "name": it["name"], "short_filename": None,
+        })
+    return {
+        "active": True, "frames": rows, "os_thread_id": tree["os_thread_id"], "owns_gil": tree["gil"], "pid": 0,
+        "process_info": None, "thread_id": tree["thread_id"], "thread_name": name,
+    }
+
+
+def dump_json(threads: Sequence[Tree], names: Optional[Dict[int, str]] = None) -> str:
+    """The JSON of `dump`, whose threads are in the reverse of the text's order."""
+    return json.dumps([dump_thread(it, (names or {}).get(it["thread_id"])) for it in reversed(threads)])
+
+
+def text_of(threads: Sequence[Tree], head: str = "Signal 11: core\nProcess 4711: python3 a.py\n", names: Optional[Dict[int, str]] = None) -> str:
+    """The text of `dump`."""
+    lines = [f"{head}Python v3.11.7\n\n"]
+    for it in threads:
+        label = hex(it["thread_id"]).upper().replace("X", "x") if it["os_thread_id"] is None else it["os_thread_id"]
+        name = (names or {}).get(it["thread_id"])
+        lines.append(f"Thread {label}{' (gil)' * it['gil']}" + (f': "{name}"' if name else "") + "\n")
+        for row in it["frames"]["first"]:
+            lines.append(f"    {row['name']} ({row['filename']}{':%d' % row['line'] if row['line'] else ''})\n")
+    return "".join(lines)

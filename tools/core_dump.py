@@ -1,0 +1,87 @@
+"""What `pystacks dump` told of a core: its threads by the JSON, and the head of its text."""
+
+import json
+import re
+from typing import Any, Dict, List, Optional
+
+from core_model import Frame, Interpreter, Local, Report, Thread
+
+HEAD = re.compile(
+    r"(?:Signal (?P<signal>-?[0-9]+): [^\n]*\n)?(?:Process (?P<pid>-?[0-9]+): (?P<arguments>.*?)\n)?Python v(?P<version>[^\n]*)\n\n",
+    re.DOTALL)
+"""The lines before the threads."""
+
+
+class Unexpected(Exception):
+    """Why what a program wrote isn't taken."""
+
+
+def local_of(tree: Dict[str, Any]) -> Local:
+    """A local."""
+    return Local(tree["name"], tree["repr"], tree["arg"])
+
+
+def frame_of(tree: Dict[str, Any]) -> Frame:
+    """A frame."""
+    rows = tree["locals"]
+    shown = None if rows is None else tuple(local_of(it) for it in rows)
+    return Frame(tree["name"], tree["filename"], tree["line"], shown)
+
+
+def thread_of(tree: Dict[str, Any]) -> Thread:
+    """A thread."""
+    frames = tuple(frame_of(it) for it in tree["frames"])
+    return Thread(tree["thread_id"], frames, tree["os_thread_id"], tree["thread_name"], tree["owns_gil"])
+
+
+def number_of(text: Optional[str]) -> Optional[int]:
+    """A number that may be missing."""
+    return None if text is None else int(text)
+
+
+def report_of(tree: str, text: str, word: str, core: str) -> Report:
+    """The report by the JSON and the text of one core, for which the program had this word. The text's threads stand in
+    the reverse of the JSON's order, and so they do here."""
+    head = HEAD.match(text.replace(f": {word}\n", ": \n", 1))
+    if not head:
+        raise Unexpected("the head of its text")
+    try:
+        threads = tuple(thread_of(it) for it in reversed(json.loads(tree)))
+    except (ValueError, KeyError, TypeError) as error:
+        raise Unexpected(f"its JSON: {error!r}") from None
+    pid = number_of(head["pid"])
+    process = None if pid is None else (pid, head["arguments"])
+    return Report((Interpreter(threads),), head["version"], number_of(head["signal"]), process, core=core)
+
+
+# ---- as `pysalvage` has it
+
+
+def local_tree(tree: Dict[str, Any]) -> Dict[str, Any]:
+    """A local."""
+    return {"address": hex(tree["addr"]), "arg": tree["arg"], "name": tree["name"], "repr": tree["repr"]}
+
+
+def member_tree(tree: Dict[str, Any]) -> Dict[str, Any]:
+    """A frame."""
+    rows = tree["locals"]
+    shown = None if rows is None else [local_tree(it) for it in rows]
+    return {"filename": tree["filename"], "line": tree["line"], "locals": shown, "locals_fault": None, "name": tree["name"]}
+
+
+def thread_tree(tree: Dict[str, Any]) -> Dict[str, Any]:
+    """A thread. Which one got the signal isn't told."""
+    members = [member_tree(it) for it in tree["frames"]]
+    frames = {"between": 0, "end": {"kind": "whole"}, "first": members, "last": [], "met": None}
+    return {
+        "address": None, "crashed": None, "frames": frames, "gil": tree["owns_gil"], "os_thread_id": tree["os_thread_id"],
+        "thread_id": tree["thread_id"], "thread_name": tree["thread_name"],
+    }
+
+
+def tree_of(report: Report, threads: List[Dict[str, Any]]) -> Dict[str, Any]:
+    """A report in the form of `pysalvage`'s JSON. What `dump` doesn't tell is null."""
+    rows = [thread_tree(it) for it in reversed(threads)]
+    interpreter = {"address": None, "lock": None, "searched": None, "threads": rows, "threads_end": {"kind": "whole"}}
+    process = None if report.process is None else {"arguments": report.process[1], "pid": report.process[0]}
+    return {"interpreters": [interpreter], "more": None, "process": process, "signal": report.signal, "version": report.version}

@@ -1,0 +1,74 @@
+"""Texts of a core within a line: what could end the line, or be taken for a quote, is escaped as `pysalvage` has it; the
+numbers of floats in decimal; and signals by name.
+"""
+
+import re
+import struct
+from typing import Optional
+
+CONTROL = re.compile("[\x00-\x1f\x7f-\x9f\u2028\u2029\ud800-\udfff]")
+NAME = re.compile("[\"\\\\\x00-\x1f\x7f-\x9f\u2028\u2029\ud800-\udfff]")
+
+FLOAT = re.compile(r"(?<![^\[({ ])float 0x([0-9a-f]{16}|[0-9a-f]{8})(?![^\])},:])")
+"""A float by its bits, within a value."""
+
+QUOTED = re.compile(r'"[^"]*"(?=$|[\])},:])')
+"""A text within a value. One with quotes of its own can't be told from several."""
+
+SIGNALS = (
+    "HUP INT QUIT ILL TRAP ABRT BUS FPE KILL USR1 SEGV USR2 PIPE ALRM TERM STKFLT CHLD CONT STOP TSTP TTIN TTOU URG XCPU "
+    "XFSZ VTALRM PROF WINCH IO PWR SYS").split()
+"""Linux' signals from 1 on, as x86-64 and aarch64 have them."""
+
+FIRST_REAL_TIME, LAST_SIGNAL = 34, 64
+
+
+def escaped(found: "re.Match[str]") -> str:
+    """A character as Rust's literals have it."""
+    return f"\\u{{{ord(found.group()):x}}}"
+
+
+def in_line(text: str) -> str:
+    """A value or an argument within a line."""
+    return CONTROL.sub(escaped, text)
+
+
+def as_name(text: str) -> str:
+    """A name within a line: it has neither quotes nor backslashes of its own."""
+    return NAME.sub(escaped, text)
+
+
+def decimal(found: "re.Match[str]") -> str:
+    """A float in decimal beside its bits."""
+    digits = found.group(1)
+    number = struct.unpack(">d" if len(digits) == 16 else ">f", bytes.fromhex(digits))[0]
+    return f"{number!r} ({found.group()})"
+
+
+def with_decimals(value: str) -> str:
+    """A value with its floats in decimal beside their bits. Texts within it stay as they are; and so does all of it where
+    they can't be told from what is around them."""
+    parts = QUOTED.split(value)
+    if any('"' in it for it in parts):
+        return value
+    texts = QUOTED.findall(value)
+    plain = [FLOAT.sub(decimal, it) for it in parts]
+    return plain[0] + "".join(text + part for text, part in zip(texts, plain[1:]))
+
+
+def signal_name(number: int) -> Optional[str]:
+    """A signal's name."""
+    if 1 <= number <= len(SIGNALS):
+        return f"SIG{SIGNALS[number - 1]}"
+    if FIRST_REAL_TIME <= number <= LAST_SIGNAL:
+        return f"SIGRTMIN+{number - FIRST_REAL_TIME}" if number > FIRST_REAL_TIME else "SIGRTMIN"
+    return None
+
+
+HIDDEN = re.compile("[\x00-\x1f\x7f-\x9f\u061c\u200e\u200f\u2028-\u202e\u2066-\u2069\ud800-\udfff\ufdd0-\ufdef\ufffe\uffff]")
+"""What a page shows escaped: control characters, and those that turn the direction of what follows."""
+
+
+def in_page(text: str) -> str:
+    """A text of a core as a page shows it, before its markup is escaped."""
+    return HIDDEN.sub(escaped, text)

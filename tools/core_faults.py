@@ -1,0 +1,31 @@
+"""What the tool says: a line, and where that isn't plain from it a second one with what to do next; and its statuses."""
+
+import sys
+
+NO_STACKS = 1
+BAD_WORDS = 2
+CANNOT_WRITE = 4
+NO_ROOM = 5
+NO_PROGRAM = 127
+
+
+class Fault(Exception):
+    """Why there is no answer: the line, the status, and what to do next."""
+
+    def __init__(self, line: str, status: int, then: str = "") -> None:
+        super().__init__(line)
+        self.status = status
+        self.then = then
+
+
+def say(line: str, then: str = "") -> None:
+    """Says a line on the standard error, and what to do next."""
+    print(f"dump_core: {line}", file=sys.stderr, flush=True)
+    if then:
+        print(f"dump_core: next: {then}", file=sys.stderr, flush=True)
+
+
+def shown(name: bytes) -> str:
+    """A name within a line."""
+    text = name.decode("utf-8", "backslashreplace")
+    return text if text.isprintable() else ascii(text)[1:-1]

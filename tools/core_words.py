@@ -1,0 +1,104 @@
+"""The words of the tool: its options, its help, and its version."""
+
+import argparse
+import os
+import re
+from pathlib import Path
+from typing import List, Sequence
+
+from core_places import LAYOUTS, MACHINES, PROGRAM, SALVAGE, commit
+
+PROJECT = "pystacks 0.1"
+
+WHAT = "Shows where a Python process stood when it died: the stacks of its threads, by its core."
+
+EXAMPLES = """\
+examples:
+  {0} core                          the stacks of a core; the thread that got the signal first
+  {0} core -l --source              with locals and source lines
+  {0} core --root /mnt/image        of a container, whose files are below that folder
+
+Where the program pysalvage is there, stacks of broken processes are shown as far as they go; else `pystacks dump` alone
+is run, which shows whole stacks or none. docs/MESSAGES.md has each line of the standard error, and what to do next."""
+
+
+def add_shown(parser: argparse.ArgumentParser) -> None:
+    """Adds what is shown of a core."""
+    parser.add_argument("-l", "--locals", action="count", default=0, help="show locals; twice, longer ones")
+    parser.add_argument("--all", action="store_true", help="each thread with its own stack, however many there are")
+    parser.add_argument("--source", metavar="FOLDER", nargs="?", const="", default=None,
+                        help="show source lines, where the files are there: as they are named, or below this folder")
+    parser.add_argument("-j", "--json", action="store_true", help="as JSON: one object")
+    parser.add_argument("--collapsed", action="store_true", help="as flame graph tools and speedscope read stacks; of several cores together")
+    parser.add_argument("--html", metavar="FILE", default="", help="write a page to share; with --group a page of the groups")
+    parser.add_argument("--group", action="store_true", help="group several cores by their stacks")
+    parser.add_argument("--plain", action="store_true", help="the text (with -j the JSON) and the status of `pystacks dump` (with --group `triage`) as they are")
+
+
+def add_taken(parser: argparse.ArgumentParser) -> None:
+    """Adds where files are found, and how a core is taken."""
+    parser.add_argument("--root", metavar="FOLDER", default="", help="look for the mapped files, and for sources, below this folder")
+    parser.add_argument("--maps", metavar="FILE", default="", help="the process's maps, for a core without a file table")
+    parser.add_argument("--keep", metavar="FILE", default="", help="keep the core that was prepared in this new file")
+    parser.add_argument("--anyway", action="store_true", help="read a core that is longer than half of the free memory")
+    parser.add_argument("--layouts", metavar="FILE", help="the layout file (default: the core's machine's in layouts/)")
+    parser.add_argument("--program", metavar="FILE", help="the program pystacks (default: the one that was built or installed)")
+    parser.add_argument("--salvage", metavar="FILE", help="the program pysalvage (default: the one beside it)")
+
+
+def parser_for(name: str) -> argparse.ArgumentParser:
+    """The parser of the tool's words."""
+    parser = argparse.ArgumentParser(
+        prog=name, description=WHAT, epilog=EXAMPLES.format(name), formatter_class=argparse.RawDescriptionHelpFormatter)
+    parser.add_argument("core", metavar="CORE", nargs="*", help="the core's file; several with --group and --collapsed")
+    add_shown(parser)
+    add_taken(parser)
+    parser.add_argument("--version", action="store_true", help="the project's version, its commit, and those of its layouts")
+    return parser
+
+
+def clash(words: argparse.Namespace) -> str:
+    """What is wrong with the words, if anything is."""
+    forms = [it for it in ("json", "collapsed", "html", "plain") if getattr(words, it)]
+    if words.group and (words.locals or words.json or words.collapsed or words.keep or words.maps):
+        return "--group takes no -l, -j, --collapsed, --keep and --maps"
+    if words.collapsed and words.locals:
+        return "--collapsed takes no -l"
+    if len(forms) > 1 and forms != ["json", "plain"]:
+        return "of --json, --collapsed, --html and --plain one is taken, or --json with --plain"
+    if not words.core:
+        hint = f": --source took {words.source} for its folder, so name it behind the core" if words.source else ""
+        return f"no core is named{hint}"
+    if len(words.core) > 1 and not (words.group or words.collapsed and not words.keep):
+        return "several cores are taken with --group and --collapsed alone"
+    return ""
+
+
+def words_of(name: str, given: Sequence[str]) -> argparse.Namespace:
+    """The tool's words. Wrong ones end it, with their line and status 2."""
+    parser = parser_for(name)
+    words = parser.parse_args(given)
+    fault = "" if words.version else clash(words)
+    if fault:
+        parser.error(fault)
+    return words
+
+
+def versions_in(path: Path) -> str:
+    """The versions of Python that a layout file covers, from its own keys."""
+    text = path.read_text(encoding="utf-8", errors="replace")
+    numbers = [re.findall(rf"^{key} = (\d+)$", text, re.MULTILINE) for key in ("major", "first_minor", "last_minor")]
+    rows = [f"{major}.{first}" if first == last else f"{major}.{first} to {major}.{last}" for major, first, last in zip(*numbers)]
+    return ", ".join(rows)
+
+
+def version_lines() -> List[str]:
+    """The project's version, with the commit where it is known; the programs that are there; and the layouts."""
+    own = commit()
+    lines = [f"{PROJECT} ({own})" if own else PROJECT]
+    for name, program in (("pystacks", PROGRAM), ("pysalvage", SALVAGE)):
+        lines.append(f"{name}: {os.fspath(program)}" if program.is_file() else f"{name}: not built")
+    for machine in MACHINES.values():
+        path = LAYOUTS.with_name(f"cpython-{machine}.toml")
+        lines.append(f"layouts for {machine}: CPython {versions_in(path)}" if path.is_file() else f"layouts for {machine}: none")
+    return lines
