@@ -30,7 +30,7 @@ LOCATED = re.compile(r"Python v(\d+\.\d+\.\d+)\S*\nInterpreter (0x[0-9a-f]+)\nLo
 
 def fault_of(answer: Answer) -> Fault:
     """The program's own line and status."""
-    line = answer.said.decode("utf-8", "backslashreplace").strip() or f"the program ended with status {answer.status}"
+    line = shown(answer.said.strip()) or f"the program ended with status {answer.status}"
     return Fault(line, answer.status if answer.status > 0 else NO_PROGRAM)
 
 
