@@ -70,8 +70,11 @@ opens_of bytes images layouts is_core held (Ok o) same h = of_opened (subst (λ 
     of_opened : IsOpened bytes images layouts o → OpenedIs bytes images layouts (Ok o)
     of_opened h =
         let pieces : o.pieces ≡ h.finds.dumped.pieces = backed_once bytes images o.pieces h.finds.dumped.pieces h.memory h.finds.is_dumped.memory in
-        inr (h.finds.dumped, (is_core, h.finds.is_dumped),
-        inr (o.finding, h.finds.is, λ i. Ok (record { core = h.core_is i; pieces = pieces i; finding = o.finding })))
+        inr (
+          h.finds.dumped,
+          (is_core, h.finds.is_dumped),
+          inr (o.finding, h.finds.is, λ i. Ok (record { core = h.core_is i; pieces = pieces i; finding = o.finding })),
+        )
 opens_of bytes images layouts is_core held (Err e) same (inl memory) =
     subst (λ x. OpenedIs bytes images layouts (Err x)) (sym memory) (inl (core.OutOfMemory, tt, refl))
 opens_of bytes images layouts is_core held (Err e) same (inr finds) =
@@ -126,10 +129,13 @@ module _ (named : List (List ℕ × List ℕ)) (bytes text : List ℕ) (images :
     where
       flawed : (c : Cause) (p : OfLayouts text c) → cause_status c ≢ 5 → cause_status c ≡ 6
       flawed c p ne = ap cause_status p.1 ∙ (flaw_status p.0 (λ five. ne (ap cause_status p.1 ∙ five))).0
+
       failed : (c : Cause) (p : OfCore named bytes text images c) → cause_status c ≢ 5 → cause_status c ≡ 1
       failed c p ne = ap cause_status p.2 ∙ (core_one p.0 (λ five. ne (ap cause_status p.2 ∙ five))).0
+
       never : (c : Cause) (p : OfLayouts text c) (list : List Layout) → cause_status c ≢ 5 → IsRightFor text (Ok list) → ⊥
       never c p list ne says = flaw_apart (IsRightFor text) (right-unique text) list p.0 (flaw_status p.0 (λ five. ne (ap cause_status p.1 ∙ five))).1 says p.2
+
       by : OfLayouts text a ⊎ OfCore named bytes text images a → OfLayouts text b ⊎ OfCore named bytes text images b → cause_status a ≡ cause_status b
       by (inl p) (inl q) = flawed a p na ∙ sym (flawed b q nb)
       by (inl p) (inr q) = absurd (never a p q.1 na q.3)

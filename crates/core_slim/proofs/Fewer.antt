@@ -21,6 +21,7 @@ one_kept e a s ss lt out more = ⊎_elim kept dropped (cases_Bool (nat_lt e s.st
   where
     kept : nat_lt e s.start ≡ true → lies_in (behind e (s ∷ ss)) a ≡ lies_in (s ∷ ss) a
     kept is = rw is (ap (λ b. covers a s || b) more)
+
     dropped : nat_lt e s.start ≡ false → lies_in (behind e (s ∷ ss)) a ≡ lies_in (s ∷ ss) a
     dropped is =
         let begins : s.start ≤ e = grind (arith, nat_tests, is) in
@@ -41,6 +42,7 @@ one_not e a s ss le rest = ⊎_elim kept dropped (cases_Bool (nat_lt e s.start))
     kept is =
         let later : e < s.start = grind (arith, nat_tests, is) in
         rw (is, covers_before a s (omega (arith, later, le))) rest
+
     dropped : nat_lt e s.start ≡ false → lies_in (behind e (s ∷ ss)) a ≡ false
     dropped is = rw is rest
 
@@ -89,6 +91,7 @@ few_of low (p ∷ ps) ss r same =
         let no : covers a p ≡ false = covers_behind a p (omega (arith, lt)) in
         let all = same a in
         (rw no at all) ∙ sym (lies_kept (p.start + p.len) a ss lt (sym (same (p.start + p.len)) ∙ past))
+
     before_it : (a : ℕ) → a ≤ p.start + p.len → lies_in ps a ≡ lies_in (behind (p.start + p.len) ss) a
     before_it a le = lies_before (p.start + p.len + 1) ps a r.2 (omega (arith, le)) ∙ sym (lies_not (p.start + p.len) a ss le)
 

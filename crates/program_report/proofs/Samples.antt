@@ -167,5 +167,8 @@ module _ (seed : ℕ) (r : Reported) (is : IsSampleReport seed r) where
 
 pub frames_few : (seed : ℕ) → sum_by (λ (t : Thread). length t.frames) (generated seed).threads < 2 ^ 64
 unfolding generated
-frames_few seed = omega (arith, sum_each (λ (t : Thread). length t.frames) (thread_of seed) 16 256
-    (λ t few. omega (arith, length_each (frame_of seed t) (frame_count seed t))))
+frames_few seed = omega (
+  arith,
+  sum_each (λ (t : Thread). length t.frames) (thread_of seed) 16 256
+      (λ t few. omega (arith, length_each (frame_of seed t) (frame_count seed t))),
+)

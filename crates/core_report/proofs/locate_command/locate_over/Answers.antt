@@ -9,8 +9,12 @@ pub returns-in_err-process : goal.returns-in_err-process
 returns-in_err-process c =
     let p = err_from_is_err_and c.from_residual.result c.from_residual.ensures.1 in
     let error = c.in_err-process.field-0.0 in
-    rw (p.1, p.2) (λ ne. inl (error, refl, subst (λ named. OpensBy named (report_contents c.args.files) (Err error))
-    c.deref.ensures.value (c.in_err-process.ensures ne)))
+    rw (p.1, p.2) (λ ne. inl (
+      error,
+      refl,
+      subst (λ named. OpensBy named (report_contents c.args.files) (Err error))
+          c.deref.ensures.value (c.in_err-process.ensures ne),
+    ))
 
 pub returns-in_err-text : goal.returns-in_err-text
 returns-in_err-text c =

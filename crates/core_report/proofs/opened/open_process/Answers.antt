@@ -30,8 +30,7 @@ returns-in_err-process c =
 pub returns : goal.returns
 returns c =
     let says = rw c.deref.ensures.value at c.in_ok-layouts.ensures.right in
-    let core = c.args.files.core.items in
-    (
+    let core = c.args.files.core.items in (
       c.in_ok-layouts.layouts,
       says,
       subst (λ images. OpenedIs core images c.in_ok-layouts.layouts (Ok c.in_ok-process.process))
