@@ -46,6 +46,7 @@ from footprints import Footprint, blotted, footprint_of
 from layout_plan import plan_of
 from layout_swaps import swaps
 from real_groups import check_objects, groups_text, kept
+from real_slim import slim_walks
 from real_tool import check_tool
 
 
@@ -316,6 +317,12 @@ def check_reach(program: Path, core: Core, layouts: Path) -> int:
     return check_objects(run.out, core.told.led[1])
 
 
+def check_slim_core(program: Path, core: Core, layouts: Path, build: Build) -> None:
+    """Fails where a walk over the slim core doesn't show the threads that the process told."""
+    text, has_lock, _ = slim_walks(program, core.path, layouts, images_of(core.path), not core.case.is_usual)
+    compare(core.told.threads, printed(text, build), with_lock=has_lock)
+
+
 def notice_wrong(program: Path, core: Core, room: Path, derived: Derived) -> None:
     """Fails where a wrong layout isn't noticed: one in which functions and files have changed places, and, over a core
     whose lock is free, one that takes another number for the mark of a lock that is held."""
@@ -409,6 +416,7 @@ def over_core(program: Path, derived: Derived, core: Core, room: Path) -> Walk:
         notice_wrong(program, core, room, derived)
     check_dump(program, core, layouts, derived)
     check_prepared(program, core, layouts)
+    check_slim_core(program, core, layouts, derived.build)
     if JSON_IN_DUMP:
         check_tool(program, core.path, layouts, images_of(core.path, False))
     if core.told.led and derived.with_dicts:
