@@ -27,8 +27,9 @@ returns-in_err-_traces-clause-few c =
 pub returns-in_err-bytes-clause-few : goal.returns-in_err-bytes-clause-few
 returns-in_err-bytes-clause-few c =
     let p = err_from_is_err_and c.from_residual-in_err-bytes.result c.from_residual-in_err-bytes.ensures.1 in
+    let few = rw c.deref.ensures.value at c.in_err-bytes.ensures.few in
     rw p.1 (λ count same. few_pieces c.in_err-bytes.field-0.0 p.0 (length c.in_ok-_traces.ranges.items) _
-    c.in_err-bytes.ensures.few c.in_ok-_traces.ensures.footprint.few p.2 count same)
+    few c.in_ok-_traces.ensures.footprint.few p.2 count same)
 
 pub returns-clause-keeps : goal.returns-clause-keeps
 returns-clause-keeps c =
