@@ -28,17 +28,22 @@ import changes
 import rows_dump
 import rows_merge
 import rows_reach
+import rows_slim
 import rows_triage
 import rows_walk
+from child_cores import Failure
 from rooms import ROOT
 from row import Row
+from slim_reader import check_slim
 
 SECONDS, MEMORY = 10, 300 * 10 ** 6
 
-COMMANDS = {"dump": rows_dump, "walk": rows_walk, "triage": rows_triage, "reach": rows_reach, "merge": rows_merge}
+COMMANDS = {"dump": rows_dump.rows, "walk": rows_walk.rows, "triage": rows_triage.rows, "reach": rows_reach.rows, "merge": rows_merge.rows,
+            "locate": rows_slim.rows, "slim": rows_slim.slim_rows}
+"""The commands, and whose rows the cases begin with."""
 
 STATUSES = {name: {0, 1, 2, 3, 5, 6} | more for name, more in (
-    ("dump", set()), ("walk", set()), ("triage", set()), ("reach", {9}), ("merge", {7}))}
+    ("dump", set()), ("walk", set()), ("triage", set()), ("reach", {9}), ("merge", {7}), ("locate", set()), ("slim", {8}))}
 """The statuses that a command has, less 4: the output can always be written here."""
 
 HOLES = {"ADDR": rb"0x[0-9a-f]+", "N": rb"-?\d+", "M": rb"\d+", "V": rb"\S+", "KEY": rb".*", "PATH": rb".*", "NAME": rb".*"}
@@ -109,6 +114,7 @@ TEXTS = {
     "walk": re.compile(rb"Python v\d+\.\d+\.\d+\n\n(Thread (0x[0-9A-F]+|\d+)( \(gil\))?\n.*)?", re.DOTALL),
     "triage": re.compile(rb"(Group 1: \d+\n|Refused: \d+\n).*", re.DOTALL),
     "merge": re.compile(rb"(    .*\n)?", re.DOTALL),
+    "locate": re.compile(rb"Python v\d+\.\d+.*\nInterpreter 0x[0-9a-f]+\nLock 0x[0-9a-f]+\n", re.DOTALL),
 }
 
 
@@ -118,6 +124,9 @@ def fault_of_text(command: str, program: str, words: Sequence[str], folder: str,
         count, *rows = out.decode().splitlines()
         places = [int(re.fullmatch(r"    0x([0-9a-f]+)( \?)?", row).group(1), 16) for row in rows]
         return None if count == f"Objects {len(rows)}" and places == sorted(set(places)) else "the objects aren't in order"
+    if command == "slim":
+        check_slim(Path(folder, words[1]).read_bytes(), out)
+        return None
     options = words[: words.index("--")] if "--" in words else words
     has_json = any(re.fullmatch(r"--json|-[lns]*j.*", it) for it in options)
     if command == "dump" and not has_json:
@@ -171,7 +180,7 @@ class Part:
 def run_part(part: Part) -> Tuple[Counter, List[str]]:
     """Runs some cases: how often each status came, and what failed."""
     limited()
-    rows = [it for it in COMMANDS[part.command].rows() if it.status == 0 and it.memory is None and not it.lengths and len(it.files) < 20]
+    rows = [it for it in COMMANDS[part.command]() if it.status == 0 and it.memory is None and not it.lengths and len(it.files) < 20]
     statuses: Counter = Counter()
     faults: List[str] = []
     for number in range(part.first, part.first + part.count):
@@ -200,7 +209,7 @@ def tried(part: Part, words: Sequence[str], folder: str, told: Optional[changes.
         return answer.status, fault_of(command, part.program, words, folder, answer)
     except subprocess.TimeoutExpired:
         return None, f"no end within {SECONDS} seconds"
-    except (AttributeError, KeyError, TypeError, ValueError) as reason:
+    except (AttributeError, Failure, KeyError, TypeError, ValueError) as reason:
         return None, f"an answer that isn't read: {reason!r}"
 
 

@@ -24,13 +24,15 @@ from typing import List, NamedTuple, Optional, Sequence, Tuple
 import rows_dump
 import rows_merge
 import rows_reach
+import rows_slim
 import rows_triage
 import rows_walk
 from row import Row
 
 CHOSEN = (
     (rows_walk, "walk"), (rows_dump, "dump: locals: arguments first"), (rows_dump, "dump: JSON"),
-    (rows_merge, "merge: steps: one for each frame"), (rows_triage, "triage: functions that differ"), (rows_reach, "reach: a list"))
+    (rows_merge, "merge: steps: one for each frame"), (rows_triage, "triage: functions that differ"), (rows_reach, "reach: a list"),
+    (rows_slim, "slim: where the interpreter is"))
 """Which rows are run: of each list the first that answers with a text, and whose name begins so."""
 
 FAULTS = (("malloc", "refused"), ("realloc", "refused"), ("read", "failed"), ("read", "interrupted"), ("read", "short"),

@@ -1,5 +1,6 @@
 """Rows of `pystacks locate` and `pystacks slim`: the words, the order of the work, and what is told and written."""
 
+from dataclasses import replace
 from typing import Iterator, List
 
 from made import Objects
@@ -51,6 +52,11 @@ def order() -> Iterator[Row]:
     yield row("slim: names of locals that are missing", f"slim core layouts 1 {IMAGE}", files_of(small()), line="unreadable at 0x0, 24 bytes")
     yield row("slim: no interpreter", SLIM, files_of(small(lambda objects: objects.word(FRAME + objects.group("frame")["back"], FRAME))),
               line="no interpreter found")
+
+
+def slim_rows() -> List[Row]:
+    """The rows of `locate`, asked of `slim` at level 1: what is written there is known by slim_reader.py alone."""
+    return [replace(it, words=("slim", *it.words[1:3], "1", *it.words[3:]), out=b"") for it in located()]
 
 
 def located() -> Iterator[Row]:

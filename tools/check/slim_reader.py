@@ -50,9 +50,9 @@ def slim_file(machine: int, pieces: Sequence[Tuple[int, bytes]], notes: bytes) -
 
 
 def own_bytes(core: bytes, addr: int, size: int) -> Dict[int, int]:
-    """The bytes of some addresses that a core itself has, where no two of its segments have one."""
+    """The bytes of some addresses that a core itself has: those of its first segment that has one."""
     found: Dict[int, int] = {}
-    for kind, _, offset, start, length, _ in headers_of(core):
+    for kind, _, offset, start, length, _ in reversed(headers_of(core)):
         low, high = max(addr, start), min(addr + size, start + length)
         if kind == LOAD and low < high:
             found.update(zip(range(low, high), core[offset + low - start : offset + high - start]))
