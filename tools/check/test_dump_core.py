@@ -491,7 +491,7 @@ class Real(Case):
             core = self.folder / name
             if name == "text":
                 core.write_bytes(b"text")
-            got, out, said = self.tool(core, program=PROGRAM)
+            got, out, said = self.tool(core, "--plain", program=PROGRAM)
             self.assertEqual((got, out), (status, b""))
             self.assertTrue(said.startswith(f"pystacks: {line}"), said)
 
