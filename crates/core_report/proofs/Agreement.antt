@@ -1,6 +1,6 @@
 -- Two outcomes of a command over the same contents have one status, want of memory aside; and over contents with
 -- which nothing is wrong no outcome is a cause: of walks, reports, groups, objects and merged threads.
-use Rattle.std.proofs.Common.{◌≡◌, ◌≢◌, ◌⊎◌, ℕ, List, [], ◌∷◌, Result, Ok, Err, refl, sym, ap, subst, ◌∙◌, ◌<◌, Bool, arith, inl, inr, ⊎_elim, rules}
+use Rattle.std.proofs.Common.{◌≡◌, ◌≢◌, ◌⊎◌, ℕ, List, [], ◌∷◌, Result, Ok, Err, refl, sym, ap, subst, ◌∙◌, Bool, inl, inr, ⊎_elim, rules}
 use Rattle.std.proofs.lemmas.Bool.{cond-false}
 use Rattle.std.proofs.lemmas.Bool.Decides.{eqb_tells}
 use Rattle.py_fields.specs.declared.layout.Layout.{Layout}
@@ -8,7 +8,7 @@ use Rattle.py_fields.specs.Samples.{sample_layout}
 use Rattle.py_fields.specs.Sound.{IsSound}
 use Rattle.py_layout.specs.declared.error.LayoutError.{LayoutError}
 use Rattle.py_layout.specs.declared.error.LayoutError.TheVariants as layout
-use Rattle.py_layout.specs.Lists.{AreSound, Clash}
+use Rattle.py_layout.specs.Lists.{AreSound}
 use Rattle.py_layout.specs.File.{IsRightFor}
 use Rattle.image_memory.specs.Images.{Pushed}
 use Rattle.py_stacks.specs.declared.config.Config.{Config}
@@ -23,7 +23,7 @@ use Rattle.py_layout.proofs.Answering.{right-unique}
 use Rattle.py_process.specs.declared.core_error.CoreError.{CoreError}
 use Rattle.py_process.specs.declared.core_error.CoreError.TheVariants as core
 use Rattle.core_words.specs.Dump.{Dump}
-use Rattle.core_words.specs.Words.{Command, LayoutSource, Merge as AsksMerge, Reach as AsksReach, Triage, Walk, dump, merge, reach, triage, walk, sample, file}
+use Rattle.core_words.specs.Words.{LayoutSource, Merge as AsksMerge, Reach as AsksReach, Triage, Walk, sample, file}
 use Rattle.core_texts.specs.Text.{walk_text}
 use Rattle.core_stacks.specs.Answer.{IsWalkable}
 use Rattle.py_process.proofs.ReportLaws.{report_agree}
@@ -31,15 +31,12 @@ use Rattle.core_stacks.proofs.ReportLaws.{report_complete}
 use Rattle.core_stacks.proofs.Layouts.{NoneClash, chooses_once}
 use Rattle.core_stacks.proofs.Walked.{walk_agree as walks_agree, walk_complete}
 use Rattle.core_report.specs.declared.cause.Cause.{Cause}
-use Rattle.core_report.specs.declared.cause.Cause.TheVariants.{Core, Layouts, Merge, MergeIndex, Reach, ReachIndex, OutOfMemory}
+use Rattle.core_report.specs.declared.cause.Cause.TheVariants.{Core, Layouts, Merge, Reach}
 use Rattle.core_merge.specs.CoreMerges.{CoreMergeIs}
-use Rattle.core_merge.specs.declared.error.CoreMergeError.{CoreMergeError}
 use Rattle.core_merge.specs.declared.error.CoreMergeError.TheVariants as merging
 use Rattle.core_merge.proofs.Chain.{core_merge_once, err_is as merge_err_is, ok_err as merge_ok_err}
 use Rattle.core_report.specs.Merged.{python_in}
-use Rattle.py_process.specs.Facts.{Facts}
 use Rattle.py_stacks.specs.Asking.{default_config}
-use Rattle.std.specs.Prelude.{Option}
 use Rattle.object_reach.specs.declared.reached.ReachError.{ReachError}
 use Rattle.object_reach.specs.declared.reached.ReachError.TheVariants as reaching
 use Rattle.std.proofs.lemmas.Option.{same_Some, none-some}
@@ -48,7 +45,7 @@ use Rattle.core_report.specs.Reading.{HasFlaw}
 use Rattle.core_report.specs.Stacked.{LeadsTo, Stacked, StackedIs, locals_asked, reach_text}
 use Rattle.core_report.proofs.Binaries.{binaries_once}
 use Rattle.core_report.proofs.Stacked.{stacked_agree, unstacked}
-use Rattle.core_report.specs.Outcome.{IsDumpOutcome, IsDumpedBy, IsFaultless, IsFaultlessDump, IsFaultlessMerge, IsFaultlessReach, IsFaultlessTriage, IsFaultlessWalk, IsMergeOutcome, IsMergedBy, IsMergedFrom, IsMergedIn, IsMergedText, IsOutcome, IsOwnCause, IsReachOutcome, IsReachedBy, IsReachedFrom, IsReachedIn, IsReported, IsTriageOutcome, IsTriagedBy, reach_status, IsShown, IsWalkOutcome, IsWalkedBy, Outcome, ReportAnswers, SourceSays, OutcomeThen, WalkAnswers, cause_status, core_status, images_read, layouts_status, merge_status, outcome_status, shown_report}
+use Rattle.core_report.specs.Outcome.{IsDumpOutcome, IsDumpedBy, IsFaultlessDump, IsFaultlessMerge, IsFaultlessReach, IsFaultlessTriage, IsFaultlessWalk, IsMergeOutcome, IsMergedBy, IsMergedFrom, IsMergedIn, IsMergedText, IsOwnCause, IsReachOutcome, IsReachedBy, IsReachedFrom, IsReachedIn, IsReported, IsTriageOutcome, IsTriagedBy, reach_status, IsShown, IsWalkOutcome, IsWalkedBy, Outcome, ReportAnswers, SourceSays, OutcomeThen, WalkAnswers, cause_status, core_status, images_read, layouts_status, merge_status, outcome_status, shown_report}
 
 -- one sound layout is a sound list
 pub one_sound : (l : Layout) → IsSound l → AreSound (l ∷ [])

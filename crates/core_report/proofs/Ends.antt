@@ -27,7 +27,7 @@ use Rattle.core_report.specs.Outcome.{IsFaultless, IsOutcome, Outcome, cause_sta
 use Rattle.core_report.specs.Run.{ComesTo, End, EndsItself, HasEnded, HasRun, MayBeSlim, Ran, Reaches, SaysEnd, TellsContents, cut, end_at, end_parts, printed, refused, end_status, stopped, unread}
 use Rattle.core_report.proofs.Turns.{same_contents}
 use Rattle.core_report.proofs.Agreement.{outcome_class, settled, settled-other}
-use Rattle.core_report.proofs.Commands.{IsOwn, cases_five, cause_own, no_cause, outcomes_agree}
+use Rattle.core_report.proofs.Commands.{cases_five, cause_own, no_cause, outcomes_agree}
 
 -- the text is written, want of memory aside, unless the command comes to a cause of its own
 abbrev Completes : Command → List (List ℕ) → ℕ → Type 0

@@ -11,8 +11,8 @@ use Rattle.py_layout.proofs.Answering.{right-unique}
 use Rattle.py_stacks.specs.Asking.{default_config}
 use Rattle.py_stacks.specs.Threads.{Trace}
 use Rattle.py_stacks.specs.declared.config.Config.{Config}
-use Rattle.py_process.specs.Findings.{Finding, FindingIs}
-use Rattle.py_process.specs.Reports.{AfterCore, AfterFinding, CoreSays, Dumped, IsReadable, ReportIs, StacksSay, memory_in}
+use Rattle.py_process.specs.Findings.{FindingIs}
+use Rattle.py_process.specs.Reports.{AfterCore, AfterFinding, CoreSays, IsReadable, ReportIs, StacksSay, memory_in}
 use Rattle.py_process.specs.declared.core_error.CoreError.{CoreError}
 use Rattle.py_process.specs.declared.core_error.CoreError.TheVariants as core
 use Rattle.py_process.proofs.Agreement as steps
@@ -33,7 +33,7 @@ use Rattle.core_words.specs.Words.{Locate as AsksLocate, Sample as AsksSample, S
 use Rattle.core_report.specs.declared.cause.Cause.{Cause}
 use Rattle.core_report.specs.declared.cause.Cause.TheVariants.{Core, Layouts, Merge, MergeIndex, Reach, ReachIndex, TooManyPieces, OutOfMemory}
 use Rattle.core_report.specs.Opening.{IsOpenedWith, OpenedCore, OpenedIs, level_asked, locate_text, slim_cause}
-use Rattle.core_report.specs.Outcome.{IsFaultlessProcess, IsLocateOutcome, IsLocated, IsOwnCause, IsSampleOutcome, IsSampledAs, IsSlimOutcome, IsSlimmedFrom, OpensBy, Outcome, cause_status, images_read, outcome_status}
+use Rattle.core_report.specs.Outcome.{IsFaultlessProcess, IsLocateOutcome, IsLocated, IsOwnCause, IsSampleOutcome, IsSampledAs, IsSlimOutcome, IsSlimmedFrom, OpensBy, cause_status, images_read, outcome_status}
 use Rattle.core_report.proofs.Agreement.{Agree, Excludes, NoCause, cause_is, core_one, err_kept, flaw_apart, flaw_status, ok_unique, outcome_class, settled, text_agree, text_apart, text_sound, then_agree, then_sound}
 use Rattle.core_report.proofs.Stacked.{step}
 

@@ -1,20 +1,20 @@
 -- An opened process with its traces is one, and none is opened for the causes for which there is no report.
 use Rattle.std.proofs.Common.{◌≡◌, ℕ, List, inl, inr, sym, ◌∙◌}
-use Rattle.std.specs.Prelude.{Result, Ok, Err}
+use Rattle.std.specs.Prelude.{Result, Err}
 use Rattle.elf64_core.specs.Header.{machine_of}
 use Rattle.image_memory.specs.Images.{Pushed}
 use Rattle.py_fields.specs.declared.layout.Layout.{Layout}
 use Rattle.py_stacks.specs.Threads.{Trace}
 use Rattle.py_stacks.specs.declared.config.Config.{Config}
 use Rattle.py_process.specs.Findings.{Finding, FindingIs}
-use Rattle.py_process.specs.Reports.{AfterCore, AfterFinding, CoreSays, Dumped, IsTold, ReportIs, Reported, StacksSay, memory_in}
+use Rattle.py_process.specs.Reports.{AfterCore, AfterFinding, CoreSays, Dumped, IsTold, ReportIs, StacksSay, memory_in}
 use Rattle.py_process.specs.Steps.{Then}
 use Rattle.py_process.specs.declared.core_error.CoreError.{CoreError}
 use Rattle.py_process.proofs.Agreement.{Agree, err_is, ok_not_err, then_agree}
 use Rattle.py_process.proofs.FindingLaws.{ChoosesOnce, finding_agree}
 use Rattle.py_process.proofs.ReportLaws.{core_agree}
 use Rattle.py_process.proofs.StackCauses.{stacks_agree}
-use Rattle.core_report.specs.Stacked.{IsStacked, Stacked, StackedCore, StackedFinding, StackedIs}
+use Rattle.core_report.specs.Stacked.{IsStacked, StackedCore, StackedFinding, StackedIs}
 
 made_agree : (d : Dumped) (f : Finding) (traces : List Trace) → Agree (IsStacked d f traces)
 made_agree d f traces a b one other na nb = one ∙ sym other

@@ -1,5 +1,5 @@
 -- Files read in turn: one file more, and that the contents are the same where the files tell them.
-use Rattle.std.proofs.Common.{◌≡◌, ◌≢◌, ◌<◌, ◌≤◌, ◌+◌, ℕ, zero, suc, List, [], ◌∷◌, ◌++◌, length, get_or, map, refl, sym, ap, subst, ◌∙◌, arith, inl, ⊎_elim, append_assoc, length-append, Some, None, Ok, Err}
+use Rattle.std.proofs.Common.{◌≡◌, ◌≢◌, ◌<◌, ◌+◌, ℕ, zero, suc, List, [], ◌∷◌, ◌++◌, length, get_or, map, refl, sym, ap, subst, ◌∙◌, arith, inl, ⊎_elim, append_assoc, length-append, Some, None, Ok, Err}
 use Rattle.std.specs.Prelude.{slice_get, IsSome, Option, Result, Vec, option_map}
 use Rattle.std.specs.Global.{Global}
 use Rattle.std.proofs.lemmas.Option.{same_Some, slice_get_past, slice_get_read, slice_get_within, slice_get-map, none-some}

@@ -1,6 +1,6 @@
 -- The process of a core, opened by what the files of a report hold, and what is told of it alone. The text is this
 -- project's own form.
-use Rattle.std.specs.Prelude.{◌≡◌, ℕ, ◌++◌, List, [], ◌∷◌, Result, Ok, Err, codes}
+use Rattle.std.specs.Prelude.{◌≡◌, ℕ, ◌++◌, List, [], ◌∷◌, Result, Ok, codes}
 use Rattle.std.specs.List.{concat}
 use Rattle.elf64_core.specs.Header.{machine_of}
 use Rattle.image_memory.specs.Images.{Pushed}

@@ -33,7 +33,6 @@ use Rattle.core_stacks.specs.Seen.{AreBinaries}
 use Rattle.core_stacks.specs.Slimmed.{SlimmedSays}
 use Rattle.object_reach.specs.declared.reached.ReachError.{ReachError}
 use Rattle.object_reach.specs.declared.reached.ReachError.TheVariants as reaching
-use Rattle.object_reach.specs.declared.reached.ReachObject.{ReachObject}
 use Rattle.core_report.specs.declared.cause.Cause.{Cause}
 use Rattle.core_report.specs.declared.cause.Cause.TheVariants.{Core, Layouts, Merge, MergeIndex, Reach, ReachIndex, TooManyPieces, OutOfMemory}
 use Rattle.core_report.specs.Grouped.{IsGroupedText}

@@ -1,6 +1,6 @@
 -- The program of a seed is always written for the example of a layout, and its report has its threads and frames.
-use Rattle.std.proofs.Common.{◌≡◌, ◌∙◌, ℕ, ◌+◌, ◌*◌, ◌<◌, ◌≤◌, ◌^◌, Bool, true, false, zero, suc, List, [], ◌∷◌, ◌++◌, length, map, refl, ap, ap₂, sym, subst, arith, inl, rules}
-use Rattle.std.specs.Prelude.{Option, Some, None, max, encode_utf8_all, if◌then◌else◌}
+use Rattle.std.proofs.Common.{◌≡◌, ◌∙◌, ℕ, ◌+◌, ◌*◌, ◌<◌, ◌≤◌, ◌^◌, Bool, true, false, zero, suc, List, [], ◌∷◌, length, map, refl, ap, ap₂, sym, arith, inl, rules}
+use Rattle.std.specs.Prelude.{Option, None, if◌then◌else◌}
 use Rattle.std.specs.List.{sum_by}
 use Rattle.std.proofs.lemmas.List.{length-map}
 use Rattle.std.proofs.lemmas.List.Sums.{sum_by-cons, sum_by_push}
@@ -8,23 +8,19 @@ use Rattle.elf64_core.specs.declared.header.Machine.TheVariants.{X86_64}
 use Rattle.py_fields.specs.Samples.{sample_layout}
 use Rattle.py_fields.specs.declared.layout.Layout.{Layout}
 use Rattle.py_lines.specs.declared.lines.LineFamily.TheVariants.{Pairs}
-use Rattle.py_lines.specs.Coding.{coded}
 use Rattle.py_version.specs.Version.{release}
 use Rattle.py_stacks.specs.Asking.{default_config}
-use Rattle.py_stacks.specs.Frames.{Call}
-use Rattle.py_stacks.specs.Lines.{family_of}
-use Rattle.py_stacks.specs.Threads.{Trace, trace_of}
+use Rattle.py_stacks.specs.Threads.{Trace}
 use Rattle.py_stacks.specs.declared.config.Config.{Config}
-use Rattle.py_stacks.specs.declared.trace.StackTrace.{StackTrace}
 use Rattle.py_process.specs.Reports.{AsksNoOther, Reported}
 use Rattle.object_builder.specs.Room.{HasRoom}
-use Rattle.object_builder.specs.Sizes.{all_under, is_short_headed, least_width, rounded, text_len}
+use Rattle.object_builder.specs.Sizes.{all_under, is_short_headed, rounded, text_len}
 use Rattle.object_builder.specs.Texts.{IsBriefText}
-use Rattle.memory_builder.specs.Program.{Frame, Held, Item, Local, Program, Thread}
-use Rattle.memory_builder.specs.Sizes.{capped, frame_size, held_size, item_size, local_size, name_size, program_size, records_size, shared_size, table_len, thread_size}
+use Rattle.memory_builder.specs.Program.{Frame, Thread}
+use Rattle.memory_builder.specs.Sizes.{frame_size, held_size, item_size, local_size, name_size, program_size, records_size, shared_size, table_len, thread_size}
 use Rattle.memory_builder.specs.Validity.{IsValidFrame}
 use Rattle.image_builder.specs.Covered.{IsCovered}
-use Rattle.image_builder.specs.Generated.{each, frame_count, frame_of, generated, locals_in, thread_of}
+use Rattle.image_builder.specs.Generated.{each, frame_count, frame_of, generated, thread_of}
 use Rattle.image_builder.specs.Refusals.{IsUnbuilt, room_for}
 use Rattle.image_builder.specs.RuntimeWords.{HasWordRoom}
 use Rattle.image_builder.specs.Shown.{is_owner, shown_frames, shown_thread, shown_threads, unplaced_call, unplaced_trace}

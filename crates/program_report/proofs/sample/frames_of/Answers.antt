@@ -1,9 +1,8 @@
-use Rattle.std.proofs.Common.{◌≡◌, ◌∙◌, arith, length, refl, sym}
+use Rattle.std.proofs.Common.{◌≡◌, arith, length}
 use Rattle.std.proofs.lemmas.List.{length-map}
 use Rattle.py_stacks.specs.Frames.{call_of}
 use Rattle.py_stacks.specs.Threads.{Trace, trace_of}
-use Rattle.memory_builder.specs.Sizes.{capped}
-use Rattle.memory_builder.proofs.Sums.{all_capped, fits_capped, more_capped}
+use Rattle.memory_builder.proofs.Sums.{all_capped, more_capped}
 use Rattle.program_report.proofs.sample.frames_of.Goals as goal
 
 pub loop-trace-preserved : goal.loop-trace-preserved

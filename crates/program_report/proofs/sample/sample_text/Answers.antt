@@ -1,8 +1,8 @@
-use Rattle.std.proofs.Common.{◌≡◌, ◌∙◌, ◌++◌, ap, ap₂, length, sym, map}
+use Rattle.std.proofs.Common.{◌≡◌, ◌∙◌, ◌++◌, ap, ap₂, length, sym}
 use Rattle.std.specs.List.{sum_by}
 use Rattle.std.proofs.lemmas.List.{length-map}
 use Rattle.py_process.specs.Reports.{reported_of}
-use Rattle.py_stacks.specs.Threads.{Trace, trace_of}
+use Rattle.py_stacks.specs.Threads.{trace_of}
 use Rattle.memory_builder.specs.Program.{Thread}
 use Rattle.memory_builder.specs.Sizes.{capped}
 use Rattle.memory_builder.proofs.Sums.{fits_capped}
