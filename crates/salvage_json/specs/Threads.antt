@@ -1,0 +1,49 @@
+-- The JSON of threads.
+use Rattle.std.specs.Prelude.{ℕ, ◌+◌, ◌++◌, List, map, drop, take, reverse, position, Option, Some, None, codes}
+use Rattle.serde_json.specs.Data.{Data, array, boolean, member, no_members, null, number, object, string, unsigned}
+use Rattle.serde_json.specs.View.{items_of}
+use Rattle.py_fronts.specs.declared.frame_front.FramesFront.{FramesFront}
+use Rattle.py_fronts.specs.declared.thread_front.ThreadFront.{ThreadFront}
+use Rattle.salvage_marks.specs.declared.crash.Crash.{Crash}
+use Rattle.salvage_marks.specs.declared.lock.LockState.{LockState}
+use Rattle.salvage_marks.specs.Crashes.{is_crashed}
+use Rattle.salvage_marks.specs.Locks.{holds_lock}
+use Rattle.salvage_texts.specs.Ends.{address_text}
+use Rattle.salvage_json.specs.Kinds.{end_tree}
+use Rattle.salvage_json.specs.Members.{standings_tree}
+
+abbrev pub id_tree : Option ℕ → Data
+id_tree (Some id) = number (unsigned id)
+id_tree None = null
+
+-- the first frames, how many aren't shown, the last ones, and how they end
+abbrev pub frames_tree : FramesFront → Data
+frames_tree f = object (
+    member (codes "between") (number (unsigned f.between)) (
+    member (codes "end") (end_tree f.end) (
+    member (codes "first") (standings_tree f.first.items) (
+    member (codes "last") (standings_tree f.last.items) (
+    member (codes "met") (number (unsigned f.met)) no_members)))))
+
+abbrev pub thread_tree : LockState → Option Crash → ThreadFront → Data
+thread_tree lock crash t = object (
+    member (codes "address") (string (address_text t.address)) (
+    member (codes "crashed") (boolean (is_crashed crash t)) (
+    member (codes "frames") (frames_tree t.frames) (
+    member (codes "gil") (boolean (holds_lock lock t)) (
+    member (codes "os_thread_id") (id_tree t.os_thread_id) (
+    member (codes "thread_id") (number (unsigned t.thread_id)) no_members))))))
+
+-- the one at a place first, and then the others from the last to the first
+abbrev pub placed_threads : List ThreadFront → Option ℕ → List ThreadFront
+placed_threads threads None = reverse threads
+placed_threads threads (Some i) =
+    take 1 (drop i threads) ++ (reverse (drop (i + 1) threads) ++ reverse (take i threads))
+
+-- the first one that got the signal, where there is one, and then the others from the last to the first
+abbrev pub ordered_threads : Option Crash → List ThreadFront → List ThreadFront
+ordered_threads crash threads = placed_threads threads (position (λ thread. is_crashed crash thread) threads)
+
+abbrev pub threads_tree : LockState → Option Crash → List ThreadFront → Data
+threads_tree lock crash threads =
+    array (items_of (map (λ t. thread_tree lock crash t) (ordered_threads crash threads)))

@@ -1,0 +1,6 @@
+pub mod Files
+pub mod Opening
+pub mod Left
+pub mod Agreement
+pub mod Ends
+pub mod Headline
