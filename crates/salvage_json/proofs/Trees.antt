@@ -1,6 +1,6 @@
 -- The tree of what is left has no float.
-use Rattle.std.proofs.Common.{◌≡◌, ℕ, ℤ, pos, negsuc, false, List, [], ◌∷◌, map, Option, Some, None, refl, ap, ◌∙◌}
-use Rattle.std.specs.Prelude.{◌||◌, Vec}
+use Rattle.std.proofs.Common.{◌≡◌, ℕ, ◌+◌, ℤ, pos, negsuc, Bool, true, false, List, [], ◌∷◌, ◌++◌, map, drop, take, reverse, Option, Some, None, refl, ap, ◌∙◌}
+use Rattle.std.specs.Prelude.{◌||◌, Vec, position}
 use Rattle.std.specs.Global.{Global}
 use Rattle.serde_json.specs.Data.{Data, number}
 use Rattle.serde_json.specs.Find.{of_integer}
@@ -24,15 +24,32 @@ use Rattle.salvage_marks.specs.declared.lock.LockState.{LockState}
 use Rattle.salvage_marks.specs.declared.lock.LockState.TheVariants.{Holder, Unreadable}
 use Rattle.salvage_marks.specs.declared.salvaged.Salvaged.{Salvaged}
 use Rattle.salvage_marks.specs.declared.salvaged.SalvagedInterpreter.{SalvagedInterpreter}
+use Rattle.salvage_marks.specs.Crashes.{is_crashed}
+use Rattle.salvage_marks.specs.Salvaged.{first_crashed}
 use Rattle.salvage_json.specs.Kinds.{end_tree, fault_or_null, fault_tree, lock_tree, why_tree}
 use Rattle.salvage_json.specs.Members.{frame_tree, local_tree, shown_tree, standing_tree, standings_tree, text_tree}
-use Rattle.salvage_json.specs.Threads.{frames_tree, id_tree, ordered_threads, thread_tree, threads_tree}
-use Rattle.salvage_json.specs.Salvaged.{interpreter_tree, interpreters_tree, ordered_interpreters, process_tree, salvaged_tree, signal_tree}
+use Rattle.salvage_json.specs.Threads.{frames_tree, id_tree, placed_trees, reversed_trees, thread_tree, threads_tree}
+use Rattle.salvage_json.specs.Salvaged.{interpreter_tree, interpreter_trees, interpreters_tree, process_tree, salvaged_tree, signal_tree, placed_trees as placed_of_all}
 
 items : {X : Type 0} (f : X → Data) (each : (x : X) → has_float (f x) ≡ false) (xs : List X)
     → items_have_float (items_of (map (λ x. f x) xs)) ≡ false
 items f each [] = refl
 items f each (x ∷ xs) = ap (λ b. b || items_have_float (items_of (map (λ x. f x) xs))) (each x) ∙ items f each xs
+
+or_first : (a b : Bool) → (a || b) ≡ false → a ≡ false
+or_first false b h = refl
+or_first true b h = absurd (cc)
+
+or_second : (a b : Bool) → (a || b) ≡ false → b ≡ false
+or_second false b h = h
+or_second true b h = absurd (cc)
+
+both : (a b : List Data) → items_have_float (items_of a) ≡ false → items_have_float (items_of b) ≡ false
+    → items_have_float (items_of (a ++ b)) ≡ false
+both [] b h k = k
+both (x ∷ a) b h k =
+    ap (λ t. t || items_have_float (items_of (a ++ b))) (or_first (has_float x) (items_have_float (items_of a)) h)
+    ∙ both a b (or_second (has_float x) (items_have_float (items_of a)) h) k
 
 text : (t : Option (List ℕ)) → has_float (text_tree t) ≡ false
 text (Some t) = refl
@@ -99,15 +116,36 @@ frames f = λ i. ending f.end i || (members f.first.items i || (members f.last.i
 thread : (l : LockState) (crash : Option Crash) (t : ThreadFront) → has_float (thread_tree l crash t) ≡ false
 thread l crash t = λ i. frames t.frames i || (false || (id t.os_thread_id i || (false || false)))
 
+reversed : (l : LockState) (crash : Option Crash) (ts : List ThreadFront) → items_have_float (items_of (reversed_trees l crash ts)) ≡ false
+reversed l crash ts = items (thread_tree l crash) (thread l crash) (reverse ts)
+
+placed : (l : LockState) (crash : Option Crash) (ts : List ThreadFront) (at : Option ℕ) → items_have_float (items_of (placed_trees l crash ts at)) ≡ false
+placed l crash ts None = reversed l crash ts
+placed l crash ts (Some i) = both (reversed_trees l crash (take 1 (drop i ts)))
+    (reversed_trees l crash (drop (i + 1) ts) ++ reversed_trees l crash (take i ts)) (reversed l crash (take 1 (drop i ts)))
+    (both (reversed_trees l crash (drop (i + 1) ts)) (reversed_trees l crash (take i ts)) (reversed l crash (drop (i + 1) ts))
+    (reversed l crash (take i ts)))
+
 threads : (l : LockState) (crash : Option Crash) (ts : List ThreadFront) → has_float (threads_tree l crash ts) ≡ false
-threads l crash ts = items (thread_tree l crash) (thread l crash) (ordered_threads crash ts)
+threads l crash ts = placed l crash ts (position (λ thread. is_crashed crash thread) ts)
 
 interpreter : (crash : Option Crash) (i : SalvagedInterpreter) → has_float (interpreter_tree crash i) ≡ false
 interpreter crash s = λ i. lock s.lock i || (false || (threads s.lock crash s.front.threads.threads.items i
     || (ending s.front.threads.end i || false)))
 
+some_interpreters : (crash : Option Crash) (is : List SalvagedInterpreter) → items_have_float (items_of (interpreter_trees crash is)) ≡ false
+some_interpreters crash is = items (interpreter_tree crash) (interpreter crash) is
+
+placed_interpreters : (crash : Option Crash) (is : List SalvagedInterpreter) (at : Option ℕ)
+    → items_have_float (items_of (placed_of_all crash is at)) ≡ false
+placed_interpreters crash is None = some_interpreters crash is
+placed_interpreters crash is (Some i) = both (interpreter_trees crash (take 1 (drop i is)))
+    (interpreter_trees crash (take i is) ++ interpreter_trees crash (drop (i + 1) is)) (some_interpreters crash (take 1 (drop i is)))
+    (both (interpreter_trees crash (take i is)) (interpreter_trees crash (drop (i + 1) is)) (some_interpreters crash (take i is))
+    (some_interpreters crash (drop (i + 1) is)))
+
 interpreters : (crash : Option Crash) (is : List SalvagedInterpreter) → has_float (interpreters_tree crash is) ≡ false
-interpreters crash is = items (interpreter_tree crash) (interpreter crash) (ordered_interpreters crash is)
+interpreters crash is = placed_interpreters crash is (first_crashed crash is)
 
 process : (p : Option (ℤ × List ℕ)) → has_float (process_tree p) ≡ false
 process None = refl

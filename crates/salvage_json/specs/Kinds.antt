@@ -13,6 +13,10 @@ use Rattle.salvage_marks.specs.declared.lock.LockState.{LockState}
 use Rattle.salvage_marks.specs.declared.lock.LockState.TheVariants.{Holder, Unreadable}
 use Rattle.salvage_texts.specs.Ends.{address_text}
 
+-- an address, as in 0x1f
+abbrev pub address_tree : ℕ → Data
+address_tree address = string (address_text address)
+
 -- a kind without values
 abbrev pub kind_tree : List ℕ → Data
 kind_tree kind = object (member (codes "kind") (string kind) no_members)
@@ -20,13 +24,13 @@ kind_tree kind = object (member (codes "kind") (string kind) no_members)
 -- a range that isn't in memory
 abbrev pub missing_tree : (addr len : ℕ) → Data
 missing_tree addr len = object (
-    member (codes "address") (string (address_text addr)) (
+    member (codes "address") (address_tree addr) (
     member (codes "kind") (string (codes "unreadable")) (
     member (codes "length") (number (unsigned len)) no_members)))
 
 abbrev pub stray_tree : ℕ → Data
 stray_tree interpreter = object (
-    member (codes "interpreter") (string (address_text interpreter)) (
+    member (codes "interpreter") (address_tree interpreter) (
     member (codes "kind") (string (codes "stray")) no_members))
 
 -- how a chain ends

@@ -9,8 +9,7 @@ use Rattle.py_stacks.specs.declared.trace.Frame.{Frame}
 use Rattle.py_stacks.specs.declared.trace.LocalVariable.{LocalVariable}
 use Rattle.py_fronts.specs.declared.standing.Standing.{Standing}
 use Rattle.py_fronts.specs.declared.standing.Standing.TheVariants as standing
-use Rattle.salvage_texts.specs.Ends.{address_text}
-use Rattle.salvage_json.specs.Kinds.{fault_or_null, why_tree}
+use Rattle.salvage_json.specs.Kinds.{address_tree, fault_or_null, why_tree}
 
 -- a text in UTF-8, or null
 abbrev pub text_tree : Option (List ℕ) → Data
@@ -19,7 +18,7 @@ text_tree None = null
 
 abbrev pub local_tree : LocalVariable → Data
 local_tree l = object (
-    member (codes "address") (string (address_text l.addr)) (
+    member (codes "address") (address_tree l.addr) (
     member (codes "arg") (boolean l.arg) (
     member (codes "name") (string (encode_utf8_all l.name)) (
     member (codes "repr") (text_tree l.repr) no_members))))
@@ -44,7 +43,7 @@ frame_tree f fault = object (
 abbrev pub standing_tree : Standing → Data
 standing_tree (standing.Frame frame fault) = frame_tree frame fault
 standing_tree (standing.Member address why) = object (
-    member (codes "address") (string (address_text address)) (
+    member (codes "address") (address_tree address) (
     member (codes "why") (why_tree why) no_members))
 
 abbrev pub standings_tree : List Standing → Data

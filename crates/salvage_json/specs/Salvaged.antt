@@ -12,29 +12,32 @@ use Rattle.salvage_marks.specs.Salvaged.{first_crashed}
 use Rattle.salvage_marks.specs.declared.crash.Crash.{Crash}
 use Rattle.salvage_marks.specs.declared.salvaged.Salvaged.{Salvaged}
 use Rattle.salvage_marks.specs.declared.salvaged.SalvagedInterpreter.{SalvagedInterpreter}
-use Rattle.salvage_texts.specs.Ends.{address_text}
-use Rattle.salvage_json.specs.Kinds.{end_tree, lock_tree}
+use Rattle.salvage_json.specs.Kinds.{address_tree, end_tree, lock_tree}
 use Rattle.salvage_json.specs.Threads.{threads_tree}
 
 abbrev pub interpreter_tree : Option Crash → SalvagedInterpreter → Data
 interpreter_tree crash i = object (
-    member (codes "address") (string (address_text i.front.address)) (
+    member (codes "address") (address_tree i.front.address) (
     member (codes "lock") (lock_tree i.lock) (
     member (codes "searched") (boolean i.front.searched) (
     member (codes "threads") (threads_tree i.lock crash i.front.threads.threads.items) (
     member (codes "threads_end") (end_tree i.front.threads.end) no_members)))))
 
-abbrev pub placed_interpreters : List SalvagedInterpreter → Option ℕ → List SalvagedInterpreter
-placed_interpreters is None = is
-placed_interpreters is (Some i) = take 1 (drop i is) ++ (take i is ++ drop (i + 1) is)
+abbrev pub interpreter_trees : Option Crash → List SalvagedInterpreter → List Data
+interpreter_trees crash is = map (λ i. interpreter_tree crash i) is
+
+-- the one at a place first, and then the others
+abbrev pub placed_trees : Option Crash → List SalvagedInterpreter → Option ℕ → List Data
+placed_trees crash is None = interpreter_trees crash is
+placed_trees crash is (Some i) = interpreter_trees crash (take 1 (drop i is))
+    ++ (interpreter_trees crash (take i is) ++ interpreter_trees crash (drop (i + 1) is))
 
 -- the first one of which a thread got the signal, where there is one, and then the others in order
-abbrev pub ordered_interpreters : Option Crash → List SalvagedInterpreter → List SalvagedInterpreter
-ordered_interpreters crash is = placed_interpreters is (first_crashed crash is)
+abbrev pub ordered_trees : Option Crash → List SalvagedInterpreter → List Data
+ordered_trees crash is = placed_trees crash is (first_crashed crash is)
 
 abbrev pub interpreters_tree : Option Crash → List SalvagedInterpreter → Data
-interpreters_tree crash is =
-    array (items_of (map (λ i. interpreter_tree crash i) (ordered_interpreters crash is)))
+interpreters_tree crash is = array (items_of (ordered_trees crash is))
 
 -- the process that a core tells, where it tells one
 abbrev pub process_tree : Option (ℤ × List ℕ) → Data

@@ -8,8 +8,7 @@ use Rattle.salvage_marks.specs.declared.crash.Crash.{Crash}
 use Rattle.salvage_marks.specs.declared.lock.LockState.{LockState}
 use Rattle.salvage_marks.specs.Crashes.{is_crashed}
 use Rattle.salvage_marks.specs.Locks.{holds_lock}
-use Rattle.salvage_texts.specs.Ends.{address_text}
-use Rattle.salvage_json.specs.Kinds.{end_tree}
+use Rattle.salvage_json.specs.Kinds.{address_tree, end_tree}
 use Rattle.salvage_json.specs.Members.{standings_tree}
 
 abbrev pub id_tree : Option ℕ → Data
@@ -27,23 +26,27 @@ frames_tree f = object (
 
 abbrev pub thread_tree : LockState → Option Crash → ThreadFront → Data
 thread_tree lock crash t = object (
-    member (codes "address") (string (address_text t.address)) (
+    member (codes "address") (address_tree t.address) (
     member (codes "crashed") (boolean (is_crashed crash t)) (
     member (codes "frames") (frames_tree t.frames) (
     member (codes "gil") (boolean (holds_lock lock t)) (
     member (codes "os_thread_id") (id_tree t.os_thread_id) (
     member (codes "thread_id") (number (unsigned t.thread_id)) no_members))))))
 
--- the one at a place first, and then the others from the last to the first
-abbrev pub placed_threads : List ThreadFront → Option ℕ → List ThreadFront
-placed_threads threads None = reverse threads
-placed_threads threads (Some i) =
-    take 1 (drop i threads) ++ (reverse (drop (i + 1) threads) ++ reverse (take i threads))
+-- threads from the last to the first
+abbrev pub reversed_trees : LockState → Option Crash → List ThreadFront → List Data
+reversed_trees lock crash threads = map (λ t. thread_tree lock crash t) (reverse threads)
+
+-- the one at a place first, and then the others
+abbrev pub placed_trees : LockState → Option Crash → List ThreadFront → Option ℕ → List Data
+placed_trees lock crash threads None = reversed_trees lock crash threads
+placed_trees lock crash threads (Some i) = reversed_trees lock crash (take 1 (drop i threads))
+    ++ (reversed_trees lock crash (drop (i + 1) threads) ++ reversed_trees lock crash (take i threads))
 
 -- the first one that got the signal, where there is one, and then the others from the last to the first
-abbrev pub ordered_threads : Option Crash → List ThreadFront → List ThreadFront
-ordered_threads crash threads = placed_threads threads (position (λ thread. is_crashed crash thread) threads)
+abbrev pub ordered_trees : LockState → Option Crash → List ThreadFront → List Data
+ordered_trees lock crash threads =
+    placed_trees lock crash threads (position (λ thread. is_crashed crash thread) threads)
 
 abbrev pub threads_tree : LockState → Option Crash → List ThreadFront → Data
-threads_tree lock crash threads =
-    array (items_of (map (λ t. thread_tree lock crash t) (ordered_threads crash threads)))
+threads_tree lock crash threads = array (items_of (ordered_trees lock crash threads))

@@ -1,7 +1,7 @@
 //! How a chain ends, what is known of a lock, and why something is not there: each an object with its kind.
 ghost use Rattle.std.specs.Prelude.{◌≡◌, IfOk, string_bytes};
 ghost use Rattle.serde_json.specs.View.{view};
-ghost use Rattle.salvage_json.specs.Kinds.{end_tree, fault_or_null, fault_tree, holder_tree, kind_tree, lock_tree, missing_tree, stray_tree, why_tree};
+ghost use Rattle.salvage_json.specs.Kinds.{address_tree, end_tree, fault_or_null, fault_tree, holder_tree, kind_tree, lock_tree, missing_tree, stray_tree, why_tree};
 ghost use Rattle.salvage_texts.specs.Ends.{address_text};
 
 use py_builtins::ObjectError;
@@ -12,10 +12,18 @@ use serde_json::{Value, json};
 use std::alloc::{AllocError, Global};
 
 /// An address: `0x` and lower-case hexadecimal digits.
-pub(crate) fn address_text(alloc: Global, address: u64) -> Result<String, AllocError>
+fn address_text(alloc: Global, address: u64) -> Result<String, AllocError>
     ensures { IfOk result (λ text. string_bytes text ≡ address_text address) }
 {
     format!(in alloc; "0x{address:x}")
+}
+
+/// The same, as a value.
+pub(crate) fn address_value(alloc: Global, address: u64) -> Result<Value, AllocError>
+    ensures { IfOk result (λ value. view value ≡ address_tree address) }
+{
+    let text = address_text(alloc, address)?;
+    Value::try_from_str(alloc, text.as_str())
 }
 
 /// A kind without values.
@@ -29,9 +37,9 @@ fn kind_value(alloc: Global, kind: &str) -> Result<Value, AllocError>
 fn missing_value(alloc: Global, addr: u64, len: u64) -> Result<Value, AllocError>
     ensures { IfOk result (λ value. view value ≡ missing_tree addr len) }
 {
-    let address = address_text(alloc, addr)?;
+    let address = address_value(alloc, addr)?;
     json!(in alloc; {
-        "address": address.as_str(),
+        "address": address,
         "kind": "unreadable",
         "length": len
     })
@@ -41,9 +49,9 @@ fn missing_value(alloc: Global, addr: u64, len: u64) -> Result<Value, AllocError
 fn stray_value(alloc: Global, interpreter: u64) -> Result<Value, AllocError>
     ensures { IfOk result (λ value. view value ≡ stray_tree interpreter) }
 {
-    let address = address_text(alloc, interpreter)?;
+    let address = address_value(alloc, interpreter)?;
     json!(in alloc; {
-        "interpreter": address.as_str(),
+        "interpreter": address,
         "kind": "stray"
     })
 }

@@ -3,7 +3,7 @@ ghost use Rattle.std.specs.Prelude.{◌≡◌, IfOk};
 ghost use Rattle.serde_json.specs.View.{view};
 ghost use Rattle.salvage_json.specs.Members.{frame_tree, local_tree, locals_tree, shown_tree, standing_tree, standings_tree, text_tree};
 
-use crate::kind::{address_text, fault_or_null, why_value};
+use crate::kind::{address_value, fault_or_null, why_value};
 use elf64_core::Text;
 use py_fronts::Standing;
 use py_stacks::{Frame, LocalVariable, StackError};
@@ -23,10 +23,10 @@ fn text_value(alloc: Global, text: &Option<Text>) -> Result<Value, AllocError>
 fn local_value(alloc: Global, local: &LocalVariable) -> Result<Value, AllocError>
     ensures { IfOk result (λ value. view value ≡ local_tree local.now) }
 {
-    let address = address_text(alloc, local.addr)?;
+    let address = address_value(alloc, local.addr)?;
     let repr = text_value(alloc, &local.repr)?;
     json!(in alloc; {
-        "address": address.as_str(),
+        "address": address,
         "arg": local.arg,
         "name": local.name.as_str(),
         "repr": repr
@@ -78,10 +78,10 @@ fn standing_value(alloc: Global, standing: &Standing) -> Result<Value, AllocErro
     match standing {
         Standing::Frame { frame, fault } => frame_value(alloc, frame, fault),
         Standing::Member { address, why } => {
-            let address = address_text(alloc, *address)?;
+            let address = address_value(alloc, *address)?;
             let why = why_value(alloc, why)?;
             json!(in alloc; {
-                "address": address.as_str(),
+                "address": address,
                 "why": why
             })
         }

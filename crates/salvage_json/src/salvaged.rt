@@ -3,9 +3,9 @@ ghost use Rattle.std.specs.Prelude.{◌≡◌, ◌++◌, false, IfOk, OnOk, map,
 ghost use Rattle.serde_json.specs.View.{view};
 ghost use Rattle.serde_json.specs.Written.{has_float};
 ghost use Rattle.py_version.specs.Version.{version_text};
-ghost use Rattle.salvage_json.specs.Salvaged.{interpreter_tree, interpreters_tree, pretty_text, process_tree, salvaged_json, salvaged_tree, signal_tree};
+ghost use Rattle.salvage_json.specs.Salvaged.{interpreter_tree, interpreter_trees, interpreters_tree, ordered_trees, pretty_text, process_tree, salvaged_json, salvaged_tree, signal_tree};
 
-use crate::kind::{address_text, end_value, lock_value};
+use crate::kind::{address_value, end_value, lock_value};
 use crate::thread::threads_value;
 use elf64_core::Text;
 use py_version::Version;
@@ -21,12 +21,12 @@ fn interpreter_value(
     ensures { IfOk result (λ value. view value ≡ interpreter_tree crash interpreter.now) }
 {
     let front = &interpreter.front;
-    let address = address_text(alloc, front.address)?;
+    let address = address_value(alloc, front.address)?;
     let lock = lock_value(alloc, interpreter.lock)?;
     let threads = threads_value(alloc, interpreter.lock, crash, &front.threads.threads)?;
     let threads_end = end_value(alloc, front.threads.end)?;
     json!(in alloc; {
-        "address": address.as_str(),
+        "address": address,
         "lock": lock,
         "searched": front.searched,
         "threads": threads,
@@ -42,7 +42,7 @@ fn add_interpreters(
     interpreters: &[SalvagedInterpreter],
 ) -> Result<(), AllocError>
     ensures { OnOk result (map view values.new.items
-        ≡ map view values.old.items ++ map (λ i. interpreter_tree crash i) interpreters.now) }
+        ≡ map view values.old.items ++ interpreter_trees crash interpreters.now) }
 {
     for interpreter in interpreters {
         values.push(interpreter_value(alloc, crash, interpreter)?)?;
@@ -50,7 +50,24 @@ fn add_interpreters(
     Ok(())
 }
 
-/// The interpreters: the first one of which a thread got the signal, and then the others, in order.
+/// Adds all interpreters: the first one of which a thread got the signal, and then the others, in order.
+fn add_ordered(
+    alloc: Global,
+    values: &mut Vec<Value>,
+    crash: Option<Crash>,
+    interpreters: &[SalvagedInterpreter],
+) -> Result<(), AllocError>
+    ensures { OnOk result (map view values.new.items
+        ≡ map view values.old.items ++ ordered_trees crash interpreters.now) }
+{
+    let Some(index) = first_crashed(crash, interpreters) else {
+        return add_interpreters(alloc, values, crash, interpreters);
+    };
+    add_interpreters(alloc, values, crash, &interpreters[index..index + 1])?;
+    add_interpreters(alloc, values, crash, &interpreters[..index])?;
+    add_interpreters(alloc, values, crash, &interpreters[index + 1..])
+}
+
 fn interpreters_value(
     alloc: Global,
     crash: Option<Crash>,
@@ -59,14 +76,7 @@ fn interpreters_value(
     ensures { IfOk result (λ value. view value ≡ interpreters_tree crash interpreters.now) }
 {
     let mut values = Vec::new(alloc);
-    match first_crashed(crash, interpreters) {
-        Some(index) => {
-            add_interpreters(alloc, &mut values, crash, &interpreters[index..index + 1])?;
-            add_interpreters(alloc, &mut values, crash, &interpreters[..index])?;
-            add_interpreters(alloc, &mut values, crash, &interpreters[index + 1..])?;
-        }
-        None => add_interpreters(alloc, &mut values, crash, interpreters)?,
-    }
+    add_ordered(alloc, &mut values, crash, interpreters)?;
     Ok(Value::Array(values))
 }
 

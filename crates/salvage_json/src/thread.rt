@@ -1,14 +1,24 @@
 //! Threads.
-ghost use Rattle.std.specs.Prelude.{◌≡◌, ◌++◌, IfOk, OnOk, map, reverse};
+ghost use Rattle.std.specs.Prelude.{◌≡◌, ◌++◌, IfOk, OnOk, map};
 ghost use Rattle.serde_json.specs.View.{view};
-ghost use Rattle.salvage_json.specs.Threads.{frames_tree, thread_tree, threads_tree};
+ghost use Rattle.salvage_json.specs.Threads.{frames_tree, id_tree, ordered_trees, reversed_trees, thread_tree, threads_tree};
 
-use crate::kind::{address_text, end_value};
+use crate::kind::{address_value, end_value};
 use crate::member::standings_value;
 use py_fronts::{FramesFront, ThreadFront};
 use salvage_marks::{Crash, LockState, crashed_at, holds_lock, is_crashed};
 use serde_json::{Value, json};
 use std::alloc::{AllocError, Global};
+
+/// An id, or null.
+fn id_value(alloc: Global, id: Option<u64>) -> Result<Value, AllocError>
+    ensures { IfOk result (λ value. view value ≡ id_tree id) }
+{
+    match id {
+        Some(id) => json!(in alloc; id),
+        None => Ok(Value::Null),
+    }
+}
 
 fn frames_value(alloc: Global, frames: &FramesFront) -> Result<Value, AllocError>
     ensures { IfOk result (λ value. view value ≡ frames_tree frames.now) }
@@ -33,14 +43,17 @@ fn thread_value(
 ) -> Result<Value, AllocError>
     ensures { IfOk result (λ value. view value ≡ thread_tree lock crash thread.now) }
 {
-    let address = address_text(alloc, thread.address)?;
+    let address = address_value(alloc, thread.address)?;
     let frames = frames_value(alloc, &thread.frames)?;
+    let os_thread_id = id_value(alloc, thread.os_thread_id)?;
+    let crashed = is_crashed(crash, thread);
+    let gil = holds_lock(lock, thread);
     json!(in alloc; {
-        "address": address.as_str(),
-        "crashed": is_crashed(crash, thread),
+        "address": address,
+        "crashed": crashed,
         "frames": frames,
-        "gil": holds_lock(lock, thread),
-        "os_thread_id": thread.os_thread_id,
+        "gil": gil,
+        "os_thread_id": os_thread_id,
         "thread_id": thread.thread_id
     })
 }
@@ -54,7 +67,7 @@ fn add_reversed(
     threads: &[ThreadFront],
 ) -> Result<(), AllocError>
     ensures { OnOk result (map view values.new.items
-        ≡ map view values.old.items ++ map (λ t. thread_tree lock crash t) (reverse threads.now)) }
+        ≡ map view values.old.items ++ reversed_trees lock crash threads.now) }
 {
     for thread in threads.iter().rev() {
         values.push(thread_value(alloc, lock, crash, thread)?)?;
@@ -62,7 +75,26 @@ fn add_reversed(
     Ok(())
 }
 
-/// An interpreter's threads: the first one that got the signal, and then the others, from the last to the first.
+/// Adds an interpreter's threads: the first one that got the signal, and then the others, from the last to the first.
+fn add_threads(
+    alloc: Global,
+    values: &mut Vec<Value>,
+    lock: LockState,
+    crash: Option<Crash>,
+    threads: &[ThreadFront],
+) -> Result<(), AllocError>
+    ensures { OnOk result (map view values.new.items
+        ≡ map view values.old.items ++ ordered_trees lock crash threads.now) }
+{
+    let Some(index) = crashed_at(crash, threads) else {
+        return add_reversed(alloc, values, lock, crash, threads);
+    };
+    add_reversed(alloc, values, lock, crash, &threads[index..index + 1])?;
+    add_reversed(alloc, values, lock, crash, &threads[index + 1..])?;
+    add_reversed(alloc, values, lock, crash, &threads[..index])
+}
+
+/// An interpreter's threads.
 pub(crate) fn threads_value(
     alloc: Global,
     lock: LockState,
@@ -72,13 +104,6 @@ pub(crate) fn threads_value(
     ensures { IfOk result (λ value. view value ≡ threads_tree lock crash threads.now) }
 {
     let mut values = Vec::new(alloc);
-    match crashed_at(crash, threads) {
-        Some(index) => {
-            add_reversed(alloc, &mut values, lock, crash, &threads[index..index + 1])?;
-            add_reversed(alloc, &mut values, lock, crash, &threads[index + 1..])?;
-            add_reversed(alloc, &mut values, lock, crash, &threads[..index])?;
-        }
-        None => add_reversed(alloc, &mut values, lock, crash, threads)?,
-    }
+    add_threads(alloc, &mut values, lock, crash, threads)?;
     Ok(Value::Array(values))
 }

@@ -1,9 +1,9 @@
 //! The thread that got the signal, by the first status record of a core.
-ghost use Rattle.std.specs.Prelude.{◌≡◌, ◌≢◌, List, IfErr, IfOk, find, map, option_map};
+ghost use Rattle.std.specs.Prelude.{◌≡◌, ◌≢◌, List, IfErr, IfOk, find, map, nat_eq, option_copied};
 ghost use Rattle.elf64_core.specs.Header.{IsAccepted};
 ghost use Rattle.elf64_core.specs.Notes.{Noted, noted};
 ghost use Rattle.image_memory.specs.Cores.{IsCore};
-ghost use Rattle.image_memory.specs.Notes.{NotesOf, is_of_kind, note_segments, status_kind};
+ghost use Rattle.image_memory.specs.Notes.{NotesOf, note_segments, status_kind};
 ghost use Rattle.salvage_report.specs.Crashed.{CrashTold, crash_among, told_by};
 
 use elf64_core::{Elf64, ElfError, Machine, NOTE, Note};
@@ -44,16 +44,10 @@ fn crash_in(machine: Machine, status: &[u8]) -> Option<Crash>
 }
 
 /// The first status record among some notes.
-fn first_status<'a>(notes: &[Note<'a>]) -> Option<&'a [u8]>
-    ensures { option_map (λ status. status.now) result
-        ≡ option_map (λ note. note.desc) (find (is_of_kind status_kind) (map noted notes.now)) }
+fn first_status<'m, 'a>(notes: &'m [Note<'a>]) -> Option<&'m Note<'a>>
+    ensures { option_copied result ≡ find (λ note. nat_eq note.kind status_kind) notes.now }
 {
-    for note in notes {
-        if note.kind == STATUS {
-            return Some(note.desc);
-        }
-    }
-    None
+    notes.iter().find(|note| note.kind == STATUS)
 }
 
 /// The thread of the first status record among some notes.
@@ -61,7 +55,7 @@ fn crash_by(machine: Machine, notes: &[Note<'_>]) -> Option<Crash>
     ensures { result ≡ crash_among machine (map noted notes.now) }
 {
     match first_status(notes) {
-        Some(status) => crash_in(machine, status),
+        Some(note) => crash_in(machine, note.desc),
         None => None,
     }
 }

@@ -65,7 +65,7 @@ fn count_addresses(alloc: Global, process: &Process) -> Result<u64, StackError>
     ensures { Counts process.now result }
 {
     let mut view = process.dump.view();
-    let named = named_candidates(
+    let mut addresses = named_candidates(
         alloc,
         &process.info,
         &mut view,
@@ -74,7 +74,8 @@ fn count_addresses(alloc: Global, process: &Process) -> Result<u64, StackError>
     )?;
     let mut again = process.dump.view();
     let searched = searched_candidates(alloc, &process.info, &mut again)?;
-    Ok(named.len() as u64 + searched.len() as u64)
+    addresses.extend_from_slice(&searched)?;
+    Ok(addresses.len() as u64)
 }
 
 /// The text of what is left of an opened process, or that no interpreter is shown.
