@@ -20,7 +20,7 @@ use Rattle.py_process.proofs.Agreement.{Agree, err_is, ok_is, ok_kept, ok_not_er
 use Rattle.py_process.proofs.FindingLaws.{ChoosesOnce, images_agree, layout_agree, maps_agree, version_agree}
 use Rattle.py_process.proofs.ReportLaws.{core_agree}
 use Rattle.core_stacks.proofs.Layouts.{chooses_once}
-use Rattle.salvage_marks.specs.Salvaged.{LockedInterpreter, locked}
+use Rattle.salvage_marks.specs.Salvaged.{LockedInterpreter, locked, salvaged_at}
 use Rattle.salvage_marks.specs.declared.crash.Crash.{Crash}
 use Rattle.salvage_marks.specs.declared.salvaged.SalvagedInterpreter.{SalvagedInterpreter}
 use Rattle.salvage_words.specs.Salvage.{Salvage}
@@ -212,13 +212,14 @@ same_kind (i ∷ is) [] same n m s t = absurd (none_some (locked i) (map locked 
 same_kind (i ∷ is) (j ∷ js) same n m s t = refl
 
 some_shown : (is : List SalvagedInterpreter) (n : ℕ) (s : List ℕ) (cause : Cause) → map locked is ≢ [] → Err cause ≡ shown_or_none is n s → ⊥
-some_shown [] n s cause some is = some refl
-some_shown (i ∷ is) n s cause some is = absurd (cc)
+some_shown [] n s cause some e = some refl
+some_shown (i ∷ is) n s cause some e = absurd (cc)
 
 module _ (s : Salvage) (bytes : List ℕ) where
   -- the interpreters that are shown don't depend on which thread got the signal
   shown_of : (o : Opened) (left : Left) (crash : Option Crash) → IsLeft s bytes o left
       → map locked left.salvaged.interpreters.items ≡ (left_at s bytes o crash).interpreters
+  unfolding salvaged_at
   shown_of o left crash h = ap (λ x. x.interpreters) h.salvaged
 
   left_agree : (o : Opened) → AgreeIn (IsLeftOf s bytes o)

@@ -7,6 +7,7 @@ use Rattle.std.proofs.lemmas.Option.{same_Some, none-some}
 use Rattle.outside.specs.Counts.{Rose}
 use Rattle.outside.specs.Files.{FilesSeen, Told}
 use Rattle.outside.specs.Streams.{SinkSeen}
+use Rattle.outside.specs.declared.faults.FileFault.{FileFault}
 use Rattle.core_texts.specs.Says.{Says}
 use Rattle.salvage_words.specs.Salvage.{Salvage, Wanted}
 use Rattle.salvage_words.specs.Salvage.Wanted.{help, version, salvage}
@@ -15,9 +16,10 @@ use Rattle.salvage_report.specs.declared.trouble.Trouble.{Trouble}
 use Rattle.salvage_report.specs.declared.trouble.Trouble.TheVariants.{Cause as Caused, Words, File, Write}
 use Rattle.salvage_report.specs.Lines.{line}
 use Rattle.salvage_report.specs.Outcome.{IsFaultless, IsOutcome, Outcome, cause_status, outcome_status}
-use Rattle.salvage_report.specs.Run.{ComesTo, End, HasEnded, HasRun, Ran, Reaches, SalvageComesTo, SaysEnd, TellsContents, cut, end_at, end_parts, printed, refused, end_status, stopped, unread}
+use Rattle.salvage_report.specs.Reading.{files_of}
+use Rattle.salvage_report.specs.Run.{ComesTo, End, HasEnded, HasRun, IsUnreadOf, Ran, Reaches, SalvageComesTo, SaysEnd, TellsContents, cut, end_at, end_parts, printed, refused, end_status, stopped, unread}
 use Rattle.salvage_report.proofs.Agreement.{cases_five, cause_own, no_cause, outcomes_agree}
-use Rattle.salvage_report.proofs.Files.{same_contents}
+use Rattle.salvage_report.proofs.Contents.{same_contents}
 
 -- a run that gave up says one line
 pub says_end : (old new : SinkSeen) (t : Trouble) → Says old new (line (concat (end_parts (end_at t)))) → SaysEnd (end_at t) old new
@@ -29,13 +31,19 @@ says_end old new Write says = says
 one_more : {X : Type 0} (xs : List X) (x : X) → xs ++ x ∷ [] ≡ xs → ⊥
 one_more xs x e = omega (arith, ap length e, length-append xs (x ∷ []))
 
+failed_of : (old new : FilesSeen) (wanted : Wanted) (name : List ℕ) (why : FileFault) → IsUnreadOf old new wanted name why
+    → new.failed ≡ old.failed ++ (name, why) ∷ []
+failed_of old new help name why h = absurd h
+failed_of old new version name why h = absurd h
+failed_of old new (salvage s) name why h = h.failed
+
 -- two outcomes that are reached have one status, where the files tell
 comes_agree : (told : Told) (wanted : Wanted) (a b : Outcome) → IsSome told → ComesTo told wanted a → ComesTo told wanted b
     → outcome_status a ≢ 5 → outcome_status b ≢ 5 → outcome_status a ≡ outcome_status b
 comes_agree told help a b some one other na nb = ap outcome_status (one ∙ sym other)
 comes_agree told version a b some one other na nb = ap outcome_status (one ∙ sym other)
 comes_agree told (salvage s) a b some one other na nb =
-    let same = same_contents told _ other.contents one.contents some other.read one.read in
+    let same = same_contents told (files_of s) other.contents one.contents some other.read one.read in
     outcomes_agree s one.contents a b one.is (subst (λ c. IsOutcome s c b) same other.is) na nb
 
 reached_agree : (asked : Option Wanted) (told : Told) (a b : Outcome) → IsSome told → Reaches asked told a → Reaches asked told b
@@ -88,7 +96,7 @@ module _ (asked : Option Wanted) (r : Ran) where
   unread_of printed ended = (λ is. absurd (omega (arith, is)), λ more. absurd (more ended.failed))
   unread_of (stopped cause) ended = (λ is. absurd ((cause_own cause).not_3 is), λ more. absurd (more ended.quiet.failed))
   unread_of refused ended = (λ is. absurd (omega (arith, is)), λ more. absurd (more ended.1.failed))
-  unread_of (unread name why) ended = (λ is. λ same. one_more r.files.failed (name, why) (sym ended.unread.failed ∙ same), λ more. refl)
+  unread_of (unread name why) ended = (λ is. λ same. one_more r.files.failed (name, why) (sym (failed_of r.files r.files_after ended.wanted name why ended.unread) ∙ same), λ more. refl)
   unread_of cut ended = (λ is. absurd (omega (arith, is)), λ more. absurd (more ended.failed))
 
   pub all_read_of : (end : End) → HasEnded asked r end → end_status end ≢ 3 → r.files_after.failed ≡ r.files.failed
@@ -118,7 +126,7 @@ module _ (asked : Option Wanted) (r : Ran) where
       by (inl five) = inr five
       by (inr ne5) = inl (reached_agree asked r.files.told (Err other) (Err cause) some (ended.reached ne5) reached ne5 ne)
   only_reached refused ended cause some ne reached same = absurd (none-some _ (sym ended.0 ∙ reached.is_asked))
-  only_reached (unread name why) ended cause some ne reached same = absurd (one_more r.files.failed (name, why) (sym ended.unread.failed ∙ same))
+  only_reached (unread name why) ended cause some ne reached same = absurd (one_more r.files.failed (name, why) (sym (failed_of r.files r.files_after ended.wanted name why ended.unread) ∙ same))
   only_reached cut ended cause some ne reached same = absurd (text_apart ended.text cause some ne ended.reached reached)
 
   reached_by : (s : Salvage) (contents : List (List ℕ)) (outcome : Outcome) → TellsContents asked r.files.told s contents
@@ -140,7 +148,7 @@ module _ (asked : Option Wanted) (r : Ran) where
   told_outcome s contents outcome tells reached =
       let comes : SalvageComesTo r.files.told s outcome =
       subst (λ w. ComesTo r.files.told w outcome) (same_Some _ _ (sym reached.is_asked ∙ tells.is_asked)) reached.comes in
-      subst (λ c. IsOutcome s c outcome) (same_contents r.files.told _ comes.contents contents tells.tells comes.read tells.read) comes.is
+      subst (λ c. IsOutcome s c outcome) (same_contents r.files.told (files_of s) comes.contents contents tells.tells comes.read tells.read) comes.is
 
   pub complete_of : (end : End) → HasEnded asked r end → (s : Salvage) (contents : List (List ℕ)) → TellsContents asked r.files.told s contents
       → IsFaultless s contents → r.files_after.failed ≡ r.files.failed → (Rose r.out.faults r.out_after.faults → ⊥)
@@ -152,7 +160,7 @@ module _ (asked : Option Wanted) (r : Ran) where
       by (inl five) = inr five
       by (inr ne5) = absurd (no_cause s contents good cause ne5 (told_outcome s contents (Err cause) tells (ended.reached ne5)))
   complete_of refused ended s contents tells good same quiet = absurd (none-some _ (sym ended.0 ∙ tells.is_asked))
-  complete_of (unread name why) ended s contents tells good same quiet = absurd (one_more r.files.failed (name, why) (sym ended.unread.failed ∙ same))
+  complete_of (unread name why) ended s contents tells good same quiet = absurd (one_more r.files.failed (name, why) (sym (failed_of r.files r.files_after ended.wanted name why ended.unread) ∙ same))
   complete_of cut ended s contents tells good same quiet = absurd (quiet ended.cut.rose)
 
 -- ---- what a run tells

@@ -1,6 +1,6 @@
-pub mod Files
+pub mod Contents
 pub mod Opening
-pub mod Left
+pub mod Remains
 pub mod Agreement
 pub mod Comes
 pub mod Few

@@ -34,6 +34,12 @@ pub record Reaches (asked : Option Wanted) (told : Told) (outcome : Outcome) : T
   pub is_asked : asked ≡ Some wanted
   pub comes : ComesTo told wanted outcome
 
+-- of the files that are asked for in turn, those before this one were read, and it could not be
+abbrev pub IsUnreadOf : FilesSeen → FilesSeen → Wanted → List ℕ → FileFault → Type 0
+IsUnreadOf old new help name why = ⊥
+IsUnreadOf old new version name why = ⊥
+IsUnreadOf old new (salvage s) name why = IsUnread old new (files_of s) name why
+
 -- ---- how a run ends
 
 pub data End : Type 0 where
@@ -95,9 +101,9 @@ pub record IsCut (asked : Option Wanted) (r : Ran) : Type 0 where
 
 -- a file that the words name could not be read, and nothing was written
 pub record IsStuck (asked : Option Wanted) (r : Ran) (name : List ℕ) (why : FileFault) : Type 0 where
-  pub asks : Salvage
-  pub is_asked : asked ≡ Some (salvage asks)
-  pub unread : IsUnread r.files r.files_after (files_of asks) name why
+  pub wanted : Wanted
+  pub is_asked : asked ≡ Some wanted
+  pub unread : IsUnreadOf r.files r.files_after wanted name why
   pub written : r.out_after ≡ r.out
 
 -- what the words ask for comes to this cause, unless memory ran out, and nothing was written
@@ -134,16 +140,11 @@ IsFew help = ⊤
 IsFew version = ⊤
 IsFew (salvage s) = s.limit ≤ 4096
 
-abbrev pub IsSalvageUnread : FilesSeen → FilesSeen → Wanted → List ℕ → FileFault → Type 0
-IsSalvageUnread old new help name why = ⊥
-IsSalvageUnread old new version name why = ⊥
-IsSalvageUnread old new (salvage s) name why = IsUnread old new (files_of s) name why
-
 -- a text, or what was wrong
 abbrev pub IsTroubled : FilesSeen → FilesSeen → Wanted → Trouble → Type 0
 IsTroubled old new wanted (Caused cause) =
     (cause_status cause ≢ 5 → ComesTo old.told wanted (Err cause)) × (new.failed ≡ old.failed)
-IsTroubled old new wanted (File name why) = IsSalvageUnread old new wanted name.now why
+IsTroubled old new wanted (File name why) = IsUnreadOf old new wanted name.now why
 IsTroubled old new wanted _ = ⊥
 
 abbrev pub Comes : FilesSeen → FilesSeen → Wanted → Result (Vec ℕ Global) Trouble → Type 0

@@ -5,14 +5,14 @@
 #![tactic(auto)]
 
 mod cause;
+mod command;
 mod crash;
 mod files;
 mod help;
 mod left;
 mod lines;
 mod process;
-mod run;
 mod text;
 mod trouble;
 
-pub use run::run;
+pub use command::run;

@@ -2,7 +2,7 @@ use Rattle.std.proofs.Common.{◌≡◌, ◌+◌, ◌++◌, ◌∷◌, [], ◌�
 use Rattle.std.proofs.lemmas.List.{map-append, take_all}
 use Rattle.std.proofs.lemmas.Result.{err_from_is_err_and}
 use Rattle.salvage_report.specs.Reading.{AreRead, contents}
-use Rattle.salvage_report.proofs.Files.{around, one_more, unread}
+use Rattle.salvage_report.proofs.Contents.{around, one_more, unread}
 use Rattle.salvage_report.proofs.files.read_images.Goals as goal
 
 pub loop-image-init : goal.loop-image-init

@@ -1,9 +1,9 @@
-use Rattle.std.proofs.Common.{◌≡◌, ◌∷◌, [], ◌∙◌, refl, subst}
+use Rattle.std.proofs.Common.{◌≡◌, ◌∷◌, [], ◌∙◌, map, refl, subst}
 use Rattle.std.proofs.lemmas.Result.{err_from_is_err_and}
 use Rattle.outside.specs.Files.{Gives}
 use Rattle.salvage_words.specs.Seen.{asked_salvage}
-use Rattle.salvage_report.specs.Reading.{AreRead, files_of}
-use Rattle.salvage_report.proofs.Files.{later, unread}
+use Rattle.salvage_report.specs.Reading.{AreRead, contents, files_of}
+use Rattle.salvage_report.proofs.Contents.{later, unread}
 use Rattle.salvage_report.proofs.files.SalvageFiles.read.Goals as goal
 
 pub returns-in_err-core-clause-read : goal.returns-in_err-core-clause-read
@@ -38,13 +38,16 @@ returns-in_err-images-clause-read g c =
 
 pub returns-clause-read : goal.returns-clause-read
 returns-clause-read g c =
+    let s = asked_salvage c.args.words.now in
     let told = c.read_file-2.ensures.told ∙ c.read_file.ensures.told in
     let rest = rw c.deref.ensures.value at c.in_ok-images.ensures.read in
     record {
       read = (
         rw c.as_bytes.ensures at c.in_ok-core.ensures.given.0,
-        subst (λ t. Gives t _ _) c.read_file.ensures.told (rw c.as_bytes-2.ensures at c.in_ok-layouts.ensures.given.0),
-        subst (λ t. AreRead t _ _) told rest.read,
+        (
+          subst (λ t. Gives t s.layouts c.in_ok-layouts.layouts.items) c.read_file.ensures.told (rw c.as_bytes-2.ensures at c.in_ok-layouts.ensures.given.0),
+          subst (λ t. AreRead t (map (λ image. image.1) s.images) (contents c.in_ok-images.images.items)) told rest.read,
+        ),
       );
       failed = rest.failed ∙ c.in_ok-layouts.ensures.given.1 ∙ c.in_ok-core.ensures.given.1;
     }

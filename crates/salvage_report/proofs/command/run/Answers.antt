@@ -4,10 +4,11 @@ use Rattle.salvage_report.specs.Run.{end_after}
 use Rattle.salvage_report.proofs.Ends.{run_all_read, run_asked, run_complete, run_nothing_out, run_only, run_printed, run_refused, run_silent, run_status, run_unread}
 use Rattle.salvage_report.proofs.Headline.{salvaged_of_run}
 use Rattle.salvage_report.proofs.Few.{asked_few}
-use Rattle.salvage_report.proofs.run.run.Goals as goal
+use Rattle.salvage_report.proofs.command.run.Goals as goal
 
 pub execute-ended-requires : goal.execute-ended-requires
-execute-ended-requires g c = asked_few (texts c.args.words.now) c.read_words-asked.result c.read_words-asked.ensures
+execute-ended-requires g c =
+    record { few = asked_few (texts c.args.words.now) c.read_words-asked.result c.read_words-asked.ensures }
 
 pub returns-clause-right : goal.returns-clause-right
 returns-clause-right g c = record {
