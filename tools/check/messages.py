@@ -17,7 +17,7 @@ from typing import Iterator, List
 ROOT = Path(__file__).resolve().parent.parent.parent
 PAGE = ROOT / "docs" / "MESSAGES.md"
 
-SPECS = [ROOT / "crates" / "core_report" / "specs" / name for name in ("Lines.antt", "Run.antt")]
+SPECS = [ROOT / "crates" / crate / "specs" / name for crate in ("core_report", "salvage_report") for name in ("Lines.antt", "Run.antt")]
 """The definitions that have the texts of the program's lines."""
 
 FAULTS = {"Fault", "Missing", "Unprepared", "NoUnpacker", "NoSpace", "NoCore", "Apart", "Unexpected", "say"}

@@ -1,10 +1,10 @@
 #!/usr/bin/env python3
 """Runs the built program on rows: the words, the files, and what it must print, say and answer, byte by byte.
 
-    tools/check/rows.py --program crates/pystacks/out/pystacks [--listing FILE] [--only WORD] [--list]
+    tools/check/rows.py --program crates/pystacks/out/pystacks [--listing FILE] [--salvage FILE] [--only WORD] [--list]
 
-Each row runs in a folder of its own that holds its files. The rows of `listing`, and those of programs whose cores it
-writes, run where that is built. The status is 0 exactly where each row came out as it says.
+Each row runs in a folder of its own that holds its files. The rows of `listing`, those of programs whose cores it writes,
+and those of `pysalvage` run where these are built. The status is 0 exactly where each row came out as it says.
 """
 
 import argparse
@@ -22,6 +22,7 @@ import rows_dump
 import rows_listing
 import rows_merge
 import rows_reach
+import rows_salvage
 import rows_sample
 import rows_search
 import rows_slim
@@ -87,10 +88,11 @@ def main() -> int:
     parser = argparse.ArgumentParser(description=__doc__, formatter_class=argparse.RawDescriptionHelpFormatter)
     parser.add_argument("--program", required=True, help="the built program")
     parser.add_argument("--listing", default=str(ROOT / "crates" / "listing" / "out" / "listing"), help="the built `listing`")
+    parser.add_argument("--salvage", default=str(ROOT / "crates" / "pysalvage" / "out" / "pysalvage"), help="the built `pysalvage`")
     parser.add_argument("--only", default="", help="the rows in whose name this stands")
     parser.add_argument("--list", action="store_true", help="print the names of the rows, and run none")
     words = parser.parse_args()
-    lists = [(words.program, [*rows_walk.rows(), *rows_dump.rows(), *rows_search.rows(), *rows_triage.rows(), *rows_reach.rows(), *rows_merge.rows(), *rows_slim.rows(), *rows_sample.rows()]), (words.listing, rows_listing.rows())]
+    lists = [(words.program, [*rows_walk.rows(), *rows_dump.rows(), *rows_search.rows(), *rows_triage.rows(), *rows_reach.rows(), *rows_merge.rows(), *rows_slim.rows(), *rows_sample.rows()]), (words.listing, rows_listing.rows()), (words.salvage, rows_salvage.rows())]
     if os.path.isfile(words.listing):
         listing = os.path.abspath(words.listing)
         lists += [(words.program, rows_built.rows(listing)), (words.listing, rows_built.listing_rows(listing))]

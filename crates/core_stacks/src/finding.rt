@@ -84,7 +84,14 @@ pub(crate) fn find_process<M: ContainsAddr, P: ProcessMemory>(
 }
 
 /// What the images of the maps of a core say of its process. Nothing of the process's memory is read.
-pub(crate) fn process_info(
+///
+/// The program is the first executable map whose file has a name, the library the first whose name is that of Python's
+/// library (`py_process::is_python_lib`). The library's image is needed where one is mapped, else the program's, and the
+/// other one may be missing or bad.
+///
+/// The error is the first of these: `NoBinary`, where no executable map's file has a name; `NoImage` and `BadImage` of
+/// the needed image. Else it is want of memory.
+pub fn process_info(
     alloc: Global,
     core: &CoreDump,
     images: &Images,

@@ -13,7 +13,9 @@ mod slimmed_error;
 mod stacks_in;
 
 pub use core_walk::walk;
+pub use finding::process_info;
 pub use found::PythonBinaries;
+pub use notes::Notes;
 pub use python_core::PythonCoreDump;
-pub use reporting::{report, report_counted};
+pub use reporting::{Loaded, load, report, report_counted};
 pub use slimmed_error::SlimmedError;

@@ -10,11 +10,11 @@ use std::alloc::{AllocError, Global};
 
 /// What the notes of a core tell of the process.
 #[derive(Drop)]
-pub(crate) struct Notes {
+pub struct Notes {
     /// The signal of the first status record, where there is one.
-    pub(crate) signal: Option<i16>,
+    pub signal: Option<i16>,
     /// The process's id and its arguments, of the last process record, where there is one.
-    pub(crate) process: Option<(i32, Text)>,
+    pub process: Option<(i32, Text)>,
 }
 
 /// The bytes up to the first nul, or all of them.

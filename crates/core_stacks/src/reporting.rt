@@ -25,13 +25,19 @@ use std::sync::ledger::Ledger;
 
 /// A core with the images that its process had mapped, and what its notes tell.
 #[derive(Drop)]
-struct Loaded {
-    dump: BackedDump,
-    notes: Notes,
+pub struct Loaded {
+    /// The memory of the core and its images.
+    pub dump: BackedDump,
+    /// What the notes tell.
+    pub notes: Notes,
 }
 
-/// Takes a core's file in, with the images that its process had mapped. Nothing of the process's memory is read.
-fn load(alloc: Global, bytes: Vec<u8>, images: &Images) -> Result<Loaded, CoreError>
+/// Takes a core's file in, with the images that its process had mapped, each under the path that the core has for it.
+/// Nothing of the process's memory is read.
+///
+/// The error is `NotElf64`, `BadHeader`, `NoNotes` or `BadNote`, as `image_memory::CoreDump::new` has them. Else it is
+/// want of memory.
+pub fn load(alloc: Global, bytes: Vec<u8>, images: &Images) -> Result<Loaded, CoreError>
     ensures core { IfOk result (λ loaded. IsCore loaded.dump.core) }
     ensures same { IfOk result (λ loaded. loaded.dump.core ≡ bytes.items) }
     ensures memory { IfOk result (λ loaded. IsBackedMemory loaded.dump.core images.now (regions_of loaded.dump)) }

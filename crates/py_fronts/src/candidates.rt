@@ -104,8 +104,9 @@ fn listed(alloc: Global, read: Result<Option<u64>, SearchError>) -> Result<Vec<u
     }
 }
 
-/// The candidates that symbols and runtime sections name. At most 4 reads.
-pub(crate) fn named_candidates<M: ContainsAddr, P: ProcessMemory>(
+/// The candidates that symbols and runtime sections name, in order: the head that symbols give, and then the words of
+/// the program's runtime section and of the library's. The one error is want of memory. At most 4 reads.
+pub fn named_candidates<M: ContainsAddr, P: ProcessMemory>(
     alloc: Global,
     info: &PythonProcessInfo<M>,
     process: &mut P,
@@ -123,8 +124,9 @@ pub(crate) fn named_candidates<M: ContainsAddr, P: ProcessMemory>(
     Ok(words)
 }
 
-/// The candidates that are found by search alone. At most 2 reads.
-pub(crate) fn searched_candidates<M: ContainsAddr, P: ProcessMemory>(
+/// The candidates that are found by search alone, in order: the words of the program's bss and of the library's. The one
+/// error is want of memory. At most 2 reads.
+pub fn searched_candidates<M: ContainsAddr, P: ProcessMemory>(
     alloc: Global,
     info: &PythonProcessInfo<M>,
     process: &mut P,

@@ -17,6 +17,7 @@ mod tests;
 mod thread_front;
 mod threads;
 
+pub use candidates::{named_candidates, searched_candidates};
 pub use chain_end::ChainEnd;
 pub use frame_front::FramesFront;
 pub use fronts::{Fronts, InterpreterFront, get_fronts};

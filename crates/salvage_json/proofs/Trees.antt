@@ -1,0 +1,161 @@
+-- The tree of what is left has no float.
+use Rattle.std.proofs.Common.{◌≡◌, ℕ, ◌+◌, ℤ, pos, negsuc, Bool, true, false, List, [], ◌∷◌, ◌++◌, map, drop, take, reverse, Option, Some, None, refl, ap, ◌∙◌}
+use Rattle.std.specs.Prelude.{◌||◌, Vec, position}
+use Rattle.std.specs.Global.{Global}
+use Rattle.serde_json.specs.Data.{Data, number}
+use Rattle.serde_json.specs.Find.{of_integer}
+use Rattle.serde_json.specs.View.{items_of}
+use Rattle.serde_json.specs.Written.{has_float, items_have_float}
+use Rattle.py_builtins.specs.declared.error.ObjectError.{ObjectError}
+use Rattle.py_builtins.specs.declared.error.ObjectError.TheVariants as names
+use Rattle.py_stacks.specs.declared.error.StackError.{StackError}
+use Rattle.py_stacks.specs.declared.error.StackError.TheVariants as locals
+use Rattle.py_stacks.specs.declared.trace.Frame.{Frame}
+use Rattle.py_stacks.specs.declared.trace.LocalVariable.{LocalVariable}
+use Rattle.py_version.specs.declared.version.Version.{Version}
+use Rattle.py_fronts.specs.declared.chain_end.ChainEnd.{ChainEnd}
+use Rattle.py_fronts.specs.declared.chain_end.ChainEnd.TheVariants as chain
+use Rattle.py_fronts.specs.declared.frame_front.FramesFront.{FramesFront}
+use Rattle.py_fronts.specs.declared.standing.Standing.{Standing}
+use Rattle.py_fronts.specs.declared.standing.Standing.TheVariants as standing
+use Rattle.py_fronts.specs.declared.thread_front.ThreadFront.{ThreadFront}
+use Rattle.salvage_marks.specs.declared.crash.Crash.{Crash}
+use Rattle.salvage_marks.specs.declared.lock.LockState.{LockState}
+use Rattle.salvage_marks.specs.declared.lock.LockState.TheVariants.{Holder, Unreadable}
+use Rattle.salvage_marks.specs.declared.salvaged.Salvaged.{Salvaged}
+use Rattle.salvage_marks.specs.declared.salvaged.SalvagedInterpreter.{SalvagedInterpreter}
+use Rattle.salvage_marks.specs.Crashes.{is_crashed}
+use Rattle.salvage_marks.specs.Salvaged.{first_crashed}
+use Rattle.salvage_json.specs.Kinds.{end_tree, fault_or_null, fault_tree, lock_tree, why_tree}
+use Rattle.salvage_json.specs.Members.{frame_tree, local_tree, shown_tree, standing_tree, standings_tree, text_tree}
+use Rattle.salvage_json.specs.Threads.{frames_tree, id_tree, placed_trees, reversed_trees, thread_tree, threads_tree}
+use Rattle.salvage_json.specs.Salvaged.{interpreter_tree, interpreter_trees, interpreters_tree, process_tree, salvaged_tree, signal_tree, placed_trees as placed_of_all}
+
+items : {X : Type 0} (f : X → Data) (each : (x : X) → has_float (f x) ≡ false) (xs : List X)
+    → items_have_float (items_of (map (λ x. f x) xs)) ≡ false
+items f each [] = refl
+items f each (x ∷ xs) = ap (λ b. b || items_have_float (items_of (map (λ x. f x) xs))) (each x) ∙ items f each xs
+
+or_first : (a b : Bool) → (a || b) ≡ false → a ≡ false
+or_first false b h = refl
+or_first true b h = absurd (cc)
+
+or_second : (a b : Bool) → (a || b) ≡ false → b ≡ false
+or_second false b h = h
+or_second true b h = absurd (cc)
+
+both : (a b : List Data) → items_have_float (items_of a) ≡ false → items_have_float (items_of b) ≡ false
+    → items_have_float (items_of (a ++ b)) ≡ false
+both [] b h k = k
+both (x ∷ a) b h k =
+    ap (λ t. t || items_have_float (items_of (a ++ b))) (or_first (has_float x) (items_have_float (items_of a)) h)
+    ∙ both a b (or_second (has_float x) (items_have_float (items_of a)) h) k
+
+text : (t : Option (List ℕ)) → has_float (text_tree t) ≡ false
+text (Some t) = refl
+text None = refl
+
+id : (i : Option ℕ) → has_float (id_tree i) ≡ false
+id (Some i) = refl
+id None = refl
+
+integer : (z : ℤ) → has_float (number (of_integer z)) ≡ false
+integer (pos n) = refl
+integer (negsuc n) = refl
+
+-- ---- kinds
+
+ending : (e : ChainEnd) → has_float (end_tree e) ≡ false
+ending chain.Whole = refl
+ending chain.Cut = refl
+ending (chain.Unreadable addr len) = refl
+ending (chain.Stray interpreter) = refl
+
+lock : (l : LockState) → has_float (lock_tree l) ≡ false
+lock (Holder holder) = refl
+lock (Unreadable addr len) = refl
+
+why : (e : ObjectError) → has_float (why_tree e) ≡ false
+why (names.Unreadable addr len) = refl
+why (names.TooLong len) = ap (λ b. b || false) (integer len)
+why _ = refl
+
+fault : (e : StackError) → has_float (fault_tree e) ≡ false
+fault (locals.Unreadable addr len) = refl
+fault (locals.LocalsLimit count) = ap (λ b. b || false) (integer count)
+fault _ = refl
+
+fault_or : (e : Option StackError) → has_float (fault_or_null e) ≡ false
+fault_or (Some e) = fault e
+fault_or None = refl
+
+-- ---- members
+
+local : (l : LocalVariable) → has_float (local_tree l) ≡ false
+local l = ap (λ b. b || false) (text l.repr)
+
+shown : (ls : Option (Vec LocalVariable Global)) → has_float (shown_tree ls) ≡ false
+shown (Some ls) = items local_tree local ls.items
+shown None = refl
+
+frame : (f : Frame) (e : Option StackError) → has_float (frame_tree f e) ≡ false
+frame f e = λ i. integer f.line i || (shown f.locals i || (fault_or e i || (false || false)))
+
+member : (s : Standing) → has_float (standing_tree s) ≡ false
+member (standing.Frame f e) = frame f e
+member (standing.Member address e) = ap (λ b. b || false) (why e)
+
+members : (ss : List Standing) → has_float (standings_tree ss) ≡ false
+members ss = items standing_tree member ss
+
+-- ---- threads and interpreters
+
+frames : (f : FramesFront) → has_float (frames_tree f) ≡ false
+frames f = λ i. ending f.end i || (members f.first.items i || (members f.last.items i || (false || false)))
+
+thread : (l : LockState) (crash : Option Crash) (t : ThreadFront) → has_float (thread_tree l crash t) ≡ false
+thread l crash t = λ i. frames t.frames i || (false || (id t.os_thread_id i || (false || false)))
+
+reversed : (l : LockState) (crash : Option Crash) (ts : List ThreadFront) → items_have_float (items_of (reversed_trees l crash ts)) ≡ false
+reversed l crash ts = items (thread_tree l crash) (thread l crash) (reverse ts)
+
+placed : (l : LockState) (crash : Option Crash) (ts : List ThreadFront) (at : Option ℕ) → items_have_float (items_of (placed_trees l crash ts at)) ≡ false
+placed l crash ts None = reversed l crash ts
+placed l crash ts (Some i) = both (reversed_trees l crash (take 1 (drop i ts)))
+    (reversed_trees l crash (drop (i + 1) ts) ++ reversed_trees l crash (take i ts)) (reversed l crash (take 1 (drop i ts)))
+    (both (reversed_trees l crash (drop (i + 1) ts)) (reversed_trees l crash (take i ts)) (reversed l crash (drop (i + 1) ts))
+    (reversed l crash (take i ts)))
+
+threads : (l : LockState) (crash : Option Crash) (ts : List ThreadFront) → has_float (threads_tree l crash ts) ≡ false
+threads l crash ts = placed l crash ts (position (λ thread. is_crashed crash thread) ts)
+
+interpreter : (crash : Option Crash) (i : SalvagedInterpreter) → has_float (interpreter_tree crash i) ≡ false
+interpreter crash s = λ i. lock s.lock i || (false || (threads s.lock crash s.front.threads.threads.items i
+    || (ending s.front.threads.end i || false)))
+
+some_interpreters : (crash : Option Crash) (is : List SalvagedInterpreter) → items_have_float (items_of (interpreter_trees crash is)) ≡ false
+some_interpreters crash is = items (interpreter_tree crash) (interpreter crash) is
+
+placed_interpreters : (crash : Option Crash) (is : List SalvagedInterpreter) (at : Option ℕ)
+    → items_have_float (items_of (placed_of_all crash is at)) ≡ false
+placed_interpreters crash is None = some_interpreters crash is
+placed_interpreters crash is (Some i) = both (interpreter_trees crash (take 1 (drop i is)))
+    (interpreter_trees crash (take i is) ++ interpreter_trees crash (drop (i + 1) is)) (some_interpreters crash (take 1 (drop i is)))
+    (both (interpreter_trees crash (take i is)) (interpreter_trees crash (drop (i + 1) is)) (some_interpreters crash (take i is))
+    (some_interpreters crash (drop (i + 1) is)))
+
+interpreters : (crash : Option Crash) (is : List SalvagedInterpreter) → has_float (interpreters_tree crash is) ≡ false
+interpreters crash is = placed_interpreters crash is (first_crashed crash is)
+
+process : (p : Option (ℤ × List ℕ)) → has_float (process_tree p) ≡ false
+process None = refl
+process (Some p) = ap (λ b. b || false) (integer p.0)
+
+signal : (s : Option ℤ) → has_float (signal_tree s) ≡ false
+signal None = refl
+signal (Some s) = integer s
+
+pub no_float : (s : Option ℤ) (p : Option (ℤ × List ℕ)) (v : Version) (left : Salvaged)
+    → has_float (salvaged_tree s p v left) ≡ false
+no_float s p v left = λ i. interpreters left.crash left.interpreters.items i || (false || (process p i
+    || (signal s i || (false || false))))

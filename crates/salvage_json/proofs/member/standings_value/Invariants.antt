@@ -1,0 +1,7 @@
+use Rattle.std.proofs.Common.{◌≡◌, take, map}
+use Rattle.serde_json.specs.View.{view}
+use Rattle.salvage_json.specs.Members.{standing_tree}
+use Rattle.salvage_json.proofs.member.standings_value.Given as goal
+
+abbrev pub invariant-loop-standing : goal.invariant-loop-standing
+invariant-loop-standing l = map view l.values.items ≡ map (λ x. standing_tree x) (take l.standing-index l.standings)

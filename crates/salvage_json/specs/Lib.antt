@@ -1,0 +1,4 @@
+pub mod Kinds
+pub mod Members
+pub mod Threads
+pub mod Salvaged

@@ -1,0 +1,66 @@
+-- The JSON of what is left of a process, and its text.
+use Rattle.std.specs.Prelude.{ℕ, ℤ, ◌+◌, ◌++◌, List, map, drop, take, Option, Some, None, codes, encode_utf8_all}
+use Rattle.json.specs.Layout.{pretty}
+use Rattle.json.specs.Tree.{json_tokens}
+use Rattle.serde_json.specs.Data.{Data, array, boolean, member, no_members, null, number, object, string}
+use Rattle.serde_json.specs.Find.{of_integer}
+use Rattle.serde_json.specs.View.{items_of}
+use Rattle.serde_json.specs.Written.{outline}
+use Rattle.py_version.specs.Version.{version_text}
+use Rattle.py_version.specs.declared.version.Version.{Version}
+use Rattle.salvage_marks.specs.Salvaged.{first_crashed}
+use Rattle.salvage_marks.specs.declared.crash.Crash.{Crash}
+use Rattle.salvage_marks.specs.declared.salvaged.Salvaged.{Salvaged}
+use Rattle.salvage_marks.specs.declared.salvaged.SalvagedInterpreter.{SalvagedInterpreter}
+use Rattle.salvage_json.specs.Kinds.{address_tree, end_tree, lock_tree}
+use Rattle.salvage_json.specs.Threads.{threads_tree}
+
+abbrev pub interpreter_tree : Option Crash → SalvagedInterpreter → Data
+interpreter_tree crash i = object (
+    member (codes "address") (address_tree i.front.address) (
+    member (codes "lock") (lock_tree i.lock) (
+    member (codes "searched") (boolean i.front.searched) (
+    member (codes "threads") (threads_tree i.lock crash i.front.threads.threads.items) (
+    member (codes "threads_end") (end_tree i.front.threads.end) no_members)))))
+
+abbrev pub interpreter_trees : Option Crash → List SalvagedInterpreter → List Data
+interpreter_trees crash is = map (λ i. interpreter_tree crash i) is
+
+-- the one at a place first, and then the others
+abbrev pub placed_trees : Option Crash → List SalvagedInterpreter → Option ℕ → List Data
+placed_trees crash is None = interpreter_trees crash is
+placed_trees crash is (Some i) = interpreter_trees crash (take 1 (drop i is))
+    ++ (interpreter_trees crash (take i is) ++ interpreter_trees crash (drop (i + 1) is))
+
+-- the first one of which a thread got the signal, where there is one, and then the others in order
+abbrev pub ordered_trees : Option Crash → List SalvagedInterpreter → List Data
+ordered_trees crash is = placed_trees crash is (first_crashed crash is)
+
+abbrev pub interpreters_tree : Option Crash → List SalvagedInterpreter → Data
+interpreters_tree crash is = array (items_of (ordered_trees crash is))
+
+-- the process that a core tells, where it tells one
+abbrev pub process_tree : Option (ℤ × List ℕ) → Data
+process_tree None = null
+process_tree (Some process) = object (
+    member (codes "arguments") (string (encode_utf8_all process.1)) (
+    member (codes "pid") (number (of_integer process.0)) no_members))
+
+abbrev pub signal_tree : Option ℤ → Data
+signal_tree None = null
+signal_tree (Some signal) = number (of_integer signal)
+
+abbrev pub salvaged_tree : Option ℤ → Option (ℤ × List ℕ) → Version → Salvaged → Data
+salvaged_tree signal process version s = object (
+    member (codes "interpreters") (interpreters_tree s.crash s.interpreters.items) (
+    member (codes "more") (boolean s.more) (
+    member (codes "process") (process_tree process) (
+    member (codes "signal") (signal_tree signal) (
+    member (codes "version") (string (version_text version)) no_members)))))
+
+-- the text of a tree: each item and member on a line of its own, two spaces deeper for each bracket
+abbrev pub pretty_text : Data → List ℕ
+pretty_text d = pretty (json_tokens (outline d))
+
+abbrev pub salvaged_json : Option ℤ → Option (ℤ × List ℕ) → Version → Salvaged → List ℕ
+salvaged_json signal process version s = pretty_text (salvaged_tree signal process version s) ++ codes "\n"

@@ -1,0 +1,52 @@
+-- The JSON of threads.
+use Rattle.std.specs.Prelude.{ℕ, ◌+◌, ◌++◌, List, map, drop, take, reverse, position, Option, Some, None, codes}
+use Rattle.serde_json.specs.Data.{Data, array, boolean, member, no_members, null, number, object, string, unsigned}
+use Rattle.serde_json.specs.View.{items_of}
+use Rattle.py_fronts.specs.declared.frame_front.FramesFront.{FramesFront}
+use Rattle.py_fronts.specs.declared.thread_front.ThreadFront.{ThreadFront}
+use Rattle.salvage_marks.specs.declared.crash.Crash.{Crash}
+use Rattle.salvage_marks.specs.declared.lock.LockState.{LockState}
+use Rattle.salvage_marks.specs.Crashes.{is_crashed}
+use Rattle.salvage_marks.specs.Locks.{holds_lock}
+use Rattle.salvage_json.specs.Kinds.{address_tree, end_tree}
+use Rattle.salvage_json.specs.Members.{standings_tree}
+
+abbrev pub id_tree : Option ℕ → Data
+id_tree (Some id) = number (unsigned id)
+id_tree None = null
+
+-- the first frames, how many aren't shown, the last ones, and how they end
+abbrev pub frames_tree : FramesFront → Data
+frames_tree f = object (
+    member (codes "between") (number (unsigned f.between)) (
+    member (codes "end") (end_tree f.end) (
+    member (codes "first") (standings_tree f.first.items) (
+    member (codes "last") (standings_tree f.last.items) (
+    member (codes "met") (number (unsigned f.met)) no_members)))))
+
+abbrev pub thread_tree : LockState → Option Crash → ThreadFront → Data
+thread_tree lock crash t = object (
+    member (codes "address") (address_tree t.address) (
+    member (codes "crashed") (boolean (is_crashed crash t)) (
+    member (codes "frames") (frames_tree t.frames) (
+    member (codes "gil") (boolean (holds_lock lock t)) (
+    member (codes "os_thread_id") (id_tree t.os_thread_id) (
+    member (codes "thread_id") (number (unsigned t.thread_id)) no_members))))))
+
+-- threads from the last to the first
+abbrev pub reversed_trees : LockState → Option Crash → List ThreadFront → List Data
+reversed_trees lock crash threads = map (λ t. thread_tree lock crash t) (reverse threads)
+
+-- the one at a place first, and then the others
+abbrev pub placed_trees : LockState → Option Crash → List ThreadFront → Option ℕ → List Data
+placed_trees lock crash threads None = reversed_trees lock crash threads
+placed_trees lock crash threads (Some i) = reversed_trees lock crash (take 1 (drop i threads))
+    ++ (reversed_trees lock crash (drop (i + 1) threads) ++ reversed_trees lock crash (take i threads))
+
+-- the first one that got the signal, where there is one, and then the others from the last to the first
+abbrev pub ordered_trees : LockState → Option Crash → List ThreadFront → List Data
+ordered_trees lock crash threads =
+    placed_trees lock crash threads (position (λ thread. is_crashed crash thread) threads)
+
+abbrev pub threads_tree : LockState → Option Crash → List ThreadFront → Data
+threads_tree lock crash threads = array (items_of (ordered_trees lock crash threads))

@@ -1,0 +1,109 @@
+//! Threads.
+ghost use Rattle.std.specs.Prelude.{◌≡◌, ◌++◌, IfOk, OnOk, map};
+ghost use Rattle.serde_json.specs.View.{view};
+ghost use Rattle.salvage_json.specs.Threads.{frames_tree, id_tree, ordered_trees, reversed_trees, thread_tree, threads_tree};
+
+use crate::kind::{address_value, end_value};
+use crate::member::standings_value;
+use py_fronts::{FramesFront, ThreadFront};
+use salvage_marks::{Crash, LockState, crashed_at, holds_lock, is_crashed};
+use serde_json::{Value, json};
+use std::alloc::{AllocError, Global};
+
+/// An id, or null.
+fn id_value(alloc: Global, id: Option<u64>) -> Result<Value, AllocError>
+    ensures { IfOk result (λ value. view value ≡ id_tree id) }
+{
+    match id {
+        Some(id) => json!(in alloc; id),
+        None => Ok(Value::Null),
+    }
+}
+
+fn frames_value(alloc: Global, frames: &FramesFront) -> Result<Value, AllocError>
+    ensures { IfOk result (λ value. view value ≡ frames_tree frames.now) }
+{
+    let end = end_value(alloc, frames.end)?;
+    let first = standings_value(alloc, &frames.first)?;
+    let last = standings_value(alloc, &frames.last)?;
+    json!(in alloc; {
+        "between": frames.between,
+        "end": end,
+        "first": first,
+        "last": last,
+        "met": frames.met
+    })
+}
+
+fn thread_value(
+    alloc: Global,
+    lock: LockState,
+    crash: Option<Crash>,
+    thread: &ThreadFront,
+) -> Result<Value, AllocError>
+    ensures { IfOk result (λ value. view value ≡ thread_tree lock crash thread.now) }
+{
+    let address = address_value(alloc, thread.address)?;
+    let frames = frames_value(alloc, &thread.frames)?;
+    let os_thread_id = id_value(alloc, thread.os_thread_id)?;
+    let crashed = is_crashed(crash, thread);
+    let gil = holds_lock(lock, thread);
+    json!(in alloc; {
+        "address": address,
+        "crashed": crashed,
+        "frames": frames,
+        "gil": gil,
+        "os_thread_id": os_thread_id,
+        "thread_id": thread.thread_id
+    })
+}
+
+/// Adds some threads, from the last to the first.
+fn add_reversed(
+    alloc: Global,
+    values: &mut Vec<Value>,
+    lock: LockState,
+    crash: Option<Crash>,
+    threads: &[ThreadFront],
+) -> Result<(), AllocError>
+    ensures { OnOk result (map view values.new.items
+        ≡ map view values.old.items ++ reversed_trees lock crash threads.now) }
+{
+    for thread in threads.iter().rev() {
+        values.push(thread_value(alloc, lock, crash, thread)?)?;
+    }
+    Ok(())
+}
+
+/// Adds an interpreter's threads: the first one that got the signal, and then the others, from the last to the first.
+fn add_threads(
+    alloc: Global,
+    values: &mut Vec<Value>,
+    lock: LockState,
+    crash: Option<Crash>,
+    threads: &[ThreadFront],
+) -> Result<(), AllocError>
+    ensures { OnOk result (map view values.new.items
+        ≡ map view values.old.items ++ ordered_trees lock crash threads.now) }
+{
+    let Some(index) = crashed_at(crash, threads) else {
+        return add_reversed(alloc, values, lock, crash, threads);
+    };
+    add_reversed(alloc, values, lock, crash, &threads[index..index + 1])?;
+    add_reversed(alloc, values, lock, crash, &threads[index + 1..])?;
+    add_reversed(alloc, values, lock, crash, &threads[..index])
+}
+
+/// An interpreter's threads.
+pub(crate) fn threads_value(
+    alloc: Global,
+    lock: LockState,
+    crash: Option<Crash>,
+    threads: &[ThreadFront],
+) -> Result<Value, AllocError>
+    ensures { IfOk result (λ value. view value ≡ threads_tree lock crash threads.now) }
+{
+    let mut values = Vec::new(alloc);
+    add_threads(alloc, &mut values, lock, crash, threads)?;
+    Ok(Value::Array(values))
+}

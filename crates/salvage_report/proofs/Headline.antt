@@ -1,0 +1,63 @@
+-- What status 0 tells where a core is asked for.
+use Rattle.std.proofs.Common.{◌≡◌, ◌≢◌, ℕ, List, [], ◌∷◌, Ok, Err, Some, inl, inr, sym, subst, ◌∙◌}
+use Rattle.std.specs.Prelude.{Option}
+use Rattle.std.specs.Io.KnownBytes.{Appends}
+use Rattle.std.proofs.lemmas.Option.{same_Some}
+use Rattle.outside.specs.Files.{Told}
+use Rattle.outside.specs.Streams.{SinkSeen}
+use Rattle.py_fields.specs.declared.layout.Layout.{Layout}
+use Rattle.py_layout.specs.File.{IsRightFor}
+use Rattle.salvage_marks.specs.declared.salvaged.SalvagedInterpreter.{SalvagedInterpreter}
+use Rattle.salvage_words.specs.Salvage.{Salvage, Wanted}
+use Rattle.salvage_words.specs.Salvage.Wanted.{salvage}
+use Rattle.salvage_report.specs.declared.cause.Cause.{Cause}
+use Rattle.salvage_report.specs.declared.left.Left.{Left}
+use Rattle.salvage_report.specs.Headline.{HasSalvaged}
+use Rattle.salvage_report.specs.Opened.{Opened, OpenedIs}
+use Rattle.salvage_report.specs.Outcome.{IsLeft, IsOutcome, IsSalvagedBy, Outcome, looked_at, shown_or_none}
+use Rattle.salvage_report.specs.Reading.{AreRead, files_of, images_read}
+use Rattle.salvage_report.specs.Run.{ComesTo, Reaches}
+use Rattle.salvage_report.specs.Texts.{shown_left}
+
+no_text : (s : List ℕ) (cause : Cause) → ◌≡◌ {A = Outcome} (Ok s) (Err cause) → ⊥
+no_text s cause is = cc
+
+-- where a text is shown, some interpreter is, and it is that text
+shows : (is : List SalvagedInterpreter) (n : ℕ) (t written : List ℕ) → ◌≡◌ {A = Outcome} (Ok written) (shown_or_none is n t)
+    → (is ≢ []) × (written ≡ t)
+shows [] n t written same = absurd (no_text written _ same)
+shows (i ∷ is) n t written same = (λ none. absurd (cc), cc)
+
+module _ (s : Salvage) (told : Told) (old new : SinkSeen) (written : List ℕ) (added : Appends old.written new.written written) where
+  by_left : (bytes text : List ℕ) (images : List (List ℕ)) (layouts : List Layout) → AreRead told (files_of s) (bytes ∷ text ∷ images)
+      → IsRightFor text (Ok layouts) → IsSalvagedBy s bytes (images_read s.images images) layouts (Ok written) → HasSalvaged s told old new
+  by_left bytes text images layouts read says (inl (e, is, h)) = absurd (no_text written _ is)
+  by_left bytes text images layouts read says (inr (o, opened, (left, h, is))) =
+      let shown = shows left.salvaged.interpreters.items (looked_at o) (shown_left s left) written is in
+      record {
+        core = bytes;
+        text = text;
+        images = images;
+        read = read;
+        layouts = layouts;
+        says = says;
+        opened = o;
+        is_opened = opened;
+        left = left;
+        is_left = h;
+        some = shown.0;
+        written = subst (λ t. Appends old.written new.written t) shown.1 added;
+      }
+
+  by_contents : (contents : List (List ℕ)) → AreRead told (files_of s) contents → IsOutcome s contents (Ok written) → HasSalvaged s told old new
+  by_contents [] read h = absurd h
+  by_contents (bytes ∷ []) read h = absurd h
+  by_contents (bytes ∷ text ∷ images) read (inl (e, is, h)) = absurd (no_text written _ is)
+  by_contents (bytes ∷ text ∷ images) read (inr (layouts, says, h)) = by_left bytes text images layouts read says h
+
+  comes : ComesTo told (salvage s) (Ok written) → HasSalvaged s told old new
+  comes h = by_contents h.contents h.read h.is
+
+  pub salvaged_of_run : (asked : Option Wanted) → asked ≡ Some (salvage s) → Reaches asked told (Ok written) → HasSalvaged s told old new
+  salvaged_of_run asked is reached =
+      comes (subst (λ w. ComesTo told w (Ok written)) (same_Some _ _ (sym reached.is_asked ∙ is)) reached.comes)

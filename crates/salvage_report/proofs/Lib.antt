@@ -1,0 +1,8 @@
+pub mod Contents
+pub mod Opening
+pub mod Remains
+pub mod Agreement
+pub mod Comes
+pub mod Few
+pub mod Ends
+pub mod Headline

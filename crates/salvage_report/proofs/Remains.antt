@@ -1,0 +1,79 @@
+-- What is left of an opened process.
+use Rattle.std.proofs.Common.{◌≡◌, ◌≢◌, ℕ, List, [], ◌∷◌, refl, sym, ap, subst, ◌∙◌}
+use Rattle.std.specs.Prelude.{Bool, Option, Ok, Err, map}
+use Rattle.elf64_core.specs.declared.header.Machine.{Machine}
+use Rattle.elf64_core.specs.Header.{machine_of}
+use Rattle.image_memory.specs.Backed.{regions_of}
+use Rattle.image_memory.specs.Images.{Pushed}
+use Rattle.image_memory.specs.MapTables.{tests}
+use Rattle.image_memory.specs.Maps.{in_maps}
+use Rattle.process_memory.specs.Memory.{Memory, byte_at}
+use Rattle.py_fields.specs.declared.layout.Layout.{Layout}
+use Rattle.py_version.specs.declared.version.Version.{Version}
+use Rattle.py_stacks.specs.declared.asked.Asked.{Asked}
+use Rattle.py_process.specs.Facts.{Known, known_of}
+use Rattle.salvage_marks.specs.Salvaged.{SalvagedShown, locked, salvaged_at}
+use Rattle.salvage_marks.specs.declared.crash.Crash.{Crash}
+use Rattle.salvage_marks.specs.declared.salvaged.Salvaged.{Salvaged}
+use Rattle.salvage_marks.specs.declared.salvaged.SalvagedInterpreter.{SalvagedInterpreter}
+use Rattle.salvage_words.specs.Salvage.{Salvage}
+use Rattle.salvage_report.specs.declared.cause.Cause.TheVariants.{NoInterpreter}
+use Rattle.salvage_report.specs.declared.left.Left.{Left}
+use Rattle.salvage_report.specs.declared.process.Process.{Process}
+use Rattle.salvage_report.specs.Crashed.{CrashTold}
+use Rattle.salvage_report.specs.Opened.{Opened}
+use Rattle.salvage_report.specs.Outcome.{IsLeft, IsLeftOf, Outcome, asked_of, left_at, looked_at, salvaged_of, shown_or_none}
+use Rattle.salvage_report.specs.Seen.{IsProcess, Salvages, opened_of}
+use Rattle.salvage_report.specs.Texts.{shown_left}
+
+-- the thread that got the signal is handed on
+same_crash : (contains : ℕ → Bool) (machine : Machine) (k : Known) (v : Version) (l : Layout) (m : Memory) (q : Asked) (limit : ℕ) (crash : Option Crash)
+    → (salvaged_at contains machine k v l m q limit crash).crash ≡ crash
+unfolding salvaged_at
+same_crash contains machine k v l m q limit crash = refl
+
+nothing_shown : (is : List SalvagedInterpreter) (n : ℕ) (t : List ℕ) → is ≡ [] → ◌≡◌ {A = Outcome} (Err (NoInterpreter n)) (shown_or_none is n t)
+nothing_shown is n t none = ap (λ xs. shown_or_none xs n t) (sym none)
+
+something_shown : (is : List SalvagedInterpreter) (n : ℕ) (t : List ℕ) → is ≢ [] → ◌≡◌ {A = Outcome} (Ok t) (shown_or_none is n t)
+something_shown [] n t some = absurd (some refl)
+something_shown (i ∷ is) n t some = refl
+
+module _ (s : Salvage) (p : Process) (crash : Option Crash) (salvaged : Salvaged) (found : Salvages s p crash (Ok salvaged))
+    (bytes : List ℕ) (images : Pushed) (layouts : List Layout) (is : IsProcess bytes images layouts p) (told : CrashTold bytes crash) where
+  abbrev opened : Opened
+  opened = opened_of is.maps p
+
+  abbrev left : Left
+  left = record { signal = p.notes.signal; process = p.notes.process; version = p.version; salvaged = salvaged }
+
+  abbrev over : (ℕ → Bool) → List ℕ → Option Crash → SalvagedShown
+  over contains core c =
+      salvaged_at contains (machine_of core) (known_of p.info) p.version p.layout (byte_at (regions_of p.dump)) (asked_of s) s.limit c
+
+  handed : salvaged.crash ≡ crash
+  handed = ap (λ (x : SalvagedShown). x.crash) found
+      ∙ same_crash (tests p.info.maps) (machine_of p.dump.core) (known_of p.info) p.version p.layout (byte_at (regions_of p.dump)) (asked_of s) s.limit crash
+
+  is_left : IsLeft s bytes opened left
+  is_left = record {
+    version_is = refl;
+    notes = is.notes;
+    crash = subst (CrashTold bytes) (sym handed) told;
+    salvaged = found ∙ ap (λ t. over t p.dump.core crash) is.tested ∙ ap (λ b. over (in_maps is.maps) b crash) is.same
+        ∙ ap (over (in_maps is.maps) bytes) (sym handed);
+  }
+
+  pub none_left : (n : ℕ) → salvaged.interpreters.items ≡ [] → n ≡ looked_at opened → IsLeftOf s bytes opened (Err (NoInterpreter n))
+  none_left n none count = (
+    left,
+    is_left,
+    ap (λ k. Err (NoInterpreter k)) count ∙ nothing_shown salvaged.interpreters.items (looked_at opened) (shown_left s left) none,
+  )
+
+  pub some_left : (text : List ℕ) → salvaged.interpreters.items ≢ [] → text ≡ shown_left s left → IsLeftOf s bytes opened (Ok text)
+  some_left text some shown = (
+    left,
+    is_left,
+    ap (λ t. Ok t) shown ∙ something_shown salvaged.interpreters.items (looked_at opened) (shown_left s left) some,
+  )

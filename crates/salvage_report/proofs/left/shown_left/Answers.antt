@@ -1,0 +1,39 @@
+use Rattle.std.proofs.Common.{◌≡◌, ◌≢◌, List, [], ◌∷◌, ap, arith, length, refl, rules, sym, ◌∙◌}
+use Rattle.std.proofs.lemmas.Result.{err_from_is_err_and}
+use Rattle.salvage_words.specs.Seen.{asked_salvage}
+use Rattle.salvage_report.proofs.Remains.{none_left, some_left}
+use Rattle.salvage_report.proofs.left.shown_left.Goals as goal
+
+pub returns-in_err-salvaged : goal.returns-in_err-salvaged
+returns-in_err-salvaged c =
+    let p = err_from_is_err_and c.from_residual.result c.from_residual.ensures.1 in
+    rw (p.1, p.2) (λ bytes images layouts is told ne. absurd (ne refl))
+
+pub returns-in_err-addresses : goal.returns-in_err-addresses
+returns-in_err-addresses c =
+    let p = err_from_is_err_and c.from_residual-in_err-addresses.result c.from_residual-in_err-addresses.ensures.1 in
+    rw (p.1, p.2) (λ bytes images layouts is told ne. absurd (ne refl))
+
+empty : {T : Type 0} (xs : List T) → length xs ≡ 0 → xs ≡ []
+empty [] e = refl
+empty (x ∷ xs) e = absurd (omega (arith, e))
+
+pub returns-then-is_empty : goal.returns-then-is_empty
+returns-then-is_empty c = λ bytes images layouts is told ne.
+    let salvaged = c.in_ok-salvaged.salvaged in
+    let none : salvaged.interpreters.items ≡ [] = empty salvaged.interpreters.items (search rules) in
+    none_left (asked_salvage c.args.words.now) c.args.process c.args.crash salvaged c.in_ok-salvaged.ensures bytes images layouts is told
+    c.in_ok-addresses.addresses none c.in_ok-addresses.ensures
+
+pub returns-in_err-shown : goal.returns-in_err-shown
+returns-in_err-shown c =
+    let p = err_from_is_err_and c.from_residual-in_err-shown.result c.from_residual-in_err-shown.ensures.1 in
+    rw (p.1, p.2) (λ bytes images layouts is told ne. absurd (ne refl))
+
+pub returns : goal.returns
+returns c = λ bytes images layouts is told.
+    let salvaged = c.in_ok-salvaged.salvaged in
+    let full : length salvaged.interpreters.items ≢ 0 = search rules in
+    let some : salvaged.interpreters.items ≢ [] = λ none. full (ap length none) in
+    some_left (asked_salvage c.args.words.now) c.args.process c.args.crash salvaged c.in_ok-salvaged.ensures bytes images layouts is told
+    c.in_ok-shown.field-0.items some c.in_ok-shown.ensures

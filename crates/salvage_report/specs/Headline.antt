@@ -1,0 +1,32 @@
+-- What a run that salvages a core promises under status 0.
+use Rattle.std.specs.Prelude.{◌≡◌, ◌≢◌, ◌∷◌, [], ℕ, List, Ok}
+use Rattle.std.specs.Io.KnownBytes.{Appends}
+use Rattle.outside.specs.Files.{Told}
+use Rattle.outside.specs.Streams.{SinkSeen}
+use Rattle.py_fields.specs.declared.layout.Layout.{Layout}
+use Rattle.py_layout.specs.File.{IsRightFor}
+use Rattle.salvage_words.specs.Salvage.{Salvage}
+use Rattle.salvage_report.specs.declared.left.Left.{Left}
+use Rattle.salvage_report.specs.Opened.{Opened, OpenedIs}
+use Rattle.salvage_report.specs.Outcome.{IsLeft}
+use Rattle.salvage_report.specs.Reading.{AreRead, files_of, images_read}
+use Rattle.salvage_report.specs.Texts.{shown_left}
+
+-- The text of what is left of a process was written, or its JSON where the words ask for that: of at least one
+-- interpreter, and of the fronts over the memory of the core and its images, each interpreter with its own lock, and the
+-- thread that the core's first status record is of (`IsLeft`): by the bytes that the files gave for the core, by the
+-- layouts that they gave, and by all the images, each under its path. Which bytes a file gave is said where the files
+-- tell, and what was written where the stream tells.
+pub record HasSalvaged (s : Salvage) (told : Told) (old new : SinkSeen) : Type 0 where
+  pub core : List ℕ
+  pub text : List ℕ
+  pub images : List (List ℕ)
+  pub read : AreRead told (files_of s) (core ∷ text ∷ images)
+  pub layouts : List Layout
+  pub says : IsRightFor text (Ok layouts)
+  pub opened : Opened
+  pub is_opened : OpenedIs core (images_read s.images images) layouts (Ok opened)
+  pub left : Left
+  pub is_left : IsLeft s core opened left
+  pub some : left.salvaged.interpreters.items ≢ []
+  pub written : Appends old.written new.written (shown_left s left)

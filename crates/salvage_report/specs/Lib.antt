@@ -1,0 +1,9 @@
+pub mod Reading
+pub mod Crashed
+pub mod Opened
+pub mod Texts
+pub mod Outcome
+pub mod Lines
+pub mod Run
+pub mod Seen
+pub mod Headline

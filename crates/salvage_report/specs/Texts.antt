@@ -1,0 +1,46 @@
+-- The text of what is left of a process, with its head lines; the help; the program's version.
+use Rattle.std.specs.Prelude.{ℕ, ℤ, ◌++◌, false, List, [], Option, Some, None, if◌then◌else◌, codes}
+use Rattle.std.specs.Fmt.{signed_decimal}
+use Rattle.py_version.specs.Version.{version_text}
+use Rattle.py_version.specs.declared.version.Version.{Version}
+use Rattle.core_texts.specs.Text.{signal_text}
+use Rattle.salvage_json.specs.Salvaged.{salvaged_json}
+use Rattle.salvage_texts.specs.Escape.{escaped}
+use Rattle.salvage_texts.specs.Salvaged.{salvaged_text}
+use Rattle.salvage_words.specs.Salvage.{Salvage}
+use Rattle.salvage_report.specs.declared.left.Left.{Left}
+
+-- the process that a core tells, by its id and arguments, where it tells one; what could end the line is escaped
+abbrev pub process_text : Option (ℤ × List ℕ) → List ℕ
+process_text None = []
+process_text (Some process) = codes "Process " ++ (signed_decimal process.0 ++ (codes ": "
+    ++ (escaped false process.1 ++ codes "\n")))
+
+abbrev pub version_line : Version → List ℕ
+version_line version = codes "Python v" ++ (version_text version ++ codes "\n\n")
+
+-- the signal, beside the core's name, the process, the version, and what is left
+abbrev pub left_text : List ℕ → Left → List ℕ
+left_text core left = signal_text core left.signal ++ (process_text left.process
+    ++ (version_line left.version ++ salvaged_text left.salvaged))
+
+-- that, or JSON where it is asked for
+abbrev pub shown_left : Salvage → Left → List ℕ
+shown_left s left =
+    if s.json then salvaged_json left.signal left.process left.version left.salvaged else left_text s.core left
+
+unfoldable pub help_text : List ℕ
+help_text = codes "pysalvage CORE --layouts FILE [-n N] [-l].. [-j] [PATH=FILE]..\n\n"
+    ++ (codes "What is left of the Python stacks in the core of a broken process, or in one that was cut: each chain of "
+    ++ (codes "threads and\nframes as far as it goes. Where no mark stands a chain is whole.\n\n"
+    ++ (codes "CORE            the core's file\n"
+    ++ (codes "--layouts FILE  the layout file\n"
+    ++ (codes "-n N            the first N frames of a thread and the last N, from 1 to 4096; 100 unless it is said\n"
+    ++ (codes "-l              the locals of each frame\n"
+    ++ (codes "-j              JSON in place of text\n"
+    ++ (codes "PATH=FILE       FILE is read in place of the file that the process had mapped from PATH\n"
+    ++ (codes "--help          this text\n"
+    ++ codes "--version       the version of the program\n")))))))))
+
+abbrev pub program_version : List ℕ
+program_version = codes "pysalvage 1.0\n"

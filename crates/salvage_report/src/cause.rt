@@ -1,0 +1,77 @@
+//! Why there is no text.
+ghost use Rattle.std.specs.Prelude.{◌≡◌};
+ghost use Rattle.salvage_report.specs.Outcome.{cause_status};
+
+use py_layout::LayoutError;
+use py_process::CoreError;
+use py_stacks::StackError;
+use std::alloc::AllocError;
+
+/// Why there is no text.
+#[derive(Debug, Drop)]
+pub(crate) enum Cause {
+    /// The core's process can't be opened.
+    Core(CoreError),
+    /// The layout file has a fault.
+    Layouts(LayoutError),
+    /// Of so many addresses, repeats included, none is an interpreter's that is shown.
+    NoInterpreter { addresses: u64 },
+    /// There was no memory left.
+    OutOfMemory,
+}
+
+impl Cause {
+    /// The status of a run that ends by this cause.
+    pub(crate) fn status(&self) -> u8
+        ensures { result ≡ cause_status self.now }
+    {
+        match self {
+            Cause::Core(CoreError::OutOfMemory)
+            | Cause::Layouts(LayoutError::OutOfMemory)
+            | Cause::OutOfMemory => 5,
+            Cause::Core(_) | Cause::NoInterpreter { .. } => 1,
+            Cause::Layouts(_) => 6,
+        }
+    }
+}
+
+impl From<CoreError> for Cause {
+    ghost use Rattle.salvage_report.specs.declared.cause.Cause.TheVariants.{Core};
+
+    ghost from_gives = { λ error cause. cause ≡ Core error };
+
+    fn from(error: CoreError) -> Cause {
+        Cause::Core(error)
+    }
+}
+
+impl From<LayoutError> for Cause {
+    ghost use Rattle.salvage_report.specs.declared.cause.Cause.TheVariants.{Layouts};
+
+    ghost from_gives = { λ error cause. cause ≡ Layouts error };
+
+    fn from(error: LayoutError) -> Cause {
+        Cause::Layouts(error)
+    }
+}
+
+/// A reader of fronts has no other error than want of memory.
+impl From<StackError> for Cause {
+    ghost use Rattle.salvage_report.specs.declared.cause.Cause.TheVariants.{OutOfMemory};
+
+    ghost from_gives = { λ _ cause. cause ≡ OutOfMemory };
+
+    fn from(_error: StackError) -> Cause {
+        Cause::OutOfMemory
+    }
+}
+
+impl From<AllocError> for Cause {
+    ghost use Rattle.salvage_report.specs.declared.cause.Cause.TheVariants.{OutOfMemory};
+
+    ghost from_gives = { λ _ cause. cause ≡ OutOfMemory };
+
+    fn from(_error: AllocError) -> Cause {
+        Cause::OutOfMemory
+    }
+}

@@ -1,0 +1,140 @@
+//! The top call.
+ghost use Rattle.std.specs.Prelude.{◌≡◌, ◌≢◌, ◌≤◌, ◌↔◌, ◌⊎◌, List, ℕ, Option, None, Some, Ok, Err, IfOk};
+ghost use Rattle.std.specs.Io.KnownBytes.{Appends};
+ghost use Rattle.outside.specs.Counts.{Rose};
+ghost use Rattle.core_words.specs.Answers.{AnswersWords};
+ghost use Rattle.core_words.specs.Words.{texts};
+ghost use Rattle.salvage_words.specs.Salvage.{Salvage, Wanted, salvage as salvages, words_asked};
+ghost use Rattle.salvage_words.specs.Seen.{asked_by};
+ghost use Rattle.salvage_report.specs.declared.cause.Cause.{Cause as Why};
+ghost use Rattle.salvage_report.specs.Headline.{HasSalvaged};
+ghost use Rattle.salvage_report.specs.Outcome.{IsFaultless, IsOutcome, cause_status};
+ghost use Rattle.salvage_report.specs.Run.{Comes, HasEnded, HasRun, IsFew, Reaches, TellsContents, end_after, ran};
+
+use crate::cause::Cause;
+use crate::files::SalvageFiles;
+use crate::help::{help, program_version};
+use crate::left::salvage_over;
+use crate::lines::tell;
+use crate::trouble::Trouble;
+use outside::{Files, Sink};
+use salvage_words::{ArgsError, Asked, read_words};
+use std::alloc::Global;
+
+/// The text that is asked for.
+fn text_of<'a, F: Files>(
+    alloc: Global,
+    asked: &'a Asked,
+    files: &mut F,
+) -> Result<Vec<u8>, Trouble<'a>>
+    requires few { IsFew (asked_by asked.now) }
+    ensures told { (F.seen files.new).told ≡ (F.seen files.old).told }
+    ensures comes { Comes (F.seen files.old) (F.seen files.new) (asked_by asked.now) result }
+{
+    match asked {
+        Asked::Help => Ok(help(alloc)?),
+        Asked::Version => Ok(program_version(alloc)?),
+        Asked::Salvage(words) => {
+            let read = SalvageFiles::read(alloc, words, files)?;
+            Ok(salvage_over(alloc, words, read)?)
+        }
+    }
+}
+
+/// Does what was asked for, if anything was: its whole text is written to `out`.
+fn execute<'a, F: Files, S: Sink>(
+    alloc: Global,
+    asked: &'a Result<Asked, ArgsError>,
+    files: &mut F,
+    out: &mut S,
+) -> Result<(), Trouble<'a>>
+    requires few { IfOk asked.now (λ wanted. IsFew (asked_by wanted)) }
+    ensures ends { (asks : Option Wanted) → AnswersWords asked_by asks asked.now → HasEnded asks
+        (ran (F.seen files.old) (F.seen files.new) (S.seen out.old) (S.seen out.new)) (end_after result) }
+    ensures told { (F.seen files.new).told ≡ (F.seen files.old).told }
+{
+    let asked = match asked {
+        Ok(asked) => asked,
+        Err(ArgsError::Refused) => return Err(Trouble::Words),
+        Err(ArgsError::OutOfMemory) => return Err(Trouble::Cause(Cause::OutOfMemory)),
+    };
+    let text = text_of(alloc, asked, files)?;
+    match out.write(&text) {
+        Ok(()) => Ok(()),
+        Err(_) => Err(Trouble::Write),
+    }
+}
+
+/// Does what the words ask for, and answers the status with which a program ends.
+///
+/// The words are those of `salvage_words::read_words`, the program's name first. They are judged, the files that they
+/// name are read: the core's, the layout file and those of the images, in order; the layouts are checked, the process
+/// of the core is opened as for a report (`core_stacks::report`) up to its layout, and what is left of its interpreters
+/// is read over the memory of the core and its images (`salvage_marks::salvage`); and the whole text is written to
+/// `out`. Where `--help` or `--version` is asked for alone, the text is the help, or the program's version, and no file
+/// is read. Under each status but 0 one line, `pysalvage: ` and the cause, is written to `err`, and a fault of `err`
+/// changes no status. That no other file is asked for is proved of reads that fail, which leave their name; no clause
+/// says by how many calls `out` is written.
+///
+/// - 0: the whole text was written.
+/// - 1: the process can't be opened, or of the addresses that were looked at none is an interpreter's that is shown.
+/// - 2: the words ask for nothing.
+/// - 3: a file that they name can't be read, or is too long.
+/// - 4: the text can't be written; a front of it may have been.
+/// - 5: there is no memory left.
+/// - 6: the layout file has a fault, as `py_layout::Layouts::from_toml` orders them.
+pub fn run<F: Files, S: Sink, E: Sink>(
+    alloc: Global,
+    words: &[String],
+    files: &mut F,
+    out: &mut S,
+    err: &mut E,
+) -> u8
+    // each status has its cause and its line, and what `out`, `err` and the list of failed names gained
+    ensures right { HasRun (words_asked (texts words.now))
+        (ran (F.seen files.old) (F.seen files.new) (S.seen out.old) (S.seen out.new))
+        (E.seen err.old) (E.seen err.new) result }
+
+    ensures statuses { result ≤ 6 }
+
+    // status 0 comes only after the whole text of what is asked for was written
+    ensures printed { result ≡ 0 → (text : List ℕ)
+        × Reaches (words_asked (texts words.now)) (F.seen files.old).told (Ok text)
+        × Appends (S.seen out.old).written (S.seen out.new).written text }
+
+    // where a core is asked for, the text is that of what is left of its interpreters over the memory of the core and
+    // its images: by all the files that the words name, where the files and `out` tell their bytes
+    ensures headline { (s : Salvage) → words_asked (texts words.now) ≡ Some (salvages s) → result ≡ 0
+        → HasSalvaged s (F.seen files.old).told (S.seen out.old) (S.seen out.new) }
+
+    ensures silent { result ≡ 0 → E.seen err.new ≡ E.seen err.old }
+    ensures nothing_out { result ≢ 0 → result ≢ 4 → S.seen out.new ≡ S.seen out.old }
+
+    // the words are refused exactly where they ask for nothing, want of memory aside
+    ensures refused { result ≡ 2 → words_asked (texts words.now) ≡ None }
+    ensures asked { words_asked (texts words.now) ≡ None → (result ≡ 2) ⊎ (result ≡ 5) }
+
+    ensures unread { (result ≡ 3) ↔ ((F.seen files.new).failed ≢ (F.seen files.old).failed) }
+    ensures all_read { result ≢ 3 → (F.seen files.new).failed ≡ (F.seen files.old).failed }
+    ensures told { (F.seen files.new).told ≡ (F.seen files.old).told }
+
+    // where the files tell, each cause has its status, want of memory aside
+    ensures only { (s : Salvage) (contents : List (List ℕ)) (cause : Why)
+        → TellsContents (words_asked (texts words.now)) (F.seen files.old).told s contents
+        → IsOutcome s contents (Err cause) → cause_status cause ≢ 5
+        → (F.seen files.new).failed ≡ (F.seen files.old).failed
+        → (result ≡ cause_status cause) ⊎ (result ≡ 5) }
+
+    // where nothing is wrong with what they tell, an interpreter is shown, and no write fails, the text is written, want
+    // of memory aside
+    ensures complete { (s : Salvage) (contents : List (List ℕ))
+        → TellsContents (words_asked (texts words.now)) (F.seen files.old).told s contents
+        → IsFaultless s contents
+        → (F.seen files.new).failed ≡ (F.seen files.old).failed
+        → ¬ Rose (S.seen out.old).faults (S.seen out.new).faults
+        → (result ≡ 0) ⊎ (result ≡ 5) }
+{
+    let asked = read_words(alloc, words);
+    let ended = execute(alloc, &asked, files, out);
+    tell(err, &ended)
+}

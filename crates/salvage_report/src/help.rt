@@ -1,0 +1,40 @@
+//! The help and the version of the program.
+ghost use Rattle.std.specs.Prelude.{◌≡◌, IfOk};
+ghost use Rattle.salvage_report.specs.Texts.{help_text, program_version};
+
+use std::alloc::{AllocError, Global};
+
+/// The help.
+const HELP: &str = "\
+pysalvage CORE --layouts FILE [-n N] [-l].. [-j] [PATH=FILE]..
+
+What is left of the Python stacks in the core of a broken process, or in one that was cut: each chain of threads and
+frames as far as it goes. Where no mark stands a chain is whole.
+
+CORE            the core's file
+--layouts FILE  the layout file
+-n N            the first N frames of a thread and the last N, from 1 to 4096; 100 unless it is said
+-l              the locals of each frame
+-j              JSON in place of text
+PATH=FILE       FILE is read in place of the file that the process had mapped from PATH
+--help          this text
+--version       the version of the program
+";
+
+/// The help, as bytes.
+pub(crate) fn help(alloc: Global) -> Result<Vec<u8>, AllocError>
+    ensures { IfOk result (λ text. text.items ≡ help_text) }
+{
+    let mut text = Vec::new(alloc);
+    text.extend_from_slice(HELP.as_bytes())?;
+    Ok(text)
+}
+
+/// The version of the program, as bytes.
+pub(crate) fn program_version(alloc: Global) -> Result<Vec<u8>, AllocError>
+    ensures { IfOk result (λ text. text.items ≡ program_version) }
+{
+    let mut text = Vec::new(alloc);
+    text.extend_from_slice(b"pysalvage 1.0\n")?;
+    Ok(text)
+}

@@ -1,0 +1,140 @@
+//! What is left of the process of a core.
+ghost use Rattle.std.specs.Prelude.{◌≡◌, ◌≤◌, IfOk};
+ghost use Rattle.py_fields.specs.Sound.{IsSound};
+ghost use Rattle.salvage_words.specs.Seen.{asked_salvage};
+ghost use Rattle.salvage_report.specs.Outcome.{IsAnswer, IsOutcome, IsSalvagedBy};
+ghost use Rattle.salvage_report.specs.Reading.{files_contents};
+ghost use Rattle.salvage_report.specs.Seen.{Counts, Salvages, ShowsLeft};
+
+use crate::cause::Cause;
+use crate::crash::first_crash;
+use crate::files::{SalvageFiles, image_list};
+use crate::process::{Process, open};
+use crate::text::shown;
+use elf64_core::Text;
+use image_memory::Images;
+use py_fronts::{named_candidates, searched_candidates};
+use py_layout::{Layouts, Version};
+use py_stacks::{Asked, LineNo, StackError};
+use salvage_marks::{Crash, Salvaged, salvage};
+use salvage_words::SalvageWords;
+use std::alloc::Global;
+
+/// What is left of a process: the signal that its core tells and the process, the version, and what is left of its
+/// interpreters.
+#[derive(Drop)]
+pub(crate) struct Left {
+    pub(crate) signal: Option<i16>,
+    pub(crate) process: Option<(i32, Text)>,
+    pub(crate) version: Version,
+    pub(crate) salvaged: Salvaged,
+}
+
+/// What is left of the interpreters of a process.
+fn salvaged_of(
+    alloc: Global,
+    words: &SalvageWords,
+    process: &Process,
+    crash: Option<Crash>,
+) -> Result<Salvaged, StackError>
+    requires sound { IsSound process.now.layout }
+    requires few { words.now.limit ≤ 4096 }
+    ensures { Salvages (asked_salvage words.now) process.now crash result }
+{
+    let mut view = process.dump.view();
+    let asked = Asked {
+        lineno: LineNo::LastInstruction,
+        locals: words.locals != 0,
+    };
+    salvage(
+        alloc,
+        &process.info,
+        &mut view,
+        process.dump.core().machine(),
+        &process.version,
+        &process.layout,
+        asked,
+        words.limit,
+        crash,
+    )
+}
+
+/// How many addresses were looked at for interpreters, where none of them is shown: repeats are counted.
+fn count_addresses(alloc: Global, process: &Process) -> Result<u64, StackError>
+    requires sound { IsSound process.now.layout }
+    ensures { Counts process.now result }
+{
+    let mut view = process.dump.view();
+    let mut addresses = named_candidates(
+        alloc,
+        &process.info,
+        &mut view,
+        &process.version,
+        &process.layout,
+    )?;
+    let mut again = process.dump.view();
+    let searched = searched_candidates(alloc, &process.info, &mut again)?;
+    addresses.extend_from_slice(&searched)?;
+    Ok(addresses.len() as u64)
+}
+
+/// The text of what is left of an opened process, or that no interpreter is shown.
+fn shown_left(
+    alloc: Global,
+    words: &SalvageWords,
+    process: Process,
+    crash: Option<Crash>,
+) -> Result<Vec<u8>, Cause>
+    requires sound { IsSound process.layout }
+    requires few { words.now.limit ≤ 4096 }
+    ensures { ShowsLeft (asked_salvage words.now) process crash result }
+{
+    let salvaged = salvaged_of(alloc, words, &process, crash)?;
+    if salvaged.interpreters.is_empty() {
+        let addresses = count_addresses(alloc, &process)?;
+        return Err(Cause::NoInterpreter { addresses });
+    }
+    let Process { notes, version, .. } = process;
+    let left = Left {
+        signal: notes.signal,
+        process: notes.process,
+        version,
+        salvaged,
+    };
+    Ok(shown(alloc, words, &left)?)
+}
+
+/// The text of what is left of the process of a core, by its images and some layouts.
+fn salvage_core(
+    alloc: Global,
+    words: &SalvageWords,
+    core: Vec<u8>,
+    images: &Images,
+    layouts: &Layouts,
+) -> Result<Vec<u8>, Cause>
+    requires few { words.now.limit ≤ 4096 }
+    ensures { IsAnswer (IsSalvagedBy (asked_salvage words.now) core.items images.now layouts.now) result }
+{
+    let crash = first_crash(alloc, &core)?;
+    let process = open(alloc, core, images, layouts)?;
+    shown_left(alloc, words, process, crash)
+}
+
+/// The text of what is left, over what the files hold.
+pub(crate) fn salvage_over(
+    alloc: Global,
+    words: &SalvageWords,
+    files: SalvageFiles,
+) -> Result<Vec<u8>, Cause>
+    requires few { words.now.limit ≤ 4096 }
+    ensures { IsAnswer (IsOutcome (asked_salvage words.now) (files_contents files)) result }
+{
+    let SalvageFiles {
+        core,
+        layouts,
+        images,
+    } = files;
+    let layouts = Layouts::from_toml(alloc, &layouts)?;
+    let images = image_list(alloc, &words.images, images)?;
+    salvage_core(alloc, words, core, &images, &layouts)
+}

@@ -1,0 +1,18 @@
+//! The top call of `pysalvage`: from the words of a command line to a text.
+//!
+//! `run` reads the files that the words name, opens the process of the core, looks for its interpreters, and writes what
+//! is left of their threads and frames, or one line why there is nothing.
+#![tactic(auto)]
+
+mod cause;
+mod command;
+mod crash;
+mod files;
+mod help;
+mod left;
+mod lines;
+mod process;
+mod text;
+mod trouble;
+
+pub use command::run;

@@ -1,0 +1,295 @@
+#!/usr/bin/env python3
+"""Salvages cores of real Pythons, and compares what is left with the reports of `dump`, and with what the processes said.
+
+    tools/check/real_salvage.py --program crates/pystacks/out/pystacks --salvage crates/pysalvage/out/pysalvage [PYTHON..]
+
+For each Python of 3.8 to 3.13 that is installed: on two cores of real_core_child.py what is left has the threads and
+frames of the report, and a core that is cut has a front of each; a word of a thread that is garbage costs what stands
+behind it and nothing else. Of a recursion of 20,000 the first and the last 100 frames and the number between are there;
+of a segfault in a thread that had released the lock that thread has the mark; of a process with sub-interpreters each
+thread is there. The status is 0 exactly where nothing that was tried failed.
+"""
+
+import argparse
+import json
+import os
+import struct
+import subprocess
+import sys
+import tempfile
+import time
+from pathlib import Path
+from typing import Dict, Iterator, List, Sequence, Tuple
+
+from rooms import ROOT  # (first: it makes the other rooms known)
+
+from child_cores import Case, Failure, Skip, core_names, find_core, leave_core, raise_core_limit
+from core_prepare import Unprepared, Wishes, prepared
+from derive_layout import DeriveError, build_of
+from find_pythons import pythons
+from made import layout_of
+from real_core import derived_for, images_of, ran
+
+DEEP = """
+import os, sys, threading
+sys.setrecursionlimit(100000)
+threading.stack_size(1 << 29)
+def descend(left):
+    if left == 0:
+        os.abort()
+    descend(left - 1)
+def begin():
+    descend(19999)
+thread = threading.Thread(target=begin)
+thread.start()
+thread.join()
+"""
+DEEP_ENDS = ["begin", "run", "_bootstrap_inner", "_bootstrap"]
+
+CRASHED = """
+import ctypes, threading, time
+def crash():
+    print(threading.get_ident(), flush=True)
+    time.sleep(0.5)
+    ctypes.CDLL(None).memset(ctypes.c_void_p(8), 0, ctypes.c_size_t(1))
+def hold():
+    while True:
+        pass
+threading.Thread(target=hold, daemon=True).start()
+thread = threading.Thread(target=crash)
+thread.start()
+thread.join()
+"""
+
+SUBS = """
+import os, threading, time
+try:
+    import _interpreters as subs
+except ImportError:
+    import _xxsubinterpreters as subs
+def wait_of(number):
+    subs.run_string(subs.create(), f'import time\\ndef wait_{number}():\\n    time.sleep(100)\\nwait_{number}()')
+for number in range(3):
+    threading.Thread(target=wait_of, args=(number,), daemon=True).start()
+idle = subs.create()
+time.sleep(1.5)
+os.abort()
+"""
+
+Tree = Dict[str, object]
+
+
+def left_by(python: str, names: str, room: Path, source: str) -> Tuple[Path, str]:
+    """A core of a child that runs this, and what it said."""
+    room.mkdir()
+    (room / "child.py").write_text(source)
+    since = time.time()
+    with subprocess.Popen([python, "child.py"], cwd=room, stdout=subprocess.PIPE, stderr=subprocess.DEVNULL, preexec_fn=raise_core_limit, text=True) as child:
+        told, _ = child.communicate(timeout=60)
+    if child.returncode >= 0:
+        raise Skip("the child can't do it")
+    return find_core(names, child.pid, room, since), told
+
+
+def left(program: Path, core: Path, layouts: Path, *options: str) -> Tree:
+    """What is left of a core, as JSON."""
+    run = ran([program, core, "--layouts", layouts, "-j", *options, *images_of(core)])
+    if run.status != 0:
+        raise Failure(f"status {run.status}: {run.err}")
+    return json.loads(run.out)
+
+
+def members(thread: Tree) -> List[Tree]:
+    """The members of a thread's chain that are shown."""
+    return thread["frames"]["first"] + thread["frames"]["last"]
+
+
+def threads(tree: Tree) -> Iterator[Tree]:
+    """All threads."""
+    return (thread for it in tree["interpreters"] for thread in it["threads"])
+
+
+def frames_of(thread: Tree) -> List[Tuple[str, str]]:
+    """The names of its frames; of a member without names its address."""
+    return [(it.get("name", it.get("address")), it.get("filename", "")) for it in members(thread)]
+
+
+def check_same(salvage: Path, program: Path, core: Path, layouts: Path) -> int:
+    """What is left has the report's threads, in its order but for the crashed one, with its frames. How many there are."""
+    run = ran([program, "dump", "-j", "-c", core, "--layouts", layouts, *images_of(core)])
+    if run.status != 0:
+        raise Failure(f"dump: {run.err}")
+    tree = left(salvage, core, layouts, "-n", "4096")
+    interpreters = tree["interpreters"]
+    if len(interpreters) != 1 or interpreters[0]["threads_end"] != {"kind": "whole"}:
+        raise Failure("there is not one whole interpreter")
+    got = sorted((it["thread_id"], it["os_thread_id"], it["gil"], frames_of(it)) for it in threads(tree))
+    wanted = sorted(
+        (it["thread_id"], it["os_thread_id"], it["owns_gil"], [(frame["name"], frame["filename"]) for frame in it["frames"]])
+        for it in json.loads(run.out))
+    if got != wanted:
+        raise Failure("the threads are not the report's")
+    ends = [it["frames"]["end"] for it in threads(tree)]
+    if any(it != {"kind": "whole"} for it in ends):
+        raise Failure("a thread of a report has no whole chain")
+    return len(got)
+
+
+def check_cut(salvage: Path, core: Path, layouts: Path, room: Path) -> None:
+    """Of a core that is cut each thread is one of the whole core, with a front of its frames."""
+    whole = {it["thread_id"]: it for it in threads(left(salvage, core, layouts, "-n", "4096"))}
+    data = core.read_bytes()
+    for part in (99, 90, 50):
+        (room / "cut").write_bytes(data[: len(data) * part // 100])
+        with open(room / "cut", "rb") as file:
+            try:
+                new = prepared(file, Wishes(keep=str(room / "kept")))
+            except Unprepared:
+                continue
+        if new is None:
+            raise Failure("a cut core was not prepared")
+        new.file.close()
+        run = ran([salvage, room / "kept", "--layouts", layouts, "-j", "-n", "4096", *images_of(core)])
+        (room / "kept").unlink()
+        if run.status not in (0, 1):
+            raise Failure(f"cut at {part} %: status {run.status}: {run.err}")
+        for thread in threads(json.loads(run.out)) if run.status == 0 else ():
+            frames = [it for it in frames_of(thread) if it[1]]
+            if thread["thread_id"] not in whole or frames_of(whole[thread["thread_id"]])[: len(frames)] != frames:
+                raise Failure(f"cut at {part} %: a thread that is none of the whole core")
+
+
+def place_of(core: Path, address: int) -> int:
+    """Where in a core's file an address stands."""
+    with open(core, "rb") as file:
+        head = file.read(64)
+        start, size, count = struct.unpack_from("<Q", head, 32)[0], *struct.unpack_from("<2H", head, 54)
+        file.seek(start)
+        table = file.read(size * count)
+    for number in range(count):
+        kind, _, offset, addr, _, length = struct.unpack_from("<2I4Q", table, size * number)
+        if kind == 1 and addr <= address < addr + length:
+            return offset + address - addr
+    raise Failure(f"{address:#x} is not in the core")
+
+
+def check_garbage(salvage: Path, core: Path, layouts: Path, text: str) -> None:
+    """A thread whose `next` is garbage is the last, and all in front of it are as before."""
+    fields = layout_of(text)["thread"]
+    assert isinstance(fields, dict)
+    before = left(salvage, core, layouts)["interpreters"][0]
+    in_order = sorted(before["threads"], key=lambda it: it["crashed"])[::-1]
+    chained = [it for it in in_order if not it["crashed"]][-2:]
+    broken = int(chained[0]["address"], 16) + fields["next"]
+    place = place_of(core, broken)
+    with open(core, "r+b") as file:
+        file.seek(place)
+        word = file.read(8)
+        file.seek(place)
+        file.write(struct.pack("<Q", 0x1230))
+        file.flush()
+        after = left(salvage, core, layouts)["interpreters"][0]
+        file.seek(place)
+        file.write(word)
+    if after["threads_end"].get("address") != "0x1230":
+        raise Failure("a garbage word is no end of threads")
+    known = [(it["address"], it["frames"]) for it in before["threads"]]
+    if not after["threads"] or any((it["address"], it["frames"]) not in known for it in after["threads"]):
+        raise Failure("a garbage word changes what stands in front of it")
+
+
+def check_deep(salvage: Path, core: Path, layouts: Path) -> None:
+    """The recursion's first and last 100 frames, and the number between."""
+    tree = left(salvage, core, layouts)
+    deep = next(it for it in threads(tree) if it["frames"]["between"])
+    first, last = ([frame["name"] for frame in deep["frames"][it]] for it in ("first", "last"))
+    if first != ["descend"] * 100 or last != ["descend"] * 96 + DEEP_ENDS or deep["frames"]["between"] != 20004 - 200:
+        raise Failure(f"a recursion: {first[:2]}, {deep['frames']['between']}, {last[-5:]}")
+
+
+def check_crashed(salvage: Path, core: Path, layouts: Path, told: str) -> None:
+    """The mark is on the thread that crashed, by its own word, and on no other; it stands first."""
+    tree = left(salvage, core, layouts)
+    marked = [it["thread_id"] for it in threads(tree) if it["crashed"]]
+    if tree["signal"] != 11 or marked != [int(told)] or next(threads(tree))["thread_id"] != int(told):
+        raise Failure(f"signal {tree['signal']}, marked {marked} where {told.strip()} crashed")
+    if next(threads(tree))["gil"]:
+        raise Failure("the thread that crashed holds the lock")
+
+
+def check_subs(salvage: Path, core: Path, layouts: Path) -> None:
+    """Each sub-interpreter's thread is there, in an interpreter of its own."""
+    tree = left(salvage, core, layouts)
+    shown = [{name for thread in it["threads"] for name, _ in frames_of(thread)} for it in tree["interpreters"]]
+    for number in range(3):
+        if sum(f"wait_{number}" in it for it in shown) != 1:
+            raise Failure(f"a thread of sub-interpreter {number} is missing among {len(shown)}")
+
+
+def tried(program: Path, salvage: Path, python: str, names: str) -> str:
+    """What comes of one Python."""
+    build = build_of(python)
+    if not (8 <= build.minor <= 13 and build.dotted.startswith("3.")):
+        raise Skip(f"version {build.dotted}")
+    derived = derived_for(build)
+    done: List[str] = []
+    with tempfile.TemporaryDirectory(prefix="real-salvage-") as name:
+        room = Path(name)
+        layouts = room / "layout.toml"
+        layouts.write_text(derived.text, encoding="utf-8")
+        for number, case in enumerate((Case("main"), Case("many"))):
+            core = leave_core(derived, names, room / str(number), case)
+            count = check_same(salvage, program, core.path, layouts)
+            check_cut(salvage, core.path, layouts, room)
+            if count > 2:
+                check_garbage(salvage, core.path, layouts, derived.text)
+            done.append(f"{count} threads as `dump`")
+            core.path.unlink()
+        for what, source, check in (("a recursion", DEEP, check_deep), ("a segfault", CRASHED, check_crashed), ("sub-interpreters", SUBS, check_subs)):
+            try:
+                path, told = left_by(python, names, room / what, source)
+            except Skip as reason:
+                done.append(f"{what} not tried ({reason})")
+                continue
+            check(*(it for it in (salvage, path, layouts, told)[: 4 if check is check_crashed else 3]))
+            path.unlink()
+            done.append(what)
+    return f"{build.dotted}: {', '.join(done)}"
+
+
+def try_all(program: Path, salvage: Path, found: Sequence[str]) -> int:
+    """Tries each Python, and returns how many failed."""
+    names = core_names()
+    failed = 0
+    for python in found:
+        try:
+            print(f"real_salvage: {tried(program, salvage, python, names)}", flush=True)
+        except (Skip, DeriveError) as reason:
+            print(f"real_salvage: skipped: {python}: {getattr(reason, 'brief', reason)}", flush=True)
+        except Failure as reason:
+            failed += 1
+            print(f"real_salvage: FAILED: {python}: {reason}", flush=True)
+    return failed
+
+
+def main() -> int:
+    """The command."""
+    parser = argparse.ArgumentParser(description=__doc__.splitlines()[0])
+    parser.add_argument("python", nargs="*", help="the interpreters (default: all that are found)")
+    parser.add_argument("--program", default=str(ROOT / "crates" / "pystacks" / "out" / "pystacks"), help="the built `pystacks`")
+    parser.add_argument("--salvage", default=str(ROOT / "crates" / "pysalvage" / "out" / "pysalvage"), help="the built `pysalvage`")
+    words = parser.parse_args()
+    program, salvage = Path(words.program).resolve(), Path(words.salvage).resolve()
+    for it in (program, salvage):
+        if not os.path.isfile(it):
+            print(f"real_salvage: no core was tried: there is no {it}")
+            return 0
+    try:
+        return 1 if try_all(program, salvage, words.python or pythons()) else 0
+    except Skip as reason:
+        print(f"real_salvage: no core was tried: {reason}")
+        return 0
+
+
+if __name__ == "__main__":
+    sys.exit(main())

@@ -1,0 +1,240 @@
+"""Rows of `pysalvage`: the words, the causes, heads and marks, ends of chains, interpreters, names, and JSON."""
+
+import json
+import struct
+from typing import Callable, Dict, Iterator, List, Optional, Sequence
+
+from made import AARCH64, EXAMPLE, Objects, Section, Segment, Symbol, core_file, edited, image_file, layout_of, note, process_record
+from row import CALLER, CODE, FILE, FRAME, FUNCTION, HEAP, MODULE_CODE, TEXT, THREAD, Row, heap, row
+from rows_dump import BSS, IMAGE, PATH, PROGRAM, bss, files_of, mapped, small
+
+GOOD = f"core --layouts layouts {IMAGE}"
+RUNTIME = 0x510000
+"""Where the runtime section is, whose words name interpreters."""
+
+NAMED = image_file([Segment(0x400000, b"", 5, 0x1000)], (BSS, 16), (), [Section(".PyRuntime", 1, RUNTIME, None, 16)])
+"""The program's file with a runtime section of two words."""
+
+HELP = """\
+pysalvage CORE --layouts FILE [-n N] [-l].. [-j] [PATH=FILE]..
+
+What is left of the Python stacks in the core of a broken process, or in one that was cut: each chain of threads and
+frames as far as it goes. Where no mark stands a chain is whole.
+
+CORE            the core's file
+--layouts FILE  the layout file
+-n N            the first N frames of a thread and the last N, from 1 to 4096; 100 unless it is said
+-l              the locals of each frame
+-j              JSON in place of text
+PATH=FILE       FILE is read in place of the file that the process had mapped from PATH
+--help          this text
+--version       the version of the program
+"""
+
+
+def rows() -> List[Row]:
+    """All of them."""
+    parts = (words, order, causes, heads, marks, frames, threads, interpreters, names, trees)
+    return [it for part in parts for it in part()]
+
+
+def salvage(
+    what: str, words: str, files: Dict[str, bytes], out: str = "", line: bytes = b"", status: Optional[int] = None,
+) -> Row:
+    """A row, whose line begins with this program's name."""
+    made = row(f"salvage: {what}", words, files, out, status=(1 if line else 0) if status is None else status)
+    return Row(made.what, made.words, made.files, made.status, made.out, b"pysalvage: " + line + b"\n" if line else b"")
+
+
+def named(objects: Objects, *interpreters: int, more: Sequence[Segment] = (), notes: Sequence[bytes] = (), machine: int = 62) -> Dict[str, bytes]:
+    """The files of a core whose runtime section names these interpreters, and whose bss names none."""
+    both = struct.pack("<2Q", *(interpreters or (HEAP,)), *[0] * (2 - len(interpreters or (HEAP,))))
+    maps = [objects.segment(6), mapped(), bss(0, 0), Segment(RUNTIME, both, 6), *more]
+    return files_of(core_file(maps, notes, machine), program=NAMED)
+
+
+def status_record(signal: int, pid: int, pointer: int = 0, size: int = 336) -> bytes:
+    """The note of a thread's status, with the thread pointer of its registers."""
+    head = struct.pack("<12xh18xi", signal, pid).ljust(280, b"\0")
+    return note(b"CORE\0", 1, (head + struct.pack("<Q", pointer)).ljust(size, b"\0")[:size])
+
+
+def words() -> Iterator[Row]:
+    """What the words ask for."""
+    files = files_of(small())
+    yield salvage("the help", "--help", {}, HELP)
+    yield salvage("the version", "--version", {}, "pysalvage 1.0\n")
+    for what, text in (
+        ("", GOOD), ("an equals sign", f"--layouts=layouts core {IMAGE}"), ("the first image of a path", f"{GOOD} /usr/bin/python3.9=core"),
+        ("behind two dashes", f"--layouts layouts -- core {IMAGE}"), ("as many frames as may be", f"{GOOD} -n 4096"),
+        ("one frame", f"{GOOD} --frames 1"), ("a bundle", f"core -n100 --layouts layouts {IMAGE}"),
+    ):
+        yield salvage(f"words: {what}", text, files, TEXT)
+    for what, text in (
+        ("none", "core"), ("no layouts", f"core {IMAGE}"), ("a core twice", f"{GOOD} core"), ("no frame", f"{GOOD} -n 0"),
+        ("too many frames", f"{GOOD} -n 4097"), ("frames twice", f"{GOOD} -n 1 -n 1"), ("help beside others", f"{GOOD} --help"),
+        ("JSON twice", f"{GOOD} -j -j"), ("a number with a sign", f"{GOOD} -n +1"),
+    ):
+        yield salvage(f"words: refused: {what}", text, files, line=b"bad words", status=2)
+
+
+def order() -> Iterator[Row]:
+    """The core, the layouts and the images are read; then the layouts are judged, and then the core."""
+    files = files_of(small())
+    for what, text, line, status in (
+        ("the core is read first", f"none --layouts none2 {IMAGE}", b"cannot read none", 3),
+        ("the layouts are read before the images", "core --layouts none /a=none2", b"cannot read none", 3),
+        ("the images are read", "core --layouts layouts /a=none", b"cannot read none", 3),
+        ("the layouts are judged before the core", f"layouts --layouts core {IMAGE}", b"layouts: not TOML", 6),
+        ("then the core", f"layouts --layouts layouts {IMAGE}", b"not an ELF64 little-endian file", 1),
+    ):
+        yield salvage(f"order: {what}", text, files, line=line, status=status)
+
+
+def causes() -> Iterator[Row]:
+    """Why nothing is left, in the order of the causes."""
+    version = Segment(BSS, b"x 3.14.0rc1+dev (main)".ljust(64, b"\0"), 6)
+    program = image_file([Segment(0x400000, b"", 5, 0x1000)], (BSS, 64))
+    for what, files, line in (
+        ("no map with a name", files_of(core_file([heap().segment(6), Segment(0x400000, b"", 5, 0x1000)])), b"no named executable map"),
+        ("no image of an odd name", files_of(small(code=mapped(b"/lib/\xff.so"))), b"image not given: /lib/\xff.so"),
+        ("a bad image", files_of(small(), program=b"text"), b"bad image: " + PATH),
+        ("half a bss", files_of(small(bss=Segment(BSS, bytes(8), 6, 16))), b"version unreadable at 0x500000, 16 bytes"),
+        ("a version without a layout", files_of(small(bss=version), program=program), b"no layout for Python 3.14.0rc1+dev"),
+        ("no interpreter", files_of(small(bss=bss(0x400000, THREAD))), b"no interpreter found: 2 addresses looked at"),
+        ("addresses that repeat", named(Objects(layout_of(EXAMPLE), HEAP), THREAD, THREAD), b"no interpreter found: 4 addresses looked at"),
+    ):
+        yield salvage(f"cause: {what}", GOOD, files, line=line)
+
+
+def heads() -> Iterator[Row]:
+    """The lines of the signal and the process."""
+    notes = [status_record(11, 4), status_record(6, 5), process_record(4, b"python3", b'python3 -c "a\xff\n"\0x')]
+    yield salvage("signal and process", GOOD, files_of(small(notes=notes)),
+                  'Signal 11: core\nProcess 4: python3 -c "a\ufffd\\u{a}"\n' + TEXT)
+
+
+def marks() -> Iterator[Row]:
+    """Who holds the lock, and who got the signal: by the thread pointer of the registers, where the machine has it there."""
+    crashed = TEXT.replace("0x7F00", "0x7F00 (crashed)")
+    for what, notes, machine, text in (
+        ("by its thread pointer", [status_record(11, 4, 0x7F00)], 62, crashed), ("a signal of 0", [status_record(0, 4, 0x7F00)], 62, TEXT),
+        ("the first record alone", [status_record(11, 4), status_record(6, 5, 0x7F00)], 62, TEXT),
+        ("a record without registers", [status_record(11, 4, 0x7F00, 284)], 62, TEXT),
+        ("another machine", [status_record(11, 4, 0x7F00)], AARCH64, TEXT),
+    ):
+        signal = 0 if "of 0" in what else 11
+        yield salvage(f"crashed: {what}", GOOD, named(heap(), notes=notes, machine=machine), f"Signal {signal}: core\n" + text)
+    objects = Objects(layout_of(EXAMPLE), HEAP)
+    objects.record("interpreter", HEAP)
+    objects.threads(HEAP, [{"id": number} for number in (1, 2, 3)])
+    yield salvage("the crashed thread first", GOOD, named(objects, notes=[status_record(11, 4, 2)]),
+                  "Signal 11: core\nPython v3.9.0\n\nThread 0x2 (crashed)\nThread 0x3\nThread 0x1\n")
+    lock = heap()
+    lock.word(HEAP + 24, 0x70000000)
+    gil = edited(EXAMPLE, lock='"gil"', interpreter="{threads=8, modules=16, gil=24}", gil="{size=24, locked=16, holder=8}")
+    yield salvage("a lock that can't be read", GOOD, {**named(lock), "layouts": gil.encode()},
+                  TEXT.replace("Thread", "... lock unreadable at 0x70000000, 24 bytes\nThread"))
+
+
+def frames() -> Iterator[Row]:
+    """Frames, as far as they go."""
+    head = "Python v3.9.0\n\nThread 0x7F00\n"
+    first, last = "    f (a.py)\n", "    <module> (a.py)\n"
+    code = layout_of(EXAMPLE)["code"]
+    assert isinstance(code, dict)
+    for what, change, text in (
+        ("no frame", lambda it: it.record("thread", THREAD, interp=HEAP, frame=0, id=0x7F00), ""),
+        ("a frame that is missing", lambda it: it.frame(at=FRAME, code=CODE, back=0x70000000),
+         first + "    ... unreadable at 0x70000000, 48 bytes\n"),
+        ("a first frame that is missing", lambda it: it.record("thread", THREAD, interp=HEAP, frame=0x70000000, id=0x7F00),
+         "    ... unreadable at 0x70000000, 48 bytes\n"),
+        ("a name that is missing", lambda it: it.word(CODE + code["name"], 0x70000000),
+         "    ? (unreadable at 0x70000000, 48 bytes)\n" + last),
+        ("a name that is no text", lambda it: it.write(FUNCTION, bytes(48)), "    ? (a name that is no text)\n" + last),
+        ("a shim", lambda it: it.word(CODE + code["filename"], 0), last),
+    ):
+        objects = heap()
+        change(objects)
+        yield salvage(f"frames: {what}", GOOD, named(objects), head + text)
+    for what, count, limit, text in (
+        ("all of 2 N", 4, 2, first * 3 + last), ("2 N + 1", 5, 2, first * 2 + "    ... 1 more frames\n" + first + last),
+        ("a deep recursion", 20000, 1, first + "    ... 19998 more frames\n" + last),
+    ):
+        objects = heap()
+        chain = objects.frames([CODE] * (count - 2), CALLER)
+        objects.frame(at=FRAME, code=CODE, back=chain)
+        yield salvage(f"frames: {what}", f"{GOOD} -n {limit}", named(objects), head + text)
+    cycle = heap()
+    cycle.frame(at=CALLER, code=MODULE_CODE, back=CALLER)
+    yield salvage("frames: a cycle", f"{GOOD} -n 1", named(cycle),
+                  head + first + "    ... 1048574 more frames\n" + last + "    ... cut after 1048576 members\n")
+
+
+def threads() -> Iterator[Row]:
+    """Threads, as far as they go."""
+    head = "Python v3.9.0\n\n"
+    for what, fields, text in (
+        ("a thread that is missing", [{"id": 1}, {"id": 2, "next": 0x70000000}],
+         "... threads unreadable at 0x70000000, 64 bytes\nThread 0x2\nThread 0x1\n"),
+        ("a thread of another interpreter", [{"id": 1}, {"id": 2, "interp": 0x99}], "... threads of the interpreter at 0x99\nThread 0x1\n"),
+        ("more than 4096", [{"id": number} for number in range(4097)],
+         "... more than 4096 threads\n" + "".join(f"Thread 0x{number:X}\n" for number in reversed(range(4096)))),
+    ):
+        objects = Objects(layout_of(EXAMPLE), HEAP)
+        objects.record("interpreter", HEAP)
+        objects.threads(HEAP, fields)
+        yield salvage(f"threads: {what}", GOOD, named(objects), head + text)
+
+
+def interpreters() -> Iterator[Row]:
+    """Several interpreters, each by how it was found; one that was found by search is shown where its threads are whole."""
+    head = "Python v3.9.0\n\n"
+    objects = Objects(layout_of(EXAMPLE), HEAP)
+    places = []
+    for number in range(17):
+        places.append(objects.record("interpreter"))
+        objects.threads(places[-1], [{"id": number + 1}])
+    one, two = places[:2]
+    text = f"Interpreter 0x{one:x}\nThread 0x1\nInterpreter 0x{two:x}\nThread 0x2\n"
+    yield salvage("interpreters: two", GOOD, named(objects, one, two), head + text)
+    yield salvage("interpreters: one twice", GOOD, named(objects, one, one), head + "Thread 0x1\n")
+    yield salvage("interpreters: the crashed one first", GOOD, named(objects, one, two, notes=[status_record(11, 4, 2)]),
+                  "Signal 11: core\n" + head + f"Interpreter 0x{two:x}\nThread 0x2 (crashed)\nInterpreter 0x{one:x}\nThread 0x1\n")
+    found = f"Interpreter 0x{one:x}\nThread 0x1\nInterpreter 0x{two:x} (found by search)\nThread 0x2\n"
+    maps = [objects.segment(6), mapped(), bss(0, two), Segment(RUNTIME, struct.pack("<2Q", one, 0), 6)]
+    yield salvage("interpreters: by search", GOOD, files_of(core_file(maps), program=NAMED), head + found)
+    words = b"".join(struct.pack("<Q", place) for place in places)
+    program = image_file([Segment(0x400000, b"", 5, 0x1000)], (BSS, 16), (), [Section(".PyRuntime", 1, RUNTIME, None, len(words))])
+    maps = [objects.segment(6), mapped(), bss(0, 0), Segment(RUNTIME, words, 6)]
+    many = "".join(f"Interpreter 0x{place:x}\nThread 0x{number + 1:X}\n" for number, place in enumerate(places[:16]))
+    yield salvage("interpreters: seventeen", GOOD, files_of(core_file(maps), program=program), head + many + "... more than 16 interpreters\n")
+    broken = heap()
+    broken.record("thread", THREAD, interp=HEAP, next=0x70000000, id=0x7F00)
+    yield salvage("interpreters: by search, with a broken chain", GOOD, files_of(core_file([broken.segment(6), mapped(), bss()])),
+                  line=b"no interpreter found: 2 addresses looked at")
+
+
+def names() -> Iterator[Row]:
+    """A name forges no line."""
+    objects = heap()
+    objects.text('f\n"\\\x1b', FUNCTION)
+    yield salvage("names: a line feed", GOOD, named(objects), TEXT.replace("f (", "f\\u{a}\\u{22}\\u{5c}\\u{1b} (", 1))
+
+
+def trees() -> Iterator[Row]:
+    """JSON."""
+    member = lambda name: {"filename": "a.py", "line": 0, "locals": None, "locals_fault": None, "name": name}
+    frames = {"between": 0, "end": {"kind": "whole"}, "first": [member("f"), member("<module>")], "last": [], "met": 2}
+    thread = {"address": hex(THREAD), "crashed": True, "frames": frames, "gil": False, "os_thread_id": None, "thread_id": 0x7F00}
+    interpreter = {"address": hex(HEAP), "lock": {"holder": 0, "kind": "read"}, "searched": False, "threads": [thread],
+                   "threads_end": {"kind": "whole"}}
+    tree = {"interpreters": [interpreter], "more": False, "process": {"arguments": "p\n", "pid": 4}, "signal": 11, "version": "3.9.0"}
+    notes = [status_record(11, 4, 0x7F00), process_record(4, b"p", b"p\n")]
+    text = lambda it: json.dumps(it, indent=2, ensure_ascii=False) + "\n"
+    yield salvage("JSON", f"{GOOD} -j", named(heap(), notes=notes), text(tree))
+    cut = heap()
+    cut.frame(at=CALLER, code=0x70000000)
+    broken = {**frames, "first": [member("f"), {"address": hex(CALLER), "why": {"address": "0x70000000", "kind": "unreadable", "length": 56}}]}
+    plain = {**interpreter, "threads": [{**thread, "crashed": False, "frames": broken}]}
+    yield salvage("JSON of what is broken", f"{GOOD} -j", named(cut), text({**tree, "interpreters": [plain], "process": None, "signal": None}))
