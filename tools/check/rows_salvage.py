@@ -46,6 +46,13 @@ def salvage(
     return Row(made.what, made.words, made.files, made.status, made.out, b"pysalvage: " + line + b"\n" if line else b"")
 
 
+def group(name: str) -> Dict[str, int]:
+    """The places of a group of the layout."""
+    found = layout_of(EXAMPLE)[name]
+    assert isinstance(found, dict)
+    return found
+
+
 def named(objects: Objects, *interpreters: int, more: Sequence[Segment] = (), notes: Sequence[bytes] = (), machine: int = 62) -> Dict[str, bytes]:
     """The files of a core whose runtime section names these interpreters, and whose bss names none."""
     both = struct.pack("<2Q", *(interpreters or (HEAP,)), *[0] * (2 - len(interpreters or (HEAP,))))
@@ -141,17 +148,17 @@ def frames() -> Iterator[Row]:
     """Frames, as far as they go."""
     head = "Python v3.9.0\n\nThread 0x7F00\n"
     first, last = "    f (a.py)\n", "    <module> (a.py)\n"
-    code = layout_of(EXAMPLE)["code"]
-    assert isinstance(code, dict)
+    code, frame, string = (group(it) for it in ("code", "frame", "string"))
+    missing = f"    ... unreadable at 0x70000000, {frame['size']} bytes\n"
     for what, change, text in (
         ("no frame", lambda it: it.record("thread", THREAD, interp=HEAP, frame=0, id=0x7F00), ""),
         ("a frame that is missing", lambda it: it.frame(at=FRAME, code=CODE, back=0x70000000),
-         first + "    ... unreadable at 0x70000000, 48 bytes\n"),
+         first + missing),
         ("a first frame that is missing", lambda it: it.record("thread", THREAD, interp=HEAP, frame=0x70000000, id=0x7F00),
-         "    ... unreadable at 0x70000000, 48 bytes\n"),
+         missing),
         ("a name that is missing", lambda it: it.word(CODE + code["name"], 0x70000000),
-         "    ? (unreadable at 0x70000000, 48 bytes)\n" + last),
-        ("a name that is no text", lambda it: it.write(FUNCTION, bytes(48)), "    ? (a name that is no text)\n" + last),
+         f"    ? (unreadable at 0x70000000, {string['size']} bytes)\n" + last),
+        ("a name that is too long", lambda it: it.word(FUNCTION + string["length"], -1), "    ? (a name that is too long)\n" + last),
         ("a shim", lambda it: it.word(CODE + code["filename"], 0), last),
     ):
         objects = heap()
@@ -178,8 +185,8 @@ def threads() -> Iterator[Row]:
         ("a thread that is missing", [{"id": 1}, {"id": 2, "next": 0x70000000}],
          "... threads unreadable at 0x70000000, 64 bytes\nThread 0x2\nThread 0x1\n"),
         ("a thread of another interpreter", [{"id": 1}, {"id": 2, "interp": 0x99}], "... threads of the interpreter at 0x99\nThread 0x1\n"),
-        ("more than 4096", [{"id": number} for number in range(4097)],
-         "... more than 4096 threads\n" + "".join(f"Thread 0x{number:X}\n" for number in reversed(range(4096)))),
+        ("more than 4096", [{"id": number} for number in range(1, 4098)],
+         "... more than 4096 threads\n" + "".join(f"Thread 0x{number:X}\n" for number in reversed(range(1, 4097)))),
     ):
         objects = Objects(layout_of(EXAMPLE), HEAP)
         objects.record("interpreter", HEAP)
@@ -234,7 +241,10 @@ def trees() -> Iterator[Row]:
     text = lambda it: json.dumps(it, indent=2, ensure_ascii=False) + "\n"
     yield salvage("JSON", f"{GOOD} -j", named(heap(), notes=notes), text(tree))
     cut = heap()
-    cut.frame(at=CALLER, code=0x70000000)
-    broken = {**frames, "first": [member("f"), {"address": hex(CALLER), "why": {"address": "0x70000000", "kind": "unreadable", "length": 56}}]}
+    cut.word(CODE + group("code")["name"], 0x70000000)
+    cut.frame(at=CALLER, code=MODULE_CODE, back=0x70000008)
+    lost = lambda address, of: {"address": address, "kind": "unreadable", "length": group(of)["size"]}
+    broken = {**frames, "end": lost("0x70000008", "frame"), "first": [
+        {"address": hex(FRAME), "why": lost("0x70000000", "string")}, member("<module>")]}
     plain = {**interpreter, "threads": [{**thread, "crashed": False, "frames": broken}]}
     yield salvage("JSON of what is broken", f"{GOOD} -j", named(cut), text({**tree, "interpreters": [plain], "process": None, "signal": None}))
