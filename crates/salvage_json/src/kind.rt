@@ -123,10 +123,7 @@ fn fault_value(alloc: Global, fault: &StackError) -> Result<Value, AllocError>
 }
 
 /// That, or null.
-pub(crate) fn fault_or_null(
-    alloc: Global,
-    fault: &Option<StackError>,
-) -> Result<Value, AllocError>
+pub(crate) fn fault_or_null(alloc: Global, fault: &Option<StackError>) -> Result<Value, AllocError>
     ensures { IfOk result (λ value. view value ≡ fault_or_null fault.now) }
 {
     match fault {

@@ -7,4 +7,3 @@ mod salvaged;
 mod thread;
 
 pub use salvaged::salvaged_json;
-

@@ -88,10 +88,7 @@ fn standing_value(alloc: Global, standing: &Standing) -> Result<Value, AllocErro
     }
 }
 
-pub(crate) fn standings_value(
-    alloc: Global,
-    standings: &[Standing],
-) -> Result<Value, AllocError>
+pub(crate) fn standings_value(alloc: Global, standings: &[Standing]) -> Result<Value, AllocError>
     ensures { IfOk result (λ value. view value ≡ standings_tree standings.now) }
 {
     let mut values = Vec::new(alloc);

@@ -64,11 +64,7 @@ fn left_text(alloc: Global, core: &[u8], left: &Left) -> Result<Vec<u8>, AllocEr
 }
 
 /// What is left, as the words ask for it.
-pub(crate) fn shown(
-    alloc: Global,
-    words: &SalvageWords,
-    left: &Left,
-) -> Result<Vec<u8>, AllocError>
+pub(crate) fn shown(alloc: Global, words: &SalvageWords, left: &Left) -> Result<Vec<u8>, AllocError>
     ensures { IfOk result (λ text. text.items ≡ shown_left (asked_salvage words.now) left.now) }
 {
     if words.json {
