@@ -19,7 +19,7 @@ from core_faults import BAD_WORDS, NO_PROGRAM, NO_ROOM, Fault, say, shown
 from core_images import LONGEST, finder_below, image_words, maps_in, opened, read_core
 from core_maps import Use, is_text
 from core_model import Report
-from core_places import NOT_RUN, PROGRAM, SALVAGE, layouts_of, program_at, salvage_at
+from core_places import NOT_RUN, PROGRAM, SALVAGE, layouts_of, named_at, program_at, salvage_at
 from core_prepare import Prepared, Unprepared, Wishes, available, prepared
 from core_progress import shown_for
 from core_run import Answer, answer_of
@@ -122,7 +122,7 @@ def asked_of(words: argparse.Namespace, name: str) -> Asked:
 
 def salvage_program(words: argparse.Namespace) -> Optional[Path]:
     """`pysalvage`, where it is there: the one that is named, or the one beside the named program, or the built one."""
-    return salvage_at(words.salvage, Path(words.program).with_name("pysalvage") if words.program else SALVAGE)
+    return salvage_at(words.salvage, named_at(words.program).with_name("pysalvage") if words.program else SALVAGE)
 
 
 def dump_command(words: argparse.Namespace, it: Asked, *options: str) -> List[bytes]:

@@ -57,9 +57,14 @@ def layouts_of(machine: Optional[int]) -> Path:
     return LAYOUTS.with_name(f"cpython-{MACHINES[machine]}.toml")
 
 
+def named_at(named: str) -> Path:
+    """A program that is named. A name without a folder is that of a file here, and none that PATH leads to."""
+    return Path(named) if os.sep in named else Path.cwd() / named
+
+
 def program_at(named: Optional[str], usual: Path) -> Path:
     """The program that is named, or the usual one. It has to be there."""
-    program = Path(named) if named else usual
+    program = named_at(named) if named else usual
     if not program.is_file():
         raise Fault(f"there is no program {shown(os.fsencode(program))}: {BUILD} builds it", NO_PROGRAM)
     return program
@@ -69,7 +74,7 @@ def salvage_at(named: Optional[str], usual: Path) -> Optional[Path]:
     """The program `pysalvage`: the one that is named, which has to be there, or the usual one, if it is there."""
     if named and not Path(named).is_file():
         raise Fault(f"there is no program {shown(os.fsencode(named))}", NO_PROGRAM, "build pysalvage, or leave --salvage out")
-    program = Path(named) if named else usual
+    program = named_at(named) if named else usual
     return program if program.is_file() else None
 
 

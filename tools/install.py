@@ -20,10 +20,11 @@ sys.dont_write_bytecode = True
 from core_faults import BAD_WORDS, CANNOT_WRITE, Fault, shown
 from core_places import LAYOUTS, MACHINES, PROGRAM, ROOT, SALVAGE, commit, program_at, salvage_at
 
-PAGES = ("CORES", "DIFFERENCES", "DUMP", "HOSTILE", "LAYOUTS", "MERGE", "MESSAGES", "REACH", "SALVAGE", "SPEED", "TOOL", "TRIAGE", "WALK")
+PAGES = ("CORES", "DIFFERENCES", "DUMP", "HOSTILE", "LAYOUTS", "MERGE", "MESSAGES", "REACH", "SALVAGE", "SAMPLE", "SLIM", "SPEED", "TOOL",
+         "TRIAGE", "WALK")
 """The pages of docs for users."""
 
-TOOLS = ("dump_core.py", "native_addresses.py", "core_*.py")
+TOOLS = ("dump_core.py", "slim_core.py", "native_addresses.py", "core_*.py")
 
 MARK = "COMMIT"
 """The file by which an installed folder is known. It has the commit, where that is known."""

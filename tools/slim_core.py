@@ -12,6 +12,7 @@ It has some kilobytes for each thread, and the same signal and process; names an
 import argparse
 import os
 import re
+import shlex
 import subprocess
 import sys
 import tempfile
@@ -20,12 +21,15 @@ from typing import List, Tuple
 sys.dont_write_bytecode = True
 
 from core_asked import Asked, asked_of, checked
-from core_faults import CANNOT_WRITE, NO_PROGRAM, Fault, shown
+from core_faults import BAD_WORDS, CANNOT_WRITE, NO_PROGRAM, Fault, shown
 from core_places import PROGRAM, program_at
-from core_run import Answer
+from core_run import Answer, write_all
 
 LOCATED = re.compile(r"Python v(\d+\.\d+\.\d+)\S*\nInterpreter (0x[0-9a-f]+)\nLock (0x[0-9a-f]+)\n")
 """What `pystacks locate` prints: of a version `walk` takes the numbers."""
+
+SMALL = b"\x7fELF\2\1".ljust(18, b"\0")
+"""How a small core begins, whose type is 0. A file that begins otherwise is never written over."""
 
 
 def fault_of(answer: Answer) -> Fault:
@@ -54,6 +58,29 @@ def written(command: List[bytes], it: Asked, level: int, part: int) -> None:
         raise fault_of(Answer(done.returncode, b"", done.stderr.replace(os.fsencode(it.word), os.fsencode(it.name))))
 
 
+def check_free(out: str) -> None:
+    """Refuses a file that is there and is no small core, as the large one, or a device."""
+    try:
+        if not os.path.lexists(out):
+            return
+        if os.path.isfile(out):
+            with open(out, "rb") as file:
+                if file.read(len(SMALL)) == SMALL:
+                    return
+    except OSError as error:
+        raise Fault(f"cannot write {shown(os.fsencode(out))}: {error.strerror}", CANNOT_WRITE) from None
+    line = f"{shown(os.fsencode(out))} is no small core, and isn't written over"
+    raise Fault(line, BAD_WORDS, "name another file by --out")
+
+
+def put(words: List[str]) -> None:
+    """Writes the words on the standard output, as a shell reads them."""
+    try:
+        write_all(1, os.fsencode(" ".join(map(shlex.quote, words))) + b"\n")
+    except OSError as error:
+        raise Fault(f"cannot write the words: {error.strerror}", CANNOT_WRITE) from None
+
+
 def slimmed(command: List[bytes], it: Asked, level: int, out: str) -> int:
     """Writes the small core, under its name only once it is whole. Returns its length."""
     name = ""
@@ -79,13 +106,14 @@ def slimmed(command: List[bytes], it: Asked, level: int, out: str) -> int:
 def run(words: argparse.Namespace) -> int:
     """Makes the small core, and says how it is read."""
     program = os.fspath(program_at(words.program, PROGRAM))
+    out = words.out or f"{words.core}.slim"
+    check_free(out)
     it = asked_of(words, words.core)
     command = checked([program, it.word, it.layouts], [it.name])
-    out = words.out or f"{words.core}.slim"
     version, interpreter, lock = located(command, it)
     length = slimmed(command, it, words.locals, out)
     print(f"slim_core: {shown(os.fsencode(out))} has {length} bytes", file=sys.stderr)
-    print(" ".join([program, "walk", out, it.layouts, version, interpreter, lock]))
+    put([program, "walk", out, it.layouts, version, interpreter, lock])
     return 0
 
 
@@ -111,6 +139,8 @@ def main() -> int:
         if fault.then:
             print(f"slim_core: next: {fault.then}", file=sys.stderr)
         return fault.status
+    except KeyboardInterrupt:
+        return 130
 
 
 if __name__ == "__main__":
