@@ -59,6 +59,9 @@ JSON_IN_DUMP = True
 LOCALS_IN_DUMP = True
 """Whether the program can report locals."""
 
+SLIM_CORES = True
+"""Whether the program makes slim cores."""
+
 HELD = """\
     hold (hält.py:10)
         Arguments:
@@ -416,7 +419,8 @@ def over_core(program: Path, derived: Derived, core: Core, room: Path) -> Walk:
         notice_wrong(program, core, room, derived)
     check_dump(program, core, layouts, derived)
     check_prepared(program, core, layouts)
-    check_slim_core(program, core, layouts, derived.build)
+    if SLIM_CORES:
+        check_slim_core(program, core, layouts, derived.build)
     if JSON_IN_DUMP:
         check_tool(program, core.path, layouts, images_of(core.path, False))
     if core.told.led and derived.with_dicts:

@@ -276,8 +276,8 @@ class Programs(unittest.TestCase):
             self.core(Case("free"), False, False),
             self.core(Case("main", USUAL), True, False),
         ]
-        # (these programs write text alone)
-        with patch("real_core.HOLDER_IN_DUMP", marks), patch("real_core.JSON_IN_DUMP", False):
+        # (these programs write text alone, and no core)
+        with patch("real_core.HOLDER_IN_DUMP", marks), patch("real_core.JSON_IN_DUMP", False), patch("real_core.SLIM_CORES", False):
             for core in cores:
                 over_core(program, derived, core, self.folder)
 
