@@ -81,7 +81,7 @@ def put(words: List[str]) -> None:
         raise Fault(f"cannot write the words: {error.strerror}", CANNOT_WRITE) from None
 
 
-def slimmed(command: List[bytes], it: Asked, level: int, out: str) -> int:
+def slimmed(command: List[bytes], it: Asked, level: int, core: str, out: str) -> int:
     """Writes the small core, under its name only once it is whole. Returns its length."""
     name = ""
     try:
@@ -89,10 +89,10 @@ def slimmed(command: List[bytes], it: Asked, level: int, out: str) -> int:
             name = part.name
             written(command, it, level, part.fileno())
             length = os.fstat(part.fileno()).st_size
-        # (as a file that this user makes has them)
+        # (as a file that this user makes has them, and for none who may not read the core)
         mask = os.umask(0)
         os.umask(mask)
-        os.chmod(name, 0o666 & ~mask)
+        os.chmod(name, os.stat(core).st_mode & 0o666 & ~mask)
         os.replace(name, out)
         name = ""
     except OSError as error:
@@ -111,7 +111,7 @@ def run(words: argparse.Namespace) -> int:
     it = asked_of(words, words.core)
     command = checked([program, it.word, it.layouts], [it.name])
     version, interpreter, lock = located(command, it)
-    length = slimmed(command, it, words.locals, out)
+    length = slimmed(command, it, words.locals, words.core, out)
     print(f"slim_core: {shown(os.fsencode(out))} has {length} bytes", file=sys.stderr)
     put([program, "walk", out, it.layouts, version, interpreter, lock])
     return 0

@@ -81,6 +81,11 @@ class StandsIn(Case):
         os.umask(mask)
         self.assertEqual(stat.S_IMODE((self.folder / "core.slim").stat().st_mode), 0o666 & ~mask)
 
+    def test_rights(self):
+        (self.folder / "core").chmod(0o600)
+        self.assertEqual(self.ran(program=self.program())[0], 0)
+        self.assertEqual(stat.S_IMODE((self.folder / "core.slim").stat().st_mode), 0o600)
+
     def test_level(self):
         program = self.program()
         for words, level in (((), "0"), (("-l",), "1"), (("-ll",), "2")):
