@@ -188,7 +188,7 @@ locate_sound l (core ∷ text ∷ images) (list, says, good) = then_sound (λ ca
 
 sampled_agree : (core : Bool) (seed : ℕ) → Agree (IsSampledAs core seed)
 sampled_agree false seed a b one other na nb = text_agree _ _ a b one other
-sampled_agree true seed a b one other na nb = text_agree one.0 other.0 a b one.2 other.2
+sampled_agree true seed a b one other na nb = text_agree _ _ a b one.1 other.1
 
 pub sample_agree : (s : AsksSample) (contents : List (List ℕ)) → Agree (IsSampleOutcome s contents)
 sample_agree s [] a b one other na nb = sampled_agree s.core s.seed a b one other na nb
@@ -196,7 +196,7 @@ sample_agree s (x ∷ xs) a b one other na nb = absurd one
 
 sampled_sound : (core : Bool) (seed : ℕ) → NoCause (IsSampledAs core seed)
 sampled_sound false seed cause ne is = absurd (let h : _ = is in cc)
-sampled_sound true seed cause ne is = absurd (let h : _ = is.2 in cc)
+sampled_sound true seed cause ne is = absurd (let h : _ = is.1 in cc)
 
 pub sample_sound : (s : AsksSample) (contents : List (List ℕ)) → NoCause (IsSampleOutcome s contents)
 sample_sound s [] cause ne is = sampled_sound s.core s.seed cause ne is

@@ -38,7 +38,7 @@ use Rattle.core_report.specs.declared.cause.Cause.TheVariants.{Core, Layouts, Me
 use Rattle.core_report.specs.Grouped.{IsGroupedText}
 use Rattle.image_builder.specs.Generated.{generated}
 use Rattle.image_builder.specs.Inverse.{IsCoreOf}
-use Rattle.program_report.specs.Samples.{sample_text}
+use Rattle.program_report.specs.Samples.{sample_core, sample_text}
 use Rattle.core_report.specs.Merged.{python_in}
 use Rattle.core_report.specs.Opening.{OpenedIs, level_asked, locate_text, slim_cause}
 use Rattle.core_report.specs.Stacked.{LeadsTo, Stacked, StackedIs, locals_asked, reach_text}
@@ -209,12 +209,11 @@ abbrev pub IsSlimOutcome : AsksSlim → List (List ℕ) → Outcome → Type 0
 IsSlimOutcome s contents outcome =
     OutcomeThen (λ cause. cause) (OpensBy s.images contents) (IsSlimmedFrom s.level) outcome
 
--- three lines of the program of a seed, or the bytes of a core that has the stacks of that program (`IsCoreOf`), laid
--- by the example of a layout
+-- three lines of the program of a seed, or the bytes of its core, which has the stacks of that program (`IsCoreOf`)
 abbrev pub IsSampledAs : (core : Bool) → ℕ → Outcome → Type 0
 IsSampledAs false seed outcome = outcome ≡ Ok (sample_text seed (generated seed))
 IsSampledAs true seed outcome =
-    (bytes : List ℕ) × IsCoreOf sample_layout (generated seed) bytes × (outcome ≡ Ok bytes)
+    IsCoreOf sample_layout (generated seed) (sample_core seed) × (outcome ≡ Ok (sample_core seed))
 
 abbrev pub IsSampleOutcome : AsksSample → List (List ℕ) → Outcome → Type 0
 IsSampleOutcome s [] outcome = IsSampledAs s.core s.seed outcome

@@ -1,6 +1,7 @@
 -- What is told of the program of a seed. The form of the text is this project's own.
 use Rattle.std.specs.Prelude.{◌≡◌, ℕ, List, [], ◌∷◌, codes, decimal, length, map}
 use Rattle.std.specs.List.{concat, sum_by}
+use Rattle.elf64_core.specs.declared.header.Machine.TheVariants.{X86_64}
 use Rattle.py_fields.specs.Samples.{sample_layout}
 use Rattle.py_version.specs.Version.{release}
 use Rattle.py_stacks.specs.Asking.{default_config}
@@ -9,8 +10,13 @@ use Rattle.py_stacks.specs.declared.trace.StackTrace.{StackTrace}
 use Rattle.py_process.specs.Reports.{Reported}
 use Rattle.memory_builder.specs.Program.{Program, Thread}
 use Rattle.memory_builder.specs.Sizes.{capped}
+use Rattle.image_builder.specs.Built.{built_core}
 use Rattle.image_builder.specs.Generated.{generated}
 use Rattle.image_builder.specs.Shown.{shown_report, without_addresses}
+
+-- the core of the program of a seed, by the example of a layout, for version 3.9.0 and x86-64
+abbrev pub sample_core : ℕ → List ℕ
+sample_core seed = built_core sample_layout (release 3 9 0) X86_64 (generated seed)
 
 -- three lines: a seed, and how many threads and frames there are
 abbrev pub counts_text : (seed threads frames : ℕ) → List ℕ

@@ -1,11 +1,13 @@
 //! A program, its core and image, and what is reported of these.
 ghost use Rattle.std.specs.Prelude.{◌≡◌, [], ◌∷◌, IfErr, IfOk};
 ghost use Rattle.py_fields.specs.Sound.{IsSound};
-ghost use Rattle.py_process.specs.Reports.{AsksNoOther, reported_of};
+ghost use Rattle.py_process.specs.Reports.{AsksNoOther, ReportIs, reported, reported_of};
 ghost use Rattle.object_builder.specs.Room.{HasRoom};
 ghost use Rattle.memory_builder.specs.Mirror.{program_in};
+ghost use Rattle.image_builder.specs.Built.{built_core, built_image};
+ghost use Rattle.image_builder.specs.CoreFiles.{image_path as path_of_image};
 ghost use Rattle.image_builder.specs.Inverse.{image_alone};
-ghost use Rattle.image_builder.specs.Refusals.{IsUnbuilt};
+ghost use Rattle.image_builder.specs.Refusals.{IsBuildable, IsUnbuilt};
 ghost use Rattle.image_builder.specs.RuntimeWords.{HasWordRoom};
 ghost use Rattle.image_builder.specs.Shown.{shown_report, without_addresses};
 
@@ -58,7 +60,11 @@ pub fn report_of_program(
     config: &Config,
 ) -> Result<Result<Report, CoreError>, BuildError>
     requires { IsSound layout }
+    ensures buildable { IfOk result (λ _. IsBuildable layout version.now machine (program_in program.now)) }
     ensures refused { IfErr result (IsUnbuilt layout version.now machine (program_in program.now)) }
+    // the answer is that of a report over what is built
+    ensures right { IfOk result (λ answer. ReportIs (built_core layout version.now machine (program_in program.now))
+        (image_alone path_of_image (built_image version.now machine)) (layout ∷ []) config.now (reported answer)) }
     ensures shown { HasRoom layout → HasWordRoom layout machine version.now → AsksNoOther config.now → IfOk result
         (λ answer. IfOk answer (λ report. without_addresses (reported_of report)
         ≡ shown_report config.now layout version.now (program_in program.now))) }

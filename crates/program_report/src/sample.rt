@@ -7,7 +7,7 @@ ghost use Rattle.py_version.specs.Version.{release};
 ghost use Rattle.image_builder.specs.Generated.{generated};
 ghost use Rattle.image_builder.specs.Inverse.{IsCoreOf};
 ghost use Rattle.image_builder.specs.Refusals.{IsUnbuilt};
-ghost use Rattle.program_report.specs.Samples.{IsSampleReport, frames_shown, sample_text};
+ghost use Rattle.program_report.specs.Samples.{IsSampleReport, frames_shown, sample_core, sample_text};
 
 use crate::reporting::report_of_program;
 use core_texts::{Part, push_parts};
@@ -32,7 +32,8 @@ fn unbuilt(seed: u64, _error: BuildError) -> AllocError
 /// It is a core, and a walk over it by that layout, from the interpreter at 0x600000 and with no lock, has exactly the
 /// stacks of the program. The one error is want of memory.
 pub fn sample_core(alloc: Global, seed: u64) -> Result<Vec<u8>, AllocError>
-    ensures { IfOk result (λ core. IsCoreOf sample_layout (generated seed) core.items) }
+    ensures bytes { IfOk result (λ core. core.items ≡ sample_core seed) }
+    ensures stacks { IfOk result (λ core. IsCoreOf sample_layout (generated seed) core.items) }
 {
     let program = generate(alloc, seed)?;
     let version = Version::of_numbers(alloc, 3, 9, 0)?;

@@ -135,14 +135,14 @@ locals_few true l r = let most = count_most l r in omega arith
 
 shown_by_fault : (d : Found (Option (List LocalVariable))) (e : StackError) (o : Option Fault) (locals : Locals) → stack_fault e ≡ o → FaultIs d o
     → MatchOption o (◌≡◌ {A = Result Locals StackError} (Ok locals) (Err stack.OutOfMemory)) (λ f. ◌≡◌ {A = Result Locals StackError} (Ok locals) (Ok (record { locals = None; fault = Some e })))
-    → ◌≡◌ {A = Option (List LocalVariable) × Option Fault} (locals_of locals.locals, lost_locals locals.fault) (locals_or_fault d)
+    → ◌≡◌ {A = Option (List LocalVariable) × Option (Option Fault)} (locals_of locals.locals, lost_locals locals.fault) (locals_or_fault d)
 shown_by_fault d e None locals is h a = absurd (cc)
 shown_by_fault d e (Some f) locals is h a =
     let same : locals ≡ record { locals = None; fault = Some e } = cc in
     rw (same, is, h) refl
 
 pub locals_shown : (d : Found (Option (List LocalVariable))) (read : Result (Option (Vec LocalVariable Global)) StackError) (locals : Locals) → Answers stack_fault d (locals_of_result read) → LocalsAre read (Ok locals)
-    → ◌≡◌ {A = Option (List LocalVariable) × Option Fault} (locals_of locals.locals, lost_locals locals.fault) (locals_or_fault d)
+    → ◌≡◌ {A = Option (List LocalVariable) × Option (Option Fault)} (locals_of locals.locals, lost_locals locals.fault) (locals_or_fault d)
 locals_shown d (Ok v) locals a is =
     let same : locals ≡ record { locals = v; fault = None } = cc in
     let found = a.is in
@@ -159,17 +159,17 @@ locals_lost (Err f) e is = lost_by f e (stack_fault f) is
 
 -- ---- frames
 
-call_equal : (l : Layout) (m : Memory) (r : MemberAt) (file name : List ℕ) (line line' : ℤ) (locals locals' : Option (List LocalVariable)) (fault fault' : Option Fault) (entry shim : Bool) → line ≡ line'
-    → ◌≡◌ {A = Option (List LocalVariable) × Option Fault} (locals, fault) (locals', fault') → entry ≡ is_entered l.frame r.frame → shim ≡ has_no_caller l m (back_by l r)
+call_equal : (l : Layout) (m : Memory) (r : MemberAt) (file name : List ℕ) (line line' : ℤ) (locals locals' : Option (List LocalVariable)) (fault fault' : Option (Option Fault)) (entry shim : Bool) → line ≡ line'
+    → ◌≡◌ {A = Option (List LocalVariable) × Option (Option Fault)} (locals, fault) (locals', fault') → entry ≡ is_entered l.frame r.frame → shim ≡ has_no_caller l m (back_by l r)
     → IsFrame (record (call_named file name entry) { line = line; locals = locals; is_shim_entry = shim }) fault ≡ IsFrame (call_by l m r file name line' locals') fault'
 call_equal l m r file name line line' locals locals' fault fault' entry shim e p f s =
     ap (λ x. IsFrame (record (call_named file name entry) { line = x; locals = locals; is_shim_entry = shim }) fault) e
-    ∙ ap (λ (x : Option (List LocalVariable) × Option Fault). IsFrame (record (call_named file name entry) { line = line'; locals = x.0; is_shim_entry = shim }) x.1) p
+    ∙ ap (λ (x : Option (List LocalVariable) × Option (Option Fault)). IsFrame (record (call_named file name entry) { line = line'; locals = x.0; is_shim_entry = shim }) x.1) p
     ∙ ap (λ x. IsFrame (record (call_named file name x) { line = line'; locals = locals'; is_shim_entry = shim }) fault') f
     ∙ ap (λ x. IsFrame (record (call_named file name (is_entered l.frame r.frame)) { line = line'; locals = locals'; is_shim_entry = x }) fault') s
 
 pub frame_stands : (q : Asked) (l : Layout) (m : Memory) (r : MemberAt) (file name : List ℕ) (line : ℤ) (locals : Locals) (entry shim : Bool) → line ≡ line_or_first q.lineno l m r
-    → ◌≡◌ {A = Option (List LocalVariable) × Option Fault} (locals_of locals.locals, lost_locals locals.fault) (locals_or_fault (asked_locals q.locals l m r)) → entry ≡ is_entered l.frame r.frame → shim ≡ has_no_caller l m (back_by l r)
+    → ◌≡◌ {A = Option (List LocalVariable) × Option (Option Fault)} (locals_of locals.locals, lost_locals locals.fault) (locals_or_fault (asked_locals q.locals l m r)) → entry ≡ is_entered l.frame r.frame → shim ≡ has_no_caller l m (back_by l r)
     → stood (standing.Frame (record { name = name; filename = file; «module» = None; short_filename = None; line = line; locals = locals.locals; is_entry = entry; is_shim_entry = shim }) locals.fault) ≡ framed q l m r file name
 frame_stands q l m r file name line locals entry shim e p f s =
     call_equal l m r file name line (line_or_first q.lineno l m r) (locals_of locals.locals) (locals_or_fault (asked_locals q.locals l m r)).0 (lost_locals locals.fault) (locals_or_fault (asked_locals q.locals l m r)).1 entry shim e p f s

@@ -29,13 +29,13 @@ use Rattle.py_fronts.specs.declared.standing.Standing.TheVariants.{Frame, Member
 -- what stands for a member
 pub data Stood : Type 0 where
   -- its frame, and why its locals can't be read
-  IsFrame : Call → Option Fault → Stood
+  IsFrame : Call → Option (Option Fault) → Stood
   -- its address, and why it has no names
   IsMember : (address : ℕ) → Option Fault → Stood
 
-abbrev pub lost_locals : Option StackError → Option Fault
+abbrev pub lost_locals : Option StackError → Option (Option Fault)
 lost_locals None = None
-lost_locals (Some e) = stack_fault e
+lost_locals (Some e) = Some (stack_fault e)
 
 abbrev pub stood : Standing → Stood
 stood (Frame frame fault) = IsFrame (call_of frame) (lost_locals fault)
@@ -60,9 +60,9 @@ unfoldable pub line_or_first : LineNo → Layout → Memory → MemberAt → ℤ
 line_or_first lineno l m r = if is_before_start lineno (offset_of l r) then first_line l r else line_by lineno l m r
 
 -- the locals, or why there are none
-abbrev pub locals_or_fault : Found (Option (List LocalVariable)) → Option (List LocalVariable) × Option Fault
+abbrev pub locals_or_fault : Found (Option (List LocalVariable)) → Option (List LocalVariable) × Option (Option Fault)
 locals_or_fault (Ok locals) = (locals, None)
-locals_or_fault (Err f) = (None, Some f)
+locals_or_fault (Err f) = (None, Some (Some f))
 
 abbrev pub shows_none : Layout → Memory → Found MemberAt → Bool
 shows_none l m (Ok r) = is_none (plain_by l m r)

@@ -1,5 +1,5 @@
 //! The threads of an interpreter, each with its frames.
-ghost use Rattle.std.specs.Prelude.{◌≡◌, ◌≤◌, ◌+◌, ℕ, Some, length};
+ghost use Rattle.std.specs.Prelude.{◌≡◌, ◌≤◌, ◌+◌, ℕ, Some, length, IsErrOf, IsTrue};
 ghost use Rattle.process_memory.specs.Seen.{Reads, ReadsBy};
 ghost use Rattle.py_fields.specs.Sound.{IsSound};
 ghost use Rattle.py_stacks.specs.StackError.{stack_fault};
@@ -30,8 +30,8 @@ pub fn native_id(at: Option<u32>, thread: &[u8]) -> Option<u64>
 }
 
 /// The first frame of a thread: the one that its record names, or the one that the C frame names which
-/// its record names. `Unreadable` comes with the C frame's word; else the error is want of memory. At most 1
-/// read.
+/// its record names. `Unreadable` comes with the C frame's word. It takes no memory: want of memory comes only
+/// where a read of the process may want it. At most 1 read.
 #[tactic(auto, unfolding(crate::specs::Threads::first_frame_at))]
 pub fn first_frame<P: ProcessMemory>(
     process: &mut P,
@@ -39,8 +39,9 @@ pub fn first_frame<P: ProcessMemory>(
     thread: &[u8],
 ) -> Result<u64, StackError>
     requires { layout.now.thread.frame + 8 ≤ length thread.now }
-    ensures { Reads stack_fault 1 (P.seen process.old) (P.seen process.new)
+    ensures answer { Reads stack_fault 1 (P.seen process.old) (P.seen process.new)
         (λ m. first_frame_at layout.now m thread.now) result }
+    ensures memory { IsErrOf result StackError.OutOfMemory → IsTrue (P.seen process.old).may_want_memory }
 {
     let named = u64_in(thread, layout.thread.frame as usize);
     match layout.cframe {

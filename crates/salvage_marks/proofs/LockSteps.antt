@@ -1,6 +1,6 @@
 -- The state of a lock, in its two steps.
 use Rattle.std.proofs.Common.{◌≡◌, ℕ, refl}
-use Rattle.std.specs.Prelude.{Ok, Err, Some, Result, unwrap_or}
+use Rattle.std.specs.Prelude.{Ok, Err, Some, None, Result, unwrap_or}
 use Rattle.elf64_core.specs.declared.header.Machine.{Machine}
 use Rattle.process_memory.specs.Memory.{Memory}
 use Rattle.process_memory.specs.Memory.Fault.{Missing}
@@ -15,7 +15,7 @@ use Rattle.py_process.specs.declared.lock_error.LockError.{LockError}
 use Rattle.py_process.specs.declared.lock_error.LockError.TheVariants as lock
 use Rattle.py_fronts.specs.Answers.{IsOrNoMemory}
 use Rattle.salvage_marks.specs.declared.lock.LockState.{LockState}
-use Rattle.salvage_marks.specs.declared.lock.LockState.TheVariants.{Unreadable}
+use Rattle.salvage_marks.specs.declared.lock.LockState.TheVariants.{Holder, Unreadable}
 use Rattle.salvage_marks.specs.Locks.{IsGone, holder_told, lock_told}
 
 pub lock_held : (machine : Machine) (k : Known) (v : Version) (l : Layout) (m : Memory) (a at : ℕ)
@@ -29,10 +29,15 @@ gone : (machine : Machine) (k : Known) (v : Version) (l : Layout) (m : Memory) (
 unfolding lock_told lock_address_of
 gone machine k v l m a addr len e = rw e refl
 
+none : (machine : Machine) (k : Known) (v : Version) (l : Layout) (m : Memory) (a : ℕ)
+    → lock_found machine k v l m a ≡ None → Holder 0 ≡ lock_told machine k v l m a
+unfolding lock_told lock_address_of holder_id_at
+none machine k v l m a e = rw e refl
+
 pub lock_gone : (machine : Machine) (k : Known) (v : Version) (l : Layout) (m : Memory) (a : ℕ) (config : Config)
     (error : LockError) (result : Result LockState StackError) → LockIs config (lock_found machine k v l m a)
     (Err error)
     → IsGone error result → IsOrNoMemory (lock_told machine k v l m a) result
 lock_gone machine k v l m a config (lock.Unreadable addr len) result h is = rw is (gone machine k v l m a addr len h)
-lock_gone machine k v l m a config lock.NoLock result h is = rw is refl
+lock_gone machine k v l m a config lock.NoLock result h is = rw is (none machine k v l m a h.none)
 lock_gone machine k v l m a config lock.OutOfMemory result h is = rw is refl

@@ -33,7 +33,8 @@ holds_lock (Unreadable addr len) t = false
 
 -- ---- as they are read
 
--- a lock whose address isn't in memory
+-- what is known of a lock whose address isn't
 abbrev pub IsGone : LockError → Result LockState StackError → Type 0
 IsGone (lock.Unreadable addr len) result = result ≡ Ok (Unreadable addr len)
-IsGone _ result = result ≡ Err stack.OutOfMemory
+IsGone lock.NoLock result = result ≡ Ok (Holder 0)
+IsGone lock.OutOfMemory result = result ≡ Err stack.OutOfMemory

@@ -1,5 +1,5 @@
 //! The lock of an interpreter.
-ghost use Rattle.std.specs.Prelude.{◌≡◌, Ok};
+ghost use Rattle.std.specs.Prelude.{◌≡◌, IsErrOf, IsTrue};
 ghost use Rattle.process_memory.specs.Seen.{Reading};
 ghost use Rattle.py_fields.specs.Sound.{IsSound};
 ghost use Rattle.py_stacks.specs.Holder.{holder_id_at};
@@ -42,30 +42,35 @@ fn state_at<P: ProcessMemory>(
     layout: &Layout,
 ) -> Result<LockState, StackError>
     requires sound { IsSound layout.now }
-    ensures { Reading 2 (P.seen process.old) (P.seen process.new)
+    ensures answer { Reading 2 (P.seen process.old) (P.seen process.new)
         (λ m. IsOrNoMemory (holder_told (holder_id_at layout.now m lock)) result) }
+    ensures memory { IsErrOf result StackError.OutOfMemory → IsTrue (P.seen process.old).may_want_memory }
 {
     match get_gil_threadid(lock, process, layout) {
         Ok(holder) => Ok(LockState::Holder(holder)),
         Err(StackError::Unreadable { addr, len }) => Ok(LockState::Unreadable { addr, len }),
-        Err(_) => Err(StackError::OutOfMemory),
+        Err(StackError::OutOfMemory) => Err(StackError::OutOfMemory),
+        // no other fault is met on the way to a holder
+        Err(_) => Ok(LockState::Holder(0)),
     }
 }
 
-/// A lock whose address is not in memory. Else memory was wanting, since the holder alone is not asked for.
+/// A lock whose address is not known: it is not in memory, or nothing tells where it is. Else memory was wanting.
 fn gone(error: LockError) -> Result<LockState, StackError>
     ensures { IsGone error result }
 {
     match error {
         LockError::Unreadable { addr, len } => Ok(LockState::Unreadable { addr, len }),
-        _ => Err(StackError::OutOfMemory),
+        LockError::NoLock => Ok(LockState::Holder(0)),
+        LockError::OutOfMemory => Err(StackError::OutOfMemory),
     }
 }
 
 /// The state of an interpreter's own lock: who holds it, or what is not in memory of what tells it.
 ///
 /// The lock is found as `py_process::get_threadstate_address` says, and its holder read as
-/// `py_stacks::get_gil_threadid` does. The one error is want of memory. At most 3 reads.
+/// `py_stacks::get_gil_threadid` does. The one error is want of memory, and it comes only where a read of the
+/// process may want it. At most 3 reads.
 pub fn lock_state<M: ContainsAddr, P: ProcessMemory>(
     interpreter: u64,
     info: &PythonProcessInfo<M>,
@@ -75,8 +80,9 @@ pub fn lock_state<M: ContainsAddr, P: ProcessMemory>(
     layout: &Layout,
 ) -> Result<LockState, StackError>
     requires sound { IsSound layout.now }
-    ensures { Reading 3 (P.seen process.old) (P.seen process.new) (λ m. IsOrNoMemory
+    ensures answer { Reading 3 (P.seen process.old) (P.seen process.new) (λ m. IsOrNoMemory
         (lock_told machine (known_of info.now) version.now layout.now m interpreter) result) }
+    ensures memory { IsErrOf result StackError.OutOfMemory → IsTrue (P.seen process.old).may_want_memory }
 {
     let config = Config::default();
     let found = get_threadstate_address(

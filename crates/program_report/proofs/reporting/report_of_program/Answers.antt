@@ -1,5 +1,7 @@
 use Rattle.std.proofs.Common.{[], ◌∷◌, subst, sym}
-use Rattle.py_process.specs.Reports.{AsksNoOther, IsRight}
+use Rattle.py_process.specs.Reports.{AsksNoOther, IsRight, ReportIs, reported}
+use Rattle.image_builder.specs.Built.{built_image}
+use Rattle.image_builder.specs.CoreFiles.{image_path}
 use Rattle.image_builder.specs.Inverse.{image_alone}
 use Rattle.image_builder.specs.Shown.{shown_report}
 use Rattle.memory_builder.specs.Mirror.{program_in}
@@ -31,3 +33,20 @@ returns-clause-memory c = λ room word_room asks.
     (image_alone c.in_ok-built.built.image_path c.in_ok-built.built.image.items) (c.args.layout ∷ [])
     c.args.config.now (shown_report c.args.config.now c.args.layout c.args.version.now (program_in c.args.program.now))
     (c.in_ok-built.ensures.report room word_room c.args.config.now asks) c.report.result (answers c asks)
+
+pub returns-clause-right : goal.returns-clause-right
+returns-clause-right c =
+    let core = c.in_ok-built.built.core.items in
+    let images = image_alone c.in_ok-built.built.image_path c.in_ok-built.built.image.items in
+    let layout = c.args.layout in
+    let config = c.args.config.now in
+    let answer = reported c.report.result in
+    let built = c.in_ok-built.ensures in
+    subst (λ bytes. ReportIs bytes (image_alone image_path (built_image c.args.version.now c.args.machine))
+    (layout ∷ []) config answer) built.core
+    (subst (λ bytes. ReportIs core (image_alone image_path bytes) (layout ∷ []) config answer) built.image
+    (subst (λ path. ReportIs core (image_alone path c.in_ok-built.built.image.items) (layout ∷ []) config answer)
+    built.path
+    (subst (λ xs. ReportIs core xs (layout ∷ []) config answer) c.in_ok-images.ensures
+    (subst (λ ls. ReportIs core c.in_ok-images.images ls config answer) c.in_ok-layouts.ensures
+    c.report.ensures.right))))
