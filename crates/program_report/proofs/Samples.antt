@@ -9,6 +9,7 @@ use Rattle.py_fields.specs.Samples.{sample_layout}
 use Rattle.py_fields.specs.declared.layout.Layout.{Layout}
 use Rattle.py_lines.specs.declared.lines.LineFamily.TheVariants.{Pairs}
 use Rattle.py_version.specs.Version.{release}
+use Rattle.py_version.specs.declared.version.Version.{Version}
 use Rattle.py_stacks.specs.Asking.{default_config}
 use Rattle.py_stacks.specs.Threads.{Trace}
 use Rattle.py_stacks.specs.declared.config.Config.{Config}
@@ -16,9 +17,10 @@ use Rattle.py_process.specs.Reports.{AsksNoOther, Reported}
 use Rattle.object_builder.specs.Room.{HasRoom}
 use Rattle.object_builder.specs.Sizes.{all_under, is_short_headed, rounded, text_len}
 use Rattle.object_builder.specs.Texts.{IsBriefText}
-use Rattle.memory_builder.specs.Program.{Frame, Thread}
+use Rattle.memory_builder.specs.Program.{Frame, Program, Thread}
 use Rattle.memory_builder.specs.Sizes.{frame_size, held_size, item_size, local_size, name_size, program_size, records_size, shared_size, table_len, thread_size}
 use Rattle.memory_builder.specs.Validity.{IsValidFrame}
+use Rattle.image_builder.specs.Built.{built_core}
 use Rattle.image_builder.specs.Covered.{IsCovered}
 use Rattle.image_builder.specs.Generated.{each, frame_count, frame_of, generated, thread_of}
 use Rattle.image_builder.specs.Refusals.{IsUnbuilt, room_for}
@@ -28,7 +30,7 @@ use Rattle.image_builder.specs.declared.error.BuildError.{BuildError}
 use Rattle.image_builder.specs.declared.error.BuildError.TheVariants.{Uncovered, NotValid, NoRoom, OutOfMemory}
 use Rattle.image_builder.proofs.EachAt.{length_each}
 use Rattle.image_builder.proofs.GeneratedValid.{frame_valid, generated_valid}
-use Rattle.program_report.specs.Samples.{IsSampleReport}
+use Rattle.program_report.specs.Samples.{IsSampleReport, sample_core}
 
 pub sample_room : HasRoom sample_layout
 sample_room = record {
@@ -123,6 +125,11 @@ unbuilt_is seed Uncovered h = absurd (h sample_covered)
 unbuilt_is seed (NotValid thread frame) h = absurd (h.first.fails (generated_valid Pairs seed thread frame))
 unbuilt_is seed (NoRoom needed) h = absurd (omega (arith, h.beyond, h.needed_is, room_most seed))
 unbuilt_is seed OutOfMemory h = refl
+
+-- what is written for the example of a layout is the core of this program
+pub core_is : (seed : ℕ) (l : Layout) (v : Version) (p : Program) (bytes : List ℕ) → l ≡ sample_layout
+    → v ≡ release 3 9 0 → p ≡ generated seed → bytes ≡ built_core l v X86_64 p → bytes ≡ sample_core seed
+core_is seed l v p bytes layout version program is = rw (is, layout, version, program) refl
 
 -- ---- what is counted
 
