@@ -141,7 +141,8 @@ pub fn named_candidates<M: ContainsAddr, P: ProcessMemory>(
 }
 
 /// The candidates that are found by search alone, in order: the words of the program's runtime section and of the
-/// library's, and then those of the program's bss and of the library's. The one error is want of memory. At most 4 reads.
+/// library's, and then those of the program's bss and of the library's. The one error is want of memory. At most 4
+/// reads.
 pub fn searched_candidates<M: ContainsAddr, P: ProcessMemory>(
     alloc: Global,
     info: &PythonProcessInfo<M>,

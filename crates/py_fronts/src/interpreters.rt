@@ -366,11 +366,12 @@ fn find_all<M: ContainsAddr, P: ProcessMemory>(
 
 /// The interpreters of a process that are shown, in the order in which they are found.
 ///
-/// First come those that are named: the head that symbols give and those that its record names, though it has no thread
-/// itself; and with them those that the record of one of them names. A record names an interpreter by one of its words in
-/// front of the head of its threads, of which at most 1024 are looked at, in turn. Then those that are found by search
-/// alone: the words of the program's runtime section and of the library's, and those of their bss, and again those that
-/// the records of these name. Each address is taken once, and 16 at most; `more` says whether there is another.
+/// First come those that are named: the head that symbols give and those that its record names, though it has no
+/// thread itself; and with them those that the record of one of them names. A record names an interpreter by one of its
+/// words in front of the head of its threads, of which at most 1024 are looked at, in turn. Then those that are found
+/// by search alone: the words of the program's runtime section and of the library's, and those of their bss, and again
+/// those that the records of these name. Each address is taken once, and 16 at most; `more` says whether there is
+/// another.
 ///
 /// An address is an interpreter's where a map holds it, the word of its first thread is in memory, is not 0 and lies in
 /// a map, and the record of that thread names the address. One that is found by search alone is taken only where its
