@@ -1,6 +1,6 @@
 -- The addresses that may be an interpreter's: those of the search, and those that the record of one names. CPython
 -- chains its interpreters by `next`, which stands in front of the head of their threads.
-use Rattle.std.specs.Prelude.{◌≡◌, ℕ, ◌*◌, ◌/◌, min, List, [], ◌∷◌, ◌++◌, flat_map, Option, Some, None, Result, Ok, Err, Vec}
+use Rattle.std.specs.Prelude.{◌≡◌, ℕ, ◌*◌, ◌/◌, min, List, [], ◌++◌, flat_map, Option, Some, None, Result, Ok, Err, Vec}
 use Rattle.std.specs.Global.{Global}
 use Rattle.process_memory.specs.Memory.{Memory}
 use Rattle.py_version.specs.declared.version.Version.{Version}
