@@ -2,7 +2,7 @@
 
 import json
 import struct
-from typing import Callable, Dict, Iterator, List, Optional, Sequence
+from typing import Callable, Dict, Iterator, List, Optional, Sequence, Tuple
 
 from made import AARCH64, EXAMPLE, Objects, Section, Segment, Symbol, core_file, edited, image_file, layout_of, note, process_record
 from row import CALLER, CODE, FILE, FRAME, FUNCTION, HEAP, MODULE_CODE, TEXT, THREAD, Row, heap, row
@@ -10,10 +10,12 @@ from rows_dump import BSS, IMAGE, PATH, PROGRAM, bss, files_of, mapped, small
 
 GOOD = f"core --layouts layouts {IMAGE}"
 RUNTIME = 0x510000
-"""Where the runtime section is, whose words name interpreters."""
+"""Where `_PyRuntime` is, in a section of 592 bytes: of 3.9 it names the newest interpreter at 32, and that of the current
+thread at 568, on aarch64 at 584."""
 
-NAMED = image_file([Segment(0x400000, b"", 5, 0x1000)], (BSS, 16), (), [Section(".PyRuntime", 1, RUNTIME, None, 16)])
-"""The program's file with a runtime section of two words."""
+NAMED = image_file([Segment(0x400000, b"", 5, 0x1000)], (BSS, 16), [Symbol("_PyRuntime", RUNTIME)], [
+    Section(".PyRuntime", 1, RUNTIME, None, 592)])
+"""The program's file with the runtime."""
 
 HELP = """\
 pysalvage CORE --layouts FILE [-n N] [-l].. [-j] [PATH=FILE]..
@@ -54,10 +56,16 @@ def group(name: str) -> Dict[str, int]:
 
 
 def named(objects: Objects, *interpreters: int, more: Sequence[Segment] = (), notes: Sequence[bytes] = (), machine: int = 62) -> Dict[str, bytes]:
-    """The files of a core whose runtime section names these interpreters, and whose bss names none."""
-    both = struct.pack("<2Q", *(interpreters or (HEAP,)), *[0] * (2 - len(interpreters or (HEAP,))))
-    maps = [objects.segment(6), mapped(), bss(0, 0), Segment(RUNTIME, both, 6), *more]
+    """The files of a core whose newest interpreter is the first of these, or the usual one. The runtime section names the
+    others, and the bss none."""
+    maps = [objects.segment(6), mapped(), bss(0, 0), runtime(*(interpreters or (HEAP,))), *more]
     return files_of(core_file(maps, notes, machine), program=NAMED)
+
+
+def runtime(*interpreters: int) -> Segment:
+    """The memory of the runtime section, with these words from the newest interpreter's on."""
+    words = struct.pack(f"<{len(interpreters)}Q", *interpreters)
+    return Segment(RUNTIME, (bytes(32) + words).ljust(592, b"\0"), 6)
 
 
 def status_record(signal: int, pid: int, pointer: int = 0, size: int = 336) -> bytes:
@@ -109,7 +117,7 @@ def causes() -> Iterator[Row]:
         ("half a bss", files_of(small(bss=Segment(BSS, bytes(8), 6, 16))), b"version unreadable at 0x500000, 16 bytes"),
         ("a version without a layout", files_of(small(bss=version), program=program), b"no layout for Python 3.14.0rc1+dev"),
         ("no interpreter", files_of(small(bss=bss(0x400000, THREAD))), b"no interpreter found: 2 addresses looked at"),
-        ("addresses that repeat", named(Objects(layout_of(EXAMPLE), HEAP), THREAD, THREAD), b"no interpreter found: 4 addresses looked at"),
+        ("addresses that repeat", named(Objects(layout_of(EXAMPLE), HEAP), THREAD, THREAD), b"no interpreter found: 77 addresses looked at"),
     ):
         yield salvage(f"cause: {what}", GOOD, files, line=line)
 
@@ -194,32 +202,45 @@ def threads() -> Iterator[Row]:
         yield salvage(f"threads: {what}", GOOD, named(objects), head + text)
 
 
+def several(count: int, is_chained: bool) -> Tuple[Objects, List[int]]:
+    """So many interpreters with a thread each, of the ids 1, 2 and so on, and their addresses; each names the next one,
+    where they are chained."""
+    objects = Objects(layout_of(EXAMPLE), HEAP)
+    places = []
+    for number in range(count):
+        places.append(objects.record("interpreter"))
+        objects.threads(places[-1], [{"id": number + 1}])
+    for place, after in zip(places, places[1:] if is_chained else ()):
+        objects.word(place, after)
+    return objects, places
+
+
 def interpreters() -> Iterator[Row]:
     """Several interpreters, each by how it was found; one that was found by search is shown where its threads are whole."""
     head = "Python v3.9.0\n\n"
-    objects = Objects(layout_of(EXAMPLE), HEAP)
-    places = []
-    for number in range(17):
-        places.append(objects.record("interpreter"))
-        objects.threads(places[-1], [{"id": number + 1}])
-    one, two = places[:2]
+    objects, (one, two) = several(2, True)
     text = f"Interpreter 0x{one:x}\nThread 0x1\nInterpreter 0x{two:x}\nThread 0x2\n"
-    yield salvage("interpreters: two", GOOD, named(objects, one, two), head + text)
-    yield salvage("interpreters: one twice", GOOD, named(objects, one, one), head + "Thread 0x1\n")
-    yield salvage("interpreters: the crashed one first", GOOD, named(objects, one, two, notes=[status_record(11, 4, 2)]),
+    yield salvage("interpreters: two", GOOD, named(objects, one), head + text)
+    yield salvage("interpreters: the crashed one first", GOOD, named(objects, one, notes=[status_record(11, 4, 2)]),
                   "Signal 11: core\n" + head + f"Interpreter 0x{two:x}\nThread 0x2 (crashed)\nInterpreter 0x{one:x}\nThread 0x1\n")
-    found = f"Interpreter 0x{one:x}\nThread 0x1\nInterpreter 0x{two:x} (found by search)\nThread 0x2\n"
-    maps = [objects.segment(6), mapped(), bss(0, two), Segment(RUNTIME, struct.pack("<2Q", one, 0), 6)]
-    yield salvage("interpreters: by search", GOOD, files_of(core_file(maps), program=NAMED), head + found)
-    words = b"".join(struct.pack("<Q", place) for place in places)
-    program = image_file([Segment(0x400000, b"", 5, 0x1000)], (BSS, 16), (), [Section(".PyRuntime", 1, RUNTIME, None, len(words))])
-    maps = [objects.segment(6), mapped(), bss(0, 0), Segment(RUNTIME, words, 6)]
+    idle = objects.record("interpreter")
+    objects.word(idle, one)
+    yield salvage("interpreters: the newest one without threads", GOOD, named(objects, idle), head + text)
+    objects, places = several(17, True)
     many = "".join(f"Interpreter 0x{place:x}\nThread 0x{number + 1:X}\n" for number, place in enumerate(places[:16]))
-    yield salvage("interpreters: seventeen", GOOD, files_of(core_file(maps), program=program), head + many + "... more than 16 interpreters\n")
+    yield salvage("interpreters: seventeen", GOOD, named(objects, places[0]), head + many + "... more than 16 interpreters\n")
+    objects, (one, two) = several(2, False)
+    found = f"Interpreter 0x{one:x}\nThread 0x1\nInterpreter 0x{two:x} (found by search)\nThread 0x2\n"
+    yield salvage("interpreters: by search in the runtime section", GOOD, named(objects, one, two), head + found)
+    yield salvage("interpreters: one twice", GOOD, named(objects, one, one), head + "Thread 0x1\n")
+    maps = [objects.segment(6), mapped(), bss(0, two), runtime(one)]
+    yield salvage("interpreters: by search", GOOD, files_of(core_file(maps), program=NAMED), head + found)
     broken = heap()
     broken.record("thread", THREAD, interp=HEAP, next=0x70000000, id=0x7F00)
     yield salvage("interpreters: by search, with a broken chain", GOOD, files_of(core_file([broken.segment(6), mapped(), bss()])),
                   line=b"no interpreter found: 2 addresses looked at")
+    yield salvage("interpreters: by search in the runtime section, with a broken chain", GOOD, named(broken, 0, HEAP),
+                  line=b"no interpreter found: 77 addresses looked at")
 
 
 def names() -> Iterator[Row]:

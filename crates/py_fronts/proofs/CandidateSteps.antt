@@ -1,7 +1,6 @@
 -- Candidates, one after another.
 use Rattle.std.proofs.Common.{◌≡◌, ℕ, ◌*◌, ◌/◌, ◌<◌, ◌≤◌, min, List, [], ◌∷◌, ◌++◌, length, refl, sym, ◌∙◌, ap, arith, append-nil, append_assoc}
-use Rattle.std.specs.Prelude.{Ok, Err, Option, Some, None, Result, Vec, if◌then◌else◌, nat_eq, option_map}
-use Rattle.std.specs.Global.{Global}
+use Rattle.std.specs.Prelude.{Ok, Err, Option, Some, None, Result, if◌then◌else◌, nat_eq, option_map}
 use Rattle.elf64_core.specs.Fields.{u64_in}
 use Rattle.process_memory.specs.Memory.{Found, Memory, record_at}
 use Rattle.process_memory.proofs.Records.{record_length}
@@ -12,12 +11,13 @@ use Rattle.py_version.specs.declared.version.Version.{Version}
 use Rattle.py_fields.specs.declared.layout.Layout.{Layout}
 use Rattle.py_process.specs.Facts.{Known, facts_of}
 use Rattle.py_process.specs.declared.binary.BinaryInfo.{BinaryInfo}
-use Rattle.py_process.specs.declared.search_error.SearchError.TheVariants.{NotFound, OutOfMemory}
 use Rattle.py_process.specs.Candidates.{ListIs, head_by, section_words, words_in, words_of}
 use Rattle.py_process.specs.declared.search_error.SearchError.{SearchError}
 use Rattle.py_process.proofs.Searches.{section_missing}
 use Rattle.py_process.proofs.Words.{word_first, word_none}
-use Rattle.py_fronts.specs.Candidates.{IsListed, bss_of_image, named_candidates, record_candidates, runtime_of_image, searched_candidates}
+use Rattle.py_stacks.specs.declared.error.StackError.{StackError}
+use Rattle.py_fronts.specs.Answers.{IsOrNoMemory}
+use Rattle.py_fronts.specs.Candidates.{AddsWords, bss_of_image, named_candidates, record_candidates, runtime_of_image, searched_candidates, with_records}
 
 pub words_start : (start bytes rest : List ℕ) → rest ≡ bytes → start ++ words_of rest ≡ start ++ words_of bytes
 words_start start bytes rest e = ap (λ bs. start ++ words_of bs) e
@@ -45,25 +45,59 @@ pub runtime_zero : (m : Memory) (binary : Option BinaryInfo) (info : BinaryInfo)
 runtime_zero m binary info words e zero_at =
     rw e (sym (append-nil words) ∙ ap (λ ws. words ++ ws) (sym (no_words info.pyruntime_addr (section_words m info.pyruntime_addr info.pyruntime_size) zero_at)))
 
-pub head_listed : (values : List ℕ) (read : Result (Option ℕ) SearchError) (words : Vec ℕ Global) → ListIs values read → IsListed read (Ok words) → words.items ≡ values
-head_listed values (Ok (Some a)) words is h = h ∙ sym is
-head_listed values (Ok None) words is h = h ∙ sym is
-head_listed values (Err NotFound) words is h = absurd is
-head_listed values (Err OutOfMemory) words is h = absurd h
+-- ---- those that are named
 
-pub named_words : (k : Known) (v : Version) (l : Layout) (m : Memory) (words one two : List ℕ) → words ≡ head_by l.head k v l m → one ≡ words ++ runtime_of_image m k.program → two ≡ one ++ runtime_of_image m k.library
-    → two ≡ named_candidates k v l m
+behind_head : (l : Layout) (m : Memory) (values : List ℕ) (head : ℕ) → values ≡ head ∷ []
+    → head ∷ record_candidates l m head ≡ with_records l m values
+behind_head l m values head e = rw e (ap (λ xs. head ∷ xs) (sym (append-nil (record_candidates l m head))))
+
+pub head_named : (k : Known) (v : Version) (l : Layout) (m : Memory) (head : ℕ) (read : Result (Option ℕ) SearchError)
+    (result : Result (List ℕ) StackError) → read ≡ Ok (Some head) → ListIs (head_by l.head k v l m) read
+    → IsOrNoMemory (head ∷ record_candidates l m head) result → IsOrNoMemory (named_candidates k v l m) result
 unfolding named_candidates
-named_words k v l m words one two h p q =
-    q ∙ ap (λ ws. ws ++ runtime_of_image m k.library) (p ∙ ap (λ ws. ws ++ runtime_of_image m k.program) h) ∙ append_assoc (head_by l.head k v l m) (runtime_of_image m k.program) (runtime_of_image m k.library)
+head_named k v l m head read (Ok words) e is h =
+    let there : head_by l.head k v l m ≡ head ∷ [] = rw e at is in
+    h ∙ behind_head l m (head_by l.head k v l m) head there
+head_named k v l m head read (Err f) e is h = h
 
-pub searched_words : (k : Known) (m : Memory) (words one two : List ℕ) → words ≡ [] → one ≡ words ++ bss_of_image m k.program → two ≡ one ++ bss_of_image m k.library → two ≡ searched_candidates k m
+pub none_named : (k : Known) (v : Version) (l : Layout) (m : Memory) (words : List ℕ)
+    (read : Result (Option ℕ) SearchError) → read ≡ Ok None → ListIs (head_by l.head k v l m) read → words ≡ []
+    → words ≡ named_candidates k v l m
+unfolding named_candidates
+none_named k v l m words read e is h =
+    let none : head_by l.head k v l m ≡ [] = rw e at is in
+    h ∙ ap (with_records l m) (sym none)
+
+-- ---- those that are found by search
+
+pub searched_words : (k : Known) (m : Memory) (words one two three four : List ℕ) → words ≡ []
+    → one ≡ words ++ runtime_of_image m k.program → two ≡ one ++ runtime_of_image m k.library
+    → three ≡ two ++ bss_of_image m k.program → four ≡ three ++ bss_of_image m k.library
+    → four ≡ searched_candidates k m
 unfolding searched_candidates
-searched_words k m words one two h p q = q ∙ ap (λ ws. ws ++ bss_of_image m k.library) (p ∙ ap (λ ws. ws ++ bss_of_image m k.program) h)
+searched_words k m words one two three four h p q r s =
+    let named : two ≡ runtime_of_image m k.program ++ runtime_of_image m k.library =
+    q ∙ ap (λ ws. ws ++ runtime_of_image m k.library) (p ∙ ap (λ ws. ws ++ runtime_of_image m k.program) h) in
+    s ∙ ap (λ ws. ws ++ bss_of_image m k.library) (r ∙ ap (λ ws. ws ++ bss_of_image m k.program) named)
+    ∙ append_assoc (runtime_of_image m k.program ++ runtime_of_image m k.library) (bss_of_image m k.program)
+    (bss_of_image m k.library)
 
-pub record_words : (l : Layout) (m : Memory) (a count : ℕ) (words one : List ℕ) → words ≡ [] → count ≡ min (l.interpreter.threads / 8) 1024 → one ≡ words ++ section_words m a (8 * count) → one ≡ record_candidates l m a
+-- ---- those that a record names
+
+record_is : (l : Layout) (m : Memory) (a count : ℕ) → count ≡ min (l.interpreter.threads / 8) 1024
+    → section_words m a (8 * count) ≡ record_candidates l m a
 unfolding record_candidates
-record_words l m a count words one h is p = p ∙ ap (λ ws. ws ++ section_words m a (8 * count)) h ∙ ap (λ n. section_words m a (8 * n)) is
+record_is l m a count is = ap (λ n. section_words m a (8 * n)) is
+
+pub record_added : (l : Layout) (m : Memory) (a count : ℕ) (old new : List ℕ) (result : Result (Unit {0}) StackError)
+    → count ≡ min (l.interpreter.threads / 8) 1024 → AddsWords old (section_words m a (8 * count)) new result
+    → AddsWords old (record_candidates l m a) new result
+record_added l m a count old new (Ok u) is h = h ∙ ap (λ ws. old ++ ws) (record_is l m a count is)
+record_added l m a count old new (Err e) is h = h
+
+pub record_words : (l : Layout) (m : Memory) (a : ℕ) (words one : List ℕ) → words ≡ []
+    → one ≡ words ++ record_candidates l m a → one ≡ record_candidates l m a
+record_words l m a words one h p = p ∙ ap (λ ws. ws ++ record_candidates l m a) h
 
 pub bss_none : (m : Memory) (binary : Option BinaryInfo) (words : List ℕ) → binary ≡ None → words ≡ words ++ bss_of_image m (option_map facts_of binary)
 bss_none m binary words e = rw e (sym (append-nil words))

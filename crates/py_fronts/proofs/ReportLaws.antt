@@ -5,7 +5,7 @@ use Rattle.std.proofs.lemmas.Bool.Decides.{nat_tests}
 use Rattle.std.proofs.lemmas.List.{length-map, map-append}
 use Rattle.std.proofs.lemmas.List.Elements.{All-cons, All-contains, All-head, All-nil, All-tail, Contains-append_cases, Contains-append_left, Contains-append_right}
 use Rattle.std.specs.Prelude.{All, Contains, ◌||◌, IfOk, Option, Some, None, Ok, Err, Result, nat_eq}
-use Rattle.std.specs.List.{filter}
+use Rattle.std.specs.List.{filter, flat_map}
 use Rattle.elf64_core.specs.Fields.{u64_in}
 use Rattle.process_memory.specs.Memory.{Found, Memory, ◌>>=◌, record_at}
 use Rattle.process_memory.specs.Walk.{IsChain}
@@ -18,7 +18,7 @@ use Rattle.py_stacks.specs.Frames.{AreFrames, Call, back_of, member_limit}
 use Rattle.py_stacks.specs.Interpreter.{interpreter_named_by, named_at, threads_head}
 use Rattle.py_stacks.specs.Threads.{AreTraces, AreTracesOf, IsTraceOf, Trace, thread_after, thread_limit}
 use Rattle.py_stacks.specs.declared.error.StackError.{StackError}
-use Rattle.py_process.specs.Candidates.{IsInterpreterIn, candidates_of, head_by, runtime_words, section_words, words_of_image}
+use Rattle.py_process.specs.Candidates.{IsInterpreterIn, candidates_of, head_by, runtime_words, section_words, words_of_image, words_of_images}
 use Rattle.py_process.specs.Facts.{Facts, Known}
 use Rattle.py_process.specs.Reports.{bare_call}
 use Rattle.py_fronts.specs.declared.fronts.Fronts.{Fronts}
@@ -27,7 +27,7 @@ use Rattle.py_fronts.specs.declared.interpreters.FoundInterpreters.{FoundInterpr
 use Rattle.py_fronts.specs.declared.thread_front.ThreadsFront.{ThreadsFront}
 use Rattle.py_fronts.specs.Answers.{IsOrNoMemory}
 use Rattle.py_fronts.specs.BesideReports.{AgreeWithReport, AgreesWithReport, FindsReported, IsReported, NameIt, NoTextAtNull, ShowTraces, ShowsCalls, ShowsTrace, frames_among, is_shown}
-use Rattle.py_fronts.specs.Candidates.{bss_of_image, named_candidates, runtime_of_image, searched_candidates}
+use Rattle.py_fronts.specs.Candidates.{bss_of_image, named_candidates, record_candidates, runtime_of_image, searched_candidates}
 use Rattle.py_fronts.specs.FirstFrames.{ShowsEnds}
 use Rattle.py_fronts.specs.FrameFronts.{FramesShown, all_members_limit, chain_from, chain_of_thread, frames_shown, thread_members_limit}
 use Rattle.py_fronts.specs.Front.{Break, Front, Leads, front_at, or_lost}
@@ -196,31 +196,34 @@ in_image m None a h = inl h
 in_image m (Some facts) a h = Contains-append_cases (runtime_words m facts.pyruntime_addr facts.pyruntime_size)
     (section_words m facts.bss_addr facts.bss_size) a h
 
+in_images : (m : Memory) (k : Known) (a : ℕ) → Contains (words_of_images m k) a → Contains (searched_candidates k m) a
+unfolding searched_candidates
+in_images m k a h =
+    let runtimes = runtime_of_image m k.program ++ runtime_of_image m k.library in
+    let sections = bss_of_image m k.program ++ bss_of_image m k.library in
+    elim (Contains-append_cases (words_of_image m k.program) (words_of_image m k.library) a h) [
+      | inl program ↦ elim (in_image m k.program a program) [
+        | inl one ↦ Contains-append_left runtimes sections a
+            (Contains-append_left (runtime_of_image m k.program) (runtime_of_image m k.library) a one)
+        | inr one ↦ Contains-append_right runtimes sections a
+            (Contains-append_left (bss_of_image m k.program) (bss_of_image m k.library) a one)
+      ]
+      | inr library ↦ elim (in_image m k.library a library) [
+        | inl one ↦ Contains-append_left runtimes sections a
+            (Contains-append_right (runtime_of_image m k.program) (runtime_of_image m k.library) a one)
+        | inr one ↦ Contains-append_right runtimes sections a
+            (Contains-append_right (bss_of_image m k.program) (bss_of_image m k.library) a one)
+      ]
+    ]
+
 in_either : (k : Known) (v : Version) (l : Layout) (m : Memory) (a : ℕ) → Contains (candidates_of k v l m) a
     → Contains (named_candidates k v l m) a ⊎ Contains (searched_candidates k m) a
-unfolding candidates_of named_candidates searched_candidates
+unfolding candidates_of named_candidates
 in_either k v l m a h =
-    elim (Contains-append_cases (head_by l.head k v l m) (words_of_image m k.program ++ words_of_image m k.library) a
-    h) [
-      | inl head ↦ inl
-          (Contains-append_left (head_by l.head k v l m)
-          (runtime_of_image m k.program ++ runtime_of_image m k.library) a head)
-      | inr words ↦ elim (Contains-append_cases (words_of_image m k.program) (words_of_image m k.library) a words) [
-        | inl program ↦ elim (in_image m k.program a program) [
-          | inl one ↦ inl
-              (Contains-append_right (head_by l.head k v l m)
-              (runtime_of_image m k.program ++ runtime_of_image m k.library) a
-              (Contains-append_left (runtime_of_image m k.program) (runtime_of_image m k.library) a one))
-          | inr one ↦ inr (Contains-append_left (bss_of_image m k.program) (bss_of_image m k.library) a one)
-        ]
-        | inr library ↦ elim (in_image m k.library a library) [
-          | inl one ↦ inl
-              (Contains-append_right (head_by l.head k v l m)
-              (runtime_of_image m k.program ++ runtime_of_image m k.library) a
-              (Contains-append_right (runtime_of_image m k.program) (runtime_of_image m k.library) a one))
-          | inr one ↦ inr (Contains-append_right (bss_of_image m k.program) (bss_of_image m k.library) a one)
-        ]
-      ]
+    let heads = head_by l.head k v l m in
+    elim (Contains-append_cases heads (words_of_images m k) a h) [
+      | inl head ↦ inl (Contains-append_left heads (flat_map (record_candidates l m) heads) a head)
+      | inr words ↦ inr (in_images m k a words)
     ]
 
 names_back : (l : Layout) (m : Memory) (a head : ℕ) → named_at l m a ≡ Ok a → threads_head l m a ≡ Ok head

@@ -169,7 +169,7 @@ pub record Turning (contains : ℕ → Bool) (l : Layout) (start : Finds) (old n
 -- how many reads it takes to find them all at most
 abbrev pub interpreters_reads : Known → Version → Layout → Memory → ℕ
 interpreters_reads k v l m =
-    6 + 2 * length (named_candidates k v l m) + 4098 * length (searched_candidates k m) + 32 * record_reads
+    7 + 2 * length (named_candidates k v l m) + 4098 * length (searched_candidates k m) + 32 * record_reads
 
 -- what the search for interpreters owes
 abbrev pub Looking : Known → Version → Layout → Seen → Seen → (Memory → Type 0) → Type 0

@@ -1,17 +1,17 @@
 //! The addresses that may be an interpreter's.
-ghost use Rattle.std.specs.Prelude.{◌≡◌, ◌≤◌, ◌++◌, ◌^◌, IfOk, OnOk, length, option_map};
+ghost use Rattle.std.specs.Prelude.{◌≡◌, ◌≤◌, ◌∷◌, ◌++◌, ◌^◌, IfOk, OnOk, length, option_map};
 ghost use Rattle.process_memory.specs.Seen.{ReadingBelow};
 ghost use Rattle.py_fields.specs.Sound.{IsSound};
 ghost use Rattle.py_process.specs.Candidates.{runtime_words, section_words, words_of};
 ghost use Rattle.py_process.specs.Facts.{facts_of, known_of};
 ghost use Rattle.py_fronts.specs.Answers.{IsOrNoMemory};
-ghost use Rattle.py_fronts.specs.Candidates.{AddsWords, IsListed, bss_of_image, named_candidates, record_candidates, runtime_of_image, searched_candidates, words_result};
+ghost use Rattle.py_fronts.specs.Candidates.{AddsWords, bss_of_image, named_candidates, record_candidates, runtime_of_image, searched_candidates, words_result};
 
 use elf64_core::u64_in;
 use image_memory::ContainsAddr;
 use process_memory::{ProcessMemory, ReadFault};
 use py_fields::Layout;
-use py_process::{BinaryInfo, PythonProcessInfo, SearchError, read_head};
+use py_process::{BinaryInfo, PythonProcessInfo, read_head};
 use py_stacks::StackError;
 use py_version::Version;
 use std::alloc::{AllocFailed, Global};
@@ -90,22 +90,38 @@ fn add_bss<P: ProcessMemory>(
     }
 }
 
-/// The head as a list; want of memory is handed on.
-fn listed(alloc: Global, read: Result<Option<u64>, SearchError>) -> Result<Vec<u64>, StackError>
-    ensures { IsListed read result }
+/// Adds those that the record of an interpreter names. One read.
+fn add_record<P: ProcessMemory>(
+    alloc: Global,
+    process: &mut P,
+    words: &mut Vec<u64>,
+    layout: &Layout,
+    interpreter: u64,
+) -> Result<(), StackError>
+    ensures { ReadingBelow (2 ^ 64) 1 (P.seen process.old) (P.seen process.new) (λ m.
+        AddsWords words.old.items (record_candidates layout.now m interpreter) words.new.items result) }
 {
-    match read {
-        Ok(Some(addr)) => {
-            let words = vec![in alloc; addr]?;
-            Ok(words)
-        }
-        Ok(None) => Ok(Vec::new(alloc)),
-        Err(_) => Err(StackError::OutOfMemory),
-    }
+    let count = (layout.interpreter.threads / 8).min(RECORD_WORDS_LIMIT);
+    add_section(alloc, process, words, interpreter, 8 * u64::from(count))
 }
 
-/// The candidates that symbols and runtime sections name, in order: the head that symbols give, and then the words of
-/// the program's runtime section and of the library's. The one error is want of memory. At most 4 reads.
+/// The head, and behind it the candidates that its record names. One read.
+fn head_candidates<P: ProcessMemory>(
+    alloc: Global,
+    process: &mut P,
+    layout: &Layout,
+    head: u64,
+) -> Result<Vec<u64>, StackError>
+    ensures { ReadingBelow (2 ^ 64) 1 (P.seen process.old) (P.seen process.new)
+        (λ m. IsOrNoMemory (head ∷ record_candidates layout.now m head) (words_result result)) }
+{
+    let mut words = vec![in alloc; head]?;
+    add_record(alloc, process, &mut words, layout, head)?;
+    Ok(words)
+}
+
+/// The candidates that are named, in order: the head that symbols give, as `py_process::read_head` says, and those that
+/// its record names, since the newest interpreter may have no thread. The one error is want of memory. At most 3 reads.
 pub fn named_candidates<M: ContainsAddr, P: ProcessMemory>(
     alloc: Global,
     info: &PythonProcessInfo<M>,
@@ -114,27 +130,30 @@ pub fn named_candidates<M: ContainsAddr, P: ProcessMemory>(
     layout: &Layout,
 ) -> Result<Vec<u64>, StackError>
     requires sound { IsSound layout.now }
-    ensures { ReadingBelow (2 ^ 64) 4 (P.seen process.old) (P.seen process.new) (λ m. IsOrNoMemory
+    ensures { ReadingBelow (2 ^ 64) 3 (P.seen process.old) (P.seen process.new) (λ m. IsOrNoMemory
         (named_candidates (known_of info.now) version.now layout.now m) (words_result result)) }
 {
-    let read = read_head(alloc, info, process, version, layout);
-    let mut words = listed(alloc, read)?;
-    add_runtime(alloc, process, &mut words, &info.python_binary)?;
-    add_runtime(alloc, process, &mut words, &info.libpython_binary)?;
-    Ok(words)
+    match read_head(alloc, info, process, version, layout) {
+        Ok(Some(head)) => head_candidates(alloc, process, layout, head),
+        Ok(None) => Ok(Vec::new(alloc)),
+        Err(_) => Err(StackError::OutOfMemory),
+    }
 }
 
-/// The candidates that are found by search alone, in order: the words of the program's bss and of the library's. The one
-/// error is want of memory. At most 2 reads.
+/// The candidates that are found by search alone, in order: the words of the program's runtime section and of the
+/// library's, and then those of the program's bss and of the library's. The one error is want of memory. At most 4
+/// reads.
 pub fn searched_candidates<M: ContainsAddr, P: ProcessMemory>(
     alloc: Global,
     info: &PythonProcessInfo<M>,
     process: &mut P,
 ) -> Result<Vec<u64>, StackError>
-    ensures { ReadingBelow (2 ^ 64) 2 (P.seen process.old) (P.seen process.new)
+    ensures { ReadingBelow (2 ^ 64) 4 (P.seen process.old) (P.seen process.new)
         (λ m. IsOrNoMemory (searched_candidates (known_of info.now) m) (words_result result)) }
 {
     let mut words = Vec::new(alloc);
+    add_runtime(alloc, process, &mut words, &info.python_binary)?;
+    add_runtime(alloc, process, &mut words, &info.libpython_binary)?;
     add_bss(alloc, process, &mut words, &info.python_binary)?;
     add_bss(alloc, process, &mut words, &info.libpython_binary)?;
     Ok(words)
@@ -151,14 +170,7 @@ pub(crate) fn record_candidates<P: ProcessMemory>(
         (λ m. IsOrNoMemory (record_candidates layout.now m interpreter) (words_result result)) }
     ensures few { IfOk result (λ words. length words.items ≤ 1024) }
 {
-    let count = (layout.interpreter.threads / 8).min(RECORD_WORDS_LIMIT);
     let mut words = Vec::new(alloc);
-    add_section(
-        alloc,
-        process,
-        &mut words,
-        interpreter,
-        8 * u64::from(count),
-    )?;
+    add_record(alloc, process, &mut words, layout, interpreter)?;
     Ok(words)
 }

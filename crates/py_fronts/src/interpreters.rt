@@ -36,8 +36,8 @@ pub struct FoundInterpreter {
     pub address: u64,
     /// The address of its first thread.
     pub head: u64,
-    /// Whether it was found by search alone: neither the head that symbols give, nor a runtime section, nor the record
-    /// of an interpreter that was found before named it.
+    /// Whether it was found by search alone: it is neither the head that symbols give nor named by that one's record,
+    /// nor by the record of an interpreter that was found before.
     pub searched: bool,
 }
 
@@ -366,17 +366,18 @@ fn find_all<M: ContainsAddr, P: ProcessMemory>(
 
 /// The interpreters of a process that are shown, in the order in which they are found.
 ///
-/// First come those that are named: the head that symbols give, then the words of the program's runtime section and of
-/// the library's; and with them those that the record of one of them names, by one of its words in front of the head of
-/// its threads, of which at most 1024 are looked at, in turn. Then those that are found by search alone: the words of
-/// the program's bss and of the library's, and again those that the records of these name. Each address is taken once,
-/// and 16 at most; `more` says whether there is another.
+/// First come those that are named: the head that symbols give and those that its record names, though it has no
+/// thread itself; and with them those that the record of one of them names. A record names an interpreter by one of its
+/// words in front of the head of its threads, of which at most 1024 are looked at, in turn. Then those that are found
+/// by search alone: the words of the program's runtime section and of the library's, and those of their bss, and again
+/// those that the records of these name. Each address is taken once, and 16 at most; `more` says whether there is
+/// another.
 ///
 /// An address is an interpreter's where a map holds it, the word of its first thread is in memory, is not 0 and lies in
 /// a map, and the record of that thread names the address. One that is found by search alone is taken only where its
 /// chain of threads is whole.
 ///
-/// The one error is want of memory. At most 6 reads for the candidates, 2 for each that is named, 4098 for each that is
+/// The one error is want of memory. At most 7 reads for the candidates, 2 for each that is named, 4098 for each that is
 /// found by search, and 65568 for the records.
 pub fn find_interpreters<M: ContainsAddr, P: ProcessMemory>(
     alloc: Global,

@@ -260,24 +260,30 @@ const INTERPRETERS: [(u64, &[u64]); 10] = [
     (OVER, &[LISTED, 0]),
 ];
 
-/// The words of the runtime section and of the bss of a program.
+/// The words of the runtime section, of which the fifth is the head, and of the bss of a program.
 const RUNTIME: u64 = 0x50_0000;
 
 const BSS: u64 = 0x60_0000;
 
-/// Words of both, and the interpreters that are found, with whether by search alone.
-const SEARCHES: [(&[u64], &[u64], &[(u64, bool)]); 4] = [
+/// Words of both, and the interpreters that are found, with whether by search alone: the head has threads, a broken
+/// chain of them, none at all, another's, and none but a record that names one.
+const SEARCHES: [(&[u64], &[u64], &[(u64, bool)]); 5] = [
     (
-        &[INTERPRETER, TWIN, INTERPRETER],
+        &[0, 0, 0, 0, INTERPRETER, TWIN, INTERPRETER],
         &[OVER, SINGLE, INTERPRETER],
         &[(INTERPRETER, false), (LISTED, false), (SINGLE, true)],
     ),
-    (&[TORN], &[TORN], &[(TORN, false)]),
-    (&[0], &[TORN, TWIN, 0, LOST], &[]),
+    (&[0, 0, 0, 0, TORN], &[TORN], &[(TORN, false)]),
+    (&[TORN, 0, 0, 0, 0], &[TORN, TWIN, 0, LOST], &[]),
     (
-        &[TWIN],
+        &[INTERPRETER, 0, 0, 0, TWIN],
         &[INTERPRETER],
         &[(INTERPRETER, true), (LISTED, false)],
+    ),
+    (
+        &[0, 0, 0, 0, OVER, SINGLE],
+        &[],
+        &[(LISTED, false), (SINGLE, true)],
     ),
 ];
 
@@ -287,8 +293,12 @@ fn info(
     runtime: &[u64],
     bss: &[u64],
 ) -> Result<PythonProcessInfo<Vec<CoreMapRange>>, AllocError> {
+    let mut symbols = BTreeMap::new(alloc);
+    let mut name = Vec::new(alloc);
+    name.extend_from_slice(b"_PyRuntime")?;
+    symbols.insert(name, RUNTIME)?;
     let program = BinaryInfo {
-        symbols: BTreeMap::new(alloc),
+        symbols,
         bss_addr: BSS,
         bss_size: 8 * bss.len() as u64,
         pyruntime_addr: RUNTIME,

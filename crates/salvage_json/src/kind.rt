@@ -1,7 +1,8 @@
 //! How a chain ends, what is known of a lock, and why something is not there: each an object with its kind.
 ghost use Rattle.std.specs.Prelude.{◌≡◌, IfOk, string_bytes};
 ghost use Rattle.serde_json.specs.View.{view};
-ghost use Rattle.salvage_json.specs.Kinds.{address_tree, end_tree, fault_or_null, fault_tree, holder_tree, kind_tree, lock_tree, missing_tree, stray_tree, why_tree};
+ghost use Rattle.salvage_json.specs.Kinds.{address_tree, end_tree, fault_or_null, fault_tree, holder_tree};
+ghost use Rattle.salvage_json.specs.Kinds.{kind_tree, lock_tree, missing_tree, stray_tree, why_tree};
 ghost use Rattle.salvage_texts.specs.Ends.{address_text};
 
 use py_builtins::ObjectError;

@@ -1,7 +1,8 @@
 //! Members: frames with their locals, and those that have no names.
 ghost use Rattle.std.specs.Prelude.{◌≡◌, IfOk};
 ghost use Rattle.serde_json.specs.View.{view};
-ghost use Rattle.salvage_json.specs.Members.{frame_tree, local_tree, locals_tree, shown_tree, standing_tree, standings_tree, text_tree};
+ghost use Rattle.salvage_json.specs.Members.{frame_tree, local_tree, locals_tree, shown_tree};
+ghost use Rattle.salvage_json.specs.Members.{standing_tree, standings_tree, text_tree};
 
 use crate::kind::{address_value, fault_or_null, why_value};
 use elf64_core::Text;

@@ -3,7 +3,8 @@ ghost use Rattle.std.specs.Prelude.{◌≡◌, ◌++◌, false, IfOk, OnOk, map,
 ghost use Rattle.serde_json.specs.View.{view};
 ghost use Rattle.serde_json.specs.Written.{has_float};
 ghost use Rattle.py_version.specs.Version.{version_text};
-ghost use Rattle.salvage_json.specs.Salvaged.{interpreter_tree, interpreter_trees, interpreters_tree, ordered_trees, pretty_text, process_tree, salvaged_json, salvaged_tree, signal_tree};
+ghost use Rattle.salvage_json.specs.Salvaged.{interpreter_tree, interpreter_trees, interpreters_tree, ordered_trees};
+ghost use Rattle.salvage_json.specs.Salvaged.{pretty_text, process_tree, salvaged_json, salvaged_tree, signal_tree};
 
 use crate::kind::{address_value, end_value, lock_value};
 use crate::thread::threads_value;
@@ -143,8 +144,8 @@ fn pretty(alloc: Global, value: &Value) -> Result<String, AllocError>
 /// its threads and how their chain ends, each thread with its marks, its frames and how these end.
 ///
 /// Interpreters and threads stand in the order of `salvage_texts::salvaged_text`. The keys of an object stand in the
-/// order of their bytes; an address is a text in hexadecimal digits, and an end, a lock or a cause is an object with its
-/// kind. The one error is want of memory.
+/// order of their bytes; an address is a text in hexadecimal digits, and an end, a lock or a cause is an object with
+/// its kind. The one error is want of memory.
 pub fn salvaged_json(
     alloc: Global,
     signal: Option<i16>,

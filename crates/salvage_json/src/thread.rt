@@ -1,7 +1,8 @@
 //! Threads.
 ghost use Rattle.std.specs.Prelude.{◌≡◌, ◌++◌, IfOk, OnOk, map};
 ghost use Rattle.serde_json.specs.View.{view};
-ghost use Rattle.salvage_json.specs.Threads.{frames_tree, id_tree, ordered_trees, reversed_trees, thread_tree, threads_tree};
+ghost use Rattle.salvage_json.specs.Threads.{frames_tree, id_tree, ordered_trees};
+ghost use Rattle.salvage_json.specs.Threads.{reversed_trees, thread_tree, threads_tree};
 
 use crate::kind::{address_value, end_value};
 use crate::member::standings_value;

@@ -13,10 +13,10 @@ use Rattle.salvage_report.specs.Reading.{AreRead, files_of, images_read}
 use Rattle.salvage_report.specs.Texts.{shown_left}
 
 -- The text of what is left of a process was written, or its JSON where the words ask for that: of at least one
--- interpreter, and of the fronts over the memory of the core and its images, each interpreter with its own lock, and the
--- thread that the core's first status record is of (`IsLeft`): by the bytes that the files gave for the core, by the
--- layouts that they gave, and by all the images, each under its path. Which bytes a file gave is said where the files
--- tell, and what was written where the stream tells.
+-- interpreter, and of the fronts over the memory of the core and its images, each interpreter with its own lock, and
+-- the thread that the core's first status record is of (`IsLeft`): by the bytes that the files gave for the core, by
+-- the layouts that they gave, and by all the images, each under its path. Which bytes a file gave is said where the
+-- files tell, and what was written where the stream tells.
 pub record HasSalvaged (s : Salvage) (told : Told) (old new : SinkSeen) : Type 0 where
   pub core : List ℕ
   pub text : List ℕ

@@ -1,5 +1,6 @@
 -- What a run of the top call means.
-use Rattle.std.specs.Prelude.{◌≡◌, ◌≢◌, ◌≤◌, ⊤, ℕ, List, [], ◌∷◌, Option, Some, None, IsSome, Result, Ok, Err, codes, Vec}
+use Rattle.std.specs.Prelude.{◌≡◌, ◌≢◌, ◌≤◌, ⊤, ℕ, List, [], ◌∷◌, Option}
+use Rattle.std.specs.Prelude.{Some, None, IsSome, Result, Ok, Err, codes, Vec}
 use Rattle.std.specs.Global.{Global}
 use Rattle.std.specs.List.{concat}
 use Rattle.outside.specs.Files.{FilesSeen, Told}

@@ -62,7 +62,8 @@ Salvages s p crash result = IsOrNoMemory (salvaged_at (tests p.info.maps) (machi
 
 -- how many addresses are looked at
 abbrev pub Counts : Process → Result ℕ StackError → Type 0
-Counts p result = IsOrNoMemory (length (named_candidates (known_of p.info) p.version p.layout (byte_at (regions_of p.dump)))
+Counts p result = IsOrNoMemory
+    (length (named_candidates (known_of p.info) p.version p.layout (byte_at (regions_of p.dump)))
     + length (searched_candidates (known_of p.info) (byte_at (regions_of p.dump)))) result
 
 -- the text of what is left of it, or that no interpreter is shown

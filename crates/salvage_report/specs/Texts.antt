@@ -31,8 +31,8 @@ shown_left s left =
 
 unfoldable pub help_text : List ℕ
 help_text = codes "pysalvage CORE --layouts FILE [-n N] [-l].. [-j] [PATH=FILE]..\n\n"
-    ++ (codes "What is left of the Python stacks in the core of a broken process, or in one that was cut: each chain of "
-    ++ (codes "threads and\nframes as far as it goes. Where no mark stands a chain is whole.\n\n"
+    ++ (codes "What is left of the Python stacks in the core of a broken process, or in one that was cut: each chain "
+    ++ (codes "of threads and\nframes as far as it goes. Where no mark stands a chain is whole.\n\n"
     ++ (codes "CORE            the core's file\n"
     ++ (codes "--layouts FILE  the layout file\n"
     ++ (codes "-n N            the first N frames of a thread and the last N, from 1 to 4096; 100 unless it is said\n"

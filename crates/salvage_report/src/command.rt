@@ -125,8 +125,8 @@ pub fn run<F: Files, S: Sink, E: Sink>(
         → (F.seen files.new).failed ≡ (F.seen files.old).failed
         → (result ≡ cause_status cause) ⊎ (result ≡ 5) }
 
-    // where nothing is wrong with what they tell, an interpreter is shown, and no write fails, the text is written, want
-    // of memory aside
+    // where nothing is wrong with what they tell, an interpreter is shown, and no write fails, the text is written,
+    // want of memory aside
     ensures complete { (s : Salvage) (contents : List (List ℕ))
         → TellsContents (words_asked (texts words.now)) (F.seen files.old).told s contents
         → IsFaultless s contents

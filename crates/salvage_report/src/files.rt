@@ -2,7 +2,8 @@
 ghost use Rattle.std.specs.Prelude.{◌≡◌, IfErr, IfOk, map};
 ghost use Rattle.outside.specs.Files.{Gives};
 ghost use Rattle.salvage_words.specs.Seen.{asked_salvage};
-ghost use Rattle.salvage_report.specs.Reading.{HasFiles, HasSalvageFiles, IsReadTrouble, contents, files_of, images_read};
+ghost use Rattle.salvage_report.specs.Reading.{HasFiles, HasSalvageFiles, IsReadTrouble};
+ghost use Rattle.salvage_report.specs.Reading.{contents, files_of, images_read};
 
 use crate::cause::Cause;
 use crate::trouble::Trouble;
@@ -68,7 +69,8 @@ impl SalvageFiles {
         files: &mut F,
     ) -> Result<SalvageFiles, Trouble<'a>>
         ensures told { (F.seen files.new).told ≡ (F.seen files.old).told }
-        ensures read { HasSalvageFiles (F.seen files.old) (F.seen files.new) (files_of (asked_salvage words.now)) result }
+        ensures read { HasSalvageFiles (F.seen files.old) (F.seen files.new) (files_of (asked_salvage words.now))
+            result }
     {
         let core = read_file(alloc, words.core.as_bytes(), files)?;
         let layouts = read_file(alloc, words.layouts.as_bytes(), files)?;

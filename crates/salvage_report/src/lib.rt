@@ -1,7 +1,7 @@
 //! The top call of `pysalvage`: from the words of a command line to a text.
 //!
-//! `run` reads the files that the words name, opens the process of the core, looks for its interpreters, and writes what
-//! is left of their threads and frames, or one line why there is nothing.
+//! `run` reads the files that the words name, opens the process of the core, looks for its interpreters, and writes
+//! what is left of their threads and frames, or one line why there is nothing.
 #![tactic(auto)]
 
 mod cause;
