@@ -1,12 +1,12 @@
 -- clap takes words exactly where it has no kind of fault for them.
 use Rattle.std.proofs.Common.{◌≡◌, ◌≢◌, ◌↔◌, true, List, [], ◌∷◌, Option, Err, Some, None, refl, ap, inl, inr}
-use Rattle.clap.specs.Words.{HasKind, IsAmong, Kinds, Row, Text, fault_of, is_simple, is_simple_and_free, kind_of, matches_of}
+use Rattle.clap.specs.Words.{App, HasKind, IsAmong, Kinds, Row, Text, fault_of, is_simple_and_free, kind_of, matches_of}
 use Rattle.clap.specs.declared.error.Error.{Error}
 use Rattle.clap.specs.declared.error.ErrorKind.{ErrorKind}
 use Rattle.clap.specs.declared.error.ErrorKind.TheVariants as kind
 use Rattle.clap.proofs.OnLiterals.{clap_on_literals}
 use Rattle.core_words.specs.Answers.{AnswersWords}
-use Rattle.core_words.specs.Dump.{dump_app, rows_without, taken_rows}
+use Rattle.core_words.specs.Dump.{dump_app, rows_taken, rows_without}
 use Rattle.core_words.specs.declared.args_error.ArgsError.{ArgsError}
 use Rattle.core_words.specs.declared.args_error.ArgsError.TheVariants.{Refused, OutOfMemory}
 
@@ -14,14 +14,10 @@ pub dump_is_simple : is_simple_and_free dump_app ≡ true
 unfolding clap_on_literals
 dump_is_simple = refl
 
-pub dump_is_plain : is_simple dump_app ≡ true
-unfolding clap_on_literals
-dump_is_plain = refl
-
 -- words without a fault are taken
-pub taken : (words : List Text) → fault_of dump_app words ≡ [] → taken_rows words ≡ Some (matches_of dump_app words)
-unfolding taken_rows
-taken words none = ap (λ kinds. rows_without kinds (matches_of dump_app words)) none
+pub taken : (app : App) (words : List Text) → fault_of app words ≡ [] → rows_taken app words ≡ Some (matches_of app words)
+unfolding rows_taken
+taken app words none = ap (λ kinds. rows_without kinds (matches_of app words)) none
 
 none_with : (kinds : Kinds) (k : ErrorKind) (rows : List Row) → IsAmong k kinds → rows_without kinds rows ≡ None
 none_with [] k rows among = absurd among
@@ -32,9 +28,9 @@ unless_memory kinds e (inl memory) ne = absurd (ne memory)
 unless_memory kinds e (inr among) ne = among
 
 -- words with a fault are not
-pub not_taken : (words : List Text) (k : ErrorKind) → IsAmong k (fault_of dump_app words) → taken_rows words ≡ None
-unfolding taken_rows
-not_taken words k among = none_with (fault_of dump_app words) k (matches_of dump_app words) among
+pub not_taken : (app : App) (words : List Text) (k : ErrorKind) → IsAmong k (fault_of app words) → rows_taken app words ≡ None
+unfolding rows_taken
+not_taken app words k among = none_with (fault_of app words) k (matches_of app words) among
 
 pub refused : {S T : Type 0} (seen : S → T) (asked : Option T) (e : ArgsError) (k : ErrorKind)
     → (e ≡ OutOfMemory) ↔ (k ≡ kind.OutOfMemory) → (k ≢ kind.OutOfMemory → asked ≡ None) → AnswersWords seen asked (Err e)

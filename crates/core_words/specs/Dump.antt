@@ -47,9 +47,13 @@ abbrev pub rows_without : Kinds → List Row → Option (List Row)
 rows_without [] rows = Some rows
 rows_without (kind ∷ kinds) rows = None
 
--- what clap finds, where it takes the words; it reads none of the first, which stands for a program's name
+-- what clap finds in words for a command, where it takes them; it reads none of the first, which stands for a program's
+-- name
+unfoldable pub rows_taken : App → List Text → Option (List Row)
+rows_taken app words = rows_without (fault_of app words) (matches_of app words)
+
 unfoldable pub taken_rows : List Text → Option (List Row)
-taken_rows words = rows_without (fault_of dump_app words) (matches_of dump_app words)
+taken_rows words = rows_taken dump_app words
 
 -- ---- what they ask for
 

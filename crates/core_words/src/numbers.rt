@@ -11,8 +11,9 @@ pub struct Release {
     pub patch: u64,
 }
 
-/// One digit or more of the radix, at most so many.
-fn digits_in(radix: u32, most: usize, digits: &str) -> Option<u64>
+/// The number that one digit or more of the radix spell, at most so many of them; none where the text has other
+/// characters, or the number is 2^64 or more.
+pub fn digits_in(radix: u32, most: usize, digits: &str) -> Option<u64>
     requires low { 2 ≤ radix }
     requires high { radix ≤ 36 }
     ensures { result ≡ digits_in radix most digits.now }

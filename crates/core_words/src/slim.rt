@@ -5,7 +5,7 @@ ghost use Rattle.core_words.specs.Seen.{asked_slim};
 ghost use Rattle.core_words.specs.Words.{slim_words, texts};
 
 use crate::args_error::ArgsError;
-use crate::dump::images_in;
+use crate::found::images_in;
 use crate::numbers::word_number;
 use elf64_core::Name;
 use std::alloc::Global;

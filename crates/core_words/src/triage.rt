@@ -7,7 +7,7 @@ ghost use Rattle.core_words.specs.Seen.{asked_triage};
 ghost use Rattle.core_words.specs.Words.{texts, triage_by, triage_words};
 
 use crate::args_error::ArgsError;
-use crate::dump::{images_in, split_image};
+use crate::found::{images_in, split_image};
 use elf64_core::Name;
 use std::alloc::Global;
 

@@ -1,16 +1,15 @@
 //! What the words of `pysalvage` ask for.
-ghost use Rattle.std.specs.Prelude.{◌≡◌};
-ghost use Rattle.clap.specs.Words.{found_of, rows_of};
+ghost use Rattle.std.specs.Prelude.{◌≡◌, option_map};
+ghost use Rattle.clap.specs.Words.{first_of, found_of, rows_of};
 ghost use Rattle.core_words.specs.Answers.{AnswersWords};
 ghost use Rattle.core_words.specs.Words.{texts};
 ghost use Rattle.salvage_words.specs.Salvage.{is_alone, salvage_found, salvage_words, words_asked};
 ghost use Rattle.salvage_words.specs.Seen.{asked_by, asked_salvage};
 
-use crate::found::{images_given, is_set, option_text, wanted_name};
 use crate::limit::limit_of;
 use crate::taken::salvage_matches;
 use clap::ArgMatches;
-use core_words::ArgsError;
+use core_words::{ArgsError, images_given, is_set, option_value_of};
 use elf64_core::Name;
 use std::alloc::Global;
 
@@ -53,6 +52,13 @@ fn is_alone(words: &[String], word: &str) -> bool
     }
 }
 
+/// The value of an option, where it was given.
+fn option_text<'a>(matches: &ArgMatches<'a>, name: &str) -> Option<&'a str>
+    ensures { option_map (λ text. text.now) result ≡ first_of name.now (rows_of (found_of matches.now)) }
+{
+    matches.get_str(name)
+}
+
 /// What is asked for of a core, by what clap found.
 fn salvage_by(alloc: Global, matches: &ArgMatches<'_>) -> Result<SalvageWords, ArgsError>
     ensures { AnswersWords asked_salvage (salvage_found (rows_of (found_of matches.now))) result }
@@ -60,8 +66,8 @@ fn salvage_by(alloc: Global, matches: &ArgMatches<'_>) -> Result<SalvageWords, A
     let Some(limit) = limit_of(option_text(matches, "frames")) else {
         return Err(ArgsError::Refused);
     };
-    let core = wanted_name(alloc, matches, "core")?;
-    let layouts = wanted_name(alloc, matches, "layouts")?;
+    let core = option_value_of(alloc, matches, "core")?;
+    let layouts = option_value_of(alloc, matches, "layouts")?;
     let images = images_given(alloc, matches)?;
     Ok(SalvageWords {
         core,

@@ -2,7 +2,6 @@
 #![tactic(auto)]
 
 mod asked;
-mod found;
 mod limit;
 mod taken;
 

@@ -1,14 +1,12 @@
 //! The words of `pysalvage`, as clap takes them.
-ghost use Rattle.std.specs.Prelude.{◌≡◌, ◌↔◌, false, IfOk, None, Some, codes};
+ghost use Rattle.std.specs.Prelude.{◌≡◌, false, IfOk};
 ghost use Rattle.clap.specs.Words.{app_of, found_of, rows_of, rule_of};
 ghost use Rattle.core_words.specs.Answers.{AnswersWords};
-ghost use Rattle.core_words.specs.Dump.{flag_rule, images_rule, locals_rule, wanted_rule};
 ghost use Rattle.core_words.specs.Words.{texts};
 ghost use Rattle.salvage_words.specs.Salvage.{core_rule, frames_rule, salvage_app, taken_rows};
 
-use clap::error::ErrorKind;
 use clap::{Arg, ArgAction, ArgMatches, Command};
-use core_words::ArgsError;
+use core_words::{ArgsError, flag, images_arg, locals_arg, matches_in, wanted};
 use std::alloc::{AllocError, Global};
 
 fn core_arg<'a>(alloc: Global) -> Arg<'a>
@@ -16,16 +14,6 @@ fn core_arg<'a>(alloc: Global) -> Arg<'a>
     ensures local { result.global ≡ false }
 {
     Arg::new(alloc, "core")
-        .required(true)
-        .action(ArgAction::Set)
-}
-
-fn layouts_arg<'a>(alloc: Global) -> Arg<'a>
-    ensures rule { rule_of result ≡ wanted_rule (codes "layouts") None }
-    ensures local { result.global ≡ false }
-{
-    Arg::new(alloc, "layouts")
-        .long("layouts")
         .required(true)
         .action(ArgAction::Set)
 }
@@ -40,45 +28,16 @@ fn frames_arg<'a>(alloc: Global) -> Arg<'a>
         .action(ArgAction::Set)
 }
 
-fn locals_arg<'a>(alloc: Global) -> Arg<'a>
-    ensures rule { rule_of result ≡ locals_rule }
-    ensures local { result.global ≡ false }
-{
-    Arg::new(alloc, "locals")
-        .short('l')
-        .long("locals")
-        .action(ArgAction::Count)
-}
-
-fn json_arg<'a>(alloc: Global) -> Arg<'a>
-    ensures rule { rule_of result ≡ flag_rule (codes "json") (Some 106) }
-    ensures local { result.global ≡ false }
-{
-    Arg::new(alloc, "json")
-        .short('j')
-        .long("json")
-        .action(ArgAction::SetTrue)
-}
-
-fn images_arg<'a>(alloc: Global) -> Arg<'a>
-    ensures rule { rule_of result ≡ images_rule }
-    ensures local { result.global ≡ false }
-{
-    Arg::new(alloc, "images")
-        .num_args(0..)
-        .action(ArgAction::Append)
-}
-
 /// The command, as clap is told of it.
 fn salvage_command<'a>(alloc: Global) -> Result<Command<'a>, AllocError>
     ensures { IfOk result (λ command. app_of command ≡ salvage_app) }
 {
     Command::new(alloc, "pysalvage")
         .arg(core_arg(alloc))?
-        .arg(layouts_arg(alloc))?
+        .arg(wanted(alloc, "layouts", None))?
         .arg(frames_arg(alloc))?
         .arg(locals_arg(alloc))?
-        .arg(json_arg(alloc))?
+        .arg(flag(alloc, "json", Some('j')))?
         .arg(images_arg(alloc))
 }
 
@@ -91,18 +50,5 @@ pub(crate) fn salvage_matches<'a>(
     ensures { AnswersWords (λ matches. rows_of (found_of matches)) (taken_rows (texts words.now)) result }
 {
     let command = salvage_command(alloc)?;
-    match command.try_get_matches_from(words) {
-        Ok(matches) => Ok(matches),
-        Err(error) => Err(refusal(error.kind())),
-    }
-}
-
-/// Why clap took no words.
-fn refusal(kind: ErrorKind) -> ArgsError
-    ensures memory { (result ≡ ArgsError.OutOfMemory) ↔ (kind ≡ ErrorKind.OutOfMemory) }
-{
-    match kind {
-        ErrorKind::OutOfMemory => ArgsError::OutOfMemory,
-        _ => ArgsError::Refused,
-    }
+    matches_in(command, words)
 }

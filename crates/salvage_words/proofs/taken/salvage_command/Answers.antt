@@ -7,10 +7,10 @@ pub returns : goal.returns
 returns c =
     let one = c.in_ok-arg.ensures.shape c.core_arg.ensures.local
     ∙ ap₂ with_rule c.new.ensures.app c.core_arg.ensures.rule in
-    let two = c.in_ok-arg-2.ensures.shape c.layouts_arg.ensures.local ∙ ap₂ with_rule one c.layouts_arg.ensures.rule in
+    let two = c.in_ok-arg-2.ensures.shape c.wanted.ensures.local ∙ ap₂ with_rule one c.wanted.ensures.rule in
     let three = c.in_ok-arg-3.ensures.shape c.frames_arg.ensures.local ∙ ap₂ with_rule two c.frames_arg.ensures.rule in
     let four = c.in_ok-arg-4.ensures.shape c.locals_arg.ensures.local ∙ ap₂ with_rule three c.locals_arg.ensures.rule in
-    let five = c.in_ok-arg-5.ensures.shape c.json_arg.ensures.local ∙ ap₂ with_rule four c.json_arg.ensures.rule in
+    let five = c.in_ok-arg-5.ensures.shape c.flag.ensures.local ∙ ap₂ with_rule four c.flag.ensures.rule in
     IfOk-weaker c.arg-6.result _ _
     (λ command added. added.shape c.images_arg.ensures.local ∙ ap₂ with_rule five c.images_arg.ensures.rule)
     c.arg-6.ensures

@@ -2,7 +2,7 @@ use Rattle.std.proofs.Common.{◌∙◌, ap, [], codes}
 use Rattle.std.specs.Prelude.{unwrap_or}
 use Rattle.clap.specs.Words.{found_of}
 use Rattle.clap.proofs.WalkLemmas.{raw_values-rows}
-use Rattle.salvage_words.proofs.found.image_words.Goals as goal
+use Rattle.core_words.proofs.found.image_words.Goals as goal
 
 pub returns : goal.returns
 returns c =

@@ -1,7 +1,7 @@
 use Rattle.std.proofs.Common.{◌≡◌, take, map, true}
 use Rattle.std.specs.List.{list_all}
 use Rattle.core_words.specs.Dump.{image_of, is_image}
-use Rattle.salvage_words.proofs.found.images_of.Given as goal
+use Rattle.core_words.proofs.found.images_of.Given as goal
 
 abbrev pub invariant-loop-word : goal.invariant-loop-word
 invariant-loop-word l = record {

@@ -3,7 +3,7 @@ use Rattle.std.proofs.lemmas.List.{take_all}
 use Rattle.std.specs.List.{list_all}
 use Rattle.core_words.specs.Dump.{image_of, is_image}
 use Rattle.core_words.proofs.Images.{whole, not_whole, not_split}
-use Rattle.salvage_words.proofs.found.images_of.Goals as goal
+use Rattle.core_words.proofs.found.images_of.Goals as goal
 
 pub returns-in_default : goal.returns-in_default
 returns-in_default c =
