@@ -1,25 +1,23 @@
 -- The steps of a merge of a core's thread, and that it has one right answer.
-use Rattle.std.proofs.Common.{◌≡◌, ◌⊎◌, ℕ, Bool, true, false, List, Result, Ok, Err, refl, sym, ap, subst, ◌∙◌, inl, inr, ⊎_elim}
+use Rattle.std.proofs.Common.{◌≡◌, ◌⊎◌, ℕ, Bool, true, false, List, Result, Ok, Err, refl, sym, ap, subst, ◌∙◌, inl, inr}
 use Rattle.std.specs.Prelude.{IsErrOf, Vec, filter, map}
 use Rattle.maps_text.specs.Relevance.{is_relevant}
 use Rattle.std.specs.Global.{Global}
-use Rattle.std.specs.List.{list_any, list_all}
-use Rattle.image_memory.specs.FileTables.{Entry}
+use Rattle.std.specs.List.{list_all}
 use Rattle.image_memory.specs.Images.{Pushed}
 use Rattle.image_memory.specs.Pieces.{loads_of}
 use Rattle.image_memory.proofs.Noted.{entries_same}
 use Rattle.maps_text.specs.declared.entry.MapsEntry.{MapsEntry}
 use Rattle.normalize_core.specs.Order.{in_order}
-use Rattle.normalize_core.specs.Targets.{overflows}
 use Rattle.py_stacks.specs.declared.trace.Frame.{Frame}
 use Rattle.py_stacks.specs.Frames.{Call, calls_of_result}
 use Rattle.native_merge.specs.ImageSymbols.{FilesMapped, files_mapped}
 use Rattle.native_merge.specs.declared.merge_error.MergeError.{MergeError}
 use Rattle.native_merge.specs.declared.merge_error.MergeError.TheVariants as merging
-use Rattle.core_merge.specs.Addresses.{AddressesSay, numbers_in}
-use Rattle.core_merge.specs.CoreEntries.{AreCoreEntries, AreOrdered, EntriesSay, SaysMade, SaysOrdered, entries_in, entry_of, is_placed}
+use Rattle.core_merge.specs.Addresses.{AddressesSay}
+use Rattle.core_merge.specs.CoreEntries.{AreCoreEntries, AreOrdered, EntriesSay, SaysMade, SaysOrdered, entry_of, is_placed}
 use Rattle.core_merge.specs.CoreMerges.{CoreMergeIs, MergedBy, MergedWith}
-use Rattle.core_merge.specs.ImageMerges.{ImageMergeSays, IsImageMerge}
+use Rattle.core_merge.specs.ImageMerges.{ImageMergeSays}
 use Rattle.core_merge.specs.Steps.{Then}
 use Rattle.core_merge.specs.declared.error.CoreMergeError.{CoreMergeError}
 use Rattle.core_merge.specs.declared.error.CoreMergeError.TheVariants.{BadLine, BadOffset, MapsOverlap, OffsetOverflow, Mismatch, OutOfMemory}

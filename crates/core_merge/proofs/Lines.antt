@@ -1,6 +1,5 @@
 -- The lines of addresses, one by one.
-use Rattle.std.proofs.Common.{◌≡◌, ◌++◌, ◌∷◌, [], ◌+◌, ℕ, List, true, false, length, ap, map, refl, sym, subst, ◌∙◌, Ok, Err, Result, suc, arith}
-use Rattle.std.specs.Prelude.{All}
+use Rattle.std.proofs.Common.{◌≡◌, ◌++◌, ◌∷◌, [], ◌+◌, ℕ, List, true, false, length, ap, map, refl, sym, subst, ◌∙◌, Ok, Err, Result, suc}
 use Rattle.std.proofs.lemmas.List.Elements.{All-append, All-cons, All-head, All-nil, All-tail}
 use Rattle.std.proofs.lemmas.List.{map-append}
 use Rattle.maps_text.specs.Texts.{lines_of}

@@ -1,5 +1,5 @@
 -- The entries of a core's maps, one by one.
-use Rattle.std.proofs.Common.{◌≡◌, ◌<◌, ◌≤◌, ◌+◌, ◌-◌, ◌^◌, ◌&&◌, nat_lt, zero, suc, ℕ, Bool, true, false, List, [], ◌∷◌, ◌++◌, drop, filter, get_or, length, map, Option, Some, Err, Ok, refl, sym, ap, subst, ◌∙◌, append_assoc, arith}
+use Rattle.std.proofs.Common.{◌≡◌, ◌<◌, ◌≤◌, ◌+◌, ◌-◌, ◌^◌, ◌&&◌, nat_lt, zero, suc, ℕ, Bool, true, false, List, [], ◌∷◌, ◌++◌, drop, filter, get_or, length, map, Option, Err, Ok, refl, sym, ap, subst, ◌∙◌, append_assoc, arith}
 use Rattle.std.proofs.lemmas.Bool.{cond-false, cond-true}
 use Rattle.std.proofs.lemmas.Bool.Decides.{nat_tests}
 use Rattle.std.proofs.lemmas.List.{append-nil, at_drop_more, length-map}
@@ -20,7 +20,7 @@ use Rattle.image_memory.proofs.Held.{held_loads}
 use Rattle.image_memory.proofs.Noted.{entries_same}
 use Rattle.maps_text.specs.Relevance.{is_relevant}
 use Rattle.maps_text.specs.declared.entry.MapsEntry.{MapsEntry}
-use Rattle.core_merge.specs.CoreEntries.{AreCoreEntries, SaysMade, entry_of, is_placed, offset_of, unplaced}
+use Rattle.core_merge.specs.CoreEntries.{SaysMade, entry_of, is_placed, offset_of, unplaced}
 use Rattle.core_merge.specs.declared.error.CoreMergeError.TheVariants.{BadOffset}
 
 -- the relevant ones of a core's segments as entries

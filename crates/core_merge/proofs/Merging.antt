@@ -1,5 +1,5 @@
 -- What is merged over images and without sources, as what the images answer for each address.
-use Rattle.std.proofs.Common.{◌≡◌, ◌+◌, ◌≤◌, ℕ, Bool, true, false, List, [], ◌∷◌, Option, Some, None, Result, Ok, Err, refl, sym, ap, subst, ◌∙◌, arith, inl, inr, ⊎_elim, cond, map, rules}
+use Rattle.std.proofs.Common.{◌≡◌, ◌≤◌, ℕ, Bool, true, false, List, [], ◌∷◌, Option, Some, None, Result, Ok, Err, refl, sym, ap, subst, ◌∙◌, arith, inl, inr, ⊎_elim, cond, rules}
 use Rattle.std.specs.List.{AllZip}
 use Rattle.std.specs.FinMap as finmap
 use Rattle.std.specs.FinMap.{get-empty, get-insert}
@@ -9,7 +9,6 @@ use Rattle.lru.specs.LruCache.{lru_cache}
 use Rattle.outside.specs.Counts.{count_after}
 use Rattle.py_process.specs.declared.binary.BinaryInfo.{BinaryInfo}
 use Rattle.py_stacks.specs.declared.trace.Frame.{Frame}
-use Rattle.py_stacks.specs.Frames.{Call}
 use Rattle.native_merge.specs.ImageSymbols.{FilesMapped, image_seen}
 use Rattle.native_merge.specs.KeptMaps.{AddsMap, Kept, asked_line, file_order, placed, told_of, translated, translated_at, wants_map}
 use Rattle.native_merge.specs.MapsOfFiles.{IsMapOfFile, MapOrNone}

@@ -1,8 +1,7 @@
 -- What is right is one answer.
-use Rattle.std.proofs.Common.{◌≡◌, ◌+◌, ℕ, Bool, true, false, List, [], ◌∷◌, ◌++◌, length, Option, Some, None, Result, Ok, Err, refl, sym, ap, subst, ◌∙◌, inl, inr, map, suc, encode_utf8_all}
+use Rattle.std.proofs.Common.{◌≡◌, ℕ, Bool, false, List, [], ◌∷◌, Option, Some, None, Result, Ok, Err, refl, sym, ap, subst, ◌∙◌, encode_utf8_all}
 use Rattle.std.specs.List.{AllZip}
 use Rattle.std.specs.Str.{chars}
-use Rattle.maps_text.specs.Texts.{lines_of}
 use Rattle.py_stacks.specs.Frames.{Call}
 use Rattle.native_merge.specs.ImageSymbols.{FilesMapped}
 use Rattle.native_merge.specs.MergedStacks.{MergedFrame, Misfit, merged}

@@ -1,5 +1,5 @@
 -- What a sort by starts and ends gives.
-use Rattle.std.proofs.Common.{◌≡◌, ℕ, Bool, ◌&&◌, ◌||◌, nat_cmp, nat_eq, nat_lt, is_lt, List, arith, subst, refl}
+use Rattle.std.proofs.Common.{◌≡◌, ℕ, ◌&&◌, ◌||◌, nat_cmp, nat_eq, nat_lt, is_lt, List, arith, subst}
 use Rattle.std.specs.Ordering.{ordering_then}
 use Rattle.std.specs.declared.cmp.Ordering.{Ordering}
 use Rattle.std.proofs.lemmas.Bool.Decides.{nat_tests}

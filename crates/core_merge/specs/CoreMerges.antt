@@ -1,5 +1,5 @@
 -- The frames of a thread of a core, merged with native addresses that come as a text.
-use Rattle.std.specs.Prelude.{◌≡◌, ◌⊎◌, ℕ, Bool, true, false, List, Result, Ok, Err}
+use Rattle.std.specs.Prelude.{◌≡◌, ◌⊎◌, ℕ, Bool, true, false, List, Result, Err}
 use Rattle.std.specs.List.{list_any}
 use Rattle.image_memory.specs.Images.{Pushed}
 use Rattle.maps_text.specs.declared.entry.MapsEntry.{MapsEntry}

@@ -1,5 +1,5 @@
 -- Python frames merged with native addresses by what images show of these: without a cache, and without source files.
-use Rattle.std.specs.Prelude.{◌≡◌, ℕ, Bool, false, List, Result, Ok, Err}
+use Rattle.std.specs.Prelude.{ℕ, Bool, false, List, Result, Ok, Err}
 use Rattle.std.specs.List.{AllZip}
 use Rattle.py_stacks.specs.Frames.{Call}
 use Rattle.native_merge.specs.ImageSymbols.{AreImageFrames, FilesMapped, image_seen}

@@ -1,7 +1,6 @@
 //! The stacks of what was found, over a memory.
-ghost use Rattle.std.specs.Prelude.{◌≡◌, ◌+◌, ℕ};
-ghost use Rattle.image_memory.specs.Backed.{regions_of};
-ghost use Rattle.process_memory.specs.Memory.{Memory, byte_at};
+ghost use Rattle.std.specs.Prelude.{◌+◌};
+ghost use Rattle.process_memory.specs.Memory.{byte_at};
 ghost use Rattle.process_memory.specs.Seen.{Reading};
 ghost use Rattle.py_fields.specs.Sound.{IsSound};
 ghost use Rattle.py_process.specs.Reports.{StacksSay, traces_in};

@@ -1,7 +1,6 @@
 -- Keys that are the same, and their order.
-use Rattle.std.proofs.Common.{◌≡◌, rules}
+use Rattle.std.proofs.Common.{◌≡◌}
 use Rattle.std.specs.Cmp.{IsEquivalence}
-use Rattle.std.specs.Cmp.Rules.{comparing}
 use Rattle.std.specs.Ordering.{eq_by_cmp}
 use Rattle.core_triage.specs.contracts.key.StackKeyOrd.TheImpl.{ghosts}
 use Rattle.core_triage.specs.contracts.key.StackKeyOrd.TheImpl.Laws as order

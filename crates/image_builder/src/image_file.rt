@@ -1,6 +1,6 @@
 //! The image of a program: an ELF file with two segments, a bss and four symbols.
 ghost use Rattle.std.specs.Prelude.{◌≡◌, ◌++◌, IfOk};
-ghost use Rattle.image_builder.specs.ImageFiles.{image_file, image_head, image_segments, image_strings, image_symbols, section_headers};
+ghost use Rattle.image_builder.specs.ImageFiles.{image_file, image_head, image_strings, image_symbols, section_headers};
 
 use crate::elf_records::{FileHeader, add_file_header, add_section, add_segments, add_symbol};
 use crate::records::add_filled;

@@ -1,5 +1,5 @@
 //! The words of the image's bss, by which the interpreter is found, and who holds the lock.
-ghost use Rattle.std.specs.Prelude.{◌≡◌, ◌++◌, ◌≤◌, IfOk, IfSome};
+ghost use Rattle.std.specs.Prelude.{◌≡◌, ◌≤◌, IfOk, IfSome};
 ghost use Rattle.py_fields.specs.Sound.{IsSound};
 ghost use Rattle.image_builder.specs.RuntimeWords.{head_field, head_place, lock_word_place, runtime_words};
 

@@ -1,16 +1,13 @@
 //! Frames, as they are laid: the record, its code, the line table, the names of the locals, and their values.
-ghost use Rattle.std.specs.Prelude.{◌≡◌, ◌≤◌, ◌<◌, ◌++◌, ◌^◌, ◌+◌, ◌*◌, ℕ, List, map, max, length, IfOk, None};
+ghost use Rattle.std.specs.Prelude.{◌≡◌, ◌≤◌, ◌<◌, ◌++◌, ◌^◌, ◌+◌, ◌*◌, max, length, IfOk, None};
 ghost use Rattle.std.specs.List.{sum_by};
 ghost use Rattle.py_fields.specs.Sound.{IsSound};
-ghost use Rattle.py_lines.specs.Coding.{coded};
 ghost use Rattle.py_stacks.specs.Lines.{family_of};
-ghost use Rattle.memory_builder.specs.Chains.{addresses_from};
-ghost use Rattle.memory_builder.specs.Frames.{spots_for, coded_lines, instr_value, start_in, frame_writes, code_writes, table_writes, tuple_writes, laid_records, laid_contents, laid_frame, first_number};
-ghost use Rattle.memory_builder.specs.Mirror.{frame_in, local_in};
+ghost use Rattle.memory_builder.specs.Frames.{spots_for, coded_lines, instr_value, frame_writes, code_writes, table_writes, tuple_writes, laid_records, laid_contents, laid_frame, first_number};
+ghost use Rattle.memory_builder.specs.Mirror.{frame_in};
 ghost use Rattle.object_builder.specs.Objects.{aligned, object};
 ghost use Rattle.memory_builder.specs.Sizes.{frame_len, frame_size, local_size, name_size, table_len, tuple_len};
 ghost use Rattle.memory_builder.specs.Validity.{IsValidFrame};
-ghost use Rattle.memory_builder.specs.Values.{address_array};
 ghost use Rattle.object_builder.specs.Writes.{value_of};
 
 use crate::locals::{add_names, add_values, name_addresses, value_addresses};

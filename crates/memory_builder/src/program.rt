@@ -1,5 +1,5 @@
 //! A program, as it is laid: the interpreter, the lock's record, the three types, and the threads.
-ghost use Rattle.std.specs.Prelude.{◌≡◌, ◌<◌, ◌≤◌, ◌++◌, ◌^◌, ◌+◌, IfOk, IfSome, length, map, codes};
+ghost use Rattle.std.specs.Prelude.{◌≡◌, ◌<◌, ◌≤◌, ◌++◌, ◌^◌, ◌+◌, IfOk, IfSome, length};
 ghost use Rattle.std.specs.List.{AllByRecursion, sum_by};
 ghost use Rattle.py_fields.specs.Places.{gil_places};
 ghost use Rattle.py_fields.specs.Sound.{IsRecord, IsSound};

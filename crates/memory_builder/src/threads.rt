@@ -1,5 +1,5 @@
 //! Threads, as they are laid: the record, the C frame where there is one, and the frames.
-ghost use Rattle.std.specs.Prelude.{◌≡◌, ◌≤◌, ◌<◌, ◌++◌, ◌^◌, ◌+◌, ℕ, map, length, IfOk};
+ghost use Rattle.std.specs.Prelude.{◌≡◌, ◌<◌, ◌++◌, ◌^◌, ◌+◌, map, IfOk};
 ghost use Rattle.std.specs.List.{AllByRecursion, sum_by};
 ghost use Rattle.py_fields.specs.Sound.{IsSound};
 ghost use Rattle.py_stacks.specs.Lines.{family_of};
@@ -9,7 +9,7 @@ ghost use Rattle.memory_builder.specs.Mirror.{frame_in, program_thread};
 ghost use Rattle.object_builder.specs.Objects.{aligned, object};
 ghost use Rattle.memory_builder.specs.Program.{Thread};
 ghost use Rattle.memory_builder.specs.Sizes.{cframe_size, frame_size, rounded, thread_size};
-ghost use Rattle.memory_builder.specs.Threads.{frame_field, frames_place, laid_cframe, laid_thread, laid_threads, thread_writes};
+ghost use Rattle.memory_builder.specs.Threads.{frame_field, laid_cframe, laid_thread, laid_threads, thread_writes};
 ghost use Rattle.memory_builder.specs.Validity.{IsValidFrame};
 
 use crate::frames::add_frame;

@@ -1,9 +1,8 @@
 //! Which programs can be written, and where the first fault of another is.
-ghost use Rattle.std.specs.Prelude.{◌≡◌, ◌≢◌, ◌≤◌, ◌↔◌, ℕ, ℤ, pos, ◌≤ℤ◌, codes, map, length, IsTrue, IfOk, IfSome, MatchOption, encode_utf8_all};
+ghost use Rattle.std.specs.Prelude.{◌≡◌, ◌≢◌, ◌≤◌, ◌↔◌, ℕ, map, length, IsTrue, IfOk, MatchOption};
 ghost use Rattle.std.specs.List.{AllByRecursion, list_any};
 ghost use Rattle.py_lines.specs.Lines.{holds};
 ghost use Rattle.memory_builder.specs.Mirror.{item_in, program_value, local_in, frame_in, program_thread, program_in};
-ghost use Rattle.memory_builder.specs.Program.{Thread};
 ghost use Rattle.memory_builder.specs.Validity.{IsBriefText, IsValidItem, IsValidHeld, IsValidLocal, IsPositiveLine, HasPositiveLine, IsValidRange, IsCodable, IsShownFile, IsValidlyNamed, IsValidlyPlaced, HasValidLocals, IsValidFrame, IsValidThread, IsValidCall, IsValidIn, IsValidWhole, IsValidProgram, IsFirstFailing, IsFirstInvalid};
 
 use crate::parts::{Program, ProgramFrame, ProgramItem, ProgramLocal, ProgramThread, ProgramValue};

@@ -1,5 +1,5 @@
 //! Answers for native addresses in memory.
-ghost use Rattle.std.specs.Prelude.{◌≡◌, ◌≢◌, IfOk, IfErr, IsErrOf, MatchResult, Ok, Err, None, option_map};
+ghost use Rattle.std.specs.Prelude.{◌≡◌, ◌≢◌, IfOk, IsErrOf, MatchResult, Ok, Err, None, option_map};
 ghost use Rattle.outside.specs.Counts.{Rose};
 ghost use Rattle.outside.specs.Files.{is_listed};
 ghost use Rattle.native_merge.specs.MemorySymbols.{HasAnswered, HeldSymbols, answers_held, held_answer, held_frames, symbols_seen, unasked_symbols};

@@ -1,9 +1,9 @@
 //! A cache of what native addresses show.
-ghost use Rattle.std.specs.Prelude.{◌≡◌, ℕ, Bool, true, [], ◌∷◌, nat_eq, not, IfOk, IfErr, IfSome, IsErrOf, None, option_map};
+ghost use Rattle.std.specs.Prelude.{◌≡◌, [], ◌∷◌, nat_eq, IfOk, IfErr, IfSome, IsErrOf, None, option_map};
 ghost use Rattle.std.specs.Map.{lookup};
 ghost use Rattle.outside.specs.Counts.{Rose};
-ghost use Rattle.native_merge.specs.SymbolCaches.{AreKnown, IsAfter, IsHeldAnswer, MayKeep, alone, answer_listed, frames_of, IsToldAnswer};
-ghost use Rattle.native_merge.specs.Symbols.{SymbolsStay, AnswersOnce};
+ghost use Rattle.native_merge.specs.SymbolCaches.{IsAfter, IsHeldAnswer, MayKeep, alone, answer_listed, frames_of, IsToldAnswer};
+ghost use Rattle.native_merge.specs.Symbols.{SymbolsStay};
 
 use crate::copies::copy_native;
 use crate::{NativeFrame, SymbolFault, Symbolicator};

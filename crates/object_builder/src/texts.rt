@@ -1,6 +1,6 @@
 //! Texts, as they are laid: of the least kind that has all of their characters.
 ghost use Rattle.object_builder.specs.Room.{HasRoom};
-ghost use Rattle.std.specs.Prelude.{drop, length, ◌≡◌, ◌≤◌, ◌<◌, ◌++◌, ◌^◌, ◌+◌, IfOk, Option, encode_utf8_all};
+ghost use Rattle.std.specs.Prelude.{drop, length, ◌≡◌, ◌≤◌, ◌<◌, ◌++◌, ◌+◌, IfOk, Option, encode_utf8_all};
 ghost use Rattle.std.specs.Str.{chars};
 ghost use Rattle.std.specs.List.{flat_map};
 ghost use Rattle.py_builtins.specs.TextKind.{coded};

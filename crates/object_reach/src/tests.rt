@@ -1,5 +1,4 @@
 //! Objects over pieces of memory, written out by hand.
-ghost use Rattle.py_fields.specs.Sound.{IsSound};
 
 use crate::{ReachError, reach};
 use process_memory::{Part, Piece};

@@ -1,5 +1,5 @@
 -- Stacks by names and marks alone are those of a walk that asks for nothing else.
-use Rattle.std.proofs.Common.{◌≡◌, ℕ, Bool, true, List, [], ◌∷◌, length, map, refl, sym, ◌∙◌, ap, arith}
+use Rattle.std.proofs.Common.{◌≡◌, ℕ, Bool, true, List, [], ◌∷◌, map, refl, sym, ◌∙◌, ap, arith}
 use Rattle.std.specs.Prelude.{Option, Some, None, Ok, option_map, pos}
 use Rattle.std.proofs.lemmas.List.{length-map}
 use Rattle.process_memory.specs.Memory.{Memory, Found, ◌>>=◌}
@@ -11,7 +11,7 @@ use Rattle.py_stacks.specs.Frames.{AreFrames, Call, begins_hidden, detailed, pla
 use Rattle.py_stacks.specs.Member.{MemberAt}
 use Rattle.py_stacks.specs.Stacks.{by_holder}
 use Rattle.py_stacks.specs.StacksOver.{AreStacksOver}
-use Rattle.py_stacks.specs.Threads.{AreTraces, AreTracesOf, IsTraceOf, Trace, trace_by}
+use Rattle.py_stacks.specs.Threads.{AreTraces, AreTracesOf, IsTraceOf, Trace}
 use Rattle.py_stacks.specs.Values.{by_value, value_text, value_width, with_values}
 use Rattle.py_stacks.specs.declared.asked.Asked.{Asked}
 use Rattle.py_stacks.specs.declared.config.Config.{Config}

@@ -1,5 +1,5 @@
 //! The test of an address that may be an interpreter's, whole and in two steps.
-ghost use Rattle.std.specs.Prelude.{◌≡◌, ◌+◌, ◌*◌, ◌↔◌, IfOk, IsErrOf, IsTrue, Ok};
+ghost use Rattle.std.specs.Prelude.{◌+◌, ◌*◌, ◌↔◌, IfOk, IsErrOf, IsTrue, Ok};
 ghost use Rattle.process_memory.specs.Seen.{Reads, ReadsBy, ReadingBy};
 ghost use Rattle.py_fields.specs.Sound.{IsSound};
 ghost use Rattle.py_stacks.specs.StackError.{stack_fault};

@@ -1,6 +1,5 @@
 //! Buffers for the records of a walk: room that is used again, sized at each use.
 ghost use Rattle.std.specs.Prelude.{◌≡◌, ◌<◌, ◌^◌, OnOk, length};
-ghost use Rattle.std.specs.Vec.{vec_len};
 ghost use Rattle.process_memory.specs.Memory.{record_at};
 ghost use Rattle.process_memory.specs.Seen.{Reads, with_bytes};
 ghost use Rattle.py_fields.specs.Sound.{IsSound};

@@ -1,5 +1,5 @@
 //! The stacks of an interpreter, with the names of its threads and the values of locals.
-ghost use Rattle.std.specs.Prelude.{◌≡◌, ◌≤◌, ◌+◌, ◌*◌, IfOk, List, Ok, map};
+ghost use Rattle.std.specs.Prelude.{◌≤◌, ◌+◌, ◌*◌, IfOk, List, Ok, map};
 ghost use Rattle.process_memory.specs.Memory.{byte_at};
 ghost use Rattle.process_memory.specs.Seen.{Answers, ReadsBy, ReadingBy};
 ghost use Rattle.process_memory.specs.Walk.{first_fault};

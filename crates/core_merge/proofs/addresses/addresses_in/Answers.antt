@@ -1,6 +1,5 @@
-use Rattle.std.proofs.Common.{◌≡◌, ◌++◌, ◌∷◌, [], ℕ, List, ap, map, sym, ◌∙◌, append_assoc}
+use Rattle.std.proofs.Common.{◌++◌, ◌∷◌, [], ap, sym, ◌∙◌, append_assoc}
 use Rattle.maps_text.specs.Texts.{lines_of}
-use Rattle.core_merge.specs.Addresses.{address_of_line, is_address_line}
 use Rattle.core_merge.proofs.Lines.{good_more, map_more}
 use Rattle.core_merge.proofs.addresses.addresses_in.Goals as goal
 

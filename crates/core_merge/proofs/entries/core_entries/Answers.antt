@@ -1,8 +1,5 @@
-use Rattle.std.proofs.Common.{◌≡◌, Ok, Err, ap, inl, inr, refl, rules, sym, ◌∙◌, ⊎_elim}
-use Rattle.std.specs.Prelude.{Vec}
-use Rattle.std.specs.Global.{Global}
+use Rattle.std.proofs.Common.{ap, rules, sym, ◌∙◌}
 use Rattle.normalize_core.specs.Order.{in_order}
-use Rattle.maps_text.specs.declared.entry.MapsEntry.{MapsEntry}
 use Rattle.core_merge.specs.CoreEntries.{AreOrdered}
 use Rattle.core_merge.proofs.Chain.{entries_go, entries_overlap}
 use Rattle.std.proofs.lemmas.List.Sorted.{answers_always}

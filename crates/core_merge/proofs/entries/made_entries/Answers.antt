@@ -1,9 +1,8 @@
-use Rattle.std.proofs.Common.{◌≡◌, ◌++◌, ◌∷◌, ◌+◌, [], ap, inr, refl, subst, sym, ◌∙◌}
+use Rattle.std.proofs.Common.{◌≡◌, ◌++◌, ◌∷◌, ◌+◌, [], ap, inr, subst, sym, ◌∙◌}
 use Rattle.maps_text.specs.Relevance.{is_relevant}
-use Rattle.maps_text.specs.declared.entry.MapsEntry.{MapsEntry}
 use Rattle.image_memory.specs.Maps.{IsFilePlace}
 use Rattle.core_merge.specs.CoreEntries.{offset_of, unplaced}
-use Rattle.core_merge.proofs.Made.{Making, making_done, making_fits, making_more, making_none, making_past, making_skip}
+use Rattle.core_merge.proofs.Made.{Making, making_fits, making_more, making_past, making_skip}
 use Rattle.core_merge.proofs.entries.made_entries.Goals as goal
 
 pub unplaced-requires : goal.unplaced-requires

@@ -1,4 +1,4 @@
-use Rattle.std.proofs.Common.{◌≡◌, Err, Ok, Result, ⊎_elim, inr, refl, ap, sym, subst, ◌∙◌}
+use Rattle.std.proofs.Common.{Err, ⊎_elim, inr, refl, ap, sym, subst, ◌∙◌}
 use Rattle.native_merge.specs.ImageSymbols.{files_mapped}
 use Rattle.native_merge.specs.Merges.{is_python}
 use Rattle.native_merge.specs.PythonFrames.{calls}

@@ -1,4 +1,4 @@
-use Rattle.std.proofs.Common.{◌≡◌, Err, ap, inl, inr, refl, sym, subst, ◌∙◌, ⊎_elim}
+use Rattle.std.proofs.Common.{Err, ap, inl, inr, refl, sym, subst, ◌∙◌, ⊎_elim}
 use Rattle.std.specs.List.{list_any}
 use Rattle.std.proofs.lemmas.Result.{err_from_is_err_and}
 use Rattle.normalize_core.specs.Targets.{overflows}

@@ -1,4 +1,4 @@
-use Rattle.std.proofs.Common.{◌≡◌, ℕ, List, map, take, Option, BTreeMap, Bor, Vec, Global}
+use Rattle.std.proofs.Common.{ℕ, List, map, take, Option, BTreeMap, Bor, Vec, Global}
 use Rattle.std.specs.BTreeMap.{get_by}
 use Rattle.core_triage.specs.contracts.key.StackKeyOrd.TheImpl.{ghosts}
 use Rattle.core_triage.specs.declared.key.StackKey.{StackKey}

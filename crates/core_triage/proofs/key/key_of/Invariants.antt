@@ -1,4 +1,4 @@
-use Rattle.std.proofs.Common.{◌≡◌, ℕ, map, take}
+use Rattle.std.proofs.Common.{◌≡◌, map, take}
 use Rattle.core_triage.specs.Keys.{thread_compared, compared_thread}
 use Rattle.core_triage.proofs.key.key_of.Given as goal
 

@@ -1,4 +1,4 @@
-use Rattle.std.proofs.Common.{◌≡◌, ℕ, map, take}
+use Rattle.std.proofs.Common.{◌≡◌, map, take}
 use Rattle.core_triage.specs.Keys.{compared_frame, thread_compared}
 use Rattle.core_triage.proofs.key.thread_key.Given as goal
 

@@ -4,7 +4,7 @@ use Rattle.std.specs.List.{suffix_len}
 use Rattle.std.specs.Str.{IsCharBoundary}
 use Rattle.native_merge.proofs.Parts.{start_is, start_border}
 use Rattle.native_merge.proofs.paths.split_behind.Goals as goal
-use Rattle.native_merge.proofs.paths.split_behind.Goals.{After-last_start, After-split_at}
+use Rattle.native_merge.proofs.paths.split_behind.Goals.{After-split_at}
 
 pub split_at-requires : goal.split_at-requires
 split_at-requires c =
