@@ -3,7 +3,7 @@
 -- its slots count, is this project's rule.
 use Rattle.std.specs.Prelude.{◌≢◌, ℕ, zero, suc, List, [], ◌∷◌, ◌++◌, Option, Some, None, Ok, Err}
 use Rattle.std.specs.List.{Contains}
-use Rattle.process_memory.specs.Memory.{Memory, Found, Fault}
+use Rattle.process_memory.specs.Memory.{Memory, Found, Fault, ◌>>=◌}
 use Rattle.py_fields.specs.declared.layout.Dicts.{Dicts}
 use Rattle.py_fields.specs.declared.layout.Dicts.TheVariants.{Absent, General, Compact}
 use Rattle.py_fields.specs.declared.layout.Layout.{Layout}

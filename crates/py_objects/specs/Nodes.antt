@@ -3,7 +3,7 @@
 use Rattle.std.specs.Prelude.{ℕ, ◌+◌, List, Result, Ok, Err, codes, string_bytes, String, encode_utf8_all}
 use Rattle.std.specs.Global.{Global}
 use Rattle.elf64_core.specs.Fields.{u64_in}
-use Rattle.process_memory.specs.Memory.{Memory, Found, record_at}
+use Rattle.process_memory.specs.Memory.{Memory, Found, ◌>>=◌, record_at}
 use Rattle.process_memory.specs.Memory.Fault.{BadType}
 use Rattle.py_fields.specs.declared.layout.Dicts.{Dicts}
 use Rattle.py_fields.specs.declared.layout.Dicts.TheVariants.{Absent, General, Compact}

@@ -3,7 +3,7 @@ use Rattle.std.specs.Prelude.{◌≡◌, ◌≤◌, ℕ, zero, suc, ℤ, pos, ne
 use Rattle.std.specs.Global.{Global}
 use Rattle.process_memory.specs.Memory.{Found, Fault}
 use Rattle.process_memory.specs.Memory.Fault.{Depth}
-use Rattle.py_objects.specs.Shown.{Shown, give, consult, visit}
+use Rattle.py_objects.specs.Shown.{Shown, ◌>>=◌, give, consult, visit}
 use Rattle.py_objects.specs.ShownTexts.{dots, quoted}
 
 -- what the parts of a list, a tuple or a dict stand in

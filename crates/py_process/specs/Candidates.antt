@@ -4,7 +4,7 @@
 use Rattle.std.specs.Prelude.{◌≡◌, ℕ, ◌+◌, ◌*◌, ◌^◌, nat_eq, ◌&&◌, Bool, false, if◌then◌else◌, IsTrue, All, List, [], ◌∷◌, ◌++◌, length, Option, Some, None, Result, Ok, Err, ⊤, codes, find, option_to_list}
 use Rattle.std.specs.Int.{w64, from_le_bytes}
 use Rattle.elf64_core.specs.Fields.{u64_in}
-use Rattle.process_memory.specs.Memory.{Found, Memory, byte_at, record_at, word_at}
+use Rattle.process_memory.specs.Memory.{Found, Memory, ◌>>=◌, byte_at, record_at, word_at}
 use Rattle.process_memory.specs.Seen.{ReadingBelow, Seen}
 use Rattle.process_memory.specs.declared.memory.ReadFault.{ReadFault}
 use Rattle.process_memory.specs.declared.memory.ReadFault.TheVariants as read

@@ -1,7 +1,7 @@
 -- The detail of a kept member: its line and its locals. What walks along frames knows of it these three words
 -- alone, and never opens them: what it is, how many reads it takes, and its faults in order.
 use Rattle.std.specs.Prelude.{ℕ, ◌+◌, Option, List, Result, Ok, Err, ℤ}
-use Rattle.process_memory.specs.Memory.{Memory, Found, Fault}
+use Rattle.process_memory.specs.Memory.{Memory, Found, Fault, ◌>>=◌}
 use Rattle.py_fields.specs.declared.layout.Layout.{Layout}
 use Rattle.py_stacks.specs.declared.asked.Asked.{Asked}
 use Rattle.py_stacks.specs.declared.detail.Detail as read

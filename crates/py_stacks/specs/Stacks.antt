@@ -1,6 +1,6 @@
 -- The stacks of an interpreter: the holder of its lock, and the traces of its threads, marked by it.
 use Rattle.std.specs.Prelude.{◌≡◌, ℕ, ◌+◌, nat_eq, List, map, Ok}
-use Rattle.process_memory.specs.Memory.{Memory, Found, Fault}
+use Rattle.process_memory.specs.Memory.{Memory, Found, Fault, ◌>>=◌}
 use Rattle.process_memory.specs.Faults.{faults_then}
 use Rattle.py_fields.specs.declared.layout.Layout.{Layout}
 use Rattle.py_stacks.specs.declared.asked.Asked.{Asked}

@@ -1,6 +1,6 @@
 -- The stacks of an interpreter, with the names of its threads and the values of locals, as a `Config` asks for them.
 use Rattle.std.specs.Prelude.{◌≡◌, ℕ, ◌+◌, ◌*◌, Bool, true, false, List, map, Ok}
-use Rattle.process_memory.specs.Memory.{Memory, Found}
+use Rattle.process_memory.specs.Memory.{Memory, Found, ◌>>=◌}
 use Rattle.py_fields.specs.declared.layout.Layout.{Layout}
 use Rattle.py_names.specs.Names.{names_at}
 use Rattle.py_stacks.specs.declared.config.Config.{Config}
