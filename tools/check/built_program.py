@@ -74,7 +74,8 @@ class Program:
             name = str(32512 + number) if "native_id" in thread else f"0x{32512 + number:X}"
             lines.append(f"Thread {name}{' (gil)' if number == self.owner else ''}")
             for frame in range(self.frames):
-                lines += [f"    f{frame} (a.py:{3 + frame % 1000})", *self.local_lines(128 * times)]
+                line = 3 + frame % 1000 + frame % 4 // 2
+                lines += [f"    f{frame} (a.py:{line})", *self.local_lines(128 * times)]
         return "".join(f"{line}\n" for line in lines)
 
     def local_lines(self, width: int) -> Iterator[str]:

@@ -68,20 +68,32 @@ struct Shape<'a> {
     locals: &'a [String],
 }
 
-/// The frame of a number: its name and its lines tell it, and the offset one of each four.
+/// Two ranges of code, of a line and of the next one.
+fn ranges_of(alloc: Global, number: u32) -> Result<Vec<LineRange>, AllocError> {
+    let line = 3 + (number % 1000) as i32;
+    let found = vec![in alloc;
+        LineRange {
+            start: 0,
+            end: 4,
+            line: Some(line)
+        },
+        LineRange {
+            start: 4,
+            end: 8,
+            line: Some(line + 1)
+        },
+    ]?;
+    Ok(found)
+}
+
+/// The frame of a number, which its name and its lines tell; of four each the latter two stand in the second range.
 fn frame_of(alloc: Global, shape: Shape<'_>, number: u32) -> Result<ProgramFrame, AllocError> {
     let name = format!(in alloc; "f{number}")?;
-    let first = 1 + (number % 1000) as i32;
-    let range = LineRange {
-        start: 0,
-        end: 8,
-        line: Some(first + 2),
-    };
     Ok(ProgramFrame {
         name: Text::from(name),
         filename: Text::of(alloc, "a.py")?,
-        first,
-        ranges: vec![in alloc; range]?,
+        first: 1 + (number % 1000) as i32,
+        ranges: ranges_of(alloc, number)?,
         offset: 2 * (number % 4),
         args: shape.args,
         locals: locals_of(alloc, shape.locals)?,
