@@ -30,18 +30,18 @@ pub returns-in_err-first : goal.returns-in_err-first
 unfolding thread_step
 returns-in_err-first g c =
     let p = err_from_is_err_and c.from_residual-in_err-first.result c.from_residual-in_err-first.ensures.1 in
-    let two = rw c.deref.ensures.value at c.in_err-first.ensures in
+    let two = rw c.deref.ensures.value at c.in_err-first.ensures.answer in
     rw p.1 (reads_next _ _ c.in_ok-read_bytes.ensures.answer (reads_halt 1 p.0 _ two (ap stack_fault p.2) (omega arith)) (thread_costs _ _ _ _))
 
 pub returns-in_err-frames : goal.returns-in_err-frames
 unfolding thread_step
 returns-in_err-frames g c =
     let p = err_from_is_err_and c.from_residual-in_err-frames.result c.from_residual-in_err-frames.ensures.1 in
-    let two = rw c.deref.ensures.value at c.in_ok-first.ensures in
+    let two = rw c.deref.ensures.value at c.in_ok-first.ensures.answer in
     rw p.1 (reads_next _ _ c.in_ok-read_bytes.ensures.answer (reads_next _ _ two (reads_halt _ p.0 _ c.in_err-frames.ensures (ap stack_fault p.2) (le_refl _)) (le_refl _)) (thread_budget c.args.asked c.args.layout.now c.args.at _ _ c.in_ok-read_bytes.ensures.answer two))
 
 pub returns : goal.returns
 unfolding thread_step
 returns g c =
-    let two = rw c.deref.ensures.value at c.in_ok-first.ensures in
+    let two = rw c.deref.ensures.value at c.in_ok-first.ensures.answer in
     reads_next _ _ c.in_ok-read_bytes.ensures.answer (reads_next _ _ two (reads_next _ _ c.in_ok-frames.ensures (reads_end 0 (rw (c.u64_in-next.ensures, c.u64_in-thread_id.ensures, c.native_id-os_thread_id.ensures, c.deref-2.ensures.value, c.deref-3.ensures.value, c.deref-4.ensures.value) refl)) (omega arith)) (le_refl _)) (thread_budget c.args.asked c.args.layout.now c.args.at _ _ c.in_ok-read_bytes.ensures.answer two)
