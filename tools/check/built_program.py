@@ -1,5 +1,6 @@
 """Programs that `listing built` writes as cores and images, and what `pystacks dump` must print of them."""
 
+import re
 import subprocess
 import tempfile
 from dataclasses import dataclass
@@ -77,6 +78,11 @@ class Program:
                 line = 3 + frame % 1000 + frame % 4 // 2
                 lines += [f"    f{frame} (a.py:{line})", *self.local_lines(128 * times)]
         return "".join(f"{line}\n" for line in lines)
+
+    def walked(self, layout: str, version: str) -> str:
+        """What a walk prints of it: neither signal nor process, and no lines."""
+        lines = self.text(layout, version).splitlines(True)[2:]
+        return re.sub(r":\d+\)$", ")", "".join(lines), flags=re.MULTILINE)
 
     def local_lines(self, width: int) -> Iterator[str]:
         """The lines of a frame's locals, each within a width; none of no width."""

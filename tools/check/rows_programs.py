@@ -40,9 +40,18 @@ WHOLE = 40
 """So many times locals are asked for that each of these values is shown whole."""
 
 
+LOCKS = {"3.9.0": 0x500238, "3.10.0": 0x500238, "3.12.0": 0x600020}
+"""Where the lock is in the cores of the samples: the word in `_PyRuntime`, or the lock's own record."""
+
+
 def rows(listing: str) -> List[Row]:
     """All that need a program built."""
-    return [it for part in (edges, counts, many_locals, holders, versions, many) for it in part(listing)]
+    return [it for part in (edges, counts, many_locals, holders, versions, walks, many) for it in part(listing)]
+
+
+def walk(version: str) -> str:
+    """The words of a walk of a sample's core, with the lock."""
+    return f"walk core layouts {version} 0x600000 {LOCKS[version]:#x}"
 
 
 def asked(times: int) -> str:
@@ -110,6 +119,18 @@ def versions(listing: str) -> Iterator[Row]:
                 yield row(f"built: lock of {version} by {it.file}: {who}", GOOD, files, program.text(it.text, version))
 
 
+def walks(listing: str) -> Iterator[Row]:
+    """Who holds the lock, by the address of the lock; and by none, with which nobody is marked."""
+    for version, text in SAMPLES:
+        for owner in (None, 0, 1, 2):
+            who, program = held(owner)
+            files = built(listing, text, program.words(), version)
+            yield row(f"built: walk: lock of {version}: {who}", walk(version), files, program.walked(text, version))
+        _, program = held(None)
+        yield row(f"built: walk: no lock of {version}", f"walk core layouts {version} 0x600000 0", files,
+                  program.walked(text, version))
+
+
 def many(listing: str) -> Iterator[Row]:
     """As many threads, and as many frames of a thread, as there may be."""
     for what, program in (
@@ -119,6 +140,7 @@ def many(listing: str) -> Iterator[Row]:
         for version, text in SAMPLES:
             files = built(listing, text, program.words(), version)
             yield row(f"built: {what} of {version}", GOOD, files, program.text(text, version))
+            yield row(f"built: walk: {what} of {version}", walk(version), files, program.walked(text, version))
 
 
 def listing_rows(listing: str) -> List[Row]:
