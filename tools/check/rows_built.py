@@ -1,4 +1,5 @@
-"""Rows of programs that `listing built` writes as cores and images: as they are written, and with some bytes changed."""
+"""Rows of programs that `listing built` writes as cores and images: as they are written, and with some bytes
+changed."""
 
 import struct
 from typing import Iterator, List
@@ -107,7 +108,8 @@ def without_runtime(listing: str) -> Iterator[Row]:
         ("the second word alone", alone(none, interpreter), image),
     ):
         yield row(f"built: without the runtime: {what}", GOOD, {**files, "core": data, "image": program}, printed)
-    yield row("built: the runtime names none: the second word", GOOD, {**files, "core": alone(none, interpreter)}, printed)
+    yield row("built: the runtime names none: the second word", GOOD, {**files, "core": alone(none, interpreter)},
+              printed)
     for what, program in (("without the runtime", image), ("the runtime names none", files["image"])):
         yield row(f"built: {what}: no word", GOOD, {**files, "core": alone(none, none), "image": program},
                   line="no interpreter found")
@@ -120,7 +122,8 @@ def seeded(seed: int) -> Iterator[str]:
         for frame in range(1 + (seed % 16 + thread) % 16):
             yield f"    f{(seed % 1000 + 31 * thread + frame) % 1000} (m{frame}.py:{2 + frame})"
             number = 7 * thread + frame
-            yield from ("        Arguments:", f"            x: {number}", "        Locals:", f'            y: ["s", {number}]')
+            yield from ("        Arguments:", f"            x: {number}")
+            yield from ("        Locals:", f'            y: ["s", {number}]')
 
 
 def seeds(listing: str) -> Iterator[Row]:
