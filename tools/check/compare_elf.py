@@ -22,6 +22,7 @@ import tempfile
 from pathlib import Path
 from typing import Dict, Iterator, List, Optional, Set, Tuple
 
+import built_program
 import rows_built
 from rooms import ROOT
 
@@ -205,8 +206,8 @@ def warnings(path: str) -> str:
 def compare_built(program: str) -> Optional[str]:
     """What differs first in the files of programs that are built, or what readelf warns of there, if anything."""
     for machine in ("x86-64", "aarch64"):
-        for version, text in rows_built.SAMPLES:
-            files = rows_built.built(os.path.abspath(program), text, "locals", version, machine)
+        for version, text in built_program.SAMPLES:
+            files = built_program.built(os.path.abspath(program), text, rows_built.LOCALS.words(), version, machine)
             with tempfile.TemporaryDirectory(prefix="built-") as folder:
                 for part in ("core", "image"):
                     path = os.path.join(folder, part)

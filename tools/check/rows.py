@@ -21,6 +21,7 @@ import rows_built
 import rows_dump
 import rows_listing
 import rows_merge
+import rows_programs
 import rows_reach
 import rows_salvage
 import rows_sample
@@ -95,7 +96,8 @@ def main() -> int:
     lists = [(words.program, [*rows_walk.rows(), *rows_dump.rows(), *rows_search.rows(), *rows_triage.rows(), *rows_reach.rows(), *rows_merge.rows(), *rows_slim.rows(), *rows_sample.rows()]), (words.listing, rows_listing.rows()), (words.salvage, rows_salvage.rows())]
     if os.path.isfile(words.listing):
         listing = os.path.abspath(words.listing)
-        lists += [(words.program, rows_built.rows(listing)), (words.listing, rows_built.listing_rows(listing))]
+        lists += [(words.program, [*rows_built.rows(listing), *rows_programs.rows(listing)]),
+                  (words.listing, [*rows_built.listing_rows(listing), *rows_programs.listing_rows(listing)])]
     else:
         print(f"rows: those of built programs are not known: there is no {words.listing}")
     chosen = [(program, [row for row in rows if words.only in row.what]) for program, rows in lists]

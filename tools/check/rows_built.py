@@ -1,66 +1,24 @@
-"""Rows of programs that `listing built` writes as cores and images: as they are written, and with some bytes changed."""
+"""Rows of programs that `listing built` writes as cores and images: as they are written, and with some bytes
+changed."""
 
 import struct
-import subprocess
-import tempfile
-from pathlib import Path
-from typing import Dict, Iterator, List, Tuple
+from typing import Iterator, List
 
-from made import EXAMPLE, LOAD, edited, layout_of
-from rooms import ROOT
+from built_program import GOOD, PATH, SAMPLES, Program, built, stored_layouts
+from made import LOAD
 from row import Row, row
-from rows_walk import PARTS
 
-PATH = "/usr/bin/python3"
-GOOD = f"dump -c core --layouts layouts {PATH}=image"
+FRAMES = Program(frames=2)
+"""Two frames."""
 
-SAMPLES = (
-    ("3.9.0", EXAMPLE),
-    ("3.10.0", edited(EXAMPLE, first_minor="10", last_minor="10", lasti='"units"', lines='"ranges"')),
-    ("3.12.0", edited(EXAMPLE, first_minor="12", last_minor="12", lines='"locations"', integers='"tagged"',
-                      thread="{size=96, next=8, interp=16, id=32, frame=56, native_id=40}", **PARTS)),
-)
-"""Layouts that describe no real CPython, by the versions that they are taken for."""
-
-FRAMES = ("    f (a.py:5)", "    <module> (a.py:1)")
-"""The two frames of the program `frames`."""
-
-LOCALS = (
-    FRAMES[0], "        Arguments:", "            x: -5", "        Locals:", '            y: ["s", 7]', FRAMES[1])
-"""Those of the program `locals`, with its locals."""
+LOCALS = Program(frames=2, owner=0, arguments=1, locals=(("x", -5), ("y", ["s", 7])))
+"""The same with locals, by a thread that holds the lock."""
 
 FLAGS, OFFSET, FILE_SIZE = 4, 8, 32
 """Where fields stand in a program header."""
 
 HEADERS, SYMBOLS, STRINGS, STRINGS_SIZE = 0xB0, 0x1B0, 0x228, 79
 """Where the section headers, the symbols and the names of an image begin, and how long the names are."""
-
-
-class Unbuilt(Exception):
-    """`listing` wrote no file of a program."""
-
-
-def built(listing: str, text: str, program: str, version: str, machine: str = "x86-64") -> Dict[str, bytes]:
-    """The files of a row: the core and the image of a program, and the layouts by which they are written and read."""
-    files = {"layouts": text.encode()}
-    with tempfile.TemporaryDirectory(prefix="built-") as name:
-        layouts = Path(name, "layouts")
-        layouts.write_bytes(files["layouts"])
-        for part in ("core", "image"):
-            words = [listing, "built", str(layouts), program, version, machine, part]
-            files[part] = subprocess.run(words, stdout=subprocess.PIPE).stdout
-            if files[part][:4] != b"\x7fELF":
-                raise Unbuilt(f"{program} of {version}, {machine}: {files[part]!r}")
-    return files
-
-
-def text_of(text: str, version: str, frames: Tuple[str, ...], mark: str = "") -> str:
-    """What is printed of one thread: by the system's id, where the layout has a place for it."""
-    thread = layout_of(text)["thread"]
-    assert isinstance(thread, dict)
-    number = "32512" if "native_id" in thread else "0x7F00"
-    lines = ["Signal 6: core", "Process 1: python3", f"Python v{version}", "", f"Thread {number}{mark}", *frames]
-    return "".join(f"{line}\n" for line in lines)
 
 
 def changed(data: bytes, at: int, part: bytes) -> bytes:
@@ -82,36 +40,30 @@ def rows(listing: str) -> List[Row]:
 def samples(listing: str) -> Iterator[Row]:
     """Both programs by each sample."""
     for version, text in SAMPLES:
-        files = built(listing, text, "frames", version)
-        yield row(f"built: frames of {version}", GOOD, files, text_of(text, version, FRAMES))
-        files = built(listing, text, "locals", version)
-        yield row(f"built: locals of {version}", f"{GOOD} -l", files, text_of(text, version, LOCALS, " (gil)"))
+        files = built(listing, text, FRAMES.words(), version)
+        yield row(f"built: frames of {version}", GOOD, files, FRAMES.text(text, version))
+        files = built(listing, text, LOCALS.words(), version)
+        yield row(f"built: locals of {version}", f"{GOOD} -l", files, LOCALS.text(text, version, 1))
 
 
 def layouts(listing: str) -> Iterator[Row]:
     """Both programs by each layout of a real build."""
-    for path in sorted((ROOT / "layouts").glob("*.toml")):
-        whole = path.read_text(encoding="utf-8")
-        machine = "aarch64" if "aarch64" in path.name else "x86-64"
-        for part in whole.split("[[layout]]")[1:]:
-            text = f"[[layout]]{part}"
-            layout = layout_of(text)
-            version = f"{layout['major']}.{layout['first_minor']}.0"
-            files = built(listing, whole, "frames", version, machine)
-            yield row(f"built: frames of {version} by {path.name}", GOOD, files, text_of(text, version, FRAMES))
-            files = built(listing, whole, "locals", version, machine)
-            yield row(f"built: locals of {version} by {path.name}", f"{GOOD} -l", files,
-                      text_of(text, version, LOCALS, " (gil)"))
+    for it in stored_layouts():
+        files = built(listing, it.whole, FRAMES.words(), it.version, it.machine)
+        yield row(f"built: frames of {it.version} by {it.file}", GOOD, files, FRAMES.text(it.text, it.version))
+        files = built(listing, it.whole, LOCALS.words(), it.version, it.machine)
+        yield row(f"built: locals of {it.version} by {it.file}", f"{GOOD} -l", files,
+                  LOCALS.text(it.text, it.version, 1))
 
 
 def cut(listing: str) -> Iterator[Row]:
     """A core without the bytes that the image has too, as the kernel leaves them out but for a page."""
     version, text = SAMPLES[2]
-    files = built(listing, text, "frames", version)
+    files = built(listing, text, FRAMES.words(), version)
     header = load_header(files["core"], 0)
     page = changed(files["core"], header + FILE_SIZE, struct.pack("<Q", 0x1000))
     other = changed(files["image"], 0x1000, bytes([0, 0, 9, 3]))
-    printed = text_of(text, version, FRAMES)
+    printed = FRAMES.text(text, version)
     yield row("built: another version in the image", GOOD, {**files, "image": other}, printed)
     yield row("built: no image", GOOD.rsplit(" ", 1)[0], files, line=f"image not given: {PATH}")
     yield row("built: native frames", f"{GOOD} -n", files, line="native frames are not read from a core")
@@ -137,8 +89,8 @@ def with_runtime_section(image: bytes) -> bytes:
 def without_runtime(listing: str) -> Iterator[Row]:
     """An image that doesn't define `_PyRuntime`: the words of its bss are tried in order."""
     version, text = SAMPLES[0]
-    files = built(listing, text, "frames", version)
-    core, printed = files["core"], text_of(text, version, FRAMES)
+    files = built(listing, text, FRAMES.words(), version)
+    core, printed = files["core"], FRAMES.text(text, version)
     image = changed(files["image"], SYMBOLS + 2 * 24 + 6, bytes(2))
     words_at = struct.unpack_from("<Q", core, load_header(core, 1) + OFFSET)[0]
 
@@ -156,7 +108,8 @@ def without_runtime(listing: str) -> Iterator[Row]:
         ("the second word alone", alone(none, interpreter), image),
     ):
         yield row(f"built: without the runtime: {what}", GOOD, {**files, "core": data, "image": program}, printed)
-    yield row("built: the runtime names none: the second word", GOOD, {**files, "core": alone(none, interpreter)}, printed)
+    yield row("built: the runtime names none: the second word", GOOD, {**files, "core": alone(none, interpreter)},
+              printed)
     for what, program in (("without the runtime", image), ("the runtime names none", files["image"])):
         yield row(f"built: {what}: no word", GOOD, {**files, "core": alone(none, none), "image": program},
                   line="no interpreter found")
@@ -169,7 +122,8 @@ def seeded(seed: int) -> Iterator[str]:
         for frame in range(1 + (seed % 16 + thread) % 16):
             yield f"    f{(seed % 1000 + 31 * thread + frame) % 1000} (m{frame}.py:{2 + frame})"
             number = 7 * thread + frame
-            yield from ("        Arguments:", f"            x: {number}", "        Locals:", f'            y: ["s", {number}]')
+            yield from ("        Arguments:", f"            x: {number}")
+            yield from ("        Locals:", f'            y: ["s", {number}]')
 
 
 def seeds(listing: str) -> Iterator[Row]:
@@ -177,7 +131,7 @@ def seeds(listing: str) -> Iterator[Row]:
     version, text = SAMPLES[0]
     for seed in (0, 7, 999, 2 ** 64 - 1):
         lines = ["Signal 6: core", "Process 1: python3", f"Python v{version}", "", *seeded(seed)]
-        files = built(listing, text, str(seed), version)
+        files = built(listing, text, [str(seed)], version)
         yield row(f"built: seed {seed}", f"{GOOD} -l", files, "".join(f"{line}\n" for line in lines))
 
 
@@ -193,14 +147,16 @@ IMAGE_LINES = (
 def listing_rows(listing: str) -> List[Row]:
     """Those of `listing` itself."""
     version, text = SAMPLES[2]
-    files = built(listing, text, "frames", version)
+    files = built(listing, text, FRAMES.words(), version)
     found = [row("listing: built: the image", f"elf image {0x400000} {0x2000}", files,
                  "".join(f"{line}\n" for line in IMAGE_LINES))]
     for what, words, line in (
-        ("places", "frames 3.12.0 x86-64 places", "600000 600020"), ("no layout", "frames 3.11.0 x86-64 core", "no layout"),
-        ("no number", "frames 3.12.0+x x86-64 core", "uncovered"), ("another program", "f 3.12.0 x86-64 core", "refused"),
-        ("another machine", "frames 3.12.0 arm core", "refused"), ("no version", "frames 3 x86-64 core", "refused"),
-        ("a word less", "frames 3.12.0 x86-64", "refused"),
+        ("places", "3.12.0 x86-64 places 1 2 none 0", "600000 600020"),
+        ("no layout", "3.11.0 x86-64 core 7", "no layout"), ("no number", "3.12.0+x x86-64 core 7", "uncovered"),
+        ("no seed", "3.12.0 x86-64 core f", "refused"), ("another machine", "3.12.0 arm core 7", "refused"),
+        ("no version", "3 x86-64 core 7", "refused"), ("no program", "3.12.0 x86-64 core", "refused"),
+        ("a word less", "3.12.0 x86-64", "refused"), ("a number less", "3.12.0 x86-64 core 1 2 none", "refused"),
+        ("a count that is no number", "3.12.0 x86-64 core 1 -2 none 0", "refused"),
     ):
         found.append(row(f"listing: built: {what}", f"built layouts {words}", files, f"{line}\n"))
     return found

@@ -9,90 +9,152 @@ use py_lines::LineRange;
 use std::alloc::{AllocError, Global};
 use std::io::{self, Write};
 
-/// A range from 0 on, of a line.
-fn range_of(end: u64, line: i32) -> LineRange {
-    LineRange {
-        start: 0,
-        end,
-        line: Some(line),
+/// A number, or else a text.
+fn item_of(alloc: Global, word: &str) -> Result<ProgramItem, AllocError> {
+    match word.parse() {
+        Ok(number) => Ok(ProgramItem::Number(number)),
+        Err(_) => Ok(ProgramItem::Words(Text::of(alloc, word)?)),
     }
 }
 
-/// A frame of one range, in `a.py`.
-fn frame(
-    alloc: Global,
-    name: &str,
-    first: i32,
-    range: LineRange,
-    offset: u32,
-) -> Result<ProgramFrame, AllocError> {
-    Ok(ProgramFrame {
-        name: Text::of(alloc, name)?,
-        filename: Text::of(alloc, "a.py")?,
-        first,
-        ranges: vec![in alloc; range]?,
-        offset,
-        args: 0,
-        locals: Vec::new(alloc),
-    })
-}
-
-/// One thread of two frames: `f`, at line 5, which `<module>` called, at line 1.
-fn two_frames(alloc: Global) -> Result<Program, AllocError> {
-    let mut frames = Vec::new(alloc);
-    frames.push(frame(alloc, "f", 3, range_of(8, 5), 2)?)?;
-    frames.push(frame(alloc, "<module>", 1, range_of(4, 1), 0)?)?;
-    let mut threads = Vec::new(alloc);
-    threads.push(ProgramThread { id: 32512, frames })?;
-    Ok(Program {
-        threads,
-        owner: None,
-    })
-}
-
-/// The locals of a frame: the argument `x`, a number, and `y`, a list of a text and a number.
-fn locals(alloc: Global) -> Result<Vec<ProgramLocal>, AllocError> {
-    let text = ProgramItem::Words(Text::of(alloc, "s")?);
-    let items = vec![in alloc; text, ProgramItem::Number(7)]?;
-    let x = ProgramLocal {
-        name: Text::of(alloc, "x")?,
-        value: ProgramValue::Number(-5),
-    };
-    let y = ProgramLocal {
-        name: Text::of(alloc, "y")?,
-        value: ProgramValue::List(items),
-    };
+/// The items of a list: words with blanks between them.
+fn items_of(alloc: Global, words: &str) -> Result<Vec<ProgramItem>, AllocError> {
     let mut found = Vec::new(alloc);
-    found.push(x)?;
-    found.push(y)?;
+    for word in words.split_whitespace() {
+        found.push(item_of(alloc, word)?)?;
+    }
     Ok(found)
 }
 
-/// The same two frames, of which the first has locals, by a thread that holds the lock.
-fn two_locals(alloc: Global) -> Result<Program, AllocError> {
-    let mut program = two_frames(alloc)?;
-    let locals = locals(alloc)?;
-    if let Some(thread) = program.threads.first_mut() {
-        if let Some(frame) = thread.frames.first_mut() {
-            frame.locals = locals;
-            frame.args = 1;
-        }
+/// The items behind a bracket as a list, or else a number or a text.
+fn value_of(alloc: Global, word: &str) -> Result<ProgramValue, AllocError> {
+    if let Some(words) = word.strip_prefix('[') {
+        return Ok(ProgramValue::List(items_of(alloc, words)?));
     }
-    program.owner = Some(0);
-    Ok(program)
+    match item_of(alloc, word)? {
+        ProgramItem::Number(number) => Ok(ProgramValue::Number(number)),
+        ProgramItem::Words(text) => Ok(ProgramValue::Words(text)),
+    }
 }
 
-/// The program of a word: `frames`, `locals`, or the number of a seed.
-fn program_of(alloc: Global, word: &str) -> Result<Option<Program>, AllocError> {
-    let program = match word {
-        "frames" => two_frames(alloc)?,
-        "locals" => two_locals(alloc)?,
-        _ => match word.parse() {
-            Ok(seed) => generate(alloc, seed)?,
-            Err(_) => return Ok(None),
-        },
+/// The local of a word `NAME=VALUE`; without an equals sign it is an empty text.
+fn local_of(alloc: Global, word: &str) -> Result<ProgramLocal, AllocError> {
+    let (name, value) = match word.split_once('=') {
+        Some(parts) => parts,
+        None => (word, ""),
     };
-    Ok(Some(program))
+    Ok(ProgramLocal {
+        name: Text::of(alloc, name)?,
+        value: value_of(alloc, value)?,
+    })
+}
+
+/// The locals of some words.
+fn locals_of(alloc: Global, words: &[String]) -> Result<Vec<ProgramLocal>, AllocError> {
+    let mut found = Vec::new(alloc);
+    for word in words {
+        found.push(local_of(alloc, word.as_str())?)?;
+    }
+    Ok(found)
+}
+
+/// How many threads there are, how many frames each has, who holds the lock, and which locals each frame has.
+#[derive(Clone, Copy)]
+struct Shape<'a> {
+    threads: u32,
+    frames: u32,
+    owner: Option<u32>,
+    args: u32,
+    locals: &'a [String],
+}
+
+/// Two ranges of code, of a line and of the next one.
+fn ranges_of(alloc: Global, number: u32) -> Result<Vec<LineRange>, AllocError> {
+    let line = 3 + (number % 1000) as i32;
+    let found = vec![in alloc;
+        LineRange {
+            start: 0,
+            end: 4,
+            line: Some(line)
+        },
+        LineRange {
+            start: 4,
+            end: 8,
+            line: Some(line + 1)
+        },
+    ]?;
+    Ok(found)
+}
+
+/// The frame of a number, which its name and its lines tell; of four each the latter two stand in the second range.
+fn frame_of(alloc: Global, shape: Shape<'_>, number: u32) -> Result<ProgramFrame, AllocError> {
+    let name = format!(in alloc; "f{number}")?;
+    Ok(ProgramFrame {
+        name: Text::from(name),
+        filename: Text::of(alloc, "a.py")?,
+        first: 1 + (number % 1000) as i32,
+        ranges: ranges_of(alloc, number)?,
+        offset: 2 * (number % 4),
+        args: shape.args,
+        locals: locals_of(alloc, shape.locals)?,
+    })
+}
+
+/// The thread of a number, which its id tells.
+fn thread_of(alloc: Global, shape: Shape<'_>, number: u32) -> Result<ProgramThread, AllocError> {
+    let mut frames = Vec::new(alloc);
+    for frame in 0..shape.frames {
+        frames.push(frame_of(alloc, shape, frame)?)?;
+    }
+    Ok(ProgramThread {
+        id: 32512 + u64::from(number),
+        frames,
+    })
+}
+
+/// The threads of a shape.
+fn threads_of(alloc: Global, shape: Shape<'_>) -> Result<Vec<ProgramThread>, AllocError> {
+    let mut found = Vec::new(alloc);
+    for thread in 0..shape.threads {
+        found.push(thread_of(alloc, shape, thread)?)?;
+    }
+    Ok(found)
+}
+
+/// The shape that words tell; none where they are too few, or one of the counts is no number.
+fn shape_of(words: &[String]) -> Option<Shape<'_>> {
+    let [threads, frames, owner, args, locals @ ..] = words else {
+        return None;
+    };
+    Some(Shape {
+        threads: threads.as_str().parse().ok()?,
+        frames: frames.as_str().parse().ok()?,
+        owner: owner.as_str().parse().ok(),
+        args: args.as_str().parse().ok()?,
+        locals,
+    })
+}
+
+/// The program of a shape.
+fn shaped(alloc: Global, words: &[String]) -> Result<Option<Program>, AllocError> {
+    let Some(shape) = shape_of(words) else {
+        return Ok(None);
+    };
+    Ok(Some(Program {
+        threads: threads_of(alloc, shape)?,
+        owner: shape.owner,
+    }))
+}
+
+/// The program of a seed, or of a shape; none where the words are neither.
+fn program_of(alloc: Global, words: &[String]) -> Result<Option<Program>, AllocError> {
+    let [seed] = words else {
+        return shaped(alloc, words);
+    };
+    match seed.as_str().parse() {
+        Ok(seed) => Ok(Some(generate(alloc, seed)?)),
+        Err(_) => Ok(None),
+    }
 }
 
 /// The machine of a word, as it is listed.
@@ -122,7 +184,7 @@ struct Asked {
 /// What the words ask for; none where they ask for nothing.
 fn asked_of(
     alloc: Global,
-    program: &str,
+    program: &[String],
     version: &str,
     machine: &str,
 ) -> Result<Option<Asked>, AllocError> {
@@ -170,11 +232,10 @@ pub(crate) fn list_built<W: Write>(
     text: &[u8],
     words: &[String],
 ) -> io::Result<()> {
-    let [program, version, machine, part] = words else {
+    let [version, machine, part, program @ ..] = words else {
         return writeln!(out, "refused");
     };
-    let (program, version) = (program.as_str(), version.as_str());
-    let Some(asked) = asked_of(alloc, program, version, machine.as_str())? else {
+    let Some(asked) = asked_of(alloc, program, version.as_str(), machine.as_str())? else {
         return writeln!(out, "refused");
     };
     let Ok(layouts) = Layouts::from_toml(alloc, text) else {

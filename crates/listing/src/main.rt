@@ -1,6 +1,6 @@
 //! What is read in a file, line by line, for comparison with other readers: `listing elf FILE [ADDR SIZE]`,
 //! `listing maps FILE` and `listing footprint LAYOUTS CORE [PATH=FILE]..`; and the files of programs that are built:
-//! `listing built LAYOUTS PROGRAM VERSION MACHINE PART`.
+//! `listing built LAYOUTS VERSION MACHINE PART SEED` or `.. PART THREADS FRAMES OWNER ARGS [NAME=VALUE]..`.
 //!
 //! Of an ELF file the machine, each segment, each section, each symbol and the build id have a line; with
 //! ADDR and SIZE, decimal numbers, also what the file says as an image that is mapped there. Of maps text,
@@ -8,10 +8,12 @@
 //! text is `?`, and `-` stands for none. Of a core each read of its stacks, by a layout file and the files that its
 //! process had mapped, has a line in order: the start and the size of the range, in hexadecimal digits.
 //!
-//! A program that is built is `frames`, of one thread of two frames, `locals`, in which that thread holds the lock and
-//! its first frame has two locals, or the number of a seed. The machine is `x86-64`, `aarch64` or `other`. The part is
-//! `core` or `image`, whose bytes are written, or `places`, the addresses of the interpreter and the lock. Where nothing
-//! is built, one line says why.
+//! A program that is built is that of a seed, or has so many threads, of ids from 32512 on, of so many frames each, all
+//! with the same locals, of which the first so many are arguments. A VALUE is a number, a text, or `[` and items with
+//! blanks between them, each a number or a text. The thread with the number OWNER, counted from 0, holds the lock; where
+//! OWNER is no number none does. The machine is `x86-64`, `aarch64` or `other`. The part is `core` or `image`, whose
+//! bytes are written, or `places`, the addresses of the interpreter and the lock. Where nothing is built, one line says
+//! why.
 //!
 //! This is a tool of the repository, and no command of `pystacks`.
 #![tactic(auto)]
