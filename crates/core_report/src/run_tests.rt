@@ -195,7 +195,7 @@ fn words(alloc: Global, text: &str) -> Result<Vec<String>, AllocError> {
     Ok(words)
 }
 
-fn ran(alloc: Global, trial: &Trial<'_>) -> Result<Ran, AllocError> {
+fn run_trial(alloc: Global, trial: &Trial<'_>) -> Result<Ran, AllocError> {
     let mut files = files(alloc, trial)?;
     let mut failing = Vec::new(alloc);
     if let Some(call) = trial.failing_write {
@@ -217,7 +217,7 @@ fn check(
     printed: &[u8],
     said: &[u8],
 ) -> Result<(), Fail> {
-    let ran = ran(alloc, trial)?;
+    let ran = run_trial(alloc, trial)?;
     let words = trial.words;
     assert_eq!(rt; ran.status, status, "{words}");
     assert_eq!(rt; ran.out.bytes(), printed, "{words}");

@@ -56,7 +56,14 @@ fn cut_image(rt: &impl Abort, alloc: Global, row: &Row, whole_length: usize) -> 
         };
         match row.cut_image {
             Some(printed) => check(rt, alloc, &trial, 0, printed.as_bytes(), b"")?,
-            None => check(rt, alloc, &trial, 1, b"", b"pystacks: bad image: /usr/bin/python3.9\n")?,
+            None => check(
+                rt,
+                alloc,
+                &trial,
+                1,
+                b"",
+                b"pystacks: bad image: /usr/bin/python3.9\n",
+            )?,
         }
     }
     Ok(())

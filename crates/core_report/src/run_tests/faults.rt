@@ -1,5 +1,5 @@
 //! Each read, each write and each line that fails.
-use super::{ROWS, Row, Trial, check, ran, whole};
+use super::{ROWS, Row, Trial, check, run_trial, whole};
 use std::alloc::Global;
 use std::process::Abort;
 use std::test::Fail;
@@ -11,7 +11,7 @@ fn printed(
     trial: &Trial<'_>,
     length: usize,
 ) -> Result<Vec<u8>, Fail> {
-    let ran = ran(alloc, trial)?;
+    let ran = run_trial(alloc, trial)?;
     let words = trial.words;
     assert_eq!(rt; ran.status, 0, "{words}");
     assert_eq!(rt; ran.out.bytes().len(), length, "{words}");
@@ -68,7 +68,14 @@ fn fail_writes(
                 failing_write: Some((0, place as u64)),
                 ..*trial
             };
-            check(rt, alloc, &failing, 4, &printed[..place], b"pystacks: cannot write\n")?;
+            check(
+                rt,
+                alloc,
+                &failing,
+                4,
+                &printed[..place],
+                b"pystacks: cannot write\n",
+            )?;
         }
     }
     let failing = Trial {
@@ -87,7 +94,7 @@ fn each_write_fails_after_so_many_bytes(rt: HostRuntime) -> Result<(), Fail> {
 }
 
 #[test]
-fn texts_of_rows_are_printed(rt: HostRuntime) -> Result<(), Fail> {
+fn texts_are_those_of_the_rows(rt: HostRuntime) -> Result<(), Fail> {
     let alloc = rt.alloc();
     for row in &ROWS {
         if let Some(text) = row.text {
@@ -98,7 +105,7 @@ fn texts_of_rows_are_printed(rt: HostRuntime) -> Result<(), Fail> {
 }
 
 /// Commands that ask for no file, and how many bytes they print.
-const SAMPLES: [(&str, usize); 2] = [("sample 7", 31), ("sample 7 core", 0)];
+const SAMPLES: [(&str, usize); 2] = [("sample 7", 31), ("sample 7 core", 1_831_472)];
 
 #[test]
 fn samples_fail_as_they_are_written(rt: HostRuntime) -> Result<(), Fail> {
@@ -115,17 +122,51 @@ fn samples_fail_as_they_are_written(rt: HostRuntime) -> Result<(), Fail> {
 /// Words that come to a line, with their status.
 const LINES: [(&str, u8, &str); 8] = [
     ("dude", 2, "pystacks: bad words\n"),
-    ("walk none sample 3.9.0 0x10000 0", 3, "pystacks: cannot read none\n"),
-    ("walk core sample 3.9.0 0x20000 0", 1, "pystacks: unreadable at 0x20008, 8 bytes\n"),
-    ("walk core sample 3.8.0 0x10000 0", 1, "pystacks: no layout for Python 3.8.0\n"),
-    ("walk core image 3.9.0 0x10000 0", 6, "pystacks: layouts: not TOML\n"),
-    ("merge core layouts 1 addresses /usr/bin/python3.9=image", 7, "pystacks: cannot merge\n"),
-    ("reach core layouts 1 /usr/bin/python3.9=image", 9, "pystacks: no such thread: 1\n"),
-    ("dump -c core --layouts layouts", 1, "pystacks: image not given: /usr/bin/python3.9\n"),
+    (
+        "walk none sample 3.9.0 0x10000 0",
+        3,
+        "pystacks: cannot read none\n",
+    ),
+    (
+        "walk core sample 3.9.0 0x20000 0",
+        1,
+        "pystacks: unreadable at 0x20008, 8 bytes\n",
+    ),
+    (
+        "walk core sample 3.8.0 0x10000 0",
+        1,
+        "pystacks: no layout for Python 3.8.0\n",
+    ),
+    (
+        "walk core image 3.9.0 0x10000 0",
+        6,
+        "pystacks: layouts: not TOML\n",
+    ),
+    (
+        "merge core layouts 1 addresses /usr/bin/python3.9=image",
+        7,
+        "pystacks: cannot merge\n",
+    ),
+    (
+        "reach core layouts 1 /usr/bin/python3.9=image",
+        9,
+        "pystacks: no such thread: 1\n",
+    ),
+    (
+        "dump -c core --layouts layouts",
+        1,
+        "pystacks: image not given: /usr/bin/python3.9\n",
+    ),
 ];
 
 /// Lets the write of a line fail after so many bytes, for each number of them, and then not at all.
-fn fail_line(rt: &impl Abort, alloc: Global, words: &str, status: u8, line: &str) -> Result<(), Fail> {
+fn fail_line(
+    rt: &impl Abort,
+    alloc: Global,
+    words: &str,
+    status: u8,
+    line: &str,
+) -> Result<(), Fail> {
     let line = line.as_bytes();
     for room in 0..64_u32 {
         let trial = Trial {
