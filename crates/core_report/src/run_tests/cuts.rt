@@ -1,4 +1,4 @@
-//! Cores and images that are cut anywhere.
+//! Cores and images that are cut at each length. A test is a process of its own, which has a minute: so no one has all.
 use super::{ROWS, Row, Trial, check, whole};
 use crate::made::{core, image};
 use std::alloc::Global;
@@ -37,14 +37,33 @@ fn cut_core(rt: &impl Abort, alloc: Global, row: &Row, whole_length: usize) -> R
     Ok(())
 }
 
-#[test]
-fn cores_are_cut_anywhere(rt: HostRuntime) -> Result<(), Fail> {
-    let alloc = rt.alloc();
+/// Cuts the core of each of these commands.
+fn cut_cores(rt: &impl Abort, alloc: Global, rows: &[Row]) -> Result<(), Fail> {
     let length = core(alloc)?.len();
-    for row in &ROWS {
-        cut_core(&rt, alloc, row, length)?;
+    for row in rows {
+        cut_core(rt, alloc, row, length)?;
     }
     Ok(())
+}
+
+#[test]
+fn walks_and_dumps_have_cores_that_are_cut(rt: HostRuntime) -> Result<(), Fail> {
+    cut_cores(&rt, rt.alloc(), &ROWS[..3])
+}
+
+#[test]
+fn merges_have_cores_that_are_cut(rt: HostRuntime) -> Result<(), Fail> {
+    cut_cores(&rt, rt.alloc(), &ROWS[3..4])
+}
+
+#[test]
+fn cores_that_are_opened_are_cut(rt: HostRuntime) -> Result<(), Fail> {
+    cut_cores(&rt, rt.alloc(), &ROWS[4..6])
+}
+
+#[test]
+fn groups_and_objects_have_cores_that_are_cut(rt: HostRuntime) -> Result<(), Fail> {
+    cut_cores(&rt, rt.alloc(), &ROWS[6..])
 }
 
 /// Cuts the image of a command at each length but its own.
@@ -69,12 +88,21 @@ fn cut_image(rt: &impl Abort, alloc: Global, row: &Row, whole_length: usize) -> 
     Ok(())
 }
 
-#[test]
-fn images_are_cut_anywhere(rt: HostRuntime) -> Result<(), Fail> {
-    let alloc = rt.alloc();
+/// Cuts the image of each of these commands.
+fn cut_images(rt: &impl Abort, alloc: Global, rows: &[Row]) -> Result<(), Fail> {
     let length = image(alloc)?.len();
-    for row in &ROWS {
-        cut_image(&rt, alloc, row, length)?;
+    for row in rows {
+        cut_image(rt, alloc, row, length)?;
     }
     Ok(())
+}
+
+#[test]
+fn walks_dumps_and_merges_have_images_that_are_cut(rt: HostRuntime) -> Result<(), Fail> {
+    cut_images(&rt, rt.alloc(), &ROWS[..4])
+}
+
+#[test]
+fn other_commands_have_images_that_are_cut(rt: HostRuntime) -> Result<(), Fail> {
+    cut_images(&rt, rt.alloc(), &ROWS[4..])
 }
