@@ -32,6 +32,8 @@ pub use py_process::{CoreError, Report};
 #[cfg(test)]
 mod core_tests;
 #[cfg(test)]
+mod derive_tests;
+#[cfg(test)]
 mod made;
 #[cfg(test)]
 mod run_tests;

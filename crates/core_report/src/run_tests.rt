@@ -1,11 +1,15 @@
-//! Runs over files and streams in memory that fail at a given call. What a whole run prints and says is shown by the
-//! rows of the program.
+//! Runs over files and streams in memory that fail at a given call, and over files that are cut. What a whole run
+//! prints and says is shown by the rows of the program.
 use crate::made::{core, image};
 use crate::run;
 use elf64_core::Name;
 use outside::{MemoryFiles, MemorySink};
 use std::alloc::{AllocError, Global};
+use std::process::Abort;
 use std::test::Fail;
+
+mod cuts;
+mod faults;
 
 /// The layouts of `Layout::sample`.
 const SAMPLE: &[u8] = br#"[[layout]]
@@ -39,126 +43,148 @@ dict = {size=48, keys=32, values=40}
 keys = {size=40, used=32, slots=8}
 "#;
 
-/// A run: its words, with blanks between them, the numbers of the reads that fail, the write that fails with how many
-/// bytes go through before, the room for the line, and what comes of it.
+/// One address that no map holds.
+const ADDRESSES: &[u8] = b"0x9999\n";
+
+/// For how many bytes there is room in a stream, where nothing else is said.
+const ROOM: u32 = 1000;
+
+/// A command over files that serve: its words and the files that it asks for, in order, each with blanks between them;
+/// how many bytes it prints, and which, where these are a text; and what it prints before the cause where its core is
+/// cut, and with the cause where its image is, if it goes on then.
 struct Row {
     words: &'static str,
-    failing_reads: &'static [u64],
-    failing_writes: &'static [(u64, u64)],
-    room_for_line: u32,
-    status: u8,
-    printed: &'static [u8],
-    said: &'static [u8],
+    files: &'static str,
+    length: usize,
+    text: Option<&'static str>,
+    cut_core: Option<&'static str>,
+    cut_image: Option<&'static str>,
 }
 
-const WALK: &str = "walk core sample 3.9.0 0x10000 0";
+const STACKS: &str = "Python v3.9.0\n\nThread 0x7F00\n";
 
-const DUMP: &str = "dump -c core --layouts layouts /usr/bin/python3.9=image";
+const PLACES: &str = "Python v3.9.0\nInterpreter 0x10000\nLock 0x0\n";
 
-const TEXT: &[u8] = b"Python v3.9.0\n\nThread 0x7F00\n";
-
-const ROWS: [Row; 10] = [
-    // a call that isn't made may fail
+const ROWS: [Row; 8] = [
     Row {
-        words: WALK,
-        failing_reads: &[1],
-        failing_writes: &[(1, 0)],
-        room_for_line: 100,
-        status: 0,
-        printed: TEXT,
-        said: b"",
+        words: "walk core sample 3.9.0 0x10000 0",
+        files: "core",
+        length: 29,
+        text: Some(STACKS),
+        cut_core: None,
+        cut_image: Some(STACKS),
     },
     Row {
-        words: DUMP,
-        failing_reads: &[3],
-        failing_writes: &[(1, 0)],
-        room_for_line: 100,
-        status: 0,
-        printed: TEXT,
-        said: b"",
+        words: "walk core layouts 3.9.0 0x10000 0",
+        files: "core layouts",
+        length: 29,
+        text: Some(STACKS),
+        cut_core: None,
+        cut_image: Some(STACKS),
     },
     Row {
-        words: WALK,
-        failing_reads: &[0],
-        failing_writes: &[],
-        room_for_line: 100,
-        status: 3,
-        printed: b"",
-        said: b"pystacks: cannot read core\n",
+        words: "dump -c core --layouts layouts /usr/bin/python3.9=image",
+        files: "core layouts image",
+        length: 29,
+        text: Some(STACKS),
+        cut_core: None,
+        cut_image: None,
     },
     Row {
-        words: DUMP,
-        failing_reads: &[1],
-        failing_writes: &[],
-        room_for_line: 100,
-        status: 3,
-        printed: b"",
-        said: b"pystacks: cannot read layouts\n",
+        words: "merge core layouts 0 addresses /usr/bin/python3.9=image",
+        files: "core layouts image addresses",
+        length: 15,
+        text: Some("    0x9999 (?)\n"),
+        cut_core: None,
+        cut_image: None,
     },
     Row {
-        words: DUMP,
-        failing_reads: &[2],
-        failing_writes: &[],
-        room_for_line: 100,
-        status: 3,
-        printed: b"",
-        said: b"pystacks: cannot read image\n",
+        words: "locate core layouts /usr/bin/python3.9=image",
+        files: "core layouts image",
+        length: 43,
+        text: Some(PLACES),
+        cut_core: None,
+        cut_image: None,
     },
     Row {
-        words: WALK,
-        failing_reads: &[],
-        failing_writes: &[(0, 10)],
-        room_for_line: 100,
-        status: 4,
-        printed: b"Python v3.",
-        said: b"pystacks: cannot write\n",
+        words: "slim core layouts 0 /usr/bin/python3.9=image",
+        files: "core layouts image",
+        length: 328,
+        text: None,
+        cut_core: None,
+        cut_image: None,
     },
     Row {
-        words: DUMP,
-        failing_reads: &[],
-        failing_writes: &[(0, 0)],
-        room_for_line: 100,
-        status: 4,
-        printed: b"",
-        said: b"pystacks: cannot write\n",
-    },
-    // the stream of the line takes 12 bytes, and none
-    Row {
-        words: "dude",
-        failing_reads: &[],
-        failing_writes: &[],
-        room_for_line: 12,
-        status: 2,
-        printed: b"",
-        said: b"pystacks: ba",
+        words: "triage layouts core copy /usr/bin/python3.9=image",
+        files: "layouts image core copy",
+        length: 29,
+        text: Some("Group 1: 2\n    core\n    copy\n"),
+        cut_core: Some("Group 1: 1\n    copy\nRefused: 1\n    core: "),
+        cut_image: Some(
+            "Refused: 2\n    core: bad image: /usr/bin/python3.9\n    copy: bad image: /usr/bin/python3.9\n",
+        ),
     },
     Row {
-        words: "walk none sample 3.9.0 0x10000 0",
-        failing_reads: &[],
-        failing_writes: &[],
-        room_for_line: 0,
-        status: 3,
-        printed: b"",
-        said: b"",
-    },
-    Row {
-        words: "walk core sample 3.9.0 0x20000 0",
-        failing_reads: &[],
-        failing_writes: &[],
-        room_for_line: 0,
-        status: 1,
-        printed: b"",
-        said: b"",
+        words: "reach core layouts 0 /usr/bin/python3.9=image",
+        files: "core layouts image",
+        length: 10,
+        text: Some("Objects 0\n"),
+        cut_core: None,
+        cut_image: None,
     },
 ];
 
-fn files(alloc: Global, failing: &[u64]) -> Result<MemoryFiles, AllocError> {
+/// A run: its words, with blanks between them, to how many bytes the core and the image are cut, the read and the write
+/// that fail, the write after so many bytes, and the room for the text and for the line.
+#[derive(Clone, Copy)]
+struct Trial<'a> {
+    words: &'a str,
+    core_length: usize,
+    image_length: usize,
+    failing_read: Option<u64>,
+    failing_write: Option<(u64, u64)>,
+    room: u32,
+    room_for_line: u32,
+}
+
+/// A run in which nothing fails, and nothing is cut.
+fn whole<'a>(words: &'a str) -> Trial<'a> {
+    Trial {
+        words,
+        core_length: usize::MAX,
+        image_length: usize::MAX,
+        failing_read: None,
+        failing_write: None,
+        room: ROOM,
+        room_for_line: ROOM,
+    }
+}
+
+/// What comes of a run: its status, what was printed and what was said.
+#[derive(Drop)]
+struct Ran {
+    status: u8,
+    out: MemorySink,
+    err: MemorySink,
+}
+
+fn files(alloc: Global, trial: &Trial<'_>) -> Result<MemoryFiles, AllocError> {
+    let mut cut_core = core(alloc)?;
+    cut_core.truncate(trial.core_length);
+    let mut cut_image = image(alloc)?;
+    cut_image.truncate(trial.image_length);
     let held = vec![in alloc;
-        (Name::of(alloc, b"core")?, core(alloc)?),
+        (Name::of(alloc, b"core")?, cut_core),
+        (Name::of(alloc, b"copy")?, core(alloc)?),
         (Name::of(alloc, b"layouts")?, SAMPLE.to_vec(alloc)?),
-        (Name::of(alloc, b"image")?, image(alloc)?),
+        (Name::of(alloc, b"image")?, cut_image),
+        (Name::of(alloc, b"addresses")?, ADDRESSES.to_vec(alloc)?),
     ]?;
-    Ok(MemoryFiles::new(alloc, held, failing.to_vec(alloc)?))
+    let mut failing = Vec::new(alloc);
+    if let Some(call) = trial.failing_read {
+        failing.push(call)?;
+    }
+    Ok(MemoryFiles::new(alloc, held, failing))
 }
 
 fn words(alloc: Global, text: &str) -> Result<Vec<String>, AllocError> {
@@ -169,18 +195,32 @@ fn words(alloc: Global, text: &str) -> Result<Vec<String>, AllocError> {
     Ok(words)
 }
 
-#[test]
-fn files_and_streams_that_fail(rt: HostRuntime) -> Result<(), Fail> {
-    let alloc = rt.alloc();
-    for row in &ROWS {
-        let mut files = files(alloc, row.failing_reads)?;
-        let mut out = MemorySink::new(alloc, 1000, row.failing_writes.to_vec(alloc)?)?;
-        let mut err = MemorySink::new(alloc, row.room_for_line, Vec::new(alloc))?;
-        let words = words(alloc, row.words)?;
-        let status = run(alloc, &words, &mut files, &mut out, &mut err);
-        assert_eq!(rt; status, row.status);
-        assert_eq!(rt; out.bytes(), row.printed);
-        assert_eq!(rt; err.bytes(), row.said);
+fn run_trial(alloc: Global, trial: &Trial<'_>) -> Result<Ran, AllocError> {
+    let mut files = files(alloc, trial)?;
+    let mut failing = Vec::new(alloc);
+    if let Some(call) = trial.failing_write {
+        failing.push(call)?;
     }
+    let mut out = MemorySink::new(alloc, trial.room, failing)?;
+    let mut err = MemorySink::new(alloc, trial.room_for_line, Vec::new(alloc))?;
+    let words = words(alloc, trial.words)?;
+    let status = run(alloc, &words, &mut files, &mut out, &mut err);
+    Ok(Ran { status, out, err })
+}
+
+/// Runs, and sees that this comes of it.
+fn check(
+    rt: &impl Abort,
+    alloc: Global,
+    trial: &Trial<'_>,
+    status: u8,
+    printed: &[u8],
+    said: &[u8],
+) -> Result<(), Fail> {
+    let ran = run_trial(alloc, trial)?;
+    let words = trial.words;
+    assert_eq!(rt; ran.status, status, "{words}");
+    assert_eq!(rt; ran.out.bytes(), printed, "{words}");
+    assert_eq!(rt; ran.err.bytes(), said, "{words}");
     Ok(())
 }
