@@ -17,7 +17,16 @@ from typing import Iterator, List
 ROOT = Path(__file__).resolve().parent.parent.parent
 PAGE = ROOT / "docs" / "MESSAGES.md"
 
-SPECS = [ROOT / "crates" / crate / "specs" / name for crate in ("core_report", "salvage_report") for name in ("Lines.antt", "Run.antt")]
+SPECS = [
+    ROOT / "crates" / name
+    for name in (
+        "fault_lines/specs/Lines.antt",
+        "core_report/specs/Lines.antt",
+        "core_report/specs/Run.antt",
+        "salvage_report/specs/Lines.antt",
+        "salvage_report/specs/Run.antt",
+    )
+]
 """The definitions that have the texts of the program's lines."""
 
 FAULTS = {"Fault", "Missing", "Unprepared", "NoUnpacker", "NoSpace", "NoCore", "Apart", "Unexpected", "say"}

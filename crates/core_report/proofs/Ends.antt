@@ -9,7 +9,7 @@ use Rattle.outside.specs.Counts.{Rose}
 use Rattle.outside.specs.Files.{Told}
 use Rattle.outside.specs.Streams.{SinkSeen}
 use Rattle.core_words.specs.Words.{Command}
-use Rattle.core_texts.specs.Parts.{line}
+use Rattle.core_report.specs.Lines.{line}
 use Rattle.core_texts.specs.Says.{Says}
 use Rattle.py_layout.specs.declared.error.LayoutError.{LayoutError}
 use Rattle.py_layout.specs.declared.error.LayoutError.TheVariants as layout

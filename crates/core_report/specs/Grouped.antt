@@ -11,7 +11,7 @@ use Rattle.py_process.specs.declared.report.Report.{Report}
 use Rattle.core_triage.specs.Groups.{groups_of}
 use Rattle.core_triage.specs.Keys.{Compared, compared_in, compared_of, same_key}
 use Rattle.core_triage.specs.declared.key.StackKey.{StackKey}
-use Rattle.core_report.specs.Lines.{core_parts}
+use Rattle.fault_lines.specs.Lines.{core_parts}
 
 -- a core by its name, and its report, or the cause why it has none
 pub record Judged : Type 0 where

@@ -15,7 +15,7 @@ use Rattle.core_words.specs.Words.{Command, LayoutSource, Locate as AsksLocate, 
 use Rattle.core_texts.specs.Text.{frames_text, report_text, walk_text}
 use Rattle.core_texts.specs.Tree.{report_json}
 use Rattle.image_memory.specs.Images.{Pushed}
-use Rattle.image_memory.specs.Mmap.{whole_view}
+pub use Rattle.named_images.specs.Named.{images_by, images_read}
 use Rattle.py_stacks.specs.declared.config.Config.{Config}
 use Rattle.py_process.specs.Reports.{IsReadable, ReportIs, reported}
 use Rattle.py_process.specs.declared.report.Report.{Report}
@@ -86,15 +86,6 @@ abbrev pub IsWalkOutcome : Walk → List (List ℕ) → Outcome → Type 0
 IsWalkOutcome w [] outcome = ⊥
 IsWalkOutcome w (bytes ∷ rest) outcome =
     OutcomeThen (λ error. Layouts error) (SourceSays w.layouts rest) (IsWalkedBy w bytes) outcome
-
--- the images of a report, each with the contents of its file under its path
-abbrev pub images_by : List (List ℕ) → List (List ℕ × List ℕ) → Pushed
-images_by [] images = []
-images_by (bytes ∷ rest) [] = []
-images_by (bytes ∷ rest) (image ∷ images) = (image.0, whole_view bytes) ∷ images_by rest images
-
-abbrev pub images_read : List (List ℕ × List ℕ) → List (List ℕ) → Pushed
-images_read images contents = images_by contents images
 
 -- the report of a core and its images, as the words ask for it, or the cause why there is none
 abbrev pub ReportAnswers : Config → List ℕ → Pushed → List Layout → Result Report CoreError → Type 0

@@ -6,6 +6,7 @@ use Rattle.py_layout.specs.File.{IsRightFor}
 use Rattle.py_layout.specs.declared.error.LayoutError.{LayoutError}
 use Rattle.py_layout.specs.declared.error.LayoutError.TheVariants as layout
 use Rattle.core_words.specs.Words.{Command, Triage, dump, files_of, kept_files, locate, merge, reach, seeded, slim, triage, walk}
+pub use Rattle.named_images.specs.Named.{contents}
 use Rattle.core_report.specs.declared.walk_command.WalkFiles.{WalkFiles}
 use Rattle.core_report.specs.declared.report_files.ReportFiles.{ReportFiles}
 use Rattle.core_report.specs.declared.merge_command.MergeFiles.{MergeFiles}
@@ -58,10 +59,6 @@ AreFiles told command before (bytes ∷ rest) =
 -- the files that are asked for in turn have these contents
 abbrev pub IsRead : Told → Command → List (List ℕ) → Type 0
 IsRead told command contents = AreFiles told command [] contents
-
--- the bytes of some files
-abbrev pub contents : List (Vec ℕ Global) → List (List ℕ)
-contents files = map (λ file. file.items) files
 
 -- what the files of a walk hold, in the order in which they are asked for
 abbrev pub text_contents : Option (Vec ℕ Global) → List (List ℕ)

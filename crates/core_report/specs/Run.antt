@@ -7,7 +7,6 @@ use Rattle.outside.specs.Streams.{SinkSeen}
 use Rattle.outside.specs.declared.faults.FileFault.{FileFault}
 use Rattle.outside.specs.declared.faults.FileFault.TheVariants as fault
 use Rattle.core_words.specs.Words.{Command, Merge, Triage, Walk, kept_files, merge, triage, walk}
-use Rattle.core_texts.specs.Parts.{line}
 use Rattle.core_texts.specs.Says.{IsAdded, IsCutOff, Says}
 use Rattle.core_report.specs.declared.cause.Cause.{Cause}
 use Rattle.core_report.specs.declared.cause.Cause.TheVariants as cause
@@ -24,7 +23,8 @@ use Rattle.core_report.specs.declared.merge_command.MergeFiles.{MergeFiles}
 use Rattle.core_report.specs.declared.triage_command.TriageFiles.{TriageFiles}
 use Rattle.core_report.specs.Reading.{IsAll, IsNext, IsRead, contents, merge_contents, report_contents, triage_contents, walk_contents}
 use Rattle.core_report.specs.Outcome.{IsOutcome, IsOwnCause, Outcome, cause_status}
-use Rattle.core_report.specs.Lines.{cause_parts, file_parts}
+use Rattle.fault_lines.specs.Lines.{file_parts}
+use Rattle.core_report.specs.Lines.{cause_parts, line}
 
 -- over the contents of all the files that it asks for, a command comes to this outcome
 pub record ComesTo (told : Told) (command : Command) (outcome : Outcome) : Type 0 where

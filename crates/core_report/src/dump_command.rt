@@ -6,10 +6,11 @@ ghost use Rattle.core_report.specs.Reading.{report_contents};
 ghost use Rattle.core_report.specs.Outcome.{IsAnswer, IsOutcome, shown_report};
 
 use crate::cause::Cause;
-use crate::report_files::{ReportFiles, image_list};
+use crate::report_files::ReportFiles;
 use core_stacks::report;
 use core_texts::{report_json, report_text};
 use core_words::DumpWords;
+use named_images::image_list;
 use py_layout::Layouts;
 use py_process::Report;
 use std::alloc::{AllocError, Global};

@@ -7,10 +7,10 @@ ghost use Rattle.core_report.specs.Judging.{Keeps, kept_names, kept_refusals, re
 ghost use Rattle.core_report.specs.Outcome.{cause_status};
 
 use crate::cause::Cause;
-use crate::lines::core_parts;
 use core_stacks::report;
 use core_texts::{Part, push_parts};
 use core_triage::{StackKey, group, key_of};
+use fault_lines::core_parts;
 use image_memory::Images;
 use py_layout::Layouts;
 use py_process::{CoreError, Report};

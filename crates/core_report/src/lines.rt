@@ -1,131 +1,17 @@
 //! The parts of each line on the stream of errors, as tables, and the line with its status.
-ghost use Rattle.std.specs.Prelude.{◌≡◌, ◌++◌, codes};
+ghost use Rattle.std.specs.Prelude.{◌≡◌};
 ghost use Rattle.std.specs.List.{concat};
-ghost use Rattle.py_version.specs.Version.{version_text};
 ghost use Rattle.core_texts.specs.Parts.{said};
-ghost use Rattle.core_report.specs.Lines.{cause_parts, core_parts, file_parts, layout_parts, merge_parts, range_parts, reach_parts};
+ghost use Rattle.core_report.specs.Lines.{cause_parts, merge_parts, reach_parts};
 ghost use Rattle.core_report.specs.Run.{SaysEnd, end_at, end_after, end_parts, end_status};
 
 use crate::cause::Cause;
 use crate::trouble::Trouble;
 use core_merge::CoreMergeError;
-use core_texts::{Part, Parts, parts, say_line};
+use core_texts::{Part, Parts, parts};
+use fault_lines::{core_parts, file_parts, layout_parts, say_line, text_part};
 use object_reach::ReachError;
-use outside::{FileFault, Sink};
-use py_layout::{LayoutError, Version};
-use py_process::CoreError;
-
-fn text_part<'a>(text: &'a str) -> Parts<'a>
-    ensures { said result ≡ text.now }
-{
-    parts(&[Part::Text(text)])
-}
-
-fn named_parts<'a>(text: &'a str, name: &'a [u8]) -> Parts<'a>
-    ensures { said result ≡ text.now ++ name.now }
-{
-    parts(&[Part::Text(text), Part::Bytes(name)])
-}
-
-/// What so many bytes at an address are.
-fn range_parts<'a>(text: &'a str, addr: u64, len: u64) -> Parts<'a>
-    ensures { said result ≡ concat (range_parts text.now addr len) }
-{
-    parts(&[
-        Part::Text(text),
-        Part::Text(" at "),
-        Part::Address(addr),
-        Part::Text(", "),
-        Part::Decimal(len),
-        Part::Text(" bytes"),
-    ])
-}
-
-/// The version that no layout covers.
-fn version_parts<'a>(version: &'a Version) -> Parts<'a>
-    ensures { said result ≡ codes "no layout for Python " ++ version_text version.now }
-{
-    let (plus, metadata) = match &version.build_metadata {
-        Some(metadata) => ("+", metadata.as_str()),
-        None => ("", ""),
-    };
-    parts(&[
-        Part::Text("no layout for Python "),
-        Part::Decimal(version.major),
-        Part::Text("."),
-        Part::Decimal(version.minor),
-        Part::Text("."),
-        Part::Decimal(version.patch),
-        Part::Text(version.release_flags.as_str()),
-        Part::Text(plus),
-        Part::Text(metadata),
-    ])
-}
-
-/// Why a core gives no stacks.
-pub(crate) fn core_parts<'a>(error: &'a CoreError) -> Parts<'a>
-    ensures { said result ≡ concat (core_parts error.now) }
-{
-    match error {
-        CoreError::NotElf64 => text_part("not an ELF64 little-endian file"),
-        CoreError::BadHeader => text_part("bad program headers"),
-        CoreError::NoNotes => text_part("no note segment"),
-        CoreError::BadNote => text_part("bad note"),
-        CoreError::NoBinary => text_part("no named executable map"),
-        CoreError::NoImage { path } => named_parts("image not given: ", path.as_bytes()),
-        CoreError::BadImage { path } => named_parts("bad image: ", path.as_bytes()),
-        CoreError::UnreadableVersion { addr, len } => {
-            range_parts("version unreadable", *addr, *len)
-        }
-        CoreError::NoVersion => text_part("no Python version found"),
-        CoreError::UnsupportedVersion { version } => version_parts(version),
-        CoreError::NoInterpreter => text_part("no interpreter found"),
-        CoreError::Unreadable { addr, len } => range_parts("unreadable", *addr, *len),
-        CoreError::NativeUnsupported => text_part("native frames are not read from a core"),
-        CoreError::SubprocessesUnsupported => text_part("subprocesses are not read from a core"),
-        CoreError::BadValue { frame } => parts(&[
-            Part::Text("bad variable name or count in frame "),
-            Part::Address(*frame),
-        ]),
-        CoreError::LocalsLimit { count } => parts(&[
-            Part::Text("a frame counts "),
-            Part::Signed(*count),
-            Part::Text(" locals"),
-        ]),
-        CoreError::ThreadLimit => text_part("more than 4096 threads"),
-        CoreError::FrameLimit => text_part("more than 4096 frames in a thread"),
-        CoreError::ChainLimit => text_part("more than 16384 frames visited in a thread"),
-        CoreError::OutOfMemory => text_part("out of memory"),
-    }
-}
-
-/// Why layouts are refused.
-fn layout_parts<'a>(error: &'a LayoutError) -> Parts<'a>
-    ensures { said result ≡ concat (layout_parts error.now) }
-{
-    match error {
-        LayoutError::NotToml => text_part("layouts: not TOML"),
-        LayoutError::Shape { table, key } => parts(&[
-            Part::Text("layouts: table "),
-            Part::Decimal(*table),
-            Part::Text(", key "),
-            Part::Text(key.as_str()),
-        ]),
-        LayoutError::Unsound { table } => parts(&[
-            Part::Text("layouts: table "),
-            Part::Decimal(*table),
-            Part::Text(" is unsound"),
-        ]),
-        LayoutError::Clash { first, second } => parts(&[
-            Part::Text("layouts: tables "),
-            Part::Decimal(*first),
-            Part::Text(" and "),
-            Part::Decimal(*second),
-            Part::Text(" clash"),
-        ]),
-        LayoutError::OutOfMemory => text_part("out of memory"),
-    }
-}
+use outside::Sink;
 
 /// Why there is no list of what a thread's locals lead to.
 fn reach_parts<'a>(error: &ReachError) -> Parts<'a>
@@ -167,17 +53,6 @@ pub(crate) fn cause_parts<'a>(cause: &'a Cause) -> Parts<'a>
     }
 }
 
-/// Why a file could not be read.
-fn file_parts<'a>(name: &'a [u8], fault: FileFault) -> Parts<'a>
-    ensures { said result ≡ concat (file_parts name.now fault) }
-{
-    match fault {
-        FileFault::Failed => named_parts("cannot read ", name),
-        FileFault::TooLong => named_parts("file too long: ", name),
-        FileFault::OutOfMemory => text_part("out of memory"),
-    }
-}
-
 /// Why a run printed nothing, or not all.
 fn trouble_parts<'a>(trouble: &'a Trouble<'a>) -> Parts<'a>
     ensures { said result ≡ concat (end_parts (end_at trouble.now)) }
@@ -210,7 +85,7 @@ pub(crate) fn tell<E: Sink>(err: &mut E, ended: &Result<(), Trouble<'_>>) -> u8
     match ended {
         Ok(()) => 0,
         Err(trouble) => {
-            say_line(err, &trouble_parts(trouble));
+            say_line(err, b"pystacks: ", &trouble_parts(trouble));
             end_status(trouble)
         }
     }

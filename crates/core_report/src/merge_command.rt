@@ -13,13 +13,14 @@ ghost use Rattle.core_report.specs.Stacks.{threads_in, threads_stacked};
 
 use crate::cause::Cause;
 use crate::reading::read_file;
-use crate::report_files::{ReportFiles, image_list};
+use crate::report_files::ReportFiles;
 use crate::trouble::Trouble;
 use core_merge::merge_thread;
 use core_stacks::{PythonBinaries, PythonCoreDump};
 use core_texts::frames_text;
 use core_words::MergeWords;
 use image_memory::{CoreDump, Images};
+use named_images::image_list;
 use outside::Files;
 use py_layout::Layouts;
 use py_process::CoreError;

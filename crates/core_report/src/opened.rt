@@ -5,10 +5,11 @@ ghost use Rattle.core_report.specs.Outcome.{IsOpening};
 ghost use Rattle.core_report.specs.Reading.{report_contents};
 
 use crate::cause::Cause;
-use crate::report_files::{ReportFiles, image_list};
+use crate::report_files::ReportFiles;
 use core_stacks::PythonCoreDump;
 use elf64_core::Name;
 use image_memory::{CoreDump, Images};
+use named_images::image_list;
 use py_layout::Layouts;
 use py_process::CoreError;
 use std::alloc::Global;

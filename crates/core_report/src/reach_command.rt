@@ -9,11 +9,12 @@ ghost use Rattle.core_report.specs.Stacked.{StackedIs, locals_asked, locals_in, 
 ghost use Rattle.core_report.specs.Stacks.{locals_of, stacked, stacked_in};
 
 use crate::cause::Cause;
-use crate::report_files::{ReportFiles, image_list};
+use crate::report_files::ReportFiles;
 use core_stacks::PythonCoreDump;
 use core_texts::{Part, push_parts};
 use core_words::ReachWords;
 use image_memory::{CoreDump, Images};
+use named_images::image_list;
 use object_reach::{ReachObject, reach};
 use py_layout::Layouts;
 use py_process::CoreError;

@@ -1,16 +1,14 @@
 //! The files of a report: a core, a layout file, and those of images.
-ghost use Rattle.std.specs.Prelude.{◌≡◌, IfOk, length};
+ghost use Rattle.std.specs.Prelude.{◌≡◌, length};
 ghost use Rattle.core_words.specs.Words.{Command};
-ghost use Rattle.core_report.specs.Reading.{AsksReport, contents};
-ghost use Rattle.core_report.specs.Outcome.{images_read};
+ghost use Rattle.core_report.specs.Reading.{AsksReport};
 ghost use Rattle.core_report.specs.Run.{HasReportFiles};
 
 use crate::reading::{read_file, read_images};
 use crate::trouble::Trouble;
 use elf64_core::Name;
-use image_memory::{Images, Mmap};
 use outside::Files;
-use std::alloc::{AllocError, Global};
+use std::alloc::Global;
 
 /// What the files of a report hold.
 #[derive(Drop)]
@@ -44,24 +42,4 @@ impl ReportFiles {
             images,
         })
     }
-}
-
-/// The images of some words: each file's bytes under the path of its word.
-pub(crate) fn image_list(
-    alloc: Global,
-    words: &[(Name, Name)],
-    files: Vec<Vec<u8>>,
-) -> Result<Images, AllocError>
-    ensures { IfOk result (λ images. images ≡ images_read words.now (contents files.items)) }
-{
-    let mut images = Images::new(alloc);
-    let mut names = words;
-    for bytes in files {
-        let [(path, _), rest @ ..] = names else {
-            break;
-        };
-        images.push(Name::of(alloc, path.as_bytes())?, Mmap::of(alloc, bytes)?)?;
-        names = rest;
-    }
-    Ok(images)
 }

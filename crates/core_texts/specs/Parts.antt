@@ -1,4 +1,4 @@
--- Lines of parts.
+-- Texts of parts.
 use Rattle.std.specs.Prelude.{ℕ, ◌++◌, false, List, map, codes, decimal}
 use Rattle.std.specs.Fmt.{digits, signed_decimal}
 use Rattle.std.specs.List.{concat}
@@ -20,7 +20,3 @@ part_bytes (Signed n) = signed_decimal n
 -- the bytes of parts, one after another
 abbrev pub said : List Part → List ℕ
 said parts = concat (map (λ part. part_bytes part) parts)
-
--- the line of a text
-abbrev pub line : List ℕ → List ℕ
-line text = codes "pystacks: " ++ (text ++ codes "\n")

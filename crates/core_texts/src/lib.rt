@@ -1,7 +1,7 @@
-//! Texts of stack traces, and lines of parts.
+//! Texts of stack traces, and texts of parts.
 //!
-//! A text is made as a whole, by one call for each command. A line of parts is data, written to a stream
-//! part by part, so that it takes no memory.
+//! A text is made as a whole, by one call for each command. A text of parts is data, written to a stream part by part,
+//! so that it takes no memory.
 #![tactic(auto)]
 
 mod as_json;
@@ -15,7 +15,7 @@ mod trace;
 
 pub use as_json::report_json;
 pub use frame::frames_text;
-pub use line::{say_line, write_parts};
+pub use line::write_parts;
 pub use part::{Part, Parts, parts};
 pub use part_text::push_parts;
 pub use print_error::PrintError;

@@ -1,16 +1,12 @@
-//! Lines, written to a stream part by part.
+//! Parts, written to a stream one after another.
 ghost use Rattle.std.specs.Prelude.{◌<◌, ◌≡◌, drop, false};
 ghost use Rattle.std.specs.Fmt.{digits, digit_glyph};
-ghost use Rattle.core_texts.specs.Parts.{address_text, line, part_bytes, said};
-ghost use Rattle.core_texts.specs.Says.{IsWritten, Says};
+ghost use Rattle.core_texts.specs.Parts.{address_text, part_bytes, said};
+ghost use Rattle.core_texts.specs.Says.{IsWritten};
 
 use crate::part::Part;
 use itoa::Buffer;
 use outside::{Sink, SinkFault};
-
-const PREFIX: &[u8] = b"pystacks: ";
-
-const END: &[u8] = b"\n";
 
 /// Writes the hexadecimal digits of a number at the end of the buffer, and answers where they begin.
 pub(crate) fn hex(n: u64, buf: &mut [u8; 16]) -> usize
@@ -83,19 +79,4 @@ pub fn write_parts<S: Sink>(sink: &mut S, parts: &[Part<'_>]) -> Result<(), Sink
         write_part(sink, part)?;
     }
     Ok(())
-}
-
-fn write_line<S: Sink>(sink: &mut S, parts: &[Part<'_>]) -> Result<(), SinkFault>
-    ensures { IsWritten (S.seen sink.old) (S.seen sink.new) (line (said parts.now)) result }
-{
-    write_piece(sink, PREFIX)?;
-    write_parts(sink, parts)?;
-    write_piece(sink, END)
-}
-
-/// Writes a line: `pystacks: `, the parts, and a line feed. Where the stream fails, no more is written.
-pub fn say_line<E: Sink>(err: &mut E, parts: &[Part<'_>])
-    ensures { Says (E.seen err.old) (E.seen err.new) (line (said parts.now)) }
-{
-    let _ = write_line(err, parts);
 }

@@ -1,11 +1,10 @@
 -- Which files are asked for, in which order, and what they hold.
 use Rattle.std.specs.Prelude.{◌≡◌, ◌≢◌, ⊤, ℕ, List, [], ◌∷◌, ◌++◌, map, Result, Ok, Err, Vec}
 use Rattle.std.specs.Global.{Global}
-use Rattle.image_memory.specs.Images.{Pushed}
-use Rattle.image_memory.specs.Mmap.{whole_view}
 use Rattle.outside.specs.Files.{FailedNames, FilesSeen, Gives, Told}
 use Rattle.outside.specs.declared.faults.FileFault.{FileFault}
 use Rattle.outside.specs.declared.faults.FileFault.TheVariants as fault
+pub use Rattle.named_images.specs.Named.{contents, images_read}
 use Rattle.salvage_words.specs.Salvage.{Salvage}
 use Rattle.salvage_report.specs.declared.cause.Cause.TheVariants as cause
 use Rattle.salvage_report.specs.declared.files.SalvageFiles.{SalvageFiles}
@@ -22,19 +21,6 @@ AreRead told [] [] = ⊤
 AreRead told [] (bytes ∷ rest) = ⊥
 AreRead told (name ∷ names) [] = ⊥
 AreRead told (name ∷ names) (bytes ∷ rest) = Gives told name bytes × AreRead told names rest
-
--- the bytes of some files
-abbrev pub contents : List (Vec ℕ Global) → List (List ℕ)
-contents files = map (λ file. file.items) files
-
--- the images of some words, each with the contents of its file under its path
-abbrev pub images_by : List (List ℕ) → List (List ℕ × List ℕ) → Pushed
-images_by [] images = []
-images_by (bytes ∷ rest) [] = []
-images_by (bytes ∷ rest) (image ∷ images) = (image.0, whole_view bytes) ∷ images_by rest images
-
-abbrev pub images_read : List (List ℕ × List ℕ) → List (List ℕ) → Pushed
-images_read images contents = images_by contents images
 
 -- of some files that are asked for in turn, those before this one were read, and it could not be
 pub record IsUnread (old new : FilesSeen) (names : List (List ℕ)) (name : List ℕ) (why : FileFault) : Type 0 where

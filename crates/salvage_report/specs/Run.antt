@@ -12,7 +12,8 @@ use Rattle.salvage_words.specs.Salvage.Wanted.{help, version, salvage}
 use Rattle.salvage_report.specs.declared.cause.Cause.{Cause}
 use Rattle.salvage_report.specs.declared.trouble.Trouble.{Trouble}
 use Rattle.salvage_report.specs.declared.trouble.Trouble.TheVariants.{Cause as Caused, Words, File, Write}
-use Rattle.salvage_report.specs.Lines.{cause_parts, file_parts, line}
+use Rattle.fault_lines.specs.Lines.{file_parts}
+use Rattle.salvage_report.specs.Lines.{cause_parts, line}
 use Rattle.salvage_report.specs.Outcome.{IsOutcome, Outcome, cause_status}
 use Rattle.salvage_report.specs.Reading.{AreRead, IsUnread, files_of}
 use Rattle.salvage_report.specs.Texts.{help_text, program_version}

@@ -2,16 +2,14 @@
 ghost use Rattle.std.specs.Prelude.{◌≡◌, IfErr, IfOk, map};
 ghost use Rattle.outside.specs.Files.{Gives};
 ghost use Rattle.salvage_words.specs.Seen.{asked_salvage};
-ghost use Rattle.salvage_report.specs.Reading.{HasFiles, HasSalvageFiles, IsReadTrouble};
-ghost use Rattle.salvage_report.specs.Reading.{contents, files_of, images_read};
+ghost use Rattle.salvage_report.specs.Reading.{HasFiles, HasSalvageFiles, IsReadTrouble, files_of};
 
 use crate::cause::Cause;
 use crate::trouble::Trouble;
 use elf64_core::Name;
-use image_memory::{Images, Mmap};
 use outside::{FileFault, Files};
 use salvage_words::SalvageWords;
-use std::alloc::{AllocError, Global};
+use std::alloc::Global;
 
 /// What the files hold.
 #[derive(Drop)]
@@ -81,24 +79,4 @@ impl SalvageFiles {
             images,
         })
     }
-}
-
-/// The images of some words: each file's bytes under the path of its word.
-pub(crate) fn image_list(
-    alloc: Global,
-    words: &[(Name, Name)],
-    files: Vec<Vec<u8>>,
-) -> Result<Images, AllocError>
-    ensures { IfOk result (λ images. images ≡ images_read words.now (contents files.items)) }
-{
-    let mut images = Images::new(alloc);
-    let mut names = words;
-    for bytes in files {
-        let [(path, _), rest @ ..] = names else {
-            break;
-        };
-        images.push(Name::of(alloc, path.as_bytes())?, Mmap::of(alloc, bytes)?)?;
-        names = rest;
-    }
-    Ok(images)
 }

@@ -8,11 +8,12 @@ ghost use Rattle.salvage_report.specs.Seen.{Counts, Salvages, ShowsLeft};
 
 use crate::cause::Cause;
 use crate::crash::first_crash;
-use crate::files::{SalvageFiles, image_list};
+use crate::files::SalvageFiles;
 use crate::process::{Process, open};
 use crate::text::shown;
 use elf64_core::Text;
 use image_memory::Images;
+use named_images::image_list;
 use py_fronts::{named_candidates, searched_candidates};
 use py_layout::{Layouts, Version};
 use py_stacks::{Asked, LineNo, StackError};

@@ -1,5 +1,5 @@
 use Rattle.std.proofs.Common.{subst, sym}
-use Rattle.core_texts.specs.Parts.{line}
+use Rattle.core_report.specs.Lines.{line}
 use Rattle.core_texts.specs.Says.{Says}
 use Rattle.core_report.specs.Run.{SaysEnd, end_after}
 use Rattle.core_report.proofs.Ends.{says_end}
