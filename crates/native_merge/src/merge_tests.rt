@@ -159,3 +159,43 @@ fn calls_that_fail_show_their_address(rt: HostRuntime) -> Result<(), Fail> {
     assert_eq!(rt; shown(alloc, merged)?.as_str(), want);
     Ok(())
 }
+
+/// Native addresses, and what each of them shows.
+const ASKED: [(u64, &str); 4] = [
+    (0x5000, "main"),
+    (0x1002, "time_sleep"),
+    (0x1003, "PyGILState_Ensure"),
+    (0x5006, "mtrand_cont0_array"),
+];
+
+/// What they show, and a frame behind them, where the call of this number fails.
+fn shown_without(alloc: Global, failing: u64) -> Result<String, AllocError> {
+    let mut text = String::new(alloc);
+    let mut call = 0_u64;
+    for (addr, name) in ASKED {
+        if call == failing {
+            text.push_str(format!(in alloc; "{addr:#x}? ")?.as_str())?;
+        } else {
+            text.push_str(format!(in alloc; "{name} ")?.as_str())?;
+        }
+        call = call.saturating_add(1);
+    }
+    text.push_str("A ")?;
+    Ok(text)
+}
+
+#[test]
+fn each_call_that_fails_shows_its_address_alone(rt: HostRuntime) -> Result<(), Fail> {
+    let alloc = rt.alloc();
+    let addrs = ASKED.map(|asked| asked.0);
+    // the last number is that of no call
+    for failing in 0..5_u64 {
+        let symbols = symbols_of(alloc, Vec::from_slice(alloc, &[failing])?)?;
+        let mut stack = NativeStack::new(alloc, None, None, symbols, NoSources)?;
+        let frames = frames_of(alloc, "A")?;
+        let merged = stack.merge_native_stack(frames.as_slice(), &addrs);
+        let want = shown_without(alloc, failing)?;
+        assert_eq!(rt; shown(alloc, merged)?.as_str(), want.as_str());
+    }
+    Ok(())
+}

@@ -7,6 +7,7 @@ use crate::{
 use elf64_core::{Name, Text};
 use py_stacks::Frame;
 use std::alloc::{AllocError, Global};
+use std::process::Abort;
 use std::test::Fail;
 
 /// Names of functions, and what is left of them.
@@ -273,5 +274,40 @@ fn frames_are_translated(rt: HostRuntime) -> Result<(), Fail> {
     let mut frame = frame_at(alloc, "a.c", 3)?;
     SourceMaps::new(alloc).translate(&mut NoSources, &mut frame)?;
     assert_eq!(rt; frame.filename.as_str(), "a.c");
+    Ok(())
+}
+
+/// C files, each of which has a mark. The first call of `contents` for each of the three is in this order; one that
+/// failed is asked for again, in the place of its second frame.
+const C_FILES: [&str; 6] = ["a.c", "b.c", "c.cpp", "a.c", "b.c", "c.cpp"];
+
+/// Translates a frame of each file, where the call of this number fails: that frame stays, and no other does.
+fn translate_all_but(rt: &impl Abort, alloc: Global, failing: u64) -> Result<(), Fail> {
+    let mark = b"/* \"a.pyx\":7".as_slice();
+    let contents = [(b"a.c".as_slice(), mark), (b"b.c", mark), (b"c.cpp", mark)];
+    let mut sources = sources_of(alloc, &contents, &[failing])?;
+    let mut maps = SourceMaps::new(alloc);
+    let mut call = 0_u64;
+    for file in C_FILES {
+        let mut frame = frame_at(alloc, file, 2)?;
+        maps.translate(&mut sources, &mut frame)?;
+        let (want, number) = if call == failing {
+            (file, 2)
+        } else {
+            ("a.pyx", 7)
+        };
+        assert_eq!(rt; frame.filename.as_str(), want, "{file} {failing}");
+        assert_eq!(rt; frame.line, number, "{file} {failing}");
+        call = call.saturating_add(1);
+    }
+    Ok(())
+}
+
+#[test]
+fn each_call_that_fails_leaves_its_frame_alone(rt: HostRuntime) -> Result<(), Fail> {
+    // the last number is that of no call
+    for failing in [0, 1, 2, u64::MAX] {
+        translate_all_but(&rt, rt.alloc(), failing)?;
+    }
     Ok(())
 }
