@@ -20,8 +20,9 @@ from random import Random
 from typing import List, Sequence, Tuple
 
 from made import EXAMPLE, Objects, Segment, Symbol, core_file, image_file, layout_of
-from row import HEAP as INTERPRETER
+from row import CALLER, CODE, FRAME, HEAP as INTERPRETER, heap as usual
 from rows_dump import PROGRAM as IMAGE, bss, files_of, mapped, small
+from rows_salvage import named
 
 FILLER = 0x100000000
 """Where the segments begin that hold nothing of Python."""
@@ -160,6 +161,22 @@ def merged(program: str, folder: Path, times: int) -> str:
     return f"`merge` of {len(places)} addresses in a library of {count} functions: {seconds:.2f} s, {memory:.0f} MiB."
 
 
+def deep(program: str, folder: Path, times: int) -> str:
+    """A line on a recursion of 100,000 frames, of which the first 100 and the last are shown."""
+    count, shown = 100000, 100
+    objects, far = usual(), Objects(layout_of(EXAMPLE), FILLER)
+    objects.frame(at=FRAME, code=CODE, back=far.frames([CODE] * (count - 2), CALLER))
+    for name, held in named(objects, more=[far.segment()]).items():
+        (folder / name).write_bytes(held)
+    paths = [str(folder / name) for name in ("core", "layouts", "image")]
+    command = [program, paths[0], "--layouts", paths[1], "-n", str(shown), f"/usr/bin/python3.9={paths[2]}"]
+    seconds, memory = min(ran(command, folder / "out") for _ in range(times))
+    frames = ["    f (a.py)"] * shown + [f"    ... {count - 2 * shown} more frames"] + ["    f (a.py)"] * (shown - 1)
+    if (folder / "out").read_text().splitlines()[3:] != frames + ["    <module> (a.py)"]:
+        raise Failure("the first frames and the last aren't those that the core has")
+    return f"`pysalvage` over a thread of {count} frames: {seconds:.2f} s, {memory:.0f} MiB."
+
+
 def row(cells: Sequence[str]) -> str:
     """A row of the table."""
     return "| " + " | ".join(cells) + " |"
@@ -176,6 +193,7 @@ def main() -> int:
     """The command."""
     parser = argparse.ArgumentParser(description=__doc__.splitlines()[0])
     parser.add_argument("--program", required=True, help="the built program")
+    parser.add_argument("--salvage", help="the built program pysalvage (default: it isn't measured)")
     parser.add_argument("--times", type=int, default=5, help="how often each command is run (default: 5)")
     words = parser.parse_args()
     print(f"{machine()}; the fastest of {words.times} runs each. `cat` reads the same files once. Less than the memory")
@@ -190,6 +208,8 @@ def main() -> int:
                 print(f"measure: FAILED: {reason}", file=sys.stderr)
                 return 1
         print("\n" + merged(words.program, Path(folder), words.times), flush=True)
+        if words.salvage:
+            print("\n" + deep(words.salvage, Path(folder), words.times), flush=True)
     return 0
 
 
