@@ -1,9 +1,9 @@
 """A core as it is handed to a program: prepared where it has to be, with its images and layouts; and what the programs
 tell of it.
 
-Where `pysalvage` is there it is asked, since it shows what is left of a broken process. It tells neither names of threads nor
-values of locals, so these are those of `pystacks dump`, where that gives a report. Where `pysalvage` isn't there
-`pystacks dump` is asked alone.
+Where `pysalvage` is there it is asked, since it shows what is left of a broken process. It tells neither names of
+threads nor values of locals, so these are those of `pystacks dump`, where that gives a report. Where `pysalvage` isn't
+there `pystacks dump` is asked alone.
 """
 
 import argparse

@@ -62,8 +62,8 @@ def thread_of(tree: Tree) -> Thread:
     frames = tree["frames"]
     first, last = ([member_of(it) for it in frames[part]] for part in ("first", "last"))
     end = frames_end(frames["end"], frames["met"])
-    return Thread(tree["thread_id"], tuple(first + last), tree["os_thread_id"], tree["thread_name"], tree["gil"], tree["crashed"],
-                  len(first), frames["between"], end)
+    return Thread(tree["thread_id"], tuple(first + last), tree["os_thread_id"], tree["thread_name"], tree["gil"],
+                  tree["crashed"], len(first), frames["between"], end)
 
 
 def interpreter_of(tree: Tree) -> Interpreter:

@@ -79,7 +79,8 @@ def crash_line(report: Report) -> str:
         return ""
     count = sum(it.is_crashed for it in report.threads)
     if count > 1:
-        return f"One of {count} threads got the signal: in other interpreters a thread keeps the id of the one that made it"
+        why = "in other interpreters a thread keeps the id of the one that made it"
+        return f"One of {count} threads got the signal: {why}"
     return "" if count else "No Python thread got the signal: another thread of the process did, or its record is lost"
 
 

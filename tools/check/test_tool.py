@@ -188,16 +188,17 @@ class Shown(Case):
 
     def test_values_of_dump(self):
         # (`pysalvage` tells no values: they are those that `dump` has of the same names and addresses)
-        told = [local("n", "12", True), local("s", '"a"'), local("gone", None)]
-        bare = [{**local("n", None, True)}, {**local("s", '"own"')}, local("gone", None), {**local("n", None), "address": "0x2000"}]
-        trees = [salvage(interpreter([thread(1, [frame("f", rows=rows)])])) for rows in (told, bare)]
-        for words, status, value in (("-l", 0, "12"), ("-l", 1, "?")):
-            self.programs(trees[1], threads=trees[0]["interpreters"][0]["threads"])
-            stand_ins.program(self.program, stand_ins.dump_json(trees[0]["interpreters"][0]["threads"]), status=status)
-            lines = ["        Arguments:", f"            n: {value}", "        Locals:", '            s: "own"', "            gone: ?", "            n: ?"]
-            self.assertEqual(self.tool(words)[1].splitlines()[-6:], lines)
-            rows = json.loads(self.tool(words, "--json")[1])["interpreters"][0]["threads"][0]["frames"]["first"][0]["locals"]
-            self.assertEqual([it["repr"] for it in rows], [None if value == "?" else value, '"own"', None, None])
+        told = thread(1, [frame("f", rows=[local("n", "12", True), local("s", '"a"'), local("gone", None)])])
+        elsewhere = {**local("n", None), "address": "0x2000"}
+        bare = thread(1, [frame("f", rows=[local("n", None, True), local("s", '"own"'), local("gone", None), elsewhere])])
+        stand_ins.program(self.folder / "pysalvage", json.dumps(salvage(interpreter([bare]))))
+        for status, value in ((0, "12"), (1, None)):
+            stand_ins.program(self.program, stand_ins.dump_json([told]), status=status)
+            lines = [f"    n: {value or '?'}", "Locals:", '    s: "own"', "    gone: ?", "    n: ?"]
+            self.assertEqual([it[8:] for it in self.tool("-l")[1].splitlines()[-5:]], lines)
+            tree = json.loads(self.tool("-l", "--json")[1])["interpreters"][0]["threads"][0]
+            rows = tree["frames"]["first"][0]["locals"]
+            self.assertEqual([it["repr"] for it in rows], [value, '"own"', None, None])
 
     def test_sources(self):
         path = self.put("srv/a.py", b"one\n  two\n")
