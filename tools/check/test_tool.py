@@ -189,7 +189,8 @@ class Shown(Case):
     def test_values_of_dump(self):
         # (`pysalvage` tells no values: they are those that `dump` has of the same names and addresses)
         told = thread(1, [frame("f", rows=[local("n", "12", True), local("s", '"a"'), local("gone", None)])])
-        rows = [local("n", None, True), local("s", '"own"'), local("gone", None), {**local("n", None), "address": "0x2000"}]
+        elsewhere = {**local("n", None), "address": "0x2000"}
+        rows = [local("n", None, True), local("s", '"own"'), local("gone", None), elsewhere]
         bare = thread(1, [frame("f", rows=rows)])
         stand_ins.program(self.folder / "pysalvage", json.dumps(salvage(interpreter([bare]))))
         for status, value in ((0, "12"), (1, None)):
