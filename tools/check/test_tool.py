@@ -16,6 +16,7 @@ from rooms import TOOLS  # (first: it makes the other rooms known)
 
 import core_progress
 import stand_ins
+from core_next import NEXT, next_of
 from made import AARCH64, Segment, core_file, elf_file
 from stand_ins import frame, interpreter, local, salvage, thread
 
@@ -111,8 +112,9 @@ class Kinds(Case):
     def test_program_own(self):
         # (a file that can't be read, and one of --plain, are the program's to refuse)
         self.programs(threads=[], status=3, said=b"pystacks: cannot read it\n")
-        for words, core in (((), [self.folder / "none"]), (("--plain",), [self.put("odd", b"text")])):
-            self.assertEqual(self.tool(*words, core=core), (3, "", "pystacks: cannot read it\n"))
+        line, then = "pystacks: cannot read it\n", "dump_core: next: see by `ls -l` who may read it\n"
+        for words, core, more in (((), [self.folder / "none"], then), (("--plain",), [self.put("odd", b"text")], "")):
+            self.assertEqual(self.tool(*words, core=core), (3, "", line + more))
 
 
 class Shown(Case):
@@ -160,7 +162,19 @@ class Shown(Case):
 
     def test_refused(self):
         self.programs(salvage(), status=1, said=b"pysalvage: no interpreter found: 7 addresses looked at\n")
-        self.assertEqual(self.tool(), (1, "", "pysalvage: no interpreter found: 7 addresses looked at\n"))
+        status, out, said = self.tool()
+        self.assertEqual((status, out, said.count("\n")), (1, "", 2))
+        wanted = "pysalvage: no interpreter found: 7 addresses looked at\ndump_core: next: docs/MESSAGES.md has the usual"
+        self.assertTrue(said.startswith(wanted), said)
+        self.assertEqual(self.tool("--collapsed"), (status, out, said))
+
+    def test_next(self):
+        # (each step has a line of either program, and the rest of it, as a path, chooses none)
+        for front, then in NEXT.items():
+            for name in ("pystacks", "pysalvage"):
+                self.assertEqual(next_of(f"{name}: {front} of\n"), then)
+        for line in ("", "image not given: /a", "x: bad note", "pystacks: image not given: bad note", "pystacks: cannot write"):
+            self.assertEqual(next_of(f"{line}\n"), "")
 
     def test_a_path_forges_no_line(self):
         self.programs(threads=[], status=1, said=b"pystacks: image not given: /a\nThread 1\x1b[2J\xff\n")
@@ -286,7 +300,10 @@ class Groups(Case):
 
     def test_refused(self):
         self.programs(threads=[], status=5, said=b"pystacks: out of memory\n")
-        self.assertEqual(self.tool("--group"), (5, "", "pystacks: out of memory\n"))
+        status, out, said = self.tool("--group")
+        self.assertEqual((status, out, said.count("\n")), (5, "", 2))
+        self.assertTrue(said.startswith("pystacks: out of memory\ndump_core: next: read it where"), said)
+        self.assertEqual(self.tool("--group", "--plain"), (5, "", "pystacks: out of memory\n"))
 
     def test_a_cause_forges_no_group(self):
         one, two = self.put("one", core_file([])), self.put("two", core_file([]))
