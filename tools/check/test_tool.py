@@ -164,7 +164,7 @@ class Shown(Case):
         self.programs(salvage(), status=1, said=b"pysalvage: no interpreter found: 7 addresses looked at\n")
         status, out, said = self.tool()
         self.assertEqual((status, out, said.count("\n")), (1, "", 2))
-        wanted = "pysalvage: no interpreter found: 7 addresses looked at\ndump_core: next: docs/MESSAGES.md has the usual"
+        wanted = "pysalvage: no interpreter found: 7 addresses looked at\ndump_core: next: docs/MESSAGES.md has"
         self.assertTrue(said.startswith(wanted), said)
         self.assertEqual(self.tool("--collapsed"), (status, out, said))
 
@@ -173,7 +173,7 @@ class Shown(Case):
         for front, then in NEXT.items():
             for name in ("pystacks", "pysalvage"):
                 self.assertEqual(next_of(f"{name}: {front} of\n"), then)
-        for line in ("", "image not given: /a", "x: bad note", "pystacks: image not given: bad note", "pystacks: cannot write"):
+        for line in ("", "image not given: /a", "x: bad note", "pystacks: image not given: bad note", "pystacks: x"):
             self.assertEqual(next_of(f"{line}\n"), "")
 
     def test_a_path_forges_no_line(self):
