@@ -1,8 +1,9 @@
 """A core as it is handed to a program: prepared where it has to be, with its images and layouts; and what the programs
 tell of it.
 
-Where `pysalvage` is there it is asked, since it shows what is left of a broken process. It tells no names of threads, so
-these are those of `pystacks dump`, where that gives a report. Where `pysalvage` isn't there `pystacks dump` is asked alone.
+Where `pysalvage` is there it is asked, since it shows what is left of a broken process. It tells neither names of
+threads nor values of locals, so these are those of `pystacks dump`, where that gives a report. Where `pysalvage` isn't
+there `pystacks dump` is asked alone.
 """
 
 import argparse
@@ -23,6 +24,7 @@ from core_places import NOT_RUN, PROGRAM, SALVAGE, layouts_of, named_at, program
 from core_prepare import Prepared, Unprepared, Wishes, available, prepared
 from core_progress import shown_for
 from core_run import Answer, answer_of
+from core_salvage import Added, added_by
 from core_what import check_kind
 
 
@@ -151,29 +153,24 @@ def parsed(text: bytes) -> str:
     return text.decode("utf-8", "replace")
 
 
-def names_told(words: argparse.Namespace, it: Asked) -> Dict[int, Optional[str]]:
-    """The names of threads by their ids, where `pystacks dump` has a report."""
+def added_told(words: argparse.Namespace, it: Asked) -> Added:
+    """The names of threads, and with -l the values of locals, where `pystacks dump` has a report."""
     program = Path(words.program) if words.program else PROGRAM
     if not program.is_file():
-        return {}
-    answer = it.answer(dump_command(words, it, "-j"))
+        return Added()
+    answer = it.answer(dump_command(words, it, "-j", *["-l"] * words.locals))
     try:
-        return {row["thread_id"]: row["thread_name"] for row in json.loads(parsed(answer.out) or "[]")}
+        return added_by(json.loads(parsed(answer.out) or "[]"))
     except (ValueError, KeyError, TypeError):
-        return {}
+        return Added()
 
 
 def told_by_salvage(words: argparse.Namespace, it: Asked, program: Path) -> Told:
-    """What `pysalvage` tells, with names."""
+    """What `pysalvage` tells, with names and values."""
     answer = it.answer(salvage_command(program, it, words.locals))
     if answer.status != 0:
         return Told(answer)
-    text, names = parsed(answer.out), names_told(words, it)
-    report = core_salvage.with_names(core_salvage.report_of(text, it.name), names)
-    tree = json.loads(text)
-    for interpreter in tree["interpreters"]:
-        for thread in interpreter["threads"]:
-            thread["thread_name"] = names.get(thread["thread_id"])
+    tree, report = core_salvage.told_of(parsed(answer.out), it.name, added_told(words, it))
     return Told(answer, report, tree)
 
 

@@ -7,16 +7,17 @@ import sys
 from collections import Counter
 from typing import Dict, Iterable, List, Optional
 
-from core_asked import Asked, Told, asked_of, checked, dump_command, ready, told_of
+from core_asked import Asked, Told, asked_of, checked, dump_command, parsed, ready, told_of
 from core_collapse import collapsed_lines, counts_of
 from core_escape import in_line
-from core_faults import BAD_WORDS, CANNOT_WRITE, NO_PROGRAM, NO_ROOM, Fault, say, shown
+from core_faults import BAD_WORDS, CANNOT_WRITE, NO_PROGRAM, NO_ROOM, Fault, say, say_next, shown
 from core_group import Apart, Core, Group, group_answer, groups_of, renamed_text, shared_files, shared_machine, told
 from core_images import image_words, opened
+from core_next import next_of
 from core_page import group_page, report_page
 from core_places import NOT_RUN, PROGRAM, layouts_of, program_at
 from core_prepare import Prepared
-from core_run import end_as, run_over, write_all
+from core_run import Answer, end_as, run_over, write_all
 from core_sources import Sources
 from core_text import Style, report_lines, stacks_lines
 from core_words import version_lines, words_of
@@ -67,10 +68,11 @@ def style_of(words: argparse.Namespace) -> Style:
     return Style(has_colours(), words.all, sources_of(words))
 
 
-def refused(it: Told) -> int:
-    """Says what the program said of a core without a report, and returns its status."""
-    write_all(2, one_line(it.answer.said))
-    return end_as(it.answer.status)
+def refused(answer: Answer) -> int:
+    """Says what the program said where there is no report, and what to do next, and returns its status."""
+    write_all(2, one_line(answer.said))
+    say_next(next_of(parsed(answer.said)))
+    return end_as(answer.status)
 
 
 def one_line(said: bytes) -> bytes:
@@ -97,7 +99,7 @@ def show(words: argparse.Namespace, name: str) -> int:
         return plain(words, it)
     found = told_of(words, it)
     if found.report is None:
-        return refused(found)
+        return refused(found.answer)
     if words.json:
         return written([json.dumps(found.tree, indent=2, sort_keys=True, ensure_ascii=False)])
     if words.html:
@@ -134,7 +136,7 @@ def collapse(words: argparse.Namespace) -> int:
         if found.report is not None:
             counts.update(counts_of(found.report.threads))
         elif len(words.core) == 1:
-            return refused(found)
+            return refused(found.answer)
         else:
             statuses.append(said_of(name, found))
     written(collapsed_lines(counts))
@@ -171,6 +173,8 @@ def group(words: argparse.Namespace) -> int:
     command = checked([os.fspath(program_at(words.program, PROGRAM)), "triage", layouts], words.core)
     images = image_words(files, os.fsencode(words.root), machine)
     answer = group_answer([*command, *(core.word for core in cores), *images], cores)
+    if answer.status != 0 and not words.plain:
+        return refused(answer)
     write_all(2, answer.said if words.plain else one_line(answer.said))
     if answer.status != 0:
         return end_as(answer.status)

@@ -21,6 +21,11 @@ class Fault(Exception):
 def say(line: str, then: str = "") -> None:
     """Says a line on the standard error, and what to do next."""
     print(f"dump_core: {line}", file=sys.stderr, flush=True)
+    say_next(then)
+
+
+def say_next(then: str) -> None:
+    """Says what to do next, if there is something, behind a line that was said."""
     if then:
         print(f"dump_core: next: {then}", file=sys.stderr, flush=True)
 

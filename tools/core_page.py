@@ -191,11 +191,10 @@ def head_part(report: Report) -> str:
     if report.process is not None:
         rows.append(("Process", f"{report.process[0]}: {text(report.process[1])}"))
     rows.append(("Python", text(report.version)))
-    crashed = [it for it in report.threads if it.is_crashed]
-    if crashed:
-        rows.append(("Crashed", ", ".join(f"{text(it.label)} {name_of(it)} in {text(newest_of(it))}" for it in crashed)))
-    elif crash_line(report):
-        rows.append(("Crashed", text(crash_line(report))))
+    crashed = [f"{text(it.label)} {name_of(it)} in {text(newest_of(it))}" for it in report.threads if it.is_crashed]
+    told = [", ".join(crashed), text(crash_line(report))]
+    if any(told):
+        rows.append(("Crashed", "; ".join(it for it in told if it)))
     rows.append(("Core", text(report.core)))
     return "<dl class=\"head\">\n" + "\n".join(f"<dt>{key}</dt><dd>{value}</dd>" for key, value in rows) + "\n</dl>"
 

@@ -1,8 +1,11 @@
-"""What `pysalvage -j` told of a core. How chains end is worded as its own text has it."""
+"""What `pysalvage -j` told of a core. How chains end is worded as its own text has it.
+
+It tells neither names of threads nor values of locals: those of `pystacks dump` are added, where that has a report.
+"""
 
 import json
-from dataclasses import replace
-from typing import Any, Dict, Mapping, Optional, Tuple
+from dataclasses import dataclass, field
+from typing import Any, Dict, Iterable, Optional, Tuple
 
 from core_dump import Unexpected, local_of
 from core_model import Frame, Interpreter, Report, Thread
@@ -59,8 +62,8 @@ def thread_of(tree: Tree) -> Thread:
     frames = tree["frames"]
     first, last = ([member_of(it) for it in frames[part]] for part in ("first", "last"))
     end = frames_end(frames["end"], frames["met"])
-    return Thread(tree["thread_id"], tuple(first + last), tree["os_thread_id"], None, tree["gil"], tree["crashed"],
-                  len(first), frames["between"], end)
+    return Thread(tree["thread_id"], tuple(first + last), tree["os_thread_id"], tree["thread_name"], tree["gil"],
+                  tree["crashed"], len(first), frames["between"], end)
 
 
 def interpreter_of(tree: Tree) -> Interpreter:
@@ -71,21 +74,46 @@ def interpreter_of(tree: Tree) -> Interpreter:
     return Interpreter(threads, int(tree["address"], 16), tree["searched"], fault, threads_end(tree["threads_end"]))
 
 
-def report_of(text: str, core: str) -> Report:
-    """The report by the JSON of one core."""
+@dataclass
+class Added:
+    """What `pystacks dump` told that `pysalvage` doesn't."""
+
+    names: Dict[int, Optional[str]] = field(default_factory=dict)
+    """The names of threads, by the interpreters' ids of them."""
+    values: Dict[Tuple[str, str], str] = field(default_factory=dict)
+    """The values that are shown, by the local's name and the value's address."""
+
+
+def added_by(threads: Iterable[Tree]) -> Added:
+    """What is added, by the threads of `dump -j`."""
+    found = Added()
+    for thread in threads:
+        found.names[thread["thread_id"]] = thread["thread_name"]
+        for frame in thread["frames"]:
+            for row in frame["locals"] or ():
+                if row["repr"] is not None:
+                    found.values[row["name"], hex(row["addr"])] = row["repr"]
+    return found
+
+
+def add(tree: Tree, added: Added) -> None:
+    """Adds names and values to the JSON of a core. A value that it has itself stays."""
+    for thread in (thread for it in tree["interpreters"] for thread in it["threads"]):
+        thread["thread_name"] = added.names.get(thread["thread_id"])
+        for member in thread["frames"]["first"] + thread["frames"]["last"]:
+            for row in member.get("locals") or ():
+                if row["repr"] is None:
+                    row["repr"] = added.values.get((row["name"], row["address"]))
+
+
+def told_of(text: str, core: str, added: Added) -> Tuple[Tree, Report]:
+    """The JSON of one core with what is added, and the report that it gives."""
     try:
         tree = json.loads(text)
+        add(tree, added)
         interpreters = tuple(interpreter_of(it) for it in tree["interpreters"])
         process = tree["process"]
         told: Optional[Tuple[int, str]] = None if process is None else (process["pid"], process["arguments"])
-        return Report(interpreters, tree["version"], tree["signal"], told, tree["more"], True, core)
+        return tree, Report(interpreters, tree["version"], tree["signal"], told, tree["more"], True, core)
     except (ValueError, KeyError, TypeError) as error:
         raise Unexpected(f"its JSON: {error!r}") from None
-
-
-def with_names(report: Report, names: Mapping[int, Optional[str]]) -> Report:
-    """The report with names of threads, by the interpreters' ids of them."""
-    def named(it: Interpreter) -> Interpreter:
-        return replace(it, threads=tuple(replace(thread, name=names.get(thread.number)) for thread in it.threads))
-
-    return replace(report, interpreters=tuple(named(it) for it in report.interpreters))

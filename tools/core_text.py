@@ -74,10 +74,14 @@ def newest_of(thread: Thread, style: Style = Style()) -> str:
 
 
 def crash_line(report: Report) -> str:
-    """What is said where no thread has the mark of the signal, if it is known which one got it."""
-    if not report.is_salvaged or not report.signal or any(it.is_crashed for it in report.threads):
+    """What is said where not one thread has the mark of the signal, if it is known which ones have it."""
+    if not report.is_salvaged or not report.signal:
         return ""
-    return "No Python thread got the signal: another thread of the process did, or its record is lost"
+    count = sum(it.is_crashed for it in report.threads)
+    if count > 1:
+        why = "in other interpreters a thread keeps the id of the one that made it"
+        return f"One of {count} threads got the signal: {why}"
+    return "" if count else "No Python thread got the signal: another thread of the process did, or its record is lost"
 
 
 # ---- lines

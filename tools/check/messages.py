@@ -60,7 +60,7 @@ def is_said(call: ast.Call) -> bool:
 
 def is_line(node: ast.Assign) -> bool:
     """Whether a text gets a name by which it is said later."""
-    return any(isinstance(it, ast.Name) and it.id in ("line", "then") for it in node.targets)
+    return any(isinstance(it, ast.Name) and it.id in ("line", "then", "NEXT") for it in node.targets)
 
 
 def texts_of_tool(source: str) -> Iterator[str]:

@@ -1,6 +1,7 @@
 #!/usr/bin/env python3
 """Opens pages of dump_core.py in a headless Chromium: that none complains or asks for anything, that the overview sorts and
-searches, that the graph's widths add up, that it is usable by keyboard and readable without scripts.
+searches, that the graph's widths add up, that it is usable by keyboard and readable without scripts; and
+that `tidy`, where it is there, finds no fault in it.
 
     tools/check/pages.py [--program crates/pystacks/out/pystacks] [--write]
 
@@ -11,6 +12,7 @@ Chromium one line says so. The status is 0 exactly where nothing that was tried 
 
 import argparse
 import os
+import shutil
 import signal
 import subprocess
 import sys
@@ -200,6 +202,14 @@ def check_dark(browser: Browser) -> None:
     wanted(seen[0] != seen[1], "light and dark are the same")
 
 
+def check_tidy(page: Path) -> None:
+    """That `tidy` finds nothing in it, where that is there."""
+    if shutil.which("tidy"):
+        ran = subprocess.run(["tidy", "-q", "-e", str(page)], stdin=subprocess.DEVNULL, stdout=subprocess.PIPE,
+                             stderr=subprocess.PIPE)
+        wanted(ran.returncode == 0 and not ran.stderr, f"tidy says {ran.stderr.decode('utf-8', 'replace')[:300]}")
+
+
 def check_page(browser: Browser, page: Path) -> None:
     """All of it."""
     browser.open(page)
@@ -212,6 +222,7 @@ def check_page(browser: Browser, page: Path) -> None:
     faults = browser.faults()
     wanted(not faults, f"it complains: {faults[:3]}")
     check_scripts_off(browser, page, text)
+    check_tidy(page)
 
 
 def put_pictures(browser: Browser, page: Path, name: str) -> None:

@@ -97,6 +97,20 @@ def stacks_in_page(page: str) -> List[Frames]:
     return found
 
 
+def values_of(thread: Dict[str, Any], frames: Sequence[Dict[str, Any]]) -> Tuple[object, ...]:
+    """A thread's locals, with their values."""
+    return thread["thread_id"], [[(row["name"], row["repr"]) for row in it["locals"] or ()] for it in frames]
+
+
+def check_values(tool: Sequence[object]) -> None:
+    """Fails where the tool's locals have other values than the program told."""
+    wanted = [values_of(it, it["frames"]) for it in json.loads(ran([*tool, "-l", "-j", "--plain"]))]
+    told = json.loads(ran([*tool, "-l", "--json"]))
+    rows = [thread for it in told["interpreters"] for thread in it["threads"]]
+    got = [values_of(it, it["frames"]["first"] + it["frames"]["last"]) for it in rows]
+    check_same(sorted(wanted), sorted(got), "the values of locals")
+
+
 def check_tool(program: Path, core: Path, layouts: Path, images: Sequence[str]) -> None:
     """Fails where the tool shows other stacks of a core than the program told it."""
     tree = json.loads(ran([program, "dump", "-c", core, "--layouts", layouts, "-j", *images]))
@@ -117,6 +131,7 @@ def check_tool(program: Path, core: Path, layouts: Path, images: Sequence[str]) 
     got = Counter({tuple(line.rsplit(" ", 1)[0].split(";")): int(line.rsplit(" ", 1)[1]) for line in ran([*tool, "--collapsed"]).splitlines()})
     if lines != got:
         raise Failure("the collapsed stacks are others")
+    check_values(tool)
     page = core.with_name("page.html")
     ran([*tool, f"--html={page}"])
     check_same(sorted(set(wanted)), sorted(set(stacks_in_page(page.read_text(encoding="utf-8")))), "the page")

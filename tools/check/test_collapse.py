@@ -12,6 +12,7 @@ from rooms import TOOLS  # (first: it makes the other rooms known)
 import stand_ins
 from core_collapse import collapsed
 from core_model import Frame, Thread
+from core_next import NEXT
 from core_places import PROGRAM
 from made import EXAMPLE, core_file
 from row import heap
@@ -80,7 +81,7 @@ class Tool(unittest.TestCase):
 
     def test_refused(self):
         refused = {"threads": [], "status": 1, "said": b"pystacks: bad note\n"}
-        self.assertEqual(self.ran(**refused), (1, "", "pystacks: bad note\n"))
+        self.assertEqual(self.ran(**refused), (1, "", f"pystacks: bad note\ndump_core: next: {NEXT['bad note']}\n"))
         lines = "/core0: pystacks: bad note\n/core1: pystacks: bad note\n"
         self.assertEqual(self.ran(cores=2, **refused), (1, "", lines))
 

@@ -49,7 +49,14 @@ class Heads(unittest.TestCase):
         self.assertEqual(text(threads(Thread(1, (F,))), is_salvaged=True), HEAD + line + "\nThread 0x1\n    f (a.py:5)\n")
         for more in ({"is_salvaged": False}, {"is_salvaged": True, "signal": 0}, {"is_salvaged": True, "signal": None}):
             self.assertNotIn(line, text(threads(Thread(1, (F,))), **more))
-        self.assertNotIn(line, text(threads(Thread(1, (F,), is_crashed=True)), is_salvaged=True))
+        self.assertNotIn("got the signal", text(threads(Thread(1, (F,), is_crashed=True)), is_salvaged=True))
+
+    def test_several_crashed(self):
+        # (where interpreters share an id, each of their threads has the mark)
+        both = Thread(1, (F,), is_crashed=True)
+        line = "One of 2 threads got the signal: in other interpreters a thread keeps the id of the one that made it\n"
+        self.assertTrue(text(threads(both, both), is_salvaged=True).startswith(HEAD + line + "\n"))
+        self.assertNotIn(line, text(threads(both, both)))
 
 
 class Stacks(unittest.TestCase):

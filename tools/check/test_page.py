@@ -103,6 +103,8 @@ class Pages(unittest.TestCase):
         for it in ("11 (SIGSEGV)", "7: python3 a.py", "3.11.7", '99 "Main" in f (a.py:5)', "core"):
             self.assertIn(it, head)
         self.assertIn("No Python thread got the signal", report_page(report(Thread(1, (F,))), Style()))
+        both = Thread(1, (F,), is_crashed=True)
+        self.assertIn("; One of 2 threads got the signal", Reader(report_page(report(both, both), Style())).text("dd"))
 
     def test_stacks_once(self):
         reader = Reader(report_page(SMALL, Style()))

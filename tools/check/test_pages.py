@@ -2,6 +2,7 @@
 """That pages.py notices a page that doesn't do what it should: each is changed in one place. It needs a Chromium."""
 
 import os
+import shutil
 import tempfile
 import unittest
 from pathlib import Path
@@ -75,6 +76,11 @@ class Noticed(unittest.TestCase):
         for old, new, line in MARKUP:
             self.assertTrue(old in page, old)
             self.assertIn(line, self.tried(page.replace(old, new, 1)) or "nothing", old)
+
+    @unittest.skipUnless(shutil.which("tidy"), "there is no tidy")
+    def test_tidy(self):
+        page = core_page.report_page(wide(), Style())
+        self.assertIn("tidy says", self.tried(page.replace("</main>", "</i></main>", 1)))
 
     def test_dark(self):
         style = core_page.STYLE.replace("prefers-color-scheme: dark", "max-width: 1px").replace("light dark", "light")

@@ -18,10 +18,13 @@ from child_cores import Failure
 from core_places import LAYOUTS
 from made import core_file
 from real_tool import Shown, check_tool, stacks_in
-from stand_ins import frame, thread
+from stand_ins import frame, local, thread
+
+ROWS = [local("n", "12", True), local("s", None)]
 
 THREADS = [
-    thread(1, [frame("f", "größer als \"das\".py", 5), frame("<lambda>"), frame("g", line=0), frame("<module>", line=3)], gil=True),
+    thread(1, [frame("f", "größer als \"das\".py", 5), frame("<lambda>"), frame("g", line=0, rows=ROWS),
+               frame("<module>", line=3)], gil=True),
     *[thread(number, [frame("wait", "t.py", 12), frame("run", "t.py", 3)]) for number in range(2, 12)], thread(12)]
 
 TAMPERED = """\
@@ -32,6 +35,7 @@ text = ran.stdout
 if {form!r} == "page" and page:
     text = open(page).read()
 if {form!r} in ("page" if page else "", "json" if "--json" in sys.argv else "", "collapsed" if "--collapsed" in sys.argv else "",
+        "values" if "-l" in sys.argv and "--json" in sys.argv else "",
         "all" if "--all" in sys.argv else "", "text" if len([it for it in sys.argv if it.startswith("--")]) == 2 else ""):
     new = re.sub({old!r}, {new!r}, text, count=1, flags=re.DOTALL)
     assert new != text
@@ -65,6 +69,8 @@ class Compared(unittest.TestCase):
             ("all", r"    <lambda> \(a.py:1\)\n", ""), ("all", r"(    g \(a.py\)\n)", r"\1\1"), ("all", r"(    f [^\n]*\n)(    <lambda>[^\n]*\n)", r"\2\1"),
             ("all", r"a.py:1\)", "a.py:2)"), ("all", r"Thread 0xC\n", ""), ("text", "10 threads", "9 threads"), ("text", r"    run \(t.py:3\)\n", ""),
             ("json", '"name": "g"', '"name": "h"'), ("json", '"line": 12', '"line": 13'), ("collapsed", " 10\n", " 9\n"), ("collapsed", "<module> ", "module "),
+            ("values", '"12"', '"13"'), ("values", '"name": "s"', '"name": "t"'),
+            ("values", r'("name": "s",\s*"repr": )null', r'\1"0"'),
             ("page", r"<li>wait[^\n]*\n", ""), ("page", r"(<li>f [^\n]*\n)(<li>[^\n]*\n)", r"\2\1"),
         ):
             tool.write_text(TAMPERED.format(tool=str(TOOLS / "dump_core.py"), form=form, old=old, new=new), encoding="utf-8")

@@ -16,6 +16,7 @@ from rooms import TOOLS  # (first: it makes the other rooms known)
 
 import core_progress
 import stand_ins
+from core_next import NEXT, next_of
 from made import AARCH64, Segment, core_file, elf_file
 from stand_ins import frame, interpreter, local, salvage, thread
 
@@ -111,8 +112,9 @@ class Kinds(Case):
     def test_program_own(self):
         # (a file that can't be read, and one of --plain, are the program's to refuse)
         self.programs(threads=[], status=3, said=b"pystacks: cannot read it\n")
-        for words, core in (((), [self.folder / "none"]), (("--plain",), [self.put("odd", b"text")])):
-            self.assertEqual(self.tool(*words, core=core), (3, "", "pystacks: cannot read it\n"))
+        line, then = "pystacks: cannot read it\n", "dump_core: next: see by `ls -l` who may read it\n"
+        for words, core, more in (((), [self.folder / "none"], then), (("--plain",), [self.put("odd", b"text")], "")):
+            self.assertEqual(self.tool(*words, core=core), (3, "", line + more))
 
 
 class Shown(Case):
@@ -160,7 +162,19 @@ class Shown(Case):
 
     def test_refused(self):
         self.programs(salvage(), status=1, said=b"pysalvage: no interpreter found: 7 addresses looked at\n")
-        self.assertEqual(self.tool(), (1, "", "pysalvage: no interpreter found: 7 addresses looked at\n"))
+        status, out, said = self.tool()
+        self.assertEqual((status, out, said.count("\n")), (1, "", 2))
+        wanted = "pysalvage: no interpreter found: 7 addresses looked at\ndump_core: next: docs/MESSAGES.md has"
+        self.assertTrue(said.startswith(wanted), said)
+        self.assertEqual(self.tool("--collapsed"), (status, out, said))
+
+    def test_next(self):
+        # (each step has a line of either program, and the rest of it, as a path, chooses none)
+        for front, then in NEXT.items():
+            for name in ("pystacks", "pysalvage"):
+                self.assertEqual(next_of(f"{name}: {front} of\n"), then)
+        for line in ("", "image not given: /a", "x: bad note", "pystacks: image not given: bad note", "pystacks: x"):
+            self.assertEqual(next_of(f"{line}\n"), "")
 
     def test_a_path_forges_no_line(self):
         self.programs(threads=[], status=1, said=b"pystacks: image not given: /a\nThread 1\x1b[2J\xff\n")
@@ -185,6 +199,21 @@ class Shown(Case):
         self.programs(salvage(interpreter([thread(1, [frame("f", rows=rows)])])))
         wanted = '        Arguments:\n            n: 1.5 (float 0x3ff8000000000000)\n        Locals:\n            s: "a\\u{2028}"\n'
         self.assertTrue(self.tool("-l")[1].endswith(wanted))
+
+    def test_values_of_dump(self):
+        # (`pysalvage` tells no values: they are those that `dump` has of the same names and addresses)
+        told = thread(1, [frame("f", rows=[local("n", "12", True), local("s", '"a"'), local("gone", None)])])
+        elsewhere = {**local("n", None), "address": "0x2000"}
+        rows = [local("n", None, True), local("s", '"own"'), local("gone", None), elsewhere]
+        bare = thread(1, [frame("f", rows=rows)])
+        stand_ins.program(self.folder / "pysalvage", json.dumps(salvage(interpreter([bare]))))
+        for status, value in ((0, "12"), (1, None)):
+            stand_ins.program(self.program, stand_ins.dump_json([told]), status=status)
+            lines = [f"    n: {value or '?'}", "Locals:", '    s: "own"', "    gone: ?", "    n: ?"]
+            self.assertEqual([it[8:] for it in self.tool("-l")[1].splitlines()[-5:]], lines)
+            tree = json.loads(self.tool("-l", "--json")[1])["interpreters"][0]["threads"][0]
+            rows = tree["frames"]["first"][0]["locals"]
+            self.assertEqual([it["repr"] for it in rows], [value, '"own"', None, None])
 
     def test_sources(self):
         path = self.put("srv/a.py", b"one\n  two\n")
@@ -271,7 +300,10 @@ class Groups(Case):
 
     def test_refused(self):
         self.programs(threads=[], status=5, said=b"pystacks: out of memory\n")
-        self.assertEqual(self.tool("--group"), (5, "", "pystacks: out of memory\n"))
+        status, out, said = self.tool("--group")
+        self.assertEqual((status, out, said.count("\n")), (5, "", 2))
+        self.assertTrue(said.startswith("pystacks: out of memory\ndump_core: next: read it where"), said)
+        self.assertEqual(self.tool("--group", "--plain"), (5, "", "pystacks: out of memory\n"))
 
     def test_a_cause_forges_no_group(self):
         one, two = self.put("one", core_file([])), self.put("two", core_file([]))

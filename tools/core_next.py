@@ -1,0 +1,25 @@
+"""What to do next where a program refuses a core, by the front of its line. docs/MESSAGES.md says more of each."""
+
+NEXT = {
+    "no interpreter found": "docs/MESSAGES.md has the usual causes, and how to tell them, below `No interpreter found`",
+    "no layout for Python": "docs/LAYOUTS.md says how a layout is derived from that build; --layouts names it",
+    "bad program headers": "copy the core anew: its headers are cut or damaged",
+    "bad note": "copy the core anew; `readelf -n` shows where its notes break off",
+    "no note segment": "see that it is a core: `readelf -h` says CORE of one",
+    "no named executable map": "--maps names a copy of the process's /proc/PID/maps",
+    "bad image": "--root names the folder below which the files are that were mapped",
+    "version unreadable": "take the next core with all private mappings: echo 0x3f > /proc/PID/coredump_filter",
+    "no Python version found": "see that it is a Python process; docs/WALK.md is for programs that embed Python",
+    "cannot read": "see by `ls -l` who may read it",
+    "file too long": "cores of at most 64 GiB are read, without their zero pages",
+    "out of memory": "read it where there is more memory, or see `ulimit -v`",
+    "layouts: ": "docs/LAYOUTS.md says what a layout file has",
+}
+
+
+def next_of(said: str) -> str:
+    """What to do behind the line of a program; nothing where the line says it, or the tool's own line before it."""
+    name, _, line = said.partition(": ")
+    if name not in ("pystacks", "pysalvage"):
+        return ""
+    return next((then for front, then in NEXT.items() if line.startswith(front)), "")
