@@ -13,7 +13,6 @@ thread is there. The status is 0 exactly where nothing that was tried failed.
 import argparse
 import json
 import os
-import struct
 import subprocess
 import sys
 import tempfile
@@ -23,6 +22,7 @@ from typing import Dict, Iterator, List, Sequence, Tuple
 
 from rooms import ROOT  # (first: it makes the other rooms known)
 
+from broken_words import LOW, check_words, with_word
 from child_cores import Case, Failure, Skip, core_names, find_core, leave_core, raise_core_limit
 from core_prepare import Unprepared, Wishes, prepared
 from derive_layout import DeriveError, build_of
@@ -160,20 +160,6 @@ def check_cut(salvage: Path, core: Path, layouts: Path, room: Path) -> None:
                 raise Failure(f"cut at {part} %: a thread that is none of the whole core")
 
 
-def place_of(core: Path, address: int) -> int:
-    """Where in a core's file an address stands."""
-    with open(core, "rb") as file:
-        head = file.read(64)
-        start, size, count = struct.unpack_from("<Q", head, 32)[0], *struct.unpack_from("<2H", head, 54)
-        file.seek(start)
-        table = file.read(size * count)
-    for number in range(count):
-        kind, _, offset, addr, _, length = struct.unpack_from("<2I4Q", table, size * number)
-        if kind == 1 and addr <= address < addr + length:
-            return offset + address - addr
-    raise Failure(f"{address:#x} is not in the core")
-
-
 def check_garbage(salvage: Path, core: Path, layouts: Path, text: str) -> None:
     """A thread whose `next` is garbage is the last, and all in front of it are as before."""
     fields = layout_of(text)["thread"]
@@ -182,17 +168,8 @@ def check_garbage(salvage: Path, core: Path, layouts: Path, text: str) -> None:
     in_order = sorted(before["threads"], key=lambda it: it["crashed"])[::-1]
     chained = [it for it in in_order if not it["crashed"]][-2:]
     broken = int(chained[0]["address"], 16) + fields["next"]
-    place = place_of(core, broken)
-    with open(core, "r+b") as file:
-        file.seek(place)
-        word = file.read(8)
-        file.seek(place)
-        file.write(struct.pack("<Q", 0x1230))
-        file.flush()
-        after = left(salvage, core, layouts)["interpreters"][0]
-        file.seek(place)
-        file.write(word)
-    if after["threads_end"].get("address") != "0x1230":
+    after = with_word(core, broken, LOW, lambda: left(salvage, core, layouts))["interpreters"][0]
+    if after["threads_end"].get("address") != hex(LOW):
         raise Failure("a garbage word is no end of threads")
     known = [(it["address"], it["frames"]) for it in before["threads"]]
     if not after["threads"] or any((it["address"], it["frames"]) not in known for it in after["threads"]):
@@ -242,9 +219,13 @@ def tried(program: Path, salvage: Path, python: str, names: str) -> str:
             core = leave_core(derived, names, room / str(number), case)
             count, others = check_same(salvage, program, core.path, layouts)
             check_cut(salvage, core.path, layouts, room)
-            if count > 2:
+            words = 0
+            if case.who == "many":
                 check_garbage(salvage, core.path, layouts, derived.text)
-            done.append(f"{count} threads as `dump`" + (f" and {others} interpreters that are none" if others else ""))
+            else:
+                words = check_words(core.path, derived.text, lambda: left(salvage, core.path, layouts, "-n", "4096"))
+            done.append(f"{count} threads as `dump`" + (f" and {others} interpreters that are none" if others else "")
+                        + (f", {words} words of garbage" if words else ""))
             core.path.unlink()
         for what, source, check in (("a recursion", DEEP, check_deep), ("a segfault", CRASHED, check_crashed), ("sub-interpreters", SUBS, check_subs)):
             try:
