@@ -1,5 +1,6 @@
-"""Words of a real core that are set to garbage, one at a time, for real_salvage.py: of a thread's record, of a frame and of a
-code object. The other threads must be as before, and the broken one must end, or lack a name, exactly where the word was.
+"""Words of a real core that are set to garbage, one at a time, for real_salvage.py: of a thread's record, of a frame
+and of a code object. The other threads must be as before, and the broken one must end, or lack a name, exactly where
+the word was.
 
 The words are found by a walk of this module's own, over core_reader.py: it shares the layout with the program, and
 nothing else.
@@ -76,7 +77,8 @@ class Walker:
         data = self.core.read(address, string["short_at"])
         if data is None:
             raise Failure(f"there is no text at {address:#x}")
-        (length,), (state,) = struct.unpack_from("<Q", data, string["length"]), struct.unpack_from("<I", data, string["state"])
+        (length,) = struct.unpack_from("<Q", data, string["length"])
+        (state,) = struct.unpack_from("<I", data, string["state"])
         found = self.core.read(address + string["short_at"], length) if state >> string["ascii_bit"] & 1 else None
         return None if found is None else found.decode("ascii")
 
@@ -88,7 +90,7 @@ class Walker:
         return self.word(place), place
 
     def chain(self, thread: int) -> List[Member]:
-        """The frames of a thread that are shown: those between Python and C have no code, or that of a file `<shim>`."""
+        """The frames of a thread that are shown. Others have no code, or that of a file `<shim>`."""
         frame = self.first(thread)[0]
         kind = self.word(self.at(self.word(self.at(frame, "frame.code")), "object.klass"))
         found: List[Member] = []
@@ -114,8 +116,8 @@ class Walker:
 
 
 def spots(walker: Walker, thread: int, chain: List[Member]) -> Iterator[Spot]:
-    """Words that lead from a thread's record to its newest frame; words of the newest frame, of one in the middle and of the
-    oldest one; and words of the code of that in the middle."""
+    """Words that lead from a thread's record to its newest frame; words of the newest frame, of one in the middle and
+    of the oldest one; and words of the code of that in the middle."""
     own = tuple(at for at, it in enumerate(chain) if it.name == FUNCTION)
     middle, count = own[len(own) // 2], len(chain)
     victim = chain[middle]
@@ -218,8 +220,8 @@ def is_beside(before: Tree, after: Tree) -> bool:
 
 
 def check_threads(core: Path, walker: Walker, thread: int, before: Tree, left: Left) -> int:
-    """A thread whose interpreter is garbage ends the threads, one whose `next` is garbage is the last one, and one whose id
-    is garbage has another id. How many words were tried."""
+    """A thread whose interpreter is garbage ends the threads, one whose `next` is garbage is the last one, and one
+    whose id is garbage has another id. How many words were tried."""
     known = by_address(before)
     order = [hex(it) for it in walker.threads(int(before["interpreters"][0]["address"], 16))]
     at = order.index(hex(thread))
@@ -231,8 +233,9 @@ def check_threads(core: Path, walker: Walker, thread: int, before: Tree, left: L
             ("next", known, order[: at + 1], unreadable(LETTERS, walker.layout["thread"]["size"])),
             ("id", renamed, order, {"kind": "whole"})):
         after = with_word(core, walker.at(thread, f"thread.{field}"), LETTERS, left)
-        if after["interpreters"][0]["threads_end"] != end:
-            raise Failure(f"with garbage in place of thread.{field} its threads end {after['interpreters'][0]['threads_end']}")
+        got = after["interpreters"][0]["threads_end"]
+        if got != end:
+            raise Failure(f"with garbage in place of thread.{field} the threads end by {got}, and not by {end}")
         if by_address(after) != {it: those[it] for it in wanted}:
             raise Failure(f"with garbage in place of thread.{field} another thread is not as before")
     return 3
@@ -242,7 +245,8 @@ def check_words(core: Path, layouts: str, left: Left) -> int:
     """Sets words of the thread that recurs to garbage, one at a time. How many were tried."""
     before = left()
     walker = Walker(reader(core.read_bytes()), layout_of(layouts))
-    recurs = [it for it in by_address(before).values() if any(FUNCTION == frame["name"] for frame in it["frames"]["first"])]
+    recurs = [it for it in by_address(before).values()
+              if any(one.get("name") == FUNCTION for one in it["frames"]["first"])]
     if len(recurs) != 1:
         raise Failure(f"{len(recurs)} threads have a frame of {FUNCTION}")
     thread = int(recurs[0]["address"], 16)

@@ -7,7 +7,7 @@ For each Python of 3.8 to 3.13 that is installed: on two cores of real_core_chil
 frames of the report, and a core that is cut has a front of each; a word of a thread that is garbage costs what stands
 behind it and nothing else. Of a recursion of 20,000 the first and the last 100 frames and the number between are there;
 of a segfault in a thread that had released the lock that thread has the mark; of a process with sub-interpreters each
-thread is there. The status is 0 exactly where nothing that was tried failed.
+thread is there, by the process's own word. The status is 0 exactly where nothing that was tried failed.
 """
 
 import argparse
@@ -62,29 +62,42 @@ thread.join()
 """
 
 SUBS = """
-import os, threading, time
+import json, os, sys, threading
 try:
     import _interpreters as subs
 except ImportError:
     import _xxsubinterpreters as subs
-def wait_of(number):
-    subs.run_string(subs.create(), f'import time\\ndef wait_{number}():\\n    time.sleep(100)\\nwait_{number}()')
-idle = subs.create()
-for number in range(3):
-    threading.Thread(target=wait_of, args=(number,), daemon=True).start()
-time.sleep(1.5)
-os.abort()
+ready, told = os.pipe()
+WAIT = 'import os, time\\ndef wait_%d():\\n    os.write(%d, b"x")\\n    time.sleep(100)\\nwait_%d()'
+def wait_of(sub, number):
+    subs.run_string(sub, WAIT % (number, told, number))
+def names_from(frame):
+    return [] if frame is None else [frame.f_code.co_name] + names_from(frame.f_back)
+def die():
+    own = {it.ident for it in threading.enumerate()}
+    stacks = {number: names_from(frame) for number, frame in sys._current_frames().items() if number in own}
+    print(json.dumps({"stacks": stacks, "kinds": sys.argv[1]}), flush=True)
+    os.abort()
+made = [subs.create() for _ in sys.argv[1]]
+for number, sub in enumerate(made):
+    if sys.argv[1][number] == "t":
+        threading.Thread(target=wait_of, args=(sub, number), daemon=True).start()
+        os.read(ready, 1)
+die()
 """
+"""Its argument tells what the sub-interpreters do, the oldest one first: `t` waits in a thread of its own, and `i` is
+idle."""
 
 Tree = Dict[str, object]
 
 
-def left_by(python: str, names: str, room: Path, source: str) -> Tuple[Path, str]:
+def left_by(python: str, names: str, room: Path, source: str, *words: str) -> Tuple[Path, str]:
     """A core of a child that runs this, and what it said."""
     room.mkdir()
     (room / "child.py").write_text(source)
     since = time.time()
-    with subprocess.Popen([python, "child.py"], cwd=room, stdout=subprocess.PIPE, stderr=subprocess.DEVNULL, preexec_fn=raise_core_limit, text=True) as child:
+    streams = {"stdout": subprocess.PIPE, "stderr": subprocess.DEVNULL, "text": True}
+    with subprocess.Popen([python, "child.py", *words], cwd=room, preexec_fn=raise_core_limit, **streams) as child:
         told, _ = child.communicate(timeout=60)
     if child.returncode >= 0:
         raise Skip("the child can't do it")
@@ -176,7 +189,7 @@ def check_garbage(salvage: Path, core: Path, layouts: Path, text: str) -> None:
         raise Failure("a garbage word changes what stands in front of it")
 
 
-def check_deep(salvage: Path, core: Path, layouts: Path) -> None:
+def check_deep(salvage: Path, core: Path, layouts: Path, _: str) -> None:
     """The recursion's first and last 100 frames, and the number between."""
     tree = left(salvage, core, layouts)
     deep = next(it for it in threads(tree) if it["frames"]["between"])
@@ -195,13 +208,34 @@ def check_crashed(salvage: Path, core: Path, layouts: Path, told: str) -> None:
         raise Failure("the thread that crashed holds the lock")
 
 
-def check_subs(salvage: Path, core: Path, layouts: Path) -> None:
-    """Each sub-interpreter's thread is there, in an interpreter of its own."""
+def check_subs(salvage: Path, core: Path, layouts: Path, told: str) -> None:
+    """The main interpreter has the threads that the process told, with their frames, and no others; each
+    sub-interpreter that waits in a thread has that alone; and one that is idle has a thread without frames, or none and
+    isn't shown."""
+    said = json.loads(told)
     tree = left(salvage, core, layouts)
-    shown = [{name for thread in it["threads"] for name, _ in frames_of(thread)} for it in tree["interpreters"]]
-    for number in range(3):
-        if sum(f"wait_{number}" in it for it in shown) != 1:
-            raise Failure(f"a thread of sub-interpreter {number} is missing among {len(shown)}")
+    shown = [sorted((str(it["thread_id"]), [name for name, file in frames_of(it) if file]) for it in one["threads"])
+             for one in tree["interpreters"]]
+    if shown.count(sorted((number, names) for number, names in said["stacks"].items())) != 1:
+        raise Failure(f"the main interpreter's threads {said['stacks']} are not those of one among {shown}")
+    stacks = [[names for _, names in it] for it in shown]
+    kinds = said["kinds"]
+    for number in (at for at, kind in enumerate(kinds) if kind == "t"):
+        if stacks.count([[f"wait_{number}", "<module>"]]) != 1:
+            raise Failure(f"sub-interpreter {number} of {kinds} is not one among {shown}")
+    if sum(bool(names) for it in stacks for names in it) != len(said["stacks"]) + kinds.count("t"):
+        raise Failure(f"a thread with frames is none of the process: {shown}")
+    if not tree["version"].startswith("3.13.") and stacks.count([[]]) < kinds.count("i"):
+        raise Failure(f"an idle sub-interpreter of {kinds} is missing among {shown}")
+
+
+CHILDREN = (
+    ("a recursion", DEEP, check_deep, ()),
+    ("a segfault", CRASHED, check_crashed, ()),
+    ("sub-interpreters", SUBS, check_subs, ("ittt",)),
+    ("sub-interpreters of which the newest is idle", SUBS, check_subs, ("tti",)),
+)
+"""What dies, and how it is checked, with the arguments of the child."""
 
 
 def tried(program: Path, salvage: Path, python: str, names: str) -> str:
@@ -227,13 +261,13 @@ def tried(program: Path, salvage: Path, python: str, names: str) -> str:
             done.append(f"{count} threads as `dump`" + (f" and {others} interpreters that are none" if others else "")
                         + (f", {words} words of garbage" if words else ""))
             core.path.unlink()
-        for what, source, check in (("a recursion", DEEP, check_deep), ("a segfault", CRASHED, check_crashed), ("sub-interpreters", SUBS, check_subs)):
+        for what, source, check, words in CHILDREN:
             try:
-                path, told = left_by(python, names, room / what, source)
+                path, told = left_by(python, names, room / what, source, *words)
             except Skip as reason:
                 done.append(f"{what} not tried ({reason})")
                 continue
-            check(*(it for it in (salvage, path, layouts, told)[: 4 if check is check_crashed else 3]))
+            check(salvage, path, layouts, told)
             path.unlink()
             done.append(what)
     return f"{build.dotted}: {', '.join(done)}"
