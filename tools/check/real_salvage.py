@@ -7,13 +7,12 @@ For each Python of 3.8 to 3.13 that is installed: on two cores of real_core_chil
 frames of the report, and a core that is cut has a front of each; a word of a thread that is garbage costs what stands
 behind it and nothing else. Of a recursion of 20,000 the first and the last 100 frames and the number between are there;
 of a segfault in a thread that had released the lock that thread has the mark; of a process with sub-interpreters each
-thread is there. The status is 0 exactly where nothing that was tried failed.
+thread is there, by the process's own word. The status is 0 exactly where nothing that was tried failed.
 """
 
 import argparse
 import json
 import os
-import struct
 import subprocess
 import sys
 import tempfile
@@ -23,6 +22,7 @@ from typing import Dict, Iterator, List, Sequence, Tuple
 
 from rooms import ROOT  # (first: it makes the other rooms known)
 
+from broken_words import LOW, check_words, with_word
 from child_cores import Case, Failure, Skip, core_names, find_core, leave_core, raise_core_limit
 from core_prepare import Unprepared, Wishes, prepared
 from derive_layout import DeriveError, build_of
@@ -62,29 +62,42 @@ thread.join()
 """
 
 SUBS = """
-import os, threading, time
+import json, os, sys, threading
 try:
     import _interpreters as subs
 except ImportError:
     import _xxsubinterpreters as subs
-def wait_of(number):
-    subs.run_string(subs.create(), f'import time\\ndef wait_{number}():\\n    time.sleep(100)\\nwait_{number}()')
-idle = subs.create()
-for number in range(3):
-    threading.Thread(target=wait_of, args=(number,), daemon=True).start()
-time.sleep(1.5)
-os.abort()
+ready, told = os.pipe()
+WAIT = 'import os, time\\ndef wait_%d():\\n    os.write(%d, b"x")\\n    time.sleep(100)\\nwait_%d()'
+def wait_of(sub, number):
+    subs.run_string(sub, WAIT % (number, told, number))
+def names_from(frame):
+    return [] if frame is None else [frame.f_code.co_name] + names_from(frame.f_back)
+def die():
+    own = {it.ident for it in threading.enumerate()}
+    stacks = {number: names_from(frame) for number, frame in sys._current_frames().items() if number in own}
+    print(json.dumps({"stacks": stacks, "kinds": sys.argv[1]}), flush=True)
+    os.abort()
+made = [subs.create() for _ in sys.argv[1]]
+for number, sub in enumerate(made):
+    if sys.argv[1][number] == "t":
+        threading.Thread(target=wait_of, args=(sub, number), daemon=True).start()
+        os.read(ready, 1)
+die()
 """
+"""Its argument tells what the sub-interpreters do, the oldest one first: `t` waits in a thread of its own, and `i` is
+idle."""
 
 Tree = Dict[str, object]
 
 
-def left_by(python: str, names: str, room: Path, source: str) -> Tuple[Path, str]:
+def left_by(python: str, names: str, room: Path, source: str, *words: str) -> Tuple[Path, str]:
     """A core of a child that runs this, and what it said."""
     room.mkdir()
     (room / "child.py").write_text(source)
     since = time.time()
-    with subprocess.Popen([python, "child.py"], cwd=room, stdout=subprocess.PIPE, stderr=subprocess.DEVNULL, preexec_fn=raise_core_limit, text=True) as child:
+    streams = {"stdout": subprocess.PIPE, "stderr": subprocess.DEVNULL, "text": True}
+    with subprocess.Popen([python, "child.py", *words], cwd=room, preexec_fn=raise_core_limit, **streams) as child:
         told, _ = child.communicate(timeout=60)
     if child.returncode >= 0:
         raise Skip("the child can't do it")
@@ -160,20 +173,6 @@ def check_cut(salvage: Path, core: Path, layouts: Path, room: Path) -> None:
                 raise Failure(f"cut at {part} %: a thread that is none of the whole core")
 
 
-def place_of(core: Path, address: int) -> int:
-    """Where in a core's file an address stands."""
-    with open(core, "rb") as file:
-        head = file.read(64)
-        start, size, count = struct.unpack_from("<Q", head, 32)[0], *struct.unpack_from("<2H", head, 54)
-        file.seek(start)
-        table = file.read(size * count)
-    for number in range(count):
-        kind, _, offset, addr, _, length = struct.unpack_from("<2I4Q", table, size * number)
-        if kind == 1 and addr <= address < addr + length:
-            return offset + address - addr
-    raise Failure(f"{address:#x} is not in the core")
-
-
 def check_garbage(salvage: Path, core: Path, layouts: Path, text: str) -> None:
     """A thread whose `next` is garbage is the last, and all in front of it are as before."""
     fields = layout_of(text)["thread"]
@@ -182,24 +181,15 @@ def check_garbage(salvage: Path, core: Path, layouts: Path, text: str) -> None:
     in_order = sorted(before["threads"], key=lambda it: it["crashed"])[::-1]
     chained = [it for it in in_order if not it["crashed"]][-2:]
     broken = int(chained[0]["address"], 16) + fields["next"]
-    place = place_of(core, broken)
-    with open(core, "r+b") as file:
-        file.seek(place)
-        word = file.read(8)
-        file.seek(place)
-        file.write(struct.pack("<Q", 0x1230))
-        file.flush()
-        after = left(salvage, core, layouts)["interpreters"][0]
-        file.seek(place)
-        file.write(word)
-    if after["threads_end"].get("address") != "0x1230":
+    after = with_word(core, broken, LOW, lambda: left(salvage, core, layouts))["interpreters"][0]
+    if after["threads_end"].get("address") != hex(LOW):
         raise Failure("a garbage word is no end of threads")
     known = [(it["address"], it["frames"]) for it in before["threads"]]
     if not after["threads"] or any((it["address"], it["frames"]) not in known for it in after["threads"]):
         raise Failure("a garbage word changes what stands in front of it")
 
 
-def check_deep(salvage: Path, core: Path, layouts: Path) -> None:
+def check_deep(salvage: Path, core: Path, layouts: Path, _: str) -> None:
     """The recursion's first and last 100 frames, and the number between."""
     tree = left(salvage, core, layouts)
     deep = next(it for it in threads(tree) if it["frames"]["between"])
@@ -218,13 +208,34 @@ def check_crashed(salvage: Path, core: Path, layouts: Path, told: str) -> None:
         raise Failure("the thread that crashed holds the lock")
 
 
-def check_subs(salvage: Path, core: Path, layouts: Path) -> None:
-    """Each sub-interpreter's thread is there, in an interpreter of its own."""
+def check_subs(salvage: Path, core: Path, layouts: Path, told: str) -> None:
+    """The main interpreter has the threads that the process told, with their frames, and no others; each
+    sub-interpreter that waits in a thread has that alone; and one that is idle has a thread without frames, or none and
+    isn't shown."""
+    said = json.loads(told)
     tree = left(salvage, core, layouts)
-    shown = [{name for thread in it["threads"] for name, _ in frames_of(thread)} for it in tree["interpreters"]]
-    for number in range(3):
-        if sum(f"wait_{number}" in it for it in shown) != 1:
-            raise Failure(f"a thread of sub-interpreter {number} is missing among {len(shown)}")
+    shown = [sorted((str(it["thread_id"]), [name for name, file in frames_of(it) if file]) for it in one["threads"])
+             for one in tree["interpreters"]]
+    if shown.count(sorted((number, names) for number, names in said["stacks"].items())) != 1:
+        raise Failure(f"the main interpreter's threads {said['stacks']} are not those of one among {shown}")
+    stacks = [[names for _, names in it] for it in shown]
+    kinds = said["kinds"]
+    for number in (at for at, kind in enumerate(kinds) if kind == "t"):
+        if stacks.count([[f"wait_{number}", "<module>"]]) != 1:
+            raise Failure(f"sub-interpreter {number} of {kinds} is not one among {shown}")
+    if sum(bool(names) for it in stacks for names in it) != len(said["stacks"]) + kinds.count("t"):
+        raise Failure(f"a thread with frames is none of the process: {shown}")
+    if not tree["version"].startswith("3.13.") and stacks.count([[]]) < kinds.count("i"):
+        raise Failure(f"an idle sub-interpreter of {kinds} is missing among {shown}")
+
+
+CHILDREN = (
+    ("a recursion", DEEP, check_deep, ()),
+    ("a segfault", CRASHED, check_crashed, ()),
+    ("sub-interpreters", SUBS, check_subs, ("ittt",)),
+    ("sub-interpreters of which the newest is idle", SUBS, check_subs, ("tti",)),
+)
+"""What dies, and how it is checked, with the arguments of the child."""
 
 
 def tried(program: Path, salvage: Path, python: str, names: str) -> str:
@@ -242,17 +253,21 @@ def tried(program: Path, salvage: Path, python: str, names: str) -> str:
             core = leave_core(derived, names, room / str(number), case)
             count, others = check_same(salvage, program, core.path, layouts)
             check_cut(salvage, core.path, layouts, room)
-            if count > 2:
+            words = 0
+            if case.who == "many":
                 check_garbage(salvage, core.path, layouts, derived.text)
-            done.append(f"{count} threads as `dump`" + (f" and {others} interpreters that are none" if others else ""))
+            else:
+                words = check_words(core.path, derived.text, lambda: left(salvage, core.path, layouts, "-n", "4096"))
+            done.append(f"{count} threads as `dump`" + (f" and {others} interpreters that are none" if others else "")
+                        + (f", {words} words of garbage" if words else ""))
             core.path.unlink()
-        for what, source, check in (("a recursion", DEEP, check_deep), ("a segfault", CRASHED, check_crashed), ("sub-interpreters", SUBS, check_subs)):
+        for what, source, check, words in CHILDREN:
             try:
-                path, told = left_by(python, names, room / what, source)
+                path, told = left_by(python, names, room / what, source, *words)
             except Skip as reason:
                 done.append(f"{what} not tried ({reason})")
                 continue
-            check(*(it for it in (salvage, path, layouts, told)[: 4 if check is check_crashed else 3]))
+            check(salvage, path, layouts, told)
             path.unlink()
             done.append(what)
     return f"{build.dotted}: {', '.join(done)}"
