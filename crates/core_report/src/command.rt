@@ -9,7 +9,8 @@ ghost use Rattle.core_words.specs.Seen.{asked_command};
 ghost use Rattle.core_report.specs.declared.cause.Cause.{Cause as Why};
 ghost use Rattle.core_report.specs.Headline.{HasReported};
 ghost use Rattle.core_report.specs.Outcome.{IsFaultless, IsOutcome, cause_status};
-ghost use Rattle.core_report.specs.Run.{Comes, EndsItself, HasEnded, HasRun, MayBeSlim, Reaches, TellsContents, end_after, ran};
+ghost use Rattle.core_report.specs.Run.{Comes, EndsItself, HasEnded, HasRun, MayBeSlim, Reaches, TellsContents};
+ghost use Rattle.core_report.specs.Run.{end_after, ran};
 
 use crate::cause::Cause;
 use crate::dump_command::dump_over;

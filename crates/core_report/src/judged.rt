@@ -2,7 +2,8 @@
 ghost use Rattle.std.specs.Prelude.{◌≡◌, ◌+◌, ◌++◌, ◌∷◌, ◌<◌, ◌≤◌, ◌^◌, ℕ, [], IfOk, List, OnOk, get_or, length, map};
 ghost use Rattle.core_triage.specs.Groups.{groups_of};
 ghost use Rattle.core_triage.specs.Keys.{same_key};
-ghost use Rattle.core_report.specs.Grouped.{IsJudgedRight, Judged, group_text, groups_text, name_line, refusal_line, refusals_text};
+ghost use Rattle.core_report.specs.Grouped.{IsJudgedRight, Judged, group_text, groups_text, name_line, refusal_line};
+ghost use Rattle.core_report.specs.Grouped.{refusals_text};
 ghost use Rattle.core_report.specs.Judging.{Keeps, kept_names, kept_refusals, refusal_seen};
 ghost use Rattle.core_report.specs.Outcome.{cause_status};
 

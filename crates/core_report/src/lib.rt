@@ -28,12 +28,3 @@ pub use core_stacks::{PythonCoreDump, report, report_counted, walk};
 pub use core_texts::{PrintError, write_trace};
 pub use core_words::{ArgsError, DumpWords, config_from_args};
 pub use py_process::{CoreError, Report};
-
-#[cfg(test)]
-mod core_tests;
-#[cfg(test)]
-mod derive_tests;
-#[cfg(test)]
-mod made;
-#[cfg(test)]
-mod run_tests;

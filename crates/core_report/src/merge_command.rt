@@ -92,7 +92,8 @@ fn merged_in(
 ) -> Result<Vec<u8>, Cause>
     requires binaries { AreBinaries threads.process.core images.now
         (option_map facts_of threads.binaries.program) (option_map facts_of threads.binaries.library) }
-    ensures { IsAnswer (IsMergedIn index threads.process.core images.now addresses.now (threads_stacked threads)) result }
+    ensures { IsAnswer (IsMergedIn index threads.process.core images.now addresses.now (threads_stacked threads))
+        result }
 {
     let Threads {
         process,

@@ -5,8 +5,6 @@ mod error;
 mod headers;
 mod joined;
 mod slimming;
-#[cfg(test)]
-mod tests;
 mod writing;
 
 pub use error::SlimError;

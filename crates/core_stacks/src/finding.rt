@@ -86,8 +86,8 @@ pub(crate) fn find_process<M: ContainsAddr, P: ProcessMemory>(
 /// What the images of the maps of a core say of its process. Nothing of the process's memory is read.
 ///
 /// The program is the first executable map whose file has a name, the library the first whose name is that of Python's
-/// library (`py_process::is_python_lib`). The library's image is needed where one is mapped, else the program's, and the
-/// other one may be missing or bad.
+/// library (`py_process::is_python_lib`). The library's image is needed where one is mapped, else the program's, and
+/// the other one may be missing or bad.
 ///
 /// The error is the first of these: `NoBinary`, where no executable map's file has a name; `NoImage` and `BadImage` of
 /// the needed image. Else it is want of memory.
@@ -103,7 +103,7 @@ pub fn process_info(
     read_images(alloc, images, maps, &programs)
 }
 
-/// What is found of the process of a core and its images, with Python's two binaries, or the first cause why nothing is.
+/// What is found of the process of a core and its images, with Python's two binaries, or the first cause why not.
 pub(crate) fn find_in_dump(
     alloc: Global,
     dump: &BackedDump,

@@ -3,7 +3,8 @@ ghost use Rattle.std.specs.Prelude.{◌≡◌, ◌↔◌, IsTrue, IfOk, None, op
 ghost use Rattle.image_memory.specs.MapTables.{tests};
 ghost use Rattle.image_memory.specs.Maps.{in_maps};
 ghost use Rattle.py_process.specs.Facts.{facts_of};
-ghost use Rattle.py_process.specs.Programs.{FactsAre, FactsOf, FirstMapIs, ImagesSay, IsLibraryMap, IsProgram, MapsSay, needed_map, path_of};
+ghost use Rattle.py_process.specs.Programs.{FactsAre, FactsOf, FirstMapIs, ImagesSay, IsLibraryMap, IsProgram, MapsSay};
+ghost use Rattle.py_process.specs.Programs.{needed_map, path_of};
 ghost use Rattle.core_stacks.specs.Seen.{IsImageError, known_in, needed_by, programs_in, programs_now};
 
 use elf64_core::Name;

@@ -248,8 +248,8 @@ impl PythonCoreDump {
     /// stacks of this process for the same `Config`, or want of memory, and nothing else.
     ///
     /// - `Core` exactly where `footprint` answers this error, and that is another one than want of memory.
-    /// - `TooManyPieces` exactly where the ranges have more than 65533 pieces: never where the stacks take no more reads
-    ///   than that.
+    /// - `TooManyPieces` exactly where the ranges have more than 65533 pieces: never where the stacks take no more
+    ///   reads than that.
     /// - `OutOfMemory` where there was no memory left.
     pub fn slimmed(&self, config: &Config) -> Result<Vec<u8>, SlimmedError>
         ensures right { SlimmedSays self.now config.now (items_of result) }

@@ -2,7 +2,8 @@
 ghost use Rattle.std.specs.Prelude.{◌≡◌, false, IfOk, string_bytes};
 ghost use Rattle.serde_json.specs.View.{view};
 ghost use Rattle.serde_json.specs.Written.{has_float};
-ghost use Rattle.core_texts.specs.Tree.{frame_tree, frames_tree, local_tree, locals_tree, pretty_text, report_json, report_tree, shown_tree, text_tree, trace_tree};
+ghost use Rattle.core_texts.specs.Tree.{frame_tree, frames_tree, local_tree, locals_tree, pretty_text, report_json};
+ghost use Rattle.core_texts.specs.Tree.{report_tree, shown_tree, text_tree, trace_tree};
 
 use elf64_core::Text;
 use py_stacks::{Frame, LocalVariable, StackTrace};

@@ -1,6 +1,7 @@
 //! The texts of frames and of their locals.
 ghost use Rattle.std.specs.Prelude.{◌≡◌, ◌++◌, IfOk, OnOk, encode_utf8_all, string_bytes, unwrap_or};
-ghost use Rattle.core_texts.specs.Text.{frame_line, frame_text, frames_text, heading_of, line_text, local_text, locals_text, repr_text, shown_locals};
+ghost use Rattle.core_texts.specs.Text.{frame_line, frame_text, frames_text, heading_of, line_text, local_text};
+ghost use Rattle.core_texts.specs.Text.{locals_text, repr_text, shown_locals};
 
 use elf64_core::Text;
 use py_stacks::{Frame, LocalVariable};

@@ -21,6 +21,3 @@ pub use part_text::push_parts;
 pub use print_error::PrintError;
 pub use text::{report_text, walk_text};
 pub use trace::write_trace;
-
-#[cfg(test)]
-mod tests;

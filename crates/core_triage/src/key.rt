@@ -1,6 +1,7 @@
 //! What a core's stacks are compared by.
 ghost use Rattle.std.specs.Prelude.{◌≡◌, IfOk};
-ghost use Rattle.core_triage.specs.Keys.{compared_in, compared_of, compared_frame, frame_compared, thread_compared, compared_thread};
+ghost use Rattle.core_triage.specs.Keys.{compared_in, compared_of, compared_frame, frame_compared, thread_compared};
+ghost use Rattle.core_triage.specs.Keys.{compared_thread};
 
 use elf64_core::Text;
 use py_stacks::{Frame, StackTrace};

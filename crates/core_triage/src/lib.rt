@@ -6,6 +6,3 @@ mod key;
 
 pub use groups::group;
 pub use key::{FrameKey, StackKey, key_of};
-
-#[cfg(test)]
-mod tests;

@@ -1,7 +1,9 @@
 //! What words ask for.
 ghost use Rattle.std.specs.Prelude.{IfOk, option_map};
 ghost use Rattle.core_words.specs.Answers.{AnswersWords};
-ghost use Rattle.core_words.specs.Words.{HasFewCores, command_of, locate, locate_words, merge, merge_words, reach, reach_words, sample_words, seeded, slim, slim_words, texts, triage, triage_words, walk, walk_words};
+ghost use Rattle.core_words.specs.Words.{HasFewCores, command_of, locate, locate_words, merge, merge_words, reach};
+ghost use Rattle.core_words.specs.Words.{reach_words, sample_words, seeded, slim, slim_words, texts, triage};
+ghost use Rattle.core_words.specs.Words.{triage_words, walk, walk_words};
 ghost use Rattle.core_words.specs.Seen.{asked_command};
 
 use crate::args_error::ArgsError;
@@ -39,15 +41,16 @@ pub enum Command<'a> {
 /// What the words ask for, the first of which is the command's name: `walk CORE LAYOUTS VERSION INTERP LOCK`,
 /// `triage LAYOUTS CORE.. [PATH=FILE]..`, `reach CORE LAYOUTS INDEX [PATH=FILE]..`,
 /// `merge CORE LAYOUTS INDEX ADDRESSES [PATH=FILE]..`, `locate CORE LAYOUTS [PATH=FILE]..`,
-/// `slim CORE LAYOUTS LEVEL [PATH=FILE]..`, `sample N`, `sample N core`, or the words of a report, as `config_from_args` takes them.
+/// `slim CORE LAYOUTS LEVEL [PATH=FILE]..`, `sample N`, `sample N core`, or the words of a report, as
+/// `config_from_args` takes them.
 ///
 /// Of a walk `LAYOUTS` is `sample`, for `py_fields::Layout::sample`, or else the name of a layout file. `VERSION` is
 /// three runs of 1 to 3 decimal digits joined by dots. `INTERP` and `LOCK` are 1 to 20 decimal digits, or
 /// `0x` and 1 to 16 hexadecimal digits of either case, of a number below 2^64.
 ///
 /// Of `triage` the cores are the words before the first with an equals sign, 1 to 4096 of them; of `reach` and
-/// `merge` `INDEX` is a number as `INTERP` is, of `slim` `LEVEL`, of `sample` `N`. Behind the others each word is an image's: a path, the
-/// first equals sign, and the name of a file.
+/// `merge` `INDEX` is a number as `INTERP` is, of `slim` `LEVEL`, of `sample` `N`. Behind the others each word is an
+/// image's: a path, the first equals sign, and the name of a file.
 ///
 /// - `Refused` exactly where the words are no such words.
 /// - `OutOfMemory` where there was no memory left.

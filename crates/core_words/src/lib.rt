@@ -29,6 +29,3 @@ pub use sample::SampleWords;
 pub use slim::SlimWords;
 pub use triage::TriageWords;
 pub use walk::{LayoutSource, WalkWords};
-
-#[cfg(test)]
-mod tests;

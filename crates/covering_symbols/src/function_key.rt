@@ -3,7 +3,8 @@ ghost use Rattle.std.specs.Prelude.{◌≡◌, ◌<◌, ◌^◌, ◌++◌, All, 
 ghost use Rattle.elf64_core.specs.Symbols.{symbol_entry_of};
 ghost use Rattle.elf64_core.specs.declared.symbol.Symbol.{Symbol as Declared};
 ghost use Rattle.piece_table.specs.Places.{IsBounded};
-ghost use Rattle.covering_symbols.specs.FunctionKeys.{function_keys, keys_of, is_function_info, key_covers, range_of_key};
+ghost use Rattle.covering_symbols.specs.FunctionKeys.{function_keys, keys_of, is_function_info, key_covers};
+ghost use Rattle.covering_symbols.specs.FunctionKeys.{range_of_key};
 
 use elf64_core::{Symbol, TableEntry};
 use piece_table::FileRange;

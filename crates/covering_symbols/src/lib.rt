@@ -4,8 +4,6 @@
 mod function_key;
 mod function_table;
 mod images;
-#[cfg(test)]
-mod tests;
 
 pub use function_key::FunctionKey;
 pub use function_table::FunctionTable;

@@ -1,6 +1,7 @@
 //! Build ids: which build a file is from.
 ghost use Rattle.std.specs.Prelude.{◌≡◌, ◌⊎◌, List, ℕ, IsErrOf};
-ghost use Rattle.elf64_core.specs.BuildIds.{FoundBuildId, found, NotesHoldBuildId, SectionSays, SectionsSay, BuildIdIs, FileHoldsBuildId};
+ghost use Rattle.elf64_core.specs.BuildIds.{FoundBuildId, found, NotesHoldBuildId, SectionSays, SectionsSay, BuildIdIs};
+ghost use Rattle.elf64_core.specs.BuildIds.{FileHoldsBuildId};
 ghost use Rattle.elf64_core.specs.Rest.{sections_left};
 
 use crate::note::{HEADER_SIZE, first_note};

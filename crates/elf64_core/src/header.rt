@@ -1,6 +1,7 @@
 //! The header of an ELF64 file.
 ghost use Rattle.std.specs.Prelude.{◌≡◌, ◌↔◌, ◌⊎◌, ◌+◌, ◌*◌, ◌≤◌, List, ℕ, IsTrue, IfOk, IfErr, IsErrOf, All, length};
-ghost use Rattle.elf64_core.specs.Header.{IsElf64, HasProgramTable, HasSegments, IsAccepted, FitsFile, machine_of, segments_of, segments_from, program_table, segment_count};
+ghost use Rattle.elf64_core.specs.Header.{IsElf64, HasProgramTable, HasSegments, IsAccepted, FitsFile, machine_of};
+ghost use Rattle.elf64_core.specs.Header.{segments_of, segments_from, program_table, segment_count};
 ghost use Rattle.elf64_core.specs.Rest.{segments_left};
 
 use crate::ElfError;

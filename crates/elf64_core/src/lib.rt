@@ -19,8 +19,6 @@ mod segment;
 mod span_table;
 mod steps;
 mod symbol;
-#[cfg(test)]
-mod tests;
 mod text;
 
 pub use build_id::{BuildId, read_build_id, read_elf_build_id};

@@ -1,7 +1,8 @@
 //! Notes: small records that a file carries.
 ghost use Rattle.std.specs.Prelude.{◌≡◌, ◌≢◌, ◌↔◌, ◌⊎◌, List, ℕ, IfOk, IfErr, IsErr, IsErrOf, map, MatchOption};
 ghost use Rattle.elf64_core.specs.Header.{IsInside};
-ghost use Rattle.elf64_core.specs.Notes.{IsNote, BeginsNoNote, AreNotes, AreNoNotes, AreNotesOnce, IsBadRange, bytes_of_range, noted, padded};
+ghost use Rattle.elf64_core.specs.Notes.{IsNote, BeginsNoNote, AreNotes, AreNoNotes, AreNotesOnce, IsBadRange};
+ghost use Rattle.elf64_core.specs.Notes.{bytes_of_range, noted, padded};
 
 use crate::fields::u32_in;
 use crate::offsets::{N_DESCSZ, N_TYPE};

@@ -1,7 +1,9 @@
 //! The sections of a file, their bytes and their names.
-ghost use Rattle.std.specs.Prelude.{◌≡◌, ◌↔◌, ◌≤◌, List, ℕ, None, IsTrue, IsSome, IfOk, IfErr, IsErrOf, length, option_copied};
+ghost use Rattle.std.specs.Prelude.{◌≡◌, ◌↔◌, ◌≤◌, List, ℕ, None, IsTrue, IsSome, IfOk, IfErr, IsErrOf, length};
+ghost use Rattle.std.specs.Prelude.{option_copied};
 ghost use Rattle.elf64_core.specs.Header.{IsInside};
-ghost use Rattle.elf64_core.specs.Sections.{HasSections, section_at, sections_of, section_name_of, range_at, contents_of, strings_of};
+ghost use Rattle.elf64_core.specs.Sections.{HasSections, section_at, sections_of, section_name_of, range_at};
+ghost use Rattle.elf64_core.specs.Sections.{contents_of, strings_of};
 ghost use Rattle.elf64_core.specs.Rest.{sections_left};
 
 use crate::fields::{u16_in, u64_in};

@@ -1,7 +1,9 @@
 //! Symbols: names of addresses.
-ghost use Rattle.std.specs.Prelude.{◌≡◌, ◌↔◌, ◌⊎◌, ◌+◌, ◌≤◌, List, ℕ, IfOk, IfErr, IsErrOf, length, map, option_map, option_copied};
+ghost use Rattle.std.specs.Prelude.{◌≡◌, ◌↔◌, ◌⊎◌, ◌+◌, ◌≤◌, List, ℕ, IfOk, IfErr, IsErrOf, length, map, option_map};
+ghost use Rattle.std.specs.Prelude.{option_copied};
 ghost use Rattle.elf64_core.specs.Sections.{HasSections};
-ghost use Rattle.elf64_core.specs.Symbols.{HasSymbols, symbol_entry_of, symbol_entry_in, entries_in, first_section, section_kind, symbols_of};
+ghost use Rattle.elf64_core.specs.Symbols.{HasSymbols, symbol_entry_of, symbol_entry_in, entries_in, first_section};
+ghost use Rattle.elf64_core.specs.Symbols.{section_kind, symbols_of};
 ghost use Rattle.elf64_core.specs.Rest.{sections_left};
 
 use crate::fields::{u16_in, u32_in, u64_in};

@@ -11,6 +11,3 @@ mod line;
 pub use core_faults::core_parts;
 pub use file_faults::{file_parts, layout_parts, text_part};
 pub use line::say_line;
-
-#[cfg(test)]
-mod tests;

@@ -1,6 +1,7 @@
 //! The core of a program: its headers, its notes, and the memory of three segments.
 ghost use Rattle.std.specs.Prelude.{◌≡◌, ◌++◌, ◌<◌, ◌^◌, length, IfOk};
-ghost use Rattle.image_builder.specs.CoreFiles.{core_file, core_head, core_notes, image_path, laid_note, process_record, status_fields, table_fields};
+ghost use Rattle.image_builder.specs.CoreFiles.{core_file, core_head, core_notes, image_path, laid_note};
+ghost use Rattle.image_builder.specs.CoreFiles.{process_record, status_fields, table_fields};
 ghost use Rattle.image_builder.specs.Records.{record_of};
 
 use crate::elf_records::{FileHeader, add_file_header, add_segments};

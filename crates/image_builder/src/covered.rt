@@ -1,7 +1,8 @@
 //! Which versions can be written for a layout.
 ghost use Rattle.std.specs.Prelude.{◌≡◌, ◌↔◌, ◌≤◌, IsTrue, ℕ, IfSome, MatchOption};
 ghost use Rattle.py_fields.specs.declared.layout.Lock.TheVariants.{Runtime};
-ghost use Rattle.image_builder.specs.Covered.{serial_of, byte_behind, release_byte, IsReleaseByte, HasReleaseByte, IsNumbered, IsCovered, number_of};
+ghost use Rattle.image_builder.specs.Covered.{serial_of, byte_behind, release_byte, IsReleaseByte, HasReleaseByte};
+ghost use Rattle.image_builder.specs.Covered.{IsNumbered, IsCovered, number_of};
 
 use elf64_core::{Machine, Text};
 use py_fields::{Layout, Lock};

@@ -1,7 +1,8 @@
 //! The records of an ELF64 file.
 ghost use Rattle.std.specs.Prelude.{◌≡◌, ◌++◌, IfOk};
 ghost use Rattle.image_builder.specs.CoreFiles.{segment_headers};
-ghost use Rattle.image_builder.specs.ElfRecords.{alignment, file_fields, machine_number, section_fields, segment_fields, symbol_fields};
+ghost use Rattle.image_builder.specs.ElfRecords.{alignment, file_fields, machine_number, section_fields};
+ghost use Rattle.image_builder.specs.ElfRecords.{segment_fields, symbol_fields};
 ghost use Rattle.image_builder.specs.Records.{record_of};
 
 use crate::records::add_record;

@@ -18,6 +18,3 @@ pub use memory_builder::{
     Program, ProgramFrame, ProgramItem, ProgramLocal, ProgramThread, ProgramValue,
 };
 pub use seeded::generate;
-
-#[cfg(test)]
-mod tests;

@@ -1,6 +1,8 @@
 //! The memory of a core and of the images that it mapped.
-ghost use Rattle.std.specs.Prelude.{◌≡◌, ◌⊎◌, ◌↔◌, ◌+◌, ◌-◌, ◌<◌, ◌≤◌, ◌^◌, ℕ, All, IfOk, IfSome, None, Some, length, map, slice_index, slice_range};
-ghost use Rattle.image_memory.specs.Backed.{AreImageRanges, Backed, IsBacked, IsBackedMemory, IsInImage, IsKept, files_of, range_by, range_in, regions_of};
+ghost use Rattle.std.specs.Prelude.{◌≡◌, ◌⊎◌, ◌↔◌, ◌+◌, ◌-◌, ◌<◌, ◌≤◌, ◌^◌, ℕ, All, IfOk, IfSome, None, Some, length};
+ghost use Rattle.std.specs.Prelude.{map, slice_index, slice_range};
+ghost use Rattle.image_memory.specs.Backed.{AreImageRanges, Backed, IsBacked, IsBackedMemory, IsInImage, IsKept};
+ghost use Rattle.image_memory.specs.Backed.{files_of, range_by, range_in, regions_of};
 ghost use Rattle.image_memory.specs.Cores.{IsCore};
 ghost use Rattle.image_memory.specs.Images.{images_shown};
 ghost use Rattle.image_memory.specs.Mmap.{shown_bytes};

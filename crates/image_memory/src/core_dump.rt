@@ -1,5 +1,7 @@
 //! A core dump: the file of a dead process's memory.
-ghost use Rattle.std.specs.Prelude.{◌≡◌, ◌⊎◌, ◌↔◌, ◌<◌, ◌≤◌, ◌*◌, List, [], ◌∷◌, ℕ, IfOk, IfErr, IfSome, is_some, Err, None, Option, Some, ◌+◌, length, option_and_then, option_copied, slice_get, slice_index, slice_range};
+ghost use Rattle.std.specs.Prelude.{◌≡◌, ◌⊎◌, ◌↔◌, ◌<◌, ◌≤◌, ◌*◌, List, [], ◌∷◌, ℕ, IfOk, IfErr, IfSome, is_some, Err};
+ghost use Rattle.std.specs.Prelude.{None, Option, Some, ◌+◌, length, option_and_then, option_copied, slice_get};
+ghost use Rattle.std.specs.Prelude.{slice_index, slice_range};
 ghost use Rattle.elf64_core.specs.Header.{machine_of};
 ghost use Rattle.image_memory.specs.Contents.{AreContents};
 ghost use Rattle.image_memory.specs.Cores.{IsCore, IsEarly, RefusesCore};

@@ -1,5 +1,6 @@
 //! File tables: which files a process had mapped.
-ghost use Rattle.std.specs.Prelude.{◌≡◌, ◌⊎◌, ◌+◌, ◌*◌, ◌<◌, ◌≤◌, IfOk, IfErr, IsErrOf, IfSome, MatchOption, length, map, position};
+ghost use Rattle.std.specs.Prelude.{◌≡◌, ◌⊎◌, ◌+◌, ◌*◌, ◌<◌, ◌≤◌, IfOk, IfErr, IsErrOf, IfSome, MatchOption, length};
+ghost use Rattle.std.specs.Prelude.{map, position};
 ghost use Rattle.elf64_core.specs.Nul.{is_nul};
 ghost use Rattle.image_memory.specs.FileTables.{IsFileTable, IsFirstName, IsNoFileTable, entry_at, file_entry_of};
 

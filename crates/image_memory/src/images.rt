@@ -1,5 +1,6 @@
 //! Files by their paths.
-ghost use Rattle.std.specs.Prelude.{◌≡◌, ◌<◌, ◌+◌, ◌^◌, ◌∷◌, ◌++◌, [], IfOk, IfSome, MatchResult, length, map, option_copied, position, slice_index_or};
+ghost use Rattle.std.specs.Prelude.{◌≡◌, ◌<◌, ◌+◌, ◌^◌, ◌∷◌, ◌++◌, [], IfOk, IfSome, MatchResult, length, map};
+ghost use Rattle.std.specs.Prelude.{option_copied, position, slice_index_or};
 ghost use Rattle.image_memory.specs.Images.{Pushed, first_under, images_shown, is_under};
 
 use crate::Mmap;

@@ -6,26 +6,18 @@
 #![tactic(auto)]
 
 mod backed_dump;
-#[cfg(test)]
-mod backed_tests;
 mod contents;
 mod core_dump;
 mod dump_error;
 mod file_table;
-#[cfg(test)]
-mod image_tests;
 mod images;
 mod map_table;
 mod maps;
 mod mmap;
 mod notes;
-#[cfg(test)]
-mod piece_tests;
 mod places;
 mod records;
 mod subrange;
-#[cfg(test)]
-mod tests;
 mod view;
 
 pub use backed_dump::BackedDump;

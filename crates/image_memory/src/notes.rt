@@ -1,9 +1,11 @@
 //! The notes of a core.
-ghost use Rattle.std.specs.Prelude.{◌≡◌, ◌⊎◌, ◌↔◌, List, IfOk, IfErr, IsErrOf, IsTrue, All, filter, filter_map, find, map, nat_eq, option_and_then, reverse};
+ghost use Rattle.std.specs.Prelude.{◌≡◌, ◌⊎◌, ◌↔◌, List, IfOk, IfErr, IsErrOf, IsTrue, All, filter, filter_map, find};
+ghost use Rattle.std.specs.Prelude.{map, nat_eq, option_and_then, reverse};
 ghost use Rattle.elf64_core.specs.Header.{IsAccepted};
 ghost use Rattle.elf64_core.specs.Notes.{Noted, noted};
 ghost use Rattle.image_memory.specs.FileTables.{Entry, file_entry_of};
-ghost use Rattle.image_memory.specs.Notes.{NotesOf, TablesSay, IsWhole, note_segments, is_table, process_kind, process_of, status_noted};
+ghost use Rattle.image_memory.specs.Notes.{NotesOf, TablesSay, IsWhole, note_segments, is_table, process_kind};
+ghost use Rattle.image_memory.specs.Notes.{process_of, status_noted};
 
 use crate::file_table::{FileEntry, table_entries};
 use crate::records::{PROCESS, PROCESS_SIZE, STATUS, STATUS_SIZE, process_of, status_noted};

@@ -3,7 +3,8 @@ ghost use Rattle.std.specs.Prelude.{◌≡◌, ◌<◌, ◌≤◌, true, false, 
 ghost use Rattle.std.specs.Char.{digit_value, is_ascii_whitespace};
 ghost use Rattle.std.specs.List.{position};
 ghost use Rattle.std.specs.Str.Parse.{digits_value};
-ghost use Rattle.maps_text.specs.Fields.{field, behind, has_white, is_dash, has_dash, before_dash, after_dash, is_number};
+ghost use Rattle.maps_text.specs.Fields.{field, behind, has_white, is_dash, has_dash, before_dash, after_dash};
+ghost use Rattle.maps_text.specs.Fields.{is_number};
 
 /// Where the first white space stands.
 fn first_white(bytes: &[u8]) -> Option<usize>

@@ -12,8 +12,6 @@ mod line;
 mod lines;
 mod path;
 mod perm;
-#[cfg(test)]
-mod tests;
 
 pub use entry::{EntryPath, MapsEntry, PathName};
 pub use error::MapsError;

@@ -1,7 +1,8 @@
 //! One line.
 ghost use Rattle.std.specs.Prelude.{◌≡◌, Some, None, MatchResult};
 ghost use Rattle.elf64_core.specs.Outcomes.{IsUnless, first_cause};
-ghost use Rattle.maps_text.specs.Lines.{line_range_of, perm_in_line, map_offset_of, line_path_of, range_faults, mode_faults, offset_faults, device_faults, line_faults, maps_line_of};
+ghost use Rattle.maps_text.specs.Lines.{line_range_of, perm_in_line, map_offset_of, line_path_of, range_faults};
+ghost use Rattle.maps_text.specs.Lines.{mode_faults, offset_faults, device_faults, line_faults, maps_line_of};
 ghost use Rattle.maps_text.specs.Fields.{behind, field, trimmed};
 ghost use Rattle.maps_text.specs.Perms.{perm_of};
 ghost use Rattle.std.specs.Str.Parse.{digits_value};

@@ -3,7 +3,9 @@ ghost use Rattle.std.specs.Prelude.{◌≡◌, ◌≤◌, ◌<◌, ◌++◌, ◌
 ghost use Rattle.std.specs.List.{sum_by};
 ghost use Rattle.py_fields.specs.Sound.{IsSound};
 ghost use Rattle.py_stacks.specs.Lines.{family_of};
-ghost use Rattle.memory_builder.specs.Frames.{spots_for, coded_lines, instr_value, frame_writes, code_writes, table_writes, tuple_writes, laid_records, laid_contents, laid_frame, first_number};
+ghost use Rattle.memory_builder.specs.Frames.{spots_for, coded_lines, instr_value, frame_writes, code_writes};
+ghost use Rattle.memory_builder.specs.Frames.{table_writes, tuple_writes, laid_records, laid_contents, laid_frame};
+ghost use Rattle.memory_builder.specs.Frames.{first_number};
 ghost use Rattle.memory_builder.specs.Mirror.{frame_in};
 ghost use Rattle.object_builder.specs.Objects.{aligned, object};
 ghost use Rattle.memory_builder.specs.Sizes.{frame_len, frame_size, local_size, name_size, table_len, tuple_len};

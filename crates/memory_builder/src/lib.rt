@@ -15,8 +15,3 @@ pub use parts::{Program, ProgramFrame, ProgramItem, ProgramLocal, ProgramThread,
 pub use program::{holder_place, laid_program, lock_record_place};
 pub use sizes::{family_of, objects_size};
 pub use validity::{FramePlace, first_invalid};
-
-#[cfg(test)]
-mod laid_tests;
-#[cfg(test)]
-mod tests;

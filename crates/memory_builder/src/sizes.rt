@@ -4,9 +4,13 @@ ghost use Rattle.std.specs.List.{AllByRecursion, sum_by};
 ghost use Rattle.py_lines.specs.Coding.{coded};
 ghost use Rattle.py_fields.specs.Sound.{IsSound};
 ghost use Rattle.memory_builder.specs.Mirror.{item_in, program_value, local_in, frame_in, program_thread, program_in};
-ghost use Rattle.memory_builder.specs.Sizes.{rounded, capped, text_len, number_len, list_len, item_size, held_size, frame_len, table_len, tuple_len, name_size, local_size, records_size, frame_size, cframe_size, thread_size, word_end, interpreter_len, gil_size, shared_size, program_size};
+ghost use Rattle.memory_builder.specs.Sizes.{rounded, capped, text_len, number_len, list_len, item_size, held_size};
+ghost use Rattle.memory_builder.specs.Sizes.{frame_len, table_len, tuple_len, name_size, local_size, records_size};
+ghost use Rattle.memory_builder.specs.Sizes.{frame_size, cframe_size, thread_size, word_end, interpreter_len, gil_size};
+ghost use Rattle.memory_builder.specs.Sizes.{shared_size, program_size};
 ghost use Rattle.py_stacks.specs.Lines.{family_of};
-ghost use Rattle.memory_builder.specs.Validity.{IsValidItem, IsValidHeld, IsValidLocal, IsValidFrame, IsValidCall, IsValidProgram, IsCodable};
+ghost use Rattle.memory_builder.specs.Validity.{IsValidItem, IsValidHeld, IsValidLocal, IsValidFrame, IsValidCall};
+ghost use Rattle.memory_builder.specs.Validity.{IsValidProgram, IsCodable};
 
 use crate::parts::{Program, ProgramFrame, ProgramItem, ProgramLocal, ProgramThread, ProgramValue};
 use object_builder::{rounded, text_len};

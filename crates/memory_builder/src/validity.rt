@@ -3,7 +3,11 @@ ghost use Rattle.std.specs.Prelude.{◌≡◌, ◌≢◌, ◌≤◌, ◌↔◌, 
 ghost use Rattle.std.specs.List.{AllByRecursion, list_any};
 ghost use Rattle.py_lines.specs.Lines.{holds};
 ghost use Rattle.memory_builder.specs.Mirror.{item_in, program_value, local_in, frame_in, program_thread, program_in};
-ghost use Rattle.memory_builder.specs.Validity.{IsBriefText, IsValidItem, IsValidHeld, IsValidLocal, IsPositiveLine, HasPositiveLine, IsValidRange, IsCodable, IsShownFile, IsValidlyNamed, IsValidlyPlaced, HasValidLocals, IsValidFrame, IsValidThread, IsValidCall, IsValidIn, IsValidWhole, IsValidProgram, IsFirstFailing, IsFirstInvalid};
+ghost use Rattle.memory_builder.specs.Validity.{IsBriefText, IsValidItem, IsValidHeld, IsValidLocal, IsPositiveLine};
+ghost use Rattle.memory_builder.specs.Validity.{HasPositiveLine, IsValidRange, IsCodable, IsShownFile, IsValidlyNamed};
+ghost use Rattle.memory_builder.specs.Validity.{IsValidlyPlaced, HasValidLocals, IsValidFrame, IsValidThread};
+ghost use Rattle.memory_builder.specs.Validity.{IsValidCall, IsValidIn, IsValidWhole, IsValidProgram, IsFirstFailing};
+ghost use Rattle.memory_builder.specs.Validity.{IsFirstInvalid};
 
 use crate::parts::{Program, ProgramFrame, ProgramItem, ProgramLocal, ProgramThread, ProgramValue};
 use elf64_core::Text;

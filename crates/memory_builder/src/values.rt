@@ -8,7 +8,8 @@ ghost use Rattle.object_builder.specs.Objects.{aligned, object};
 ghost use Rattle.memory_builder.specs.Program.Held.{Items};
 ghost use Rattle.memory_builder.specs.Sizes.{held_size, item_size, number_len};
 ghost use Rattle.memory_builder.specs.Validity.{IsValidHeld, IsValidItem};
-ghost use Rattle.memory_builder.specs.Values.{address_array, count_for, digit_count, digits_word, laid_item, laid_value, number_writes};
+ghost use Rattle.memory_builder.specs.Values.{address_array, count_for, digit_count, digits_word, laid_item};
+ghost use Rattle.memory_builder.specs.Values.{laid_value, number_writes};
 
 use crate::parts::{ProgramItem, ProgramValue};
 use crate::sizes::{item_size, list_len, number_len};

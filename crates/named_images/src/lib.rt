@@ -9,7 +9,8 @@ use image_memory::{Images, Mmap};
 use std::alloc::{AllocError, Global};
 
 /// The images of some words, each a path and the name of a file: each file's bytes, in the order of the words, under
-/// the path of its word. Where there are more files or more words, those have no image. The one error is want of memory.
+/// the path of its word. Where there are more files or more words, those have no image. The only error is want of
+/// memory.
 pub fn image_list(
     alloc: Global,
     words: &[(Name, Name)],

@@ -1,6 +1,7 @@
 //! The names of Cython's functions.
 ghost use Rattle.std.specs.Prelude.{◌≡◌, drop, option_map, MatchOption};
-ghost use Rattle.native_merge.specs.CythonNames.{DemanglesOnce, HasTurn, IsDemangled, IsPointIn, IsShortened, IsTurnAt, behind, fronts, is_call_glue, left_behind};
+ghost use Rattle.native_merge.specs.CythonNames.{DemanglesOnce, HasTurn, IsDemangled, IsPointIn, IsShortened, IsTurnAt};
+ghost use Rattle.native_merge.specs.CythonNames.{behind, fronts, is_call_glue, left_behind};
 
 use crate::digits::{Number, leading_number};
 

@@ -1,7 +1,8 @@
 //! Where Cython's source files are looked for.
 ghost use Rattle.std.specs.Prelude.{◌≡◌, ◌++◌, string_bytes, IfOk, OnOk, option_map};
 ghost use Rattle.std.specs.Str.{chars};
-ghost use Rattle.native_merge.specs.Paths.{cython_file, extension_in, file_in_module, is_called, is_folder, renamed, with_dot, with_extension};
+ghost use Rattle.native_merge.specs.Paths.{cython_file, extension_in, file_in_module, is_called, is_folder, renamed};
+ghost use Rattle.native_merge.specs.Paths.{with_dot, with_extension};
 ghost use Rattle.native_merge.specs.Sources.{Stay};
 
 use crate::paths::split_behind;

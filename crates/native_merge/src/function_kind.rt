@@ -1,7 +1,8 @@
 //! What a frame of Python's own native code is.
 ghost use Rattle.std.specs.Prelude.{◌≡◌};
 ghost use Rattle.std.specs.List.{prefix_len};
-ghost use Rattle.native_merge.specs.FunctionKinds.{behind_first, first_piece, function_kind, is_evaluation, is_gap, is_inner, is_shown_alone, kind_by_first, kind_by_pieces, pieces};
+ghost use Rattle.native_merge.specs.FunctionKinds.{behind_first, first_piece, function_kind, is_evaluation, is_gap};
+ghost use Rattle.native_merge.specs.FunctionKinds.{is_inner, is_shown_alone, kind_by_first, kind_by_pieces, pieces};
 
 use elf64_core::Text;
 

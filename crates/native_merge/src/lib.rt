@@ -22,8 +22,6 @@ mod memory_sources;
 mod memory_symbols;
 mod merge;
 mod merge_error;
-#[cfg(test)]
-mod merge_tests;
 mod native_frame;
 mod native_stack;
 mod natives_shown;
@@ -37,8 +35,6 @@ mod stack_steps;
 mod symbol_cache;
 mod symbol_fault;
 mod symbolicator;
-#[cfg(test)]
-mod tests;
 mod translation;
 
 pub use cython::{demangle, ignore_frame};

@@ -2,7 +2,8 @@
 ghost use Rattle.std.specs.Prelude.{◌≡◌, ◌≢◌, IfOk, IsErrOf, MatchResult, Ok, Err, None, option_map};
 ghost use Rattle.outside.specs.Counts.{Rose};
 ghost use Rattle.outside.specs.Files.{is_listed};
-ghost use Rattle.native_merge.specs.MemorySymbols.{HasAnswered, HeldSymbols, answers_held, held_answer, held_frames, symbols_seen, unasked_symbols};
+ghost use Rattle.native_merge.specs.MemorySymbols.{HasAnswered, HeldSymbols, answers_held, held_answer, held_frames};
+ghost use Rattle.native_merge.specs.MemorySymbols.{symbols_seen, unasked_symbols};
 ghost use Rattle.native_merge.specs.Symbols.{IsAsTold, SymbolsStay, AnswersOnce};
 
 use crate::copies::copy_natives;

@@ -1,7 +1,9 @@
 //! How native frames are shown.
 ghost use Rattle.std.specs.Prelude.{◌≡◌, IfOk};
 ghost use Rattle.py_stacks.specs.Frames.{call_of};
-ghost use Rattle.native_merge.specs.NativesShown.{ShowsNative, address_name, fault_call, holds_piece, is_dropped, is_dropped_function, is_thread_start, line_shown, native_call, source_shown};
+ghost use Rattle.native_merge.specs.NativesShown.{ShowsNative, address_name, fault_call, holds_piece, is_dropped};
+ghost use Rattle.native_merge.specs.NativesShown.{is_dropped_function, is_thread_start, line_shown, native_call};
+ghost use Rattle.native_merge.specs.NativesShown.{source_shown};
 ghost use Rattle.native_merge.specs.Sources.{Stay};
 
 use crate::{NativeFrame, Sources, demangle, ignore_frame, resolve_filename};

@@ -1,5 +1,6 @@
 //! Where a source file is looked for.
-ghost use Rattle.std.specs.Prelude.{◌≡◌, ◌≤◌, ◌<◌, ◌-◌, ◌++◌, ◌==◌, ℕ, true, false, length, slice_index, string_bytes, IfOk, option_map};
+ghost use Rattle.std.specs.Prelude.{◌≡◌, ◌≤◌, ◌<◌, ◌-◌, ◌++◌, ◌==◌, ℕ, true, false, length, slice_index, string_bytes};
+ghost use Rattle.std.specs.Prelude.{IfOk, option_map};
 ghost use Rattle.std.specs.List.{after_last};
 ghost use Rattle.std.specs.Str.{chars};
 ghost use Rattle.native_merge.specs.Paths.{beside, is_no_file, is_no_module, resolved, up_to_last};

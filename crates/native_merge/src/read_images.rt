@@ -1,5 +1,6 @@
 //! The images of a process's files, read once.
-ghost use Rattle.std.specs.Prelude.{◌≡◌, [], ◌∷◌, ℕ, All, IfOk, List, MatchOption, Option, Some, map, option_copied, option_map};
+ghost use Rattle.std.specs.Prelude.{◌≡◌, [], ◌∷◌, ℕ, All, IfOk, List, MatchOption, Option, Some, map, option_copied};
+ghost use Rattle.std.specs.Prelude.{option_map};
 ghost use Rattle.elf64_core.specs.Header.{IsAccepted};
 ghost use Rattle.elf64_core.specs.Symbols.{SymbolEntry, symbol_entry_of};
 ghost use Rattle.image_memory.specs.Images.{first_under};

@@ -3,7 +3,8 @@ ghost use Rattle.std.specs.Prelude.{◌≡◌, ◌≤◌, ◌<◌, nat_le, List,
 ghost use Rattle.std.specs.Str.Lines.{lines};
 ghost use Rattle.native_merge.specs.MapsOfFiles.{FilesMapOnce, IsNewMap, IsMapOfBytes, IsReadMap};
 ghost use Rattle.native_merge.specs.Paths.{cython_file};
-ghost use Rattle.native_merge.specs.SourceMaps.{AddsMark, MarksAscend, IsSourceMap, MapsOnce, last_below, line_limit, looked_up};
+ghost use Rattle.native_merge.specs.SourceMaps.{AddsMark, MarksAscend, IsSourceMap, MapsOnce, last_below, line_limit};
+ghost use Rattle.native_merge.specs.SourceMaps.{looked_up};
 ghost use Rattle.native_merge.specs.Sources.{Stay};
 
 use crate::cython_file::cython_file;

@@ -1,7 +1,8 @@
 //! Frames in C files that Cython has written, in the files that these come from.
 ghost use Rattle.std.specs.Prelude.{◌≡◌, ◌⊎◌, true, false, option_map, IsOk, OnOk, OnErr, None};
 ghost use Rattle.std.specs.FinMap as map;
-ghost use Rattle.native_merge.specs.KeptMaps.{AddsMap, KeepsMap, asked_line, is_c_file, module_of, placed, translated, wants_map};
+ghost use Rattle.native_merge.specs.KeptMaps.{AddsMap, KeepsMap, asked_line, is_c_file, module_of, placed, translated};
+ghost use Rattle.native_merge.specs.KeptMaps.{wants_map};
 ghost use Rattle.native_merge.specs.SourceMaps.{looked_up};
 ghost use Rattle.native_merge.specs.Sources.{Stay};
 

@@ -2,7 +2,8 @@
 ghost use Rattle.std.specs.Prelude.{◌≡◌, [], ◌∷◌, nat_eq, IfOk, IfErr, IfSome, IsErrOf, None, option_map};
 ghost use Rattle.std.specs.Map.{lookup};
 ghost use Rattle.outside.specs.Counts.{Rose};
-ghost use Rattle.native_merge.specs.SymbolCaches.{IsAfter, IsHeldAnswer, MayKeep, alone, answer_listed, frames_of, IsToldAnswer};
+ghost use Rattle.native_merge.specs.SymbolCaches.{IsAfter, IsHeldAnswer, MayKeep, alone, answer_listed, frames_of};
+ghost use Rattle.native_merge.specs.SymbolCaches.{IsToldAnswer};
 ghost use Rattle.native_merge.specs.Symbols.{SymbolsStay};
 
 use crate::copies::copy_native;

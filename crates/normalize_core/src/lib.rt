@@ -3,8 +3,6 @@
 
 mod bpf_prog;
 mod bpf_tag;
-#[cfg(test)]
-mod bpf_tests;
 mod btf;
 mod build_ids;
 mod error;
@@ -17,8 +15,6 @@ mod options;
 mod order;
 mod outputs;
 mod query;
-#[cfg(test)]
-mod tests;
 
 pub use bpf_prog::BpfProg;
 pub use bpf_tag::BpfTag;

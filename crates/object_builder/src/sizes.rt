@@ -2,7 +2,8 @@
 ghost use Rattle.std.specs.Prelude.{◌≡◌, ◌+◌, ◌<◌, ◌≤◌, ◌^◌, length};
 ghost use Rattle.std.specs.Str.{chars};
 ghost use Rattle.py_fields.specs.Sound.{IsSound};
-ghost use Rattle.object_builder.specs.Sizes.{rounded, all_under, is_short_headed, least_width, characters_start, characters_len, text_len};
+ghost use Rattle.object_builder.specs.Sizes.{rounded, all_under, is_short_headed, least_width, characters_start};
+ghost use Rattle.object_builder.specs.Sizes.{characters_len, text_len};
 ghost use Rattle.object_builder.specs.Texts.{IsBriefText};
 
 use elf64_core::Text;

@@ -7,7 +7,8 @@ ghost use Rattle.py_builtins.specs.TextKind.{coded};
 ghost use Rattle.py_builtins.specs.Texts.{state_at};
 ghost use Rattle.py_fields.specs.Sound.{IsSound};
 ghost use Rattle.object_builder.specs.Objects.{aligned};
-ghost use Rattle.object_builder.specs.Texts.{AreBits, Suits, code_bytes, ReadsAsText, kind_for, least_kind, units_of, state_of, state_by, start_of, klass_write, text_object};
+ghost use Rattle.object_builder.specs.Texts.{AreBits, Suits, code_bytes, ReadsAsText, kind_for, least_kind, units_of};
+ghost use Rattle.object_builder.specs.Texts.{state_of, state_by, start_of, klass_write, text_object};
 ghost use Rattle.object_builder.specs.Texts.{IsBriefText};
 ghost use Rattle.object_builder.specs.Writes.{write_of};
 

@@ -12,6 +12,3 @@ mod search;
 
 pub use reached::{ReachError, ReachObject};
 pub use search::reach;
-
-#[cfg(test)]
-mod tests;

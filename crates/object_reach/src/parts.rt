@@ -3,7 +3,8 @@ ghost use Rattle.std.specs.Prelude.{◌≡◌, ◌++◌, OnOk};
 ghost use Rattle.process_memory.specs.Seen.{Reads};
 ghost use Rattle.py_fields.specs.Sound.{IsSound};
 ghost use Rattle.py_builtins.specs.ObjectError.{object_fault};
-ghost use Rattle.object_reach.specs.Objects.{dict_parts, item_parts, part_words, parts_found, parts_by, slot_parts, slot_words};
+ghost use Rattle.object_reach.specs.Objects.{dict_parts, item_parts, part_words, parts_found, parts_by, slot_parts};
+ghost use Rattle.object_reach.specs.Objects.{slot_words};
 ghost use Rattle.object_reach.specs.Reading.{parts_got, spot_of, words_told, words_read};
 
 use crate::contents::{Contents, contents_of};

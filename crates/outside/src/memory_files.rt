@@ -1,6 +1,8 @@
 //! Files in memory.
-ghost use Rattle.std.specs.Prelude.{◌≡◌, ◌≢◌, ◌++◌, ◌≤◌, ◌<◌, ◌⊎◌, length, option_map, MatchResult, IfOk, Some, IsErrOf, Ok, Err};
-ghost use Rattle.outside.specs.Files.{Gives, HasRead, HeldFiles, IsTooLong, held_bytes, entries, failed_name, file_answer, file_limit, gained, held_seen, is_listed, unread_files};
+ghost use Rattle.std.specs.Prelude.{◌≡◌, ◌≢◌, ◌++◌, ◌≤◌, ◌<◌, ◌⊎◌, length, option_map, MatchResult, IfOk, Some};
+ghost use Rattle.std.specs.Prelude.{IsErrOf, Ok, Err};
+ghost use Rattle.outside.specs.Files.{Gives, HasRead, HeldFiles, IsTooLong, held_bytes, entries, failed_name};
+ghost use Rattle.outside.specs.Files.{file_answer, file_limit, gained, held_seen, is_listed, unread_files};
 
 use crate::files::FILE_LIMIT;
 use crate::{FileFault, Files};

@@ -1,7 +1,8 @@
 //! A stream into memory.
 ghost use Rattle.std.specs.Prelude.{◌≡◌, ◌≤◌, ◌+◌, ◌++◌, ◌↔◌, IsOk, IfOk, Some, OnOk, OnErr, vec_capacity, vec_len};
 ghost use Rattle.outside.specs.Counts.{Rose};
-ghost use Rattle.outside.specs.Streams.{AppendsFront, Fits, HasWritten, HeldStream, empty_stream, failing_at, stream_seen};
+ghost use Rattle.outside.specs.Streams.{AppendsFront, Fits, HasWritten, HeldStream, empty_stream, failing_at};
+ghost use Rattle.outside.specs.Streams.{stream_seen};
 
 use crate::{Sink, SinkFault};
 use std::alloc::{AllocError, Global};

@@ -1,5 +1,6 @@
 //! The files of the system.
-ghost use Rattle.std.specs.Prelude.{◌≡◌, ◌≤◌, ◌<◌, ◌+◌, ◌^◌, None, IfErr, IfOk, IfSome, IsErrOf, MatchResult, OnOk, drop, take, vec_len};
+ghost use Rattle.std.specs.Prelude.{◌≡◌, ◌≤◌, ◌<◌, ◌+◌, ◌^◌, None, IfErr, IfOk, IfSome, IsErrOf, MatchResult, OnOk};
+ghost use Rattle.std.specs.Prelude.{drop, take, vec_len};
 ghost use Rattle.std.specs.Io.KnownBytes.{Consumes, IsAtEnd, Keeps};
 ghost use Rattle.outside.specs.Files.{RoseByMore, file_limit, untouched_files};
 
@@ -161,28 +162,5 @@ impl<R: SystemFiles> Files for RealFiles<R> {
                 Err(_) => Err(FileFault::OutOfMemory),
             },
         }
-    }
-}
-
-#[cfg(test)]
-mod tests {
-    use crate::{FileFault, Files, RealFiles, RealSink, Sink};
-    use std::fs;
-    use std::test::Fail;
-
-    #[test]
-    fn real_files_hold_what_real_sinks_took(rt: HostRuntime) -> Result<(), Fail> {
-        let alloc = rt.alloc();
-        let mut sink = RealSink::new(fs::create(&rt, "held").expect(&rt, "a file"));
-        assert_eq!(rt; sink.write(b"ab"), Ok(()));
-        assert_eq!(rt; sink.write(b"c"), Ok(()));
-        let mut files = RealFiles::new(alloc, &rt);
-        let bytes = files.read(alloc, b"held").expect(&rt, "its bytes");
-        assert_eq!(rt; bytes.as_slice(), b"abc".as_slice());
-        for name in [b"none".as_slice(), b"", b".", b"\xff"] {
-            assert!(rt; matches!(files.read(alloc, name), Err(FileFault::Failed)));
-        }
-        fs::remove_file(&rt, "held").expect(&rt, "its removal");
-        Ok(())
     }
 }

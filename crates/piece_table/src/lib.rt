@@ -8,8 +8,6 @@ mod lookup;
 mod overlay;
 mod stored;
 mod table;
-#[cfg(test)]
-mod tests;
 
 pub use stored::{Stored, piece_of, rest_of, run_of};
 pub use table::{FileRange, FileRun, PieceTable};

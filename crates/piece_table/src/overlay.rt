@@ -1,7 +1,9 @@
 //! Ranges of addresses laid over each other: the first that holds an address wins.
-ghost use Rattle.std.specs.Prelude.{◌≡◌, ◌+◌, ◌-◌, ◌<◌, ◌≤◌, ◌^◌, ◌++◌, ◌⊎◌, All, IfOk, List, [], ◌∷◌, length, drop, map};
+ghost use Rattle.std.specs.Prelude.{◌≡◌, ◌+◌, ◌-◌, ◌<◌, ◌≤◌, ◌^◌, ◌++◌, ◌⊎◌, All, IfOk, List, [], ◌∷◌, length, drop};
+ghost use Rattle.std.specs.Prelude.{map};
 ghost use Rattle.elf64_core.specs.SpanTables.{AreSpans};
-ghost use Rattle.piece_table.specs.Laid.{AreBelow, AreLaid, HasPieceRoom, HaveRoom, Rises, table_entry_of, overlaid, part_between, parts_between};
+ghost use Rattle.piece_table.specs.Laid.{AreBelow, AreLaid, HasPieceRoom, HaveRoom, Rises, table_entry_of, overlaid};
+ghost use Rattle.piece_table.specs.Laid.{part_between, parts_between};
 ghost use Rattle.piece_table.specs.Overlays.{IsBoundedRange};
 
 use elf64_core::{SpanTable, TableEntry};

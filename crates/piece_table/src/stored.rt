@@ -1,5 +1,6 @@
 //! Memory whose bytes stand in files, by a table.
-ghost use Rattle.std.specs.Prelude.{◌≡◌, ◌⊎◌, ◌↔◌, ◌+◌, ◌<◌, ◌≤◌, ℕ, All, IfSome, List, None, Some, length, slice_index, slice_range};
+ghost use Rattle.std.specs.Prelude.{◌≡◌, ◌⊎◌, ◌↔◌, ◌+◌, ◌<◌, ◌≤◌, ℕ, All, IfSome, List, None, Some, length};
+ghost use Rattle.std.specs.Prelude.{slice_index, slice_range};
 ghost use Rattle.elf64_core.specs.declared.span_table.TableEntry.{TableEntry as Entry};
 ghost use Rattle.piece_table.specs.Lookups.{HalvesIn};
 ghost use Rattle.piece_table.specs.Overlays.{ArePieces};

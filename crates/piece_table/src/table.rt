@@ -1,10 +1,12 @@
 //! A table by which what stands at an address is found in a file.
-ghost use Rattle.std.specs.Prelude.{◌≡◌, ◌≢◌, ◌⊎◌, ◌↔◌, ◌+◌, ◌-◌, ◌*◌, ◌<◌, ◌≤◌, ◌^◌, ◌++◌, All, IfOk, IfSome, IsTrue, List, None, Some, length, map, option_map, slice_get, slice_index};
+ghost use Rattle.std.specs.Prelude.{◌≡◌, ◌≢◌, ◌⊎◌, ◌↔◌, ◌+◌, ◌-◌, ◌*◌, ◌<◌, ◌≤◌, ◌^◌, ◌++◌, All, IfOk, IfSome, IsTrue};
+ghost use Rattle.std.specs.Prelude.{List, None, Some, length, map, option_map, slice_get, slice_index};
 ghost use Rattle.elf64_core.specs.declared.span_table.TableEntry.{TableEntry as Entry};
 ghost use Rattle.piece_table.specs.Laid.{AreLaid};
 ghost use Rattle.piece_table.specs.Lookups.{HalvesIn};
 ghost use Rattle.piece_table.specs.Overlays.{ArePieces, spans};
-ghost use Rattle.piece_table.specs.Places.{IsBounded, IsFilePiece, IsKept, IsRun, IsStretch, addresses_of, file_of_range, owned_by, stands_at};
+ghost use Rattle.piece_table.specs.Places.{IsBounded, IsFilePiece, IsKept, IsRun, IsStretch, addresses_of};
+ghost use Rattle.piece_table.specs.Places.{file_of_range, owned_by, stands_at};
 ghost use Rattle.piece_table.specs.declared.table.FileRange.{FileRange as Range};
 
 use crate::lookup::lookup;

@@ -12,8 +12,6 @@ mod part;
 mod pieces;
 mod readers;
 mod recorder;
-#[cfg(test)]
-mod tests;
 
 pub use counted::Counted;
 pub use memory::{ProcessMemory, ReadFault, Span};

@@ -1,5 +1,6 @@
 //! Reads over pieces of memory whose bytes are had in runs.
-ghost use Rattle.std.specs.Prelude.{◌≡◌, ℕ, ◌+◌, ◌<◌, List, length, slice_index, EachIndex, IsSome, IfSome, Some, None, OnErr, IsErrOf};
+ghost use Rattle.std.specs.Prelude.{◌≡◌, ℕ, ◌+◌, ◌<◌, List, length, slice_index, EachIndex, IsSome, IfSome, Some, None};
+ghost use Rattle.std.specs.Prelude.{OnErr, IsErrOf};
 ghost use Rattle.std.specs.Bool.{OnTrue, OnFalse};
 ghost use Rattle.process_memory.specs.Memory.{Region, byte_at, record_at};
 ghost use Rattle.process_memory.specs.Seen.{Answers, read_fault, items_of, with_bytes};

@@ -10,6 +10,3 @@ pub use image_builder::{
 pub use py_process::{CoreError, Report};
 pub use reporting::report_of_program;
 pub use sample::{sample_core, sample_text};
-
-#[cfg(test)]
-mod tests;

@@ -41,6 +41,3 @@ pub fn copy_bytes<P: ProcessMemory>(
     let at = addr as u128 + layout.bytes.at as u128;
     Ok(record_wide(alloc, process, at, length)?)
 }
-
-#[cfg(test)]
-mod tests;

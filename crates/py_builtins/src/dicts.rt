@@ -1,9 +1,11 @@
 //! Cursors over the slots of dicts.
-ghost use Rattle.std.specs.Prelude.{◌≡◌, ◌+◌, ◌-◌, ◌*◌, ◌<◌, ◌≤◌, ◌^◌, IfOk, IfSome, IsErrOf, IsTrue, MatchOption, length};
+ghost use Rattle.std.specs.Prelude.{◌≡◌, ◌+◌, ◌-◌, ◌*◌, ◌<◌, ◌≤◌, ◌^◌, IfOk, IfSome, IsErrOf, IsTrue, MatchOption};
+ghost use Rattle.std.specs.Prelude.{length};
 ghost use Rattle.process_memory.specs.Memory.{record_at};
 ghost use Rattle.process_memory.specs.Seen.{Reading, Reads, Answers, with_bytes, read_fault};
 ghost use Rattle.py_fields.specs.Sound.{IsSound};
-ghost use Rattle.py_builtins.specs.Dicts.{AreNear, Cursor, dict_slots, entry_width, managed_slots, slot_at, slot_by, slots_of};
+ghost use Rattle.py_builtins.specs.Dicts.{AreNear, Cursor, dict_slots, entry_width, managed_slots, slot_at, slot_by};
+ghost use Rattle.py_builtins.specs.Dicts.{slots_of};
 ghost use Rattle.py_builtins.specs.ObjectError.{object_fault};
 
 use crate::ObjectError;
@@ -233,6 +235,3 @@ fn read_value<P: ProcessMemory>(
     let value = word_wide(process, values + 8 * number as u128)?;
     Ok(Slot::Entry(key, value))
 }
-
-#[cfg(test)]
-mod tests;

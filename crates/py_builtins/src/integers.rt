@@ -128,6 +128,3 @@ fn signed(negative: bool, magnitude: u64) -> i64
         -1 - (magnitude - 1) as i64
     }
 }
-
-#[cfg(test)]
-mod tests;

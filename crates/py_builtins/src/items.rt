@@ -129,6 +129,3 @@ pub fn read_item<P: ProcessMemory>(
     let place = items.base as u128 + items.offset as u128 + 8 * number as u128;
     word_wide(process, place)
 }
-
-#[cfg(test)]
-mod tests;

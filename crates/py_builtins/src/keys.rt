@@ -2,7 +2,8 @@
 ghost use Rattle.std.specs.Prelude.{◌≡◌, ◌+◌, ◌<◌, ◌≤◌, ◌^◌, Some, IfOk, IfSome, IsErrOf, IsTrue, length};
 ghost use Rattle.process_memory.specs.Seen.{Answers, Reads};
 ghost use Rattle.py_fields.specs.Sound.{IsSound};
-ghost use Rattle.py_builtins.specs.Dicts.{AreNear, dict_by, dict_slots, index_bytes, index_in, index_of_log2, keys_by, keys_slots, sized_index, slot_count, slots_in, stated_index};
+ghost use Rattle.py_builtins.specs.Dicts.{AreNear, dict_by, dict_slots, index_bytes, index_in, index_of_log2, keys_by};
+ghost use Rattle.py_builtins.specs.Dicts.{keys_slots, sized_index, slot_count, slots_in, stated_index};
 ghost use Rattle.py_builtins.specs.ObjectError.{object_fault};
 
 use crate::ObjectError;

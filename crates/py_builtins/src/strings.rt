@@ -4,7 +4,8 @@ ghost use Rattle.py_fields.specs.Sound.{IsSound};
 ghost use Rattle.process_memory.specs.Seen.{Reads, Reading};
 ghost use Rattle.py_builtins.specs.ObjectError.{object_fault};
 ghost use Rattle.py_builtins.specs.Refusals.{RefusesEarly};
-ghost use Rattle.py_builtins.specs.Texts.{text_at, characters_at, IsText, characters_of, characters_by, state_at, kind_in, place_in, bit_is_set};
+ghost use Rattle.py_builtins.specs.Texts.{text_at, characters_at, IsText, characters_of, characters_by, state_at};
+ghost use Rattle.py_builtins.specs.Texts.{kind_in, place_in, bit_is_set};
 
 use crate::ObjectError;
 use crate::coding::{TextKind, decode};
@@ -191,6 +192,3 @@ fn place_in(string: &StringAt, at: &StateAt, addr: u64, object: &[u8], state: u3
         addr as u128 + at.long_at as u128
     }
 }
-
-#[cfg(test)]
-mod tests;

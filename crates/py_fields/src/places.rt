@@ -1,6 +1,10 @@
 //! The places of each record's fields: one list for each record.
 ghost use Rattle.std.specs.Prelude.{◌≡◌};
-ghost use Rattle.py_fields.specs.Places.{optional_place, instr_width, interpreter_places, thread_places, frame_places, code_places, string_head, string_places, state_bits, bytes_places, tuple_places, list_places, object_places, klass_places, long_places, value_places, dict_places, keys_places, heap_places, gil_places, offsets_places};
+ghost use Rattle.py_fields.specs.Places.{optional_place, instr_width, interpreter_places, thread_places, frame_places};
+ghost use Rattle.py_fields.specs.Places.{code_places, string_head, string_places, state_bits, bytes_places};
+ghost use Rattle.py_fields.specs.Places.{tuple_places, list_places, object_places, klass_places, long_places};
+ghost use Rattle.py_fields.specs.Places.{value_places, dict_places, keys_places, heap_places, gil_places};
+ghost use Rattle.py_fields.specs.Places.{offsets_places};
 
 use crate::layout::{
     BytesAt, CodeAt, DictAt, FrameAt, GilAt, HeapAt, InterpreterAt, KeysAt, KlassAt, Lasti, ListAt,

@@ -1,7 +1,10 @@
 //! Whether a layout is sound: a test for each of its groups, over the list of its places.
 ghost use Rattle.std.specs.Prelude.{◌≡◌, ◌≢◌, ℕ, ◌+◌, ◌<◌, ◌≤◌, ◌^◌, ◌↔◌, IsTrue, IsSome, IfSome};
 ghost use Rattle.py_fields.specs.Places.{Apart, ApartFrom, AreApart, EndBy, IsGroup};
-ghost use Rattle.py_fields.specs.Sound.{IsPlain, IsRecord, IsStart, IsSoundInterpreter, IsSoundFrame, IsSoundCode, HasState, IsSoundString, IsSoundSequence, IsSoundLong, IsSoundKeys, IsSoundHeap, HasGroups, IsVersionRange, AreSoundGroups, AreSoundObjects, IsSound};
+ghost use Rattle.py_fields.specs.Sound.{IsPlain, IsRecord, IsStart, IsSoundInterpreter, IsSoundFrame, IsSoundCode};
+ghost use Rattle.py_fields.specs.Sound.{HasState, IsSoundString, IsSoundSequence, IsSoundLong, IsSoundKeys};
+ghost use Rattle.py_fields.specs.Sound.{IsSoundHeap, HasGroups, IsVersionRange, AreSoundGroups, AreSoundObjects};
+ghost use Rattle.py_fields.specs.Sound.{IsSound};
 
 use crate::layout::{
     CodeAt, Dicts, FrameAt, Frames, Head, HeapAt, InterpreterAt, KeysAt, Lasti, Layout, Lock,

@@ -5,7 +5,8 @@ ghost use Rattle.py_fields.specs.Sound.{IsSound};
 ghost use Rattle.py_process.specs.Candidates.{runtime_words, section_words, words_of};
 ghost use Rattle.py_process.specs.Facts.{facts_of, known_of};
 ghost use Rattle.py_fronts.specs.Answers.{IsOrNoMemory};
-ghost use Rattle.py_fronts.specs.Candidates.{AddsWords, bss_of_image, named_candidates, record_candidates, runtime_of_image, searched_candidates, words_result};
+ghost use Rattle.py_fronts.specs.Candidates.{AddsWords, bss_of_image, named_candidates, record_candidates};
+ghost use Rattle.py_fronts.specs.Candidates.{runtime_of_image, searched_candidates, words_result};
 
 use elf64_core::u64_in;
 use image_memory::ContainsAddr;

@@ -3,7 +3,8 @@ ghost use Rattle.std.specs.Prelude.{◌≡◌, ◌≤◌, ◌+◌, ◌*◌, IfOk
 ghost use Rattle.process_memory.specs.Seen.{Reading};
 ghost use Rattle.py_fields.specs.Sound.{IsSound};
 ghost use Rattle.py_fronts.specs.Answers.{IsOrNoMemory};
-ghost use Rattle.py_fronts.specs.FrameFronts.{HasNoChain, chain_of_thread, ends_reads, frames_front_result, frames_shown, number_between, shown_first, shown_last};
+ghost use Rattle.py_fronts.specs.FrameFronts.{HasNoChain, chain_of_thread, ends_reads, frames_front_result};
+ghost use Rattle.py_fronts.specs.FrameFronts.{frames_shown, number_between, shown_first, shown_last};
 ghost use Rattle.py_fronts.specs.Members.{chain_reads, chained, chained_of_result};
 
 use crate::members::{Chain, walk_members};

@@ -5,7 +5,8 @@ ghost use Rattle.py_fields.specs.Sound.{IsSound};
 ghost use Rattle.py_process.specs.Facts.{known_of};
 ghost use Rattle.py_fronts.specs.Answers.{IsOrNoMemory};
 ghost use Rattle.py_fronts.specs.BesideReports.{AgreeWithReport};
-ghost use Rattle.py_fronts.specs.Fronts.{Fronting, fronts_at, fronts_result, interpreters_fronts, interpreters_most, interpreters_result};
+ghost use Rattle.py_fronts.specs.Fronts.{Fronting, fronts_at, fronts_result, interpreters_fronts, interpreters_most};
+ghost use Rattle.py_fronts.specs.Fronts.{interpreters_result};
 
 use crate::interpreters::find_interpreters;
 use crate::threads::get_threads_front;

@@ -12,8 +12,6 @@ mod fronts;
 mod interpreters;
 mod members;
 mod standing;
-#[cfg(test)]
-mod tests;
 mod thread_front;
 mod threads;
 

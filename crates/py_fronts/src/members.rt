@@ -5,7 +5,8 @@ ghost use Rattle.py_fields.specs.Sound.{IsSound};
 ghost use Rattle.py_builtins.specs.Texts.{text_at};
 ghost use Rattle.py_stacks.specs.Records.{AreWhole, member_of};
 ghost use Rattle.py_fronts.specs.Answers.{IsOrNoMemory};
-ghost use Rattle.py_fronts.specs.Members.{StepIs, StopsBy, caller_of, chain_reads, chained_of_result, hides, is_kept, is_left_out, kept_if, kept_of, members_front};
+ghost use Rattle.py_fronts.specs.Members.{StepIs, StopsBy, caller_of, chain_reads, chained_of_result, hides, is_kept};
+ghost use Rattle.py_fronts.specs.Members.{is_left_out, kept_if, kept_of, members_front};
 
 use crate::ChainEnd;
 use elf64_core::u64_in;

@@ -8,7 +8,9 @@ ghost use Rattle.py_stacks.specs.Met.{locals_most};
 ghost use Rattle.py_stacks.specs.Records.{AreWhole, member_of};
 ghost use Rattle.py_stacks.specs.StackError.{stack_fault};
 ghost use Rattle.py_fronts.specs.Answers.{IsOrNoMemory};
-ghost use Rattle.py_fronts.specs.Standings.{IsNameless, IsUnread, LocalsAre, framed, has_no_caller, is_before_start, line_or_first, standing_at, standing_named, standing_reads, stood_result, stood_results, texts_at};
+ghost use Rattle.py_fronts.specs.Standings.{IsNameless, IsUnread, LocalsAre, framed, has_no_caller, is_before_start};
+ghost use Rattle.py_fronts.specs.Standings.{line_or_first, standing_at, standing_named, standing_reads, stood_result};
+ghost use Rattle.py_fronts.specs.Standings.{stood_results, texts_at};
 
 use elf64_core::{Text, u64_in};
 use process_memory::ProcessMemory;

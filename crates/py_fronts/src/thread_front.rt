@@ -5,7 +5,9 @@ ghost use Rattle.process_memory.specs.Seen.{Reading};
 ghost use Rattle.py_fields.specs.Sound.{IsSound};
 ghost use Rattle.py_fronts.specs.Answers.{IsOrNoMemory};
 ghost use Rattle.py_fronts.specs.FrameFronts.{thread_members_limit};
-ghost use Rattle.py_fronts.specs.ThreadFronts.{IsWholeThread, RecordIs, ThreadIs, front_shown, left_after, thread_by, thread_front_result, thread_reads, threads_front, threads_of, threads_reads, threads_result};
+ghost use Rattle.py_fronts.specs.ThreadFronts.{IsWholeThread, RecordIs, ThreadIs, front_shown, left_after, thread_by};
+ghost use Rattle.py_fronts.specs.ThreadFronts.{thread_front_result, thread_reads, threads_front, threads_of};
+ghost use Rattle.py_fronts.specs.ThreadFronts.{threads_reads, threads_result};
 
 use crate::frame_front::{read_chain, show_ends};
 use crate::{ChainEnd, FramesFront};

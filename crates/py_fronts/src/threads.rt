@@ -7,7 +7,8 @@ ghost use Rattle.py_fronts.specs.Answers.{IsOrNoMemory};
 ghost use Rattle.py_fronts.specs.BesideReports.{AgreesWithReport};
 ghost use Rattle.py_fronts.specs.FirstThreads.{AreFirstThreads};
 ghost use Rattle.py_fronts.specs.FrameFronts.{ends_reads};
-ghost use Rattle.py_fronts.specs.ThreadFronts.{ThreadsShown, front_shown, left_after, threads_front, threads_of, threads_reads, threads_result};
+ghost use Rattle.py_fronts.specs.ThreadFronts.{ThreadsShown, front_shown, left_after, threads_front, threads_of};
+ghost use Rattle.py_fronts.specs.ThreadFronts.{threads_reads, threads_result};
 
 use crate::ThreadsFront;
 use crate::thread_front::walk_threads;

@@ -1,7 +1,9 @@
 //! Families, by their words in a file.
 ghost use Rattle.std.specs.Prelude.{◌≡◌};
 ghost use Rattle.toml.specs.View.{view, table_view};
-ghost use Rattle.py_layout.specs.Words.{head_of_word, lock_of_word, frames_of_word, lasti_of_word, lines_of_word, strings_of_word, integers_of_word, dicts_of_word, managed_of_word, is_word, word_of, family_word, families_of};
+ghost use Rattle.py_layout.specs.Words.{head_of_word, lock_of_word, frames_of_word, lasti_of_word, lines_of_word};
+ghost use Rattle.py_layout.specs.Words.{strings_of_word, integers_of_word, dicts_of_word, managed_of_word, is_word};
+ghost use Rattle.py_layout.specs.Words.{word_of, family_word, families_of};
 
 use crate::keys::Family;
 use crate::values::member;

@@ -1,5 +1,6 @@
 //! Layout files: TOML with an array of tables, each of which says a layout.
-ghost use Rattle.std.specs.Prelude.{◌≡◌, Result, Ok, Err, Some, None, IfOk, IfErr, MatchResult, map, option_map, option_copied};
+ghost use Rattle.std.specs.Prelude.{◌≡◌, Result, Ok, Err, Some, None, IfOk, IfErr, MatchResult, map, option_map};
+ghost use Rattle.std.specs.Prelude.{option_copied};
 ghost use Rattle.std.specs.BTreeMap.{keys as names_in};
 ghost use Rattle.std.specs.List.{find};
 ghost use Rattle.std.specs.Str.{chars};
@@ -7,7 +8,8 @@ ghost use Rattle.toml.specs.Parse.{parse_document};
 ghost use Rattle.toml.specs.View.{view, table_view, array_view, items_view};
 ghost use Rattle.py_layout.specs.Keys.{key_of, the_keys};
 ghost use Rattle.py_layout.specs.FlawPath.{flaw_path, numbered, is_other_name};
-ghost use Rattle.py_layout.specs.File.{elements_of, element_flaw, first_flaw, other_key, file_flaw, layouts_in, layouts_of, FileSays, IsShapeOf, IsFlawIn, IsOfText, IsDocumentError};
+ghost use Rattle.py_layout.specs.File.{elements_of, element_flaw, first_flaw, other_key, file_flaw, layouts_in};
+ghost use Rattle.py_layout.specs.File.{layouts_of, FileSays, IsShapeOf, IsFlawIn, IsOfText, IsDocumentError};
 
 use crate::error::LayoutError;
 use crate::flaws::{Flaw, table_flaw};

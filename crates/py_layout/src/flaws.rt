@@ -6,7 +6,8 @@ ghost use Rattle.toml.specs.View.{view, table_view};
 ghost use Rattle.py_layout.specs.Keys.{key_of};
 ghost use Rattle.py_layout.specs.Words.{families_of};
 ghost use Rattle.py_layout.specs.FlawPath.{flaw_path, is_unknown_name};
-ghost use Rattle.py_layout.specs.Flaws.{may_be, must_be, is_flawed, same_group, is_key, unknown_in, first_some, unknown_at, flaw_by, table_flaw, path};
+ghost use Rattle.py_layout.specs.Flaws.{may_be, must_be, is_flawed, same_group, is_key, unknown_in, first_some};
+ghost use Rattle.py_layout.specs.Flaws.{unknown_at, flaw_by, table_flaw, path};
 
 use crate::families::{Families, families_of};
 use crate::keys::{Key, Kind, Presence};

@@ -1,5 +1,6 @@
 //! Lists of layouts of which each is sound, and no two clash.
-ghost use Rattle.std.specs.Prelude.{◌≡◌, ◌≢◌, ℕ, List, Result, Ok, Err, ◌↔◌, IsTrue, IsOk, IsNone, MatchOption, IfOk, IfErr, IfSome, All, AllPairs, Contains, length};
+ghost use Rattle.std.specs.Prelude.{◌≡◌, ◌≢◌, ℕ, List, Result, Ok, Err, ◌↔◌, IsTrue, IsOk, IsNone, MatchOption, IfOk};
+ghost use Rattle.std.specs.Prelude.{IfErr, IfSome, All, AllPairs, Contains, length};
 ghost use Rattle.std.specs.List.{AllWithin};
 ghost use Rattle.py_fields.specs.Sound.{Covers, IsSound};
 ghost use Rattle.elf64_core.specs.Outcomes.{IsUnless};

@@ -18,6 +18,3 @@ pub use py_fields::{
     OffsetsAt, StringAt, Strings, ThreadAt, TupleAt, ValueAt,
 };
 pub use py_version::{ScanError, Version, get_interp_head_offset, get_tstate_current_offset};
-
-#[cfg(test)]
-mod tests;

@@ -1,7 +1,10 @@
 //! The layout that a table without flaw says.
 ghost use Rattle.std.specs.Prelude.{◌≡◌, cond, is_some, Some, None, codes};
 ghost use Rattle.toml.specs.View.{table_view};
-ghost use Rattle.py_layout.specs.Reading.{interpreter_from, thread_from, cframe_from, frame_from, code_from, string_from, bytes_from, tuple_from, list_from, object_from, klass_from, long_from, value_from, dict_from, keys_from, heap_from, gil_from, offsets_from, has_group, layout_from};
+ghost use Rattle.py_layout.specs.Reading.{interpreter_from, thread_from, cframe_from, frame_from, code_from};
+ghost use Rattle.py_layout.specs.Reading.{string_from, bytes_from, tuple_from, list_from, object_from, klass_from};
+ghost use Rattle.py_layout.specs.Reading.{long_from, value_from, dict_from, keys_from, heap_from, gil_from};
+ghost use Rattle.py_layout.specs.Reading.{offsets_from, has_group, layout_from};
 ghost use Rattle.py_layout.specs.Words.{families_of};
 
 use crate::families::families_of;

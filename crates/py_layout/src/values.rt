@@ -2,7 +2,8 @@
 ghost use Rattle.std.specs.Prelude.{◌≡◌, option_map, option_copied};
 ghost use Rattle.toml.specs.Data.{get_member};
 ghost use Rattle.toml.specs.View.{view, table_view};
-ghost use Rattle.py_layout.specs.Values.{group_at, value_at, number_of, is_version, fits, optional_at, number_at, truth_at};
+ghost use Rattle.py_layout.specs.Values.{group_at, value_at, number_of, is_version, fits, optional_at, number_at};
+ghost use Rattle.py_layout.specs.Values.{truth_at};
 
 use crate::families::{is_word, word_of};
 use crate::keys::Kind;

@@ -1,7 +1,11 @@
 //! Ranges written as a table.
-ghost use Rattle.std.specs.Prelude.{◌≡◌, ◌<◌, ◌≤◌, ◌+◌, ◌++◌, ◌^◌, ◌%◌, ℕ, pos, negsuc, ◌≤ℤ◌, length, IfOk, IfErr, IfSome, MatchResult};
+ghost use Rattle.std.specs.Prelude.{◌≡◌, ◌<◌, ◌≤◌, ◌+◌, ◌++◌, ◌^◌, ◌%◌, ℕ, pos, negsuc, ◌≤ℤ◌, length, IfOk, IfErr};
+ghost use Rattle.std.specs.Prelude.{IfSome, MatchResult};
 ghost use Rattle.py_lines.specs.declared.lines.LineFamily.TheVariants.{Locations};
-ghost use Rattle.py_lines.specs.Coding.{first_unordered, can_stand, covered_by, varint_bytes, signed_code, delta_byte, delta_from, location_head, location_bytes, entry_bytes, run_bytes, runs_bytes, HasNoRoom, IsPart, IsRun, AreRuns, IsLine, IsNearDelta, IsCoding, IsRefusal, KeepsLines};
+ghost use Rattle.py_lines.specs.Coding.{first_unordered, can_stand, covered_by, varint_bytes, signed_code, delta_byte};
+ghost use Rattle.py_lines.specs.Coding.{delta_from, location_head, location_bytes, entry_bytes, run_bytes, runs_bytes};
+ghost use Rattle.py_lines.specs.Coding.{HasNoRoom, IsPart, IsRun, AreRuns, IsLine, IsNearDelta, IsCoding, IsRefusal};
+ghost use Rattle.py_lines.specs.Coding.{KeepsLines};
 
 use crate::runs::{Run, runs_of};
 use crate::{EncodeError, LineFamily, LineRange};

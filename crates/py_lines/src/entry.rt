@@ -1,6 +1,7 @@
 //! The entries of the tables, one by one.
 ghost use Rattle.std.specs.Prelude.{◌≡◌, ◌+◌, ◌≤◌, ◌<◌, ◌^◌, ℕ, pos, negsuc, ◌≤ℤ◌, length, IfSome};
-ghost use Rattle.py_lines.specs.Entries.{first_entry, pair_entry, range_entry, location_entry, location_line, long_line, IsWithin, IsSmall, HasEntryRoom};
+ghost use Rattle.py_lines.specs.Entries.{first_entry, pair_entry, range_entry, location_entry, location_line};
+ghost use Rattle.py_lines.specs.Entries.{long_line, IsWithin, IsSmall, HasEntryRoom};
 
 use crate::LineFamily;
 use crate::varint::{Number, varint, varint_end};

@@ -14,8 +14,3 @@ mod varint;
 pub use encoding::encode;
 pub use error::EncodeError;
 pub use lines::{LineFamily, LineRange, line_at, ranges};
-
-#[cfg(test)]
-mod encode_tests;
-#[cfg(test)]
-mod tests;

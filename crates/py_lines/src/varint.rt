@@ -1,5 +1,6 @@
 //! Numbers of several bytes in a table of locations.
-ghost use Rattle.std.specs.Prelude.{◌≡◌, ◌+◌, ◌≤◌, ◌<◌, ◌^◌, ℕ, pos, ◌≤ℤ◌, ◌<ℤ◌, negsuc, length, drop, IfSome, option_map};
+ghost use Rattle.std.specs.Prelude.{◌≡◌, ◌+◌, ◌≤◌, ◌<◌, ◌^◌, ℕ, pos, ◌≤ℤ◌, ◌<ℤ◌, negsuc, length, drop, IfSome};
+ghost use Rattle.std.specs.Prelude.{option_map};
 ghost use Rattle.py_lines.specs.Varint.{varint, varint_within, signed_of};
 
 /// A number, and how many bytes of the table it takes.

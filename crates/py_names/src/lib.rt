@@ -11,6 +11,3 @@ mod typed;
 
 pub use names::thread_names_from_interpreter;
 pub use names_error::NamesError;
-
-#[cfg(test)]
-mod tests;

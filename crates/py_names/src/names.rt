@@ -4,7 +4,10 @@ ghost use Rattle.process_memory.specs.Memory.{byte_at};
 ghost use Rattle.process_memory.specs.Seen.{Reads, ReadsBy, ReadingBy, items_of};
 ghost use Rattle.py_fields.specs.Sound.{IsSound};
 ghost use Rattle.py_names.specs.NamesError.{names_fault};
-ghost use Rattle.py_names.specs.Names.{AnswersNames, HasNames, each_looked, entry_in, entry_looked, interpreter_names_at, kept_name, module_looked, module_names_at, given_name_at, names_at, names_cost, names_from, slot_looked, slots_looked_at, thread_at, thread_in, thread_looked, named_threads_at, threads_looked};
+ghost use Rattle.py_names.specs.Names.{AnswersNames, HasNames, each_looked, entry_in, entry_looked};
+ghost use Rattle.py_names.specs.Names.{interpreter_names_at, kept_name, module_looked, module_names_at, given_name_at};
+ghost use Rattle.py_names.specs.Names.{names_at, names_cost, names_from, slot_looked, slots_looked_at, thread_at};
+ghost use Rattle.py_names.specs.Names.{thread_in, thread_looked, named_threads_at, threads_looked};
 
 use crate::NamesError;
 use crate::search::find_in;

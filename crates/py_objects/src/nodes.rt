@@ -3,7 +3,9 @@ ghost use Rattle.std.specs.Prelude.{◌+◌, ◌≤◌, ◌<◌, IfOk};
 ghost use Rattle.process_memory.specs.Seen.{Reads};
 ghost use Rattle.py_fields.specs.Sound.{IsSound};
 ghost use Rattle.py_builtins.specs.ObjectError.{object_fault};
-ghost use Rattle.py_objects.specs.Nodes.{child_at, class_at, class_of, dict_node, float_node, items_node, kind_node, long_node, node_at, nodes_of, part_read, parts_read, parts_place_of, scalar_node, slot_visits, slots_node, small_node, text_node, texts_of};
+ghost use Rattle.py_objects.specs.Nodes.{child_at, class_at, class_of, dict_node, float_node, items_node, kind_node};
+ghost use Rattle.py_objects.specs.Nodes.{long_node, node_at, nodes_of, part_read, parts_read, parts_place_of};
+ghost use Rattle.py_objects.specs.Nodes.{scalar_node, slot_visits, slots_node, small_node, text_node, texts_of};
 
 use crate::kinds::{Kind, Scalar, kind_of};
 use crate::texts;

@@ -1,12 +1,15 @@
 //! Values and their parts, as text.
-ghost use Rattle.std.specs.Prelude.{◌≡◌, ◌+◌, ◌-◌, ◌*◌, ◌<◌, ◌≤◌, ◌++◌, OnOk, IfOk, max, string_bytes, encode_utf8_all, codes, length, None};
+ghost use Rattle.std.specs.Prelude.{◌≡◌, ◌+◌, ◌-◌, ◌*◌, ◌<◌, ◌≤◌, ◌++◌, OnOk, IfOk, max, string_bytes, encode_utf8_all};
+ghost use Rattle.std.specs.Prelude.{codes, length, None};
 ghost use Rattle.std.specs.Str.{chars};
 ghost use Rattle.process_memory.specs.Seen.{Reading};
 ghost use Rattle.py_fields.specs.Sound.{IsSound};
 ghost use Rattle.py_builtins.specs.ObjectError.{object_fault};
-ghost use Rattle.py_objects.specs.Nodes.{brackets_of, node_of, part_read, parts_place_of, slot_visits, texts_of, values_in};
+ghost use Rattle.py_objects.specs.Nodes.{brackets_of, node_of, part_read, parts_place_of, slot_visits, texts_of};
+ghost use Rattle.py_objects.specs.Nodes.{values_in};
 ghost use Rattle.py_objects.specs.Shown.{TellsShown, visit};
-ghost use Rattle.py_objects.specs.Shows.{AnswerShows, bytes_shown, child_shown, closing, looked_at, node_shown, opening, part_at, part_of, parts_shown, separator, show_at, text_of, width_of};
+ghost use Rattle.py_objects.specs.Shows.{AnswerShows, bytes_shown, child_shown, closing, looked_at, node_shown};
+ghost use Rattle.py_objects.specs.Shows.{opening, part_at, part_of, parts_shown, separator, show_at, text_of, width_of};
 
 use crate::nodes::{Child, Node, Parts, read_child, read_node};
 use crate::texts;
@@ -324,6 +327,3 @@ fn entry(mut key: String, value: &str) -> Result<String, AllocError>
     key.push_str(value)?;
     Ok(key)
 }
-
-#[cfg(test)]
-mod tests;

@@ -8,7 +8,8 @@ ghost use Rattle.process_memory.specs.Memory.Fault.{BadType};
 ghost use Rattle.process_memory.specs.Seen.{Answers};
 ghost use Rattle.py_builtins.specs.ObjectError.{object_fault};
 ghost use Rattle.py_objects.specs.Kinds.{scalar_width};
-ghost use Rattle.py_objects.specs.ShownTexts.{before_nul, byte_truth, dots, escape, escaped, float_text, long_text, number_text, other_text, quoted, scalar_text, text_or};
+ghost use Rattle.py_objects.specs.ShownTexts.{before_nul, byte_truth, dots, escape, escaped, float_text, long_text};
+ghost use Rattle.py_objects.specs.ShownTexts.{number_text, other_text, quoted, scalar_text, text_or};
 ghost use Rattle.py_objects.specs.Shows.{text_of};
 
 use crate::kinds::Scalar;

@@ -5,7 +5,8 @@ ghost use Rattle.process_memory.specs.Seen.{ReadingBelow};
 ghost use Rattle.py_fields.specs.Sound.{IsSound};
 ghost use Rattle.py_stacks.specs.Interpreter.{threads_head};
 ghost use Rattle.py_stacks.specs.StackError.{stack_fault};
-ghost use Rattle.py_process.specs.Candidates.{ListIs, Seeking, SearchIs, candidate_cost, candidate_of, passes_in, runtime_words, section_words, words_of, words_of_facts, words_of_image};
+ghost use Rattle.py_process.specs.Candidates.{ListIs, Seeking, SearchIs, candidate_cost, candidate_of, passes_in};
+ghost use Rattle.py_process.specs.Candidates.{runtime_words, section_words, words_of, words_of_facts, words_of_image};
 ghost use Rattle.py_process.specs.Facts.{facts_of};
 
 use crate::{BinaryInfo, SearchError};

@@ -1,5 +1,6 @@
 //! The version that the name of Python's program tells.
-ghost use Rattle.std.specs.Prelude.{◌≡◌, ◌<◌, ◌≤◌, ◌-◌, ◌∷◌, [], ℕ, true, false, length, slice_index, IfOk, MatchOption, option_map};
+ghost use Rattle.std.specs.Prelude.{◌≡◌, ◌<◌, ◌≤◌, ◌-◌, ◌∷◌, [], ℕ, true, false, length, slice_index, IfOk};
+ghost use Rattle.std.specs.Prelude.{MatchOption, option_map};
 ghost use Rattle.std.specs.List.{after_last, slice_split};
 ghost use Rattle.py_version.specs.Version.{release};
 ghost use Rattle.py_process.specs.FileVersions.{decimal_of, file_version, is_slash};

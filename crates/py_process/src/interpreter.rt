@@ -2,7 +2,8 @@
 ghost use Rattle.std.specs.Prelude.{◌+◌, ◌≤◌, IfOk};
 ghost use Rattle.process_memory.specs.Memory.{byte_at};
 ghost use Rattle.py_fields.specs.Sound.{IsSound};
-ghost use Rattle.py_process.specs.Candidates.{FirstIs, IsFirstOf, IsNoneOf, NotFoundWhere, Searching, Seeking, candidates_of, interpreter_of, search_most, words_of_images};
+ghost use Rattle.py_process.specs.Candidates.{FirstIs, IsFirstOf, IsNoneOf, NotFoundWhere, Searching, Seeking};
+ghost use Rattle.py_process.specs.Candidates.{candidates_of, interpreter_of, search_most, words_of_images};
 ghost use Rattle.py_process.specs.Facts.{known_of};
 
 use crate::candidates::first_in_image;

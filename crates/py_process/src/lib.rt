@@ -4,8 +4,6 @@
 
 mod binary;
 mod binary_error;
-#[cfg(test)]
-mod call_tests;
 mod candidates;
 mod core_error;
 mod file_version;

@@ -1,7 +1,8 @@
 //! Which files are Python's shared library.
 ghost use Rattle.std.specs.Prelude.{◌≡◌, ◌↔◌, ℕ, true, IsTrue, drop, option_copied};
 ghost use Rattle.py_process.specs.Library.{IsLibrary};
-ghost use Rattle.py_process.specs.LibraryFronts.{past_mark, begins_so, has_version_end, has_flag_end, has_minor_end, has_minor, has_version, begins_library};
+ghost use Rattle.py_process.specs.LibraryFronts.{past_mark, begins_so, has_version_end, has_flag_end, has_minor_end};
+ghost use Rattle.py_process.specs.LibraryFronts.{has_minor, has_version, begins_library};
 
 use bstr::decode_utf8;
 

@@ -4,7 +4,9 @@ ghost use Rattle.process_memory.specs.Memory.{Found};
 ghost use Rattle.process_memory.specs.Seen.{ReadingBelow};
 ghost use Rattle.py_version.specs.declared.version.Version.{Version as Told};
 ghost use Rattle.py_process.specs.Facts.{facts_of, known_of};
-ghost use Rattle.py_process.specs.Sources.{FirstTells, IsVersionTold, SectionTells, TellsVersion, ToldBy, VersionIs, bss_of, flags_of, library_sources, other_sources, section_sources, sources_of, text_source_at, text_symbol, version_of_number};
+ghost use Rattle.py_process.specs.Sources.{FirstTells, IsVersionTold, SectionTells, TellsVersion, ToldBy, VersionIs};
+ghost use Rattle.py_process.specs.Sources.{bss_of, flags_of, library_sources, other_sources, section_sources};
+ghost use Rattle.py_process.specs.Sources.{sources_of, text_source_at, text_symbol, version_of_number};
 ghost use Rattle.py_process.specs.Sources.VersionSource.{Number, Section, Text as TextSource};
 
 use crate::file_version::file_version;

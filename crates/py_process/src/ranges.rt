@@ -2,7 +2,8 @@
 ghost use Rattle.std.specs.Prelude.{◌≡◌, MatchResult};
 ghost use Rattle.elf64_core.specs.Sections.{HasSections, sections_of};
 ghost use Rattle.py_process.specs.Refusals.{RefusesRanges};
-ghost use Rattle.py_process.specs.Ranges.{AreRanges, BssIs, bss_range, executable_of, is_runtime, larger, may_be_bss, moved_by, runtime_range, runtime_section};
+ghost use Rattle.py_process.specs.Ranges.{AreRanges, BssIs, bss_range, executable_of, is_runtime, larger, may_be_bss};
+ghost use Rattle.py_process.specs.Ranges.{moved_by, runtime_range, runtime_section};
 
 use crate::BinaryError;
 use elf64_core::{Elf64, LOAD, Section, Segment};

@@ -3,7 +3,8 @@ ghost use Rattle.std.specs.Prelude.{◌≡◌, ◌⊎◌, ℕ, List, map, OnOk, 
 ghost use Rattle.std.specs.Option.{option_or};
 ghost use Rattle.elf64_core.specs.Symbols.{symbol_entry_of};
 ghost use Rattle.py_process.specs.Refusals.{HasBoth};
-ghost use Rattle.py_process.specs.SymbolMap.{HasAddresses, address_in, address_of, is_kept, is_past_bss, is_undefined, is_within};
+ghost use Rattle.py_process.specs.SymbolMap.{HasAddresses, address_in, address_of, is_kept, is_past_bss, is_undefined};
+ghost use Rattle.py_process.specs.SymbolMap.{is_within};
 
 use crate::BinaryError;
 use elf64_core::{Elf64, Symbol, SymbolKind};

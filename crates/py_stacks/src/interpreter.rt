@@ -3,7 +3,9 @@ ghost use Rattle.std.specs.Prelude.{◌+◌, ◌*◌, ◌↔◌, IfOk, IsErrOf, 
 ghost use Rattle.process_memory.specs.Seen.{Reads, ReadsBy, ReadingBy};
 ghost use Rattle.py_fields.specs.Sound.{IsSound};
 ghost use Rattle.py_stacks.specs.StackError.{stack_fault};
-ghost use Rattle.py_stacks.specs.Interpreter.{IsInterpreter, IsInterpreterFrom, RefusesAddress, bound_from, cost_from, interpreter_named_by, passes, passes_from, test_bound, test_cost, threads_head};
+ghost use Rattle.py_stacks.specs.Interpreter.{IsInterpreter, IsInterpreterFrom, RefusesAddress, bound_from, cost_from};
+ghost use Rattle.py_stacks.specs.Interpreter.{interpreter_named_by, passes, passes_from, test_bound, test_cost};
+ghost use Rattle.py_stacks.specs.Interpreter.{threads_head};
 
 use crate::StackError;
 use crate::asked::{Asked, LineNo};

@@ -38,8 +38,3 @@ pub use stacks::{get_stack_trace, get_stack_traces};
 pub use stacks_over::get_stack_over;
 pub use threads::{first_frame, native_id};
 pub use trace::{Addresses, Frame, LocalVariable, StackTrace};
-
-#[cfg(test)]
-mod interpreter_tests;
-#[cfg(test)]
-mod tests;

@@ -2,7 +2,8 @@
 ghost use Rattle.std.specs.Prelude.{◌≡◌, ◌<◌, IfOk, IfSome, length};
 ghost use Rattle.process_memory.specs.Seen.{Reads};
 ghost use Rattle.py_fields.specs.Sound.{IsSound};
-ghost use Rattle.py_stacks.specs.Lines.{family_of, first_line, line_at, line_cost, line_in, offset_by, offset_of, table_at, table_of, table_of_result};
+ghost use Rattle.py_stacks.specs.Lines.{family_of, first_line, line_at, line_cost, line_in, offset_by, offset_of};
+ghost use Rattle.py_stacks.specs.Lines.{table_at, table_of, table_of_result};
 ghost use Rattle.py_stacks.specs.Records.{AreWhole, member_of};
 ghost use Rattle.py_stacks.specs.StackError.{stack_fault};
 

@@ -2,7 +2,8 @@
 ghost use Rattle.std.specs.Prelude.{◌≡◌, ◌≤◌, ◌<◌, ◌+◌, ◌*◌, ◌++◌, IfOk, OnOk, true};
 ghost use Rattle.process_memory.specs.Seen.{Answers, Reads, items_of};
 ghost use Rattle.py_fields.specs.Sound.{IsSound};
-ghost use Rattle.py_stacks.specs.Locals.{asked_locals, count_of, is_argument, kept_local, local_at, local_by, locals_at, locals_cost, locals_from, locals_of_result, variable_name_at};
+ghost use Rattle.py_stacks.specs.Locals.{asked_locals, count_of, is_argument, kept_local, local_at, local_by};
+ghost use Rattle.py_stacks.specs.Locals.{locals_at, locals_cost, locals_from, locals_of_result, variable_name_at};
 ghost use Rattle.py_stacks.specs.Records.{AreWhole, member_of};
 ghost use Rattle.py_stacks.specs.StackError.{stack_fault};
 

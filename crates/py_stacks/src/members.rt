@@ -3,7 +3,9 @@ ghost use Rattle.std.specs.Prelude.{◌≡◌, ◌+◌, ◌*◌, ◌/◌, ◌≤
 ghost use Rattle.process_memory.specs.Seen.{Reads, ReadsBy};
 ghost use Rattle.py_fields.specs.Sound.{IsSound};
 ghost use Rattle.py_stacks.specs.StackError.{stack_fault};
-ghost use Rattle.py_stacks.specs.Frames.{call_of_option, code_of, frame_step, is_entered, is_hidden, member_cost, name_at, part_by, part_cost, part_of_result, plain_at, step_of_result, visible};
+ghost use Rattle.py_stacks.specs.Frames.{call_of_option, code_of, frame_step, is_entered, is_hidden, member_cost};
+ghost use Rattle.py_stacks.specs.Frames.{name_at, part_by, part_cost, part_of_result, plain_at, step_of_result};
+ghost use Rattle.py_stacks.specs.Frames.{visible};
 ghost use Rattle.py_stacks.specs.Records.{AreWhole, member_of};
 
 use crate::asked::Asked;

@@ -10,7 +10,8 @@ ghost use Rattle.py_stacks.specs.Met.{details_walked, locals_most, locals_walked
 ghost use Rattle.py_stacks.specs.NamedStacks.{slots_named};
 ghost use Rattle.py_stacks.specs.StackError.{stack_fault};
 ghost use Rattle.py_stacks.specs.Stacks.{stacks_faults};
-ghost use Rattle.py_stacks.specs.StacksOver.{AreStacksOver, stacks_over_at, stacks_over_cost, values_met, variables_most};
+ghost use Rattle.py_stacks.specs.StacksOver.{AreStacksOver, stacks_over_at, stacks_over_cost, values_met};
+ghost use Rattle.py_stacks.specs.StacksOver.{variables_most};
 ghost use Rattle.py_stacks.specs.Threads.{Trace, trace_of, traces_of_result};
 
 use crate::config::Config;

@@ -4,7 +4,9 @@ ghost use Rattle.process_memory.specs.Seen.{ReadingBy};
 ghost use Rattle.py_fields.specs.Sound.{IsSound};
 ghost use Rattle.py_stacks.specs.Frames.{call_of};
 ghost use Rattle.py_stacks.specs.Threads.{trace_of};
-ghost use Rattle.py_stacks.specs.Values.{IsOrLost, MarkedAs, StandsFor, by_value, call_visits, locals_visits, trace_visits, traces_visits, value_text, value_visits, value_width, with_value, with_values};
+ghost use Rattle.py_stacks.specs.Values.{IsOrLost, MarkedAs, StandsFor, by_value, call_visits, locals_visits};
+ghost use Rattle.py_stacks.specs.Values.{trace_visits, traces_visits, value_text, value_visits, value_width};
+ghost use Rattle.py_stacks.specs.Values.{with_value, with_values};
 
 use crate::{Frame, LocalVariable, StackError, StackTrace};
 use elf64_core::Text;

@@ -10,6 +10,3 @@ mod version;
 pub use error::ScanError;
 pub use offsets::{get_interp_head_offset, get_tstate_current_offset};
 pub use version::Version;
-
-#[cfg(test)]
-mod tests;

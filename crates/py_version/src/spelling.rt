@@ -2,7 +2,9 @@
 ghost use Rattle.std.specs.Prelude.{◌≡◌, ◌≤◌, ◌<◌, ℕ, true, false, length, slice_index, option_map, IfSome};
 ghost use Rattle.std.specs.Char.{is_ascii_digit};
 ghost use Rattle.py_version.specs.Spelling.{is_metadata};
-ghost use Rattle.py_version.specs.Fronts.{are_runs, are_runs_after, digit_front, flags_len, front_of, has_end, is_dotted, level_len, major_front, metadata_front, metadata_len, metadata_of, minor_front, short_front, spelled, version_of};
+ghost use Rattle.py_version.specs.Fronts.{are_runs, are_runs_after, digit_front, flags_len, front_of, has_end};
+ghost use Rattle.py_version.specs.Fronts.{is_dotted, level_len, major_front, metadata_front, metadata_len, metadata_of};
+ghost use Rattle.py_version.specs.Fronts.{minor_front, short_front, spelled, version_of};
 
 use bstr::decode_utf8;
 

@@ -9,6 +9,3 @@ mod salvaged;
 pub use crash::{Crash, crash_of, crashed_at, is_crashed};
 pub use lock::{LockState, holds_lock, lock_state};
 pub use salvaged::{Salvaged, SalvagedInterpreter, first_crashed, salvage};
-
-#[cfg(test)]
-mod tests;

@@ -5,7 +5,8 @@ ghost use Rattle.process_memory.specs.Memory.{byte_at};
 ghost use Rattle.py_fields.specs.Sound.{IsSound};
 ghost use Rattle.py_process.specs.Facts.{known_of};
 ghost use Rattle.py_fronts.specs.Answers.{IsOrNoMemory};
-ghost use Rattle.salvage_marks.specs.Salvaged.{Salvaging, first_crashed, has_crashed, locked_result, salvaged_at, salvaged_result, with_locks};
+ghost use Rattle.salvage_marks.specs.Salvaged.{Salvaging, first_crashed, has_crashed, locked_result, salvaged_at};
+ghost use Rattle.salvage_marks.specs.Salvaged.{salvaged_result, with_locks};
 
 use crate::crash::{Crash, crashed_at};
 use crate::lock::{LockState, lock_state};

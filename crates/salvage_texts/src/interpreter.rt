@@ -1,6 +1,7 @@
 //! The lines of interpreters.
 ghost use Rattle.std.specs.Prelude.{◌≡◌, ◌++◌, OnOk, string_bytes};
-ghost use Rattle.salvage_texts.specs.Salvaged.{heading_text, interpreter_text, interpreters_text, lock_text, searched_text};
+ghost use Rattle.salvage_texts.specs.Salvaged.{heading_text, interpreter_text, interpreters_text, lock_text};
+ghost use Rattle.salvage_texts.specs.Salvaged.{searched_text};
 
 use crate::ends::{push_missing, push_threads_end};
 use crate::thread::push_threads;

@@ -14,6 +14,3 @@ mod thread;
 
 pub use escape::push_escaped;
 pub use salvaged::salvaged_text;
-
-#[cfg(test)]
-mod tests;

@@ -1,7 +1,9 @@
 //! The lines of frames, and of members that have none.
 ghost use Rattle.std.specs.Prelude.{◌≡◌, ◌++◌, OnOk, map, string_bytes};
 ghost use Rattle.std.specs.List.{concat};
-ghost use Rattle.salvage_texts.specs.Standings.{fault_text, frame_line, line_text, local_text, locals_fault, locals_text, shown_locals, standing_text, standings_text, value_text, why_text};
+ghost use Rattle.salvage_texts.specs.Standings.{fault_text, frame_line, line_text, local_text, locals_fault};
+ghost use Rattle.salvage_texts.specs.Standings.{locals_text, shown_locals, standing_text, standings_text, value_text};
+ghost use Rattle.salvage_texts.specs.Standings.{why_text};
 
 use crate::ends::push_missing;
 use crate::escape::push_escaped;

@@ -1,7 +1,8 @@
 //! The lines of threads.
 ghost use Rattle.std.specs.Prelude.{◌≡◌, ◌++◌, OnOk, string_bytes};
 ghost use Rattle.py_stacks.specs.Shown.{id_text};
-ghost use Rattle.salvage_texts.specs.Threads.{frames_text, mark_text, reversed_text, thread_line, thread_text, threads_text};
+ghost use Rattle.salvage_texts.specs.Threads.{frames_text, mark_text, reversed_text, thread_line, thread_text};
+ghost use Rattle.salvage_texts.specs.Threads.{threads_text};
 
 use crate::ends::{push_frames_end, push_more};
 use crate::standing::push_standings;

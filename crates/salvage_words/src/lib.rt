@@ -7,6 +7,3 @@ mod taken;
 
 pub use asked::{Asked, SalvageWords, read_words};
 pub use core_words::ArgsError;
-
-#[cfg(test)]
-mod tests;

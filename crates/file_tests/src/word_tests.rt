@@ -1,0 +1,53 @@
+//! Each public call once, and a count that no command prints. Words that are refused are rows of the program.
+use core_words::{Command, config_from_args, read_words};
+use std::alloc::{AllocError, Global};
+use std::test::Fail;
+
+/// Words with blanks between them.
+fn split_words(alloc: Global, text: &str) -> Result<Vec<String>, AllocError> {
+    let mut words = Vec::new(alloc);
+    for word in text.split(' ') {
+        words.push(String::from_str(alloc, word)?)?;
+    }
+    Ok(words)
+}
+
+#[test]
+fn words_of_a_walk_are_taken(rt: HostRuntime) -> Result<(), Fail> {
+    let alloc = rt.alloc();
+    let words = split_words(alloc, "walk core sample 3.10.999 0xfFaB 65")?;
+    let Ok(Command::Walk(walk)) = read_words(alloc, &words) else {
+        return Err(Fail::from("refused"));
+    };
+    let (version, addresses) = (walk.version, walk.addresses);
+    assert_eq!(rt;
+        (
+            walk.core,
+            version.minor,
+            version.patch,
+            addresses.interpreter,
+            addresses.lock
+        ),
+        ("core", 10, 999, 0xffab, 65)
+    );
+    Ok(())
+}
+
+#[test]
+fn words_of_a_report_are_taken(rt: HostRuntime) -> Result<(), Fail> {
+    let alloc = rt.alloc();
+    let mut words = split_words(alloc, "d --json -c-x --layouts=file a=b=c")?;
+    for _ in 0..300 {
+        words.push(String::from_str(alloc, "-l")?)?;
+    }
+    let taken = config_from_args(alloc, &words).or(Err("refused"))?;
+    assert_eq!(rt;
+        (taken.config.dump_json, taken.config.dump_locals),
+        (true, 255)
+    );
+    assert_eq!(rt;
+        (taken.core.as_bytes(), taken.layouts.as_bytes()),
+        (b"-x".as_slice(), b"file".as_slice())
+    );
+    Ok(())
+}

@@ -1,0 +1,117 @@
+//! Ranges, and views of files.
+use elf64_core::ElfError;
+use image_memory::{Mmap, is_subrange, read_elf_build_id_from_mmap};
+use std::alloc::{AllocError, Global};
+use std::test::Fail;
+
+/// A range's start and size, another's, and whether the second lies in the first.
+const RANGES: [(u64, u64, u64, u64, bool); 10] = [
+    (0, 100, 90, 10, true),
+    (0, 100, 90, 11, false),
+    (0, 10, 9, 2, false),
+    (5, 10, 5, 10, true),
+    (5, 10, 4, 2, false),
+    (0, u64::MAX, 1, u64::MAX, false),
+    (1, u64::MAX, 2, 1, false),
+    (0, u64::MAX, 0, u64::MAX, true),
+    (0, 0, 0, 0, false),
+    (0, 10, 5, 0, false),
+];
+
+#[test]
+fn ranges_lie_in_ranges(rt: HostRuntime) -> Result<(), Fail> {
+    for (start, size, sub_start, sub_size, want) in RANGES {
+        let got = is_subrange(start, size, sub_start, sub_size);
+        assert!(rt; got == want, "{start} {size} {sub_start} {sub_size}");
+    }
+    Ok(())
+}
+
+/// What is there, ranges that it is narrowed by one after the other, and what is shown then.
+const VIEWS: [(&[u8], &[(u64, u64)], Option<&[u8]>); 12] = [
+    (
+        b"abcdefghijklmnopqrstuvwxyz",
+        &[],
+        Some(b"abcdefghijklmnopqrstuvwxyz"),
+    ),
+    (
+        b"abcdefghijklmnopqrstuvwxyz",
+        &[(1, 15)],
+        Some(b"bcdefghijklmno"),
+    ),
+    (
+        b"abcdefghijklmnopqrstuvwxyz",
+        &[(1, 15), (5, 6)],
+        Some(b"g"),
+    ),
+    (
+        b"abcdefghijklmnopqrstuvwxyz",
+        &[(1, 15), (5, 6), (1, 2)],
+        None,
+    ),
+    (b"abcdefghijklmnopqrstuvwxyz", &[(26, 26)], Some(b"")),
+    (b"abcdefghijklmnopqrstuvwxyz", &[(26, 27)], None),
+    (b"abcdefghijklmnopqrstuvwxyz", &[(9, 3)], Some(b"")),
+    (b"abcdefghijklmnopqrstuvwxyz", &[(u64::MAX, 3)], Some(b"")),
+    (
+        b"abcdefghijklmnopqrstuvwxyz",
+        &[(1, 15), (u64::MAX, 3)],
+        None,
+    ),
+    (
+        b"abcdefghijklmnopqrstuvwxyz",
+        &[(1, 15), (0, u64::MAX)],
+        None,
+    ),
+    (b"", &[(0, 1)], Some(b"")),
+    (b"", &[(0, 2)], None),
+];
+
+fn narrow(view: Mmap, ranges: &[(u64, u64)]) -> Option<Mmap> {
+    let mut view = view;
+    for (start, end) in ranges {
+        view = view.constrain(*start..*end)?;
+    }
+    Some(view)
+}
+
+#[test]
+fn views_are_narrowed(rt: HostRuntime) -> Result<(), Fail> {
+    let alloc = rt.alloc();
+    for (bytes, ranges, want) in &VIEWS {
+        let view = narrow(Mmap::of(alloc, bytes.to_vec(alloc)?)?, ranges);
+        let shown = view.as_ref().map(|view| view.as_slice());
+        assert_eq!(rt; shown, *want, "{ranges:?}");
+    }
+    Ok(())
+}
+
+/// An image with one section, of a kind, which is a note of type 3 with the descriptor 01 02.
+fn image(alloc: Global, kind: u8) -> Result<Vec<u8>, AllocError> {
+    let mut bytes = b"\x7fELF\x02\x01".to_vec(alloc)?;
+    bytes.extend_from_slice(&[0; 34])?;
+    bytes.extend_from_slice(&84u64.to_le_bytes())?;
+    bytes.extend_from_slice(b"\0\0\0\0\0\0\0\0\0\0\x40\0\x01\0\0\0")?;
+    bytes.extend_from_slice(b"\x04\0\0\0\x02\0\0\0\x03\0\0\0GNU\0\x01\x02\0\0")?;
+    bytes.extend_from_slice(&[0, 0, 0, 0, kind, 0, 0, 0])?;
+    bytes.extend_from_slice(&[0; 16])?;
+    bytes.extend_from_slice(&64u64.to_le_bytes())?;
+    bytes.extend_from_slice(&20u64.to_le_bytes())?;
+    bytes.extend_from_slice(&[0; 24])?;
+    Ok(bytes)
+}
+
+#[test]
+fn build_ids_are_read_from_views(rt: HostRuntime) -> Result<(), Fail> {
+    let alloc = rt.alloc();
+    for (kind, want) in [(7, Some(b"\x01\x02".as_slice())), (8, None)] {
+        let mmap = Mmap::of(alloc, image(alloc, kind)?)?;
+        let id = read_elf_build_id_from_mmap(alloc, &mmap)?;
+        assert_eq!(rt; id.as_ref().map(|id| id.as_bytes()), want, "{kind}");
+        if let Some(cut) = mmap.constrain(0..63) {
+            let error = read_elf_build_id_from_mmap(alloc, &cut).err();
+            assert_eq!(rt; error, Some(ElfError::NotElf64));
+        }
+    }
+    Ok(())
+}

@@ -1,0 +1,201 @@
+//! Stacks written out by hand: each kind of native frame, and each place of the cursor.
+use elf64_core::Text;
+use native_merge::{
+    MemorySymbols, MergeError, NativeFrame, NativeStack, NoSources, SymbolFault, Symbolicator,
+};
+use py_process::BinaryInfo;
+use py_stacks::Frame;
+use std::alloc::{AllocError, Global};
+use std::collections::BTreeMap;
+use std::test::Fail;
+
+/// Native addresses, the names of their functions and their modules. Those below 0x2000 are Python's.
+const FUNCTIONS: [(u64, &str, &str); 11] = [
+    (0x1000, "_PyEval_EvalFrameDefault", "/usr/bin/python"),
+    (0x1001, "PyEval_EvalFrameDefault.cold", "/usr/bin/python"),
+    (0x1002, "time_sleep", "/usr/bin/python"),
+    (0x1003, "PyGILState_Ensure", "/usr/bin/python"),
+    (0x5000, "main", "/m"),
+    (0x5001, "__libc_start_main", "/lib/libc.so.6"),
+    (0x5002, "__clone", "/lib/libm.so.6"),
+    (0x5003, "start_thread", "/lib/libpthread.so.0"),
+    (0x5004, "start_thread", "/lib/libc.so.6"),
+    (0x5005, "__Pyx_PyObject_Call", "/m"),
+    (0x5006, "__pyx_f_6mtrand_cont0_array", "/m"),
+];
+
+/// What each of these addresses shows.
+fn symbols_of(alloc: Global, failing: Vec<u64>) -> Result<MemorySymbols, AllocError> {
+    let mut answers = Vec::new(alloc);
+    for (addr, function, module) in FUNCTIONS {
+        let function = Text::of(alloc, function)?;
+        let module = Text::of(alloc, module)?;
+        let mut natives = Vec::new(alloc);
+        natives.push(NativeFrame {
+            addr,
+            function: Some(function),
+            filename: None,
+            module,
+            line: None,
+        })?;
+        answers.push((addr, natives))?;
+    }
+    Ok(MemorySymbols::new(alloc, answers, failing))
+}
+
+/// Python's binary, from 0x1000 on.
+fn python_of(alloc: Global) -> BinaryInfo {
+    BinaryInfo {
+        symbols: BTreeMap::new(alloc),
+        bss_addr: 0,
+        bss_size: 0,
+        pyruntime_addr: 0,
+        pyruntime_size: 0,
+        addr: 0x1000,
+        size: 0x1000,
+    }
+}
+
+/// A frame for each character, with a mark where it is an upper-case letter.
+fn frames_of(alloc: Global, names: &str) -> Result<Vec<Frame>, AllocError> {
+    let mut frames = Vec::new(alloc);
+    for name in names.bytes() {
+        let mut text = String::new(alloc);
+        text.push(name as char)?;
+        frames.push(Frame {
+            name: Text::from(text),
+            filename: Text::of(alloc, "a.py")?,
+            module: None,
+            short_filename: None,
+            line: 1,
+            locals: None,
+            is_entry: name.is_ascii_uppercase(),
+            is_shim_entry: false,
+        })?;
+    }
+    Ok(frames)
+}
+
+/// The names of merged frames with the modules of native ones, or how far the steps came of how many frames.
+fn shown(alloc: Global, merged: Result<Vec<Frame>, MergeError>) -> Result<String, Fail> {
+    let mut text = String::new(alloc);
+    match merged {
+        Ok(frames) => {
+            for frame in &frames {
+                text.push_str(frame.name.as_str())?;
+                if frame.filename.as_str() == "?" {
+                    text.push_str("?")?;
+                }
+                text.push_str(" ")?;
+            }
+        }
+        Err(MergeError::Mismatch { steps, frames }) => write!(text, "{steps} of {frames}")?,
+        Err(MergeError::OutOfMemory) => return Err(Fail::from("out of memory")),
+    }
+    Ok(text)
+}
+
+/// Python frames, native addresses, and what they are merged to.
+const MERGES: [(&str, &[u64], &str); 15] = [
+    ("AB", &[], "A B "),
+    ("AB", &[0x1000], "1 of 2"),
+    ("AB", &[0x1000, 0x1001], "A B "),
+    ("AB", &[0x1000, 0x1000, 0x1000], "A B "),
+    ("AB", &[0x1000, 0x1000, 0x1000, 0x1000], "4 of 2"),
+    ("AB", &[0x9999], "0x9999? A B "),
+    (
+        "aBcD",
+        &[0x5000, 0x1000, 0x1002, 0x1003, 0x1000],
+        "main a B time_sleep c D ",
+    ),
+    ("ab", &[0x1000], "a b "),
+    ("ab", &[0x1000, 0x1000], "4 of 2"),
+    ("Ab", &[0x1000, 0x1000], "A b "),
+    ("", &[0x5000], "main "),
+    ("", &[0x1000], ""),
+    ("", &[0x1000, 0x1000], "2 of 0"),
+    (
+        "",
+        &[0x5001, 0x5002, 0x5003, 0x5004, 0x5005, 0x5006],
+        "__clone start_thread mtrand_cont0_array ",
+    ),
+    ("A", &[0x1001, 0x1fff], "A 0x1fff? "),
+];
+
+#[test]
+fn stacks_are_merged(rt: HostRuntime) -> Result<(), Fail> {
+    let alloc = rt.alloc();
+    let symbols = symbols_of(alloc, Vec::new(alloc))?;
+    let mut stack = NativeStack::new(alloc, None, Some(python_of(alloc)), symbols, NoSources)?;
+    for (names, addrs, want) in MERGES {
+        let frames = frames_of(alloc, names)?;
+        let merged = stack.merge_native_stack(frames.as_slice(), addrs);
+        assert_eq!(rt; shown(alloc, merged)?.as_str(), want);
+    }
+    Ok(())
+}
+
+#[test]
+fn calls_that_fail_show_their_address(rt: HostRuntime) -> Result<(), Fail> {
+    let alloc = rt.alloc();
+    let mut failing = Vec::new(alloc);
+    failing.push(1)?;
+    let mut symbols = symbols_of(alloc, failing)?;
+    assert!(rt; symbols.symbolicate(alloc, 0x5000, true).is_ok());
+    let failed = symbols.symbolicate(alloc, 0x5000, true).err();
+    assert!(rt; failed == Some(SymbolFault::Failed));
+    let lacking = symbols.symbolicate(alloc, 0x9999, false).err();
+    assert!(rt; lacking == Some(SymbolFault::NoBinary));
+    // without binaries each address is native; the second call fails, and the first address is kept
+    let mut failing = Vec::new(alloc);
+    failing.push(1)?;
+    failing.push(2)?;
+    let symbols = symbols_of(alloc, failing)?;
+    let mut stack = NativeStack::new(alloc, None, None, symbols, NoSources)?;
+    let frames = frames_of(alloc, "A")?;
+    let addrs = [0x1000, 0x1000, 0x1002, 0x1002, 0x1002];
+    let merged = stack.merge_native_stack(frames.as_slice(), &addrs);
+    let want = "_PyEval_EvalFrameDefault _PyEval_EvalFrameDefault 0x1002? 0x1002? time_sleep A ";
+    assert_eq!(rt; shown(alloc, merged)?.as_str(), want);
+    Ok(())
+}
+
+/// Native addresses, and what each of them shows.
+const ASKED: [(u64, &str); 4] = [
+    (0x5000, "main"),
+    (0x1002, "time_sleep"),
+    (0x1003, "PyGILState_Ensure"),
+    (0x5006, "mtrand_cont0_array"),
+];
+
+/// What they show, and a frame behind them, where the call of this number fails.
+fn shown_without(alloc: Global, failing: u64) -> Result<String, AllocError> {
+    let mut text = String::new(alloc);
+    let mut call = 0_u64;
+    for (addr, name) in ASKED {
+        if call == failing {
+            text.push_str(format!(in alloc; "{addr:#x}? ")?.as_str())?;
+        } else {
+            text.push_str(format!(in alloc; "{name} ")?.as_str())?;
+        }
+        call = call.saturating_add(1);
+    }
+    text.push_str("A ")?;
+    Ok(text)
+}
+
+#[test]
+fn each_call_that_fails_shows_its_address_alone(rt: HostRuntime) -> Result<(), Fail> {
+    let alloc = rt.alloc();
+    let addrs = ASKED.map(|asked| asked.0);
+    // the last number is that of no call
+    for failing in 0..5_u64 {
+        let symbols = symbols_of(alloc, Vec::from_slice(alloc, &[failing])?)?;
+        let mut stack = NativeStack::new(alloc, None, None, symbols, NoSources)?;
+        let frames = frames_of(alloc, "A")?;
+        let merged = stack.merge_native_stack(frames.as_slice(), &addrs);
+        let want = shown_without(alloc, failing)?;
+        assert_eq!(rt; shown(alloc, merged)?.as_str(), want.as_str());
+    }
+    Ok(())
+}

@@ -1,0 +1,147 @@
+//! Each public call once over a small memory, and what no row of the program shows: first lines, none, and the
+//! lock's holder alone.
+use process_memory::{Part, Piece};
+use py_fields::Layout;
+use py_stacks::{
+    Addresses, Config, LineNo, StackError, StackTrace, get_gil_threadid, get_stack_over,
+    get_stack_trace, get_stack_traces,
+};
+use std::alloc::{AllocError, Global};
+use std::test::Fail;
+
+/// Where an interpreter stands, its thread, a frame of it, the frame's code, and two texts.
+const INTERPRETER: u64 = 0x1000;
+
+const THREAD: u64 = 0x2000;
+
+const FRAME: u64 = 0x3000;
+
+const CODE: u64 = 0x4000;
+
+const FILE: u64 = 0x5000;
+
+const NAME: u64 = 0x6000;
+
+/// Where a word names the thread, which so holds the lock.
+const LOCK: u64 = 0x7000;
+
+pub(crate) fn piece(alloc: Global, start: u64, words: &[u64]) -> Result<Piece, AllocError> {
+    let mut bytes = Vec::new(alloc);
+    for word in words {
+        bytes.extend_from_slice(&word.to_le_bytes())?;
+    }
+    Ok(Piece { start, bytes })
+}
+
+/// A thread of id 7 with one frame, `f` in `a.py`, whose first line is 3 and which has no variables: the tuple of
+/// their names is the interpreter.
+fn memory(alloc: Global) -> Result<Part, AllocError> {
+    let pieces = vec![in alloc;
+        piece(alloc, INTERPRETER, &[0, THREAD, 0])?,
+        piece(alloc, THREAD, &[0, 0, INTERPRETER, FRAME, 7, 0, 0, 0])?,
+        piece(alloc, FRAME, &[0, 0, CODE, 0, 0, 0, 0, 0])?,
+        piece(alloc, CODE, &[0, 0, 0, 3, FILE, NAME, 0, INTERPRETER])?,
+        piece(alloc, FILE, &[0, 0, 4, 0, 100, 0, 0x7970_2e61, 0, 0])?,
+        piece(alloc, NAME, &[0, 0, 1, 0, 100, 0, 0x66, 0, 0])?,
+        piece(alloc, LOCK, &[THREAD])?,
+    ]?;
+    Ok(Part::of(alloc, pieces))
+}
+
+/// Whether a trace is that of the thread, with this line and its mark.
+fn is_trace(trace: &StackTrace, line: i32, owns_gil: bool) -> bool {
+    let [frame] = trace.frames.as_slice() else {
+        return false;
+    };
+    trace.thread_id == 7
+        && trace.owns_gil == owns_gil
+        && frame.name.as_str() == "f"
+        && frame.filename.as_str() == "a.py"
+        && frame.line == line
+        && frame.is_shim_entry
+}
+
+#[test]
+fn stacks_of_all_threads(rt: HostRuntime) -> Result<(), Fail> {
+    let alloc = rt.alloc();
+    let layout = Layout::sample();
+    let mut part = memory(alloc)?;
+    let plain = get_stack_traces(alloc, INTERPRETER, &mut part, &layout, LOCK, None)?;
+    assert!(rt; plain.len() == 1 && plain.iter().all(|trace| is_trace(trace, 0, true)));
+    let addresses = Addresses {
+        interpreter: INTERPRETER,
+        lock: 0,
+    };
+    let config = Config {
+        lineno: LineNo::First,
+        ..Config::default()
+    };
+    let full = get_stack_over(alloc, &mut part, &layout, &addresses, &config)?;
+    assert!(rt; full.len() == 1 && full.iter().all(|trace| is_trace(trace, 3, false)));
+    Ok(())
+}
+
+#[test]
+fn the_stack_of_one_thread(rt: HostRuntime) -> Result<(), Fail> {
+    let alloc = rt.alloc();
+    let layout = Layout::sample();
+    let mut part = memory(alloc)?;
+    for (lineno, line) in [(LineNo::NoLine, 0), (LineNo::First, 3)] {
+        let trace = get_stack_trace(alloc, THREAD, &mut part, &layout, true, lineno)?;
+        assert!(rt; is_trace(&trace, line, false));
+        let locals = trace.frames.first().and_then(|frame| frame.locals.as_ref());
+        assert!(rt; locals.is_some_and(|locals| locals.is_empty()));
+    }
+    assert_eq!(rt; get_gil_threadid(LOCK, &mut part, &layout), Ok(7));
+    assert_eq!(rt; get_gil_threadid(0, &mut part, &layout), Ok(0));
+    let missing = StackError::Unreadable {
+        addr: LOCK + 8,
+        len: 8,
+    };
+    assert_eq!(rt;
+        get_gil_threadid(LOCK + 8, &mut part, &layout),
+        Err(missing)
+    );
+    Ok(())
+}
+
+/// The system's id, the interpreter's, and how they are shown.
+const IDS: [(Option<u64>, u64, &str); 4] = [
+    (Some(99), 0x7f00, "99"),
+    (Some(0), 1, "0"),
+    (None, 0x7fab_cdef, "0x7FABCDEF"),
+    (None, 0, "0x0"),
+];
+
+/// Whether a thread ran, whether it held the lock, and how that is shown.
+const STATES: [(bool, bool, &str); 4] = [
+    (true, true, "active+gil"),
+    (true, false, "active"),
+    (false, true, "idle"),
+    (false, false, "idle"),
+];
+
+#[test]
+fn ids_and_states_are_shown(rt: HostRuntime) -> Result<(), Fail> {
+    let alloc = rt.alloc();
+    let mut trace = StackTrace {
+        pid: 0,
+        thread_id: 0,
+        thread_name: None,
+        os_thread_id: None,
+        active: true,
+        owns_gil: false,
+        frames: Vec::new(alloc),
+    };
+    for (os, id, want) in &IDS {
+        trace.os_thread_id = *os;
+        trace.thread_id = *id;
+        assert_eq!(rt; trace.format_threadid(alloc)?.as_str(), *want);
+    }
+    for (active, owns_gil, want) in &STATES {
+        trace.active = *active;
+        trace.owns_gil = *owns_gil;
+        assert_eq!(rt; trace.status_str(), *want);
+    }
+    Ok(())
+}

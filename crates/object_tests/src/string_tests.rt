@@ -1,0 +1,198 @@
+//! Texts of each kind and place over pieces of memory, written out by hand.
+use elf64_core::Text;
+use process_memory::{Part, Piece};
+use py_builtins::{ObjectError, copy_string};
+use py_fields::{Layout, StringAt, Strings, is_sound};
+use std::alloc::{AllocError, Global};
+use std::test::Fail;
+
+/// Where the text's object stands.
+const OBJECT: u64 = 0x1000;
+
+/// Where characters that stand apart are.
+const APART: u64 = 0x9000;
+
+/// The size of a text's record in the sample layout: its length is at 16, its state at 32 and its pointer
+/// at 64; short characters begin at 48 and long ones at 72.
+const SIZE: usize = 72;
+
+/// The record of a text.
+fn object(alloc: Global, length: u64, state: u32) -> Result<Vec<u8>, AllocError> {
+    let mut bytes = vec![in alloc; 0u8; 16]?;
+    bytes.extend_from_slice(&length.to_le_bytes())?;
+    bytes.extend_from_slice(&[0; 8])?;
+    bytes.extend_from_slice(&state.to_le_bytes())?;
+    bytes.extend_from_slice(&[0; 28])?;
+    bytes.extend_from_slice(&APART.to_le_bytes())?;
+    Ok(bytes)
+}
+
+/// A text whose characters are these bytes from `at` on. They stand in front of the record.
+fn memory(
+    alloc: Global,
+    length: u64,
+    state: u32,
+    at: u64,
+    characters: &[u8],
+) -> Result<Part, AllocError> {
+    let pieces = vec![in alloc;
+        Piece {
+            start: at,
+            bytes: characters.to_vec(alloc)?
+        },
+        Piece {
+            start: OBJECT,
+            bytes: object(alloc, length, state)?
+        },
+    ]?;
+    Ok(Part::of(alloc, pieces))
+}
+
+fn read(
+    alloc: Global,
+    length: u64,
+    state: u32,
+    at: u64,
+    characters: &[u8],
+) -> Result<Result<Text, ObjectError>, AllocError> {
+    let mut part = memory(alloc, length, state, at, characters)?;
+    Ok(copy_string(alloc, &mut part, &Layout::sample(), OBJECT))
+}
+
+/// The state, the length, where the characters stand and what they are, and the text.
+const TEXTS: [(u32, u64, u64, &[u8], &str); 11] = [
+    // Compact and ASCII.
+    (0x64, 13, OBJECT + 48, b"function_name", "function_name"),
+    // UTF-8, apart.
+    (0x44, 5, APART, b"\xc3\xbcber", "über"),
+    // Latin-1, compact and apart.
+    (0x24, 3, OBJECT + 72, b"f\xfcr", "für"),
+    (0x04, 2, APART, b"\xff\x80", "\u{ff}\u{80}"),
+    // UTF-16: compact, apart with a pair of surrogates, and marked as ASCII.
+    (0x28, 2, OBJECT + 72, b"\x36\x04\xac\x20", "ж€"),
+    (0x08, 3, APART, b"\x3d\xd8\x00\xdea\x00", "😀a"),
+    (0x68, 1, OBJECT + 48, b"\xff\xff", "\u{ffff}"),
+    // UTF-32: compact and apart.
+    (0x30, 2, OBJECT + 72, b"\x00\xf6\x01\x00a\x00\x00\x00", "😀a"),
+    (0x10, 1, APART, b"\xff\xff\x10\x00", "\u{10ffff}"),
+    // No characters, of whatever kind.
+    (0x64, 0, APART, b"", ""),
+    (0x0c, 0, APART, b"", ""),
+];
+
+#[test]
+fn texts_are_read(rt: HostRuntime) -> Result<(), Fail> {
+    let alloc = rt.alloc();
+    for (state, length, at, characters, want) in &TEXTS {
+        let text = read(alloc, *length, *state, *at, characters)??;
+        assert_eq!(rt; text.as_str(), *want);
+    }
+    Ok(())
+}
+
+/// The same, of objects that are no texts.
+const NO_TEXTS: [(u32, u64, &[u8]); 9] = [
+    // Bytes that are not UTF-8.
+    (0x44, 1, b"\xff"),
+    (0x44, 1, b"\xc3"),
+    // A lone surrogate, of either half, and two the wrong way round.
+    (0x08, 2, b"\x3d\xd8a\x00"),
+    (0x08, 1, b"\x00\xde"),
+    (0x08, 2, b"\x00\xde\x3d\xd8"),
+    // Numbers that are no characters.
+    (0x10, 1, b"\x00\x00\x11\x00"),
+    (0x10, 1, b"\x00\xd8\x00\x00"),
+    // Kinds that are none.
+    (0x00, 1, b"a"),
+    (0x0c, 1, b"abc"),
+];
+
+#[test]
+fn what_is_no_text_is_refused(rt: HostRuntime) -> Result<(), Fail> {
+    let alloc = rt.alloc();
+    for (state, length, characters) in &NO_TEXTS {
+        let refused = read(alloc, *length, *state, APART, characters)?;
+        assert!(rt; refused == Err(ObjectError::NoText), "{state:#x}");
+    }
+    for (length, len) in [(4096, 4096), (u64::MAX, -1), (1 << 63, i64::MIN)] {
+        let refused = read(alloc, length, 0x44, APART, b"")?;
+        assert!(rt; refused == Err(ObjectError::TooLong { len }), "{length:#x}");
+    }
+    Ok(())
+}
+
+#[test]
+fn a_text_that_is_cut_is_unreadable(rt: HostRuntime) -> Result<(), Fail> {
+    let alloc = rt.alloc();
+    let mut whole = object(alloc, 3, 0x24)?;
+    whole.extend_from_slice(b"cut")?;
+    for end in 0..whole.len() {
+        let bytes = whole[..end].to_vec(alloc)?;
+        let mut part = Part::of(
+            alloc,
+            vec![in alloc;
+                Piece {
+                    start: OBJECT,
+                    bytes
+                },
+            ]?,
+        );
+        let (addr, len) = if end < SIZE {
+            (OBJECT, 72)
+        } else {
+            (OBJECT + 72, 3)
+        };
+        let refused = copy_string(alloc, &mut part, &Layout::sample(), OBJECT);
+        assert!(rt;
+            refused == Err(ObjectError::Unreadable { addr, len }),
+            "{end}"
+        );
+    }
+    Ok(())
+}
+
+/// The sample layout with texts as bytes: their length is at 16, and they begin at 24.
+fn bytes_layout() -> Layout {
+    let string = StringAt {
+        size: 24,
+        length: 16,
+        state: None,
+        pointer: None,
+        short_at: 24,
+        long_at: None,
+        kind_shift: None,
+        compact_bit: None,
+        ascii_bit: None,
+    };
+    Layout {
+        strings: Strings::Bytes,
+        string,
+        ..Layout::sample()
+    }
+}
+
+#[test]
+fn texts_of_bytes_are_utf8(rt: HostRuntime) -> Result<(), Fail> {
+    let alloc = rt.alloc();
+    let layout = bytes_layout();
+    assert!(rt; is_sound(&layout));
+    for (last, is_text) in [(0xbc, true), (0x62, false)] {
+        let mut bytes = vec![in alloc; 0u8; 16]?;
+        bytes.extend_from_slice(&3u64.to_le_bytes())?;
+        bytes.extend_from_slice(&[0x66, 0xc3, last])?;
+        let mut part = Part::of(
+            alloc,
+            vec![in alloc;
+                Piece {
+                    start: OBJECT,
+                    bytes
+                },
+            ]?,
+        );
+        match copy_string(alloc, &mut part, &layout, OBJECT) {
+            Ok(text) => assert!(rt; is_text && text.as_str() == "fü"),
+            Err(error) => assert!(rt; !is_text && error == ObjectError::NoText),
+        }
+    }
+    Ok(())
+}

@@ -1,0 +1,415 @@
+//! Broken memories, written out by hand: how each chain ends, which interpreters are shown, and that whole chains are
+//! those of a report.
+use elf64_core::{LOAD, Name, Segment};
+use image_memory::CoreMapRange;
+use process_memory::{Part, Piece};
+use py_fields::Layout;
+use py_fronts::{
+    ChainEnd, FramesFront, Fronts, Standing, find_interpreters, get_fronts, get_threads_front,
+};
+use py_process::{BinaryInfo, PythonProcessInfo, get_python_version};
+use py_stacks::{Asked, Config, LineNo, StackTrace, get_stack_traces};
+use std::alloc::{AllocError, Global};
+use std::collections::BTreeMap;
+use std::test::Fail;
+
+/// An interpreter, its first thread, another interpreter, and an address that is in no memory.
+const INTERPRETER: u64 = 0x1000;
+
+const THREAD: u64 = 0x2000;
+
+const OTHER: u64 = 0x1100;
+
+const LOST: u64 = 0x9000;
+
+/// The code of `f` and of `g`; of a member between frames, by the text `<shim>` and by no file name; and of one whose
+/// function name is lost.
+const F: u64 = 0x4000;
+
+const G: u64 = 0x4040;
+
+const SHIM: u64 = 0x4080;
+
+const BARE: u64 = 0x40c0;
+
+const NAMELESS: u64 = 0x4100;
+
+/// Texts.
+const FILE: u64 = 0x5000;
+
+const SHIM_FILE: u64 = 0x5100;
+
+const F_NAME: u64 = 0x5200;
+
+const G_NAME: u64 = 0x5300;
+
+/// First members: of `f` that `g` called, and of chains that are broken, go round, go round without a frame, begin
+/// with the lost name, and have no code.
+const WHOLE: u64 = 0x3000;
+
+const BROKEN: u64 = 0x3080;
+
+const CYCLE: u64 = 0x30c0;
+
+const SKIPPED: u64 = 0x3140;
+
+const NO_NAME: u64 = 0x31c0;
+
+const NO_CODE: u64 = 0x3200;
+
+/// Codes, texts and frames.
+const WORDS: [(u64, &[u64]); 18] = [
+    (F, &[0, 0, 0, 3, FILE, F_NAME, 0, 0]),
+    (G, &[0, 0, 0, 5, FILE, G_NAME, 0, 0]),
+    (SHIM, &[0, 0, 0, 0, SHIM_FILE, F_NAME, 0, 0]),
+    (BARE, &[0, 0, 0, 0, 0, F_NAME, 0, 0]),
+    (NAMELESS, &[0, 0, 0, 0, FILE, LOST, 0, 0]),
+    (FILE, &[0, 0, 4, 0, 100, 0, 0x7970_2e61, 0, 0]),
+    (SHIM_FILE, &[0, 0, 6, 0, 100, 0, 0x3e6d_6968_733c, 0, 0]),
+    (F_NAME, &[0, 0, 1, 0, 100, 0, 0x66, 0, 0]),
+    (G_NAME, &[0, 0, 1, 0, 100, 0, 0x67, 0, 0]),
+    (WHOLE, &[0, 0, F, WHOLE + 64, 0, 0, 0, 0]),
+    (WHOLE + 64, &[0, 0, G, 0, 0, 0, 0, 0]),
+    (BROKEN, &[0, 0, F, LOST, 0, 0, 0, 0]),
+    (CYCLE, &[0, 0, F, CYCLE + 64, 0, 0, 0, 0]),
+    (CYCLE + 64, &[0, 0, G, CYCLE, 0, 0, 0, 0]),
+    (SKIPPED, &[0, 0, SHIM, SKIPPED + 64, 0, 0, 0, 0]),
+    (SKIPPED + 64, &[0, 0, BARE, SKIPPED, 0, 0, 0, 0]),
+    (NO_NAME, &[0, 0, NAMELESS, WHOLE, 0, 0, 0, 0]),
+    (NO_CODE, &[0, 0, LOST, 0, 0, 0, 0, 0]),
+];
+
+/// No such record of a frame, of a code or of a thread is in memory.
+const UNREADABLE: ChainEnd = ChainEnd::Unreadable {
+    addr: LOST,
+    len: 64,
+};
+
+/// How the frames of a thread are shown: the first member, and how many may be met; the names of the first and the
+/// last, with the number between them; how many were met, and the end.
+type Shown = (u64, u64, &'static str, u64, &'static str, u64, ChainEnd);
+
+/// Fronts of at most one first and one last frame, or of both alone.
+const FRAMES: [Shown; 10] = [
+    (WHOLE, 9, "fg", 0, "", 2, ChainEnd::Whole),
+    (WHOLE, 1, "f", 0, "", 1, ChainEnd::Cut),
+    (CYCLE, 2, "fg", 0, "", 2, ChainEnd::Cut),
+    (CYCLE, 3, "f", 1, "f", 3, ChainEnd::Cut),
+    (BROKEN, 9, "f", 0, "", 1, UNREADABLE),
+    (SKIPPED, 9, "", 0, "", 9, ChainEnd::Cut),
+    (NO_NAME, 9, "?", 1, "g", 3, ChainEnd::Whole),
+    (NO_CODE, 9, "", 0, "", 0, UNREADABLE),
+    (LOST, 9, "", 0, "", 0, UNREADABLE),
+    (0, 0, "", 0, "", 0, ChainEnd::Whole),
+];
+
+const ASKED: Asked = Asked {
+    lineno: LineNo::First,
+    locals: false,
+};
+
+fn piece(alloc: Global, start: u64, words: &[u64]) -> Result<Piece, AllocError> {
+    let mut bytes = Vec::new(alloc);
+    for word in words {
+        bytes.extend_from_slice(&word.to_le_bytes())?;
+    }
+    Ok(Piece { start, bytes })
+}
+
+/// A memory of some records, with the codes, texts and frames.
+fn memory(alloc: Global, records: &[(u64, &[u64])]) -> Result<Part, AllocError> {
+    let mut pieces = Vec::new(alloc);
+    for (start, words) in records {
+        pieces.push(piece(alloc, *start, words)?)?;
+    }
+    for (start, words) in &WORDS {
+        pieces.push(piece(alloc, *start, words)?)?;
+    }
+    Ok(Part::of(alloc, pieces))
+}
+
+/// Whether these are the names of some frames, where `?` is a member without one.
+fn are_named(standings: &[Standing], names: &str) -> bool {
+    standings.len() == names.len()
+        && standings.iter().zip(names.as_bytes()).all(|(standing, name)| match standing {
+            Standing::Frame { frame, .. } => frame.name.as_str().as_bytes() == [*name].as_slice(),
+            Standing::Member { .. } => *name == b'?',
+        })
+}
+
+fn is_shown(frames: &FramesFront, row: &Shown) -> bool {
+    let (_, _, first, between, last, met, end) = row;
+    are_named(&frames.first, first)
+        && frames.between == *between
+        && are_named(&frames.last, last)
+        && frames.met == *met
+        && frames.end == *end
+}
+
+#[test]
+fn frames_end_as_their_chain_does(rt: HostRuntime) -> Result<(), Fail> {
+    let alloc = rt.alloc();
+    let layout = Layout::sample();
+    for row in &FRAMES {
+        let thread = [0, 0, INTERPRETER, row.0, 7, 0, 0, 0];
+        let mut part = memory(alloc, &[(THREAD, &thread)])?;
+        let mut left = row.1;
+        let front = get_threads_front(
+            alloc,
+            &mut part,
+            &layout,
+            ASKED,
+            1,
+            INTERPRETER,
+            THREAD,
+            &mut left,
+        )?;
+        assert_eq!(rt; (left, front.threads.len()), (row.1 - row.5, 1));
+        assert!(rt;
+            front
+                .threads
+                .iter()
+                .all(|thread| is_shown(&thread.frames, row)),
+            "at {:#x}",
+            row.0
+        );
+    }
+    Ok(())
+}
+
+/// Threads: of a whole chain, whose next one is lost, is another interpreter's, is itself, and is a frame.
+const NEXT_LOST: u64 = 0x2080;
+
+const NEXT_STRAY: u64 = 0x20c0;
+
+const STRAY: u64 = 0x2100;
+
+const NEXT_ITSELF: u64 = 0x2140;
+
+const NEXT_FRAME: u64 = 0x2180;
+
+const THREADS: [(u64, &[u64]); 7] = [
+    (THREAD, &[0, THREAD + 64, INTERPRETER, WHOLE, 7, 0, 0, 0]),
+    (THREAD + 64, &[0, 0, INTERPRETER, WHOLE + 64, 8, 0, 0, 0]),
+    (NEXT_LOST, &[0, LOST, INTERPRETER, 0, 9, 0, 0, 0]),
+    (NEXT_STRAY, &[0, STRAY, INTERPRETER, 0, 9, 0, 0, 0]),
+    (STRAY, &[0, 0, OTHER, 0, 9, 0, 0, 0]),
+    (NEXT_ITSELF, &[0, NEXT_ITSELF, INTERPRETER, 0, 9, 0, 0, 0]),
+    (NEXT_FRAME, &[0, WHOLE, INTERPRETER, 0, 9, 0, 0, 0]),
+];
+
+/// A first thread, how many are shown from it on, and how they end.
+const CHAINS: [(u64, usize, ChainEnd); 7] = [
+    (THREAD, 2, ChainEnd::Whole),
+    (NEXT_LOST, 1, UNREADABLE),
+    (NEXT_STRAY, 1, ChainEnd::Stray { interpreter: OTHER }),
+    (STRAY, 0, ChainEnd::Stray { interpreter: OTHER }),
+    (NEXT_ITSELF, 4096, ChainEnd::Cut),
+    (NEXT_FRAME, 1, ChainEnd::Stray { interpreter: F }),
+    (0, 0, ChainEnd::Whole),
+];
+
+#[test]
+fn threads_end_as_their_chain_does(rt: HostRuntime) -> Result<(), Fail> {
+    let alloc = rt.alloc();
+    let layout = Layout::sample();
+    let mut part = memory(alloc, &THREADS)?;
+    for (head, count, end) in CHAINS {
+        let mut left = 9;
+        let front = get_threads_front(
+            alloc,
+            &mut part,
+            &layout,
+            ASKED,
+            1,
+            INTERPRETER,
+            head,
+            &mut left,
+        )?;
+        assert_eq!(rt;
+            (front.threads.len(), front.end),
+            (count, end),
+            "at {head:#x}"
+        );
+    }
+    Ok(())
+}
+
+/// Interpreters: two whose first thread is the same one, which names the first of them; one that the record of the
+/// first names; one with a whole chain of threads, one with a broken one, and one that has none any more.
+const TWIN: u64 = 0x1200;
+
+const LISTED: u64 = 0x1300;
+
+const SINGLE: u64 = 0x1400;
+
+const TORN: u64 = 0x1500;
+
+const OVER: u64 = 0x1600;
+
+const INTERPRETERS: [(u64, &[u64]); 10] = [
+    (INTERPRETER, &[LISTED, THREAD]),
+    (THREAD, &[0, 0, INTERPRETER, WHOLE, 7, 0, 0, 0]),
+    (TWIN, &[0, THREAD]),
+    (LISTED, &[0, 0x2200]),
+    (0x2200, &[0, 0, LISTED, BROKEN, 8, 0, 0, 0]),
+    (SINGLE, &[0, 0x2300]),
+    (0x2300, &[0, 0, SINGLE, 0, 9, 0, 0, 0]),
+    (TORN, &[0, 0x2400]),
+    (0x2400, &[0, LOST, TORN, 0, 10, 0, 0, 0]),
+    (OVER, &[LISTED, 0]),
+];
+
+/// The words of the runtime section, of which the fifth is the head, and of the bss of a program.
+const RUNTIME: u64 = 0x50_0000;
+
+const BSS: u64 = 0x60_0000;
+
+/// Words of both, and the interpreters that are found, with whether by search alone: the head has threads, a broken
+/// chain of them, none at all, another's, and none but a record that names one.
+const SEARCHES: [(&[u64], &[u64], &[(u64, bool)]); 5] = [
+    (
+        &[0, 0, 0, 0, INTERPRETER, TWIN, INTERPRETER],
+        &[OVER, SINGLE, INTERPRETER],
+        &[(INTERPRETER, false), (LISTED, false), (SINGLE, true)],
+    ),
+    (&[0, 0, 0, 0, TORN], &[TORN], &[(TORN, false)]),
+    (&[TORN, 0, 0, 0, 0], &[TORN, TWIN, 0, LOST], &[]),
+    (
+        &[INTERPRETER, 0, 0, 0, TWIN],
+        &[INTERPRETER],
+        &[(INTERPRETER, true), (LISTED, false)],
+    ),
+    (
+        &[0, 0, 0, 0, OVER, SINGLE],
+        &[],
+        &[(LISTED, false), (SINGLE, true)],
+    ),
+];
+
+/// A process of a program with so many words in both sections, and of one map.
+fn info(
+    alloc: Global,
+    runtime: &[u64],
+    bss: &[u64],
+) -> Result<PythonProcessInfo<Vec<CoreMapRange>>, AllocError> {
+    let mut symbols = BTreeMap::new(alloc);
+    let mut name = Vec::new(alloc);
+    name.extend_from_slice(b"_PyRuntime")?;
+    symbols.insert(name, RUNTIME)?;
+    let program = BinaryInfo {
+        symbols,
+        bss_addr: BSS,
+        bss_size: 8 * bss.len() as u64,
+        pyruntime_addr: RUNTIME,
+        pyruntime_size: 8 * runtime.len() as u64,
+        addr: 0x40_0000,
+        size: 0x1000,
+    };
+    let segment = Segment {
+        kind: LOAD,
+        flags: 6,
+        offset: 0,
+        addr: INTERPRETER,
+        file_size: 0,
+        mem_size: 0x1_0000,
+    };
+    let map = CoreMapRange {
+        pathname: None,
+        segment,
+    };
+    Ok(PythonProcessInfo {
+        python_binary: Some(program),
+        libpython_binary: None,
+        maps: vec![in alloc; map]?,
+        python_filename: Name::of(alloc, b"/usr/bin/python3.9")?,
+    })
+}
+
+#[test]
+fn interpreters_are_found_in_order(rt: HostRuntime) -> Result<(), Fail> {
+    let alloc = rt.alloc();
+    let layout = Layout::sample();
+    for (runtime, bss, wanted) in &SEARCHES {
+        let mut records = Vec::new(alloc);
+        records.extend_from_slice(&INTERPRETERS)?;
+        records.push((RUNTIME, *runtime))?;
+        records.push((BSS, *bss))?;
+        let mut part = memory(alloc, &records)?;
+        let info = info(alloc, runtime, bss)?;
+        let version = get_python_version(alloc, &info, &mut part)?;
+        let finds = find_interpreters(alloc, &info, &mut part, &version, &layout)?;
+        let same = finds.found.iter().map(|one| (one.address, one.searched));
+        assert!(rt; same.eq(wanted.iter().copied()));
+        assert!(rt; !finds.more);
+    }
+    Ok(())
+}
+
+/// Whether the frames of a front are all those of a trace.
+fn is_trace_of(frames: &FramesFront, trace: &StackTrace) -> bool {
+    frames.end == ChainEnd::Whole
+        && frames.between == 0
+        && frames.first.len() == trace.frames.len()
+        && frames.first.iter().zip(&trace.frames).all(|(standing, frame)| match standing {
+            Standing::Frame { frame: shown, .. } => shown == frame,
+            Standing::Member { .. } => false,
+        })
+}
+
+/// Whether the only interpreter of some fronts has these threads.
+fn are_fronts_of(fronts: &Fronts, traces: &[StackTrace]) -> bool {
+    let [one] = fronts.interpreters.as_slice() else {
+        return false;
+    };
+    one.threads.end == ChainEnd::Whole
+        && one.threads.threads.len() == traces.len()
+        && one.threads.threads.iter().zip(traces).all(|(thread, trace)| {
+            thread.thread_id == trace.thread_id && is_trace_of(&thread.frames, trace)
+        })
+}
+
+#[test]
+fn whole_fronts_are_a_report(rt: HostRuntime) -> Result<(), Fail> {
+    let alloc = rt.alloc();
+    let layout = Layout::sample();
+    let mut records = Vec::new(alloc);
+    records.extend_from_slice(&THREADS)?;
+    records.push((INTERPRETER, &[0, THREAD]))?;
+    records.push((RUNTIME, &[INTERPRETER]))?;
+    let mut part = memory(alloc, &records)?;
+    let info = info(alloc, &[INTERPRETER], &[])?;
+    let version = get_python_version(alloc, &info, &mut part)?;
+    let fronts = get_fronts(alloc, &info, &mut part, &version, &layout, ASKED, 9)?;
+    let config = Config {
+        lineno: LineNo::First,
+        ..Config::default()
+    };
+    let traces = get_stack_traces(alloc, INTERPRETER, &mut part, &layout, 0, Some(&config))?;
+    assert!(rt; traces.len() == 2 && are_fronts_of(&fronts, &traces));
+    Ok(())
+}
+
+/// So many interpreters, of which the first word of each names the next one.
+#[test]
+fn at_most_sixteen_are_shown(rt: HostRuntime) -> Result<(), Fail> {
+    let alloc = rt.alloc();
+    let layout = Layout::sample();
+    for (count, more) in [(16, false), (17, true)] {
+        let mut pieces = Vec::new(alloc);
+        for number in 0..count {
+            let addr = INTERPRETER + number * 0x100;
+            let thread = addr + 0x40;
+            let next = if number + 1 < count { addr + 0x100 } else { 0 };
+            pieces.push(piece(alloc, addr, &[next, thread])?)?;
+            pieces.push(piece(alloc, thread, &[0, 0, addr, 0, 7, 0, 0, 0])?)?;
+        }
+        pieces.push(piece(alloc, RUNTIME, &[INTERPRETER])?)?;
+        let mut part = Part::of(alloc, pieces);
+        let info = info(alloc, &[INTERPRETER], &[])?;
+        let version = get_python_version(alloc, &info, &mut part)?;
+        let finds = find_interpreters(alloc, &info, &mut part, &version, &layout)?;
+        assert_eq!(rt; (finds.found.len(), finds.more), (16, more));
+    }
+    Ok(())
+}

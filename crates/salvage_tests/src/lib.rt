@@ -1,0 +1,9 @@
+//! Tests of fronts of broken chains, of their marks and their texts.
+#![tactic(auto)]
+
+#[cfg(test)]
+mod front_tests;
+#[cfg(test)]
+mod mark_tests;
+#[cfg(test)]
+mod text_tests;
