@@ -8,6 +8,7 @@ pub mod Shown
 pub mod EndsShown
 pub mod ThreadSteps
 pub mod ThreadsLaws
+pub mod IdleSteps
 pub mod CandidateSteps
 pub mod HeadSteps
 pub mod FindSteps
