@@ -3,6 +3,8 @@ pub mod Meets
 pub mod Splits
 pub mod FirstFrameLaws
 pub mod FirstThreadLaws
+pub mod RecordWords
+pub mod HiddenTexts
 pub mod Steps
 pub mod Shown
 pub mod EndsShown
