@@ -1,4 +1,4 @@
-use Rattle.std.proofs.Common.{arith, get_or, length, take, ◌≤◌, ◌+◌, ◌≡◌}
+use Rattle.std.proofs.Common.{arith, get_or, length, take, ◌≤◌, ◌+◌}
 use Rattle.std.proofs.lemmas.List.{length-take-le, take_all, take_more}
 use Rattle.std.proofs.lemmas.Result.{err_from_is_err_and}
 use Rattle.py_fronts.proofs.IdleSteps.{leading_done, leading_init, leading_lost, leading_more}
