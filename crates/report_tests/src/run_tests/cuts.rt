@@ -63,7 +63,12 @@ fn cores_that_are_opened_are_cut(rt: HostRuntime) -> Result<(), Fail> {
 
 #[test]
 fn groups_and_objects_have_cores_that_are_cut(rt: HostRuntime) -> Result<(), Fail> {
-    cut_cores(&rt, rt.alloc(), &ROWS[6..])
+    cut_cores(&rt, rt.alloc(), &ROWS[6..8])
+}
+
+#[test]
+fn broken_processes_have_cores_that_are_cut(rt: HostRuntime) -> Result<(), Fail> {
+    cut_cores(&rt, rt.alloc(), &ROWS[8..])
 }
 
 /// Cuts the image of a command at each length but its own.
@@ -101,5 +106,10 @@ fn walks_dumps_and_merges_have_images_that_are_cut(rt: HostRuntime) -> Result<()
 
 #[test]
 fn other_commands_have_images_that_are_cut(rt: HostRuntime) -> Result<(), Fail> {
-    cut_images(&rt, rt.alloc(), &ROWS[4..])
+    cut_images(&rt, rt.alloc(), &ROWS[4..8])
+}
+
+#[test]
+fn broken_processes_have_images_that_are_cut(rt: HostRuntime) -> Result<(), Fail> {
+    cut_images(&rt, rt.alloc(), &ROWS[8..])
 }
