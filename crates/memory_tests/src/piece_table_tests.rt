@@ -73,25 +73,32 @@ fn found<L: Ledger>(table: &PieceTable, addr: u64, blank: Blank) -> Option<FileR
     table.find(addr, &mut steps)
 }
 
+/// Whether the piece at an address is this one, counted or not.
+fn is_piece(table: &PieceTable, addr: u64, row: Option<&Row>) -> bool {
+    let want = row.map(range_of);
+    table.at(addr) == want && found::<Brand>(table, addr, Blank::new(1)) == want
+}
+
+fn is_run(table: &PieceTable, run: &Run) -> bool {
+    let want = match run.2 {
+        Some((file, start, size)) => Some(FileRun { file, start, size }),
+        None => None,
+    };
+    table.run(run.0, run.1) == want
+}
+
 #[test]
 fn an_earlier_range_wins(rt: HostRuntime) -> Result<(), Fail> {
     let alloc = rt.alloc();
     let first = PieceTable::of(alloc, ranges_of(alloc, &FIRST)?)?;
-    assert_eq!(rt; first.len(), 2);
+    assert!(rt; first.len() == 2);
     let table = first.followed_by(alloc, &ranges_of(alloc, &OTHERS)?)?;
-    assert_eq!(rt; table.len(), 5);
+    assert!(rt; table.len() == 5);
     for (addr, row) in &PIECES {
-        let want = row.as_ref().map(range_of);
-        assert_eq!(rt; table.at(*addr), want, "{addr:#x}");
-        assert_eq!(rt;
-            found::<Brand>(&table, *addr, Blank::new(1)),
-            want,
-            "{addr:#x}"
-        );
+        assert!(rt; is_piece(&table, *addr, row.as_ref()), "{addr:#x}");
     }
-    for (addr, len, row) in RUNS {
-        let want = row.map(|(file, start, size)| FileRun { file, start, size });
-        assert_eq!(rt; table.run(addr, len), want, "{addr:#x}");
+    for run in &RUNS {
+        assert!(rt; is_run(&table, run), "{:#x}", run.0);
     }
     Ok(())
 }

@@ -59,7 +59,7 @@ const FILES: u32 = 0x46494c45;
 /// A file table of one entry, in a page of which an image is mapped from its start on.
 fn table_of(alloc: Global, start: u64, name: &[u8]) -> Result<Vec<u8>, AllocError> {
     let mut table = 1u64.to_le_bytes().to_vec(alloc)?;
-    for number in [4096, start, start.saturating_add(4096), 0] {
+    for number in &[4096, start, start.saturating_add(4096), 0] {
         table.extend_from_slice(&number.to_le_bytes())?;
     }
     table.extend_from_slice(name)?;
@@ -186,19 +186,26 @@ fn has_pieces(core: &CoreDump, pieces: &[(u64, &[u8])]) -> bool {
     true
 }
 
+/// Whether a core has one segment of notes, of 88 bytes.
+fn has_notes(core: &CoreDump) -> bool {
+    match core.note_segment(0) {
+        Some(notes) => notes.len() == 88 && core.note_segment(1).is_none(),
+        None => false,
+    }
+}
+
+/// Whether the slim core of ranges of the core of six segments has these pieces, and its notes.
+fn are_joined(alloc: Global, rows: &[(u64, u64)], pieces: &[(u64, &[u8])]) -> Result<bool, Fail> {
+    let dump = dump_of_six(alloc)?;
+    let ranges = ranges_of(alloc, rows)?;
+    let core = CoreDump::new(alloc, slim_held(alloc, &dump, &ranges)?)?;
+    Ok(has_pieces(&core, pieces) && has_notes(&core))
+}
+
 #[test]
 fn pieces_are_joined(rt: HostRuntime) -> Result<(), Fail> {
-    let alloc = rt.alloc();
-    let dump = dump_of_six(alloc)?;
-    for (rows, pieces) in ROWS {
-        let ranges = ranges_of(alloc, rows)?;
-        let core = CoreDump::new(alloc, slim_held(alloc, &dump, &ranges)?)?;
-        assert!(rt; has_pieces(&core, pieces));
-        match core.note_segment(0) {
-            Some(notes) => assert_eq!(rt; notes.len(), 88),
-            None => assert!(rt; false),
-        }
-        assert!(rt; core.note_segment(1).is_none());
+    for (rows, pieces) in &ROWS {
+        assert!(rt; are_joined(rt.alloc(), rows, pieces)?);
     }
     Ok(())
 }
@@ -264,15 +271,21 @@ fn slim_files(alloc: Global) -> Result<(Vec<u8>, Vec<u8>), AllocError> {
     Ok((two, none))
 }
 
+/// Whether the slim core of ranges of the large core is this file.
+fn is_slimmed(alloc: Global, rows: &[(u64, u64)], file: &[u8]) -> Result<bool, Fail> {
+    let dump = large_dump(alloc)?;
+    let ranges = ranges_of(alloc, rows)?;
+    let slimmed = slim_held(alloc, &dump, &ranges)?;
+    Ok(slimmed.as_slice() == file)
+}
+
 #[test]
 fn each_byte_has_its_place(rt: HostRuntime) -> Result<(), Fail> {
     let alloc = rt.alloc();
-    let dump = large_dump(alloc)?;
     let (two, none) = slim_files(alloc)?;
-    assert_eq!(rt; (two.len(), none.len()), (352, 200));
-    let ranges = ranges_of(alloc, &TOUCHING)?;
-    assert!(rt; slim_held(alloc, &dump, &ranges)? == two);
-    assert!(rt; slim_held(alloc, &dump, &[])? == none);
+    assert!(rt; two.len() == 352 && none.len() == 200);
+    assert!(rt; is_slimmed(alloc, &TOUCHING, &two)?);
+    assert!(rt; is_slimmed(alloc, &[], &none)?);
     Ok(())
 }
 
@@ -290,16 +303,20 @@ fn apart(alloc: Global, count: u64) -> Result<Vec<Span>, AllocError>
     Ok(ranges)
 }
 
+/// Why there is no slim core of so many ranges, of which none touch.
+fn fault_of(alloc: Global, count: u64) -> Result<Option<SlimError>, Fail>
+    requires { count < 2 ^ 32 }
+{
+    let dump = large_dump(alloc)?;
+    let ranges = apart(alloc, count)?;
+    Ok(slim_held(alloc, &dump, &ranges).err())
+}
+
 #[test]
 fn pieces_are_counted(rt: HostRuntime) -> Result<(), Fail> {
     let alloc = rt.alloc();
-    let dump = large_dump(alloc)?;
-    let most = apart(alloc, 65_533)?;
-    assert!(rt; slim_held(alloc, &dump, &most).is_ok());
-    let more = apart(alloc, 65_534)?;
-    match slim_held(alloc, &dump, &more) {
-        Err(error) => assert!(rt; error == SlimError::TooManyPieces { count: 65_534 }),
-        Ok(_bytes) => assert!(rt; false),
-    }
+    assert!(rt; fault_of(alloc, 65_533)?.is_none());
+    let more = SlimError::TooManyPieces { count: 65_534 };
+    assert!(rt; fault_of(alloc, 65_534)? == Some(more));
     Ok(())
 }

@@ -46,37 +46,69 @@ fn counted<L: Ledger>(alloc: Global, blank: Blank) -> Result<Report, Fail>
     Ok(report_counted(alloc, core(alloc)?, &images, &layouts, &config, &mut steps)?)
 }
 
+/// How many threads the report of the core has.
+fn reported(alloc: Global) -> Result<usize, Fail> {
+    let (images, layouts) = (images(alloc)?, layouts(alloc)?);
+    let plain = report(alloc, core(alloc)?, &images, &layouts, &Config::default())?;
+    Ok(plain.traces.len())
+}
+
 #[test]
 fn reports_counted_or_not(rt: HostRuntime) -> Result<(), Fail> {
     let alloc = rt.alloc();
-    let (images, layouts) = (images(alloc)?, layouts(alloc)?);
-    let plain = report(alloc, core(alloc)?, &images, &layouts, &Config::default())?;
+    assert!(rt; reported(alloc)? == 1);
     let counted = counted::<Brand>(alloc, Blank::new(1))?;
-    assert!(rt; plain.traces.len() == 1 && counted.traces.len() == 1);
+    assert!(rt; counted.traces.len() == 1);
     Ok(())
+}
+
+/// The process of the core, opened.
+fn opened(alloc: Global) -> Result<PythonCoreDump, Fail> {
+    let core = CoreDump::new(alloc, core(alloc)?)?;
+    Ok(PythonCoreDump::new(alloc, core, &images(alloc)?, &layouts(alloc)?)?)
+}
+
+/// How many threads its stacks have.
+fn stacked(python: &PythonCoreDump) -> Result<usize, Fail> {
+    Ok(python.get_stack(&Config::default())?.len())
+}
+
+/// How many threads its footprint has, and how many ranges.
+fn walked(python: &PythonCoreDump) -> Result<(usize, usize), Fail> {
+    let (traces, ranges) = python.footprint(&Config::default())?;
+    Ok((traces.len(), ranges.len()))
+}
+
+/// What is printed of its stacks.
+fn printed(alloc: Global, python: &PythonCoreDump) -> Result<MemorySink, Fail> {
+    let config = Config::default();
+    let traces = python.get_stack(&config)?;
+    let mut out = MemorySink::new(alloc, 100, Vec::new(alloc))?;
+    python.print_traces(&mut out, b"core", &traces, &config)?;
+    Ok(out)
 }
 
 #[test]
 fn a_process_that_is_opened(rt: HostRuntime) -> Result<(), Fail> {
     let alloc = rt.alloc();
-    let core = CoreDump::new(alloc, core(alloc)?)?;
-    let python = PythonCoreDump::new(alloc, core, &images(alloc)?, &layouts(alloc)?)?;
-    let config = Config::default();
-    let traces = python.get_stack(&config)?;
-    let (walked, ranges) = python.footprint(&config)?;
-    assert!(rt; walked.len() == traces.len() && ranges.len() > 0);
-    let mut out = MemorySink::new(alloc, 100, Vec::new(alloc))?;
-    python.print_traces(&mut out, b"core", &traces, &config)?;
-    assert_eq!(rt; out.bytes(), TEXT);
+    let python = opened(alloc)?;
+    let (threads, ranges) = walked(&python)?;
+    assert!(rt; stacked(&python)? == 1 && threads == 1 && ranges > 0);
+    assert_eq!(rt; printed(alloc, &python)?.bytes(), TEXT);
     Ok(())
+}
+
+/// The process of the core, by addresses that are handed in.
+fn opened_at(alloc: Global, addresses: Addresses) -> Result<PythonCoreDump, Fail> {
+    let core = CoreDump::new(alloc, core(alloc)?)?;
+    let version = Version::of_numbers(alloc, 3, 9, 0)?;
+    let layouts = layouts(alloc)?;
+    Ok(PythonCoreDump::with_addresses(alloc, core, &layouts, version, addresses)?)
 }
 
 #[test]
 fn addresses_that_are_handed_in(rt: HostRuntime) -> Result<(), Fail> {
-    let alloc = rt.alloc();
-    let core = CoreDump::new(alloc, core(alloc)?)?;
-    let version = Version::of_numbers(alloc, 3, 9, 0)?;
-    let python = PythonCoreDump::with_addresses(alloc, core, &layouts(alloc)?, version, ADDRESSES)?;
-    assert_eq!(rt; python.get_stack(&Config::default())?.len(), 1);
+    let python = opened_at(rt.alloc(), ADDRESSES)?;
+    assert!(rt; stacked(&python)? == 1);
     Ok(())
 }

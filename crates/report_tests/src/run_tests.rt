@@ -189,18 +189,44 @@ struct Ran {
     err: MemorySink,
 }
 
+/// Holds the first so many bytes of a file under a name.
+fn hold(
+    alloc: Global,
+    held: &mut Vec<(Name, Vec<u8>)>,
+    name: &[u8],
+    mut bytes: Vec<u8>,
+    length: usize,
+) -> Result<(), AllocError> {
+    bytes.truncate(length);
+    held.push((Name::of(alloc, name)?, bytes))?;
+    Ok(())
+}
+
 fn files(alloc: Global, trial: &Trial<'_>) -> Result<MemoryFiles, AllocError> {
-    let mut cut_core = core(alloc)?;
-    cut_core.truncate(trial.core_length);
-    let mut cut_image = image(alloc)?;
-    cut_image.truncate(trial.image_length);
-    let held = vec![in alloc;
-        (Name::of(alloc, b"core")?, cut_core),
-        (Name::of(alloc, b"copy")?, core(alloc)?),
-        (Name::of(alloc, b"layouts")?, SAMPLE.to_vec(alloc)?),
-        (Name::of(alloc, b"image")?, cut_image),
-        (Name::of(alloc, b"addresses")?, ADDRESSES.to_vec(alloc)?),
-    ]?;
+    let mut held = Vec::new(alloc);
+    hold(alloc, &mut held, b"core", core(alloc)?, trial.core_length)?;
+    hold(alloc, &mut held, b"copy", core(alloc)?, usize::MAX)?;
+    hold(
+        alloc,
+        &mut held,
+        b"layouts",
+        SAMPLE.to_vec(alloc)?,
+        usize::MAX,
+    )?;
+    hold(
+        alloc,
+        &mut held,
+        b"image",
+        image(alloc)?,
+        trial.image_length,
+    )?;
+    hold(
+        alloc,
+        &mut held,
+        b"addresses",
+        ADDRESSES.to_vec(alloc)?,
+        usize::MAX,
+    )?;
     let mut failing = Vec::new(alloc);
     if let Some(call) = trial.failing_read {
         failing.push(call)?;
