@@ -21,8 +21,10 @@ fn layouts(alloc: Global) -> Result<Layouts, Fail> {
 }
 
 fn images(alloc: Global) -> Result<Images, Fail> {
+    let name = Name::of(alloc, PATH)?;
+    let image = Mmap::of(alloc, image(alloc)?)?;
     let mut images = Images::new(alloc);
-    images.push(Name::of(alloc, PATH)?, Mmap::of(alloc, image(alloc)?)?)?;
+    images.push(name, image)?;
     Ok(images)
 }
 
