@@ -1,7 +1,8 @@
-"""Runs in gdb: a program again and again, where one call of a growth, a read or a write answers otherwise than it would.
+"""Runs in gdb: a program again and again, in which one call of a growth, a read or a write answers otherwise.
 
 What is to be done comes as JSON in the file that GROWTHS names: the arguments, a file for what is printed and one for
-what is said, the folder, and which faults. What came of each run is added to its file `answers`, as lines of JSON.
+what is said, one that has the whole text, the folder, and which faults. What came of each run is added to its file
+`answers`, as lines of JSON, with null for the whole text.
 """
 
 import json
@@ -62,8 +63,11 @@ def main():
     """All the runs that are asked for."""
     with open(os.environ["GROWTHS"], encoding="utf-8") as file:
         task = json.load(file)
-    for line in ("pagination off", "confirm off", "breakpoint pending off", f"cwd {task['folder']}", "environment LC_ALL C"):
+    folder = f"cwd {task['folder']}"
+    for line in ("pagination off", "confirm off", "breakpoint pending off", folder, "environment LC_ALL C"):
         gdb.execute(f"set {line}")
+    with open(task["whole"], "rb") as file:
+        whole = file.read()
     with open(task["answers"], "w", encoding="utf-8") as answers:
         for call, fault, first, step in task["faults"]:
             nth = first
@@ -73,8 +77,9 @@ def main():
                 if not came:
                     break
                 with open(task["out"], "rb") as out, open(task["said"], "rb") as said:
-                    texts = out.read().decode("latin-1"), said.read().decode("latin-1")
-                answers.write(json.dumps([call, fault, nth, status, *texts]) + "\n")
+                    text, line = out.read(), said.read().decode("latin-1")
+                shown = None if text == whole else text.decode("latin-1")
+                answers.write(json.dumps([call, fault, nth, status, shown, line]) + "\n")
                 nth += step
 
 
