@@ -237,9 +237,13 @@ def fault_of_reach(run: Run, out: bytes) -> Optional[str]:
 
 
 def fault_of_slim(run: Run, out: bytes) -> Optional[str]:
-    """A small core has nothing but pieces of the core."""
+    """A small core has nothing but pieces of the core, and the same walk, where one over the core needs no images."""
     check_slim(Path(run.folder, run.words[1]).read_bytes(), out)
-    return None
+    Path(run.folder, "small").write_bytes(out)
+    located = run.again("locate", *run.words[1:3], *run.words[4:])
+    version, interpreter, lock = (line.split(b" ")[-1].decode() for line in located.out.splitlines())
+    walks = [run.again("walk", name, run.words[2], version[1:], interpreter, lock) for name in (run.words[1], "small")]
+    return None if walks[0].status or walks[0] == walks[1] else f"a walk over it is another one: {walks[1].said!r}"
 
 
 def fault_of_sample(run: Run, out: bytes) -> Optional[str]:
@@ -314,17 +318,22 @@ class Case:
     told: Optional[Told] = None
 
 
+def is_quick(row: Row) -> bool:
+    """Whether there are files, neither many nor long ones, and no ring of frames, which takes a second or two."""
+    return 0 < len(row.files) < 20 and max(map(len, row.files.values())) < 300_000 and b" members\n" not in row.out
+
+
 def rows_of(part: Part) -> List[Row]:
     """The rows with which the cases begin."""
     if part.command == "sample":
         cores = [ran(part.program, ["sample", str(part.seed + nth), "core"], "/").out for nth in range(3)]
         return [row("a made-up core", "walk core sample 3.9.0 0x600000 0", {"core": it}) for it in cores]
-    return [it for it in COMMANDS[part.command]()
-            if it.status == 0 and it.memory is None and not it.lengths and 0 < len(it.files) < 20]
+    rows = [it for it in COMMANDS[part.command]() if it.status == 0 and it.memory is None and not it.lengths]
+    return [it for it in rows if is_quick(it)]
 
 
 def case_of(part: Part, number: int, rows: Sequence[Row]) -> Case:
-    """A case by its number: one of which the rules tell the answer, or a row, of whose words and files one is changed."""
+    """A case by its number: one of which the rules tell the answer, or a row with a change of a word or of a file."""
     random = Random(f"{part.command} {part.seed} {number}")
     if part.command in TOLD and number % (2 if part.command == "sample" else 8) == 0:
         told = random.choice(TOLD[part.command])(random, part.command)

@@ -3,12 +3,12 @@
 import re
 from dataclasses import dataclass
 from random import Random
-from typing import Callable, Dict, Optional, Tuple
+from typing import Callable, Dict, Iterator, Optional, Tuple
 
 from changes import Files, changed_word
-from made import Objects, Segment, core_file, image_file
+from made import EXAMPLE, Objects, Segment, core_file, edited, image_file
 from row import CALLER, CODE, FRAME, HEAP, MODULE_CODE, TEXT, THREAD, heap
-from rows_dump import BSS, GOOD, PROGRAM, bss, files_of, mapped, small
+from rows_dump import BSS, GOOD, PROGRAM, bss, files_of, line_row, mapped, small
 from rows_reach import GOOD as REACH
 from rows_slim import LOCATE, SLIM
 from sample_cores import LARGEST, counts_text
@@ -113,6 +113,48 @@ def overlapped(random: Random, command: str) -> Told:
     return Told(WORDS[command], files_of(core_file([*maps, mapped(), bss()])), 0, out=text.encode())
 
 
+FIRST_LINE = 10_000
+
+
+def entries_of(table: bytes) -> Iterator[Tuple[int, int]]:
+    """The entries that a line table has whole, of two bytes each: a step, and a difference of lines."""
+    for step, delta in zip(table[::2], table[1::2]):
+        yield step, delta - 256 if delta > 127 else delta
+
+
+def line_of_pairs(table: bytes, instruction: int) -> Optional[int]:
+    """The line of an instruction by pairs: that of the last entry which isn't behind it."""
+    at, line = 0, FIRST_LINE
+    for step, delta in entries_of(table):
+        at += step
+        if at > instruction:
+            break
+        line += delta
+    return line
+
+
+def line_of_ranges(table: bytes, instruction: int) -> Optional[int]:
+    """The line of an instruction by ranges: that of the entry which has it, and none where its difference is -128."""
+    at, line = 0, FIRST_LINE
+    for step, delta in entries_of(table):
+        line += 0 if delta == -128 else delta
+        if at <= instruction < at + step:
+            return None if delta == -128 else line
+        at += step
+    return None
+
+
+def cut_table(random: Random, command: str) -> Told:
+    """A line table of any bytes, and so one that is cut anywhere, tells the lines of the entries that it has whole."""
+    family, line_of = random.choice((("pairs", line_of_pairs), ("ranges", line_of_ranges)))
+    table = bytes(random.randrange(256) for _ in range(random.choice((0, 1, 2, 3, 7, 8, 40))))
+    instruction = random.randrange(random.choice((1, 300, 3000)))
+    line = line_of(table, instruction)
+    layouts = edited(EXAMPLE, lines=f'"{family}"')
+    it = line_row("", layouts, FIRST_LINE, table, instruction, "" if line is None else f":{line}")
+    return Told(it.words, it.files, 0, out=it.out)
+
+
 # ---- of `sample`, which reads no file
 
 
@@ -142,6 +184,6 @@ def sampled(random: Random, command: str) -> Told:
 BEFORE_STACKS: Tuple[Teller, ...] = (cut, cut_image, large_bss, ring, torn)
 
 TELLERS: Dict[str, Tuple[Teller, ...]] = {
-    "dump": (*BEFORE_STACKS, unnamed, overlapped), "walk": (cut, ring, torn, unnamed, overlapped),
+    "dump": (*BEFORE_STACKS, unnamed, overlapped, cut_table), "walk": (cut, ring, torn, unnamed, overlapped),
     "reach": BEFORE_STACKS, "locate": BEFORE_STACKS, "slim": BEFORE_STACKS, "sample": (sampled,)}
 """What is told of each command."""
