@@ -89,13 +89,16 @@ class Kind:
 def kinds(objects: Objects, random: Random) -> List[Kind]:
     """Codes of frames that are shown, of members that are left out, and of members without names."""
     gone, length = nowhere(random), random.choice((-1, -(2 ** 63), 4096, 2 ** 63 - 1))
-    long = objects.text("x")
+    long, odd = objects.text("x"), objects.text("x")
     objects.word(long + objects.group("string")["length"], length)
+    # (a compact text with characters of three bytes each, which CPython has not)
+    objects.word(odd + objects.group("string")["state"], 1 << 5 | 3 << 2)
     shim = objects.record("code", None, filename=objects.text("<shim>"), name=FUNCTION)
     empty = objects.record("code", None, filename=objects.text(""), name=FUNCTION)
     nameless = objects.record("code", None, filename=0, name=FUNCTION)
     found = [Kind(CODE, TWO[0]), Kind(MODULE_CODE, TWO[1]), *(Kind(it, None) for it in (shim, empty, nameless))]
-    for bad, why in ((gone, lost(gone, "string")), (long, {"kind": "too long", "length": length})):
+    whys = (gone, lost(gone, "string")), (long, {"kind": "too long", "length": length}), (odd, {"kind": "no text"})
+    for bad, why in whys:
         for file, name in ((FILE, bad), (bad, FUNCTION)):
             found.append(Kind(objects.record("code", None, filename=file, name=name), {"why": why}))
     return found
