@@ -210,6 +210,28 @@ class Salvage(unittest.TestCase):
         self.assertEqual([it["gil"] for it in marked["threads"]], [False, True, False, False, False])
 
 
+class Tellers(unittest.TestCase):
+    """What the rules tell."""
+
+    def test_all(self):
+        for command, tellers in fuzz.TOLD.items():
+            for teller in set(tellers):
+                found = [teller(Random(f"{teller.__name__} {seed}"), command) for seed in range(30)]
+                self.assertGreater(len({(it.words, tuple(sorted(it.files.items()))) for it in found}), 2, teller)
+                self.assertTrue(all((it.status == 0) != bool(it.line) for it in found), teller)
+                for it in found if command == "pysalvage" else ():
+                    if "-j" in it.words and it.out:
+                        salvage_text.tree_of(it.out, fuzz.frames_asked(it.words))
+
+    def test_lines(self):
+        table = bytes((0, 1, 10, 1, 8, 255, 4))
+        found = [told.line_of_pairs(table, at) for at in (0, 9, 10, 18, 99)]
+        self.assertEqual(found, [10_001, 10_001, 10_002, 10_001, 10_001])
+        table = bytes((4, 1, 2, 128, 6, 2, 9))
+        found = [told.line_of_ranges(table, at) for at in (0, 3, 4, 6, 11, 12)]
+        self.assertEqual(found, [10_001, 10_001, None, 10_003, 10_003, None])
+
+
 class Sample(unittest.TestCase):
     """What is taken of `sample`, and what is not."""
 
