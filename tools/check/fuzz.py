@@ -338,8 +338,8 @@ def case_of(part: Part, number: int, rows: Sequence[Row]) -> Case:
     if part.command in TOLD and number % (2 if part.command == "sample" else 8) == 0:
         told = random.choice(TOLD[part.command])(random, part.command)
         return Case(told.words, told.files, told)
-    row = random.choice(rows)
-    words, files = list(row.words), dict(row.files)
+    begun = random.choice(rows)
+    words, files = list(begun.words), dict(begun.files)
     name = random.choice(sorted(files))
     if random.random() < 0.05 and len(words) > 1:
         at = random.randrange(1, len(words))
