@@ -1,12 +1,13 @@
 #!/usr/bin/env python3
 """Has each growth of memory, each read and each write of the built programs fail in turn, by gdb, and sees the answers.
 
-    tools/check/growths.py --program crates/pystacks/out/pystacks [--salvage crates/pysalvage/out/pysalvage] [--step N]
-                           [--only WORD]
+    tools/check/growths.py --program crates/pystacks/out/pystacks [--salvage crates/pysalvage/out/pysalvage]
+                           [--step N] [--most N] [--only WORD] [--workers N]
 
 A growth that is refused gives status 5 and its line, or the whole answer where it was spare; a read that fails gives
 status 3, a write that fails status 4, and one that is short or interrupted the whole answer. Nothing is printed under
-another status than 0, or than 4, under which a front of the text may be. With --step each Nth growth alone is refused.
+another status than 0, or than 4, under which a front of the text may be. With --step each Nth growth alone is refused,
+with --most at most so many of a run.
 The status is 0 exactly where all of that holds, or where there is no gdb.
 """
 
@@ -97,7 +98,14 @@ def is_right(run: Run, row: Row, name: str = "pystacks") -> bool:
     return text.startswith(out) and run.status == 4 and run.said in ("", f"{name}: cannot write\n")
 
 
-def runs(program: str, row: Row, step: int) -> List[Run]:
+class Step(NamedTuple):
+    """Which growths are refused: each so manyth, and at most so many of a run."""
+
+    each: int
+    most: int
+
+
+def runs(program: str, row: Row, step: Step) -> List[Run]:
     """The runs of a row in which one call has a fault."""
     with tempfile.TemporaryDirectory(prefix="growths-") as name:
         folder = Path(name)
@@ -106,8 +114,7 @@ def runs(program: str, row: Row, step: int) -> List[Run]:
         own.mkdir()
         for file, data in row.files.items():
             (files / file).write_bytes(data)
-        faults = [[call, fault, 1, step if fault == "refused" else 1] for call, fault in FAULTS]
-        task = {"words": row.words, "folder": str(files), "faults": faults}
+        task = {"words": row.words, "folder": str(files), "faults": FAULTS, "step": step.each, "most": step.most}
         task.update({it: str(own / it) for it in ("out", "said", "answers", "whole")})
         (own / "whole").write_bytes(row.out)
         (own / "task").write_text(json.dumps(task), encoding="utf-8")
@@ -118,7 +125,7 @@ def runs(program: str, row: Row, step: int) -> List[Run]:
         return [Run(*json.loads(line)) for line in (own / "answers").read_text(encoding="utf-8").splitlines()]
 
 
-def tried(program: str, name: str, row: Row, step: int) -> Tuple[Counter, List[str]]:
+def tried(program: str, name: str, row: Row, step: Step) -> Tuple[Counter, List[str]]:
     """How often each fault was tried on a row of a program, and which runs came to something else than they must."""
     try:
         row = answered(program, row)
@@ -150,6 +157,7 @@ def main(arguments: Optional[Sequence[str]] = None) -> int:
     parser.add_argument("--program", required=True, help="the built program")
     parser.add_argument("--salvage", default=str(BUILT_SALVAGE), help="the built `pysalvage`")
     parser.add_argument("--step", type=int, default=1, help="every how many growths one is refused (default: 1)")
+    parser.add_argument("--most", type=int, default=10 ** 9, help="how many growths of a run are refused at most")
     parser.add_argument("--only", default="", help="the rows in whose name this stands")
     parser.add_argument("--workers", type=int, default=os.cpu_count() or 1, help="how many rows run at once")
     words = parser.parse_args(arguments)
@@ -161,7 +169,8 @@ def main(arguments: Optional[Sequence[str]] = None) -> int:
             print(f"growths: nothing of {name} was tried: there is no {file}, or no gdb that can run it")
     failed = 0
     with ThreadPoolExecutor(words.workers) as pool:
-        for (_, _, row), (counts, wrong) in zip(chosen, pool.map(lambda it: tried(*it, words.step), chosen)):
+        step = Step(words.step, words.most)
+        for (_, _, row), (counts, wrong) in zip(chosen, pool.map(lambda it: tried(*it, step), chosen)):
             failed += len(wrong)
             for line in wrong:
                 print(line)
