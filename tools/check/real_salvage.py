@@ -234,6 +234,8 @@ CHILDREN = (
     ("a segfault", CRASHED, check_crashed, ()),
     ("sub-interpreters", SUBS, check_subs, ("ittt",)),
     ("sub-interpreters of which the newest is idle", SUBS, check_subs, ("tti",)),
+    ("sub-interpreters with idle ones between", SUBS, check_subs, ("tiit",)),
+    ("sub-interpreters of which the newest are idle", SUBS, check_subs, ("titii",)),
 )
 """What dies, and how it is checked, with the arguments of the child."""
 

@@ -17,6 +17,9 @@ NAMED = image_file([Segment(0x400000, b"", 5, 0x1000)], (BSS, 16), [Symbol("_PyR
     Section(".PyRuntime", 1, RUNTIME, None, 592)])
 """The program's file with the runtime."""
 
+STRIPPED = image_file([Segment(0x400000, b"", 5, 0x1000)], (BSS, 16), [], [Section(".PyRuntime", 1, RUNTIME, None, 592)])
+"""The same without symbols."""
+
 HELP = """\
 pysalvage CORE --layouts FILE [-n N] [-l].. [-j] [PATH=FILE]..
 
@@ -226,6 +229,14 @@ def interpreters() -> Iterator[Row]:
     idle = objects.record("interpreter")
     objects.word(idle, one)
     yield salvage("interpreters: the newest one without threads", GOOD, named(objects, idle), head + text)
+    objects, (one, two) = several(2, False)
+    idle, idler = objects.record("interpreter"), objects.record("interpreter")
+    for place, after in ((one, idle), (idle, idler), (idler, two)):
+        objects.word(place, after)
+    text = f"Interpreter 0x{one:x}\nThread 0x1\nInterpreter 0x{two:x}\nThread 0x2\n"
+    yield salvage("interpreters: behind two without threads", GOOD, named(objects, one), head + text)
+    objects.word(idle, idle)
+    yield salvage("interpreters: one without threads that is its own next", GOOD, named(objects, one), head + "Thread 0x1\n")
     objects, places = several(17, True)
     many = "".join(f"Interpreter 0x{place:x}\nThread 0x{number + 1:X}\n" for number, place in enumerate(places[:16]))
     yield salvage("interpreters: seventeen", GOOD, named(objects, places[0]), head + many + "... more than 16 interpreters\n")
@@ -241,6 +252,9 @@ def interpreters() -> Iterator[Row]:
                   line=b"no interpreter found: 2 addresses looked at")
     yield salvage("interpreters: by search in the runtime section, with a broken chain", GOOD, named(broken, 0, HEAP),
                   line=b"no interpreter found: 77 addresses looked at")
+    maps = [broken.segment(6), mapped(), bss(0, 0), runtime(HEAP)]
+    yield salvage("interpreters: by the place of the runtime section, with a broken chain", GOOD,
+                  files_of(core_file(maps), program=STRIPPED), head + "... threads unreadable at 0x70000000, 64 bytes\nThread 0x7F00\n")
 
 
 def names() -> Iterator[Row]:

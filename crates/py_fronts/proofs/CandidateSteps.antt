@@ -1,6 +1,6 @@
 -- Candidates, one after another.
 use Rattle.std.proofs.Common.{◌≡◌, ℕ, ◌*◌, ◌/◌, ◌<◌, ◌≤◌, min, List, [], ◌∷◌, ◌++◌, length, refl, sym, ◌∙◌, ap, arith, append-nil, append_assoc}
-use Rattle.std.specs.Prelude.{Ok, Err, Option, Some, None, Result, if◌then◌else◌, nat_eq, option_map}
+use Rattle.std.specs.Prelude.{Ok, Err, Option, Some, None, Result, if◌then◌else◌, nat_eq, option_map, option_to_list}
 use Rattle.elf64_core.specs.Fields.{u64_in}
 use Rattle.process_memory.specs.Memory.{Found, Memory, record_at}
 use Rattle.process_memory.proofs.Records.{record_length}
@@ -11,13 +11,17 @@ use Rattle.py_version.specs.declared.version.Version.{Version}
 use Rattle.py_fields.specs.declared.layout.Layout.{Layout}
 use Rattle.py_process.specs.Facts.{Known, facts_of}
 use Rattle.py_process.specs.declared.binary.BinaryInfo.{BinaryInfo}
-use Rattle.py_process.specs.Candidates.{ListIs, head_by, section_words, words_in, words_of}
+use Rattle.py_process.specs.Candidates.{ListIs, head_by, head_from, section_words, words_in, words_of}
 use Rattle.py_process.specs.declared.search_error.SearchError.{SearchError}
 use Rattle.py_process.proofs.Searches.{section_missing}
 use Rattle.py_process.proofs.Words.{word_first, word_none}
 use Rattle.py_stacks.specs.declared.error.StackError.{StackError}
 use Rattle.py_fronts.specs.Answers.{IsOrNoMemory}
-use Rattle.py_fronts.specs.Candidates.{AddsWords, bss_of_image, named_candidates, record_candidates, runtime_of_image, searched_candidates, with_records}
+use Rattle.py_fronts.specs.Candidates.{AddsWords, bss_of_image, head_given, head_in_sections, led_to}
+use Rattle.py_fronts.specs.Candidates.{named_candidates, or_else, runtime_in}
+use Rattle.py_fronts.specs.Candidates.{record_candidates, record_words, runtime_of_image, searched_candidates}
+use Rattle.py_fronts.specs.Candidates.{with_records}
+use Rattle.py_fronts.proofs.IdleSteps.{led_few}
 
 pub words_start : (start bytes rest : List ℕ) → rest ≡ bytes → start ++ words_of rest ≡ start ++ words_of bytes
 words_start start bytes rest e = ap (λ bs. start ++ words_of bs) e
@@ -47,25 +51,57 @@ runtime_zero m binary info words e zero_at =
 
 -- ---- those that are named
 
+or_found : (xs ys : List ℕ) (found : Option ℕ) (a : ℕ) → found ≡ Some a → xs ≡ option_to_list found
+    → or_else xs ys ≡ a ∷ []
+or_found xs ys found a e h =
+    let there : xs ≡ a ∷ [] = rw e at h in
+    rw there refl
+
+or_next : (xs ys : List ℕ) (found : Option ℕ) (next : Result (Option ℕ) SearchError) → found ≡ None
+    → xs ≡ option_to_list found → ListIs ys next → ListIs (or_else xs ys) next
+or_next xs ys found next e h rest =
+    let none : xs ≡ [] = rw e at h in
+    rw none rest
+
+pub sections_next : (k : Known) (v : Version) (l : Layout) (m : Memory) (program library found : Option ℕ)
+    (next : Result (Option ℕ) SearchError) → program ≡ runtime_in k.program → library ≡ runtime_in k.library
+    → found ≡ None → head_from l.head v l m program ≡ option_to_list found
+    → ListIs (head_from l.head v l m library) next → ListIs (head_in_sections k v l m) next
+sections_next k v l m program library found next p q none h rest =
+    or_next (head_from l.head v l m (runtime_in k.program)) (head_from l.head v l m (runtime_in k.library)) found next
+    none (rw p at h) (rw q at rest)
+
+pub given_found : (k : Known) (v : Version) (l : Layout) (m : Memory) (found : Option ℕ) (a : ℕ) → found ≡ Some a
+    → head_by l.head k v l m ≡ option_to_list found → head_given k v l m ≡ a ∷ []
+unfolding head_given
+given_found k v l m found a e h = or_found (head_by l.head k v l m) (head_in_sections k v l m) found a e h
+
+pub given_next : (k : Known) (v : Version) (l : Layout) (m : Memory) (found : Option ℕ)
+    (next : Result (Option ℕ) SearchError) → found ≡ None → head_by l.head k v l m ≡ option_to_list found
+    → ListIs (head_in_sections k v l m) next → ListIs (head_given k v l m) next
+unfolding head_given
+given_next k v l m found next none h rest =
+    or_next (head_by l.head k v l m) (head_in_sections k v l m) found next none h rest
+
 behind_head : (l : Layout) (m : Memory) (values : List ℕ) (head : ℕ) → values ≡ head ∷ []
     → head ∷ record_candidates l m head ≡ with_records l m values
 behind_head l m values head e = rw e (ap (λ xs. head ∷ xs) (sym (append-nil (record_candidates l m head))))
 
 pub head_named : (k : Known) (v : Version) (l : Layout) (m : Memory) (head : ℕ) (read : Result (Option ℕ) SearchError)
-    (result : Result (List ℕ) StackError) → read ≡ Ok (Some head) → ListIs (head_by l.head k v l m) read
+    (result : Result (List ℕ) StackError) → read ≡ Ok (Some head) → ListIs (head_given k v l m) read
     → IsOrNoMemory (head ∷ record_candidates l m head) result → IsOrNoMemory (named_candidates k v l m) result
 unfolding named_candidates
 head_named k v l m head read (Ok words) e is h =
-    let there : head_by l.head k v l m ≡ head ∷ [] = rw e at is in
-    h ∙ behind_head l m (head_by l.head k v l m) head there
+    let there : head_given k v l m ≡ head ∷ [] = rw e at is in
+    h ∙ behind_head l m (head_given k v l m) head there
 head_named k v l m head read (Err f) e is h = h
 
 pub none_named : (k : Known) (v : Version) (l : Layout) (m : Memory) (words : List ℕ)
-    (read : Result (Option ℕ) SearchError) → read ≡ Ok None → ListIs (head_by l.head k v l m) read → words ≡ []
+    (read : Result (Option ℕ) SearchError) → read ≡ Ok None → ListIs (head_given k v l m) read → words ≡ []
     → words ≡ named_candidates k v l m
 unfolding named_candidates
 none_named k v l m words read e is h =
-    let none : head_by l.head k v l m ≡ [] = rw e at is in
+    let none : head_given k v l m ≡ [] = rw e at is in
     h ∙ ap (with_records l m) (sym none)
 
 -- ---- those that are found by search
@@ -82,22 +118,25 @@ searched_words k m words one two three four h p q r s =
     ∙ append_assoc (runtime_of_image m k.program ++ runtime_of_image m k.library) (bss_of_image m k.program)
     (bss_of_image m k.library)
 
--- ---- those that a record names
+-- ---- those that a record leads to
 
-record_is : (l : Layout) (m : Memory) (a count : ℕ) → count ≡ min (l.interpreter.threads / 8) 1024
-    → section_words m a (8 * count) ≡ record_candidates l m a
+pub words_recorded : (l : Layout) (m : Memory) (a count : ℕ) (words one : List ℕ) → words ≡ []
+    → count ≡ min (l.interpreter.threads / 8) 1024 → one ≡ words ++ section_words m a (8 * count)
+    → one ≡ record_words l m a
+unfolding record_words
+words_recorded l m a count words one none is h =
+    h ∙ ap (λ ws. ws ++ section_words m a (8 * count)) none ∙ ap (λ n. section_words m a (8 * n)) is
+
+pub record_added : (l : Layout) (m : Memory) (a : ℕ) (words read old new : List ℕ)
+    (result : Result (Unit {0}) StackError) → words ≡ record_words l m a → read ≡ words
+    → AddsWords old (led_to l m 0 read) new result → AddsWords old (record_candidates l m a) new result
 unfolding record_candidates
-record_is l m a count is = ap (λ n. section_words m a (8 * n)) is
+record_added l m a words read old new (Ok u) is same h = h ∙ ap (λ ws. old ++ led_to l m 0 ws) (same ∙ is)
+record_added l m a words read old new (Err e) is same h = h
 
-pub record_added : (l : Layout) (m : Memory) (a count : ℕ) (old new : List ℕ) (result : Result (Unit {0}) StackError)
-    → count ≡ min (l.interpreter.threads / 8) 1024 → AddsWords old (section_words m a (8 * count)) new result
-    → AddsWords old (record_candidates l m a) new result
-record_added l m a count old new (Ok u) is h = h ∙ ap (λ ws. old ++ ws) (record_is l m a count is)
-record_added l m a count old new (Err e) is h = h
-
-pub record_words : (l : Layout) (m : Memory) (a : ℕ) (words one : List ℕ) → words ≡ []
+pub record_led : (l : Layout) (m : Memory) (a : ℕ) (words one : List ℕ) → words ≡ []
     → one ≡ words ++ record_candidates l m a → one ≡ record_candidates l m a
-record_words l m a words one h p = p ∙ ap (λ ws. ws ++ record_candidates l m a) h
+record_led l m a words one h p = p ∙ ap (λ ws. ws ++ record_candidates l m a) h
 
 pub bss_none : (m : Memory) (binary : Option BinaryInfo) (words : List ℕ) → binary ≡ None → words ≡ words ++ bss_of_image m (option_map facts_of binary)
 bss_none m binary words e = rw e (sym (append-nil words))
@@ -118,8 +157,16 @@ few_in : (m : Memory) (a n : ℕ) (d : Found (List ℕ)) → record_at m a n ≡
 few_in m a n (Ok bytes) e = omega (arith, words_few bytes, record_length m a n bytes e)
 few_in m a n (Err f) e = omega arith
 
-pub record_few : (l : Layout) (m : Memory) (a : ℕ) (words : List ℕ) → words ≡ record_candidates l m a → length words ≤ 1024
+pub words_few_recorded : (l : Layout) (m : Memory) (a : ℕ) (words : List ℕ) → words ≡ record_words l m a
+    → length words ≤ 1024
+unfolding record_words
+words_few_recorded l m a words e =
+    let size = 8 * min (l.interpreter.threads / 8) 1024 in
+    let few = few_in m a size (record_at m a size) refl in
+    omega (arith, few, ap length e)
+
+pub record_few : (l : Layout) (m : Memory) (a : ℕ) (words : List ℕ) → words ≡ record_candidates l m a
+    → length words ≤ 66560
 unfolding record_candidates
 record_few l m a words e =
-    let few = few_in m a (8 * min (l.interpreter.threads / 8) 1024) (record_at m a (8 * min (l.interpreter.threads / 8) 1024)) refl in
-    omega (arith, few, ap length e)
+    omega (arith, led_few l m 0 (record_words l m a), words_few_recorded l m a (record_words l m a) refl, ap length e)

@@ -44,13 +44,13 @@ one_front q l m limit n front one a b e =
 
 module _ {q : Asked} {l : Layout} {limit before : ℕ} {s0 s1 : Seen} {found : List FoundInterpreter} {shown : List InterpreterFront} {left : ℕ} where
   pub passing_more : {s2 : Seen} (one : FoundInterpreter) (front : InterpreterFront) (rest : ℕ) → Passing q l limit before s0 s1 found shown left
-      → Reading (1 + 4 * (left - rest) + (6 + ends_reads q limit) * length front.threads.threads.items) s1 s2 (λ m. threads_of front.threads ≡ threads_from q l m limit left one) → rest ≡ left_after left (threads_of front.threads).threads
+      → Reading (1 + 5 * (left - rest) + (7 + ends_reads q limit) * length front.threads.threads.items) s1 s2 (λ m. threads_of front.threads ≡ threads_from q l m limit left one) → rest ≡ left_after left (threads_of front.threads).threads
       → rest ≤ left → length front.threads.threads.items ≤ 4096 → front.address ≡ one.address → front.searched ≡ one.searched → Passing q l limit before s0 s2 (found ++ one ∷ []) (shown ++ front ∷ []) rest
   passing_more one front rest w r is fewer few address searched =
-      let most = mul-le-mul_left (6 + ends_reads q limit) few in
+      let most = mul-le-mul_left (7 + ends_reads q limit) few in
       record {
         fewer = omega (arith, w.fewer);
-        spent = w.spent + (1 + 4 * (left - rest) + (6 + ends_reads q limit) * length front.threads.threads.items);
+        spent = w.spent + (1 + 5 * (left - rest) + (7 + ends_reads q limit) * length front.threads.threads.items);
         cost = rw (length-append found (one ∷ [])) (omega (arith, w.cost, w.fewer, most));
         reading = reading_then (λ m. (map interpreter_of_front (shown ++ front ∷ []) ≡ interpreters_fronts q l m limit before (found ++ one ∷ [])) × (rest ≡ found_left q l m limit before (found ++ one ∷ []))) w.reading r
             (λ m p e.
@@ -62,7 +62,7 @@ module _ {q : Asked} {l : Layout} {limit before : ℕ} {s0 s1 : Seen} {found : L
       }
 
   pub passing_lost : {n : ℕ} {s2 : Seen} {P : Memory → Type 0} (e : StackError) → Passing q l limit before s0 s1 found shown left → before ≤ 4194304 → length found + 1 ≤ 16
-      → Reading n s1 s2 P → n ≤ 4 * left + interpreter_most q limit → ((m : Memory) → P m → e ≡ stack.OutOfMemory) → Reading (interpreters_most q limit) s0 s2 (λ m. e ≡ stack.OutOfMemory)
+      → Reading n s1 s2 P → n ≤ 5 * left + interpreter_most q limit → ((m : Memory) → P m → e ≡ stack.OutOfMemory) → Reading (interpreters_most q limit) s0 s2 (λ m. e ≡ stack.OutOfMemory)
   passing_lost e w start below r few lost =
       let most = mul-le-mul_left (interpreter_most q limit) below in
       reading_gives _ _ (reading_then (λ m. e ≡ stack.OutOfMemory) w.reading r (λ m p h. lost m h)) (omega (arith, w.cost, w.fewer, most, few)) (λ m h. h)
@@ -79,5 +79,5 @@ fronts_found c k v l m q limit finds found is f e h =
     ap (λ x. record { interpreters = x; more = finds.more }) (h ∙ ap (interpreters_fronts q l m limit 4194304) e)
     ∙ ap (λ (x : Finds). record { interpreters = interpreters_fronts q l m limit 4194304 x.found; more = x.more }) f
 
-pub threads_few : (q : Asked) (limit before after : ℕ) (front : ThreadsFront) → length front.threads.items ≤ 4096 → 1 + 4 * (before - after) + (6 + ends_reads q limit) * length front.threads.items ≤ 4 * before + interpreter_most q limit
-threads_few q limit before after front few = let most = mul-le-mul_left (6 + ends_reads q limit) few in omega (arith, most)
+pub threads_few : (q : Asked) (limit before after : ℕ) (front : ThreadsFront) → length front.threads.items ≤ 4096 → 1 + 5 * (before - after) + (7 + ends_reads q limit) * length front.threads.items ≤ 5 * before + interpreter_most q limit
+threads_few q limit before after front few = let most = mul-le-mul_left (7 + ends_reads q limit) few in omega (arith, most)

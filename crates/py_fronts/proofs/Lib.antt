@@ -3,11 +3,14 @@ pub mod Meets
 pub mod Splits
 pub mod FirstFrameLaws
 pub mod FirstThreadLaws
+pub mod RecordWords
+pub mod HiddenTexts
 pub mod Steps
 pub mod Shown
 pub mod EndsShown
 pub mod ThreadSteps
 pub mod ThreadsLaws
+pub mod IdleSteps
 pub mod CandidateSteps
 pub mod HeadSteps
 pub mod FindSteps

@@ -35,7 +35,7 @@ meet_ends l limit first kept met m ending members front keeps count = rw (front,
 
 module _ {l : Layout} {limit first : ℕ} {s0 s1 : Seen} {kept : List ℕ} {met at : ℕ} where
   pub meet_more : {s2 : Seen} {back : ℕ} {stands : Bool} {more : List ℕ} → Meeting l limit first s0 s1 kept met at → at ≢ 0 → met < limit
-      → Reading 4 s1 s2 (λ m. StepIs (caller_of l m at) (is_kept l m at) (Ok (step.To back stands))) → more ≡ kept ++ kept_if stands at
+      → Reading 5 s1 s2 (λ m. StepIs (caller_of l m at) (is_kept l m at) (Ok (step.To back stands))) → more ≡ kept ++ kept_if stands at
       → Meeting l limit first s0 s2 more (met + 1) back
   meet_more {back = back} {stands = stands} {more = more} w some below r adds =
       let left : limit - met ≡ suc (limit - (met + 1)) = omega arith in
@@ -54,13 +54,13 @@ module _ {l : Layout} {limit first : ℕ} {s0 s1 : Seen} {kept : List ℕ} {met 
 
   -- the chain is whole
   pub meet_done : Meeting l limit first s0 s1 kept met at → at ≡ 0
-      → Reading (4 + 4 * met) s0 s1 (λ m. record { kept = kept; met = met; ending = Whole } ≡ kept_of l m (members_front l m limit first))
+      → Reading (5 + 5 * met) s0 s1 (λ m. record { kept = kept; met = met; ending = Whole } ≡ kept_of l m (members_front l m limit first))
   meet_done w null = reading_gives _ _ w.reading (omega arith)
       (λ m p. meet_ends l limit first kept met m Whole w.members (behind_ends (caller_of l m) (limit - met) w.members (members_front l m limit first) at Whole (front_end (caller_of l m) (limit - met) at null) p.0) p.1 p.2)
 
   -- a further member is there, and no more may be met
   pub meet_full : Meeting l limit first s0 s1 kept met at → at ≢ 0 → met ≡ limit
-      → Reading (4 + 4 * met) s0 s1 (λ m. record { kept = kept; met = met; ending = Cut } ≡ kept_of l m (members_front l m limit first))
+      → Reading (5 + 5 * met) s0 s1 (λ m. record { kept = kept; met = met; ending = Cut } ≡ kept_of l m (members_front l m limit first))
   meet_full w some full =
       let none : limit - met ≡ 0 = omega arith in
       reading_gives _ _ w.reading (omega arith)
@@ -68,8 +68,8 @@ module _ {l : Layout} {limit first : ℕ} {s0 s1 : Seen} {kept : List ℕ} {met 
 
   -- what is there is none
   pub meet_broken : {s2 : Seen} (end : ChainEnd) → Meeting l limit first s0 s1 kept met at → at ≢ 0 → met < limit
-      → Reading 4 s1 s2 (λ m. StepIs (caller_of l m at) (is_kept l m at) (Ok (step.Broken end)))
-      → Reading (4 + 4 * met) s0 s2 (λ m. record { kept = kept; met = met; ending = ending_of end } ≡ kept_of l m (members_front l m limit first))
+      → Reading 5 s1 s2 (λ m. StepIs (caller_of l m at) (is_kept l m at) (Ok (step.Broken end)))
+      → Reading (5 + 5 * met) s0 s2 (λ m. record { kept = kept; met = met; ending = ending_of end } ≡ kept_of l m (members_front l m limit first))
   meet_broken end w some below r =
       let left : limit - met ≡ suc (limit - (met + 1)) = omega arith in
       reading_gives _ _ (reading_then (λ m. record { kept = kept; met = met; ending = ending_of end } ≡ kept_of l m (members_front l m limit first)) w.reading r
@@ -80,6 +80,6 @@ module _ {l : Layout} {limit first : ℕ} {s0 s1 : Seen} {kept : List ℕ} {met 
       (omega arith) (λ m h. h)
 
   -- memory was wanting
-  pub meet_lost : {s2 : Seen} {P : Memory → Type 0} (e : StackError) → Meeting l limit first s0 s1 kept met at → met < limit → Reading 4 s1 s2 P → ((m : Memory) → P m → e ≡ OutOfMemory)
-      → Reading (4 + 4 * limit) s0 s2 (λ m. e ≡ OutOfMemory)
+  pub meet_lost : {s2 : Seen} {P : Memory → Type 0} (e : StackError) → Meeting l limit first s0 s1 kept met at → met < limit → Reading 5 s1 s2 P → ((m : Memory) → P m → e ≡ OutOfMemory)
+      → Reading (5 + 5 * limit) s0 s2 (λ m. e ≡ OutOfMemory)
   meet_lost e w below r lost = reading_gives _ _ (reading_then (λ m. e ≡ OutOfMemory) w.reading r (λ m p q. lost m q)) (omega arith) (λ m h. h)

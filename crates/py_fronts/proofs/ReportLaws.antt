@@ -27,7 +27,8 @@ use Rattle.py_fronts.specs.declared.interpreters.FoundInterpreters.{FoundInterpr
 use Rattle.py_fronts.specs.declared.thread_front.ThreadsFront.{ThreadsFront}
 use Rattle.py_fronts.specs.Answers.{IsOrNoMemory}
 use Rattle.py_fronts.specs.BesideReports.{AgreeWithReport, AgreesWithReport, FindsReported, IsReported, NameIt, NoTextAtNull, ShowTraces, ShowsCalls, ShowsTrace, frames_among, is_shown}
-use Rattle.py_fronts.specs.Candidates.{bss_of_image, named_candidates, record_candidates, runtime_of_image, searched_candidates}
+use Rattle.py_fronts.specs.Candidates.{bss_of_image, head_given, head_in_sections, named_candidates, or_else}
+use Rattle.py_fronts.specs.Candidates.{record_candidates, runtime_of_image, searched_candidates}
 use Rattle.py_fronts.specs.FirstFrames.{ShowsEnds}
 use Rattle.py_fronts.specs.FrameFronts.{FramesShown, all_members_limit, chain_from, chain_of_thread, frames_shown, thread_members_limit}
 use Rattle.py_fronts.specs.Front.{Break, Front, Leads, front_at, or_lost}
@@ -216,13 +217,22 @@ in_images m k a h =
       ]
     ]
 
+in_first : (xs ys : List ℕ) (a : ℕ) → Contains xs a → Contains (or_else xs ys) a
+in_first [] ys a h = absurd (omega (arith, h.1))
+in_first (x ∷ xs) ys a h = h
+
+in_given : (k : Known) (v : Version) (l : Layout) (m : Memory) (a : ℕ) → Contains (head_by l.head k v l m) a
+    → Contains (head_given k v l m) a
+unfolding head_given
+in_given k v l m a h = in_first (head_by l.head k v l m) (head_in_sections k v l m) a h
+
 in_either : (k : Known) (v : Version) (l : Layout) (m : Memory) (a : ℕ) → Contains (candidates_of k v l m) a
     → Contains (named_candidates k v l m) a ⊎ Contains (searched_candidates k m) a
 unfolding candidates_of named_candidates
 in_either k v l m a h =
-    let heads = head_by l.head k v l m in
-    elim (Contains-append_cases heads (words_of_images m k) a h) [
-      | inl head ↦ inl (Contains-append_left heads (flat_map (record_candidates l m) heads) a head)
+    let heads = head_given k v l m in
+    elim (Contains-append_cases (head_by l.head k v l m) (words_of_images m k) a h) [
+      | inl head ↦ inl (Contains-append_left heads (flat_map (record_candidates l m) heads) a (in_given k v l m a head))
       | inr words ↦ inr (in_images m k a words)
     ]
 

@@ -73,14 +73,14 @@ shown_ends q l limit i head before threads m ending members front shows = rw (fr
 module _ {q : Asked} {l : Layout} {limit i head before : ℕ} {s0 s1 : Seen} {threads : List ThreadFront} {left at : ℕ} where
   pub threading_more : {s2 s3 : Seen} (t : ThreadFront) (bytes : List ℕ) (next rest : ℕ) → Threading q l limit i head before s0 s1 threads left at → at ≢ 0 → length threads < thread_limit
       → Reading 1 s1 s2 (λ m. (record_at m at l.thread.size ≡ Ok bytes) × (after_record l i (record_at m at l.thread.size) ≡ Ok next))
-      → Reading (5 + 4 * t.frames.met + ends_reads q limit) s2 s3 (λ m. thread_front t ≡ thread_by q l m limit left at bytes) → t.frames.met ≤ left → rest ≡ left - t.frames.met
+      → Reading (6 + 5 * t.frames.met + ends_reads q limit) s2 s3 (λ m. thread_front t ≡ thread_by q l m limit left at bytes) → t.frames.met ≤ left → rest ≡ left - t.frames.met
       → Threading q l limit i head before s0 s3 (threads ++ t ∷ []) rest next
   threading_more t bytes next rest w some below r f few is =
       let room : thread_limit - length threads ≡ suc (thread_limit - (length threads + 1)) = omega arith in
       let more : length (threads ++ t ∷ []) ≡ length threads + 1 = length-append threads (t ∷ []) in
       record {
         members = w.members ++ at ∷ [];
-        spent = w.spent + 1 + (5 + 4 * t.frames.met + ends_reads q limit);
+        spent = w.spent + 1 + (6 + 5 * t.frames.met + ends_reads q limit);
         within = omega (arith, more);
         fewer = omega (arith, w.fewer);
         cost = rw more (omega (arith, w.cost, w.fewer, few, is));
@@ -103,13 +103,13 @@ module _ {q : Asked} {l : Layout} {limit i head before : ℕ} {s0 s1 : Seen} {th
 
   -- the chain is whole
   pub threading_done : Threading q l limit i head before s0 s1 threads left at → at ≡ 0
-      → Reading (1 + 4 * (before - left) + (6 + ends_reads q limit) * length threads) s0 s1 (λ m. ◌≡◌ {A = ThreadsShown} (record { threads = map thread_front threads; ending = Whole }) (front_shown q l m limit before (threads_front l i m head)))
+      → Reading (1 + 5 * (before - left) + (7 + ends_reads q limit) * length threads) s0 s1 (λ m. ◌≡◌ {A = ThreadsShown} (record { threads = map thread_front threads; ending = Whole }) (front_shown q l m limit before (threads_front l i m head)))
   threading_done w null = reading_gives _ _ w.reading (omega (arith, w.cost))
       (λ m p. shown_ends q l limit i head before threads m Whole w.members (behind_ends (thread_of l i m) (thread_limit - length threads) w.members (threads_front l i m head) at Whole (front_end (thread_of l i m) (thread_limit - length threads) at null) p.0) p.1)
 
   -- a further thread is there, and no more may be met
   pub threading_full : Threading q l limit i head before s0 s1 threads left at → at ≢ 0 → length threads ≡ thread_limit
-      → Reading (1 + 4 * (before - left) + (6 + ends_reads q limit) * length threads) s0 s1 (λ m. ◌≡◌ {A = ThreadsShown} (record { threads = map thread_front threads; ending = Cut }) (front_shown q l m limit before (threads_front l i m head)))
+      → Reading (1 + 5 * (before - left) + (7 + ends_reads q limit) * length threads) s0 s1 (λ m. ◌≡◌ {A = ThreadsShown} (record { threads = map thread_front threads; ending = Cut }) (front_shown q l m limit before (threads_front l i m head)))
   threading_full w some full =
       let none : thread_limit - length threads ≡ 0 = omega arith in
       reading_gives _ _ w.reading (omega (arith, w.cost))
@@ -118,7 +118,7 @@ module _ {q : Asked} {l : Layout} {limit i head before : ℕ} {s0 s1 : Seen} {th
   -- what is there is none
   pub threading_broken : {s2 : Seen} (end : ChainEnd) → Threading q l limit i head before s0 s1 threads left at → at ≢ 0 → length threads < thread_limit
       → Reading 1 s1 s2 (λ m. ThreadIs l i (record_at m at l.thread.size) (Ok (Broken end)))
-      → Reading (1 + 4 * (before - left) + (6 + ends_reads q limit) * length threads) s0 s2 (λ m. ◌≡◌ {A = ThreadsShown} (record { threads = map thread_front threads; ending = ending_of end }) (front_shown q l m limit before (threads_front l i m head)))
+      → Reading (1 + 5 * (before - left) + (7 + ends_reads q limit) * length threads) s0 s2 (λ m. ◌≡◌ {A = ThreadsShown} (record { threads = map thread_front threads; ending = ending_of end }) (front_shown q l m limit before (threads_front l i m head)))
   threading_broken end w some below r =
       let room : thread_limit - length threads ≡ suc (thread_limit - (length threads + 1)) = omega arith in
       reading_gives _ _ (reading_then (λ m. ◌≡◌ {A = ThreadsShown} (record { threads = map thread_front threads; ending = ending_of end }) (front_shown q l m limit before (threads_front l i m head))) w.reading r
@@ -130,9 +130,9 @@ module _ {q : Asked} {l : Layout} {limit i head before : ℕ} {s0 s1 : Seen} {th
 
   -- memory was wanting
   pub threading_lost : {n : ℕ} {s2 : Seen} {P : Memory → Type 0} (e : StackError) → Threading q l limit i head before s0 s1 threads left at → length threads < thread_limit
-      → Reading n s1 s2 P → n ≤ 6 + 4 * left + ends_reads q limit → ((m : Memory) → P m → e ≡ stack.OutOfMemory)
-      → Reading (1 + 4 * before + (6 + ends_reads q limit) * 4096) s0 s2 (λ m. e ≡ stack.OutOfMemory)
+      → Reading n s1 s2 P → n ≤ 7 + 5 * left + ends_reads q limit → ((m : Memory) → P m → e ≡ stack.OutOfMemory)
+      → Reading (1 + 5 * before + (7 + ends_reads q limit) * 4096) s0 s2 (λ m. e ≡ stack.OutOfMemory)
   threading_lost e w below r few lost =
       let more : length threads + 1 ≤ 4096 = omega arith in
-      let most = mul-le-mul_left (6 + ends_reads q limit) more in
+      let most = mul-le-mul_left (7 + ends_reads q limit) more in
       reading_gives _ _ (reading_then (λ m. e ≡ stack.OutOfMemory) w.reading r (λ m p h. lost m h)) (omega (arith, w.cost, w.fewer, most, few)) (λ m h. h)

@@ -24,6 +24,6 @@ threads_only q l m limit left i head shown (Ok front) a h = a ∙ sym (first_thr
 threads_only q l m limit left i head shown (Err e) a h = a
 
 pub threads_most : (q : Asked) (limit before after : ℕ) (r : Result ThreadsFront StackError) (old new : ℕ) → new ≤ old + threads_reads q limit before after r → IfOk r (λ front. length front.threads.items ≤ 4096)
-    → new ≤ old + (1 + 4 * before + (6 + ends_reads q limit) * 4096)
-threads_most q limit before after (Ok front) old new le few = let most = mul-le-mul_left (6 + ends_reads q limit) few in omega (arith, le, most)
+    → new ≤ old + (1 + 5 * before + (7 + ends_reads q limit) * 4096)
+threads_most q limit before after (Ok front) old new le few = let most = mul-le-mul_left (7 + ends_reads q limit) few in omega (arith, le, most)
 threads_most q limit before after (Err e) old new le few = le

@@ -1,13 +1,17 @@
--- The addresses that may be an interpreter's: those of the search, and those that the record of one names. CPython
--- chains its interpreters by `next`, which stands in front of the head of their threads.
-use Rattle.std.specs.Prelude.{◌≡◌, ℕ, ◌*◌, ◌/◌, min, List, [], ◌++◌, flat_map, Option, Some, None, Result, Ok, Err, Vec}
+-- The addresses that may be an interpreter's: those of the search, and those that the record of one leads to. CPython
+-- chains its interpreters by `next`, which stands in front of the head of their threads; from 3.13 on one that runs
+-- nothing has no thread. The section `.PyRuntime` has the runtime's record and nothing else.
+use Rattle.std.specs.Prelude.{◌≡◌, ℕ, zero, suc, ◌+◌, ◌*◌, ◌-◌, ◌/◌, ◌≤◌, min, nat_eq, if◌then◌else◌, List, [], ◌∷◌, ◌++◌, flat_map}
+use Rattle.std.specs.Prelude.{length, Option, Some, None, Result, Ok, Err, Vec}
 use Rattle.std.specs.Global.{Global}
-use Rattle.process_memory.specs.Memory.{Memory}
+use Rattle.process_memory.specs.Memory.{Found, Memory, word_at}
+use Rattle.process_memory.specs.Seen.{Reading, Seen}
 use Rattle.py_version.specs.declared.version.Version.{Version}
 use Rattle.py_fields.specs.declared.layout.Layout.{Layout}
+use Rattle.py_stacks.specs.Interpreter.{threads_head}
 use Rattle.py_stacks.specs.declared.error.StackError.{StackError}
 use Rattle.py_stacks.specs.declared.error.StackError.TheVariants.{OutOfMemory}
-use Rattle.py_process.specs.Candidates.{head_by, runtime_words, section_words}
+use Rattle.py_process.specs.Candidates.{head_by, head_from, runtime_words, section_words}
 use Rattle.py_process.specs.Facts.{Facts, Known}
 
 -- how many words of the record of an interpreter are candidates at most
@@ -24,18 +28,72 @@ abbrev pub bss_of_image : Memory → Option Facts → List ℕ
 bss_of_image m None = []
 bss_of_image m (Some facts) = section_words m facts.bss_addr facts.bss_size
 
--- those that the record of an interpreter names: the words in front of the head of its threads
-unfoldable pub record_candidates : Layout → Memory → ℕ → List ℕ
-record_candidates l m a = section_words m a (8 * min (l.interpreter.threads / 8) record_words_limit)
+-- how many interpreters without a thread are passed by in a row at most
+abbrev pub idle_limit : ℕ
+idle_limit = 64
 
--- an address, if there is one, and behind it those that its record names
+abbrev pub found_or_none : Found ℕ → Option ℕ
+found_or_none (Ok a) = Some a
+found_or_none (Err f) = None
+
+-- what stands behind an interpreter, where that one has no thread
+abbrev pub passed_by : Found ℕ → Option ℕ → Option ℕ
+passed_by (Ok zero) next = next
+passed_by (Ok (suc head)) next = None
+passed_by (Err f) next = None
+
+-- the address at one place of an interpreter's record, where that one has no thread
+abbrev pub next_by : Layout → Memory → (place a : ℕ) → Option ℕ
+next_by l m place a = passed_by (threads_head l m a) (found_or_none (word_at m (a + place)))
+
+abbrev pub with_next : Option ℕ → (ℕ → List ℕ) → List ℕ
+with_next None rest = []
+with_next (Some a) rest = a ∷ rest a
+
+-- the addresses that follow one another at the same place of each record, while those that they follow have no thread
+unfoldable pub behind_idle : Layout → Memory → (place turns a : ℕ) → List ℕ
+behind_idle l m place zero a = []
+behind_idle l m place (suc turns) a = with_next (next_by l m place a) (λ next. behind_idle l m place turns next)
+
+-- each word of a record from a place on, and behind it those that follow by its place
+unfoldable pub led_to : Layout → Memory → ℕ → List ℕ → List ℕ
+led_to l m place [] = []
+led_to l m place (a ∷ rest) = (a ∷ behind_idle l m place idle_limit a) ++ led_to l m (place + 8) rest
+
+-- the words of the record of an interpreter in front of the head of its threads
+unfoldable pub record_words : Layout → Memory → ℕ → List ℕ
+record_words l m a = section_words m a (8 * min (l.interpreter.threads / 8) record_words_limit)
+
+-- those that the record of an interpreter leads to: `next` is one of its words, and of each record the word at the same
+-- place, so that one behind some without a thread is there too
+unfoldable pub record_candidates : Layout → Memory → ℕ → List ℕ
+record_candidates l m a = led_to l m 0 (record_words l m a)
+
+-- an address, if there is one, and behind it those that its record leads to
 abbrev pub with_records : Layout → Memory → List ℕ → List ℕ
 with_records l m head = head ++ flat_map (record_candidates l m) head
 
--- those that are named: the head that symbols give, and those that its record names, since the newest interpreter may
--- have no thread
+-- where the runtime's record stands by an image's section that has it alone
+abbrev pub runtime_in : Option Facts → Option ℕ
+runtime_in None = None
+runtime_in (Some facts) = if nat_eq facts.pyruntime_addr 0 then None else Some facts.pyruntime_addr
+
+abbrev pub or_else : List ℕ → List ℕ → List ℕ
+or_else [] other = other
+or_else (a ∷ rest) other = a ∷ rest
+
+-- the head by the program's runtime section, or else by the library's
+abbrev pub head_in_sections : Known → Version → Layout → Memory → List ℕ
+head_in_sections k v l m =
+    or_else (head_from l.head v l m (runtime_in k.program)) (head_from l.head v l m (runtime_in k.library))
+
+-- the head that symbols give, or else the one by the runtime section
+unfoldable pub head_given : Known → Version → Layout → Memory → List ℕ
+head_given k v l m = or_else (head_by l.head k v l m) (head_in_sections k v l m)
+
+-- those that are named: the head, and those that its record leads to, since the newest interpreter may have no thread
 unfoldable pub named_candidates : Known → Version → Layout → Memory → List ℕ
-named_candidates k v l m = with_records l m (head_by l.head k v l m)
+named_candidates k v l m = with_records l m (head_given k v l m)
 
 -- those that are found by search alone: the words of the runtime sections, and those of the bss
 unfoldable pub searched_candidates : Known → Memory → List ℕ
@@ -52,3 +110,15 @@ AddsWords old added new (Err e) = e ≡ OutOfMemory
 abbrev pub words_result : {E : Type 0} → Result (Vec ℕ Global) E → Result (List ℕ) E
 words_result (Ok words) = Ok words.items
 words_result (Err e) = Err e
+
+-- the addresses that were followed so far; it stands at `at`
+pub record Following (l : Layout) (place first : ℕ) (old new : Seen) (start words : List ℕ)
+    (passed at : ℕ) : Type 0 where
+  pub within : passed ≤ idle_limit
+  pub reading : Reading (2 * passed) old new (λ m. start ++ behind_idle l m place idle_limit first
+      ≡ words ++ behind_idle l m place (idle_limit - passed) at)
+
+-- the words of a record that were taken so far, each with those that follow by its place
+pub record Leading (l : Layout) (old new : Seen) (start taken candidates : List ℕ) (place : ℕ) : Type 0 where
+  pub stands : place ≡ 8 * length taken
+  pub reading : Reading (128 * length taken) old new (λ m. candidates ≡ start ++ led_to l m 0 taken)

@@ -66,10 +66,10 @@ fronts_result (Err e) = Err e
 
 -- the reads of the threads of one interpreter but for their members, and of all that are shown
 abbrev pub interpreter_most : Asked → ℕ → ℕ
-interpreter_most q limit = 1 + (6 + ends_reads q limit) * 4096
+interpreter_most q limit = 1 + (7 + ends_reads q limit) * 4096
 
 abbrev pub interpreters_most : Asked → ℕ → ℕ
-interpreters_most q limit = 4 * 4194304 + interpreter_most q limit * 16
+interpreters_most q limit = 5 * 4194304 + interpreter_most q limit * 16
 
 -- what the reader of all fronts owes
 abbrev pub Fronting : Known → Version → Layout → Asked → ℕ → Seen → Seen → (Memory → Type 0) → Type 0
@@ -81,7 +81,7 @@ pub record Passing (q : Asked) (l : Layout) (limit before : ℕ) (old new : Seen
     (shown : List InterpreterFront) (left : ℕ) : Type 0 where
   pub fewer : left ≤ before
   pub spent : ℕ
-  pub cost : spent ≤ 4 * (before - left) + interpreter_most q limit * length found
+  pub cost : spent ≤ 5 * (before - left) + interpreter_most q limit * length found
   pub reading : Reading spent old new (λ m.
       (map interpreter_of_front shown ≡ interpreters_fronts q l m limit before found)
       × (left ≡ found_left q l m limit before found))

@@ -141,9 +141,9 @@ abbrev pub candidate_reads : Bool → ℕ
 candidate_reads false = 2
 candidate_reads true = 4098
 
--- those of a record, and of the words that it has
+-- those of a record with what it leads to, and two for each of these: each of 1024 words, and 64 behind it
 abbrev pub record_reads : ℕ
-record_reads = 1 + 2 * 1024
+record_reads = 131073 + 2 * 66560
 
 -- a chain of threads that has met so many of them, and stands at `at`
 pub record Chaining (l : Layout) (interpreter head : ℕ) (old new : Seen) (count at : ℕ) : Type 0 where
@@ -169,7 +169,7 @@ pub record Turning (contains : ℕ → Bool) (l : Layout) (start : Finds) (old n
 -- how many reads it takes to find them all at most
 abbrev pub interpreters_reads : Known → Version → Layout → Memory → ℕ
 interpreters_reads k v l m =
-    7 + 2 * length (named_candidates k v l m) + 4098 * length (searched_candidates k m) + 32 * record_reads
+    131083 + 2 * length (named_candidates k v l m) + 4098 * length (searched_candidates k m) + 32 * record_reads
 
 -- what the search for interpreters owes
 abbrev pub Looking : Known → Version → Layout → Seen → Seen → (Memory → Type 0) → Type 0

@@ -66,10 +66,10 @@ abbrev pub chained_of_result : {E : Type 0} → Result Chain E → Result Chaine
 chained_of_result (Ok c) = Ok (chained c)
 chained_of_result (Err e) = Err e
 
--- the reads of a walk: at most four for each member that was met, and four more
+-- the reads of a walk: at most five for each member that was met, and five more
 abbrev pub chain_reads : ℕ → Result Chain StackError → ℕ
-chain_reads limit (Ok c) = 4 + 4 * c.met
-chain_reads limit (Err e) = 4 + 4 * limit
+chain_reads limit (Ok c) = 5 + 5 * c.met
+chain_reads limit (Err e) = 5 + 5 * limit
 
 -- one step is where a member leads to, and whether it is kept; or why what is there is none
 abbrev pub StepIs : Result ℕ Break → Bool → Result Step StackError → Type 0
@@ -89,6 +89,6 @@ kept_if stands a = if stands then a ∷ [] else []
 pub record Meeting (l : Layout) (limit first : ℕ) (old new : Seen) (kept : List ℕ) (met at : ℕ) : Type 0 where
   pub members : List ℕ
   pub within : met ≤ limit
-  pub reading : Reading (4 * met) old new (λ m.
+  pub reading : Reading (5 * met) old new (λ m.
       (members_front l m limit first ≡ behind members (members_front l m (limit - met) at))
       × (kept ≡ filter (is_kept l m) members) × (length members ≡ met))

@@ -118,13 +118,13 @@ IsWholeThread l (Broken end) = ⊤
 
 -- the reads of one thread behind its record: those of its chain, and of both ends
 abbrev pub thread_reads : Asked → (limit left : ℕ) → Result ThreadFront StackError → ℕ
-thread_reads q limit left (Ok t) = 5 + 4 * t.frames.met + ends_reads q limit
-thread_reads q limit left (Err e) = 5 + 4 * left + ends_reads q limit
+thread_reads q limit left (Ok t) = 6 + 5 * t.frames.met + ends_reads q limit
+thread_reads q limit left (Err e) = 6 + 5 * left + ends_reads q limit
 
--- those of all: one for each record and one more, five for each chain and four for each member, and of both ends
+-- those of all: one for each record and one more, six for each chain and five for each member, and of both ends
 abbrev pub threads_reads : Asked → (limit before after : ℕ) → Result ThreadsFront StackError → ℕ
-threads_reads q limit before after (Ok r) = 1 + 4 * (before - after) + (6 + ends_reads q limit) * length r.threads.items
-threads_reads q limit before after (Err e) = 1 + 4 * before + (6 + ends_reads q limit) * 4096
+threads_reads q limit before after (Ok r) = 1 + 5 * (before - after) + (7 + ends_reads q limit) * length r.threads.items
+threads_reads q limit before after (Err e) = 1 + 5 * before + (7 + ends_reads q limit) * 4096
 
 -- the threads that were met so far, and how many members may be met yet; it stands at `at`
 pub record Threading (q : Asked) (l : Layout) (limit interpreter head before : ℕ) (old new : Seen)
@@ -133,7 +133,7 @@ pub record Threading (q : Asked) (l : Layout) (limit interpreter head before : �
   pub spent : ℕ
   pub within : length threads ≤ thread_limit
   pub fewer : left ≤ before
-  pub cost : spent ≤ 4 * (before - left) + (6 + ends_reads q limit) * length threads
+  pub cost : spent ≤ 5 * (before - left) + (7 + ends_reads q limit) * length threads
   pub reading : Reading spent old new (λ m. (threads_front l interpreter m head
       ≡ behind members (front_at (thread_of l interpreter m) (thread_limit - length threads) at))
       × (map thread_front threads ≡ threads_shown q l m limit before members))

@@ -102,7 +102,7 @@ fn no_chain(alloc: Global, error: StackError) -> Result<Chain, StackError>
     }
 }
 
-/// The chain of a thread's frames, by its record. At most 4 reads for each member that is met, and 5 more.
+/// The chain of a thread's frames, by its record. At most 5 reads for each member that is met, and 6 more.
 pub(crate) fn read_chain<P: ProcessMemory>(
     alloc: Global,
     process: &mut P,

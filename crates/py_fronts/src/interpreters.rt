@@ -1,9 +1,8 @@
 //! Which interpreters of a process are shown.
-ghost use Rattle.std.specs.Prelude.{◌≡◌, ◌+◌, ◌*◌, ◌≤◌, ◌^◌, Err, false, IfOk, MatchOption, None, Ok, OnOk, length};
+ghost use Rattle.std.specs.Prelude.{◌≡◌, ◌+◌, ◌*◌, ◌≤◌, ◌^◌, false, IfOk, OnOk, length};
 ghost use Rattle.process_memory.specs.Memory.{byte_at};
 ghost use Rattle.process_memory.specs.Seen.{Reading, ReadingBelow};
 ghost use Rattle.py_fields.specs.Sound.{IsSound};
-ghost use Rattle.py_stacks.specs.StackError.{stack_fault};
 ghost use Rattle.py_process.specs.Facts.{known_of};
 ghost use Rattle.py_fronts.specs.Answers.{IsOrNoMemory};
 ghost use Rattle.py_fronts.specs.BesideReports.{FindsReported};
@@ -18,7 +17,7 @@ ghost use Rattle.py_fronts.specs.ShownInterpreters.{AreAll, AreShown};
 ghost use Rattle.py_fronts.specs.ThreadFronts.{threads_front};
 
 use crate::ChainEnd;
-use crate::candidates::{named_candidates, record_candidates, searched_candidates};
+use crate::candidates::{named_candidates, nothing_read, record_candidates, searched_candidates};
 use crate::thread_front::{THREAD_LIMIT, Thread, read_thread};
 use elf64_core::u64_in;
 use image_memory::ContainsAddr;
@@ -79,16 +78,6 @@ fn names_it<P: ProcessMemory>(
     Ok(head_where(thread, head))
 }
 
-/// Nothing, where a first thread can't be read; want of memory is handed on.
-fn no_head(error: StackError) -> Result<Option<u64>, StackError>
-    ensures { MatchOption (stack_fault error) (result ≡ Err StackError.OutOfMemory) (λ f. result ≡ Ok None) }
-{
-    match error {
-        StackError::OutOfMemory => Err(StackError::OutOfMemory),
-        _ => Ok(None),
-    }
-}
-
 /// The first thread of an interpreter, where a map holds it and it names the interpreter. At most 2 reads.
 fn first_thread<M: ContainsAddr, P: ProcessMemory>(
     alloc: Global,
@@ -103,7 +92,7 @@ fn first_thread<M: ContainsAddr, P: ProcessMemory>(
 {
     let head = match get_first_thread(process, layout, interpreter) {
         Ok(head) => head,
-        Err(error) => return no_head(error),
+        Err(error) => return nothing_read(error),
     };
     if head == 0 {
         return Ok(None);
@@ -279,7 +268,7 @@ fn address_at(found: &[FoundInterpreter], index: usize) -> Option<u64>
     }
 }
 
-/// Takes those that the record of an interpreter names. At most 2 reads for each, and one.
+/// Takes those that the record of an interpreter leads to. At most 264,193 reads.
 fn take_record<M: ContainsAddr, P: ProcessMemory>(
     alloc: Global,
     maps: &M,
@@ -301,7 +290,7 @@ fn take_record<M: ContainsAddr, P: ProcessMemory>(
     take_candidates(alloc, maps, process, layout, false, &candidates, finds)
 }
 
-/// Takes those that the records of all that are found name, in turn.
+/// Takes those that the records of all that are found lead to, in turn.
 fn take_records<M: ContainsAddr, P: ProcessMemory>(
     alloc: Global,
     maps: &M,
@@ -319,7 +308,7 @@ fn take_records<M: ContainsAddr, P: ProcessMemory>(
     Ok(())
 }
 
-/// Takes those of some candidates, and those that the records of all that are found name.
+/// Takes those of some candidates, and those that the records of all that are found lead to.
 fn take_with_records<M: ContainsAddr, P: ProcessMemory>(
     alloc: Global,
     maps: &M,
@@ -369,19 +358,20 @@ fn find_all<M: ContainsAddr, P: ProcessMemory>(
 
 /// The interpreters of a process that are shown, in the order in which they are found.
 ///
-/// First come those that are named: the head that symbols give and those that its record names, though it has no
-/// thread itself; and with them those that the record of one of them names. A record names an interpreter by one of its
-/// words in front of the head of its threads, of which at most 1024 are looked at, in turn. Then those that are found
-/// by search alone: the words of the program's runtime section and of the library's, and those of their bss, and again
-/// those that the records of these name. Each address is taken once, and 16 at most; `more` says whether there is
-/// another.
+/// First come those that are named: the head that symbols give, or else the runtime section, and those that its record
+/// leads to, though it has no thread itself; and with them those that the record of one of them leads to. A record
+/// leads to an interpreter by one of its words in front of the head of its threads, of which at most 1024 are looked
+/// at, in turn; and where the address that it holds has no thread, by the word at the same place there, past at most
+/// 64 such in a row. Then those that are found by search alone: the words of the program's runtime section and of the
+/// library's, and those of their bss, and again those that the records of these lead to. Each address is taken once,
+/// and 16 at most; `more` says whether there is another.
 ///
 /// An address is an interpreter's where a map holds it, the word of its first thread is in memory, is not 0 and lies in
 /// a map, and the record of that thread names the address. One that is found by search alone is taken only where its
 /// chain of threads is whole.
 ///
-/// The one error is want of memory. At most 7 reads for the candidates, 2 for each that is named, 4098 for each that is
-/// found by search, and 65568 for the records.
+/// The one error is want of memory. At most 131,083 reads for the candidates, 2 for each that is named, 4098 for each
+/// that is found by search, and 8,454,176 for the records.
 pub fn find_interpreters<M: ContainsAddr, P: ProcessMemory>(
     alloc: Global,
     info: &PythonProcessInfo<M>,

@@ -10,11 +10,14 @@ ghost use Rattle.py_fronts.specs.Members.{is_left_out, kept_if, kept_of, members
 
 use crate::ChainEnd;
 use elf64_core::u64_in;
-use process_memory::ProcessMemory;
+use process_memory::{ProcessMemory, ReadFault, word_past};
 use py_builtins::{ObjectError, copy_string};
 use py_fields::Layout;
 use py_stacks::{Records, StackError, is_hidden, read_records};
 use std::alloc::{AllocFailed, Global};
+
+/// How many units `<shim>` has, as each kind of text codes it.
+const SHIM_UNITS: u64 = 6;
 
 /// The kept members of a chain by their addresses, how many were met in all, and how it ends.
 #[derive(Drop)]
@@ -32,8 +35,8 @@ enum Step {
     Broken(ChainEnd),
 }
 
-/// Whether a text can be read under which no frame is shown. At most 2 reads.
-fn hides<P: ProcessMemory>(
+/// Whether a text can be read under which no frame is shown, by its characters. At most 2 reads.
+fn hides_text<P: ProcessMemory>(
     alloc: Global,
     process: &mut P,
     layout: &Layout,
@@ -50,7 +53,30 @@ fn hides<P: ProcessMemory>(
     }
 }
 
-/// Whether the member that has these records is left out. At most 2 reads.
+/// The same, where the word of the text's length is read first: a text is made only where it says no units, or as many
+/// as `<shim>` has. At most 3 reads.
+fn hides<P: ProcessMemory>(
+    alloc: Global,
+    process: &mut P,
+    layout: &Layout,
+    addr: u64,
+) -> Result<bool, StackError>
+    requires sound { IsSound layout.now }
+    ensures { Reading 3 (P.seen process.old) (P.seen process.new)
+        (λ m. IsOrNoMemory (hides (text_at layout.now m addr)) result) }
+{
+    let length = match word_past(process, addr, layout.string.length as u64) {
+        Ok(length) => length,
+        Err(ReadFault::Unreadable { .. }) => return Ok(false),
+        Err(ReadFault::OutOfMemory) => return Err(StackError::OutOfMemory),
+    };
+    if length != 0 && length != SHIM_UNITS {
+        return Ok(false);
+    }
+    hides_text(alloc, process, layout, addr)
+}
+
+/// Whether the member that has these records is left out. At most 3 reads.
 fn is_left_out<P: ProcessMemory>(
     alloc: Global,
     process: &mut P,
@@ -59,7 +85,7 @@ fn is_left_out<P: ProcessMemory>(
 ) -> Result<bool, StackError>
     requires sound { IsSound layout.now }
     requires whole { AreWhole layout.now records.now }
-    ensures { Reading 2 (P.seen process.old) (P.seen process.new)
+    ensures { Reading 3 (P.seen process.old) (P.seen process.new)
         (λ m. IsOrNoMemory (is_left_out layout.now m (member_of records.now)) result) }
 {
     let file_at = u64_in(&records.code, layout.code.filename as usize);
@@ -82,7 +108,7 @@ fn stop_by(error: StackError) -> Result<Step, StackError>
     }
 }
 
-/// Where the member at an address leads to, and whether it is kept. At most 4 reads.
+/// Where the member at an address leads to, and whether it is kept. At most 5 reads.
 fn read_step<P: ProcessMemory>(
     alloc: Global,
     process: &mut P,
@@ -91,7 +117,7 @@ fn read_step<P: ProcessMemory>(
     records: &mut Records,
 ) -> Result<Step, StackError>
     requires sound { IsSound layout.now }
-    ensures { Reading 4 (P.seen process.old) (P.seen process.new)
+    ensures { Reading 5 (P.seen process.old) (P.seen process.new)
         (λ m. StepIs (caller_of layout.now m at) (is_kept layout.now m at) result) }
 {
     match read_records(process, layout, at, records) {
@@ -115,7 +141,7 @@ fn add_kept(kept: &mut Vec<u64>, at: u64, stands: bool) -> Result<(), AllocFaile
 }
 
 /// The chain of callers from a thread's first frame on, at most `limit` members of it. The one error is want of
-/// memory. At most 4 reads for each member that is met, and 4 more.
+/// memory. At most 5 reads for each member that is met, and 5 more.
 pub(crate) fn walk_members<P: ProcessMemory>(
     alloc: Global,
     process: &mut P,

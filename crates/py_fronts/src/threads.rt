@@ -33,7 +33,7 @@ use std::alloc::Global;
 /// but one that stands before its first instruction has the first line of its code, and a fault of its locals is its
 /// own and ends nothing.
 ///
-/// The one error is want of memory. At most one read, 6 for each thread, 4 for each member that is met; and 15 for each
+/// The one error is want of memory. At most one read, 7 for each thread, 5 for each member that is met; and 15 for each
 /// that is shown, with 4 for each of its variables where they are asked for.
 pub fn get_threads_front<P: ProcessMemory>(
     alloc: Global,
@@ -68,7 +68,7 @@ pub fn get_threads_front<P: ProcessMemory>(
     ensures few { IfOk result (λ front. length front.threads.items ≤ 4096) }
     // whatever the memory holds, as cyclic chains
     ensures most { (P.seen process.new).reads ≤ (P.seen process.old).reads
-        + (1 + 4 * left.old + (6 + ends_reads asked limit) * 4096) }
+        + (1 + 5 * left.old + (7 + ends_reads asked limit) * 4096) }
 {
     walk_threads(
         alloc,

@@ -41,6 +41,13 @@ abbrev pub head_where : Option OffsetsAt → Option ℕ → Memory → List ℕ
 head_where None runtime m = []
 head_where (Some o) runtime m = at_symbol runtime (head_by_offsets o m)
 
+-- the head by the address of the runtime's own record, where that is known: at an offset that the version or the record
+-- gives. There is none up to 3.6
+abbrev pub head_from : Head → Version → Layout → Memory → Option ℕ → List ℕ
+head_from Symbol v l m runtime = []
+head_from Runtime v l m runtime = at_symbol runtime (λ a. word_at m (a + interp_head_offset v))
+head_from Offsets v l m runtime = head_where l.offsets runtime m
+
 -- the word at `interp_head`; or in the record at `_PyRuntime`, at an offset that the version or the record gives
 abbrev pub head_by : Head → Known → Version → Layout → Memory → List ℕ
 head_by Symbol k v l m = at_symbol (symbol_known k (codes "interp_head")) (word_at m)

@@ -2,7 +2,7 @@
 ghost use Rattle.std.specs.Prelude.{◌≡◌, ◌+◌, ◌<◌, ◌≤◌, ◌^◌};
 ghost use Rattle.process_memory.specs.Seen.{Reads, ReadingBelow, read_fault};
 ghost use Rattle.py_fields.specs.Sound.{IsSound};
-ghost use Rattle.py_process.specs.Candidates.{ListIs, Seeking, head_by, head_by_offsets, or_nothing};
+ghost use Rattle.py_process.specs.Candidates.{ListIs, Seeking, head_by, head_by_offsets, head_from, or_nothing};
 ghost use Rattle.py_process.specs.Facts.{known_of};
 
 use crate::candidates::is_interpreter_in;
@@ -42,6 +42,35 @@ fn read_by_offsets<P: ProcessMemory>(
     word_past(process, runtime, head)
 }
 
+/// The head by the address of the runtime's own record (`_PyRuntime`), by the layout's family; nothing where that is not
+/// known, where a layout has no such record, as up to 3.6, or where something on the way is not in memory. The one error
+/// is want of memory. At most 2 reads.
+pub fn read_head_from<P: ProcessMemory>(
+    alloc: Global,
+    process: &mut P,
+    version: &Version,
+    layout: &Layout,
+    runtime: Option<u64>,
+) -> Result<Option<u64>, SearchError>
+    requires sound { IsSound layout.now }
+    ensures { ReadingBelow (2 ^ 64) 2 (P.seen process.old) (P.seen process.new)
+        (λ m. ListIs (head_from layout.now.head version.now layout.now m runtime) result) }
+{
+    let Some(runtime) = runtime else {
+        return Ok(None);
+    };
+    match (layout.head, layout.offsets) {
+        (Head::Runtime, _) => {
+            or_nothing(word_past(process, runtime, get_interp_head_offset(version)))
+        }
+        (Head::Offsets, Some(offsets)) => {
+            or_nothing(read_by_offsets(alloc, process, &offsets, runtime))
+        }
+        (Head::Offsets, None) => Ok(None),
+        (Head::Symbol, _) => Ok(None),
+    }
+}
+
 /// The head that symbols give, by the layout's family; nothing where there is no such symbol, or something on the way
 /// is not in memory. The one error is want of memory. At most 2 reads.
 pub fn read_head<M: ContainsAddr, P: ProcessMemory>(
@@ -55,22 +84,17 @@ pub fn read_head<M: ContainsAddr, P: ProcessMemory>(
     ensures { ReadingBelow (2 ^ 64) 2 (P.seen process.old) (P.seen process.new)
         (λ m. ListIs (head_by layout.now.head (known_of info.now) version.now layout.now m) result) }
 {
-    match (layout.head, layout.offsets) {
-        (Head::Symbol, _) => match info.symbol(b"interp_head") {
+    match layout.head {
+        Head::Symbol => match info.symbol(b"interp_head") {
             Some(addr) => or_nothing(word(process, addr)),
             None => Ok(None),
         },
-        (Head::Runtime, _) => match info.symbol(b"_PyRuntime") {
-            Some(runtime) => {
-                or_nothing(word_past(process, runtime, get_interp_head_offset(version)))
-            }
-            None => Ok(None),
-        },
-        (Head::Offsets, Some(offsets)) => match info.symbol(b"_PyRuntime") {
-            Some(runtime) => or_nothing(read_by_offsets(alloc, process, &offsets, runtime)),
-            None => Ok(None),
-        },
-        (Head::Offsets, None) => Ok(None),
+        Head::Runtime => {
+            read_head_from(alloc, process, version, layout, info.symbol(b"_PyRuntime"))
+        }
+        Head::Offsets => {
+            read_head_from(alloc, process, version, layout, info.symbol(b"_PyRuntime"))
+        }
     }
 }
 

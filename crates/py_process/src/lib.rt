@@ -23,7 +23,7 @@ mod version_error;
 pub use binary::{BinaryInfo, parse_binary};
 pub use binary_error::BinaryError;
 pub use core_error::CoreError;
-pub use head::read_head;
+pub use head::{read_head, read_head_from};
 pub use interpreter::get_interpreter_address;
 pub use library::is_python_lib;
 pub use lock::get_threadstate_address;

@@ -1,7 +1,6 @@
-//! Runs over files and streams in memory that fail at a given call, and over files that are cut. What a whole run
-//! prints and says is shown by the rows of the program.
+//! Runs of both programs over files and streams in memory that fail at a given call, and over files that are cut. What
+//! a whole run prints and says is shown by the rows of the programs.
 use crate::made::{core, image};
-use core_report::run;
 use elf64_core::Name;
 use outside::{MemoryFiles, MemorySink};
 use std::alloc::{AllocError, Global};
@@ -49,7 +48,8 @@ const ADDRESSES: &[u8] = b"0x9999\n";
 /// For how many bytes there is room in a stream, where nothing else is said.
 const ROOM: u32 = 1000;
 
-/// A command over files that serve: its words and the files that it asks for, in order, each with blanks between them;
+/// A command over files that serve: its words, which for `pysalvage` begin with its name, and the files that it asks for,
+/// in order, each with blanks between them;
 /// how many bytes it prints, and which, where these are a text; and what it prints before the cause where its core is
 /// cut, and with the cause where its image is, if it goes on then.
 struct Row {
@@ -65,7 +65,7 @@ const STACKS: &str = "Python v3.9.0\n\nThread 0x7F00\n";
 
 const PLACES: &str = "Python v3.9.0\nInterpreter 0x10000\nLock 0x0\n";
 
-const ROWS: [Row; 8] = [
+const ROWS: [Row; 9] = [
     Row {
         words: "walk core sample 3.9.0 0x10000 0",
         files: "core",
@@ -132,7 +132,28 @@ const ROWS: [Row; 8] = [
         cut_core: None,
         cut_image: None,
     },
+    Row {
+        words: "pysalvage core --layouts layouts /usr/bin/python3.9=image",
+        files: "core layouts image",
+        length: 29,
+        text: Some(STACKS),
+        cut_core: None,
+        cut_image: None,
+    },
 ];
+
+fn is_of_salvage(words: &str) -> bool {
+    words.starts_with("pysalvage ")
+}
+
+/// The program that these words are for, with which its lines begin.
+fn program_of(words: &str) -> &'static str {
+    if is_of_salvage(words) {
+        "pysalvage"
+    } else {
+        "pystacks"
+    }
+}
 
 /// A run: its words, with blanks between them, to how many bytes the core and the image are cut, the read and the write
 /// that fail, the write after so many bytes, and the room for the text and for the line.
@@ -204,7 +225,11 @@ fn run_trial(alloc: Global, trial: &Trial<'_>) -> Result<Ran, AllocError> {
     let mut out = MemorySink::new(alloc, trial.room, failing)?;
     let mut err = MemorySink::new(alloc, trial.room_for_line, Vec::new(alloc))?;
     let words = words(alloc, trial.words)?;
-    let status = run(alloc, &words, &mut files, &mut out, &mut err);
+    let status = if is_of_salvage(trial.words) {
+        salvage_report::run(alloc, &words, &mut files, &mut out, &mut err)
+    } else {
+        core_report::run(alloc, &words, &mut files, &mut out, &mut err)
+    };
     Ok(Ran { status, out, err })
 }
 

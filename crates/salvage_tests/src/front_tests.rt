@@ -236,7 +236,8 @@ fn threads_end_as_their_chain_does(rt: HostRuntime) -> Result<(), Fail> {
 }
 
 /// Interpreters: two whose first thread is the same one, which names the first of them; one that the record of the
-/// first names; one with a whole chain of threads, one with a broken one, and one that has none any more.
+/// first names; one with a whole chain of threads, one with a broken one, and one that has none any more; one that
+/// leads past two without a thread, and one without a thread that is its own next.
 const TWIN: u64 = 0x1200;
 
 const LISTED: u64 = 0x1300;
@@ -247,7 +248,15 @@ const TORN: u64 = 0x1500;
 
 const OVER: u64 = 0x1600;
 
-const INTERPRETERS: [(u64, &[u64]); 10] = [
+const NEWEST: u64 = 0x1700;
+
+const IDLE: u64 = 0x1800;
+
+const IDLER: u64 = 0x1900;
+
+const RING: u64 = 0x1a00;
+
+const INTERPRETERS: [(u64, &[u64]); 15] = [
     (INTERPRETER, &[LISTED, THREAD]),
     (THREAD, &[0, 0, INTERPRETER, WHOLE, 7, 0, 0, 0]),
     (TWIN, &[0, THREAD]),
@@ -258,6 +267,11 @@ const INTERPRETERS: [(u64, &[u64]); 10] = [
     (TORN, &[0, 0x2400]),
     (0x2400, &[0, LOST, TORN, 0, 10, 0, 0, 0]),
     (OVER, &[LISTED, 0]),
+    (NEWEST, &[IDLE, 0x2500]),
+    (0x2500, &[0, 0, NEWEST, 0, 11, 0, 0, 0]),
+    (IDLE, &[IDLER, 0]),
+    (IDLER, &[LISTED, 0]),
+    (RING, &[RING, 0]),
 ];
 
 /// The words of the runtime section, of which the fifth is the head, and of the bss of a program.
@@ -266,8 +280,9 @@ const RUNTIME: u64 = 0x50_0000;
 const BSS: u64 = 0x60_0000;
 
 /// Words of both, and the interpreters that are found, with whether by search alone: the head has threads, a broken
-/// chain of them, none at all, another's, and none but a record that names one.
-const SEARCHES: [(&[u64], &[u64], &[(u64, bool)]); 5] = [
+/// chain of them, none at all, another's, and none but a record that names one; it leads past some without a thread,
+/// and round to itself.
+const SEARCHES: [(&[u64], &[u64], &[(u64, bool)]); 7] = [
     (
         &[0, 0, 0, 0, INTERPRETER, TWIN, INTERPRETER],
         &[OVER, SINGLE, INTERPRETER],
@@ -285,17 +300,24 @@ const SEARCHES: [(&[u64], &[u64], &[(u64, bool)]); 5] = [
         &[],
         &[(LISTED, false), (SINGLE, true)],
     ),
+    (
+        &[0, 0, 0, 0, NEWEST],
+        &[LISTED],
+        &[(NEWEST, false), (LISTED, false)],
+    ),
+    (&[0, 0, 0, 0, RING], &[RING], &[]),
 ];
 
-/// A process of a program with so many words in both sections, and of one map.
+/// A process of a program with so many words in both sections, whose symbols have this name, and of one map.
 fn info(
     alloc: Global,
+    symbol: &[u8],
     runtime: &[u64],
     bss: &[u64],
 ) -> Result<PythonProcessInfo<Vec<CoreMapRange>>, AllocError> {
     let mut symbols = BTreeMap::new(alloc);
     let mut name = Vec::new(alloc);
-    name.extend_from_slice(b"_PyRuntime")?;
+    name.extend_from_slice(symbol)?;
     symbols.insert(name, RUNTIME)?;
     let program = BinaryInfo {
         symbols,
@@ -336,12 +358,15 @@ fn interpreters_are_found_in_order(rt: HostRuntime) -> Result<(), Fail> {
         records.push((RUNTIME, *runtime))?;
         records.push((BSS, *bss))?;
         let mut part = memory(alloc, &records)?;
-        let info = info(alloc, runtime, bss)?;
-        let version = get_python_version(alloc, &info, &mut part)?;
-        let finds = find_interpreters(alloc, &info, &mut part, &version, &layout)?;
-        let same = finds.found.iter().map(|one| (one.address, one.searched));
-        assert!(rt; same.eq(wanted.iter().copied()));
-        assert!(rt; !finds.more);
+        // the section leads to the head, too
+        for symbol in [b"_PyRuntime".as_slice(), b"no symbol"] {
+            let info = info(alloc, symbol, runtime, bss)?;
+            let version = get_python_version(alloc, &info, &mut part)?;
+            let finds = find_interpreters(alloc, &info, &mut part, &version, &layout)?;
+            let same = finds.found.iter().map(|one| (one.address, one.searched));
+            assert!(rt; same.eq(wanted.iter().copied()));
+            assert!(rt; !finds.more);
+        }
     }
     Ok(())
 }
@@ -378,7 +403,7 @@ fn whole_fronts_are_a_report(rt: HostRuntime) -> Result<(), Fail> {
     records.push((INTERPRETER, &[0, THREAD]))?;
     records.push((RUNTIME, &[INTERPRETER]))?;
     let mut part = memory(alloc, &records)?;
-    let info = info(alloc, &[INTERPRETER], &[])?;
+    let info = info(alloc, b"_PyRuntime", &[INTERPRETER], &[])?;
     let version = get_python_version(alloc, &info, &mut part)?;
     let fronts = get_fronts(alloc, &info, &mut part, &version, &layout, ASKED, 9)?;
     let config = Config {
@@ -406,7 +431,7 @@ fn at_most_sixteen_are_shown(rt: HostRuntime) -> Result<(), Fail> {
         }
         pieces.push(piece(alloc, RUNTIME, &[INTERPRETER])?)?;
         let mut part = Part::of(alloc, pieces);
-        let info = info(alloc, &[INTERPRETER], &[])?;
+        let info = info(alloc, b"_PyRuntime", &[INTERPRETER], &[])?;
         let version = get_python_version(alloc, &info, &mut part)?;
         let finds = find_interpreters(alloc, &info, &mut part, &version, &layout)?;
         assert_eq!(rt; (finds.found.len(), finds.more), (16, more));

@@ -1,5 +1,5 @@
 //! Cores and images that are cut at each length. A test is a process of its own, which has a minute: so no one has all.
-use super::{ROWS, Row, Trial, check, whole};
+use super::{ROWS, Row, Trial, check, program_of, whole};
 use crate::made::{core, image};
 use std::alloc::Global;
 use std::process::Abort;
@@ -29,7 +29,7 @@ fn cut_core(rt: &impl Abort, alloc: Global, row: &Row, whole_length: usize) -> R
                 check(rt, alloc, &trial, 0, printed.as_bytes(), b"")?;
             }
             None => {
-                let line = format!(in alloc; "pystacks: {cause}\n")?;
+                let line = format!(in alloc; "{}: {cause}\n", program_of(row.words))?;
                 check(rt, alloc, &trial, 1, b"", line.as_bytes())?;
             }
         }
@@ -63,7 +63,12 @@ fn cores_that_are_opened_are_cut(rt: HostRuntime) -> Result<(), Fail> {
 
 #[test]
 fn groups_and_objects_have_cores_that_are_cut(rt: HostRuntime) -> Result<(), Fail> {
-    cut_cores(&rt, rt.alloc(), &ROWS[6..])
+    cut_cores(&rt, rt.alloc(), &ROWS[6..8])
+}
+
+#[test]
+fn broken_processes_have_cores_that_are_cut(rt: HostRuntime) -> Result<(), Fail> {
+    cut_cores(&rt, rt.alloc(), &ROWS[8..])
 }
 
 /// Cuts the image of a command at each length but its own.
@@ -75,14 +80,11 @@ fn cut_image(rt: &impl Abort, alloc: Global, row: &Row, whole_length: usize) -> 
         };
         match row.cut_image {
             Some(printed) => check(rt, alloc, &trial, 0, printed.as_bytes(), b"")?,
-            None => check(
-                rt,
-                alloc,
-                &trial,
-                1,
-                b"",
-                b"pystacks: bad image: /usr/bin/python3.9\n",
-            )?,
+            None => {
+                let program = program_of(row.words);
+                let line = format!(in alloc; "{program}: bad image: /usr/bin/python3.9\n")?;
+                check(rt, alloc, &trial, 1, b"", line.as_bytes())?;
+            }
         }
     }
     Ok(())
@@ -104,5 +106,10 @@ fn walks_dumps_and_merges_have_images_that_are_cut(rt: HostRuntime) -> Result<()
 
 #[test]
 fn other_commands_have_images_that_are_cut(rt: HostRuntime) -> Result<(), Fail> {
-    cut_images(&rt, rt.alloc(), &ROWS[4..])
+    cut_images(&rt, rt.alloc(), &ROWS[4..8])
+}
+
+#[test]
+fn broken_processes_have_images_that_are_cut(rt: HostRuntime) -> Result<(), Fail> {
+    cut_images(&rt, rt.alloc(), &ROWS[8..])
 }

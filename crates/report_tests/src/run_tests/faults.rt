@@ -1,5 +1,5 @@
 //! Each read, each write and each line that fails.
-use super::{ROWS, Row, Trial, check, run_trial, whole};
+use super::{ROWS, Row, Trial, check, program_of, run_trial, whole};
 use std::alloc::Global;
 use std::process::Abort;
 use std::test::Fail;
@@ -29,7 +29,7 @@ fn fail_reads(rt: &impl Abort, alloc: Global, row: &Row) -> Result<(), Fail> {
             failing_read: Some(call),
             ..trial
         };
-        let line = format!(in alloc; "pystacks: cannot read {name}\n")?;
+        let line = format!(in alloc; "{}: cannot read {name}\n", program_of(row.words))?;
         check(rt, alloc, &failing, 3, b"", line.as_bytes())?;
         call = call.saturating_add(1);
     }
@@ -62,20 +62,14 @@ fn fail_writes(
     length: usize,
 ) -> Result<(), Fail> {
     let printed = printed(rt, alloc, trial, length)?;
+    let line = format!(in alloc; "{}: cannot write\n", program_of(trial.words))?;
     for place in 0..printed.len() {
         if is_tried(place, printed.len()) {
             let failing = Trial {
                 failing_write: Some((0, place as u64)),
                 ..*trial
             };
-            check(
-                rt,
-                alloc,
-                &failing,
-                4,
-                &printed[..place],
-                b"pystacks: cannot write\n",
-            )?;
+            check(rt, alloc, &failing, 4, &printed[..place], line.as_bytes())?;
         }
     }
     let failing = Trial {
@@ -124,8 +118,14 @@ fn the_core_of_a_sample_fails_as_it_is_written(rt: HostRuntime) -> Result<(), Fa
 }
 
 /// Words that come to a line, with their status.
-const LINES: [(&str, u8, &str); 8] = [
+const LINES: [(&str, u8, &str); 10] = [
     ("dude", 2, "pystacks: bad words\n"),
+    ("pysalvage core", 2, "pysalvage: bad words\n"),
+    (
+        "pysalvage core --layouts layouts",
+        1,
+        "pysalvage: image not given: /usr/bin/python3.9\n",
+    ),
     (
         "walk none sample 3.9.0 0x10000 0",
         3,

@@ -1,10 +1,19 @@
-use Rattle.std.proofs.Common.{arith, min, ◌≡◌, ◌/◌}
-use Rattle.process_memory.proofs.Reading.{reading_gives}
+use Rattle.std.proofs.Common.{arith, ap, length, ◌^◌}
+use Rattle.std.proofs.lemmas.Result.{err_from_is_err_and}
+use Rattle.process_memory.proofs.Reading.{reading_gives, reading_then}
+use Rattle.py_process.proofs.Wider.{reading_wider}
 use Rattle.py_fronts.proofs.CandidateSteps.{record_added}
+use Rattle.py_fronts.proofs.Steps.{lost_first}
 use Rattle.py_fronts.proofs.candidates.add_record.Goals as goal
+
+pub returns-in_err-words : goal.returns-in_err-words
+returns-in_err-words g c =
+    let p = err_from_is_err_and c.from_residual.result c.from_residual.ensures.1 in
+    rw p.1 (lost_first _ c.in_err-words.ensures.answer p.2 (omega arith))
 
 pub returns : goal.returns
 returns g c =
-    let count : c.from.result ≡ min (c.args.layout.now.interpreter.threads / 8) 1024 = omega arith in
-    reading_gives _ _ c.add_section.ensures (omega arith)
-    (λ m a. record_added c.args.layout.now m c.args.interpreter c.from.result c.args.words.now.items _ _ count a)
+    reading_gives _ _ (reading_then _ c.in_ok-words.ensures.answer (reading_wider (2 ^ 64) c.add_led_to.ensures (omega arith))
+    (λ m a b. record_added c.args.layout.now m c.args.interpreter c.in_ok-words.words.items _
+    c.args.candidates.now.items _ _ a c.deref.ensures.value b))
+    (omega (arith, c.in_ok-words.ensures.few, ap length c.deref.ensures.value)) (λ m h. h)

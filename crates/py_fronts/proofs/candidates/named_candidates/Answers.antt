@@ -8,13 +8,13 @@ use Rattle.py_fronts.proofs.candidates.named_candidates.Goals as goal
 pub returns-in-Ok-Some : goal.returns-in-Ok-Some
 returns-in-Ok-Some g c =
     let read = c.in-Ok-Some.is ∙ ap Ok c.in-Ok-Some.field-0-is in
-    reading_gives _ _ (reading_then _ c.read_head.ensures c.head_candidates.ensures
+    reading_gives _ _ (reading_then _ c.read_given.ensures c.head_candidates.ensures
     (λ m a b. head_named (known_of c.args.info.now) c.args.version.now c.args.layout.now m c.in-Ok-Some.head
-    c.read_head.result _ read a b)) (omega arith) (λ m h. h)
+    c.read_given.result _ read a b)) (omega arith) (λ m h. h)
 
 pub returns-in-Ok-None : goal.returns-in-Ok-None
 returns-in-Ok-None g c =
     let read = c.in-Ok-None.is ∙ ap Ok c.in-Ok-None.field-0-is in
-    reading_gives _ _ c.read_head.ensures (omega arith)
-    (λ m a. none_named (known_of c.args.info.now) c.args.version.now c.args.layout.now m _ c.read_head.result read a
+    reading_gives _ _ c.read_given.ensures (omega arith)
+    (λ m a. none_named (known_of c.args.info.now) c.args.version.now c.args.layout.now m _ c.read_given.result read a
     c.new.ensures.items)
