@@ -18,6 +18,9 @@ CHAIN, RECORDS = 0x10000000, 0x20000000
 APART = 64
 """A frame and a thread have as many bytes each, and stand one behind the other."""
 
+IDLE = 64
+"""Past how many interpreters without threads in a row a record leads."""
+
 HOLDER = 568
 """Where `_PyRuntime` of 3.9 names the current thread."""
 
@@ -192,20 +195,19 @@ def parted(random: Random, how: int, far: Objects, places: Sequence[int]) -> Tup
 
 
 def interpreters(random: Random, limit: int) -> Left:
-    """Interpreters of which each names the next one, in a ring or not: behind one without threads none is found, unless
-    it is the head."""
-    count = random.choice((1, 2, 3, 15, 16, 17, 20))
-    objects = Objects(layout_of(EXAMPLE), HEAP)
-    places = [objects.record("interpreter") for _ in range(count)]
-    idle = {random.randrange(count)} if count > 1 and random.random() < 0.5 else set()
-    found = []
-    for nth, place in enumerate(places):
-        at = objects.threads(place, [] if nth in idle else [{"id": nth + 1}])
-        found.append(interpreter(place, [thread(at, nth + 1, frames_of([], [], WHOLE, limit))]))
+    """Interpreters of which each names the next one, in a ring or not, with some in a row that have no threads: those
+    behind up to 64 of these are found, of which the head is none."""
+    count, idle = random.choice((1, 2, 3, 15, 16, 17, 20)), random.choice((0, 0, 1, 2, IDLE, IDLE + 1))
+    before = random.randrange(count + 1)
+    objects, found = Objects(layout_of(EXAMPLE), HEAP), []
+    places = [objects.record("interpreter") for _ in range(count + idle)]
+    for number, place in enumerate([*places[:before], *places[before + idle :]], 1):
+        at = objects.threads(place, [{"id": number}])
+        found.append(interpreter(place, [thread(at, number, frames_of([], [], WHOLE, limit))]))
     for place, after in zip(places, [*places[1:], random.choice((0, *places))]):
         objects.word(place, after)
-    first, last = (1, count) if 0 in idle else (0, min([*idle, count]))
-    return Left([objects.segment(6)], found[first:last][:INTERPRETERS], last - first > INTERPRETERS)
+    known = found if idle <= IDLE or before == 0 else found[:before]
+    return Left([objects.segment(6)], known[:INTERPRETERS], len(known) > INTERPRETERS)
 
 
 # ---- the whole
