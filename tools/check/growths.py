@@ -7,8 +7,7 @@
 A growth that is refused gives status 5 and its line, or the whole answer where it was spare; a read that fails gives
 status 3, a write that fails status 4, and one that is short or interrupted the whole answer. Nothing is printed under
 another status than 0, or than 4, under which a front of the text may be. With --step each Nth growth alone is refused,
-with --most at most so many of a run.
-The status is 0 exactly where all of that holds, or where there is no gdb.
+with --most at most so many of a run. The status is 0 exactly where all of that holds, or where there is no gdb.
 """
 
 import argparse

@@ -128,8 +128,8 @@ def main():
         whole = file.read()
     with open(task["answers"], "w", encoding="utf-8") as answers:
         for call, fault in task["faults"]:
-            is_refused = fault == "refused"
-            for nth, ended in refused(task, call, task["step"], task["most"]) if is_refused else faulty(task, call, fault):
+            runs = refused(task, call, task["step"], task["most"]) if fault == "refused" else faulty(task, call, fault)
+            for nth, ended in runs:
                 with open(task["out"], "rb") as out, open(task["said"], "rb") as said:
                     text, line = out.read(), said.read().decode("latin-1")
                 shown = None if text == whole else text.decode("latin-1")
