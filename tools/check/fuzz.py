@@ -1,12 +1,14 @@
 #!/usr/bin/env python3
-"""Runs the built program on hostile input: valid files and words after changes of bytes, numbers, links and lengths.
+"""Runs the built programs on hostile input: valid files and words after changes of bytes, numbers, links and lengths.
 
-    tools/check/fuzz.py --program crates/pystacks/out/pystacks [--seed S] [--count N] [--command dump] [--keep DIR]
+    tools/check/fuzz.py --program crates/pystacks/out/pystacks [--salvage crates/pysalvage/out/pysalvage]
+                        [--seed S] [--first N] [--count N] [--command dump].. [--workers N] [--keep DIR]
 
-Each run must end within 10 seconds and 300 MB, with a status that its command has, and with either a text of that
-command or one line that docs/MESSAGES.md has for that status. The text of `dump` must show what its JSON says. One run of
-eight has a change of which the rules tell the answer, and must give it. A case is told by its seed and its number: files of
-those that fail are kept in DIR. The status is 0 exactly where none fails.
+Each run must end within 10 seconds of the processor and 300 MB, with a status that its command has, and with either a
+text of that command or one line that docs/MESSAGES.md has for that status. The text of `dump` and of `pysalvage` must
+show what its JSON says. One run of eight has a change of which the rules tell the answer, and must give it; of `sample`
+one of two. A case is told by its command, its seed and its number: files of those that fail are kept in DIR. The status
+is 0 exactly where none fails.
 """
 
 import argparse
@@ -22,44 +24,77 @@ from concurrent.futures import ProcessPoolExecutor
 from dataclasses import dataclass
 from pathlib import Path
 from random import Random
-from typing import Dict, List, Optional, Sequence, Tuple
+from typing import Callable, Dict, Iterator, List, Optional, Sequence, Tuple
 
 import changes
 import rows_dump
 import rows_merge
 import rows_reach
+import rows_salvage
 import rows_slim
 import rows_triage
 import rows_walk
 from child_cores import Failure
-from rooms import ROOT
-from row import Row
+from rooms import BUILT_SALVAGE, ROOT
+from row import Row, row
+from sample_cores import walk_text
+from salvage_text import text_of, tree_of
 from slim_reader import check_slim
+from told import TELLERS, Told, number_of
+from told_salvage import SALVAGE_TELLERS
 
 SECONDS, MEMORY = 10, 300 * 10 ** 6
 
-COMMANDS = {"dump": rows_dump.rows, "walk": rows_walk.rows, "triage": rows_triage.rows, "reach": rows_reach.rows, "merge": rows_merge.rows,
-            "locate": rows_slim.rows, "slim": rows_slim.slim_rows}
-"""The commands, and whose rows the cases begin with."""
+COMMANDS: Dict[str, Callable[[], List[Row]]] = {
+    "dump": rows_dump.rows, "walk": rows_walk.rows, "triage": rows_triage.rows, "reach": rows_reach.rows,
+    "merge": rows_merge.rows, "locate": rows_slim.rows, "slim": rows_slim.slim_rows, "sample": lambda: [],
+    "pysalvage": rows_salvage.rows}
+"""The commands, and whose rows the cases begin with. (`pysalvage` is a program of its own. Those of `sample` begin with
+cores that it writes.)"""
 
-STATUSES = {name: {0, 1, 2, 3, 5, 6} | more for name, more in (
-    ("dump", set()), ("walk", set()), ("triage", set()), ("reach", {9}), ("merge", {7}), ("locate", set()), ("slim", {8}))}
+FURTHER = {"merge": {7}, "slim": {8}, "reach": {9}}
+STATUSES = {name: {0, 1, 2, 3, 5, 6} | FURTHER.get(name, set()) for name in COMMANDS}
 """The statuses that a command has, less 4: the output can always be written here."""
 
-HOLES = {"ADDR": rb"0x[0-9a-f]+", "N": rb"-?\d+", "M": rb"\d+", "V": rb"\S+", "KEY": rb".*", "PATH": rb".*", "NAME": rb".*"}
+TOLD = {**TELLERS, "pysalvage": SALVAGE_TELLERS}
+
+HOLES = {"ADDR": rb"0x[0-9a-f]+", "N": rb"-?\d+", "M": rb"\d+", "V": rb"\S+",
+         "KEY": rb".*", "PATH": rb".*", "NAME": rb".*"}
+
+Lines = Dict[int, List["re.Pattern[bytes]"]]
 
 
-def lines_of_page() -> Dict[int, List["re.Pattern[bytes]"]]:
-    """The lines that docs/MESSAGES.md has for each status, as patterns."""
-    found: Dict[int, List["re.Pattern[bytes]"]] = {}
-    page = (ROOT / "docs" / "MESSAGES.md").read_text(encoding="utf-8").split("\n## ")[1]
-    for row in page.splitlines():
-        cells = re.fullmatch(r"\| (?:(\d) \| )?`([^`]+)` \|.*", row)
-        if cells:
-            text = re.sub(r"\b(" + "|".join(HOLES) + r")\b", "\0\\1\0", cells.group(2)).split("\0")
-            pattern = b"".join(HOLES[part] if at % 2 else re.escape(part.encode()) for at, part in enumerate(text))
-            found.setdefault(int(cells.group(1) or 1), []).append(re.compile(rb"pystacks: " + pattern + rb"\n", re.DOTALL))
+def rows_of_page() -> Iterator[Tuple[str, int, str]]:
+    """The lines that docs/MESSAGES.md has of the programs: the program's name, the status, and the line behind both."""
+    page, program = (ROOT / "docs" / "MESSAGES.md").read_text(encoding="utf-8").split("\n## ")[1], ""
+    for line in page.splitlines():
+        head = re.fullmatch(r"\| (?:status \| )?line, after `(\w+): ` \|.*", line)
+        cells = re.fullmatch(r"\| (?:(\d) \| )?`([^`]+)` \|.*", line)
+        if head:
+            program = head.group(1)
+        elif cells:
+            yield program, int(cells.group(1) or 1), cells.group(2)
+
+
+def patterns_of(program: str, rows: Sequence[Tuple[str, int, str]]) -> Lines:
+    """The lines of some rows as patterns, by their status, behind a program's name."""
+    found: Lines = {}
+    for _, status, line in rows:
+        parts = re.sub(r"\b(" + "|".join(HOLES) + r")\b", "\0\\1\0", line).split("\0")
+        pattern = b"".join(HOLES[part] if at % 2 else re.escape(part.encode()) for at, part in enumerate(parts))
+        found.setdefault(status, []).append(re.compile(program.encode() + b": " + pattern + rb"\n", re.DOTALL))
     return found
+
+
+def lines_of_page() -> Dict[str, Lines]:
+    """The lines of each program. `pysalvage` has its own; those of status 1 that a report has before it looks for its
+    interpreter; and those of the statuses 2 to 6."""
+    rows = list(rows_of_page())
+    shared, own = ([it for it in rows if it[0] == name] for name in ("pystacks", "pysalvage"))
+    before = [line for _, _, line in shared].index("no interpreter found")
+    others = [it for it in shared if 2 <= it[1] <= 6]
+    own += shared[:before] + others
+    return {name: patterns_of(name, found) for name, found in (("pystacks", shared), ("pysalvage", own))}
 
 
 LINES = lines_of_page()
@@ -79,11 +114,23 @@ def limited() -> None:
     resource.setrlimit(resource.RLIMIT_AS, (MEMORY, MEMORY))
 
 
+def used() -> float:
+    """How many seconds of the processor the children took that have ended."""
+    found = resource.getrusage(resource.RUSAGE_CHILDREN)
+    return found.ru_utime + found.ru_stime
+
+
 def ran(program: str, words: Sequence[str], folder: str) -> Answer:
-    """Runs the program in a folder."""
-    done = subprocess.run(
-        [program, *words], cwd=folder, env={}, timeout=SECONDS, stdin=subprocess.DEVNULL, stdout=subprocess.PIPE, stderr=subprocess.PIPE)
+    """Runs the program in a folder. On a machine that has other work it gets more time than it may use."""
+    begun = used()
+    done = subprocess.run([program, *words], cwd=folder, env={}, timeout=6 * SECONDS, stdin=subprocess.DEVNULL,
+                          stdout=subprocess.PIPE, stderr=subprocess.PIPE)
+    if used() - begun > SECONDS:
+        raise subprocess.TimeoutExpired(program, SECONDS)
     return Answer(done.returncode, done.stdout, done.stderr)
+
+
+# ---- texts
 
 
 def text_of_threads(threads: List[dict]) -> str:
@@ -118,51 +165,136 @@ TEXTS = {
 }
 
 
-def fault_of_text(command: str, program: str, words: Sequence[str], folder: str, out: bytes) -> Optional[str]:
-    """What is wrong with a text under status 0, if anything is."""
-    if command == "reach":
-        count, *rows = out.decode().splitlines()
-        places = [int(re.fullmatch(r"    0x([0-9a-f]+)( \?)?", row).group(1), 16) for row in rows]
-        return None if count == f"Objects {len(rows)}" and places == sorted(set(places)) else "the objects aren't in order"
-    if command == "slim":
-        check_slim(Path(folder, words[1]).read_bytes(), out)
-        return None
-    options = words[: words.index("--")] if "--" in words else words
-    has_json = any(re.fullmatch(r"--json|-[lns]*j.*", it) for it in options)
-    if command == "dump" and not has_json:
-        answer = ran(program, [words[0], "-j", *words[1:]], folder)
-        if answer.status != 0 or answer.said:
-            return f"status {answer.status} with -j: {answer.said!r}"
-        threads = text_of_threads(json.loads(answer.out)).encode()
-        head = out[: len(out) - len(threads)]
-        return None if out.endswith(threads) and TEXTS[command].fullmatch(head) else "the text isn't that of its JSON"
-    if command == "dump":
+@dataclass(frozen=True)
+class Run:
+    """A run of a command: the program, its words, and the folder in which it ran."""
+
+    command: str
+    program: str
+    words: Sequence[str]
+    folder: str
+
+    def again(self, *words: str) -> Answer:
+        """The same with other words."""
+        return ran(self.program, words, self.folder)
+
+
+def options_of(words: Sequence[str]) -> Sequence[str]:
+    """The words before two dashes."""
+    return words[: words.index("--")] if "--" in words else words
+
+
+def fault_of_dump(run: Run, out: bytes) -> Optional[str]:
+    """A text must be that of its JSON; JSON must be an array."""
+    if any(re.fullmatch(r"--json|-[lns]*j.*", it) for it in options_of(run.words)):
         return None if isinstance(json.loads(out), list) else "the JSON is no array"
-    return None if TEXTS[command].fullmatch(out) else "the text isn't one of its command"
+    answer = run.again(run.words[0], "-j", *run.words[1:])
+    if answer.status != 0 or answer.said:
+        return f"status {answer.status} with -j: {answer.said!r}"
+    threads = text_of_threads(json.loads(answer.out)).encode()
+    head = out[: len(out) - len(threads)]
+    return None if out.endswith(threads) and TEXTS["dump"].fullmatch(head) else "the text isn't that of its JSON"
 
 
-def fault_of(command: str, program: str, words: Sequence[str], folder: str, answer: Answer) -> Optional[str]:
+def frames_asked(words: Sequence[str]) -> int:
+    """How many frames at each end of a thread `pysalvage` is asked for."""
+    found = re.search(r" (?:-[lj]*n|--frames) ?=?(\d+)(?= |$)", " ".join(["", *options_of(words)]))
+    return int(found.group(1)) if found else 100
+
+
+def core_named(words: Sequence[str]) -> str:
+    """The word of `pysalvage` that names its core: the first one that is no option, nor the value of one."""
+    at, is_open = 0, True
+    while at < len(words):
+        if is_open and words[at] == "--":
+            is_open = False
+        elif is_open and re.fullmatch(r"--layouts|--frames|-[lj]*n", words[at]):
+            at += 1
+        elif not is_open or not words[at].startswith("-"):
+            return words[at]
+        at += 1
+    return ""
+
+
+def fault_of_salvage(run: Run, out: bytes) -> Optional[str]:
+    """JSON must have what docs/SALVAGE.md says, and a text must be that of its JSON."""
+    limit = frames_asked(run.words)
+    if any(re.fullmatch(r"--json|-l*j.*", it) for it in options_of(run.words)):
+        tree_of(out, limit)
+        return None
+    answer = run.again("-j", *run.words)
+    if answer.status != 0 or answer.said:
+        return f"status {answer.status} with -j: {answer.said!r}"
+    text = text_of(tree_of(answer.out, limit), core_named(run.words))
+    return None if out == text.encode() else "the text isn't that of its JSON"
+
+
+def fault_of_reach(run: Run, out: bytes) -> Optional[str]:
+    """The objects stand in the order of their addresses, behind their number."""
+    count, *rows = out.decode().splitlines()
+    places = [int(re.fullmatch(r"    0x([0-9a-f]+)( \?)?", row).group(1), 16) for row in rows]
+    return None if count == f"Objects {len(rows)}" and places == sorted(set(places)) else "the objects aren't in order"
+
+
+def fault_of_slim(run: Run, out: bytes) -> Optional[str]:
+    """A small core has nothing but pieces of the core, and the same walk, where one over the core needs no images."""
+    check_slim(Path(run.folder, run.words[1]).read_bytes(), out)
+    Path(run.folder, "small").write_bytes(out)
+    located = run.again("locate", *run.words[1:3], *run.words[4:])
+    version, interpreter, lock = (line.split(b" ")[-1].decode() for line in located.out.splitlines())
+    walks = [run.again("walk", name, run.words[2], version[1:], interpreter, lock) for name in (run.words[1], "small")]
+    return None if walks[0].status or walks[0] == walks[1] else f"a walk over it is another one: {walks[1].said!r}"
+
+
+def fault_of_sample(run: Run, out: bytes) -> Optional[str]:
+    """A walk over the core of a number has the stacks of the program of that number."""
+    Path(run.folder, "sampled").write_bytes(out)
+    walked = run.again("walk", "sampled", "sample", "3.9.0", "0x600000", "0")
+    wanted = walk_text(number_of(run.words[1])).encode()
+    is_right = walked == Answer(0, wanted, b"")
+    return None if is_right else f"a walk over it comes to status {walked.status}, {walked.said!r}"
+
+
+FAULTS: Dict[str, Callable[[Run, bytes], Optional[str]]] = {
+    "dump": fault_of_dump, "pysalvage": fault_of_salvage, "reach": fault_of_reach, "slim": fault_of_slim,
+    "sample": fault_of_sample}
+
+
+def fault_of_text(run: Run, out: bytes) -> Optional[str]:
+    """What is wrong with a text under status 0, if anything is."""
+    if run.command in FAULTS:
+        return FAULTS[run.command](run, out)
+    return None if TEXTS[run.command].fullmatch(out) else "the text isn't one of its command"
+
+
+def fault_of(run: Run, answer: Answer) -> Optional[str]:
     """What is wrong with an answer, if anything is."""
-    if answer.status not in STATUSES[command]:
+    if answer.status not in STATUSES[run.command]:
         return f"status {answer.status}"
     if answer.status == 0:
-        return "a line under status 0" if answer.said else fault_of_text(command, program, words, folder, answer.out)
+        return "a line under status 0" if answer.said else fault_of_text(run, answer.out)
     if answer.out:
         return f"a text under status {answer.status}"
-    return None if any(it.fullmatch(answer.said) for it in LINES[answer.status]) else f"the line {answer.said!r}"
+    lines = LINES["pysalvage" if run.command == "pysalvage" else "pystacks"][answer.status]
+    return None if any(it.fullmatch(answer.said) for it in lines) else f"the line {answer.said!r}"
 
 
-def case_of(command: str, rows: Sequence[Row], random: Random) -> Tuple[List[str], changes.Files]:
-    """A row's words and files, of which one has changes."""
-    row = random.choice(rows)
-    words, files = list(row.words), dict(row.files)
-    name = random.choice(sorted(files))
-    if random.random() < 0.05 and len(words) > 1:
-        at = random.randrange(1, len(words))
-        words[at] = changes.changed_word(random, words[at])
-    else:
-        files[name] = changes.changed(random, files[name])
-    return words, files
+def fault_of_told(run: Run, answer: Answer, told: Told) -> Optional[str]:
+    """Where an answer isn't the one that the rules tell."""
+    name = "pysalvage" if run.command == "pysalvage" else "pystacks"
+    said = f"{name}: {told.line}\n".encode() if told.line else b""
+    if (answer.status, answer.said) != (told.status, said):
+        return f"status {answer.status}, {answer.said!r} where status {told.status}, {said!r} is wanted"
+    if told.out is None:
+        return fault_of_text(run, answer.out)
+    pairs = zip(answer.out, told.out)
+    at = next((at for at, (one, two) in enumerate(pairs) if one != two), min(len(answer.out), len(told.out)))
+    first = max(0, at - 60)
+    shown, wanted = (it[first : at + 60] for it in (answer.out, told.out))
+    return None if answer.out == told.out else f"at byte {at} {shown!r} where {wanted!r} is wanted"
+
+
+# ---- cases
 
 
 @dataclass(frozen=True)
@@ -177,83 +309,139 @@ class Part:
     keep: str
 
 
-def run_part(part: Part) -> Tuple[Counter, List[str]]:
-    """Runs some cases: how often each status came, and what failed."""
-    limited()
-    rows = [it for it in COMMANDS[part.command]() if it.status == 0 and it.memory is None and not it.lengths and len(it.files) < 20]
-    statuses: Counter = Counter()
-    faults: List[str] = []
-    for number in range(part.first, part.first + part.count):
-        random = Random(f"{part.command} {part.seed} {number}")
-        told = random.choice(changes.TOLD)(random) if part.command in ("dump", "walk") and number % 8 == 0 else None
-        words, files = (told.words.split(), told.files) if told else case_of(part.command, rows, random)
-        with tempfile.TemporaryDirectory(prefix="fuzz-") as folder:
-            for name, data in files.items():
-                Path(folder, name).write_bytes(data)
-            status, fault = tried(part, words, folder, told)
-        statuses[status] += 1
-        if fault:
-            faults.append(f"{part.command}, seed {part.seed}, case {number}: {fault}")
-            keep(part.keep, f"{part.command}-{part.seed}-{number}", words, files)
-    return statuses, faults
+@dataclass(frozen=True)
+class Case:
+    """The words of a run and its files; and what the rules tell of it, if they do."""
+
+    words: Sequence[str]
+    files: changes.Files
+    told: Optional[Told] = None
 
 
-def tried(part: Part, words: Sequence[str], folder: str, told: Optional[changes.Told]) -> Tuple[Optional[int], Optional[str]]:
+def is_quick(row: Row) -> bool:
+    """Whether there are files, and neither many nor long ones."""
+    return 0 < len(row.files) < 20 and max(map(len, row.files.values())) < 300_000
+
+
+def rows_of(part: Part) -> List[Row]:
+    """The rows with which the cases begin."""
+    if part.command == "sample":
+        cores = [ran(part.program, ["sample", str(part.seed + nth), "core"], "/").out for nth in range(3)]
+        return [row("a made-up core", "walk core sample 3.9.0 0x600000 0", {"core": it}) for it in cores]
+    rows = [it for it in COMMANDS[part.command]() if it.status == 0 and it.memory is None and not it.lengths]
+    return [it for it in rows if is_quick(it)]
+
+
+def case_of(part: Part, number: int, rows: Sequence[Row]) -> Case:
+    """A case by its number: one of which the rules tell the answer, or a row with a change of a word or of a file."""
+    random = Random(f"{part.command} {part.seed} {number}")
+    if part.command in TOLD and number % (2 if part.command == "sample" else 8) == 0:
+        told = random.choice(TOLD[part.command])(random, part.command)
+        return Case(told.words, told.files, told)
+    begun = random.choice(rows)
+    words, files = list(begun.words), dict(begun.files)
+    name = random.choice(sorted(files))
+    if random.random() < 0.05 and len(words) > 1:
+        at = random.randrange(1, len(words))
+        words[at] = changes.changed_word(random, words[at])
+    else:
+        files[name] = changes.changed(random, files[name])
+    return Case(words, files)
+
+
+def tried(part: Part, case: Case, folder: str) -> Tuple[Optional[int], Optional[str]]:
     """Runs one case: its status, and what is wrong, if anything is."""
+    command = case.words[0] if case.words[0] in COMMANDS else part.command
+    run = Run(command, part.program, case.words, folder)
     try:
-        answer = ran(part.program, words, folder)
-        if told:
-            wanted = Answer(told.status, b"", f"pystacks: {told.line}\n".encode())
-            return answer.status, None if answer == wanted else f"{answer} where {wanted} is wanted"
-        command = words[0] if words[0] in COMMANDS else part.command
-        return answer.status, fault_of(command, part.program, words, folder, answer)
+        answer = run.again(*case.words)
+        return answer.status, fault_of_told(run, answer, case.told) if case.told else fault_of(run, answer)
     except subprocess.TimeoutExpired:
         return None, f"no end within {SECONDS} seconds"
     except (AttributeError, Failure, KeyError, TypeError, ValueError) as reason:
         return None, f"an answer that isn't read: {reason!r}"
 
 
-def keep(folder: str, name: str, words: Sequence[str], files: changes.Files) -> None:
+@dataclass
+class Outcome:
+    """How often each status came, what failed, and the run that took longest: its seconds and its number."""
+
+    statuses: Counter
+    faults: List[str]
+    longest: Tuple[float, int]
+
+
+def run_part(part: Part) -> Outcome:
+    """Runs some cases."""
+    limited()
+    rows, outcome = rows_of(part), Outcome(Counter(), [], (0.0, 0))
+    for number in range(part.first, part.first + part.count):
+        case, begun = case_of(part, number, rows), used()
+        with tempfile.TemporaryDirectory(prefix="fuzz-") as folder:
+            for name, data in case.files.items():
+                Path(folder, name).write_bytes(data)
+            status, fault = tried(part, case, folder)
+        outcome.statuses[status] += 1
+        outcome.longest = max(outcome.longest, (used() - begun, number))
+        if fault:
+            outcome.faults.append(f"{part.command}, seed {part.seed}, case {number}: {fault}")
+            keep(part.keep, f"{part.command}-{part.seed}-{number}", case)
+    return outcome
+
+
+def keep(folder: str, name: str, case: Case) -> None:
     """Keeps the files of a case, where that is asked for."""
     if folder:
         place = Path(folder, name)
         place.mkdir(parents=True, exist_ok=True)
-        for file, data in files.items():
+        for file, data in case.files.items():
             (place / file).write_bytes(data)
-        (place / "words").write_text(repr(list(words)), encoding="utf-8")
+        (place / "words").write_text(repr(list(case.words)), encoding="utf-8")
 
 
-def parts_of(words: argparse.Namespace, command: str) -> List[Part]:
-    """The cases of a command in parts, some for each processor."""
-    share = max(1, min(500, -(-words.count // (os.cpu_count() or 1))))
-    program = os.path.abspath(words.program)
-    return [Part(program, command, words.seed, first, min(share, words.count - first), words.keep)
-            for first in range(0, words.count, share)]
+def parts_of(words: argparse.Namespace, program: str, command: str) -> List[Part]:
+    """The cases of a command in parts, some for each worker."""
+    share, end = max(1, min(500, -(-words.count // words.workers))), words.first + words.count
+    return [Part(os.path.abspath(program), command, words.seed, first, min(share, end - first), words.keep)
+            for first in range(words.first, end, share)]
+
+
+def failures(words: argparse.Namespace, pool: ProcessPoolExecutor, program: str, command: str) -> int:
+    """Runs the cases of a command: how many of them failed, each of which has a line."""
+    statuses: Counter = Counter()
+    failed, longest = 0, (0.0, 0)
+    for outcome in pool.map(run_part, parts_of(words, program, command)):
+        statuses += outcome.statuses
+        failed += len(outcome.faults)
+        longest = max(longest, outcome.longest)
+        for fault in outcome.faults:
+            print(f"fuzz: {fault}", flush=True)
+    shares = ", ".join(f"{count} of status {status}" for status, count in sorted(statuses.items(), key=str))
+    print(f"fuzz: {command}, seed {words.seed}: {sum(statuses.values())} cases: {shares}; {failed} wrong; "
+          f"the longest, {longest[1]}, took {longest[0]:.2f} s", flush=True)
+    return failed
 
 
 def main() -> int:
     """The command."""
     parser = argparse.ArgumentParser(description=__doc__, formatter_class=argparse.RawDescriptionHelpFormatter)
     parser.add_argument("--program", required=True, help="the built program")
+    parser.add_argument("--salvage", default=str(BUILT_SALVAGE), help="the built `pysalvage`")
     parser.add_argument("--seed", type=int, default=1)
+    parser.add_argument("--first", type=int, default=0, help="the number of the first case (default: 0)")
     parser.add_argument("--count", type=int, default=100, help="how many cases each command has (default: 100)")
     parser.add_argument("--command", choices=sorted(COMMANDS), action="append", help="this command alone")
+    parser.add_argument("--workers", type=int, default=os.cpu_count() or 1, help="how many cases run at once")
     parser.add_argument("--keep", default="", help="a folder for the files of cases that fail")
     words = parser.parse_args()
-    if not os.path.isfile(words.program):
-        print(f"fuzz: nothing was run: there is no {words.program}")
-        return 0
     failed = 0
-    with ProcessPoolExecutor(os.cpu_count()) as pool:
+    with ProcessPoolExecutor(words.workers) as pool:
         for command in words.command or COMMANDS:
-            statuses: Counter = Counter()
-            for counted, faults in pool.map(run_part, parts_of(words, command)):
-                statuses += counted
-                failed += len(faults)
-                for fault in faults:
-                    print(f"fuzz: {fault}")
-            shares = ", ".join(f"{count} of status {status}" for status, count in sorted(statuses.items(), key=str))
-            print(f"fuzz: {command}, seed {words.seed}: {sum(statuses.values())} cases: {shares}", flush=True)
+            program = words.salvage if command == "pysalvage" else words.program
+            if os.path.isfile(program):
+                failed += failures(words, pool, program, command)
+            else:
+                print(f"fuzz: no case of {command} was run: there is no {program}")
     return 1 if failed else 0
 
 

@@ -5,6 +5,7 @@ from pathlib import Path
 
 TOOLS = Path(__file__).resolve().parent.parent
 ROOT = TOOLS.parent
+BUILT_SALVAGE = ROOT / "crates" / "pysalvage" / "out" / "pysalvage"
 
 # (a check that ran leaves nothing behind)
 sys.dont_write_bytecode = True

@@ -187,6 +187,13 @@ def frames() -> Iterator[Row]:
     cycle.frame(at=CALLER, code=MODULE_CODE, back=CALLER)
     yield salvage("frames: a cycle", f"{GOOD} -n 1", named(cycle),
                   head + first + "    ... 1048574 more frames\n" + last + "    ... cut after 1048576 members\n")
+    five = heap()
+    five.frame(at=FRAME, code=CODE, back=FRAME)
+    five.threads(HEAP, [{"id": number, "frame": FRAME} for number in range(1, 6)])
+    whole = f"{first}    ... 1048574 more frames\n{first}    ... cut after 1048576 members\n"
+    yield salvage("frames: a cycle in each of five threads", f"{GOOD} -n 1", named(five),
+                  "Python v3.9.0\n\nThread 0x5\n    ... cut after 0 members\n"
+                  + "".join(f"Thread 0x{number:X}\n{whole}" for number in (4, 3, 2, 1)))
 
 
 def threads() -> Iterator[Row]:

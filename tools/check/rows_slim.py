@@ -1,8 +1,8 @@
 """Rows of `pystacks locate` and `pystacks slim`: the words, the order of the work, and what is told and written."""
 
-from dataclasses import replace
 from typing import Iterator, List
 
+import slim_cores
 from made import EXAMPLE, Objects, layout_of
 from row import CODE, FRAME, HEAP, Row, row
 from rows_dump import IMAGE, files_of, of_locals, small
@@ -56,8 +56,8 @@ def order() -> Iterator[Row]:
 
 
 def slim_rows() -> List[Row]:
-    """The rows of `locate`, asked of `slim` at level 1: what is written there is known by slim_reader.py alone."""
-    return [replace(it, words=("slim", *it.words[1:3], "1", *it.words[3:]), out=b"") for it in located()]
+    """Runs of `slim` that write a core: what that is is known by slim_reader.py alone."""
+    return [row(f"slim: {what}", f"slim core layouts {level} {IMAGE}", files) for what, files, level in slim_cores.cases()]
 
 
 def located() -> Iterator[Row]:

@@ -1,7 +1,8 @@
 #!/usr/bin/env python3
 """Measures what the cores that ask for most cost, within limits: seconds, memory, and the status.
 
-    tools/check/worst.py --program crates/pystacks/out/pystacks [--seconds 60] [--memory 2000] [--only WORD]
+    tools/check/worst.py --program crates/pystacks/out/pystacks [--salvage crates/pysalvage/out/pysalvage]
+                         [--seconds 60] [--memory 2000] [--only WORD]
 
 The cores are laid out by the example of docs/LAYOUTS.md. docs/HOSTILE.md has the table.
 """
@@ -18,13 +19,21 @@ from typing import Callable, Dict, Iterator, Sequence, Tuple
 
 from made import EXAMPLE, Objects, Segment, core_file, image_file, layout_of
 from measure import Shape, core, machine, row
-from row import HEAP
-from rows_dump import BSS, GOOD, files_of, mapped, of_locals
+from rooms import BUILT_SALVAGE
+from row import FRAME, HEAP, THREAD, heap
+from rows_dump import BSS, GOOD, IMAGE, files_of, mapped, of_locals
+from rows_salvage import named
 
 SKIPPED = "<shim>"
 """The file name of members of a chain that are not shown."""
 
 LONG = "f" * 4095
+
+
+SALVAGE = f"core --layouts layouts {IMAGE}"
+"""The words of `pysalvage`."""
+
+Files = Dict[str, bytes]
 
 
 @dataclass(frozen=True)
@@ -33,12 +42,16 @@ class Case:
 
     what: str
     words: str
-    files: Callable[[], Dict[str, bytes]]
+    files: Callable[[], Files]
+
+    def is_of_salvage(self) -> bool:
+        """Whether it is one of `pysalvage`."""
+        return self.words.startswith(SALVAGE)
 
 
-def with_bss(words: int, objects: Objects, *first: int) -> Dict[str, bytes]:
-    """A core of some objects whose bss has so many words: `first`, and then the interpreter at the heap's begin again and again."""
-    held = [*first, *[HEAP] * (words - len(first))]
+def with_bss(words: int, objects: Objects) -> Files:
+    """A core of some objects whose bss has so many words, each of them the interpreter at the heap's begin."""
+    held = [HEAP] * words
     data = b"".join(it.to_bytes(8, "little") for it in held)
     program = image_file([Segment(0x400000, b"", 5, 0x1000)], (BSS, len(data)))
     return files_of(core_file([objects.segment(6), mapped(), Segment(BSS, data, 6)]), program=program)
@@ -57,6 +70,36 @@ def interpreter(file: str, name: str, frames: int, threads: int = 1, back: bool 
     return objects
 
 
+def threads_in_a_ring() -> Objects:
+    """An interpreter whose only thread leads to itself."""
+    objects = heap()
+    objects.word(THREAD + objects.group("thread")["next"], THREAD)
+    return objects
+
+
+def interpreters(count: int, threads: int) -> Files:
+    """A core of so many interpreters, each of which names the next one, with so many threads of the same two frames."""
+    objects = heap()
+    first = objects.record("interpreter", HEAP)
+    places = [first, *(objects.record("interpreter") for _ in range(count - 1))]
+    for place, after in zip(places, [*places[1:], 0]):
+        objects.word(place, after)
+        objects.threads(place, [{"id": 0x7F00 + at, "frame": FRAME} for at in range(threads)])
+    return named(objects)
+
+
+def of_variables(count: int, threads: int) -> Files:
+    """A core of so many threads of one frame, which leads to itself and has so many variables."""
+    objects = Objects(layout_of(EXAMPLE), HEAP)
+    place = objects.record("interpreter")
+    names, file, name = objects.items([objects.text("v" * 4000)] * count), objects.text("a.py"), objects.text("f")
+    code = objects.record("code", None, filename=file, name=name, nlocals=count, varnames=names)
+    frame = objects.free()
+    objects.frame([place] * count, frame, code=code, back=frame)
+    objects.threads(place, [{"id": 0x7F00 + at, "frame": frame} for at in range(threads)])
+    return named(objects)
+
+
 def nested(objects: Objects, numbers: int, texts: int) -> Sequence[int]:
     """A list within a list, 60 deep, each of which has the next one twice."""
     lists, held = objects.klass("list", 25), objects.number(7, numbers)
@@ -71,7 +114,8 @@ def nested(objects: Objects, numbers: int, texts: int) -> Sequence[int]:
 def cases() -> Iterator[Case]:
     """All of them."""
     yield Case("4096 threads of the same 4096 frames", GOOD, lambda: with_bss(2, interpreter("a.py", "f", 4096, 4096)))
-    yield Case("the same, with texts of 4095 characters", GOOD, lambda: with_bss(2, interpreter(LONG, LONG, 4096, 4096)))
+    yield Case("the same, with texts of 4095 characters", GOOD,
+               lambda: with_bss(2, interpreter(LONG, LONG, 4096, 4096)))
     yield Case("4096 threads of the same 16,384 members, none of them shown", GOOD,
                lambda: with_bss(2, interpreter(SKIPPED, "f", 16384, 4096)))
     yield Case("65,533 segments", GOOD, lambda: files_of(core(Shape("", segments=65533))))
@@ -84,6 +128,26 @@ def cases() -> Iterator[Case]:
                lambda: files_of(of_locals(nested, "abcdefghijklmnopqrstuvwxyz", 0)))
     yield Case("the same, within 32,640 characters each", GOOD + " -" + "l" * 255,
                lambda: files_of(of_locals(nested, "abcdefghijklmnopqrstuvwxyz", 0)))
+
+
+def cases_of_salvage() -> Iterator[Case]:
+    """Those of `pysalvage`."""
+    ring = lambda file, threads: lambda: with_bss(2, interpreter(file, "f", 1, threads, back=True))
+    yield Case("a thread whose frames are a ring: 1,048,576 members", SALVAGE, ring("a.py", 1))
+    yield Case("the same, of members that are left out", SALVAGE, ring(SKIPPED, 1))
+    yield Case("4096 threads, each of such a ring: 4,194,304 members in all", SALVAGE, ring("a.py", 4096))
+    yield Case("the same, with 4096 frames at each end", f"{SALVAGE} -n 4096", ring("a.py", 4096))
+    yield Case("4096 threads of the same 1024 frames, all shown", f"{SALVAGE} -n 4096",
+               lambda: with_bss(2, interpreter("a.py", "f", 1024, 4096)))
+    yield Case("the same, with texts of 4095 characters", f"{SALVAGE} -n 4096",
+               lambda: with_bss(2, interpreter(LONG, LONG, 1024, 4096)))
+    for words in (1000, 10_000, 100_000):
+        yield Case(f"a bss of {words:,} words, each an interpreter whose threads are a ring", SALVAGE,
+                   lambda words=words: with_bss(words, threads_in_a_ring()))
+    yield Case("16 interpreters of 4096 threads of two frames", SALVAGE, lambda: interpreters(16, 4096))
+    yield Case("`-l`: a thread whose frames are a ring of one with 65,535 variables", f"{SALVAGE} -l",
+               lambda: of_variables(65535, 1))
+    yield Case("the same in 4096 threads", f"{SALVAGE} -l", lambda: of_variables(65535, 4096))
 
 
 def limited(seconds: int, memory: int) -> None:
@@ -102,18 +166,20 @@ def measured(program: str, case: Case, folder: str, seconds: int, memory: int) -
         child = subprocess.Popen(
             [program, *case.words.split()], cwd=folder, stdin=subprocess.DEVNULL, stdout=out, stderr=subprocess.PIPE,
             preexec_fn=lambda: limited(seconds, memory))
-        said = child.stderr.read().decode("utf-8", "replace").strip().replace("pystacks: ", "")
+        said = child.stderr.read().decode("utf-8", "replace").strip().split(": ", 1)[-1]
         _, status, used = os.wait4(child.pid, 0)
         child.returncode = status
     ended = f"{os.WEXITSTATUS(status)}" if os.WIFEXITED(status) else f"none within {seconds} s"
     time = f"{used.ru_utime + used.ru_stime:.2f}"
-    return row([case.what, f"{size / 1e6:.2f}", time, f"{used.ru_maxrss / 1024:.0f}", ended, said and f"`{said}`"]), status
+    cells = [case.what, f"{size / 1e6:.2f}", time, f"{used.ru_maxrss / 1024:.0f}", ended, said and f"`{said}`"]
+    return row(cells), status
 
 
 def main() -> int:
     """The command."""
     parser = argparse.ArgumentParser(description=__doc__, formatter_class=argparse.RawDescriptionHelpFormatter)
     parser.add_argument("--program", required=True, help="the built program")
+    parser.add_argument("--salvage", default=str(BUILT_SALVAGE), help="the built `pysalvage`")
     parser.add_argument("--seconds", type=int, default=60, help="the most seconds of a run (default: 60)")
     parser.add_argument("--memory", type=int, default=2000, help="the most MB of a run (default: 2000)")
     parser.add_argument("--only", default="", help="the cases in whose name this stands")
@@ -122,10 +188,11 @@ def main() -> int:
     print(f"{machine()}; within {words.seconds} s and {words.memory} MB.\n")
     print(row(heads) + "\n|" + "---|" * len(heads), flush=True)
     odd = 0
-    for case in cases():
-        if words.only in case.what:
+    for case in (*cases(), *cases_of_salvage()):
+        program = words.salvage if case.is_of_salvage() else words.program
+        if words.only in case.what and os.path.isfile(program):
             with tempfile.TemporaryDirectory(prefix="worst-") as folder:
-                text, status = measured(os.path.abspath(words.program), case, folder, words.seconds, words.memory * 10 ** 6)
+                text, status = measured(os.path.abspath(program), case, folder, words.seconds, words.memory * 10 ** 6)
             # (9 and 24 are the signals by which the limit of seconds ends a process)
             odd += os.WIFSIGNALED(status) and os.WTERMSIG(status) not in (9, 24)
             print(text, flush=True)
