@@ -28,7 +28,7 @@ use Rattle.salvage_report.specs.declared.cause.Cause.{Cause}
 use Rattle.salvage_report.specs.declared.cause.Cause.TheVariants.{Core, Layouts, NoInterpreter, OutOfMemory}
 use Rattle.salvage_report.specs.declared.left.Left.{Left}
 use Rattle.salvage_report.specs.Opened.{AfterCore, AfterImages, AfterMaps, AfterVersion, IsMade, Opened, OpenedIs}
-use Rattle.salvage_report.specs.Outcome.{IsFaultless, IsLeft, IsLeftOf, IsOutcome, IsSalvagedBy, IsShowable, Outcome, OutcomeThen, cause_status, core_status, layouts_status, left_at, left_outcome, looked_at, outcome_status, salvaged_of, shown_or_none}
+use Rattle.salvage_report.specs.Outcome.{IsFaultless, IsLeft, IsLeftOf, IsOutcome, IsSalvagedBy, IsShowable, Outcome, OutcomeThen, cause_status, core_status, layouts_status, left_at, looked_at, outcome_status, shown_or_none}
 use Rattle.salvage_report.specs.Reading.{images_read}
 use Rattle.salvage_report.specs.Texts.{shown_left}
 

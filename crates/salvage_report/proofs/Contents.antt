@@ -4,11 +4,11 @@ use Rattle.std.proofs.Common.{◌≡◌, ◌<◌, ◌+◌, ℕ, List, [], ◌∷
 use Rattle.std.specs.Prelude.{IsSome, Some, None}
 use Rattle.std.proofs.lemmas.List.{take_more, take-append-drop, at_drop_more, map-append}
 use Rattle.std.proofs.lemmas.Option.{same_Some}
-use Rattle.outside.specs.Files.{FailedNames, FilesSeen, Told, Gives}
+use Rattle.outside.specs.Files.{FilesSeen, Told, Gives}
 use Rattle.salvage_report.specs.declared.cause.Cause.TheVariants.{OutOfMemory}
 use Rattle.salvage_report.specs.declared.trouble.Trouble.{Trouble}
 use Rattle.salvage_report.specs.declared.trouble.Trouble.TheVariants.{Cause as Caused, File}
-use Rattle.salvage_report.specs.Reading.{AreRead, IsReadTrouble, IsUnread, IsUnreadTrouble}
+use Rattle.salvage_report.specs.Reading.{AreRead, IsReadTrouble, IsUnreadTrouble}
 
 -- one file more
 pub more_read : (told : Told) (names contents : List (List ℕ)) (name bytes : List ℕ) → AreRead told names contents

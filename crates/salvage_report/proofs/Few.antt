@@ -8,7 +8,7 @@ use Rattle.core_words.specs.Dump.{image_words, images_of}
 use Rattle.core_words.specs.Words.{digits_in}
 use Rattle.core_words.specs.declared.args_error.ArgsError.{ArgsError}
 use Rattle.core_words.specs.declared.args_error.ArgsError.TheVariants.{Refused, OutOfMemory}
-use Rattle.salvage_words.specs.Salvage.{Salvage, Wanted, in_limits, is_alone, limit_of, salvage_by, salvage_found, salvage_with, salvage_words, taken_rows, words_asked}
+use Rattle.salvage_words.specs.Salvage.{Salvage, in_limits, is_alone, limit_of, salvage_by, salvage_found, salvage_with, salvage_words, taken_rows, words_asked}
 use Rattle.salvage_words.specs.Salvage.Wanted.{help, version, salvage}
 use Rattle.salvage_words.specs.Seen.{asked_by}
 use Rattle.salvage_words.specs.declared.asked.Asked.{Asked}

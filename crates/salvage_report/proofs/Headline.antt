@@ -11,10 +11,8 @@ use Rattle.salvage_marks.specs.declared.salvaged.SalvagedInterpreter.{SalvagedIn
 use Rattle.salvage_words.specs.Salvage.{Salvage, Wanted}
 use Rattle.salvage_words.specs.Salvage.Wanted.{salvage}
 use Rattle.salvage_report.specs.declared.cause.Cause.{Cause}
-use Rattle.salvage_report.specs.declared.left.Left.{Left}
 use Rattle.salvage_report.specs.Headline.{HasSalvaged}
-use Rattle.salvage_report.specs.Opened.{Opened, OpenedIs}
-use Rattle.salvage_report.specs.Outcome.{IsLeft, IsOutcome, IsSalvagedBy, Outcome, looked_at, shown_or_none}
+use Rattle.salvage_report.specs.Outcome.{IsOutcome, IsSalvagedBy, Outcome, looked_at, shown_or_none}
 use Rattle.salvage_report.specs.Reading.{AreRead, files_of, images_read}
 use Rattle.salvage_report.specs.Run.{ComesTo, Reaches}
 use Rattle.salvage_report.specs.Texts.{shown_left}

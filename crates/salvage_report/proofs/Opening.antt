@@ -1,5 +1,5 @@
 -- Steps by which the process of a core is opened.
-use Rattle.std.proofs.Common.{◌≡◌, ℕ, List, [], ◌∷◌, inl, inr, refl, subst, sym, ap}
+use Rattle.std.proofs.Common.{◌≡◌, ℕ, List, inl, inr, refl}
 use Rattle.std.specs.Prelude.{Result, Ok, Err}
 use Rattle.image_memory.specs.Cores.{IsCore}
 use Rattle.image_memory.specs.Images.{Pushed}
@@ -12,7 +12,7 @@ use Rattle.py_process.specs.Reports.{Dumped, IsDumped, memory_in}
 use Rattle.py_process.specs.Steps.{Then}
 use Rattle.py_process.specs.declared.core_error.CoreError.{CoreError}
 use Rattle.py_process.proofs.Agreement.{then_ok}
-use Rattle.salvage_report.specs.Opened.{Opened, OpenedIs}
+use Rattle.salvage_report.specs.Opened.{OpenedIs}
 
 err_moves : {T U : Type 0} (e d : CoreError) → ◌≡◌ {A = Result T CoreError} (Err e) (Err d) → ◌≡◌ {A = Result U CoreError} (Err e) (Err d)
 err_moves e d is = cc

@@ -1,6 +1,6 @@
 -- What is left of an opened process.
 use Rattle.std.proofs.Common.{◌≡◌, ◌≢◌, ℕ, List, [], ◌∷◌, refl, sym, ap, subst, ◌∙◌}
-use Rattle.std.specs.Prelude.{Bool, Option, Ok, Err, map}
+use Rattle.std.specs.Prelude.{Bool, Option, Ok, Err}
 use Rattle.elf64_core.specs.declared.header.Machine.{Machine}
 use Rattle.elf64_core.specs.Header.{machine_of}
 use Rattle.image_memory.specs.Backed.{regions_of}
@@ -12,7 +12,7 @@ use Rattle.py_fields.specs.declared.layout.Layout.{Layout}
 use Rattle.py_version.specs.declared.version.Version.{Version}
 use Rattle.py_stacks.specs.declared.asked.Asked.{Asked}
 use Rattle.py_process.specs.Facts.{Known, known_of}
-use Rattle.salvage_marks.specs.Salvaged.{SalvagedShown, locked, salvaged_at}
+use Rattle.salvage_marks.specs.Salvaged.{SalvagedShown, salvaged_at}
 use Rattle.salvage_marks.specs.declared.crash.Crash.{Crash}
 use Rattle.salvage_marks.specs.declared.salvaged.Salvaged.{Salvaged}
 use Rattle.salvage_marks.specs.declared.salvaged.SalvagedInterpreter.{SalvagedInterpreter}
@@ -22,7 +22,7 @@ use Rattle.salvage_report.specs.declared.left.Left.{Left}
 use Rattle.salvage_report.specs.declared.process.Process.{Process}
 use Rattle.salvage_report.specs.Crashed.{CrashTold}
 use Rattle.salvage_report.specs.Opened.{Opened}
-use Rattle.salvage_report.specs.Outcome.{IsLeft, IsLeftOf, Outcome, asked_of, left_at, looked_at, salvaged_of, shown_or_none}
+use Rattle.salvage_report.specs.Outcome.{IsLeft, IsLeftOf, Outcome, asked_of, looked_at, shown_or_none}
 use Rattle.salvage_report.specs.Seen.{IsProcess, Salvages, opened_of}
 use Rattle.salvage_report.specs.Texts.{shown_left}
 

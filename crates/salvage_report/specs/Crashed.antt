@@ -1,6 +1,6 @@
 -- The thread that got the signal of a process, by its core. That the first status record is that thread's is Linux's
 -- order of notes.
-use Rattle.std.specs.Prelude.{◌≡◌, ℕ, nat_lt, if◌then◌else◌, List, length, find, Option, Some, None, option_and_then}
+use Rattle.std.specs.Prelude.{◌≡◌, ℕ, nat_lt, if◌then◌else◌, List, length, find, Option, None, option_and_then}
 use Rattle.elf64_core.specs.Header.{machine_of}
 use Rattle.elf64_core.specs.Notes.{Noted}
 use Rattle.elf64_core.specs.declared.header.Machine.{Machine}

@@ -1,5 +1,5 @@
 -- What a run that salvages a core promises under status 0.
-use Rattle.std.specs.Prelude.{◌≡◌, ◌≢◌, ◌∷◌, [], ℕ, List, Ok}
+use Rattle.std.specs.Prelude.{◌≢◌, ◌∷◌, [], ℕ, List, Ok}
 use Rattle.std.specs.Io.KnownBytes.{Appends}
 use Rattle.outside.specs.Files.{Told}
 use Rattle.outside.specs.Streams.{SinkSeen}

@@ -1,5 +1,5 @@
 -- The process of a core, before its interpreters are looked for: the steps are those of a report up to the layout.
-use Rattle.std.specs.Prelude.{◌≡◌, ℕ, List, Result, Ok, Err}
+use Rattle.std.specs.Prelude.{◌≡◌, ℕ, List, Result, Ok}
 use Rattle.image_memory.specs.Images.{Pushed}
 use Rattle.py_fields.specs.declared.layout.Layout.{Layout}
 use Rattle.py_version.specs.declared.version.Version.{Version}

@@ -1,5 +1,5 @@
 -- What is come to over the contents of the files.
-use Rattle.std.specs.Prelude.{◌≡◌, ◌≢◌, ◌⊎◌, ℕ, ◌+◌, nat_eq, not, Bool, List}
+use Rattle.std.specs.Prelude.{◌≡◌, ◌≢◌, ◌⊎◌, ℕ, ◌+◌, nat_eq, not, List}
 use Rattle.std.specs.Prelude.{[], ◌∷◌, length, Option, Result, Ok, Err, Vec}
 use Rattle.std.specs.Global.{Global}
 use Rattle.elf64_core.specs.Header.{machine_of}

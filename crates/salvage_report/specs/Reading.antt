@@ -9,7 +9,7 @@ use Rattle.salvage_words.specs.Salvage.{Salvage}
 use Rattle.salvage_report.specs.declared.cause.Cause.TheVariants as cause
 use Rattle.salvage_report.specs.declared.files.SalvageFiles.{SalvageFiles}
 use Rattle.salvage_report.specs.declared.trouble.Trouble.{Trouble}
-use Rattle.salvage_report.specs.declared.trouble.Trouble.TheVariants.{Cause as Caused, Words, File, Write}
+use Rattle.salvage_report.specs.declared.trouble.Trouble.TheVariants.{Cause as Caused, File}
 
 -- the names of the files: the core's, the layout file's, and those of the images
 abbrev pub files_of : Salvage → List (List ℕ)

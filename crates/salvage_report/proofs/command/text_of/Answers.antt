@@ -1,4 +1,3 @@
-use Rattle.std.proofs.Common.{ap, refl}
 use Rattle.std.proofs.lemmas.Result.{err_from_is_err_and}
 use Rattle.salvage_words.specs.Seen.{asked_salvage}
 use Rattle.salvage_report.proofs.Comes.{caused, comes, troubled}

@@ -1,5 +1,5 @@
-use Rattle.std.proofs.Common.{◌≡◌, Bool, true, false, cond, List, [], ◌∷◌, Option, Some, None, refl, sym, ap, map, ◌∙◌}
-use Rattle.std.specs.Prelude.{find, nat_eq, option_and_then, option_copied}
+use Rattle.std.proofs.Common.{◌≡◌, Bool, true, false, cond, List, [], ◌∷◌, Option, Some, refl, sym, ap, map, ◌∙◌}
+use Rattle.std.specs.Prelude.{find, nat_eq, option_and_then}
 use Rattle.elf64_core.specs.Notes.{noted}
 use Rattle.elf64_core.specs.declared.header.Machine.{Machine}
 use Rattle.elf64_core.specs.declared.note.Note.{Note}

@@ -1,7 +1,6 @@
-use Rattle.std.proofs.Common.{◌≡◌, ap, map, subst, sym, ◌∙◌}
+use Rattle.std.proofs.Common.{ap, map, subst, ◌∙◌}
 use Rattle.elf64_core.specs.Header.{machine_of}
 use Rattle.elf64_core.specs.Notes.{noted}
-use Rattle.image_memory.specs.Cores.{IsCore}
 use Rattle.image_memory.specs.Notes.{NotesOf, note_segments}
 use Rattle.image_memory.proofs.Noted.{NotesOf-once}
 use Rattle.salvage_report.specs.Crashed.{crash_among}

@@ -1,4 +1,4 @@
-use Rattle.std.proofs.Common.{◌≡◌, ◌+◌, ◌++◌, ap, length-append, ◌∙◌, length, refl, rules}
+use Rattle.std.proofs.Common.{◌≡◌, ◌+◌, ◌++◌, ap, length-append, ◌∙◌, length, rules}
 use Rattle.std.proofs.lemmas.Result.{err_from_is_err_and}
 use Rattle.image_memory.specs.Backed.{regions_of}
 use Rattle.process_memory.specs.Memory.{byte_at}

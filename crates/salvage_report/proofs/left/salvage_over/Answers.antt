@@ -1,6 +1,4 @@
-use Rattle.std.proofs.Common.{◌∙◌, ap, inl, inr, refl, subst}
-use Rattle.std.specs.Prelude.{Err, Ok, Vec, Result}
-use Rattle.std.specs.Global.{Global}
+use Rattle.std.proofs.Common.{◌∙◌, ap, inl, refl, subst}
 use Rattle.std.proofs.lemmas.Result.{err_from_is_err_and}
 use Rattle.salvage_words.specs.Seen.{asked_salvage}
 use Rattle.salvage_report.specs.Outcome.{IsAnswer, IsSalvagedBy}

@@ -1,11 +1,10 @@
-use Rattle.std.proofs.Common.{◌≡◌, ap, refl, sym, subst, inl, ◌∙◌}
-use Rattle.std.specs.Prelude.{Ok, Err}
+use Rattle.std.proofs.Common.{refl, sym, subst, inl}
+use Rattle.std.specs.Prelude.{Ok}
 use Rattle.std.proofs.lemmas.Result.{err_from_is_err_and}
 use Rattle.image_memory.specs.Backed.{IsBackedMemory, regions_of}
 use Rattle.image_memory.specs.Cores.{IsCore}
 use Rattle.image_memory.specs.Maps.{AreMaps}
 use Rattle.py_process.specs.Facts.{known_of}
-use Rattle.py_process.specs.Findings.{IsChosen, LayoutSays}
 use Rattle.py_process.specs.Reports.{Dumped, NotesTell}
 use Rattle.salvage_report.specs.Opened.{OpenedIs}
 use Rattle.salvage_report.proofs.Opening.{opened, uncovered, unknown, unversioned}

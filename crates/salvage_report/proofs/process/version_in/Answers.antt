@@ -1,11 +1,9 @@
-use Rattle.std.proofs.Common.{◌≡◌, ap, subst, sym, ◌∙◌}
-use Rattle.std.specs.Prelude.{Err}
+use Rattle.std.proofs.Common.{ap}
 use Rattle.std.proofs.lemmas.Result.{err_from_is_err_and}
 use Rattle.image_memory.specs.Backed.{regions_of}
 use Rattle.process_memory.specs.Memory.{byte_at}
 use Rattle.process_memory.specs.Seen.{Seen}
 use Rattle.py_process.specs.Facts.{known_of}
-use Rattle.py_process.specs.Findings.{VersionSays}
 use Rattle.core_stacks.proofs.Stacks.{over_this}
 use Rattle.core_stacks.proofs.Steps.{version_says}
 use Rattle.salvage_report.proofs.process.version_in.Goals as goal

@@ -1,4 +1,4 @@
-use Rattle.std.proofs.Common.{◌≡◌, ◌∷◌, [], ◌∙◌, map, refl, subst}
+use Rattle.std.proofs.Common.{[], ◌∙◌, map, refl, subst}
 use Rattle.std.proofs.lemmas.Result.{err_from_is_err_and}
 use Rattle.outside.specs.Files.{Gives}
 use Rattle.salvage_words.specs.Seen.{asked_salvage}
