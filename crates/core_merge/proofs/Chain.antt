@@ -1,5 +1,6 @@
 -- The steps of a merge of a core's thread, and that it has one right answer.
-use Rattle.std.proofs.Common.{◌≡◌, ◌⊎◌, ℕ, Bool, true, false, List, Result, Ok, Err, refl, sym, ap, subst, ◌∙◌, inl, inr}
+use Rattle.std.proofs.Common.{◌≡◌, ◌⊎◌, ℕ, Bool, true, false, List, Result, Ok, Err, refl, sym, ap, subst, ◌∙◌, inl}
+use Rattle.std.proofs.Common.{inr}
 use Rattle.std.specs.Prelude.{IsErrOf, Vec, filter, map}
 use Rattle.maps_text.specs.Relevance.{is_relevant}
 use Rattle.std.specs.Global.{Global}
@@ -15,12 +16,14 @@ use Rattle.native_merge.specs.ImageSymbols.{FilesMapped, files_mapped}
 use Rattle.native_merge.specs.declared.merge_error.MergeError.{MergeError}
 use Rattle.native_merge.specs.declared.merge_error.MergeError.TheVariants as merging
 use Rattle.core_merge.specs.Addresses.{AddressesSay}
-use Rattle.core_merge.specs.CoreEntries.{AreCoreEntries, AreOrdered, EntriesSay, SaysMade, SaysOrdered, entry_of, is_placed}
+use Rattle.core_merge.specs.CoreEntries.{AreCoreEntries, AreOrdered, EntriesSay, SaysMade, SaysOrdered, entry_of}
+use Rattle.core_merge.specs.CoreEntries.{is_placed}
 use Rattle.core_merge.specs.CoreMerges.{CoreMergeIs, MergedBy, MergedWith}
 use Rattle.core_merge.specs.ImageMerges.{ImageMergeSays}
 use Rattle.core_merge.specs.Steps.{Then}
 use Rattle.core_merge.specs.declared.error.CoreMergeError.{CoreMergeError}
-use Rattle.core_merge.specs.declared.error.CoreMergeError.TheVariants.{BadLine, BadOffset, MapsOverlap, OffsetOverflow, Mismatch, OutOfMemory}
+use Rattle.core_merge.specs.declared.error.CoreMergeError.TheVariants.{BadLine, BadOffset, MapsOverlap, OffsetOverflow}
+use Rattle.core_merge.specs.declared.error.CoreMergeError.TheVariants.{Mismatch, OutOfMemory}
 use Rattle.core_merge.proofs.Lines.{addresses_once}
 use Rattle.core_merge.proofs.Once.{image_merge_once}
 use Rattle.core_merge.proofs.Ordering.{ordered_once}

@@ -1,11 +1,13 @@
 -- The lines of addresses, one by one.
-use Rattle.std.proofs.Common.{◌≡◌, ◌++◌, ◌∷◌, [], ◌+◌, ℕ, List, true, false, length, ap, map, refl, sym, subst, ◌∙◌, Ok, Err, Result, suc}
+use Rattle.std.proofs.Common.{◌≡◌, ◌++◌, ◌∷◌, [], ◌+◌, ℕ, List, true, false, length, ap, map, refl, sym, subst, ◌∙◌, Ok}
+use Rattle.std.proofs.Common.{Err, Result, suc}
 use Rattle.std.proofs.lemmas.List.Elements.{All-append, All-cons, All-head, All-nil, All-tail}
 use Rattle.std.proofs.lemmas.List.{map-append}
 use Rattle.maps_text.specs.Texts.{lines_of}
 use Rattle.core_merge.specs.Addresses.{AddressesSay, AreAddressLines, IsFirstBadLine, address_of_line, is_address_line}
 use Rattle.core_merge.specs.declared.error.CoreMergeError.{CoreMergeError}
-use Rattle.core_merge.specs.declared.error.CoreMergeError.TheVariants.{BadLine, BadOffset, MapsOverlap, OffsetOverflow, Mismatch, OutOfMemory}
+use Rattle.core_merge.specs.declared.error.CoreMergeError.TheVariants.{BadLine, BadOffset, MapsOverlap, OffsetOverflow}
+use Rattle.core_merge.specs.declared.error.CoreMergeError.TheVariants.{Mismatch, OutOfMemory}
 
 pub good_more : (before : List (List ℕ)) (line : List ℕ) → AreAddressLines before → is_address_line line ≡ true
     → AreAddressLines (before ++ line ∷ [])

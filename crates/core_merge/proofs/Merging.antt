@@ -1,5 +1,6 @@
 -- What is merged over images and without sources, as what the images answer for each address.
-use Rattle.std.proofs.Common.{◌≡◌, ◌≤◌, ℕ, Bool, true, false, List, [], ◌∷◌, Option, Some, None, Result, Ok, Err, refl, sym, ap, subst, ◌∙◌, arith, inl, inr, ⊎_elim, cond, rules}
+use Rattle.std.proofs.Common.{◌≡◌, ◌≤◌, ℕ, Bool, true, false, List, [], ◌∷◌, Option, Some, None, Result, Ok, Err, refl}
+use Rattle.std.proofs.Common.{sym, ap, subst, ◌∙◌, arith, inl, inr, ⊎_elim, cond, rules}
 use Rattle.std.specs.List.{AllZip}
 use Rattle.std.specs.FinMap as finmap
 use Rattle.std.specs.FinMap.{get-empty, get-insert}
@@ -10,9 +11,11 @@ use Rattle.outside.specs.Counts.{count_after}
 use Rattle.py_process.specs.declared.binary.BinaryInfo.{BinaryInfo}
 use Rattle.py_stacks.specs.declared.trace.Frame.{Frame}
 use Rattle.native_merge.specs.ImageSymbols.{FilesMapped, image_seen}
-use Rattle.native_merge.specs.KeptMaps.{AddsMap, Kept, asked_line, file_order, placed, told_of, translated, translated_at, wants_map}
+use Rattle.native_merge.specs.KeptMaps.{AddsMap, Kept, asked_line, file_order, placed, told_of, translated}
+use Rattle.native_merge.specs.KeptMaps.{translated_at, wants_map}
 use Rattle.native_merge.specs.MapsOfFiles.{IsMapOfFile, MapOrNone}
-use Rattle.native_merge.specs.Merges.{AreAnswered, HasRoom, ShowsMerged, is_python, StayTold, all_items, failed_count, has_lines, is_failed}
+use Rattle.native_merge.specs.Merges.{AreAnswered, HasRoom, ShowsMerged, is_python, StayTold, all_items, failed_count}
+use Rattle.native_merge.specs.Merges.{has_lines, is_failed}
 use Rattle.native_merge.specs.MergedStacks.{merged}
 use Rattle.std.specs.Prelude.{Contains, IsErrOf}
 use Rattle.native_merge.specs.Merges.AreAnswered.{More, NoMore}

@@ -1,5 +1,6 @@
 -- What is right is one answer.
-use Rattle.std.proofs.Common.{◌≡◌, ℕ, Bool, false, List, [], ◌∷◌, Option, Some, None, Result, Ok, Err, refl, sym, ap, subst, ◌∙◌, encode_utf8_all}
+use Rattle.std.proofs.Common.{◌≡◌, ℕ, Bool, false, List, [], ◌∷◌, Option, Some, None, Result, Ok, Err, refl, sym, ap}
+use Rattle.std.proofs.Common.{subst, ◌∙◌, encode_utf8_all}
 use Rattle.std.specs.List.{AllZip}
 use Rattle.std.specs.Str.{chars}
 use Rattle.py_stacks.specs.Frames.{Call}
@@ -7,7 +8,8 @@ use Rattle.native_merge.specs.ImageSymbols.{FilesMapped}
 use Rattle.native_merge.specs.MergedStacks.{MergedFrame, Misfit, merged}
 use Rattle.native_merge.specs.MergedStacks.MergedFrame.{Native, Python}
 use Rattle.native_merge.specs.Merges.{ShowsMerged, all_items}
-use Rattle.native_merge.specs.NativesShown.{IsNameOf, NativeItem, ShowsFrame, ShowsNative, file_of_native, line_of_native, native_call}
+use Rattle.native_merge.specs.NativesShown.{IsNameOf, NativeItem, ShowsFrame, ShowsNative, file_of_native}
+use Rattle.native_merge.specs.NativesShown.{line_of_native, native_call}
 use Rattle.native_merge.specs.NativesShown.NativeItem.{OfFault, OfFrame}
 use Rattle.native_merge.specs.PythonFrames.{ends_part}
 use Rattle.native_merge.specs.SymbolCaches.{Answer}

@@ -1,5 +1,6 @@
 -- Addresses as a text, one a line. The form is this project's own.
-use Rattle.std.specs.Prelude.{◌≡◌, ℕ, ◌+◌, nat_eq, ◌&&◌, Bool, true, false, List, ◌∷◌, ◌++◌, All, length, drop, map, codes, Result, Ok, Err, Vec}
+use Rattle.std.specs.Prelude.{◌≡◌, ℕ, ◌+◌, nat_eq, ◌&&◌, Bool, true, false, List, ◌∷◌, ◌++◌, All, length, drop, map}
+use Rattle.std.specs.Prelude.{codes, Result, Ok, Err, Vec}
 use Rattle.std.specs.Global.{Global}
 use Rattle.std.specs.List.{starts_with}
 use Rattle.std.specs.Str.Parse.{digits_value}
@@ -30,7 +31,8 @@ pub record IsFirstBadLine (lines : List (List ℕ)) (number : ℕ) : Type 0 wher
 
 -- the addresses of a text's lines, in order, or the first line that is none
 abbrev pub AddressesSay : List ℕ → Result (List ℕ) CoreMergeError → Type 0
-AddressesSay text (Ok addrs) = AreAddressLines (lines_of text) × (addrs ≡ map (λ line. address_of_line line) (lines_of text))
+AddressesSay text (Ok addrs) =
+    AreAddressLines (lines_of text) × (addrs ≡ map (λ line. address_of_line line) (lines_of text))
 AddressesSay text (Err (BadLine number)) = IsFirstBadLine (lines_of text) number
 AddressesSay text (Err _) = ⊥
 

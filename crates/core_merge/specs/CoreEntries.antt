@@ -1,5 +1,6 @@
 -- The maps of a core as entries of maps text.
-use Rattle.std.specs.Prelude.{◌≡◌, ℕ, ◌+◌, ◌*◌, ◌%◌, ◌^◌, ◌&&◌, ◌||◌, nat_eq, nat_lt, Bool, true, false, List, [], map, filter, Option, Some, None, unwrap_or, Result, Ok, Err, Vec}
+use Rattle.std.specs.Prelude.{◌≡◌, ℕ, ◌+◌, ◌*◌, ◌%◌, ◌^◌, ◌&&◌, ◌||◌, nat_eq, nat_lt, Bool, true, false, List, [], map}
+use Rattle.std.specs.Prelude.{filter, Option, Some, None, unwrap_or, Result, Ok, Err, Vec}
 use Rattle.std.specs.Global.{Global}
 use Rattle.std.specs.List.{list_all}
 use Rattle.std.specs.List.Sorted.{IsPermutation, IsSortedBy, IsStableBy}

@@ -1,6 +1,7 @@
 -- Two outcomes of a command over the same contents have one status, want of memory aside; and over contents with
 -- which nothing is wrong no outcome is a cause: of walks, reports, groups, objects and merged threads.
-use Rattle.std.proofs.Common.{◌≡◌, ◌≢◌, ◌⊎◌, ℕ, List, [], ◌∷◌, Result, Ok, Err, refl, sym, ap, subst, ◌∙◌, Bool, inl, inr, ⊎_elim, rules}
+use Rattle.std.proofs.Common.{◌≡◌, ◌≢◌, ◌⊎◌, ℕ, List, [], ◌∷◌, Result, Ok, Err, refl, sym, ap, subst, ◌∙◌, Bool, inl}
+use Rattle.std.proofs.Common.{inr, ⊎_elim, rules}
 use Rattle.std.proofs.lemmas.Bool.{cond-false}
 use Rattle.std.proofs.lemmas.Bool.Decides.{eqb_tells}
 use Rattle.py_fields.specs.declared.layout.Layout.{Layout}
@@ -45,7 +46,13 @@ use Rattle.core_report.specs.Reading.{HasFlaw}
 use Rattle.core_report.specs.Stacked.{LeadsTo, Stacked, StackedIs, locals_asked, reach_text}
 use Rattle.core_report.proofs.Binaries.{binaries_once}
 use Rattle.core_report.proofs.Stacked.{stacked_agree, unstacked}
-use Rattle.core_report.specs.Outcome.{IsDumpOutcome, IsDumpedBy, IsFaultlessDump, IsFaultlessMerge, IsFaultlessReach, IsFaultlessTriage, IsFaultlessWalk, IsMergeOutcome, IsMergedBy, IsMergedFrom, IsMergedIn, IsMergedText, IsOwnCause, IsReachOutcome, IsReachedBy, IsReachedFrom, IsReachedIn, IsReported, IsTriageOutcome, IsTriagedBy, reach_status, IsShown, IsWalkOutcome, IsWalkedBy, Outcome, ReportAnswers, SourceSays, OutcomeThen, WalkAnswers, cause_status, core_status, images_read, layouts_status, merge_status, outcome_status, shown_report}
+use Rattle.core_report.specs.Outcome.{IsDumpOutcome, IsDumpedBy, IsFaultlessDump, IsFaultlessMerge, IsFaultlessReach}
+use Rattle.core_report.specs.Outcome.{IsFaultlessTriage, IsFaultlessWalk, IsMergeOutcome, IsMergedBy, IsMergedFrom}
+use Rattle.core_report.specs.Outcome.{IsMergedIn, IsMergedText, IsOwnCause, IsReachOutcome, IsReachedBy, IsReachedFrom}
+use Rattle.core_report.specs.Outcome.{IsReachedIn, IsReported, IsTriageOutcome, IsTriagedBy, reach_status, IsShown}
+use Rattle.core_report.specs.Outcome.{IsWalkOutcome, IsWalkedBy, Outcome, ReportAnswers, SourceSays, OutcomeThen}
+use Rattle.core_report.specs.Outcome.{WalkAnswers, cause_status, core_status, images_read, layouts_status, merge_status}
+use Rattle.core_report.specs.Outcome.{outcome_status, shown_report}
 
 -- one sound layout is a sound list
 pub one_sound : (l : Layout) → IsSound l → AreSound (l ∷ [])

@@ -10,9 +10,13 @@ use Rattle.core_merge.specs.declared.error.CoreMergeError.TheVariants as merging
 use Rattle.object_reach.specs.declared.reached.ReachError.{ReachError}
 use Rattle.object_reach.specs.declared.reached.ReachError.TheVariants as reaching
 use Rattle.core_report.specs.declared.cause.Cause.{Cause}
-use Rattle.core_report.specs.declared.cause.Cause.TheVariants.{Core, Layouts, Merge, MergeIndex, Reach, ReachIndex, TooManyPieces, OutOfMemory}
-use Rattle.core_report.specs.Outcome.{IsFaultless, IsOutcome, cause_status, core_status, layouts_status, merge_status, reach_status}
-use Rattle.core_report.proofs.Agreement.{Agree, NoCause, core_one, dump_agree, dump_sound, flaw_status, merge_agree, merge_sound, reach_agree, reach_sound, triage_agree, triage_sound, walk_agree, walk_sound}
+use Rattle.core_report.specs.declared.cause.Cause.TheVariants.{Core, Layouts, Merge, MergeIndex, Reach, ReachIndex}
+use Rattle.core_report.specs.declared.cause.Cause.TheVariants.{TooManyPieces, OutOfMemory}
+use Rattle.core_report.specs.Outcome.{IsFaultless, IsOutcome, cause_status, core_status, layouts_status, merge_status}
+use Rattle.core_report.specs.Outcome.{reach_status}
+use Rattle.core_report.proofs.Agreement.{Agree, NoCause, core_one, dump_agree, dump_sound, flaw_status, merge_agree}
+use Rattle.core_report.proofs.Agreement.{merge_sound, reach_agree, reach_sound, triage_agree, triage_sound, walk_agree}
+use Rattle.core_report.proofs.Agreement.{walk_sound}
 use Rattle.core_report.proofs.Processes.{locate_agree, locate_sound, sample_agree, sample_sound, slim_agree, slim_sound}
 
 pub outcomes_agree : (command : Command) (contents : List (List ℕ)) → Agree (IsOutcome command contents)

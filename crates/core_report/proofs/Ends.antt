@@ -1,5 +1,6 @@
 -- What the end of a run tells of its status.
-use Rattle.std.proofs.Common.{◌≡◌, ◌≢◌, ◌≤◌, ◌⊎◌, ◌↔◌, ℕ, List, [], ◌∷◌, ◌++◌, length, Option, None, Ok, Err, refl, sym, ap, subst, ◌∙◌, arith, inl, inr, ⊎_elim, length-append}
+use Rattle.std.proofs.Common.{◌≡◌, ◌≢◌, ◌≤◌, ◌⊎◌, ◌↔◌, ℕ, List, [], ◌∷◌, ◌++◌, length, Option, None, Ok, Err, refl, sym}
+use Rattle.std.proofs.Common.{ap, subst, ◌∙◌, arith, inl, inr, ⊎_elim, length-append}
 use Rattle.std.specs.Prelude.{IsSome}
 use Rattle.std.specs.List.{concat}
 use Rattle.std.specs.Io.KnownBytes.{Appends}
@@ -16,15 +17,18 @@ use Rattle.py_layout.specs.declared.error.LayoutError.TheVariants as layout
 use Rattle.py_process.specs.declared.core_error.CoreError.{CoreError}
 use Rattle.py_process.specs.declared.core_error.CoreError.TheVariants as core
 use Rattle.core_report.specs.declared.cause.Cause.{Cause}
-use Rattle.core_report.specs.declared.cause.Cause.TheVariants.{Core, Layouts, Merge, MergeIndex, Reach, ReachIndex, TooManyPieces, OutOfMemory}
+use Rattle.core_report.specs.declared.cause.Cause.TheVariants.{Core, Layouts, Merge, MergeIndex, Reach, ReachIndex}
+use Rattle.core_report.specs.declared.cause.Cause.TheVariants.{TooManyPieces, OutOfMemory}
 use Rattle.core_report.specs.declared.trouble.Trouble.{Trouble}
 use Rattle.core_report.specs.declared.trouble.Trouble.TheVariants.{Cause as Caused, Words, File, Write}
 use Rattle.core_merge.specs.declared.error.CoreMergeError.{CoreMergeError}
 use Rattle.core_merge.specs.declared.error.CoreMergeError.TheVariants as merging
 use Rattle.object_reach.specs.declared.reached.ReachError.{ReachError}
 use Rattle.object_reach.specs.declared.reached.ReachError.TheVariants as reaching
-use Rattle.core_report.specs.Outcome.{IsFaultless, IsOutcome, Outcome, cause_status, core_status, layouts_status, merge_status, outcome_status, reach_status}
-use Rattle.core_report.specs.Run.{ComesTo, End, EndsItself, HasEnded, HasRun, MayBeSlim, Ran, Reaches, SaysEnd, TellsContents, cut, end_at, end_parts, printed, refused, end_status, stopped, unread}
+use Rattle.core_report.specs.Outcome.{IsFaultless, IsOutcome, Outcome, cause_status, core_status, layouts_status}
+use Rattle.core_report.specs.Outcome.{merge_status, outcome_status, reach_status}
+use Rattle.core_report.specs.Run.{ComesTo, End, EndsItself, HasEnded, HasRun, MayBeSlim, Ran, Reaches, SaysEnd}
+use Rattle.core_report.specs.Run.{TellsContents, cut, end_at, end_parts, printed, refused, end_status, stopped, unread}
 use Rattle.core_report.proofs.Turns.{same_contents}
 use Rattle.core_report.proofs.Agreement.{outcome_class, settled, settled-other}
 use Rattle.core_report.proofs.Commands.{cases_five, cause_own, no_cause, outcomes_agree}

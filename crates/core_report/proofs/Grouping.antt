@@ -1,5 +1,6 @@
 -- What cores in groups come to.
-use Rattle.std.proofs.Common.{◌≡◌, ◌≢◌, ℕ, List, [], ◌∷◌, ◌++◌, length, map, drop, take, refl, sym, ap, subst, ◌∙◌, arith, inl, inr, Err, Ok, append_assoc}
+use Rattle.std.proofs.Common.{◌≡◌, ◌≢◌, ℕ, List, [], ◌∷◌, ◌++◌, length, map, drop, take, refl, sym, ap, subst, ◌∙◌}
+use Rattle.std.proofs.Common.{arith, inl, inr, Err, Ok, append_assoc}
 use Rattle.std.specs.Prelude.{Option, Result, Some, Vec}
 use Rattle.std.specs.Global.{Global}
 use Rattle.std.proofs.lemmas.List.{length-map}
@@ -13,7 +14,8 @@ use Rattle.py_layout.specs.declared.error.LayoutError.{LayoutError}
 use Rattle.py_layout.specs.declared.error.LayoutError.TheVariants as layout
 use Rattle.core_words.specs.Words.{Triage, triage}
 use Rattle.core_report.specs.Grouped.{IsGroupedText}
-use Rattle.core_report.specs.Outcome.{IsJudged, IsTriageOutcome, IsTriagedBy, Outcome, TextSays, cause_status, images_by, images_read, layouts_status}
+use Rattle.core_report.specs.Outcome.{IsJudged, IsTriageOutcome, IsTriagedBy, Outcome, TextSays, cause_status}
+use Rattle.core_report.specs.Outcome.{images_by, images_read, layouts_status}
 use Rattle.core_report.specs.Reading.{AsksCores, IsAll, IsRead, contents, triage_contents}
 use Rattle.core_report.specs.Run.{Comes, ComesTo, HasJudged, IsTroubled}
 use Rattle.core_report.specs.declared.cause.Cause.{Cause}

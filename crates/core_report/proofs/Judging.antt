@@ -1,5 +1,7 @@
 -- Cores that are read and judged one after the other.
-use Rattle.std.proofs.Common.{◌≡◌, ◌≢◌, ◌<◌, ◌≤◌, ◌+◌, ℕ, zero, suc, List, [], ◌∷◌, ◌++◌, length, get_or, map, take, refl, sym, ap, subst, ◌∙◌, arith, inl, inr, append_assoc, length-append, Some, None, Ok, Err}
+use Rattle.std.proofs.Common.{◌≡◌, ◌≢◌, ◌<◌, ◌≤◌, ◌+◌, ℕ, zero, suc, List, [], ◌∷◌, ◌++◌, length, get_or, map, take}
+use Rattle.std.proofs.Common.{refl, sym, ap, subst, ◌∙◌, arith, inl, inr, append_assoc, length-append, Some, None, Ok}
+use Rattle.std.proofs.Common.{Err}
 use Rattle.std.specs.Borrow.{Bor}
 use Rattle.std.specs.Global.{Global}
 use Rattle.std.specs.Prelude.{Option, Result, String, flat_map, option_map, slice_get, string_bytes}
@@ -20,7 +22,8 @@ use Rattle.core_triage.specs.Groups.{groups_of}
 use Rattle.core_triage.specs.Keys.{Compared, compared_in, compared_of, same_key}
 use Rattle.core_triage.specs.declared.key.StackKey.{StackKey}
 use Rattle.core_words.specs.Words.{Triage, kept_files, texts, triage}
-use Rattle.core_report.specs.Grouped.{AreJudged, IsGroupedText, IsJudgedRight, Judged, groups_text, name_by, names_in, refusal_by, refusals_in, refusals_text, stacks_by, stacks_in}
+use Rattle.core_report.specs.Grouped.{AreJudged, IsGroupedText, IsJudgedRight, Judged, groups_text, name_by, names_in}
+use Rattle.core_report.specs.Grouped.{refusal_by, refusals_in, refusals_text, stacks_by, stacks_in}
 use Rattle.core_report.specs.Judging.{Keeps, kept_names, kept_refusals, refusal_seen}
 use Rattle.core_report.specs.Reading.{AsksCores, HasFlaw, IsAll, IsNext, IsRead, StopsTriage}
 use Rattle.core_report.specs.Run.{HasFirst, HasJudged}

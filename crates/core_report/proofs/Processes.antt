@@ -1,6 +1,7 @@
 -- Where an interpreter is, and slim cores: two outcomes over the same contents agree, and over contents with which
 -- nothing is wrong no outcome is a cause but that there are too many pieces.
-use Rattle.std.proofs.Common.{◌≡◌, ◌≢◌, ◌⊎◌, ℕ, Bool, true, false, List, [], ◌∷◌, Result, Ok, Err, refl, sym, ap, subst, ◌∙◌, inl, inr, ⊎_elim}
+use Rattle.std.proofs.Common.{◌≡◌, ◌≢◌, ◌⊎◌, ℕ, Bool, true, false, List, [], ◌∷◌, Result, Ok, Err, refl, sym, ap, subst}
+use Rattle.std.proofs.Common.{◌∙◌, inl, inr, ⊎_elim}
 use Rattle.elf64_core.specs.Header.{machine_of}
 use Rattle.image_memory.specs.Cores.{IsCore}
 use Rattle.image_memory.specs.Images.{Pushed}
@@ -31,10 +32,15 @@ use Rattle.core_stacks.proofs.Layouts.{chooses_once}
 use Rattle.core_stacks.proofs.ReportLaws.{report_complete}
 use Rattle.core_words.specs.Words.{Locate as AsksLocate, Sample as AsksSample, Slim as AsksSlim}
 use Rattle.core_report.specs.declared.cause.Cause.{Cause}
-use Rattle.core_report.specs.declared.cause.Cause.TheVariants.{Core, Layouts, Merge, MergeIndex, Reach, ReachIndex, TooManyPieces, OutOfMemory}
+use Rattle.core_report.specs.declared.cause.Cause.TheVariants.{Core, Layouts, Merge, MergeIndex, Reach, ReachIndex}
+use Rattle.core_report.specs.declared.cause.Cause.TheVariants.{TooManyPieces, OutOfMemory}
 use Rattle.core_report.specs.Opening.{IsOpenedWith, OpenedCore, OpenedIs, level_asked, locate_text, slim_cause}
-use Rattle.core_report.specs.Outcome.{IsFaultlessProcess, IsLocateOutcome, IsLocated, IsOwnCause, IsSampleOutcome, IsSampledAs, IsSlimOutcome, IsSlimmedFrom, OpensBy, cause_status, images_read, outcome_status}
-use Rattle.core_report.proofs.Agreement.{Agree, Excludes, NoCause, cause_is, core_one, err_kept, flaw_apart, flaw_status, ok_unique, outcome_class, settled, text_agree, text_apart, text_sound, then_agree, then_sound}
+use Rattle.core_report.specs.Outcome.{IsFaultlessProcess, IsLocateOutcome, IsLocated, IsOwnCause, IsSampleOutcome}
+use Rattle.core_report.specs.Outcome.{IsSampledAs, IsSlimOutcome, IsSlimmedFrom, OpensBy, cause_status, images_read}
+use Rattle.core_report.specs.Outcome.{outcome_status}
+use Rattle.core_report.proofs.Agreement.{Agree, Excludes, NoCause, cause_is, core_one, err_kept, flaw_apart}
+use Rattle.core_report.proofs.Agreement.{flaw_status, ok_unique, outcome_class, settled, text_agree, text_apart}
+use Rattle.core_report.proofs.Agreement.{text_sound, then_agree, then_sound}
 use Rattle.core_report.proofs.Stacked.{step}
 
 -- ---- one process

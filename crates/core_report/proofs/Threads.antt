@@ -1,5 +1,6 @@
 -- A thread of an opened process, merged with native addresses.
-use Rattle.std.proofs.Common.{◌≡◌, ◌∙◌, ◌∷◌, ◌++◌, ◌≢◌, ◌⊎◌, [], ℕ, Bool, List, Some, Ok, Err, Result, suc, zero, ap, drop, inl, inr, length, map, refl, subst, sym, arith}
+use Rattle.std.proofs.Common.{◌≡◌, ◌∙◌, ◌∷◌, ◌++◌, ◌≢◌, ◌⊎◌, [], ℕ, Bool, List, Some, Ok, Err, Result, suc, zero, ap}
+use Rattle.std.proofs.Common.{drop, inl, inr, length, map, refl, subst, sym, arith}
 use Rattle.std.specs.Prelude.{IsErrOf, Option, Vec, option_map, slice_get}
 use Rattle.std.specs.Global.{Global}
 use Rattle.image_memory.specs.Images.{Pushed}
@@ -22,7 +23,8 @@ use Rattle.core_report.proofs.Binaries.{python_seen}
 use Rattle.core_stacks.specs.Seen.{AreBinaries}
 use Rattle.core_merge.specs.CoreMerges.{CoreMergeIs}
 use Rattle.core_words.specs.Words.{Merge as AsksMerge}
-use Rattle.core_report.specs.Outcome.{IsMergeOutcome, IsMergedBy, IsMergedFrom, IsMergedIn, merge_status, Outcome, OutcomeThen, images_by, images_read}
+use Rattle.core_report.specs.Outcome.{IsMergeOutcome, IsMergedBy, IsMergedFrom, IsMergedIn, merge_status, Outcome}
+use Rattle.core_report.specs.Outcome.{OutcomeThen, images_by, images_read}
 use Rattle.core_report.specs.Stacked.{Stacked, StackedIs}
 use Rattle.core_report.specs.declared.cause.Cause.{Cause}
 use Rattle.core_report.specs.declared.cause.Cause.TheVariants.{Layouts, Merge}

@@ -1,8 +1,10 @@
 -- Files read in turn: one file more, and that the contents are the same where the files tell them.
-use Rattle.std.proofs.Common.{◌≡◌, ◌≢◌, ◌<◌, ◌+◌, ℕ, zero, suc, List, [], ◌∷◌, ◌++◌, length, get_or, map, refl, sym, ap, subst, ◌∙◌, arith, inl, ⊎_elim, append_assoc, length-append, Some, None, Ok, Err}
+use Rattle.std.proofs.Common.{◌≡◌, ◌≢◌, ◌<◌, ◌+◌, ℕ, zero, suc, List, [], ◌∷◌, ◌++◌, length, get_or, map, refl, sym, ap}
+use Rattle.std.proofs.Common.{subst, ◌∙◌, arith, inl, ⊎_elim, append_assoc, length-append, Some, None, Ok, Err}
 use Rattle.std.specs.Prelude.{slice_get, IsSome, Option, Result, Vec, option_map}
 use Rattle.std.specs.Global.{Global}
-use Rattle.std.proofs.lemmas.Option.{same_Some, slice_get_past, slice_get_read, slice_get_within, slice_get-map, none-some}
+use Rattle.std.proofs.lemmas.Option.{same_Some, slice_get_past, slice_get_read, slice_get_within, slice_get-map}
+use Rattle.std.proofs.lemmas.Option.{none-some}
 use Rattle.std.proofs.lemmas.List.{append-nil, map-append, length-map}
 use Rattle.outside.specs.Files.{FilesSeen, Told, Gives}
 use Rattle.py_fields.specs.declared.layout.Layout.{Layout}
@@ -15,10 +17,14 @@ use Rattle.core_report.specs.declared.walk_command.WalkFiles.{WalkFiles}
 use Rattle.core_report.specs.declared.merge_command.MergeFiles.{MergeFiles}
 use Rattle.core_report.specs.declared.report_files.ReportFiles.{ReportFiles}
 use Rattle.core_report.specs.Outcome.{IsOutcome, SourceSays, TextSays, cause_status}
-use Rattle.core_report.specs.Run.{Comes, ComesTo, HasAll, HasFirst, HasImages, HasMergeFiles, HasReportFiles, HasWalkFiles, IsReadTrouble, IsTroubled}
+use Rattle.core_report.specs.Run.{Comes, ComesTo, HasAll, HasFirst, HasImages, HasMergeFiles, HasReportFiles}
+use Rattle.core_report.specs.Run.{HasWalkFiles, IsReadTrouble, IsTroubled}
 use Rattle.core_words.specs.Dump.{Dump}
-use Rattle.core_words.specs.Words.{Command, LayoutSource, Locate, Merge, Reach, Sample, Slim, Triage, Walk, dump, locate, merge, reach, seeded, slim, triage, walk, kept_files, later_files, source_files, sample, file as named}
-use Rattle.core_report.specs.Reading.{AsksImages, AsksReport, Stops, StopsTriage, IsNext, IsAll, AreFiles, IsRead, contents, merge_contents, report_contents, text_contents, walk_contents}
+use Rattle.core_words.specs.Words.{Command, LayoutSource, Locate, Merge, Reach, Sample, Slim, Triage, Walk, dump}
+use Rattle.core_words.specs.Words.{locate, merge, reach, seeded, slim, triage, walk, kept_files, later_files}
+use Rattle.core_words.specs.Words.{source_files, sample, file as named}
+use Rattle.core_report.specs.Reading.{AsksImages, AsksReport, Stops, StopsTriage, IsNext, IsAll, AreFiles, IsRead}
+use Rattle.core_report.specs.Reading.{contents, merge_contents, report_contents, text_contents, walk_contents}
 
 -- one file more
 more_after : (told : Told) (command : Command) (before read : List (List ℕ)) (name bytes : List ℕ)

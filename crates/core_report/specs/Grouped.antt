@@ -1,5 +1,6 @@
 -- Cores in groups by their stacks: what is printed of them. This project's own form.
-use Rattle.std.specs.Prelude.{◌≡◌, ◌≢◌, ⊤, ℕ, ◌+◌, List, [], ◌∷◌, ◌++◌, length, get_or, map, flat_map, Result, Ok, Err, codes, decimal}
+use Rattle.std.specs.Prelude.{◌≡◌, ◌≢◌, ⊤, ℕ, ◌+◌, List, [], ◌∷◌, ◌++◌, length, get_or, map, flat_map, Result, Ok, Err}
+use Rattle.std.specs.Prelude.{codes, decimal}
 use Rattle.std.specs.List.{concat}
 use Rattle.image_memory.specs.Images.{Pushed}
 use Rattle.py_fields.specs.declared.layout.Layout.{Layout}

@@ -6,7 +6,8 @@ use Rattle.object_reach.specs.declared.reached.ReachError.{ReachError}
 use Rattle.object_reach.specs.declared.reached.ReachError.TheVariants as reach
 use Rattle.fault_lines.specs.Lines.{core_parts, layout_parts, line_of}
 use Rattle.core_report.specs.declared.cause.Cause.{Cause}
-use Rattle.core_report.specs.declared.cause.Cause.TheVariants.{Core, Layouts, Merge, MergeIndex, Reach, ReachIndex, TooManyPieces, OutOfMemory}
+use Rattle.core_report.specs.declared.cause.Cause.TheVariants.{Core, Layouts, Merge, MergeIndex, Reach, ReachIndex}
+use Rattle.core_report.specs.declared.cause.Cause.TheVariants.{TooManyPieces, OutOfMemory}
 
 -- the line of a text
 abbrev pub line : List ℕ → List ℕ

@@ -1,5 +1,6 @@
 -- What a command comes to over the contents of its files.
-use Rattle.std.specs.Prelude.{◌≡◌, ◌≢◌, ◌⊎◌, ℕ, Bool, true, false, List, [], ◌∷◌, drop, length, slice_get, ⊤, Option, Some, None, Result, Ok, Err, Vec, if◌then◌else◌}
+use Rattle.std.specs.Prelude.{◌≡◌, ◌≢◌, ◌⊎◌, ℕ, Bool, true, false, List, [], ◌∷◌, drop, length, slice_get, ⊤, Option}
+use Rattle.std.specs.Prelude.{Some, None, Result, Ok, Err, Vec, if◌then◌else◌}
 use Rattle.std.specs.Global.{Global}
 use Rattle.py_fields.specs.declared.layout.Layout.{Layout}
 use Rattle.py_fields.specs.Samples.{sample_layout}
@@ -11,7 +12,9 @@ use Rattle.py_stacks.specs.declared.trace.StackTrace.{StackTrace}
 use Rattle.py_process.specs.declared.core_error.CoreError.{CoreError}
 use Rattle.py_process.specs.declared.core_error.CoreError.TheVariants as core
 use Rattle.core_words.specs.Dump.{Dump}
-use Rattle.core_words.specs.Words.{Command, LayoutSource, Locate as AsksLocate, Merge as AsksMerge, Reach as AsksReach, Sample as AsksSample, Slim as AsksSlim, Triage, Walk, dump, file, locate, merge, reach, sample, seeded, slim, triage, walk}
+use Rattle.core_words.specs.Words.{Command, LayoutSource, Locate as AsksLocate, Merge as AsksMerge, Reach as AsksReach}
+use Rattle.core_words.specs.Words.{Sample as AsksSample, Slim as AsksSlim, Triage, Walk, dump, file, locate, merge}
+use Rattle.core_words.specs.Words.{reach, sample, seeded, slim, triage, walk}
 use Rattle.core_texts.specs.Text.{frames_text, report_text, walk_text}
 use Rattle.core_texts.specs.Tree.{report_json}
 use Rattle.image_memory.specs.Images.{Pushed}
@@ -34,7 +37,8 @@ use Rattle.core_stacks.specs.Slimmed.{SlimmedSays}
 use Rattle.object_reach.specs.declared.reached.ReachError.{ReachError}
 use Rattle.object_reach.specs.declared.reached.ReachError.TheVariants as reaching
 use Rattle.core_report.specs.declared.cause.Cause.{Cause}
-use Rattle.core_report.specs.declared.cause.Cause.TheVariants.{Core, Layouts, Merge, MergeIndex, Reach, ReachIndex, TooManyPieces, OutOfMemory}
+use Rattle.core_report.specs.declared.cause.Cause.TheVariants.{Core, Layouts, Merge, MergeIndex, Reach, ReachIndex}
+use Rattle.core_report.specs.declared.cause.Cause.TheVariants.{TooManyPieces, OutOfMemory}
 use Rattle.core_report.specs.Grouped.{IsGroupedText}
 use Rattle.image_builder.specs.Generated.{generated}
 use Rattle.image_builder.specs.Inverse.{IsCoreOf}

@@ -1,11 +1,13 @@
 -- Which files a command asks for, in which order, and what they hold.
-use Rattle.std.specs.Prelude.{◌≡◌, ◌≢◌, ◌⊎◌, ⊤, ℕ, List, [], ◌∷◌, ◌++◌, length, map, slice_get, Option, Some, None, Err, Vec}
+use Rattle.std.specs.Prelude.{◌≡◌, ◌≢◌, ◌⊎◌, ⊤, ℕ, List, [], ◌∷◌, ◌++◌, length, map, slice_get, Option, Some, None, Err}
+use Rattle.std.specs.Prelude.{Vec}
 use Rattle.std.specs.Global.{Global}
 use Rattle.outside.specs.Files.{Told, Gives}
 use Rattle.py_layout.specs.File.{IsRightFor}
 use Rattle.py_layout.specs.declared.error.LayoutError.{LayoutError}
 use Rattle.py_layout.specs.declared.error.LayoutError.TheVariants as layout
-use Rattle.core_words.specs.Words.{Command, Triage, dump, files_of, kept_files, locate, merge, reach, seeded, slim, triage, walk}
+use Rattle.core_words.specs.Words.{Command, Triage, dump, files_of, kept_files, locate, merge, reach, seeded, slim}
+use Rattle.core_words.specs.Words.{triage, walk}
 pub use Rattle.named_images.specs.Named.{contents}
 use Rattle.core_report.specs.declared.walk_command.WalkFiles.{WalkFiles}
 use Rattle.core_report.specs.declared.report_files.ReportFiles.{ReportFiles}

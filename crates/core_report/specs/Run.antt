@@ -1,5 +1,6 @@
 -- What a run of the top call means.
-use Rattle.std.specs.Prelude.{◌≡◌, ◌≢◌, ◌⊎◌, ◌++◌, ℕ, List, [], ◌∷◌, length, map, Option, Some, None, IsSome, Result, Ok, Err, codes, Vec}
+use Rattle.std.specs.Prelude.{◌≡◌, ◌≢◌, ◌⊎◌, ◌++◌, ℕ, List, [], ◌∷◌, length, map, Option, Some, None, IsSome, Result}
+use Rattle.std.specs.Prelude.{Ok, Err, codes, Vec}
 use Rattle.std.specs.Global.{Global}
 use Rattle.std.specs.List.{concat}
 use Rattle.outside.specs.Files.{FailedNames, FilesSeen, Told}
@@ -21,7 +22,8 @@ use Rattle.core_report.specs.declared.judged.JudgedCores.{JudgedCores}
 use Rattle.core_report.specs.declared.report_files.ReportFiles.{ReportFiles}
 use Rattle.core_report.specs.declared.merge_command.MergeFiles.{MergeFiles}
 use Rattle.core_report.specs.declared.triage_command.TriageFiles.{TriageFiles}
-use Rattle.core_report.specs.Reading.{IsAll, IsNext, IsRead, contents, merge_contents, report_contents, triage_contents, walk_contents}
+use Rattle.core_report.specs.Reading.{IsAll, IsNext, IsRead, contents, merge_contents, report_contents, triage_contents}
+use Rattle.core_report.specs.Reading.{walk_contents}
 use Rattle.core_report.specs.Outcome.{IsOutcome, IsOwnCause, Outcome, cause_status}
 use Rattle.fault_lines.specs.Lines.{file_parts}
 use Rattle.core_report.specs.Lines.{cause_parts, line}

@@ -1,11 +1,13 @@
 -- Ranges have at most as many pieces as there are of them: each piece takes a range that begins where the piece does.
-use Rattle.std.proofs.Common.{◌≡◌, ℕ, suc, ◌+◌, ◌<◌, ◌≤◌, Bool, true, false, List, [], ◌∷◌, length, refl, sym, ap, ◌∙◌, arith, ⊎_elim, ◌||◌}
+use Rattle.std.proofs.Common.{◌≡◌, ℕ, suc, ◌+◌, ◌<◌, ◌≤◌, Bool, true, false, List, [], ◌∷◌, length, refl, sym, ap, ◌∙◌}
+use Rattle.std.proofs.Common.{arith, ⊎_elim, ◌||◌}
 use Rattle.std.specs.Prelude.{filter, nat_lt}
 use Rattle.std.proofs.lemmas.Bool.{cases_Bool, cases_lt}
 use Rattle.std.proofs.lemmas.Bool.Decides.{nat_tests}
 use Rattle.process_memory.specs.declared.memory.Span.{Span}
 use Rattle.core_slim.specs.Joined.{AreJoined, covers, lies_in}
-use Rattle.core_slim.proofs.Joining.{Rises, apart_rises, covers_before, covers_behind, covers_within, in_span, lies_before}
+use Rattle.core_slim.proofs.Joining.{Rises, apart_rises, covers_before, covers_behind, covers_within, in_span}
+use Rattle.core_slim.proofs.Joining.{lies_before}
 
 -- the ranges that begin behind an address
 abbrev behind : ℕ → List Span → List Span

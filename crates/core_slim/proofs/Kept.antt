@@ -1,5 +1,6 @@
 -- What is read of a slim core.
-use Rattle.std.proofs.Common.{◌≡◌, ℕ, cond, ◌+◌, ◌-◌, ◌<◌, ◌≤◌, ◌^◌, List, [], ◌∷◌, ◌++◌, length, take, drop, map, refl, sym, ap, ap₂, subst, ◌∙◌, arith}
+use Rattle.std.proofs.Common.{◌≡◌, ℕ, cond, ◌+◌, ◌-◌, ◌<◌, ◌≤◌, ◌^◌, List, [], ◌∷◌, ◌++◌, length, take, drop, map, refl}
+use Rattle.std.proofs.Common.{sym, ap, ap₂, subst, ◌∙◌, arith}
 use Rattle.std.specs.Prelude.{All, Option, filter, filter_map, None}
 use Rattle.std.specs.List.{flat_map}
 use Rattle.std.proofs.lemmas.List.{take_all}
@@ -11,7 +12,8 @@ use Rattle.process_memory.specs.Seen.{HoldsSpan}
 use Rattle.process_memory.specs.declared.memory.Span.{Span}
 use Rattle.image_memory.specs.Cores.{IsCore}
 use Rattle.image_memory.specs.FileTables.{Entry}
-use Rattle.image_memory.specs.Notes.{AreCoreNotes, AreStatuses, IsProcess, is_note, last_process, note_bytes, note_segments, segment_bytes, status_noted}
+use Rattle.image_memory.specs.Notes.{AreCoreNotes, AreStatuses, IsProcess, is_note, last_process, note_bytes}
+use Rattle.image_memory.specs.Notes.{note_segments, segment_bytes, status_noted}
 use Rattle.image_memory.specs.Pieces.{is_load, memory_of, segment_region}
 use Rattle.image_memory.specs.declared.records.elf_prstatus.{elf_prstatus}
 use Rattle.image_memory.specs.declared.records.elf_prpsinfo.{elf_prpsinfo}
@@ -22,7 +24,8 @@ use Rattle.core_slim.specs.Slim.{Keeps, filled, notes_segment, part_of, piece_by
 use Rattle.core_slim.proofs.Joining.{pieces_held}
 use Rattle.core_slim.proofs.NotesBack.{notes_kept}
 use Rattle.core_slim.proofs.Pieces.{length-slim_segments}
-use Rattle.core_slim.proofs.ReadBack.{file_contents, file_header_is, file_length, file_machine, file_segments, file_table}
+use Rattle.core_slim.proofs.ReadBack.{file_contents, file_header_is, file_length, file_machine, file_segments}
+use Rattle.core_slim.proofs.ReadBack.{file_table}
 use Rattle.core_slim.proofs.Regions.{Follows, bytes_back, fits_back, notes_back, piece_region, regions_back, room_back}
 
 le_self : (n : ℕ) → n ≤ n

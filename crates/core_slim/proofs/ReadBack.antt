@@ -1,11 +1,13 @@
 -- The headers of a file of segments, as they are read.
-use Rattle.std.proofs.Common.{◌≡◌, ℕ, suc, ◌+◌, ◌-◌, ◌*◌, ◌<◌, ◌^◌, List, [], ◌∷◌, ◌++◌, length, take, drop, refl, sym, ap, ap₂, ◌∙◌, arith, inr, append_assoc, length-append}
+use Rattle.std.proofs.Common.{◌≡◌, ℕ, suc, ◌+◌, ◌-◌, ◌*◌, ◌<◌, ◌^◌, List, [], ◌∷◌, ◌++◌, length, take, drop, refl, sym}
+use Rattle.std.proofs.Common.{ap, ap₂, ◌∙◌, arith, inr, append_assoc, length-append}
 use Rattle.std.specs.Int.{w32, w64, from_le_bytes}
 use Rattle.std.specs.List.{AllByRecursion, flat_map}
 use Rattle.std.proofs.lemmas.List.{drop_at}
 use Rattle.std.proofs.lemmas.Nat.{from_le_bytes-to_le_bytes_8, from_le_bytes-to_le_bytes_4, from_le_bytes-to_le_bytes_2}
 use Rattle.elf64_core.specs.Fields.{u64_in, u32_in, u16_in}
-use Rattle.elf64_core.specs.Header.{HasProgramTable, IsElf64, entry_size, machine_named, machine_of, program_table, segment_count, segment_in, segments_from, segments_of}
+use Rattle.elf64_core.specs.Header.{HasProgramTable, IsElf64, entry_size, machine_named, machine_of, program_table}
+use Rattle.elf64_core.specs.Header.{segment_count, segment_in, segments_from, segments_of}
 use Rattle.elf64_core.specs.declared.header.Machine.{Machine}
 use Rattle.elf64_core.specs.declared.header.Machine.TheVariants.{X86_64, Aarch64, Other}
 use Rattle.elf64_core.specs.declared.segment.Segment.{Segment}

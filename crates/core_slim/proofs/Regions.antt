@@ -1,5 +1,7 @@
 -- The memory of a slim core.
-use Rattle.std.proofs.Common.{◌≡◌, ℕ, zero, suc, ◌+◌, ◌-◌, ◌<◌, ◌≤◌, ◌^◌, Bool, true, false, cond, leb, ltb, List, [], ◌∷◌, ◌++◌, length, take, drop, map, refl, sym, ap, ap₂, ◌∙◌, rules, arith, inl, inr, add-zero, append_assoc, length-append, length-drop, ◌||◌}
+use Rattle.std.proofs.Common.{◌≡◌, ℕ, zero, suc, ◌+◌, ◌-◌, ◌<◌, ◌≤◌, ◌^◌, Bool, true, false, cond, leb, ltb, List, []}
+use Rattle.std.proofs.Common.{◌∷◌, ◌++◌, length, take, drop, map, refl, sym, ap, ap₂, ◌∙◌, rules, arith, inl, inr}
+use Rattle.std.proofs.Common.{add-zero, append_assoc, length-append, length-drop, ◌||◌}
 use Rattle.std.specs.Prelude.{All, Option, Some, None, IsSome, slice_get, unwrap_or, filter, min}
 use Rattle.std.specs.List.{AllByRecursion, flat_map}
 use Rattle.std.proofs.lemmas.Bool.Decides.{nat_tests}

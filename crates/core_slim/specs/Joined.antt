@@ -1,6 +1,7 @@
 -- Pieces of ranges of addresses: the longest intervals of addresses that all lie in some range, in ascending order.
 -- An address of one piece can be of several ranges, and a range of no bytes has none. This is the project's own rule.
-use Rattle.std.specs.Prelude.{◌≡◌, ℕ, ◌+◌, ◌-◌, ◌^◌, ◌<◌, ◌≤◌, ◌&&◌, max, nat_le, nat_lt, Bool, List, [], ◌∷◌, All, ⊤, if◌then◌else◌}
+use Rattle.std.specs.Prelude.{◌≡◌, ℕ, ◌+◌, ◌-◌, ◌^◌, ◌<◌, ◌≤◌, ◌&&◌, max, nat_le, nat_lt, Bool, List, [], ◌∷◌, All, ⊤}
+use Rattle.std.specs.Prelude.{if◌then◌else◌}
 use Rattle.std.specs.List.{AllPairs, list_any}
 use Rattle.process_memory.specs.declared.memory.Span.{Span}
 

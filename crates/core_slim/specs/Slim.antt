@@ -1,6 +1,7 @@
 -- A slim core: a core of some ranges of the memory of another one alone, with all that its notes say. That ranges which
 -- touch are one segment, that it can be written, and that nothing else is taken over, is this project's own rule.
-use Rattle.std.specs.Prelude.{◌≡◌, ◌↔◌, ℕ, ◌+◌, ◌-◌, ◌<◌, ◌≤◌, List, [], ◌∷◌, ◌++◌, length, unwrap_or, Option, None, Result, Ok, Err, ⊤, if◌then◌else◌}
+use Rattle.std.specs.Prelude.{◌≡◌, ◌↔◌, ℕ, ◌+◌, ◌-◌, ◌<◌, ◌≤◌, List, [], ◌∷◌, ◌++◌, length, unwrap_or, Option, None}
+use Rattle.std.specs.Prelude.{Result, Ok, Err, ⊤, if◌then◌else◌}
 use Rattle.std.specs.List.{flat_map}
 use Rattle.elf64_core.specs.Header.{load_kind, machine_of, note_kind}
 use Rattle.elf64_core.specs.Notes.{padded}

@@ -10,7 +10,8 @@ use Rattle.process_memory.specs.Faults.{faults_then}
 use Rattle.process_memory.specs.Walk.{first_fault}
 use Rattle.py_fields.specs.declared.layout.GilAt.{GilAt}
 use Rattle.py_fields.specs.declared.layout.Layout.{Layout}
-use Rattle.py_stacks.specs.Locals.{count_of, each_faults, local_at, locals_faults, name_fault, named_local, names_tuple_of, variable_name_at}
+use Rattle.py_stacks.specs.Locals.{count_of, each_faults, local_at, locals_faults, name_fault, named_local}
+use Rattle.py_stacks.specs.Locals.{names_tuple_of, variable_name_at}
 use Rattle.py_stacks.specs.Member.{MemberAt}
 use Rattle.py_stacks.specs.Holder.{gil_holder_at, holder_at, holder_through, id_of, holder_id_at, thread_id_at}
 

@@ -10,12 +10,15 @@ use Rattle.py_fields.specs.declared.layout.CframeAt.{CframeAt}
 use Rattle.py_fields.specs.declared.layout.Layout.{Layout}
 use Rattle.py_stacks.specs.Asking.{nothing}
 use Rattle.py_stacks.specs.Detail.{detail_faults}
-use Rattle.py_stacks.specs.Frames.{Call, code_of, frame_faults, frame_limit, frame_next, frames_faults, member_limit, part_faults, plain_by, records_at}
+use Rattle.py_stacks.specs.Frames.{Call, code_of, frame_faults, frame_limit, frame_next, frames_faults, member_limit}
+use Rattle.py_stacks.specs.Frames.{part_faults, plain_by, records_at}
 use Rattle.py_stacks.specs.Member.{MemberAt}
 use Rattle.py_stacks.specs.Holder.{holder_id_at}
 use Rattle.py_stacks.specs.Stacks.{stacks_faults}
-use Rattle.py_stacks.specs.Threads.{first_frame_at, frame_through, thread_faults, thread_limit, thread_next, traces_faults}
-use Rattle.core_stacks.proofs.PlainFaults.{Fails, first_fails, next_fails, holder_id_fails, record_fails, some_same, word_fails}
+use Rattle.py_stacks.specs.Threads.{first_frame_at, frame_through, thread_faults, thread_limit, thread_next}
+use Rattle.py_stacks.specs.Threads.{traces_faults}
+use Rattle.core_stacks.proofs.PlainFaults.{Fails, first_fails, next_fails, holder_id_fails, record_fails, some_same}
+use Rattle.core_stacks.proofs.PlainFaults.{word_fails}
 use Rattle.core_stacks.proofs.WalkFaults.{first_in, no_fault}
 
 -- a missing range, or a limit of threads, of frames or of members

@@ -10,9 +10,12 @@ use Rattle.py_version.specs.declared.version.Version.{Version}
 use Rattle.py_stacks.specs.declared.config.Config.{Config}
 use Rattle.py_process.specs.Candidates.{IsFirstOf, candidates_of}
 use Rattle.py_process.specs.Facts.{Known}
-use Rattle.py_process.specs.Findings.{AfterImages, AfterLayout, AfterMaps, AfterSearch, AfterVersion, Finding, FindingIs, IsChosen, IsFound, IsMade, LayoutSays, LockSays, SearchSays, VersionSays, finding}
+use Rattle.py_process.specs.Findings.{AfterImages, AfterLayout, AfterMaps, AfterSearch, AfterVersion, Finding}
+use Rattle.py_process.specs.Findings.{FindingIs, IsChosen, IsFound, IsMade, LayoutSays, LockSays, SearchSays}
+use Rattle.py_process.specs.Findings.{VersionSays, finding}
 use Rattle.py_process.specs.Programs.{ArePrograms, ImagesSay, IsKnown, MapsSay, Programs}
-use Rattle.py_process.specs.Reports.{AfterCore, AfterFinding, CoreSays, Dumped, IsDumped, IsTold, MeetsFault, ReportIs, StacksSay, memory_in, reported}
+use Rattle.py_process.specs.Reports.{AfterCore, AfterFinding, CoreSays, Dumped, IsDumped, IsTold, MeetsFault, ReportIs}
+use Rattle.py_process.specs.Reports.{StacksSay, memory_in, reported}
 use Rattle.py_process.specs.Sources.{FirstTells, sources_of}
 use Rattle.py_process.specs.Steps.{Then}
 use Rattle.py_process.specs.declared.core_error.CoreError.{CoreError}

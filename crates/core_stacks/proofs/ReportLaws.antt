@@ -12,7 +12,8 @@ use Rattle.py_process.specs.Findings.{FindingIs, IsChosen}
 use Rattle.py_process.specs.Lock.{lock_address_of}
 use Rattle.py_process.specs.Candidates.{IsFirstOf, candidates_of}
 use Rattle.py_process.specs.Sources.{FirstTells, sources_of}
-use Rattle.py_process.specs.Reports.{AfterCore, AfterFinding, AsksNoOther, CoreSays, IsReadable, IsRight, IsTold, ReportIs, Reported, StacksSay, fault_on, reported, reported_of}
+use Rattle.py_process.specs.Reports.{AfterCore, AfterFinding, AsksNoOther, CoreSays, IsReadable, IsRight, IsTold}
+use Rattle.py_process.specs.Reports.{ReportIs, Reported, StacksSay, fault_on, reported, reported_of}
 use Rattle.py_process.specs.Reports as reports
 use Rattle.py_process.specs.declared.report.Report.{Report}
 use Rattle.py_process.specs.declared.core_error.CoreError.{CoreError}

@@ -17,12 +17,14 @@ use Rattle.py_process.specs.Facts.{Known}
 use Rattle.py_process.specs.Findings.{AfterImages, AfterMaps, Finding, FindingIs, IsFound}
 use Rattle.py_process.specs.Programs.{ImagesSay, IsKnown, MapsSay, Programs}
 use Rattle.py_process.specs.Sources.{FirstTells, sources_of}
-use Rattle.py_process.specs.Reports.{AfterCore, AfterFinding, AsksNoOther, CoreSays, Dumped, IsDumped, IsReadable, IsTold, ReportIs, Reported, StacksSay, TellsReport, fault_on, memory_in}
+use Rattle.py_process.specs.Reports.{AfterCore, AfterFinding, AsksNoOther, CoreSays, Dumped, IsDumped, IsReadable}
+use Rattle.py_process.specs.Reports.{IsTold, ReportIs, Reported, StacksSay, TellsReport, fault_on, memory_in}
 use Rattle.py_process.specs.Steps.{Then}
 use Rattle.py_process.specs.declared.core_error.CoreError.{CoreError}
 use Rattle.py_process.specs.declared.core_error.CoreError.TheVariants as core
 use Rattle.py_process.proofs.Wider.{reading_wider}
-use Rattle.core_stacks.specs.Reached.{AfterKnown, IsCounted, IsTrialBy, Reporting, Trying, cost_of, finding_cost, trial_cost}
+use Rattle.core_stacks.specs.Reached.{AfterKnown, IsCounted, IsTrialBy, Reporting, Trying, cost_of, finding_cost}
+use Rattle.core_stacks.specs.Reached.{trial_cost}
 use Rattle.core_stacks.specs.Sole.{Settles}
 use Rattle.py_process.proofs.Agreement.{ok_is, ok_kept, ok_not_err, then_ok, then_value}
 use Rattle.py_process.proofs.FindingLaws.{images_agree, maps_agree}

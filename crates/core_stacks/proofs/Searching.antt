@@ -28,7 +28,8 @@ use Rattle.core_stacks.specs.Reached.{IsTrialAt, IsTrialBy, Trial, Trying, cost_
 use Rattle.core_stacks.specs.Seen.{AreBinaries, FindsProcess}
 use Rattle.core_stacks.specs.Sole.{Settles}
 use Rattle.py_process.proofs.Agreement.{then_ok}
-use Rattle.core_stacks.proofs.Steps.{images_fail, images_then, layout_then, maps_fail, maps_then, version_fails, version_then}
+use Rattle.core_stacks.proofs.Steps.{images_fail, images_then, layout_then, maps_fail, maps_then, version_fails}
+use Rattle.core_stacks.proofs.Steps.{version_then}
 
 -- nothing is tried, and nothing was read
 pub untried : {IsTrialHere : Trial → Type 0} {contains : ℕ → Bool} {n : ℕ} {s : Seen} (Q : Memory → Type 0) → ((m : Memory) → Q m) → Trying IsTrialHere contains n s s Q

@@ -19,7 +19,8 @@ use Rattle.core_slim.specs.declared.error.SlimError.{SlimError}
 use Rattle.core_slim.specs.declared.error.SlimError.TheVariants as slim
 use Rattle.core_stacks.specs.Footprints.{IsFootprint}
 use Rattle.core_stacks.specs.Opened.{IsOpenedAt, Opened, opened_memory}
-use Rattle.core_stacks.specs.Slimmed.{HasStacksOrNone, IsSlimOf, IsSoleLayout, SlimmedSays, TellsCause, refusal_of_core, refusal_of_slim}
+use Rattle.core_stacks.specs.Slimmed.{HasStacksOrNone, IsSlimOf, IsSoleLayout, SlimmedSays, TellsCause, refusal_of_core}
+use Rattle.core_stacks.specs.Slimmed.{refusal_of_slim}
 use Rattle.core_stacks.specs.Sole.{IsSole}
 use Rattle.core_stacks.specs.declared.slimmed_error.SlimmedError.{SlimmedError}
 use Rattle.core_stacks.specs.declared.slimmed_error.SlimmedError.TheVariants.{Core, TooManyPieces}

@@ -12,7 +12,9 @@ use Rattle.py_version.specs.declared.version.Version.{Version}
 use Rattle.py_process.specs.Candidates.{IsFirstOf, IsNoneOf, NotFoundWhere, candidates_of}
 use Rattle.py_process.specs.Causes.{cause_of_search, cause_of_version}
 use Rattle.py_process.specs.Facts.{Known}
-use Rattle.py_process.specs.Findings.{AfterImages, AfterLayout, AfterMaps, AfterSearch, AfterVersion, Finding, FindingIs, IsChosen, IsMade, LayoutSays, LockSays, SearchSays, VersionSays, finding}
+use Rattle.py_process.specs.Findings.{AfterImages, AfterLayout, AfterMaps, AfterSearch, AfterVersion, Finding}
+use Rattle.py_process.specs.Findings.{FindingIs, IsChosen, IsMade, LayoutSays, LockSays, SearchSays, VersionSays}
+use Rattle.py_process.specs.Findings.{finding}
 use Rattle.py_process.specs.Programs.{ArePrograms, ImagesSay, IsKnown, MapsSay, Programs}
 use Rattle.py_process.specs.Reports.{Dumped, IsDumped, memory_in}
 use Rattle.py_process.specs.Sources.{FirstTells, VersionIs, sources_of}
@@ -22,7 +24,8 @@ use Rattle.core_stacks.specs.Seen.{FindsProcess}
 use Rattle.core_stacks.specs.Sole.{Settles}
 use Rattle.core_stacks.proofs.Settling.{settles_agree, settles_err, settles_ok}
 use Rattle.py_process.proofs.Dumped.{dumped_once}
-use Rattle.py_process.proofs.FindingLaws.{images_agree, layout_agree, lock_agree, made_agree, maps_agree, search_agree, version_agree}
+use Rattle.py_process.proofs.FindingLaws.{images_agree, layout_agree, lock_agree, made_agree, maps_agree, search_agree}
+use Rattle.py_process.proofs.FindingLaws.{version_agree}
 use Rattle.py_process.specs.declared.search_error.SearchError.{SearchError}
 use Rattle.py_process.specs.declared.search_error.SearchError.TheVariants as search
 use Rattle.py_process.specs.declared.version_error.VersionError.{VersionError}

@@ -1,6 +1,7 @@
 -- Where an address is an interpreter's, neither a limit nor a record of a thread or a frame is in the way of its stacks:
 -- their first fault is the lock holder's, or one of the locals of a kept frame.
-use Rattle.std.proofs.Common.{◌≡◌, ◌⊎◌, ℕ, zero, suc, ◌+◌, ◌<◌, ◌^◌, cond, ltb, leb, List, [], ◌∷◌, refl, sym, ap, ◌∙◌, subst, inl, inr, arith, add-zero}
+use Rattle.std.proofs.Common.{◌≡◌, ◌⊎◌, ℕ, zero, suc, ◌+◌, ◌<◌, ◌^◌, cond, ltb, leb, List, [], ◌∷◌, refl, sym, ap, ◌∙◌}
+use Rattle.std.proofs.Common.{subst, inl, inr, arith, add-zero}
 use Rattle.std.specs.Prelude.{Bool, true, false, Option, Some, None, Ok, Err}
 use Rattle.std.specs.Result.{IsOk}
 use Rattle.std.proofs.lemmas.Bool.{lt-ltb, le-leb}
@@ -16,12 +17,14 @@ use Rattle.py_stacks.specs.declared.config.Config.{Config}
 use Rattle.py_stacks.specs.Asking.{asked_of, asks, nothing}
 use Rattle.py_stacks.specs.Detail.{detail_faults}
 use Rattle.py_stacks.specs.Member.{MemberAt}
-use Rattle.py_stacks.specs.Frames.{Call, back_of, frame_faults, frame_limit, frame_next, frames_faults, member_limit, part_faults, plain_by, records_at}
+use Rattle.py_stacks.specs.Frames.{Call, back_of, frame_faults, frame_limit, frame_next, frames_faults, member_limit}
+use Rattle.py_stacks.specs.Frames.{part_faults, plain_by, records_at}
 use Rattle.py_stacks.specs.Interpreter.{IsInterpreter}
 use Rattle.py_stacks.specs.Locals.{asked_faults, count_of, each_faults, local_at, locals_faults, names_tuple_of}
 use Rattle.py_stacks.specs.Holder.{holder_id_at}
 use Rattle.py_stacks.specs.Stacks.{stacks_faults}
-use Rattle.py_stacks.specs.Threads.{first_frame_at, thread_after, thread_faults, thread_limit, thread_next, traces_faults}
+use Rattle.py_stacks.specs.Threads.{first_frame_at, thread_after, thread_faults, thread_limit, thread_next}
+use Rattle.py_stacks.specs.Threads.{traces_faults}
 use Rattle.py_stacks.proofs.ThreadLaws.{traces_same}
 use Rattle.py_stacks.proofs.Wholes.{traces_whole}
 use Rattle.py_process.specs.Findings.{Finding}

@@ -5,7 +5,8 @@ use Rattle.std.specs.Global.{Vec}
 use Rattle.image_memory.specs.Cores.{IsCore, RefusesCore}
 use Rattle.image_memory.specs.declared.dump_error.DumpError.TheVariants as dump
 use Rattle.process_memory.specs.Memory.{Memory, Fault, byte_at}
-use Rattle.process_memory.specs.Memory.Fault.{Missing, ThreadLimit as ManyThreads, FrameLimit as ManyFrames, ChainLimit as ManyMembers}
+use Rattle.process_memory.specs.Memory.Fault.{Missing, ThreadLimit as ManyThreads, FrameLimit as ManyFrames}
+use Rattle.process_memory.specs.Memory.Fault.{ChainLimit as ManyMembers}
 use Rattle.image_memory.specs.Pieces.{memory_of}
 use Rattle.process_memory.specs.Walk.{first_fault}
 use Rattle.py_fields.specs.declared.layout.Layout.{Layout}
@@ -18,7 +19,9 @@ use Rattle.py_stacks.specs.Threads.{Trace, trace_of}
 use Rattle.py_process.specs.Findings.{IsChosen, LayoutSays}
 use Rattle.py_process.specs.Steps.{Then}
 use Rattle.py_process.specs.declared.core_error.CoreError.{CoreError}
-use Rattle.py_process.specs.declared.core_error.CoreError.TheVariants.{NotElf64, BadHeader, NoNotes, BadNote, Unreadable, ThreadLimit, FrameLimit, ChainLimit, OutOfMemory}
+use Rattle.py_process.specs.declared.core_error.CoreError.TheVariants.{NotElf64, BadHeader, NoNotes, BadNote}
+use Rattle.py_process.specs.declared.core_error.CoreError.TheVariants.{Unreadable, ThreadLimit, FrameLimit, ChainLimit}
+use Rattle.py_process.specs.declared.core_error.CoreError.TheVariants.{OutOfMemory}
 
 -- the core's memory
 abbrev pub core_memory : List ℕ → Memory

@@ -14,7 +14,9 @@ use Rattle.py_stacks.specs.declared.trace.Addresses.{Addresses}
 use Rattle.py_process.specs.Findings.{Finding, IsChosen, IsFound}
 use Rattle.py_process.specs.Variables.{IsRestFault}
 use Rattle.py_process.specs.declared.core_error.CoreError.{CoreError}
-use Rattle.py_process.specs.declared.core_error.CoreError.TheVariants.{UnsupportedVersion, Unreadable, NativeUnsupported, SubprocessesUnsupported, BadValue, LocalsLimit, OutOfMemory}
+use Rattle.py_process.specs.declared.core_error.CoreError.TheVariants.{UnsupportedVersion, Unreadable}
+use Rattle.py_process.specs.declared.core_error.CoreError.TheVariants.{NativeUnsupported, SubprocessesUnsupported}
+use Rattle.py_process.specs.declared.core_error.CoreError.TheVariants.{BadValue, LocalsLimit, OutOfMemory}
 use Rattle.core_stacks.specs.Seen.{FindsProcess}
 
 -- a core of a process: its bytes, the pieces of the process's memory, and what is found of it

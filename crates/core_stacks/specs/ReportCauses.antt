@@ -17,7 +17,12 @@ use Rattle.py_process.specs.Reports.{Dumped, IsDumped, memory_in}
 use Rattle.py_process.specs.Sources.{FirstTells, sources_of}
 use Rattle.py_process.specs.Variables.{IsRestFault}
 use Rattle.py_process.specs.declared.core_error.CoreError.{CoreError}
-use Rattle.py_process.specs.declared.core_error.CoreError.TheVariants.{NotElf64, BadHeader, NoNotes, BadNote, NoBinary, NoImage, BadImage, UnreadableVersion, NoVersion, UnsupportedVersion, NoInterpreter, Unreadable, NativeUnsupported, SubprocessesUnsupported, BadValue, LocalsLimit, ThreadLimit, FrameLimit, ChainLimit, OutOfMemory}
+use Rattle.py_process.specs.declared.core_error.CoreError.TheVariants.{NotElf64, BadHeader, NoNotes, BadNote, NoBinary}
+use Rattle.py_process.specs.declared.core_error.CoreError.TheVariants.{NoImage, BadImage, UnreadableVersion, NoVersion}
+use Rattle.py_process.specs.declared.core_error.CoreError.TheVariants.{UnsupportedVersion, NoInterpreter, Unreadable}
+use Rattle.py_process.specs.declared.core_error.CoreError.TheVariants.{NativeUnsupported, SubprocessesUnsupported}
+use Rattle.py_process.specs.declared.core_error.CoreError.TheVariants.{BadValue, LocalsLimit, ThreadLimit, FrameLimit}
+use Rattle.py_process.specs.declared.core_error.CoreError.TheVariants.{ChainLimit, OutOfMemory}
 
 -- the interpreter is found, and these bytes of the pointer to its lock aren't in memory
 pub record ReportLacksLock (bytes : List ℕ) (images : Pushed) (layouts : List Layout) (addr len : ℕ) : Type 0 where

@@ -1,5 +1,6 @@
 -- The texts of traces, of a walk and of a report.
-use Rattle.std.specs.Prelude.{ℕ, ℤ, pos, negsuc, ◌++◌, ◌==◌, not, Bool, true, false, if◌then◌else◌, List, [], ◌∷◌, map, reverse, Option, Some, None, unwrap_or, Vec, codes, decimal, encode_utf8_all}
+use Rattle.std.specs.Prelude.{ℕ, ℤ, pos, negsuc, ◌++◌, ◌==◌, not, Bool, true, false, if◌then◌else◌, List, [], ◌∷◌, map}
+use Rattle.std.specs.Prelude.{reverse, Option, Some, None, unwrap_or, Vec, codes, decimal, encode_utf8_all}
 use Rattle.std.specs.Fmt.{signed_decimal}
 use Rattle.std.specs.Global.{Global}
 use Rattle.std.specs.List.{concat, list_any}

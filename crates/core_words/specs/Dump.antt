@@ -1,8 +1,10 @@
 -- The words of a report: what clap takes for one simple command, and what they ask for.
-use Rattle.std.specs.Prelude.{ℕ, ◌-◌, ◌^◌, ◌&&◌, Bool, true, false, nat_lt, nat_eq, if◌then◌else◌, List, [], ◌∷◌, length, map, Option, Some, None, codes, bytes_eq, option_and_then, option_map, unwrap_or}
+use Rattle.std.specs.Prelude.{ℕ, ◌-◌, ◌^◌, ◌&&◌, Bool, true, false, nat_lt, nat_eq, if◌then◌else◌, List, [], ◌∷◌}
+use Rattle.std.specs.Prelude.{length, map, Option, Some, None, codes, bytes_eq, option_and_then, option_map, unwrap_or}
 use Rattle.std.specs.List.{list_all, position_or_len, starts_with, before_first, after_first}
 use Rattle.std.specs.Option.{option_map_or}
-use Rattle.clap.specs.Words.{App, Kinds, Row, Rule, Text, all_of, count_of, fault_of, first_of, matches_of, new_app, new_rule, with_rule}
+use Rattle.clap.specs.Words.{App, Kinds, Row, Rule, Text, all_of, count_of, fault_of, first_of, matches_of, new_app}
+use Rattle.clap.specs.Words.{new_rule, with_rule}
 use Rattle.clap.specs.declared.builder.ArgAction.TheVariants.{Set, Append, SetTrue, Count}
 use Rattle.py_stacks.specs.Asking.{default_config}
 use Rattle.py_stacks.specs.declared.config.Config.{Config}

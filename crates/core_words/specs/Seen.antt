@@ -8,7 +8,9 @@ use Rattle.core_words.specs.declared.walk.WalkWords.{WalkWords}
 use Rattle.core_words.specs.declared.walk.LayoutSource.{LayoutSource}
 use Rattle.core_words.specs.declared.walk.LayoutSource.TheVariants.{Sample, File}
 use Rattle.core_words.specs.declared.command.Command.{Command}
-use Rattle.core_words.specs.declared.command.Command.TheVariants.{Walk, Dump as Dumped, Triage as Grouped, Reach as Reached, Merge as Merged, Locate as Located, Slim as Slimmed, Sample as Sampled}
+use Rattle.core_words.specs.declared.command.Command.TheVariants.{Walk, Dump as Dumped, Triage as Grouped}
+use Rattle.core_words.specs.declared.command.Command.TheVariants.{Reach as Reached, Merge as Merged, Locate as Located}
+use Rattle.core_words.specs.declared.command.Command.TheVariants.{Slim as Slimmed, Sample as Sampled}
 use Rattle.core_words.specs.declared.dump.DumpWords.{DumpWords}
 use Rattle.core_words.specs.declared.triage.TriageWords.{TriageWords}
 use Rattle.core_words.specs.declared.locate.LocateWords.{LocateWords}

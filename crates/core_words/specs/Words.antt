@@ -1,5 +1,7 @@
 -- The words of a command line, as lists of bytes, and what they ask for.
-use Rattle.std.specs.Prelude.{ℕ, ◌≤◌, ⊤, ◌^◌, ◌&&◌, Bool, true, false, nat_lt, nat_le, nat_eq, if◌then◌else◌, List, [], ◌∷◌, ◌++◌, length, take, drop, map, Option, Some, None, option_and_then, option_map, bytes_eq, codes, string_bytes, String}
+use Rattle.std.specs.Prelude.{ℕ, ◌≤◌, ⊤, ◌^◌, ◌&&◌, Bool, true, false, nat_lt, nat_le, nat_eq, if◌then◌else◌, List, []}
+use Rattle.std.specs.Prelude.{◌∷◌, ◌++◌, length, take, drop, map, Option, Some, None, option_and_then, option_map}
+use Rattle.std.specs.Prelude.{bytes_eq, codes, string_bytes, String}
 use Rattle.std.specs.List.{list_all, position_or_len, starts_with, before_first, after_first}
 use Rattle.std.specs.Char.{digit_value}
 use Rattle.std.specs.Str.Parse.{digits_value}

@@ -1,5 +1,6 @@
 -- The function that covers an address, as a greatest element of a list.
-use Rattle.std.specs.Prelude.{◌≡◌, ◌⊎◌, ℕ, ◌+◌, ◌<◌, ◌≤◌, ◌-◌, nat_eq, nat_le, nat_lt, ◌&&◌, Bool, List, ◌++◌, [], Contains, Option, Some, None, option_map, option_and_then, slice_get}
+use Rattle.std.specs.Prelude.{◌≡◌, ◌⊎◌, ℕ, ◌+◌, ◌<◌, ◌≤◌, ◌-◌, nat_eq, nat_le, nat_lt, ◌&&◌, Bool, List, ◌++◌, []}
+use Rattle.std.specs.Prelude.{Contains, Option, Some, None, option_map, option_and_then, slice_get}
 use Rattle.std.specs.List.{enumerate_from, filter, find}
 use Rattle.elf64_core.specs.Header.{load_kind}
 use Rattle.elf64_core.specs.Symbols.{HasSymbols, SymbolEntry, symbols_of}

@@ -1,5 +1,6 @@
 -- Functions in an order in which the one that covers an address comes first.
-use Rattle.std.specs.Prelude.{ℕ, ◌+◌, ◌-◌, ◌^◌, ◌%◌, ◌==◌, ◌&&◌, nat_le, nat_lt, min, Bool, if◌then◌else◌, List, [], ◌∷◌, ◌++◌}
+use Rattle.std.specs.Prelude.{ℕ, ◌+◌, ◌-◌, ◌^◌, ◌%◌, ◌==◌, ◌&&◌, nat_le, nat_lt, min, Bool, if◌then◌else◌, List, []}
+use Rattle.std.specs.Prelude.{◌∷◌, ◌++◌}
 use Rattle.elf64_core.specs.Symbols.{SymbolEntry}
 use Rattle.piece_table.specs.declared.table.FileRange.{FileRange}
 use Rattle.covering_symbols.specs.declared.function_key.FunctionKey.{FunctionKey}

@@ -1,11 +1,13 @@
 -- What is found of a build id is found once.
-use Rattle.std.proofs.Common.{◌≡◌, ◌≢◌, ℕ, ◌≤◌, Bool, true, false, List, [], ◌∷◌, ◌++◌, length, Option, Some, None, Ok, Err, inl, inr, refl, sym, ap, subst, ◌∙◌, arith}
+use Rattle.std.proofs.Common.{◌≡◌, ◌≢◌, ℕ, ◌≤◌, Bool, true, false, List, [], ◌∷◌, ◌++◌, length, Option, Some, None, Ok}
+use Rattle.std.proofs.Common.{Err, inl, inr, refl, sym, ap, subst, ◌∙◌, arith}
 use Rattle.std.specs.Prelude.{All, MatchOption}
 use Rattle.std.specs.Bool.{MatchBool}
 use Rattle.std.proofs.lemmas.List.Elements.{All-push, All-head, All-tail}
 use Rattle.elf64_core.specs.Sections.{sections_of, contents_of}
 use Rattle.elf64_core.specs.Notes.{Noted, IsNote, NotesThen}
-use Rattle.elf64_core.specs.BuildIds.{FoundBuildId, IsOther, Ends, NotesHoldBuildId, SectionSays, SectionsSay, BuildIdIs}
+use Rattle.elf64_core.specs.BuildIds.{FoundBuildId, IsOther, Ends, NotesHoldBuildId, SectionSays, SectionsSay}
+use Rattle.elf64_core.specs.BuildIds.{BuildIdIs}
 use Rattle.elf64_core.specs.declared.section.Section.{Section}
 use Rattle.elf64_core.specs.declared.error.ElfError.TheVariants.{NotElf64, BadHeader, BadNote, OutOfMemory}
 use Rattle.elf64_core.proofs.Notes.{IsPlaced-from_note, IsNote-once, NotesThen-more}

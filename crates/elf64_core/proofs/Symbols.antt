@@ -3,7 +3,8 @@ use Rattle.std.proofs.Common.{◌≡◌, ℕ, List, [], Option, Some, None, sym,
 use Rattle.std.specs.Prelude.{MatchOption, ⊤}
 use Rattle.elf64_core.specs.Header.{IsInside}
 use Rattle.elf64_core.specs.Sections.{HasSections, contents_of, strings_of}
-use Rattle.elf64_core.specs.Symbols.{HasSymbols, entries_in, entries_or_none, section_entries, symbol_section, symbols_of}
+use Rattle.elf64_core.specs.Symbols.{HasSymbols, entries_in, entries_or_none, section_entries, symbol_section}
+use Rattle.elf64_core.specs.Symbols.{symbols_of}
 use Rattle.elf64_core.specs.declared.section.Section.{Section}
 use Rattle.elf64_core.specs.declared.symbol.SymbolKind.{SymbolKind}
 

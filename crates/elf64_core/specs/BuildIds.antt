@@ -1,7 +1,8 @@
 -- Build ids: the descriptor of the first note of type 3 in the note sections, in table order. GNU's linkers
 -- write it so; that the notes' owners aren't looked at, and which faults come before it, are this project's
 -- own rules.
-use Rattle.std.specs.Prelude.{◌≡◌, ◌≢◌, ◌⊎◌, ℕ, ◌<◌, ◌≤◌, nat_eq, List, [], ◌∷◌, length, All, Option, Some, None, option_copied, Result, Ok, Err, MatchOption}
+use Rattle.std.specs.Prelude.{◌≡◌, ◌≢◌, ◌⊎◌, ℕ, ◌<◌, ◌≤◌, nat_eq, List, [], ◌∷◌, length, All, Option, Some, None}
+use Rattle.std.specs.Prelude.{option_copied, Result, Ok, Err, MatchOption}
 use Rattle.std.specs.Bool.{MatchBool}
 use Rattle.std.specs.Borrow.{Bor}
 use Rattle.elf64_core.specs.Header.{IsElf64, HasSegments, IsAccepted}

@@ -1,9 +1,11 @@
 -- The header of an ELF64 file and its program headers, by the System V gABI, for 64-bit little-endian
 -- files. What a file must be to be read at all is stricter than the gABI: each part that may be read later
 -- lies in the file, so that nothing is found missing then.
-use Rattle.std.specs.Prelude.{◌≡◌, ◌≢◌, ◌⊎◌, ℕ, zero, suc, ◌+◌, ◌-◌, ◌*◌, ◌≤◌, ◌^◌, nat_eq, if◌then◌else◌, List, [], ◌∷◌, length, take, All}
+use Rattle.std.specs.Prelude.{◌≡◌, ◌≢◌, ◌⊎◌, ℕ, zero, suc, ◌+◌, ◌-◌, ◌*◌, ◌≤◌, ◌^◌, nat_eq, if◌then◌else◌, List, []}
+use Rattle.std.specs.Prelude.{◌∷◌, length, take, All}
 use Rattle.elf64_core.specs.Fields.{u64_in, u32_in, u16_in}
-use Rattle.elf64_core.specs.Offsets.{e_machine, e_phentsize, e_phnum, e_phoff, p_filesz, p_flags, p_memsz, p_offset, p_vaddr}
+use Rattle.elf64_core.specs.Offsets.{e_machine, e_phentsize, e_phnum, e_phoff, p_filesz, p_flags, p_memsz, p_offset}
+use Rattle.elf64_core.specs.Offsets.{p_vaddr}
 use Rattle.elf64_core.specs.declared.segment.Segment.{Segment}
 use Rattle.elf64_core.specs.declared.header.Machine.{Machine}
 use Rattle.elf64_core.specs.declared.header.Machine.TheVariants.{X86_64, Aarch64, Other}

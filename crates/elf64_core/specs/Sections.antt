@@ -1,11 +1,13 @@
 -- Section headers, by the System V gABI, for 64-bit little-endian files: the sections of a file, their bytes
 -- and their names. They are looked at only by calls that need them, so a file whose section headers can't be
 -- read is accepted all the same. That their number stands in the header is this project's own rule.
-use Rattle.std.specs.Prelude.{◌≡◌, ◌⊎◌, ℕ, zero, suc, ◌+◌, ◌*◌, nat_eq, nat_le, ◌||◌, if◌then◌else◌, List, [], ◌∷◌, length, slice_range, slice_get, Option, Some, None, option_and_then}
+use Rattle.std.specs.Prelude.{◌≡◌, ◌⊎◌, ℕ, zero, suc, ◌+◌, ◌*◌, nat_eq, nat_le, ◌||◌, if◌then◌else◌, List, [], ◌∷◌}
+use Rattle.std.specs.Prelude.{length, slice_range, slice_get, Option, Some, None, option_and_then}
 use Rattle.elf64_core.specs.Fields.{u64_in, u32_in, u16_in}
 use Rattle.elf64_core.specs.Header.{IsInside}
 use Rattle.elf64_core.specs.Nul.{string_at}
-use Rattle.elf64_core.specs.Offsets.{e_shentsize, e_shnum, e_shoff, e_shstrndx, sh_addr, sh_link, sh_offset, sh_size, sh_type}
+use Rattle.elf64_core.specs.Offsets.{e_shentsize, e_shnum, e_shoff, e_shstrndx, sh_addr, sh_link, sh_offset, sh_size}
+use Rattle.elf64_core.specs.Offsets.{sh_type}
 use Rattle.elf64_core.specs.declared.section.Section.{Section}
 
 -- where the section headers are, how long each is, how many there are, and which section has their names

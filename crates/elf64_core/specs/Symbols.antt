@@ -1,5 +1,6 @@
 -- Symbols, by the System V gABI, for 64-bit little-endian files.
-use Rattle.std.specs.Prelude.{ℕ, ◌+◌, ◌*◌, ◌/◌, nat_eq, List, [], length, map, Option, Some, None, option_copied, MatchOption, ⊤}
+use Rattle.std.specs.Prelude.{ℕ, ◌+◌, ◌*◌, ◌/◌, nat_eq, List, [], length, map, Option, Some, None, option_copied}
+use Rattle.std.specs.Prelude.{MatchOption, ⊤}
 use Rattle.std.specs.List.{find, range_with_len}
 use Rattle.elf64_core.specs.Fields.{u64_in, u32_in, u16_in, u8_in}
 use Rattle.elf64_core.specs.Offsets.{st_info, st_shndx, st_size, st_value}

@@ -1,5 +1,6 @@
 -- A built core is one, and its memory, maps and records are those that were written.
-use Rattle.std.proofs.Common.{◌≡◌, ◌≢◌, ℕ, ◌+◌, ◌-◌, ◌<◌, ◌≤◌, ◌^◌, List, [], ◌∷◌, ◌++◌, length, refl, sym, ap, ◌∙◌, arith, take, drop, map, subst}
+use Rattle.std.proofs.Common.{◌≡◌, ◌≢◌, ℕ, ◌+◌, ◌-◌, ◌<◌, ◌≤◌, ◌^◌, List, [], ◌∷◌, ◌++◌, length, refl, sym, ap, ◌∙◌}
+use Rattle.std.proofs.Common.{arith, take, drop, map, subst}
 use Rattle.std.specs.Prelude.{Some, slice_get, min, All, filter}
 use Rattle.std.specs.List.{AllByRecursion}
 use Rattle.std.proofs.lemmas.List.Elements.{All-cons, All-nil}
@@ -19,7 +20,8 @@ use Rattle.image_builder.specs.ElfRecords.{file_fields}
 use Rattle.image_builder.specs.Records.{filled, record_of}
 use Rattle.image_builder.proofs.Appending.{length-filled}
 use Rattle.image_builder.proofs.Lengths.{length-core, length-core_head, length-header, length-notes, length-segments}
-use Rattle.image_builder.proofs.NotesBack.{core_entry, notes_back, notes_whole, process_says, statuses_say, tables_say, three_notes}
+use Rattle.image_builder.proofs.NotesBack.{core_entry, notes_back, notes_whole, process_says, statuses_say, tables_say}
+use Rattle.image_builder.proofs.NotesBack.{three_notes}
 use Rattle.image_builder.proofs.Reading.{file_stands, filled_stands, inside_file, part_file}
 use Rattle.image_builder.proofs.SegmentsBack.{FitsHeader, file_accepted, file_machine, file_segments}
 

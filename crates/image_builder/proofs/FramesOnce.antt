@@ -20,7 +20,8 @@ use Rattle.py_process.specs.Sources.{FirstTells, sources_of}
 use Rattle.py_process.specs.Steps.{Then}
 use Rattle.py_process.specs.declared.core_error.CoreError.{CoreError}
 use Rattle.py_process.proofs.Agreement.{Agree, ok_is, ok_kept, then_agree}
-use Rattle.py_process.proofs.FindingLaws.{ChoosesOnce, images_agree, layout_agree, maps_agree, search_agree, version_agree}
+use Rattle.py_process.proofs.FindingLaws.{ChoosesOnce, images_agree, layout_agree, maps_agree, search_agree}
+use Rattle.py_process.proofs.FindingLaws.{version_agree}
 use Rattle.py_process.proofs.ReportLaws.{core_agree}
 use Rattle.image_builder.specs.Shown.{HaveSameFrames}
 

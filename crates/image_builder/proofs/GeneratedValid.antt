@@ -1,5 +1,6 @@
 -- The program of a seed can be written, with the line tables of each family.
-use Rattle.std.proofs.Common.{◌≡◌, ◌≢◌, ◌+◌, ◌%◌, ◌<◌, ◌≤◌, ◌^◌, ℕ, zero, suc, List, [], ◌∷◌, ◌++◌, length, take, get_or, true, refl, sym, ap, subst, inl, inr, arith, length-append, lit≤}
+use Rattle.std.proofs.Common.{◌≡◌, ◌≢◌, ◌+◌, ◌%◌, ◌<◌, ◌≤◌, ◌^◌, ℕ, zero, suc, List, [], ◌∷◌, ◌++◌, length, take}
+use Rattle.std.proofs.Common.{get_or, true, refl, sym, ap, subst, inl, inr, arith, length-append, lit≤}
 use Rattle.std.specs.Prelude.{Some, None, IfSome, codes, ℤ, pos, ◌-ℤ◌}
 use Rattle.std.specs.List.{AllByRecursion}
 use Rattle.std.specs.Fmt.{decimal}
@@ -14,7 +15,9 @@ use Rattle.py_lines.specs.declared.lines.LineFamily.{LineFamily}
 use Rattle.py_lines.specs.declared.lines.LineFamily.TheVariants.{Pairs, Ranges, Locations}
 use Rattle.py_lines.specs.Coding.{coded, coded_behind, first_unordered, repeated, runs_bytes, runs_of}
 use Rattle.memory_builder.specs.Program.{Thread}
-use Rattle.memory_builder.specs.Validity.{HasValidLocals, IsBriefText, IsCodable, IsPositiveLine, IsShownFile, IsValidCall, IsValidFrame, IsValidIn, IsValidlyNamed, IsValidlyPlaced, IsValidProgram}
+use Rattle.memory_builder.specs.Validity.{HasValidLocals, IsBriefText, IsCodable, IsPositiveLine, IsShownFile}
+use Rattle.memory_builder.specs.Validity.{IsValidCall, IsValidFrame, IsValidIn, IsValidlyNamed, IsValidlyPlaced}
+use Rattle.memory_builder.specs.Validity.{IsValidProgram}
 use Rattle.image_builder.specs.Generated.{each, frame_count, frame_of, generated, name_number, ranges_in, thread_of}
 use Rattle.image_builder.proofs.EachAt.{all_each, get_each, length_each, take_each}
 

@@ -1,5 +1,6 @@
 -- The image of a program reads back: its segments, its sections and its symbols.
-use Rattle.std.proofs.Common.{subst, ◌≡◌, ℕ, ◌+◌, ◌-◌, ◌*◌, ◌/◌, ◌<◌, ◌≤◌, ◌^◌, Bool, true, false, cond, leb, eqb, List, [], ◌∷◌, ◌++◌, length, map, take, drop, refl, sym, ap, ap₂, ◌∙◌, arith, inl, inr}
+use Rattle.std.proofs.Common.{subst, ◌≡◌, ℕ, ◌+◌, ◌-◌, ◌*◌, ◌/◌, ◌<◌, ◌≤◌, ◌^◌, Bool, true, false, cond, leb, eqb, List}
+use Rattle.std.proofs.Common.{[], ◌∷◌, ◌++◌, length, map, take, drop, refl, sym, ap, ap₂, ◌∙◌, arith, inl, inr}
 use Rattle.std.proofs.lemmas.Bool.{le-leb}
 use Rattle.std.specs.Prelude.{MatchOption, ⊤, ◌||◌, Some, None, slice_get, All, codes, option_and_then, find}
 use Rattle.std.specs.List.{AllByRecursion, range_with_len}
@@ -7,13 +8,17 @@ use Rattle.std.proofs.lemmas.List.Elements.{All-cons, All-nil}
 use Rattle.elf64_core.specs.Fields.{u64_in, u32_in, u16_in, u8_in}
 use Rattle.elf64_core.specs.Header.{FitsFile, IsAccepted, IsInside, segments_of}
 use Rattle.elf64_core.specs.Nul.{string_at, until_nul}
-use Rattle.elf64_core.specs.Sections.{HasSections, contents_of, names_section, range_at, section_at, section_count, section_entry_size, section_in, section_name_of, section_table, sections_from, sections_of, string_in, strings_of}
-use Rattle.elf64_core.specs.Symbols.{SymbolEntry, entries_or_none, first_section, entries_in, section_entries, symbol_entry_in, symbols_of}
+use Rattle.elf64_core.specs.Sections.{HasSections, contents_of, names_section, range_at, section_at, section_count}
+use Rattle.elf64_core.specs.Sections.{section_entry_size, section_in, section_name_of, section_table, sections_from}
+use Rattle.elf64_core.specs.Sections.{sections_of, string_in, strings_of}
+use Rattle.elf64_core.specs.Symbols.{SymbolEntry, entries_or_none, first_section, entries_in, section_entries}
+use Rattle.elf64_core.specs.Symbols.{symbol_entry_in, symbols_of}
 use Rattle.elf64_core.specs.declared.header.Machine.{Machine}
 use Rattle.elf64_core.specs.declared.section.Section.{Section}
 use Rattle.elf64_core.specs.declared.segment.Segment.{Segment}
 use Rattle.elf64_core.specs.declared.symbol.SymbolKind.TheVariants.{Plain, Dynamic}
-use Rattle.py_process.specs.Ranges.{AreRanges, executable_of, is_bss_name, is_executable, is_runtime, is_section_named, may_be_bss, runtime_range, runtime_section}
+use Rattle.py_process.specs.Ranges.{AreRanges, executable_of, is_bss_name, is_executable, is_runtime, is_section_named}
+use Rattle.py_process.specs.Ranges.{may_be_bss, runtime_range, runtime_section}
 use Rattle.py_process.specs.Binary.{HasInfo, SaysFacts}
 use Rattle.py_process.specs.Refusals.{HasBoth}
 use Rattle.py_process.specs.SymbolMap.{address_of}
@@ -24,12 +29,17 @@ use Rattle.object_builder.proofs.Placing.{stands_left, stands_right}
 use Rattle.image_builder.specs.CoreFiles.{segment_headers}
 use Rattle.image_builder.specs.ElfRecords.{file_fields, section_fields, symbol_fields}
 use Rattle.image_builder.specs.ImageFacts.{image_entries, image_facts, object_symbol}
-use Rattle.image_builder.specs.ImageFiles.{bss_section, image_file, image_head, image_segments, image_strings, image_symbols, no_section, section_header, section_headers, strings_section, symbols_section}
+use Rattle.image_builder.specs.ImageFiles.{bss_section, image_file, image_head, image_segments, image_strings}
+use Rattle.image_builder.specs.ImageFiles.{image_symbols, no_section, section_header, section_headers, strings_section}
+use Rattle.image_builder.specs.ImageFiles.{symbols_section}
 use Rattle.image_builder.specs.Records.{filled, record_of}
 use Rattle.image_builder.proofs.Appending.{length-filled}
-use Rattle.image_builder.proofs.Lengths.{length-header, length-image, length-section, length-sections, length-segments, length-strings, length-symbol, length-symbols}
-use Rattle.image_builder.proofs.Reading.{file_stands, filled_stands, part_file, u16_field, u32_field, u64_field, u8_field}
-use Rattle.image_builder.proofs.SegmentsBack.{FitsHeader, file_accepted, file_segments, names_at, sections_at_back, sections_counted, sections_sized}
+use Rattle.image_builder.proofs.Lengths.{length-header, length-image, length-section, length-sections, length-segments}
+use Rattle.image_builder.proofs.Lengths.{length-strings, length-symbol, length-symbols}
+use Rattle.image_builder.proofs.Reading.{file_stands, filled_stands, part_file, u16_field, u32_field, u64_field}
+use Rattle.image_builder.proofs.Reading.{u8_field}
+use Rattle.image_builder.proofs.SegmentsBack.{FitsHeader, file_accepted, file_segments, names_at, sections_at_back}
+use Rattle.image_builder.proofs.SegmentsBack.{sections_counted, sections_sized}
 
 module _ (machine : Machine) (number : ℕ) where
   abbrev pub image : List ℕ

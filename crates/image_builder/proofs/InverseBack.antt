@@ -21,7 +21,8 @@ use Rattle.py_process.specs.Candidates.{IsFirstOf, candidates_of}
 use Rattle.py_process.specs.Findings.{Finding, IsChosen, IsFound, finding}
 use Rattle.py_process.specs.Lock.{lock_address_of}
 use Rattle.py_process.specs.Programs.{ArePrograms, IsKnown}
-use Rattle.py_process.specs.Reports.{AsksNoOther, Dumped, IsDumped, IsReadable, IsRight, NotesTell, Reported, bare_trace, memory_in, up_to_nul}
+use Rattle.py_process.specs.Reports.{AsksNoOther, Dumped, IsDumped, IsReadable, IsRight, NotesTell, Reported}
+use Rattle.py_process.specs.Reports.{bare_trace, memory_in, up_to_nul}
 use Rattle.py_process.specs.Sources.{FirstTells, sources_of}
 use Rattle.py_process.proofs.Agreement.{ok_is, ok_kept}
 use Rattle.py_process.proofs.Bare.{over_bare}

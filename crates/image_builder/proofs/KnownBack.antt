@@ -1,5 +1,6 @@
 -- The program of a built core is its first map, no library is mapped, and its image tells what is known.
-use Rattle.std.proofs.Common.{subst, ◌≡◌, ℕ, ◌-◌, Bool, true, false, eqb, not, List, [], ◌∷◌, ◌++◌, length, take, refl, sym, ap, ◌∙◌, arith, rules}
+use Rattle.std.proofs.Common.{subst, ◌≡◌, ℕ, ◌-◌, Bool, true, false, eqb, not, List, [], ◌∷◌, ◌++◌, length, take, refl}
+use Rattle.std.proofs.Common.{sym, ap, ◌∙◌, arith, rules}
 use Rattle.std.specs.Prelude.{Some, None, ◌&&◌, max}
 use Rattle.std.proofs.lemmas.List.Elements.{All-cons, All-nil}
 use Rattle.image_memory.specs.Mmap.{shown_bytes, whole_view}

@@ -7,9 +7,13 @@ use Rattle.elf64_core.specs.declared.segment.Segment.{Segment}
 use Rattle.object_builder.specs.Objects.{bytes_of}
 use Rattle.object_builder.specs.Objects.Value.{U32}
 use Rattle.object_builder.proofs.Objects.{length-bytes_of}
-use Rattle.image_builder.specs.CoreFiles.{core_file, core_head, core_notes, core_segments, laid_note, owner_name, owner_padding, process_fields, process_name, process_record, segment_headers, status_fields, table_fields}
+use Rattle.image_builder.specs.CoreFiles.{core_file, core_head, core_notes, core_segments, laid_note, owner_name}
+use Rattle.image_builder.specs.CoreFiles.{owner_padding, process_fields, process_name, process_record, segment_headers}
+use Rattle.image_builder.specs.CoreFiles.{status_fields, table_fields}
 use Rattle.image_builder.specs.ElfRecords.{file_fields, note_fields, section_fields, segment_fields, symbol_fields}
-use Rattle.image_builder.specs.ImageFiles.{bss_section, image_file, image_head, image_segments, image_strings, image_symbols, no_section, section_header, section_headers, strings_section, symbols_section}
+use Rattle.image_builder.specs.ImageFiles.{bss_section, image_file, image_head, image_segments, image_strings}
+use Rattle.image_builder.specs.ImageFiles.{image_symbols, no_section, section_header, section_headers, strings_section}
+use Rattle.image_builder.specs.ImageFiles.{symbols_section}
 use Rattle.py_fields.specs.Sound.{IsSound}
 use Rattle.py_fields.specs.declared.layout.Layout.{Layout}
 use Rattle.py_version.specs.declared.version.Version.{Version}

@@ -1,5 +1,6 @@
 -- What stands in the memory of a built core, whatever image is handed in.
-use Rattle.std.proofs.Common.{◌≡◌, ℕ, ◌+◌, ◌-◌, ◌<◌, ◌≤◌, ◌^◌, Bool, true, false, cond, ltb, List, [], ◌∷◌, ◌++◌, length, refl, sym, ap, ap₂, ◌∙◌, arith, inl, subst}
+use Rattle.std.proofs.Common.{◌≡◌, ℕ, ◌+◌, ◌-◌, ◌<◌, ◌≤◌, ◌^◌, Bool, true, false, cond, ltb, List, [], ◌∷◌, ◌++◌}
+use Rattle.std.proofs.Common.{length, refl, sym, ap, ap₂, ◌∙◌, arith, inl, subst}
 use Rattle.std.specs.Prelude.{Ok, Some, None, Option, filter, filter_map, option_and_then, option_map}
 use Rattle.std.specs.Int.{w32, to_le_bytes}
 use Rattle.process_memory.specs.Memory.{Memory, Region, byte_at, first_byte, first_of, region_byte}

@@ -1,5 +1,6 @@
 -- The notes of a built core are read as they were written.
-use Rattle.std.proofs.Common.{true, ◌≡◌, ℕ, ◌-◌, ◌<◌, ◌≤◌, ◌^◌, List, [], ◌∷◌, ◌++◌, length, refl, sym, ap, ◌∙◌, arith, take, drop, inl, append_assoc, append-nil}
+use Rattle.std.proofs.Common.{true, ◌≡◌, ℕ, ◌-◌, ◌<◌, ◌≤◌, ◌^◌, List, [], ◌∷◌, ◌++◌, length, refl, sym, ap, ◌∙◌, arith}
+use Rattle.std.proofs.Common.{take, drop, inl, append_assoc, append-nil}
 use Rattle.std.specs.Prelude.{Some, None, slice_get, All, filter, filter_map, position, nat_le, if◌then◌else◌}
 use Rattle.std.specs.Int.{w16, w32, cast_signed}
 use Rattle.std.proofs.Math.ListN.{replicate}
@@ -16,7 +17,8 @@ use Rattle.object_builder.specs.Objects.{bytes_of}
 use Rattle.object_builder.specs.Placing.{Stands}
 use Rattle.object_builder.proofs.Placing.{stands_left, stands_right}
 use Rattle.image_builder.specs.CoreFacts.{built_process, built_status}
-use Rattle.image_builder.specs.CoreFiles.{core_notes, image_path, laid_note, owner_name, owner_padding, process_fields, process_name, process_record, status_fields, table_fields}
+use Rattle.image_builder.specs.CoreFiles.{core_notes, image_path, laid_note, owner_name, owner_padding, process_fields}
+use Rattle.image_builder.specs.CoreFiles.{process_name, process_record, status_fields, table_fields}
 use Rattle.image_builder.specs.ElfRecords.{note_fields}
 use Rattle.image_builder.specs.Records.{filled, record_of}
 use Rattle.image_builder.proofs.Appending.{length-filled, length-record}

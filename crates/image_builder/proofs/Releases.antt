@@ -1,6 +1,8 @@
 -- The flags of a version, and the byte that they have in its number.
-use Rattle.std.proofs.Common.{◌≡◌, ◌∙◌, ◌+◌, ◌-◌, ◌*◌, ◌<◌, ◌≤◌, ℕ, zero, suc, Bool, true, false, List, [], ◌∷◌, ◌++◌, refl, sym, ap, inl, inr, arith}
-use Rattle.std.specs.Prelude.{Option, Some, None, MatchOption, IsTrue, ◌↔◌, codes, if◌then◌else◌, ◌&&◌, ◌==◌, option_map, encode_utf8_all, ◌⊎◌}
+use Rattle.std.proofs.Common.{◌≡◌, ◌∙◌, ◌+◌, ◌-◌, ◌*◌, ◌<◌, ◌≤◌, ℕ, zero, suc, Bool, true, false, List, [], ◌∷◌, ◌++◌}
+use Rattle.std.proofs.Common.{refl, sym, ap, inl, inr, arith}
+use Rattle.std.specs.Prelude.{Option, Some, None, MatchOption, IsTrue, ◌↔◌, codes, if◌then◌else◌, ◌&&◌, ◌==◌}
+use Rattle.std.specs.Prelude.{option_map, encode_utf8_all, ◌⊎◌}
 use Rattle.std.specs.Option.{is_some}
 use Rattle.std.specs.Fmt.{decimal, digits}
 use Rattle.std.specs.Int.{is_in_range}
@@ -11,7 +13,8 @@ use Rattle.std.proofs.lemmas.Fmt.{decimal_digit, IsAscii-decimal}
 use Rattle.std.proofs.lemmas.Option.{same_Some}
 use Rattle.std.proofs.lemmas.Str.{encodes_same, encodes-IsAscii, IsAscii-append}
 use Rattle.std.proofs.lemmas.Str.Ascii.{IsAscii-cons, IsAscii-nil}
-use Rattle.image_builder.specs.Covered.{HasReleaseByte, IsPreFinal, IsReleaseByte, byte_behind, candidate_byte, release_byte, serial_of}
+use Rattle.image_builder.specs.Covered.{HasReleaseByte, IsPreFinal, IsReleaseByte, byte_behind, candidate_byte}
+use Rattle.image_builder.specs.Covered.{release_byte, serial_of}
 
 -- ---- serial numbers
 

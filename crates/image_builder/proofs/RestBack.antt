@@ -1,5 +1,6 @@
 -- What is kept of whole stacks has its locals, so that nothing else is needed for a report.
-use Rattle.std.proofs.Common.{subst, ◌≡◌, ℕ, zero, suc, ◌+◌, ◌<◌, ◌≤◌, ◌^◌, Bool, true, false, cond, ltb, leb, List, [], ◌∷◌, map, refl, sym, ap, ◌∙◌, rules, arith, inl, inr}
+use Rattle.std.proofs.Common.{subst, ◌≡◌, ℕ, zero, suc, ◌+◌, ◌<◌, ◌≤◌, ◌^◌, Bool, true, false, cond, ltb, leb, List, []}
+use Rattle.std.proofs.Common.{◌∷◌, map, refl, sym, ap, ◌∙◌, rules, arith, inl, inr}
 use Rattle.std.specs.Int.{w32, cast_signed}
 use Rattle.std.proofs.lemmas.Bool.{leb-true}
 use Rattle.std.specs.Prelude.{Some, Option, Ok, Err, IsOk, IsOkAnd, ◌⊎◌}
@@ -14,7 +15,8 @@ use Rattle.py_stacks.specs.declared.trace.LocalVariable.{LocalVariable}
 use Rattle.py_stacks.specs.Detail.{Detail, detail_at}
 use Rattle.py_stacks.specs.Frames.{Call, back_of, detailed, plain_by, records_at, shown_at}
 use Rattle.py_stacks.specs.Lines.{line_at}
-use Rattle.py_stacks.specs.Locals.{asked_locals, count_of, count_of_locals, local_at, locals_at, locals_from, names_tuple_of}
+use Rattle.py_stacks.specs.Locals.{asked_locals, count_of, count_of_locals, local_at, locals_at, locals_from}
+use Rattle.py_stacks.specs.Locals.{names_tuple_of}
 use Rattle.py_stacks.specs.Member.{MemberAt}
 use Rattle.py_stacks.specs.Threads.{AreTraces, AreTracesOf, IsTraceOf, Trace, first_frame_at, thread_after}
 use Rattle.py_process.specs.Variables.{Follows, HasLocals, IsKeptMember}

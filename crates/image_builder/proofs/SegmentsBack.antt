@@ -1,9 +1,11 @@
 -- The header of a file and those of its segments are read as they were written.
-use Rattle.std.proofs.Common.{◌≡◌, ℕ, ◌+◌, ◌*◌, ◌<◌, ◌≤◌, ◌^◌, List, [], ◌∷◌, length, refl, sym, ap, ◌∙◌, arith, inl, inr, subst}
+use Rattle.std.proofs.Common.{◌≡◌, ℕ, ◌+◌, ◌*◌, ◌<◌, ◌≤◌, ◌^◌, List, [], ◌∷◌, length, refl, sym, ap, ◌∙◌, arith, inl}
+use Rattle.std.proofs.Common.{inr, subst}
 use Rattle.std.specs.Prelude.{◌⊎◌, slice_get, All}
 use Rattle.std.specs.List.{AllByRecursion}
 use Rattle.elf64_core.specs.Fields.{u64_in, u32_in, u16_in}
-use Rattle.elf64_core.specs.Header.{FitsFile, IsAccepted, IsInside, entry_size, identity, machine_named, machine_of, program_table, segment_count, segment_in, segments_from, segments_of}
+use Rattle.elf64_core.specs.Header.{FitsFile, IsAccepted, IsInside, entry_size, identity, machine_named, machine_of}
+use Rattle.elf64_core.specs.Header.{program_table, segment_count, segment_in, segments_from, segments_of}
 use Rattle.elf64_core.specs.declared.header.Machine.{Machine}
 use Rattle.elf64_core.specs.declared.header.Machine.TheVariants.{X86_64, Aarch64, Other}
 use Rattle.elf64_core.specs.declared.segment.Segment.{Segment}

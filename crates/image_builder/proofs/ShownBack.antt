@@ -1,5 +1,6 @@
 -- What a program tells where it stands is what is shown of it, addresses of locals aside.
-use Rattle.std.proofs.Common.{◌≡◌, ℕ, suc, ◌+◌, Bool, true, false, eqb, List, [], ◌∷◌, map, refl, sym, ap, ap₂, ◌∙◌, arith}
+use Rattle.std.proofs.Common.{◌≡◌, ℕ, suc, ◌+◌, Bool, true, false, eqb, List, [], ◌∷◌, map, refl, sym, ap, ap₂, ◌∙◌}
+use Rattle.std.proofs.Common.{arith}
 use Rattle.std.specs.Prelude.{◌↔◌, Option, Some, None, option_map, slice_get}
 use Rattle.std.proofs.lemmas.Bool.{eq-eqb, eqb-true}
 use Rattle.std.proofs.lemmas.Option.{same_Some}
@@ -16,7 +17,8 @@ use Rattle.memory_builder.specs.Program.{Frame, Local, Program, Thread}
 use Rattle.memory_builder.specs.Sizes.{frame_size, local_size, thread_size}
 use Rattle.memory_builder.specs.Told.{asked_told, call_told, locals_told, program_told, trace_told}
 use Rattle.memory_builder.specs.Threads.{frames_place}
-use Rattle.image_builder.specs.Shown.{is_none_left, is_owner, locals_shown, shown_frame, shown_frames, shown_locals, shown_thread, shown_threads, unplaced_call, unplaced_local, unplaced_trace}
+use Rattle.image_builder.specs.Shown.{is_none_left, is_owner, locals_shown, shown_frame, shown_frames, shown_locals}
+use Rattle.image_builder.specs.Shown.{shown_thread, shown_threads, unplaced_call, unplaced_local, unplaced_trace}
 
 cons_same : {A : Type 0} (x y : A) (xs ys : List A) → x ≡ y → xs ≡ ys → x ∷ xs ≡ y ∷ ys
 cons_same x y xs ys p q = λ i. p i ∷ q i

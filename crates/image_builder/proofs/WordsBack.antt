@@ -1,5 +1,6 @@
 -- The words of the bss lead to the interpreter and to the lock, and the image's number to the version.
-use Rattle.std.proofs.Common.{◌≡◌, ℕ, ◌+◌, ◌-◌, ◌<◌, ◌^◌, cond, List, [], ◌∷◌, map, take, refl, sym, ap, ap₂, ◌∙◌, arith, rules, subst}
+use Rattle.std.proofs.Common.{◌≡◌, ℕ, ◌+◌, ◌-◌, ◌<◌, ◌^◌, cond, List, [], ◌∷◌, map, take, refl, sym, ap, ap₂, ◌∙◌}
+use Rattle.std.proofs.Common.{arith, rules, subst}
 use Rattle.std.specs.Prelude.{Some, None, Option, Ok, Err, IsSome, slice_get}
 use Rattle.std.specs.Option.{unwrap_or}
 use Rattle.std.specs.Int.{w32, to_le_bytes}
@@ -32,7 +33,8 @@ use Rattle.memory_builder.specs.Laid.{gil_place}
 use Rattle.image_builder.specs.Built.{built_lock, runtime_lock}
 use Rattle.image_builder.specs.Built as built
 use Rattle.image_builder.specs.ImageFacts.{image_known}
-use Rattle.image_builder.specs.RuntimeWords.{HasWordRoom, head_field, head_place, interpreter_at, lock_word_place, runtime_words, words_writes}
+use Rattle.image_builder.specs.RuntimeWords.{HasWordRoom, head_field, head_place, interpreter_at, lock_word_place}
+use Rattle.image_builder.specs.RuntimeWords.{runtime_words, words_writes}
 use Rattle.image_builder.proofs.RuntimeWords.{AllIn, current_in, words_group}
 
 some_of : {T : Type 0} (o : Option T) → IsSome o → (x : T) × (o ≡ Some x)

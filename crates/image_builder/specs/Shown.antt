@@ -1,7 +1,8 @@
 -- What a report shows of a program that was written: the program itself, in its own words. This knows of no memory and
 -- no object: threads and frames are in the program's order, lines are those of its own ranges, and values are shown by
 -- the rule of values over its own. Where values stand in memory is no part of it.
-use Rattle.std.specs.Prelude.{◌≡◌, ℕ, ◌+◌, nat_eq, nat_lt, pos, Bool, true, false, Option, Some, None, option_map, List, [], ◌∷◌, map}
+use Rattle.std.specs.Prelude.{◌≡◌, ℕ, ◌+◌, nat_eq, nat_lt, pos, Bool, true, false, Option, Some, None, option_map, List}
+use Rattle.std.specs.Prelude.{[], ◌∷◌, map}
 use Rattle.py_fields.specs.declared.layout.Layout.{Layout}
 use Rattle.py_version.specs.declared.version.Version.{Version}
 use Rattle.py_stacks.specs.declared.config.Config.{Config}

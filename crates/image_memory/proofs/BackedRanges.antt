@@ -1,9 +1,12 @@
 -- Which bytes of which images the maps of a core have.
-use Rattle.std.proofs.Common.{◌≡◌, ℕ, suc, ◌+◌, ◌-◌, ◌<◌, ◌≤◌, ◌^◌, min, true, false, cond, List, [], ◌∷◌, ◌++◌, length, take, drop, get_or, map, refl, sym, ap, subst, ◌∙◌, arith, inl, inr, add-one, length-drop}
-use Rattle.std.specs.Prelude.{All, Option, Some, None, filter_map, option_map, option_and_then, position, slice_index_or}
+use Rattle.std.proofs.Common.{◌≡◌, ℕ, suc, ◌+◌, ◌-◌, ◌<◌, ◌≤◌, ◌^◌, min, true, false, cond, List, [], ◌∷◌, ◌++◌, length}
+use Rattle.std.proofs.Common.{take, drop, get_or, map, refl, sym, ap, subst, ◌∙◌, arith, inl, inr, add-one, length-drop}
+use Rattle.std.specs.Prelude.{All, Option, Some, None, filter_map, option_map, option_and_then, position}
+use Rattle.std.specs.Prelude.{slice_index_or}
 use Rattle.std.specs.List.{cons_option, position_or_len}
 use Rattle.std.proofs.lemmas.Bool.{cases_lt, le-ltb, lt-ltb}
-use Rattle.std.proofs.lemmas.List.{append-nil, drop_all, drop_min, drop_more, get_or-map, length-map, map-append, take_min}
+use Rattle.std.proofs.lemmas.List.{append-nil, drop_all, drop_min, drop_more, get_or-map, length-map, map-append}
+use Rattle.std.proofs.lemmas.List.{take_min}
 use Rattle.std.proofs.lemmas.List.Elements.{All-append}
 use Rattle.std.proofs.lemmas.List.Folds.{find_at}
 use Rattle.std.proofs.lemmas.Option.{slice_get-get_or, slice_get_past}
@@ -13,7 +16,9 @@ use Rattle.piece_table.specs.Files.{IsInFile, file_bytes, region_in, regions_in}
 use Rattle.piece_table.specs.declared.table.FileRange.{FileRange}
 use Rattle.image_memory.specs.declared.file_table.FilePlace.{FilePlace}
 use Rattle.image_memory.specs.declared.maps.CoreMapRange.{CoreMapRange}
-use Rattle.image_memory.specs.Backed.{AreImageRanges, Backed, IsBacked, IsBackedMemory, IsInImage, backed_region, byte_place, files_of, image_range, is_writable, numbered_range, range_by, region_by, region_of_image, regions_of}
+use Rattle.image_memory.specs.Backed.{AreImageRanges, Backed, IsBacked, IsBackedMemory, IsInImage, backed_region}
+use Rattle.image_memory.specs.Backed.{byte_place, files_of, image_range, is_writable, numbered_range, range_by}
+use Rattle.image_memory.specs.Backed.{region_by, region_of_image, regions_of}
 use Rattle.image_memory.specs.FileTables.{Entry}
 use Rattle.image_memory.specs.Images.{Pushed, first_under, images_shown, is_under}
 use Rattle.image_memory.specs.Maps.{AreMaps, ArePlaces, entry_for, map_by, file_place_by}

@@ -1,5 +1,6 @@
 -- A table of maps tests addresses as the maps do.
-use Rattle.std.proofs.Common.{◌≡◌, ℕ, ◌+◌, ◌-◌, ◌<◌, ◌≤◌, ltb, max, Bool, true, false, cond, ◌||◌, List, [], ◌∷◌, map, fold, refl, sym, ap, ◌∙◌, arith, inl, inr}
+use Rattle.std.proofs.Common.{◌≡◌, ℕ, ◌+◌, ◌-◌, ◌<◌, ◌≤◌, ltb, max, Bool, true, false, cond, ◌||◌, List, [], ◌∷◌, map}
+use Rattle.std.proofs.Common.{fold, refl, sym, ap, ◌∙◌, arith, inl, inr}
 use Rattle.std.specs.Prelude.{All}
 use Rattle.std.specs.List.{list_any}
 use Rattle.std.proofs.lemmas.Bool.{cases_lt, le-ltb, lt-ltb}

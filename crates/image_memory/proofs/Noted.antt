@@ -1,6 +1,7 @@
 -- The notes of segments so far, and that a core has one list of notes at most.
 use Rattle.std.proofs.Common.{◌≡◌, ℕ, List, [], ◌∷◌, ◌++◌, refl, sym, ap, subst, ◌∙◌, append_assoc}
-use Rattle.std.specs.Prelude.{Option, Some, None, filter, filter_map, is_some, map, option_and_then, option_map, slice_get}
+use Rattle.std.specs.Prelude.{Option, Some, None, filter, filter_map, is_some, map, option_and_then, option_map}
+use Rattle.std.specs.Prelude.{slice_get}
 use Rattle.std.proofs.lemmas.Option.{slice_get-map}
 use Rattle.std.proofs.lemmas.List.{append-nil}
 use Rattle.elf64_core.specs.Notes.{Noted, AreNotes, AreNoNotes, bytes_of_range}
@@ -8,7 +9,8 @@ use Rattle.elf64_core.specs.declared.segment.Segment.{Segment}
 use Rattle.elf64_core.proofs.Notes.{AreNotes-once}
 use Rattle.image_memory.specs.FileTables.{Entry}
 use Rattle.image_memory.specs.Maps.{AreMaps, ArePlaces, IsFilePlace, entry_for, is_named, map_by, file_place_by}
-use Rattle.image_memory.specs.Notes.{AreCoreNotes, AreStatuses, IsProcess, NotesOf, TablesSay, is_table, last_process, note_segments, status_noted}
+use Rattle.image_memory.specs.Notes.{AreCoreNotes, AreStatuses, IsProcess, NotesOf, TablesSay, is_table, last_process}
+use Rattle.image_memory.specs.Notes.{note_segments, status_noted}
 use Rattle.image_memory.specs.Pieces.{loads_of}
 use Rattle.image_memory.specs.declared.file_table.FilePlace.{FilePlace}
 use Rattle.image_memory.specs.declared.maps.CoreMapRange.{CoreMapRange}

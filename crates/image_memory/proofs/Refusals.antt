@@ -6,7 +6,8 @@ use Rattle.elf64_core.specs.declared.error.ElfError.TheVariants as elf
 use Rattle.image_memory.specs.Cores.{IsCore, RefusesCore}
 use Rattle.image_memory.specs.Dumps.{dump_refusal_of}
 use Rattle.image_memory.specs.declared.dump_error.DumpError.{DumpError}
-use Rattle.image_memory.specs.declared.dump_error.DumpError.TheVariants.{NotElf64, BadHeader, NoNotes, BadNote, OutOfMemory}
+use Rattle.image_memory.specs.declared.dump_error.DumpError.TheVariants.{NotElf64, BadHeader, NoNotes, BadNote}
+use Rattle.image_memory.specs.declared.dump_error.DumpError.TheVariants.{OutOfMemory}
 
 same_error : {T E : Type 0} (e d : E) → ◌≡◌ {A = Result T E} (Err e) (Err d) → e ≡ d
 same_error e d h = cc

@@ -1,11 +1,13 @@
 -- File tables: the names and entries so far, and that bytes are a table of one list of entries at most.
-use Rattle.std.proofs.Common.{◌≡◌, ℕ, ◌+◌, ◌<◌, List, [], ◌∷◌, ◌++◌, length, take, drop, Some, None, Option, refl, sym, ap, subst, ◌∙◌, arith, add-zero, append_assoc}
+use Rattle.std.proofs.Common.{◌≡◌, ℕ, ◌+◌, ◌<◌, List, [], ◌∷◌, ◌++◌, length, take, drop, Some, None, Option, refl, sym}
+use Rattle.std.proofs.Common.{ap, subst, ◌∙◌, arith, add-zero, append_assoc}
 use Rattle.std.specs.Prelude.{position}
 use Rattle.std.proofs.lemmas.List.{append-nil}
 use Rattle.elf64_core.specs.Fields.{u64_in}
 use Rattle.elf64_core.specs.Notes.{Noted}
 use Rattle.elf64_core.specs.Nul.{is_nul}
-use Rattle.image_memory.specs.FileTables.{Entry, IsFileTable, IsFirstName, IsNoFileTable, NamesThen, entries_from, entry_at, names_start}
+use Rattle.image_memory.specs.FileTables.{Entry, IsFileTable, IsFirstName, IsNoFileTable, NamesThen, entries_from}
+use Rattle.image_memory.specs.FileTables.{entry_at, names_start}
 use Rattle.image_memory.specs.Notes.{TablesSay}
 use Rattle.image_memory.specs.declared.file_table.FileEntry.{FileEntry}
 

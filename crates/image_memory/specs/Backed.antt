@@ -1,7 +1,9 @@
 -- The memory of a core and of the images that it mapped. A usual core lacks private mappings of files that were
 -- never written to, such as constant data; its file tables tell which file stands there from which page on.
 -- That the images handed in are the files that were mapped is trusted.
-use Rattle.std.specs.Prelude.{◌≡◌, ℕ, ◌+◌, ◌-◌, ◌*◌, ◌<◌, ◌≤◌, All, nat_eq, not, min, Bool, List, ◌∷◌, [], ◌++◌, length, take, drop, filter_map, Option, Some, None, option_map, option_and_then, position, slice_index_or, if◌then◌else◌, bit_and}
+use Rattle.std.specs.Prelude.{◌≡◌, ℕ, ◌+◌, ◌-◌, ◌*◌, ◌<◌, ◌≤◌, All, nat_eq, not, min, Bool, List, ◌∷◌, [], ◌++◌, length}
+use Rattle.std.specs.Prelude.{take, drop, filter_map, Option, Some, None, option_map, option_and_then, position}
+use Rattle.std.specs.Prelude.{slice_index_or, if◌then◌else◌, bit_and}
 use Rattle.elf64_core.specs.Notes.{Noted}
 use Rattle.elf64_core.specs.declared.segment.Segment.{Segment}
 use Rattle.elf64_core.specs.declared.span_table.TableEntry.{TableEntry}

@@ -5,7 +5,8 @@ use Rattle.elf64_core.specs.Notes.{Noted}
 use Rattle.image_memory.specs.FileTables.{Entry}
 use Rattle.image_memory.specs.Notes.{AreCoreNotes, note_segments}
 use Rattle.image_memory.specs.declared.dump_error.DumpError.{DumpError}
-use Rattle.image_memory.specs.declared.dump_error.DumpError.TheVariants.{NotElf64, BadHeader, NoNotes, BadNote, OutOfMemory}
+use Rattle.image_memory.specs.declared.dump_error.DumpError.TheVariants.{NotElf64, BadHeader, NoNotes, BadNote}
+use Rattle.image_memory.specs.declared.dump_error.DumpError.TheVariants.{OutOfMemory}
 
 -- an ELF64 file whose segments can be read, with a note segment at least
 pub record HasNotes (bytes : List ℕ) : Type 0 where

@@ -1,7 +1,8 @@
 -- The maps of a core: its load segments in table order, each with its file's name. The name and the place in the
 -- file are those of the entry that comes last of the entries, of all file tables in order, that start at the
 -- segment's address; that the last one counts is this project's own rule.
-use Rattle.std.specs.Prelude.{◌≡◌, ℕ, ◌+◌, nat_eq, nat_le, nat_lt, ◌&&◌, Bool, List, map, reverse, find, Option, is_some, option_and_then, option_map, slice_get}
+use Rattle.std.specs.Prelude.{◌≡◌, ℕ, ◌+◌, nat_eq, nat_le, nat_lt, ◌&&◌, Bool, List, map, reverse, find, Option}
+use Rattle.std.specs.Prelude.{is_some, option_and_then, option_map, slice_get}
 use Rattle.std.specs.List.{list_any}
 use Rattle.elf64_core.specs.Notes.{Noted}
 use Rattle.elf64_core.specs.declared.segment.Segment.{Segment}

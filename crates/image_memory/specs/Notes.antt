@@ -2,7 +2,9 @@
 -- that Linux writes on 64-bit machines (`NT_PRSTATUS`, `NT_PRPSINFO` and `NT_FILE` of `elf.h`, and the records
 -- `elf_prstatus` and `elf_prpsinfo`). Which sizes are too short is this project's own rule: a record has to have
 -- all that is read of it.
-use Rattle.std.specs.Prelude.{◌≡◌, ℕ, ◌≤◌, nat_eq, nat_le, ◌&&◌, Bool, List, [], ◌∷◌, ◌++◌, length, map, reverse, All, filter, filter_map, find, slice_range, Option, Some, None, option_and_then, if◌then◌else◌, ℤ}
+use Rattle.std.specs.Prelude.{◌≡◌, ℕ, ◌≤◌, nat_eq, nat_le, ◌&&◌, Bool, List, [], ◌∷◌, ◌++◌, length, map, reverse, All}
+use Rattle.std.specs.Prelude.{filter, filter_map, find, slice_range, Option, Some, None, option_and_then, if◌then◌else◌}
+use Rattle.std.specs.Prelude.{ℤ}
 use Rattle.std.specs.Int.{w32, w16, cast_signed}
 use Rattle.elf64_core.specs.Fields.{u32_in, u16_in}
 use Rattle.elf64_core.specs.Header.{note_kind, segments_of}

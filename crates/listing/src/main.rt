@@ -11,9 +11,9 @@
 //! A program that is built is that of a seed, or has so many threads, of ids from 32512 on, of so many frames each, all
 //! with the same locals, of which the first so many are arguments. A VALUE is a number, a text, or `[` and items with
 //! blanks between them, each a number or a text. The thread with the number OWNER, counted from 0, holds the lock;
-//! where OWNER is no number none does. The machine is `x86-64`, `aarch64` or `other`. The part is `core` or `image`, whose
-//! bytes are written, or `places`, the addresses of the interpreter and the lock. Where nothing is built, one line says
-//! why.
+//! where OWNER is no number none does. The machine is `x86-64`, `aarch64` or `other`. The part is `core` or `image`,
+//! whose bytes are written, or `places`, the addresses of the interpreter and the lock. Where nothing is built, one line
+//! says why.
 //!
 //! This is a tool of the repository, and no command of `pystacks`.
 #![tactic(auto)]

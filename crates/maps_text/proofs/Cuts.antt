@@ -1,5 +1,6 @@
 -- The first byte that passes a test.
-use Rattle.std.proofs.Common.{◌≡◌, ℕ, ◌+◌, ◌-◌, ◌<◌, true, false, Bool, cond, List, length, take, drop, Some, None, refl, ap, ◌∙◌, arith, length-drop, ◌^◌, lit<}
+use Rattle.std.proofs.Common.{◌≡◌, ℕ, ◌+◌, ◌-◌, ◌<◌, true, false, Bool, cond, List, length, take, drop, Some, None}
+use Rattle.std.proofs.Common.{refl, ap, ◌∙◌, arith, length-drop, ◌^◌, lit<}
 use Rattle.std.proofs.Math.Nat.{pow-le-pow_right}
 use Rattle.std.proofs.lemmas.List.{take_all}
 use Rattle.std.specs.List.{position, position_or_len}

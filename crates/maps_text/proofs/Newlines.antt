@@ -1,5 +1,6 @@
 -- The first line of a text.
-use Rattle.std.proofs.Common.{◌≡◌, ℕ, suc, ◌+◌, ◌<◌, ◌≤◌, true, false, Bool, cond, not, List, [], ◌∷◌, length, take, drop, refl, sym, ap, ◌∙◌, arith}
+use Rattle.std.proofs.Common.{◌≡◌, ℕ, suc, ◌+◌, ◌<◌, ◌≤◌, true, false, Bool, cond, not, List, [], ◌∷◌, length, take}
+use Rattle.std.proofs.Common.{drop, refl, sym, ap, ◌∙◌, arith}
 use Rattle.std.specs.Prelude.{if◌then◌else◌}
 use Rattle.std.specs.List.{onto_first, position_or_len, before_first, after_first}
 use Rattle.std.proofs.lemmas.Bool.Decides.{nat_tests}

@@ -5,7 +5,8 @@ use Rattle.std.specs.declared.ops.Range.{Range}
 use Rattle.elf64_core.specs.Outcomes.{first_cause}
 use Rattle.maps_text.specs.declared.entry.MapsEntry.{MapsEntry}
 use Rattle.maps_text.specs.declared.error.MapsError.{MapsError}
-use Rattle.maps_text.specs.declared.error.MapsError.TheVariants.{NoRange, BadStart, BadEnd, NoMode, BadMode, NoOffset, BadOffset, NoDevice}
+use Rattle.maps_text.specs.declared.error.MapsError.TheVariants.{NoRange, BadStart, BadEnd, NoMode, BadMode, NoOffset}
+use Rattle.maps_text.specs.declared.error.MapsError.TheVariants.{BadOffset, NoDevice}
 use Rattle.maps_text.specs.declared.perm.Perm.{Perm}
 use Rattle.maps_text.specs.Fields.{field, behind, has_white, has_dash, before_dash, after_dash, is_number, trimmed}
 use Rattle.maps_text.specs.Paths.{path_name_of}

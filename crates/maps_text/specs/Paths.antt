@@ -1,5 +1,6 @@
 -- The path of a map.
-use Rattle.std.specs.Prelude.{ℕ, ◌-◌, ◌==◌, false, nat_eq, if◌then◌else◌, List, [], ◌∷◌, ◌++◌, length, take, Option, Some, None, codes, decimal}
+use Rattle.std.specs.Prelude.{ℕ, ◌-◌, ◌==◌, false, nat_eq, if◌then◌else◌, List, [], ◌∷◌, ◌++◌, length, take, Option}
+use Rattle.std.specs.Prelude.{Some, None, codes, decimal}
 use Rattle.std.specs.Fmt.{digits}
 use Rattle.std.specs.List.{ends_with}
 use Rattle.std.specs.declared.ops.Range.{Range}

@@ -1,5 +1,6 @@
 -- What a mode allows, and how it is printed.
-use Rattle.std.specs.Prelude.{ℕ, ◌==◌, Bool, not, if◌then◌else◌, nat_le, List, [], ◌∷◌, length, slice_index, bit_and, bit_or}
+use Rattle.std.specs.Prelude.{ℕ, ◌==◌, Bool, not, if◌then◌else◌, nat_le, List, [], ◌∷◌, length, slice_index, bit_and}
+use Rattle.std.specs.Prelude.{bit_or}
 use Rattle.maps_text.specs.declared.perm.Perm.{Perm}
 
 -- some bit is set in both

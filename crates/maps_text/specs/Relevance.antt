@@ -1,5 +1,6 @@
 -- The entries that matter for addresses.
-use Rattle.std.specs.Prelude.{◌≡◌, ◌⊎◌, ◌||◌, Bool, true, false, List, [], ◌∷◌, Option, None, Result, Ok, Err, IsSomeAnd}
+use Rattle.std.specs.Prelude.{◌≡◌, ◌⊎◌, ◌||◌, Bool, true, false, List, [], ◌∷◌, Option, None, Result, Ok, Err}
+use Rattle.std.specs.Prelude.{IsSomeAnd}
 use Rattle.elf64_core.specs.Outcomes.{IsUnless}
 use Rattle.maps_text.specs.declared.entry.MapsEntry.{MapsEntry}
 use Rattle.maps_text.specs.declared.error.MapsError.{MapsError}

@@ -1,5 +1,6 @@
 -- Groups that were laid are a chain.
-use Rattle.std.proofs.Common.{◌≡◌, ◌≢◌, ℕ, zero, suc, get_or, ◌+◌, ◌%◌, ◌<◌, ◌^◌, List, [], ◌∷◌, length, map, refl, ap₂, arith, length-append}
+use Rattle.std.proofs.Common.{◌≡◌, ◌≢◌, ℕ, zero, suc, get_or, ◌+◌, ◌%◌, ◌<◌, ◌^◌, List, [], ◌∷◌, length, map, refl, ap₂}
+use Rattle.std.proofs.Common.{arith, length-append}
 use Rattle.std.specs.Prelude.{Ok}
 use Rattle.std.specs.List.{AllByRecursion}
 use Rattle.process_memory.specs.Memory.{Memory, Found}

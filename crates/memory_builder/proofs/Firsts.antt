@@ -1,12 +1,14 @@
 -- The first frame of some that isn't valid, by its index in the list.
-use Rattle.std.proofs.Common.{◌≡◌, ◌≢◌, ◌<◌, ◌≤◌, ◌+◌, ℕ, List, map, length, take, get_or, subst, sym, refl, inl, inr, arith}
+use Rattle.std.proofs.Common.{◌≡◌, ◌≢◌, ◌<◌, ◌≤◌, ◌+◌, ℕ, List, map, length, take, get_or, subst, sym, refl, inl, inr}
+use Rattle.std.proofs.Common.{arith}
 use Rattle.std.specs.Prelude.{Option, Some, None, IfOk, IfSome, MatchOption, Result, Ok, Err, slice_get}
 use Rattle.std.specs.declared.alloc.AllocError.{AllocError}
 use Rattle.std.proofs.lemmas.Bool.{cases_lt}
 use Rattle.py_lines.specs.declared.lines.LineFamily.{LineFamily}
 use Rattle.memory_builder.specs.declared.validity.FramePlace.{FramePlace}
 use Rattle.memory_builder.specs.Program.{Frame, Program, Thread}
-use Rattle.memory_builder.specs.Validity.{IsValidAt, IsValidCall, IsValidIn, IsValidProgram, IsValidThread, IsValidWhole, IsFirstFailing, IsFirstInvalid, StandsBefore}
+use Rattle.memory_builder.specs.Validity.{IsValidAt, IsValidCall, IsValidIn, IsValidProgram, IsValidThread}
+use Rattle.memory_builder.specs.Validity.{IsValidWhole, IsFirstFailing, IsFirstInvalid, StandsBefore}
 use Rattle.memory_builder.proofs.Lists.{get_map, none_map}
 
 -- what holds of an item in a mapped list, if it is there

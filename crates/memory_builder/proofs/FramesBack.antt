@@ -1,5 +1,6 @@
 -- A frame that was laid reads back.
-use Rattle.std.proofs.Common.{◌≡◌, ℕ, ◌+◌, ◌*◌, ◌/◌, ◌%◌, ◌<◌, ◌≤◌, ◌^◌, true, ltb, leb, List, ◌++◌, length, refl, sym, ap, ◌∙◌, arith, take, length-append, append_assoc}
+use Rattle.std.proofs.Common.{◌≡◌, ℕ, ◌+◌, ◌*◌, ◌/◌, ◌%◌, ◌<◌, ◌≤◌, ◌^◌, true, ltb, leb, List, ◌++◌, length, refl, sym}
+use Rattle.std.proofs.Common.{ap, ◌∙◌, arith, take, length-append, append_assoc}
 use Rattle.std.specs.Prelude.{pos, Some, None, Ok}
 use Rattle.std.specs.List.{flat_map, sum_by}
 use Rattle.std.proofs.lemmas.Bool.{lt-ltb, le-leb}
@@ -23,14 +24,19 @@ use Rattle.object_builder.specs.Room.{HasRoom}
 use Rattle.object_builder.specs.Texts.{text_object}
 use Rattle.memory_builder.specs.Chains.{addresses_from}
 use Rattle.memory_builder.specs.Values.{address_array, laid_all, laid_name, laid_local}
-use Rattle.memory_builder.specs.Sizes.{frame_len, frame_size, local_size, name_size, records_size, table_len, text_len, tuple_len}
-use Rattle.memory_builder.specs.Frames.{code_place, table_place, tuple_place, file_place, name_place, names_place, values_place, start_in, frame_writes, code_writes, tuple_writes, table_object, coded_lines, first_number, laid_records, laid_contents, laid_frame}
+use Rattle.memory_builder.specs.Sizes.{frame_len, frame_size, local_size, name_size, records_size, table_len, text_len}
+use Rattle.memory_builder.specs.Sizes.{tuple_len}
+use Rattle.memory_builder.specs.Frames.{code_place, table_place, tuple_place, file_place, name_place, names_place}
+use Rattle.memory_builder.specs.Frames.{values_place, start_in, frame_writes, code_writes, tuple_writes, table_object}
+use Rattle.memory_builder.specs.Frames.{coded_lines, first_number, laid_records, laid_contents, laid_frame}
 use Rattle.memory_builder.specs.declared.values.TypesAt.{TypesAt}
 use Rattle.object_builder.proofs.Objects.{length-object, u64_read, u32_read}
-use Rattle.object_builder.proofs.Placing.{record_stands_first, stands_write, stands_object, stands_rest, stands_left, stands_right, length-aligned}
+use Rattle.object_builder.proofs.Placing.{record_stands_first, stands_write, stands_object, stands_rest, stands_left}
+use Rattle.object_builder.proofs.Placing.{stands_right, length-aligned}
 use Rattle.memory_builder.proofs.Chains.{length-chain, chain_even}
 use Rattle.memory_builder.proofs.Growing.{all_flat}
-use Rattle.memory_builder.proofs.Groups.{frame_group, code_group, table_group, tuple_group, tag_is, fits_i32, signed_small, instr_back, entry_back, start_below, table_back}
+use Rattle.memory_builder.proofs.Groups.{frame_group, code_group, table_group, tuple_group, tag_is, fits_i32}
+use Rattle.memory_builder.proofs.Groups.{signed_small, instr_back, entry_back, start_below, table_back}
 use Rattle.memory_builder.proofs.LaidValues.{addresses_len}
 use Rattle.memory_builder.proofs.Plain.{IsFrame}
 use Rattle.memory_builder.proofs.ValuesBack.{length-local, length-name, local_even, name_even}

@@ -1,5 +1,6 @@
 -- The fields of a frame's records, which stand apart; and the bytes of a line table.
-use Rattle.std.proofs.Common.{◌≡◌, ℕ, zero, suc, ◌+◌, ◌*◌, ◌/◌, ◌%◌, ◌<◌, ◌≤◌, ◌^◌, true, false, leb, List, [], ◌∷◌, ◌++◌, length, map, refl, sym, ap, subst, ◌∙◌, arith, take, inl}
+use Rattle.std.proofs.Common.{◌≡◌, ℕ, zero, suc, ◌+◌, ◌*◌, ◌/◌, ◌%◌, ◌<◌, ◌≤◌, ◌^◌, true, false, leb, List, [], ◌∷◌}
+use Rattle.std.proofs.Common.{◌++◌, length, map, refl, sym, ap, subst, ◌∙◌, arith, take, inl}
 use Rattle.std.specs.Prelude.{pos, Some, None, Option, Ok, max}
 use Rattle.std.specs.Option.{unwrap_or}
 use Rattle.std.specs.Int.{w32, cast_signed}
@@ -7,7 +8,8 @@ use Rattle.std.proofs.lemmas.Int.{to_z_pos, ints}
 use Rattle.std.proofs.lemmas.Bool.{lt-ltb, lt-leb}
 use Rattle.elf64_core.specs.Fields.{u64_in, u32_in, u8_in}
 use Rattle.process_memory.specs.Memory.{Memory, record_at}
-use Rattle.py_fields.specs.Places.{Place, ApartFrom, AreApart, EndBy, IsGroup, instr_width, frame_places, code_places, bytes_places, tuple_places}
+use Rattle.py_fields.specs.Places.{Place, ApartFrom, AreApart, EndBy, IsGroup, instr_width, frame_places, code_places}
+use Rattle.py_fields.specs.Places.{bytes_places, tuple_places}
 use Rattle.py_fields.specs.Sound.{IsSound}
 use Rattle.py_fields.proofs.Fields.{frame_fits, code_fits}
 use Rattle.py_fields.specs.declared.layout.Lasti.{Lasti}

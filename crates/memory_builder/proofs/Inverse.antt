@@ -23,7 +23,8 @@ use Rattle.memory_builder.specs.Told.{program_told}
 use Rattle.memory_builder.specs.Validity.{IsValidProgram}
 use Rattle.memory_builder.proofs.Alone.{owner_alone}
 use Rattle.memory_builder.proofs.OverBack.{over_back}
-use Rattle.memory_builder.proofs.ProgramBack.{IsWhole, StandProgram, gil_back, gil_word, modules_word, owner_held, program_is, stacks_held, stand_program}
+use Rattle.memory_builder.proofs.ProgramBack.{IsWhole, StandProgram, gil_back, gil_word, modules_word, owner_held}
+use Rattle.memory_builder.proofs.ProgramBack.{program_is, stacks_held, stand_program}
 use Rattle.memory_builder.proofs.Tellings.{program_shows}
 use Rattle.memory_builder.proofs.Valid.{program_whole}
 

@@ -7,7 +7,8 @@ use Rattle.process_memory.specs.Memory.{Memory, word_at}
 use Rattle.py_fields.specs.Sound.{IsSound}
 use Rattle.py_fields.specs.declared.layout.Layout.{Layout}
 use Rattle.py_stacks.specs.Member.{MemberAt}
-use Rattle.py_stacks.specs.Locals.{names_tuple_of, local_at, local_by, is_argument, variable_name_at, locals_from, cleared}
+use Rattle.py_stacks.specs.Locals.{names_tuple_of, local_at, local_by, is_argument, variable_name_at, locals_from}
+use Rattle.py_stacks.specs.Locals.{cleared}
 use Rattle.object_builder.specs.Placing.{Stands}
 use Rattle.object_builder.specs.Room.{HasRoom}
 use Rattle.memory_builder.specs.Program.{Local}

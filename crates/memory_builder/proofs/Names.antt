@@ -1,5 +1,6 @@
 -- Texts that are compared by their bytes.
-use Rattle.std.proofs.Common.{◌≡◌, ◌<◌, ◌∙◌, ℕ, List, [], length, nat_lt, Bool, true, false, refl, sym, subst, ap, arith, rules}
+use Rattle.std.proofs.Common.{◌≡◌, ◌<◌, ◌∙◌, ℕ, List, [], length, nat_lt, Bool, true, false, refl, sym, subst, ap}
+use Rattle.std.proofs.Common.{arith, rules}
 use Rattle.std.specs.Prelude.{◌↔◌, IsTrue, codes, encode_utf8_all, not}
 use Rattle.std.specs.Str.{all_scalars, bytes_eq, IsAscii, IsUtf8}
 use Rattle.std.proofs.lemmas.Str.{length-le-encodes, chars_from_encodes, scalars-chars, encodes_same, encodes-IsAscii}

@@ -1,5 +1,6 @@
 -- What the values that were laid are.
-use Rattle.std.proofs.Common.{◌≡◌, ℕ, zero, suc, ◌+◌, ◌-◌, ◌*◌, ◌<◌, ◌≤◌, ◌^◌, ltb, eqb, Bool, true, false, cond, List, [], ◌∷◌, ◌++◌, length, map, take, drop, refl, sym, ap, subst, ◌∙◌, arith, inl, inr}
+use Rattle.std.proofs.Common.{◌≡◌, ℕ, zero, suc, ◌+◌, ◌-◌, ◌*◌, ◌<◌, ◌≤◌, ◌^◌, ltb, eqb, Bool, true, false, cond, List}
+use Rattle.std.proofs.Common.{[], ◌∷◌, ◌++◌, length, map, take, drop, refl, sym, ap, subst, ◌∙◌, arith, inl, inr}
 use Rattle.std.specs.Prelude.{if◌then◌else◌, ℤ, pos, negsuc, unsigned_abs, Some, Ok, slice_get, codes, encode_utf8_all}
 use Rattle.std.specs.Str.{IsAscii, is_utf8}
 use Rattle.std.proofs.lemmas.Str.{is_utf8-from_IsUtf8, IsUtf8-from_ascii}
@@ -39,12 +40,15 @@ use Rattle.memory_builder.specs.Validity.{IsBriefText, IsValidHeld, IsValidItem}
 use Rattle.memory_builder.specs.Sizes.{item_size, list_len, number_len, rounded, text_len}
 use Rattle.memory_builder.specs.declared.values.TypesAt.{TypesAt}
 use Rattle.memory_builder.specs.Chains.{laid_chain, addresses_from}
-use Rattle.memory_builder.specs.Values.{address_array, count_for, digit_count, digits_word, first_item, is_below, items_place, laid_all, laid_item, laid_value, list_writes, number_writes}
+use Rattle.memory_builder.specs.Values.{address_array, count_for, digit_count, digits_word, first_item, is_below}
+use Rattle.memory_builder.specs.Values.{items_place, laid_all, laid_item, laid_value, list_writes, number_writes}
 use Rattle.memory_builder.specs.Laid.{laid_type, type_name, type_writes}
 use Rattle.object_builder.proofs.Objects.{get_or-part, length-object, length-part, part-object, part-take, u64_read}
-use Rattle.object_builder.proofs.Placing.{record_stands_first, stands_last, stands_left, stands_object, stands_rest, stands_right, word_stands}
+use Rattle.object_builder.proofs.Placing.{record_stands_first, stands_last, stands_left, stands_object, stands_rest}
+use Rattle.object_builder.proofs.Placing.{stands_right, word_stands}
 use Rattle.object_builder.proofs.TextsBack.{text_back, text_group}
-use Rattle.memory_builder.proofs.ValuesBack.{length-address_array, length-item, list_group, number_group, word_first, words_rest}
+use Rattle.memory_builder.proofs.ValuesBack.{length-address_array, length-item, list_group, number_group, word_first}
+use Rattle.memory_builder.proofs.ValuesBack.{words_rest}
 use Rattle.std.specs.List.{AllByRecursion}
 use Rattle.memory_builder.proofs.Chains.{length-places}
 use Rattle.memory_builder.proofs.SameValues.{IsItemAt, IsValueAt}

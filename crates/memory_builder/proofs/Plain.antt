@@ -1,6 +1,7 @@
 -- What a program shows before the values of its locals are read and the lock's holder is marked; and what its frames
 -- have to be for that.
-use Rattle.std.specs.Prelude.{◌≡◌, ℕ, ◌+◌, ◌%◌, ◌<◌, ◌≤◌, ◌^◌, nat_lt, Bool, true, false, Option, Some, None, option_map, map, List, [], ◌∷◌, length, pos}
+use Rattle.std.specs.Prelude.{◌≡◌, ℕ, ◌+◌, ◌%◌, ◌<◌, ◌≤◌, ◌^◌, nat_lt, Bool, true, false, Option, Some, None}
+use Rattle.std.specs.Prelude.{option_map, map, List, [], ◌∷◌, length, pos}
 use Rattle.std.specs.List.{AllByRecursion}
 use Rattle.py_fields.specs.declared.layout.Layout.{Layout}
 use Rattle.py_lines.specs.Lines.{line_of, ranges_of}

@@ -1,5 +1,6 @@
 -- A program that stands in memory reads back.
-use Rattle.std.proofs.Common.{get_or, ◌≡◌, ◌≢◌, ℕ, zero, suc, ◌+◌, ◌%◌, ◌<◌, ◌≤◌, ◌^◌, eqb, List, [], ◌∷◌, ◌++◌, length, map, refl, sym, ap, subst, ◌∙◌, arith, take, length-append}
+use Rattle.std.proofs.Common.{get_or, ◌≡◌, ◌≢◌, ℕ, zero, suc, ◌+◌, ◌%◌, ◌<◌, ◌≤◌, ◌^◌, eqb, List, [], ◌∷◌, ◌++◌, length}
+use Rattle.std.proofs.Common.{map, refl, sym, ap, subst, ◌∙◌, arith, take, length-append}
 use Rattle.std.specs.Prelude.{if◌then◌else◌, Some, None, Option, Ok, IfSome, codes}
 use Rattle.std.specs.List.{AllByRecursion}
 use Rattle.elf64_core.specs.Fields.{u64_in, u32_in}
@@ -17,7 +18,8 @@ use Rattle.py_stacks.specs.Interpreter.{IsInterpreter, named_at, interpreter_nam
 use Rattle.py_stacks.proofs.Holders.{holder_id_none, holder_id_some, id_none, id_some}
 use Rattle.py_stacks.specs.Threads.{AreTraces, IsTraceOf, Trace}
 use Rattle.object_builder.specs.Objects.{object, optional_write, write_place, aligned}
-use Rattle.memory_builder.specs.Sizes.{gil_size, interpreter_len, program_size, rounded, shared_size, thread_size, type_size, word_end}
+use Rattle.memory_builder.specs.Sizes.{gil_size, interpreter_len, program_size, rounded, shared_size, thread_size}
+use Rattle.memory_builder.specs.Sizes.{type_size, word_end}
 use Rattle.std.specs.List.{sum_by}
 use Rattle.object_builder.specs.Objects.Value.{U64, Bytes}
 use Rattle.object_builder.specs.Placing.{Stands}
@@ -28,9 +30,12 @@ use Rattle.memory_builder.proofs.Chains.{length-chain, place_below}
 use Rattle.memory_builder.specs.declared.values.TypesAt.{TypesAt}
 use Rattle.memory_builder.proofs.Plain.{IsThread, stacks_for, trace_for, traces_for}
 use Rattle.memory_builder.specs.Threads.{laid_thread, laid_threads}
-use Rattle.memory_builder.specs.Laid.{first_place, gil_place, gil_writes, interpreter_object, interpreter_writes, is_held, laid_gil, laid_program, laid_type, owner_id, owner_place, place_or_none, three_types, type_name, type_writes, types_at, types_place}
+use Rattle.memory_builder.specs.Laid.{first_place, gil_place, gil_writes, interpreter_object, interpreter_writes}
+use Rattle.memory_builder.specs.Laid.{is_held, laid_gil, laid_program, laid_type, owner_id, owner_place, place_or_none}
+use Rattle.memory_builder.specs.Laid.{three_types, type_name, type_writes, types_at, types_place}
 use Rattle.object_builder.proofs.Objects.{length-object, u64_read, u32_read}
-use Rattle.object_builder.proofs.Placing.{record_stands_first, stands_left, stands_right, stands_object, stands_last, stands_rest, length-aligned, word_stands}
+use Rattle.object_builder.proofs.Placing.{record_stands_first, stands_left, stands_right, stands_object, stands_last}
+use Rattle.object_builder.proofs.Placing.{stands_rest, length-aligned, word_stands}
 use Rattle.object_builder.proofs.TextsBack.{place_optional}
 use Rattle.memory_builder.proofs.ThreadsBack.{length-thread, first_named, threads_back, threads_each}
 

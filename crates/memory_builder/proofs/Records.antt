@@ -3,7 +3,8 @@ use Rattle.std.proofs.Common.{◌≡◌, ◌+◌, ◌-◌, ◌*◌, ◌^◌, ℕ
 use Rattle.std.specs.Prelude.{min}
 use Rattle.py_fields.specs.declared.layout.Layout.{Layout}
 use Rattle.memory_builder.specs.Program.{Frame}
-use Rattle.memory_builder.specs.Sizes.{capped, frame_len, gil_size, interpreter_len, records_size, rounded, shared_size, table_len, text_len, tuple_len}
+use Rattle.memory_builder.specs.Sizes.{capped, frame_len, gil_size, interpreter_len, records_size, rounded, shared_size}
+use Rattle.memory_builder.specs.Sizes.{table_len, text_len, tuple_len}
 
 pub records_are : (l : Layout) (f : Frame) (frame code table tuple file name : ℕ) → frame ≡ rounded (frame_len l f)
     → code ≡ rounded l.code.size → table ≡ rounded (table_len l f)

@@ -1,11 +1,13 @@
 -- The rule of values shows what is laid as it shows the program's values.
-use Rattle.std.proofs.Common.{◌≡◌, ℕ, zero, suc, ◌+◌, ◌-◌, ◌<◌, ◌≤◌, leb, cond, List, length, refl, sym, ap, ◌∙◌, arith, get_or}
+use Rattle.std.proofs.Common.{◌≡◌, ℕ, zero, suc, ◌+◌, ◌-◌, ◌<◌, ◌≤◌, leb, cond, List, length, refl, sym, ap, ◌∙◌, arith}
+use Rattle.std.proofs.Common.{get_or}
 use Rattle.std.specs.Prelude.{pos, Some, Option, Ok, slice_get, codes, encode_utf8_all}
 use Rattle.std.proofs.lemmas.Option.{slice_get-get_or}
 use Rattle.process_memory.specs.Memory.{Memory}
 use Rattle.py_fields.specs.declared.layout.Layout.{Layout}
 use Rattle.py_objects.specs.Shown.{Shown, ◌>>=◌, give, visit, goes_on_shown}
-use Rattle.py_objects.specs.Shows.{Source, child_shown, enclosed, looked_at, node_shown, part_at, part_then, parts_at, parts_shown, show_at}
+use Rattle.py_objects.specs.Shows.{Source, child_shown, enclosed, looked_at, node_shown, part_at, part_then, parts_at}
+use Rattle.py_objects.specs.Shows.{parts_shown, show_at}
 use Rattle.py_objects.specs.Shows.Brackets.{Square}
 use Rattle.py_objects.specs.Shows.Node.{Whole, Quoted, Many}
 use Rattle.py_objects.specs.Shows.Child.{Item as ItemChild}

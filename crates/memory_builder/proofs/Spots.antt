@@ -4,7 +4,8 @@ use Rattle.std.specs.List.{sum_by}
 use Rattle.py_fields.specs.declared.layout.Layout.{Layout}
 use Rattle.memory_builder.specs.Program.{Frame}
 use Rattle.memory_builder.specs.Frames.{code_place, names_place, spots_for, values_place}
-use Rattle.memory_builder.specs.Sizes.{frame_len, frame_size, local_size, name_size, records_size, rounded, table_len, text_len, tuple_len}
+use Rattle.memory_builder.specs.Sizes.{frame_len, frame_size, local_size, name_size, records_size, rounded, table_len}
+use Rattle.memory_builder.specs.Sizes.{text_len, tuple_len}
 
 pub spots_are : (l : Layout) (at : ℕ) (f : Frame) (frame code table tuple file name names : ℕ)
     → frame ≡ rounded (frame_len l f) → code ≡ rounded l.code.size → table ≡ rounded (table_len l f)

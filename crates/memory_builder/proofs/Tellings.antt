@@ -1,5 +1,6 @@
 -- The locals of a program that stands in memory show as the program's values do.
-use Rattle.std.proofs.Common.{◌≡◌, ◌≢◌, ℕ, ◌+◌, ◌%◌, ◌^◌, Bool, true, false, List, [], ◌∷◌, map, refl, ap, ap₂, ◌∙◌, arith, ltb}
+use Rattle.std.proofs.Common.{◌≡◌, ◌≢◌, ℕ, ◌+◌, ◌%◌, ◌^◌, Bool, true, false, List, [], ◌∷◌, map, refl, ap, ap₂, ◌∙◌}
+use Rattle.std.proofs.Common.{arith, ltb}
 use Rattle.std.specs.Prelude.{Some, None, Option, option_map, codes}
 use Rattle.std.specs.List.{AllByRecursion}
 use Rattle.process_memory.specs.Memory.{Memory}
@@ -10,7 +11,8 @@ use Rattle.py_stacks.specs.declared.config.Config.{Config}
 use Rattle.py_stacks.specs.Asking.{asked_of}
 use Rattle.py_stacks.specs.Frames.{Call, begins_hidden, shown_by, with_mark}
 use Rattle.py_stacks.specs.Stacks.{by_holder}
-use Rattle.py_stacks.specs.Values.{by_value, text_or_mark, local_value_at, value_text, value_width, with_value, with_values}
+use Rattle.py_stacks.specs.Values.{by_value, text_or_mark, local_value_at, value_text, value_width, with_value}
+use Rattle.py_stacks.specs.Values.{with_values}
 use Rattle.py_objects.specs.Nodes.{values_in}
 use Rattle.py_objects.specs.Shows.{show_at}
 use Rattle.object_builder.specs.Placing.{Stands}
@@ -22,8 +24,10 @@ use Rattle.memory_builder.specs.Validity.{IsValidHeld}
 use Rattle.memory_builder.specs.Sizes.{frame_size, local_size, thread_size, type_size}
 use Rattle.memory_builder.specs.declared.values.TypesAt.{TypesAt}
 use Rattle.memory_builder.specs.Frames.{laid_frame, values_place}
-use Rattle.memory_builder.proofs.Plain.{IsFrame, IsThread, asked_for, call_for, calls_for, locals_for, stacks_for, trace_for, traces_for}
-use Rattle.memory_builder.specs.Told.{asked_told, call_told, calls_told, locals_told, program_told, told_text, trace_told}
+use Rattle.memory_builder.proofs.Plain.{IsFrame, IsThread, asked_for, call_for, calls_for, locals_for, stacks_for}
+use Rattle.memory_builder.proofs.Plain.{trace_for, traces_for}
+use Rattle.memory_builder.specs.Told.{asked_told, call_told, calls_told, locals_told, program_told, told_text}
+use Rattle.memory_builder.specs.Told.{trace_told}
 use Rattle.object_builder.proofs.Placing.{stands_left, stands_right}
 use Rattle.memory_builder.proofs.ValuesBack.{length-local}
 use Rattle.py_stacks.specs.Frames.{back_of}

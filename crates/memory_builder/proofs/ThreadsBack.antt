@@ -1,5 +1,6 @@
 -- A thread that was laid reads back, and so do the threads of a chain.
-use Rattle.std.proofs.Common.{◌≡◌, ◌≢◌, ℕ, ◌+◌, ◌%◌, ◌<◌, ◌≤◌, ◌^◌, List, [], ◌∷◌, ◌++◌, length, map, refl, sym, ap, subst, ◌∙◌, arith, take, length-append}
+use Rattle.std.proofs.Common.{◌≡◌, ◌≢◌, ℕ, ◌+◌, ◌%◌, ◌<◌, ◌≤◌, ◌^◌, List, [], ◌∷◌, ◌++◌, length, map, refl, sym, ap}
+use Rattle.std.proofs.Common.{subst, ◌∙◌, arith, take, length-append}
 use Rattle.std.specs.Prelude.{Some, None, Option, Ok, option_map, slice_get}
 use Rattle.std.specs.List.{AllByRecursion}
 use Rattle.elf64_core.specs.Fields.{u64_in}
@@ -12,7 +13,8 @@ use Rattle.py_fields.specs.declared.layout.CframeAt.{CframeAt}
 use Rattle.py_fields.specs.declared.layout.Layout.{Layout}
 use Rattle.py_stacks.specs.declared.asked.Asked.{Asked}
 use Rattle.py_stacks.specs.Asking.{nothing}
-use Rattle.py_stacks.specs.Threads.{AreTraces, AreTracesOf, IsTraceOf, first_frame_at, frame_through, native_id, thread_after}
+use Rattle.py_stacks.specs.Threads.{AreTraces, AreTracesOf, IsTraceOf, first_frame_at, frame_through, native_id}
+use Rattle.py_stacks.specs.Threads.{thread_after}
 use Rattle.py_stacks.specs.Interpreter.{interpreter_named_by}
 use Rattle.object_builder.specs.Objects.{Write, object, optional_write, write_place}
 use Rattle.memory_builder.specs.Sizes.{cframe_size, frame_size, rounded, thread_size}
@@ -24,9 +26,11 @@ use Rattle.memory_builder.specs.Chains.{AllAt, head_of, laid_chain, addresses_fr
 use Rattle.memory_builder.specs.declared.values.TypesAt.{TypesAt}
 use Rattle.memory_builder.proofs.Plain.{IsThread, trace_for, traces_for}
 use Rattle.memory_builder.specs.Frames.{laid_frame}
-use Rattle.memory_builder.specs.Threads.{cframe_place, cframe_writes, frame_field, frames_place, laid_cframe, laid_thread, laid_threads, thread_object, thread_writes}
+use Rattle.memory_builder.specs.Threads.{cframe_place, cframe_writes, frame_field, frames_place, laid_cframe}
+use Rattle.memory_builder.specs.Threads.{laid_thread, laid_threads, thread_object, thread_writes}
 use Rattle.object_builder.proofs.Objects.{length-object, u64_read}
-use Rattle.object_builder.proofs.Placing.{record_stands_first, stands_left, stands_right, stands_object, stands_rest, length-aligned, word_stands}
+use Rattle.object_builder.proofs.Placing.{record_stands_first, stands_left, stands_right, stands_object, stands_rest}
+use Rattle.object_builder.proofs.Placing.{length-aligned, word_stands}
 use Rattle.memory_builder.proofs.Chains.{chain_back, chain_even, head_below, length-chain, length-places}
 use Rattle.object_builder.proofs.TextsBack.{place_optional}
 use Rattle.memory_builder.proofs.FramesBack.{frame_even, length-frame}

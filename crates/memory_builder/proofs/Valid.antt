@@ -1,5 +1,6 @@
 -- What a valid program says of its frames and threads, as what is read of them wants it.
-use Rattle.std.proofs.Common.{◌≡◌, ◌≢◌, ℕ, ◌<◌, ◌≤◌, ◌^◌, ltb, leb, Bool, true, false, ◌&&◌, List, [], ◌∷◌, length, take, refl, arith}
+use Rattle.std.proofs.Common.{◌≡◌, ◌≢◌, ℕ, ◌<◌, ◌≤◌, ◌^◌, ltb, leb, Bool, true, false, ◌&&◌, List, [], ◌∷◌, length}
+use Rattle.std.proofs.Common.{take, refl, arith}
 use Rattle.std.specs.Prelude.{ℤ, pos, negsuc, unsigned_abs, Option, Some, None, IfSome, IsTrue, slice_get, ◌||◌}
 use Rattle.std.specs.List.{AllByRecursion, list_any}
 use Rattle.std.specs.Int.{w32}
@@ -16,7 +17,8 @@ use Rattle.py_lines.proofs.Readback.{keeps_lines}
 use Rattle.py_stacks.specs.Lines.{family_of}
 use Rattle.memory_builder.specs.Frames.{coded_lines}
 use Rattle.memory_builder.specs.Program.{Frame, Local, Program, Thread}
-use Rattle.memory_builder.specs.Validity.{HasPositiveLine, IsBriefText, IsPositiveLine, IsValidFrame, IsValidHeld, IsValidIn, IsValidLocal, IsValidProgram, IsValidRange}
+use Rattle.memory_builder.specs.Validity.{HasPositiveLine, IsBriefText, IsPositiveLine, IsValidFrame, IsValidHeld}
+use Rattle.memory_builder.specs.Validity.{IsValidIn, IsValidLocal, IsValidProgram, IsValidRange}
 use Rattle.memory_builder.proofs.Lists.{somewhere_all}
 use Rattle.memory_builder.proofs.Names.{hidden_not}
 use Rattle.memory_builder.proofs.Plain.{IsFrame, IsThread}

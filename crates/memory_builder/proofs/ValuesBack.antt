@@ -1,5 +1,6 @@
 -- Values that were laid: how long they are, and that their fields stand apart.
-use Rattle.std.proofs.Common.{◌≡◌, ℕ, ◌+◌, ◌*◌, ◌%◌, ◌<◌, ◌^◌, List, [], ◌∷◌, length, map, ap, ◌∙◌, arith, inl, inr, length-append}
+use Rattle.std.proofs.Common.{◌≡◌, ℕ, ◌+◌, ◌*◌, ◌%◌, ◌<◌, ◌^◌, List, [], ◌∷◌, length, map, ap, ◌∙◌, arith, inl, inr}
+use Rattle.std.proofs.Common.{length-append}
 use Rattle.std.specs.Prelude.{ℤ, Some, None, Ok}
 use Rattle.std.proofs.lemmas.Nat.{from_le_bytes-to_le_bytes_8}
 use Rattle.process_memory.specs.Memory.{Memory, word_at}
@@ -16,7 +17,8 @@ use Rattle.memory_builder.specs.Program as program
 use Rattle.object_builder.specs.Room.{HasRoom, klass_place}
 use Rattle.object_builder.specs.Texts.{text_object}
 use Rattle.memory_builder.specs.Chains.{addresses_from}
-use Rattle.memory_builder.specs.Values.{address_array, number_writes, laid_item, list_writes, items_place, first_item, laid_value, laid_name, laid_local}
+use Rattle.memory_builder.specs.Values.{address_array, number_writes, laid_item, list_writes, items_place, first_item}
+use Rattle.memory_builder.specs.Values.{laid_value, laid_name, laid_local}
 use Rattle.object_builder.proofs.Objects.{length-inside}
 use Rattle.object_builder.proofs.Placing.{length-aligned, record_stands_first, stands_left, stands_right}
 use Rattle.object_builder.proofs.TextsBack.{length-text}

@@ -1,5 +1,6 @@
 -- A program, as it is laid: the interpreter, the lock's record, the three types, and the threads.
-use Rattle.std.specs.Prelude.{ℕ, zero, suc, ◌+◌, ◌^◌, Option, Some, None, List, [], ◌∷◌, ◌++◌, codes, map, slice_index_or}
+use Rattle.std.specs.Prelude.{ℕ, zero, suc, ◌+◌, ◌^◌, Option, Some, None, List, [], ◌∷◌, ◌++◌, codes, map}
+use Rattle.std.specs.Prelude.{slice_index_or}
 use Rattle.py_fields.specs.declared.layout.GilAt.{GilAt}
 use Rattle.py_fields.specs.declared.layout.Layout.{Layout}
 use Rattle.object_builder.specs.Objects.{Write, optional_write, object, aligned}

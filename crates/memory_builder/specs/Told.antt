@@ -1,6 +1,7 @@
 -- What the threads of a program show where its objects stand in memory. This knows of no memory: lines are those of
 -- the frames' ranges, and values are shown by the rule of values over the program's own.
-use Rattle.std.specs.Prelude.{ℕ, ◌+◌, nat_eq, nat_lt, ℤ, pos, Bool, true, false, Option, Some, None, option_map, List, [], ◌∷◌, length, slice_get, Ok, Err, codes, encode_utf8_all}
+use Rattle.std.specs.Prelude.{ℕ, ◌+◌, nat_eq, nat_lt, ℤ, pos, Bool, true, false, Option, Some, None, option_map, List}
+use Rattle.std.specs.Prelude.{[], ◌∷◌, length, slice_get, Ok, Err, codes, encode_utf8_all}
 use Rattle.process_memory.specs.Memory.{Found}
 use Rattle.process_memory.specs.Memory.Fault.{BadType}
 use Rattle.py_lines.specs.Lines.{line_of}

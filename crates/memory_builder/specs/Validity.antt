@@ -1,6 +1,7 @@
 -- Which programs can be written. That names are short, files are named and lines are positive is so that what is
 -- written can be read back; the counts and the size of numbers are this project's own bounds.
-use Rattle.std.specs.Prelude.{◌≡◌, ◌≢◌, ℕ, ◌-◌, ◌%◌, ◌^◌, ◌<◌, ◌≤◌, ◌⊎◌, ℤ, pos, ◌≤ℤ◌, unsigned_abs, Option, Some, None, IfSome, IsTrue, List, [], length, take, slice_get, codes}
+use Rattle.std.specs.Prelude.{◌≡◌, ◌≢◌, ℕ, ◌-◌, ◌%◌, ◌^◌, ◌<◌, ◌≤◌, ◌⊎◌, ℤ, pos, ◌≤ℤ◌, unsigned_abs, Option, Some, None}
+use Rattle.std.specs.Prelude.{IfSome, IsTrue, List, [], length, take, slice_get, codes}
 use Rattle.std.specs.List.{AllByRecursion, list_any}
 use Rattle.py_lines.specs.declared.lines.LineFamily.{LineFamily}
 use Rattle.py_lines.specs.declared.lines.LineRange.{LineRange}

@@ -1,5 +1,6 @@
 -- Values and arrays, as they are laid.
-use Rattle.std.specs.Prelude.{ℕ, ◌+◌, ◌-◌, ◌*◌, ◌/◌, ◌%◌, ◌^◌, nat_lt, Bool, true, false, Some, None, List, [], ◌∷◌, ◌++◌, length, ℤ, pos, negsuc, unsigned_abs, if◌then◌else◌, ◌==◌}
+use Rattle.std.specs.Prelude.{ℕ, ◌+◌, ◌-◌, ◌*◌, ◌/◌, ◌%◌, ◌^◌, nat_lt, Bool, true, false, Some, None, List, [], ◌∷◌}
+use Rattle.std.specs.Prelude.{◌++◌, length, ℤ, pos, negsuc, unsigned_abs, if◌then◌else◌, ◌==◌}
 use Rattle.py_fields.specs.declared.layout.Layout.{Layout}
 use Rattle.py_fields.specs.declared.layout.Integers.{Integers}
 use Rattle.py_fields.specs.declared.layout.Integers.TheVariants.{Signed, Tagged}

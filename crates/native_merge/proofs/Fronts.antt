@@ -1,5 +1,6 @@
 -- Whether a text begins with a front, by what is left of it.
-use Rattle.std.proofs.Common.{◌≡◌, ◌≢◌, ℕ, Bool, true, false, List, [], ◌∷◌, ◌++◌, length, take, drop, cond, refl, sym, ap, subst, ◌∙◌, arith, add-one}
+use Rattle.std.proofs.Common.{◌≡◌, ◌≢◌, ℕ, Bool, true, false, List, [], ◌∷◌, ◌++◌, length, take, drop, cond, refl, sym}
+use Rattle.std.proofs.Common.{ap, subst, ◌∙◌, arith, add-one}
 use Rattle.std.specs.Prelude.{◌==◌, Option, Some, None, MatchOption, option_map}
 use Rattle.std.specs.Borrow.{Bor}
 use Rattle.std.specs.Str.Pattern.{FindsTextPrefix, StripsPrefix}
@@ -7,7 +8,8 @@ use Rattle.std.proofs.lemmas.Bool.Decides.{nat_tests}
 use Rattle.std.proofs.lemmas.List.{take-append-drop}
 use Rattle.std.proofs.lemmas.Slice.Eq.{bytes_eq-Decides}
 use Rattle.std.proofs.Math.Seq.{take-append_seam}
-use Rattle.native_merge.specs.CythonNames.{begins, behind, DemanglesOnce, GoesOn, HasTurn, IsLeftOver, IsPointIn, IsShortened, IsTurnAt, fronts, left_behind, next_place, number_behind}
+use Rattle.native_merge.specs.CythonNames.{begins, behind, DemanglesOnce, GoesOn, HasTurn, IsLeftOver, IsPointIn}
+use Rattle.native_merge.specs.CythonNames.{IsShortened, IsTurnAt, fronts, left_behind, next_place, number_behind}
 use Rattle.native_merge.specs.CythonNames.IsShortened.{Stops, Ends, Goes}
 use Rattle.native_merge.specs.Digits.{leading_digits, HasNumber, IsNumberOf}
 use Rattle.native_merge.specs.declared.digits.Number.{Number}

@@ -1,5 +1,7 @@
 -- What is merged goes on by items.
-use Rattle.std.proofs.Common.{◌≡◌, ℕ, zero, suc, ◌+◌, ◌^◌, ◌<◌, Bool, true, false, List, [], ◌∷◌, ◌++◌, length, get_or, take, drop, map, refl, sym, subst, ◌∙◌, ap, arith, append_assoc, append-nil, inl, inr, Ok, Err}
+use Rattle.std.proofs.Common.{◌≡◌, ℕ, zero, suc, ◌+◌, ◌^◌, ◌<◌, Bool, true, false, List, [], ◌∷◌, ◌++◌, length, get_or}
+use Rattle.std.proofs.Common.{take, drop, map, refl, sym, subst, ◌∙◌, ap, arith, append_assoc, append-nil, inl, inr, Ok}
+use Rattle.std.proofs.Common.{Err}
 use Rattle.std.proofs.lemmas.List.{length-map, map-append, drop_all}
 use Rattle.std.proofs.lemmas.Bool.{cases_lt}
 use Rattle.std.specs.List.{AllZip, flat_map}
@@ -8,10 +10,12 @@ use Rattle.py_stacks.specs.Frames.{Call, call_of}
 use Rattle.native_merge.specs.declared.native_frame.NativeFrame.{NativeFrame}
 use Rattle.native_merge.specs.declared.symbol_fault.SymbolFault.{SymbolFault}
 use Rattle.native_merge.specs.declared.function_kind.FunctionKind.{FunctionKind}
-use Rattle.native_merge.specs.declared.function_kind.FunctionKind.TheVariants.{Step as IsStep, Native as IsNative, LeftOut as IsLeftOut}
+use Rattle.native_merge.specs.declared.function_kind.FunctionKind.TheVariants.{Step as IsStep, Native as IsNative}
+use Rattle.native_merge.specs.declared.function_kind.FunctionKind.TheVariants.{LeftOut as IsLeftOut}
 use Rattle.native_merge.specs.FunctionKinds.{function_kind}
 use Rattle.native_merge.specs.SymbolCaches.{Answer}
-use Rattle.native_merge.specs.NativesShown.{NativeItem, ShowsFrame, ShowsNative, answer_items, fault_call, is_dropped, items_met, items_shown, judged}
+use Rattle.native_merge.specs.NativesShown.{NativeItem, ShowsFrame, ShowsNative, answer_items, fault_call, is_dropped}
+use Rattle.native_merge.specs.NativesShown.{items_met, items_shown, judged}
 use Rattle.native_merge.specs.NativesShown.NativeItem.{OfFrame, OfFault}
 use Rattle.native_merge.specs.StackParts.{part, cursor, step_len}
 use Rattle.native_merge.specs.PythonFrames.{calls, ends_part}

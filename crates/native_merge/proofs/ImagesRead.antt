@@ -1,5 +1,6 @@
 -- Images that were read, and that an address has one answer by them.
-use Rattle.std.proofs.Common.{◌≡◌, ◌⊎◌, ℕ, ◌<◌, Bool, true, false, cond, bytes_eq, List, [], ◌∷◌, ◌++◌, All, Option, Some, None, refl, sym, ◌∙◌, ap, subst, arith, inl, inr}
+use Rattle.std.proofs.Common.{◌≡◌, ◌⊎◌, ℕ, ◌<◌, Bool, true, false, cond, bytes_eq, List, [], ◌∷◌, ◌++◌, All, Option}
+use Rattle.std.proofs.Common.{Some, None, refl, sym, ◌∙◌, ap, subst, arith, inl, inr}
 use Rattle.std.specs.List.{find}
 use Rattle.std.proofs.lemmas.List.Elements.{All-head, All-tail, All-push}
 use Rattle.elf64_core.specs.Header.{segments_of}
@@ -7,7 +8,8 @@ use Rattle.elf64_core.specs.Symbols.{SymbolEntry}
 use Rattle.elf64_core.specs.declared.symbol.SymbolKind.{SymbolKind}
 use Rattle.image_memory.specs.Images.{Pushed, first_under}
 use Rattle.image_memory.specs.Mmap.{shown_bytes}
-use Rattle.covering_symbols.specs.Covering.{AreImageSymbols, AreSymbolsOf, Covering, IsNearer, address_of_place, symbol_name_at}
+use Rattle.covering_symbols.specs.Covering.{AreImageSymbols, AreSymbolsOf, Covering, IsNearer, address_of_place}
+use Rattle.covering_symbols.specs.Covering.{symbol_name_at}
 use Rattle.native_merge.specs.declared.read_images.ReadImage.{ReadImage}
 use Rattle.native_merge.specs.ImageSymbols.{FilesMapped, IsNameAt, image_frame, image_seen}
 use Rattle.native_merge.specs.ReadImages.{IsImageUnder, IsReadOf, IsReadOfBytes, is_read_under}

@@ -1,5 +1,6 @@
 -- How a merge ends, by the cursor.
-use Rattle.std.proofs.Common.{◌≡◌, ◌⊎◌, inl, inr, ℕ, ◌+◌, ◌^◌, ◌<◌, Bool, true, false, nat_eq, ◌||◌, List, ◌++◌, length, map, Ok, Err, refl, sym, ◌∙◌, ap, arith}
+use Rattle.std.proofs.Common.{◌≡◌, ◌⊎◌, inl, inr, ℕ, ◌+◌, ◌^◌, ◌<◌, Bool, true, false, nat_eq, ◌||◌, List, ◌++◌, length}
+use Rattle.std.proofs.Common.{map, Ok, Err, refl, sym, ◌∙◌, ap, arith}
 use Rattle.std.proofs.lemmas.List.{length-map}
 use Rattle.std.proofs.lemmas.Bool.Decides.{nat_tests}
 use Rattle.py_stacks.specs.declared.trace.Frame.{Frame}

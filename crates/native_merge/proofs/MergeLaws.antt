@@ -1,8 +1,11 @@
 -- Each Python frame stands among the merged ones once and in order, and each native one.
-use Rattle.std.proofs.Common.{◌≡◌, ℕ, suc, ◌+◌, ◌≤◌, Bool, true, false, nat_eq, List, [], ◌∷◌, ◌++◌, length, map, take, Ok, Err, IfOk, refl, sym, ◌∙◌, ap, arith, append_assoc, append-nil, take_all, if◌then◌else◌}
+use Rattle.std.proofs.Common.{◌≡◌, ℕ, suc, ◌+◌, ◌≤◌, Bool, true, false, nat_eq, List, [], ◌∷◌, ◌++◌, length, map, take}
+use Rattle.std.proofs.Common.{Ok, Err, IfOk, refl, sym, ◌∙◌, ap, arith, append_assoc, append-nil, take_all}
+use Rattle.std.proofs.Common.{if◌then◌else◌}
 use Rattle.std.proofs.lemmas.Bool.Decides.{nat_tests}
 use Rattle.native_merge.specs.StackParts.{part, cursor}
-use Rattle.native_merge.specs.MergedStacks.{StackItem, MergedFrame, misfit, pythons, natives, step_count, natives_in, interleaved, at_end, merged_at, merged}
+use Rattle.native_merge.specs.MergedStacks.{StackItem, MergedFrame, misfit, pythons, natives, step_count, natives_in}
+use Rattle.native_merge.specs.MergedStacks.{interleaved, at_end, merged_at, merged}
 use Rattle.native_merge.specs.MergedStacks.StackItem.{Step, Shown}
 use Rattle.native_merge.specs.MergedStacks.MergedFrame.{Python, Native}
 use Rattle.native_merge.proofs.StackCuts.{cursor-zero, take-cursor-suc}

@@ -1,5 +1,8 @@
 -- A merge under way, address by address.
-use Rattle.std.proofs.Common.{◌≡◌, ◌⊎◌, inl, inr, ℕ, zero, suc, ◌+◌, ◌≤◌, ◌<◌, nat_eq, Bool, true, false, cond, not, List, [], ◌∷◌, ◌++◌, length, get_or, take, Vec, IfSome, IsErrOf, Option, Some, None, Result, Ok, Err, refl, sym, ◌∙◌, ap, subst, arith, zero-add, append_assoc, append-nil, take_all}
+use Rattle.std.proofs.Common.{◌≡◌, ◌⊎◌, inl, inr, ℕ, zero, suc, ◌+◌, ◌≤◌, ◌<◌, nat_eq, Bool, true, false, cond, not}
+use Rattle.std.proofs.Common.{List, [], ◌∷◌, ◌++◌, length, get_or, take, Vec, IfSome, IsErrOf, Option, Some, None}
+use Rattle.std.proofs.Common.{Result, Ok, Err, refl, sym, ◌∙◌, ap, subst, arith, zero-add, append_assoc, append-nil}
+use Rattle.std.proofs.Common.{take_all}
 use Rattle.std.specs.Global.{Global}
 use Rattle.std.proofs.lemmas.List.Sums.{sum_by-append}
 use Rattle.std.specs.Map.{lookup}
@@ -12,7 +15,8 @@ use Rattle.native_merge.specs.declared.merge_error.MergeError.{MergeError}
 use Rattle.native_merge.specs.declared.merge_error.MergeError.TheVariants.{OutOfMemory as NoMemory}
 use Rattle.native_merge.specs.Gathered.{Gathered, GathersMore, capped}
 use Rattle.native_merge.specs.MergedStacks.{StackItem, interleaved, merged, step_count}
-use Rattle.native_merge.specs.Merges.{AreAnswered, HasRoom, IsAnswered, IsMerged, ShowsMerged, all_items, calls_of_answer, failed_count, is_failed}
+use Rattle.native_merge.specs.Merges.{AreAnswered, HasRoom, IsAnswered, IsMerged, ShowsMerged, all_items}
+use Rattle.native_merge.specs.Merges.{calls_of_answer, failed_count, is_failed}
 use Rattle.native_merge.specs.Merges.AreAnswered.{NoMore, More}
 use Rattle.native_merge.specs.Merging.{Merging}
 use Rattle.native_merge.specs.NativesShown.{NativeItem, answer_items}

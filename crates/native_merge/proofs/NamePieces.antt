@@ -1,7 +1,9 @@
 -- The pieces of a name, one after another.
-use Rattle.std.proofs.Common.{◌≡◌, ℕ, suc, ◌+◌, true, false, not, cond, List, [], ◌∷◌, take, drop, refl, sym, ◌∙◌, ap, arith}
+use Rattle.std.proofs.Common.{◌≡◌, ℕ, suc, ◌+◌, true, false, not, cond, List, [], ◌∷◌, take, drop, refl, sym, ◌∙◌, ap}
+use Rattle.std.proofs.Common.{arith}
 use Rattle.std.specs.List.{prefix_len}
-use Rattle.native_merge.specs.FunctionKinds.{is_gap, is_inner, onto_piece, grown, pieces, head_of, tail_of, kind_by_two, kind_by_pieces, behind_gap, first_piece, behind_first}
+use Rattle.native_merge.specs.FunctionKinds.{is_gap, is_inner, onto_piece, grown, pieces, head_of, tail_of, kind_by_two}
+use Rattle.native_merge.specs.FunctionKinds.{kind_by_pieces, behind_gap, first_piece, behind_first}
 
 abbrev BeginsInner : List ℕ → Type 0
 BeginsInner [] = Unit {0}

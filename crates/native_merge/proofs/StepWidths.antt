@@ -1,5 +1,6 @@
 -- A step over frames, by what they say of their calls.
-use Rattle.std.proofs.Common.{◌≡◌, ℕ, zero, suc, ◌+◌, ◌-◌, ◌≤◌, min, true, false, not, cond, List, [], ◌∷◌, length, take, drop, refl, sym, ◌∙◌, ap, arith, length-drop}
+use Rattle.std.proofs.Common.{◌≡◌, ℕ, zero, suc, ◌+◌, ◌-◌, ◌≤◌, min, true, false, not, cond, List, [], ◌∷◌, length}
+use Rattle.std.proofs.Common.{take, drop, refl, sym, ◌∙◌, ap, arith, length-drop}
 use Rattle.std.specs.List.{position_or_len}
 use Rattle.py_stacks.specs.declared.trace.Frame.{Frame}
 use Rattle.py_stacks.specs.Frames.{call_of}

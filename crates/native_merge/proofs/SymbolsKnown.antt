@@ -1,5 +1,6 @@
 -- What a cache holds stays what is told.
-use Rattle.std.proofs.Common.{◌≡◌, ℕ, Bool, true, nat_eq, inl, inr, [], ◌∷◌, Option, Some, None, IfSome, Ok, Err, refl, sym, subst, arith}
+use Rattle.std.proofs.Common.{◌≡◌, ℕ, Bool, true, nat_eq, inl, inr, [], ◌∷◌, Option, Some, None, IfSome, Ok, Err, refl}
+use Rattle.std.proofs.Common.{sym, subst, arith}
 use Rattle.std.proofs.lemmas.Bool.Decides.{nat_tests}
 use Rattle.std.specs.Map.{lookup}
 use Rattle.lru.specs.LruCache.{lru_cache, promoted, put_entries}

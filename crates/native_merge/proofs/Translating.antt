@@ -1,5 +1,7 @@
 -- Frames that are put in their files, one after the other.
-use Rattle.std.proofs.Common.{◌≡◌, ◌⊎◌, ℕ, zero, suc, ◌+◌, ◌<◌, ◌≤◌, Bool, true, false, List, [], ◌∷◌, ◌++◌, length, get_or, set, Vec, Ok, Err, IsErrOf, inl, inr, take, drop, refl, sym, ◌∙◌, ap, subst, arith, take_all}
+use Rattle.std.proofs.Common.{◌≡◌, ◌⊎◌, ℕ, zero, suc, ◌+◌, ◌<◌, ◌≤◌, Bool, true, false, List, [], ◌∷◌, ◌++◌, length}
+use Rattle.std.proofs.Common.{get_or, set, Vec, Ok, Err, IsErrOf, inl, inr, take, drop, refl, sym, ◌∙◌, ap, subst}
+use Rattle.std.proofs.Common.{arith, take_all}
 use Rattle.std.specs.Global.{Global}
 use Rattle.py_stacks.specs.declared.trace.Frame.{Frame}
 use Rattle.native_merge.specs.declared.merge_error.MergeError.{MergeError}

@@ -1,7 +1,8 @@
 -- The names of functions that Cython writes, and what is left of them. Which fronts count, and how the numbers
 -- behind them are passed, is py-spy's rule; that a number past a u64 ends it, and a point inside a character,
 -- is this project's own.
-use Rattle.std.specs.Prelude.{◌≡◌, ◌≢◌, ℕ, ◌+◌, ◌^◌, ◌<◌, ◌==◌, ◌||◌, Bool, if◌then◌else◌, List, [], ◌∷◌, length, take, drop, bytes_eq, codes, Option, Some, None}
+use Rattle.std.specs.Prelude.{◌≡◌, ◌≢◌, ℕ, ◌+◌, ◌^◌, ◌<◌, ◌==◌, ◌||◌, Bool, if◌then◌else◌, List, [], ◌∷◌, length, take}
+use Rattle.std.specs.Prelude.{drop, bytes_eq, codes, Option, Some, None}
 use Rattle.std.specs.Option.{option_or}
 use Rattle.std.specs.Str.{IsCharBoundary}
 use Rattle.std.specs.Str.Parse.{digits_value}

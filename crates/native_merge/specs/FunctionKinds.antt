@@ -1,6 +1,7 @@
 -- What a frame of Python's own native code is, by the pieces of its function's name. The names are CPython's, and
 -- which count is py-spy's rule.
-use Rattle.std.specs.Prelude.{ℕ, ◌==◌, ◌||◌, not, Bool, if◌then◌else◌, List, [], ◌∷◌, codes, bytes_eq, take, drop, Option, Some, None, encode_utf8_all}
+use Rattle.std.specs.Prelude.{ℕ, ◌==◌, ◌||◌, not, Bool, if◌then◌else◌, List, [], ◌∷◌, codes, bytes_eq, take, drop}
+use Rattle.std.specs.Prelude.{Option, Some, None, encode_utf8_all}
 use Rattle.std.specs.List.{prefix_len}
 use Rattle.native_merge.specs.declared.function_kind.FunctionKind.{FunctionKind}
 use Rattle.native_merge.specs.declared.function_kind.FunctionKind.TheVariants.{Step, Native, LeftOut}

@@ -1,7 +1,8 @@
 -- Maps of C files that are kept by the files' names, and what a frame in a C file becomes by them. Which frames are
 -- looked up is py-spy's rule, for frames of a line above 0; that a file that could not be read isn't kept, and that a
 -- line past an i32 becomes 0, is this project's own.
-use Rattle.std.specs.Prelude.{◌≡◌, ℕ, ◌^◌, nat_eq, nat_lt, Bool, ◌&&◌, ◌||◌, not, if◌then◌else◌, List, encode_utf8_all, codes, Option, Some, None, is_some, option_map, ℤ, pos, negsuc, ◌⊎◌}
+use Rattle.std.specs.Prelude.{◌≡◌, ℕ, ◌^◌, nat_eq, nat_lt, Bool, ◌&&◌, ◌||◌, not, if◌then◌else◌, List, encode_utf8_all}
+use Rattle.std.specs.Prelude.{codes, Option, Some, None, is_some, option_map, ℤ, pos, negsuc, ◌⊎◌}
 use Rattle.std.specs.FinMap as map
 use Rattle.std.specs.List.{ends_with}
 use Rattle.std.specs.Ordering.{nat_cmp, on}

@@ -1,5 +1,6 @@
 -- Python frames merged with native ones, as whole lists.
-use Rattle.std.specs.Prelude.{ℕ, suc, ◌+◌, nat_eq, ◌||◌, Bool, if◌then◌else◌, List, [], ◌∷◌, ◌++◌, length, map, Result, Ok, Err}
+use Rattle.std.specs.Prelude.{ℕ, suc, ◌+◌, nat_eq, ◌||◌, Bool, if◌then◌else◌, List, [], ◌∷◌, ◌++◌, length, map, Result}
+use Rattle.std.specs.Prelude.{Ok, Err}
 use Rattle.native_merge.specs.StackParts.{part, cursor}
 
 -- what is met on a native stack: a step of Python's interpreter, or a native frame that is shown

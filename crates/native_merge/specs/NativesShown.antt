@@ -1,13 +1,16 @@
 -- How native frames are shown, and what the answer for an address adds. Which frames are left out, and what is shown
 -- of the others, is py-spy's rule.
-use Rattle.std.specs.Prelude.{◌≡◌, ℕ, ◌^◌, ◌||◌, ◌&&◌, nat_eq, nat_lt, Bool, true, false, if◌then◌else◌, List, [], ◌∷◌, ◌++◌, Option, Some, None, unwrap_or, option_map, Ok, Err, ℤ, pos, codes, bytes_eq, encode_utf8_all}
+use Rattle.std.specs.Prelude.{◌≡◌, ℕ, ◌^◌, ◌||◌, ◌&&◌, nat_eq, nat_lt, Bool, true, false, if◌then◌else◌, List, [], ◌∷◌}
+use Rattle.std.specs.Prelude.{◌++◌, Option, Some, None, unwrap_or, option_map, Ok, Err, ℤ, pos, codes, bytes_eq}
+use Rattle.std.specs.Prelude.{encode_utf8_all}
 use Rattle.std.specs.List.{flat_map, starts_with}
 use Rattle.std.specs.Fmt.{digits}
 use Rattle.std.specs.Str.{chars}
 use Rattle.py_stacks.specs.Frames.{Call}
 use Rattle.native_merge.specs.declared.native_frame.NativeFrame.{NativeFrame}
 use Rattle.native_merge.specs.declared.function_kind.FunctionKind.{FunctionKind}
-use Rattle.native_merge.specs.declared.function_kind.FunctionKind.TheVariants.{Step as IsStep, Native as IsNative, LeftOut as IsLeftOut}
+use Rattle.native_merge.specs.declared.function_kind.FunctionKind.TheVariants.{Step as IsStep, Native as IsNative}
+use Rattle.native_merge.specs.declared.function_kind.FunctionKind.TheVariants.{LeftOut as IsLeftOut}
 use Rattle.native_merge.specs.CythonNames.{IsDemangled, is_call_glue}
 use Rattle.native_merge.specs.FunctionKinds.{function_kind}
 use Rattle.native_merge.specs.MergedStacks.{StackItem, MergedFrame}

@@ -1,5 +1,6 @@
 -- What a cache of native addresses holds.
-use Rattle.std.specs.Prelude.{◌≡◌, ◌⊎◌, ℕ, nat_eq, Bool, List, [], ◌∷◌, Contains, option_map, Option, Result, Ok, Err, Vec}
+use Rattle.std.specs.Prelude.{◌≡◌, ◌⊎◌, ℕ, nat_eq, Bool, List, [], ◌∷◌, Contains, option_map, Option, Result, Ok, Err}
+use Rattle.std.specs.Prelude.{Vec}
 use Rattle.std.specs.Global.{Global}
 use Rattle.lru.specs.LruCache.{LruCache, lru_cache, promoted, put_entries}
 use Rattle.native_merge.specs.declared.native_frame.NativeFrame.{NativeFrame}

@@ -1,9 +1,11 @@
 -- The entry that covers an address, by where the entries that end no later stop.
-use Rattle.std.proofs.Common.{◌≡◌, ℕ, ◌<◌, ◌≤◌, suc, zero, Bool, true, false, List, [], ◌∷◌, length, leb, ltb, refl, sym, subst, ◌∙◌, arith, Option, Some, None, IfSome}
+use Rattle.std.proofs.Common.{◌≡◌, ℕ, ◌<◌, ◌≤◌, suc, zero, Bool, true, false, List, [], ◌∷◌, length, leb, ltb, refl}
+use Rattle.std.proofs.Common.{sym, subst, ◌∙◌, arith, Option, Some, None, IfSome}
 use Rattle.std.specs.Prelude.{All, cond, slice_get}
 use Rattle.std.specs.List.{AllWithin, list_all}
 use Rattle.std.specs.List.Sorted.{IsNonDecreasingBy}
-use Rattle.std.proofs.lemmas.Bool.{and_parts, and_from, and_left, and_right, leb-true, leb-false, le-leb, lt-leb, lt-ltb, le-ltb, ltb-true, cond-true, cond-false}
+use Rattle.std.proofs.lemmas.Bool.{and_parts, and_from, and_left, and_right, leb-true, leb-false, le-leb, lt-leb}
+use Rattle.std.proofs.lemmas.Bool.{lt-ltb, le-ltb, ltb-true, cond-true, cond-false}
 use Rattle.std.proofs.lemmas.List.Elements.{All-nil, All-cons, All-weaker}
 use Rattle.std.proofs.lemmas.List.Sorted.{IsNonDecreasingBy-from_all_adjacent}
 use Rattle.maps_text.specs.declared.entry.MapsEntry.{MapsEntry}

@@ -1,5 +1,7 @@
 -- What is met by one address more.
-use Rattle.std.proofs.Common.{◌≡◌, ℕ, ◌+◌, ◌<◌, ◌≤◌, suc, Bool, true, false, not, ◌||◌, List, [], ◌∷◌, ◌++◌, length, get_or, eqb, ltb, refl, sym, ap, subst, ◌∙◌, arith, Option, Some, None, Ok, Err, add-zero, length-append}
+use Rattle.std.proofs.Common.{◌≡◌, ℕ, ◌+◌, ◌<◌, ◌≤◌, suc, Bool, true, false, not, ◌||◌, List, [], ◌∷◌, ◌++◌, length}
+use Rattle.std.proofs.Common.{get_or, eqb, ltb, refl, sym, ap, subst, ◌∙◌, arith, Option, Some, None, Ok, Err, add-zero}
+use Rattle.std.proofs.Common.{length-append}
 use Rattle.std.specs.Prelude.{All, cond, map, is_some, unwrap_or}
 use Rattle.std.specs.List.{AllZip, filter, list_any, position, position_or_len}
 use Rattle.std.proofs.lemmas.Bool.{cond-true, cond-false, le-ltb, lt-ltb, eq-eqb, ne_eqb}

@@ -1,5 +1,6 @@
 -- An answer that is right is the answer.
-use Rattle.std.proofs.Common.{◌≡◌, ℕ, Bool, true, false, List, [], ◌∷◌, Option, Some, None, Result, Ok, Err, inl, inr, refl, sym, ap, subst, ◌∙◌}
+use Rattle.std.proofs.Common.{◌≡◌, ℕ, Bool, true, false, List, [], ◌∷◌, Option, Some, None, Result, Ok, Err, inl, inr}
+use Rattle.std.proofs.Common.{refl, sym, ap, subst, ◌∙◌}
 use Rattle.std.specs.Prelude.{map}
 use Rattle.std.specs.List.{AllZip}
 use Rattle.elf64_core.specs.BuildIds.{FoundBuildId, FileHoldsBuildId}
@@ -11,7 +12,8 @@ use Rattle.normalize_core.specs.declared.error.NormalizeError.{NormalizeError}
 use Rattle.normalize_core.specs.declared.meta.UserMeta.{UserMeta}
 use Rattle.normalize_core.specs.declared.meta.UserMeta.TheVariants as meta
 use Rattle.normalize_core.specs.BuildIds.{id_in, FileHasId, ImageHasId, SoughtId, IsBuildId, own_id}
-use Rattle.normalize_core.specs.Normal.{Asked, Normal, IsMetaOf, IsMetaAt, IsNormal, IsNormalOrFault, first_addrs, output_at}
+use Rattle.normalize_core.specs.Normal.{Asked, Normal, IsMetaOf, IsMetaAt, IsNormal, IsNormalOrFault, first_addrs}
+use Rattle.normalize_core.specs.Normal.{output_at}
 use Rattle.normalize_core.specs.Targets.{Target, covering, target_at}
 use Rattle.normalize_core.proofs.Orders.{ascending-once}
 

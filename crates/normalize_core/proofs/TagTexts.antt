@@ -1,12 +1,14 @@
 -- A tag that is printed reads back as itself.
-use Rattle.std.proofs.Common.{◌≡◌, ℕ, ◌+◌, ◌*◌, ◌/◌, ◌%◌, ◌<◌, true, false, cond, List, [], ◌∷◌, ◌++◌, length, take, get_or, eqb, ltb, refl, sym, ap, ◌∙◌, arith, Option, Some, None}
+use Rattle.std.proofs.Common.{◌≡◌, ℕ, ◌+◌, ◌*◌, ◌/◌, ◌%◌, ◌<◌, true, false, cond, List, [], ◌∷◌, ◌++◌, length, take}
+use Rattle.std.proofs.Common.{get_or, eqb, ltb, refl, sym, ap, ◌∙◌, arith, Option, Some, None}
 use Rattle.std.specs.Char.{digit_value}
 use Rattle.std.specs.Fmt.{digit_glyph}
 use Rattle.std.specs.Prelude.{All}
 use Rattle.std.proofs.lemmas.Bool.{agree_below_at, eqb-true, lt-ltb, cond-true, cond-false, eq-eqb}
 use Rattle.std.proofs.lemmas.List.{take_more}
 use Rattle.std.proofs.lemmas.List.Elements.{All-head, All-tail}
-use Rattle.normalize_core.specs.Tags.{tag_text, hex_value, first_value, joined_digits, pair_value, before, pairs_of, tag_of}
+use Rattle.normalize_core.specs.Tags.{tag_text, hex_value, first_value, joined_digits, pair_value, before, pairs_of}
+use Rattle.normalize_core.specs.Tags.{tag_of}
 
 -- the value of the digit that is written for a number
 glyph_value : (d : ℕ) → d < 16 → digit_value (digit_glyph false d) ≡ d

@@ -1,12 +1,14 @@
 -- What addresses are normalized to, or why they are refused.
-use Rattle.std.specs.Prelude.{◌≡◌, ℕ, Bool, true, false, not, ◌&&◌, List, [], ◌∷◌, map, Option, Some, None, Result, Ok, Err}
+use Rattle.std.specs.Prelude.{◌≡◌, ℕ, Bool, true, false, not, ◌&&◌, List, [], ◌∷◌, map, Option, Some, None, Result, Ok}
+use Rattle.std.specs.Prelude.{Err}
 use Rattle.std.specs.List.{AllZip, list_any, position_or_len}
 use Rattle.std.specs.List.Sorted.{IsPermutation}
 use Rattle.elf64_core.specs.Outcomes.{first_cause}
 use Rattle.image_memory.specs.Images.{Pushed}
 use Rattle.maps_text.specs.declared.entry.MapsEntry.{MapsEntry}
 use Rattle.normalize_core.specs.declared.error.NormalizeError.{NormalizeError}
-use Rattle.normalize_core.specs.declared.error.NormalizeError.TheVariants.{NoEntries, EntriesUnsorted, AddrsUnsorted, OffsetOverflow}
+use Rattle.normalize_core.specs.declared.error.NormalizeError.TheVariants.{NoEntries, EntriesUnsorted, AddrsUnsorted}
+use Rattle.normalize_core.specs.declared.error.NormalizeError.TheVariants.{OffsetOverflow}
 use Rattle.normalize_core.specs.declared.meta.UserMeta.{UserMeta}
 use Rattle.normalize_core.specs.declared.meta.UserMeta.TheVariants as meta
 use Rattle.normalize_core.specs.BuildIds.{IsBuildId, own_id}

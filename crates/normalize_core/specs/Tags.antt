@@ -1,6 +1,7 @@
 -- The tags of BPF programs, as they are written. That `+` may stand for a first digit is how Rust's library reads
 -- numbers, by which blazesym reads a tag.
-use Rattle.std.specs.Prelude.{◌≡◌, ℕ, ◌<◌, All, ◌+◌, ◌*◌, ◌/◌, ◌%◌, ◌==◌, nat_lt, false, if◌then◌else◌, List, [], ◌∷◌, length, Option, Some, None}
+use Rattle.std.specs.Prelude.{◌≡◌, ℕ, ◌<◌, All, ◌+◌, ◌*◌, ◌/◌, ◌%◌, ◌==◌, nat_lt, false, if◌then◌else◌, List, [], ◌∷◌}
+use Rattle.std.specs.Prelude.{length, Option, Some, None}
 use Rattle.std.specs.Char.{digit_value}
 use Rattle.std.specs.Fmt.{digit_glyph}
 

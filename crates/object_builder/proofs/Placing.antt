@@ -1,5 +1,7 @@
 -- Reading bytes that stand in memory.
-use Rattle.std.proofs.Common.{◌≡◌, map, ℕ, zero, suc, ◌+◌, ◌-◌, ◌<◌, ◌≤◌, ◌^◌, true, false, cond, ltb, leb, List, ◌∷◌, ◌++◌, length, refl, sym, ap, ◌∙◌, arith, take, length-append, inl, inr, add-zero, add_assoc}
+use Rattle.std.proofs.Common.{◌≡◌, map, ℕ, zero, suc, ◌+◌, ◌-◌, ◌<◌, ◌≤◌, ◌^◌, true, false, cond, ltb, leb, List, ◌∷◌}
+use Rattle.std.proofs.Common.{◌++◌, length, refl, sym, ap, ◌∙◌, arith, take, length-append, inl, inr, add-zero}
+use Rattle.std.proofs.Common.{add_assoc}
 use Rattle.std.specs.Prelude.{slice_get, Some, None, Ok}
 use Rattle.std.proofs.Math.ListN.{replicate}
 use Rattle.std.proofs.lemmas.List.{get_or_append_left, get_or-append-add, length-replicate}

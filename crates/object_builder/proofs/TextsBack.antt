@@ -1,5 +1,6 @@
 -- A text that was laid reads back.
-use Rattle.std.proofs.Common.{◌≡◌, ℕ, suc, ◌+◌, ◌*◌, ◌≤◌, Bool, true, false, cond, ltb, List, [], ◌∷◌, length, refl, sym, ap, subst, ◌∙◌, rules, arith, take, map, inl, inr, length-append, encode_utf8_all}
+use Rattle.std.proofs.Common.{◌≡◌, ℕ, suc, ◌+◌, ◌*◌, ◌≤◌, Bool, true, false, cond, ltb, List, [], ◌∷◌, length, refl}
+use Rattle.std.proofs.Common.{sym, ap, subst, ◌∙◌, rules, arith, take, map, inl, inr, length-append, encode_utf8_all}
 use Rattle.std.specs.Prelude.{Result, Err, IfOk, ◌++◌, drop, Some, None, Option, Ok, ◌&&◌, IsSome, max, if◌then◌else◌}
 use Rattle.std.specs.Option.{unwrap_or}
 use Rattle.std.specs.List.{flat_map}
@@ -12,7 +13,8 @@ use Rattle.std.proofs.lemmas.Str.{length-le-encodes}
 use Rattle.std.proofs.str.Utf16.{one_unit}
 use Rattle.elf64_core.specs.Fields.{u64_in, u32_in}
 use Rattle.process_memory.specs.Memory.{Memory, record_at}
-use Rattle.py_fields.specs.Places.{Place, Apart, AreApart, EndBy, IsGroup, object_places, optional_place, string_places, string_head, state_bits}
+use Rattle.py_fields.specs.Places.{Place, Apart, AreApart, EndBy, IsGroup, object_places, optional_place, string_places}
+use Rattle.py_fields.specs.Places.{string_head, state_bits}
 use Rattle.py_fields.specs.Sound.{IsSound, IsSoundString, IsStart, HasState}
 use Rattle.py_fields.proofs.Fields.{optional_end, some_is}
 use Rattle.py_fields.specs.declared.layout.Layout.{Layout}
@@ -23,7 +25,8 @@ use Rattle.py_builtins.specs.declared.coding.TextKind.{TextKind}
 use Rattle.py_builtins.specs.declared.coding.TextKind.TheVariants.{Utf8, Latin1, Utf16, Utf32}
 use Rattle.py_builtins.specs.declared.strings.StateAt.{StateAt}
 use Rattle.py_builtins.specs.TextKind.{coded, width}
-use Rattle.py_builtins.specs.Texts.{state_at, state_of_fields, characters_of, characters_with, characters_at, text_of_length, text_at}
+use Rattle.py_builtins.specs.Texts.{state_at, state_of_fields, characters_of, characters_with, characters_at}
+use Rattle.py_builtins.specs.Texts.{text_of_length, text_at}
 use Rattle.py_builtins.proofs.Codings.{decoded_is}
 use Rattle.py_builtins.proofs.Texts.{length_zero, length_fine, with_kind}
 use Rattle.object_builder.specs.Objects.{Value, aligned, bytes_of, len_of, object, optional_write, write_place}
@@ -31,7 +34,8 @@ use Rattle.object_builder.specs.Objects.Value.{U32, Bytes}
 use Rattle.object_builder.specs.Placing.{Stands}
 use Rattle.object_builder.specs.Room.{HasRoom, klass_place}
 use Rattle.object_builder.specs.Sizes.{all_under, is_short_headed, least_width, text_len}
-use Rattle.object_builder.specs.Texts.{ReadsAsText, AreBits, Suits, least_kind, kind_for, units_of, state_of, state_by, start_of, klass_write, text_writes, text_object}
+use Rattle.object_builder.specs.Texts.{ReadsAsText, AreBits, Suits, least_kind, kind_for, units_of, state_of, state_by}
+use Rattle.object_builder.specs.Texts.{start_of, klass_write, text_writes, text_object}
 use Rattle.object_builder.specs.Texts.{IsBriefText}
 use Rattle.object_builder.proofs.Objects.{length-inside, length-object, part-object, u64_read, u32_read}
 use Rattle.object_builder.proofs.Placing.{record_stands, record_stands_first, stands_last}

@@ -1,5 +1,6 @@
 -- How many bytes a text's object takes. It is as long as its record, or as its characters behind that.
-use Rattle.std.specs.Prelude.{ℕ, ◌+◌, ◌*◌, ◌/◌, max, nat_lt, Bool, true, List, length, if◌then◌else◌, unwrap_or, encode_utf8_all}
+use Rattle.std.specs.Prelude.{ℕ, ◌+◌, ◌*◌, ◌/◌, max, nat_lt, Bool, true, List, length, if◌then◌else◌, unwrap_or}
+use Rattle.std.specs.Prelude.{encode_utf8_all}
 use Rattle.std.specs.List.{list_all}
 use Rattle.py_fields.specs.declared.layout.Layout.{Layout}
 use Rattle.py_fields.specs.declared.layout.Strings.{Strings}

@@ -1,6 +1,7 @@
 -- Text objects, as they are written: of the least kind that has all of the characters.
 use Rattle.std.specs.Str.{all_scalars}
-use Rattle.std.specs.Prelude.{Ok, ◌≡◌, ℕ, ◌+◌, ◌≤◌, ◌<◌, ◌^◌, take, true, Option, Some, None, List, [], ◌∷◌, length, if◌then◌else◌, encode_utf8_all}
+use Rattle.std.specs.Prelude.{Ok, ◌≡◌, ℕ, ◌+◌, ◌≤◌, ◌<◌, ◌^◌, take, true, Option, Some, None, List, [], ◌∷◌, length}
+use Rattle.std.specs.Prelude.{if◌then◌else◌, encode_utf8_all}
 use Rattle.std.specs.Option.{unwrap_or}
 use Rattle.std.specs.Int.{w32, to_le_bytes}
 use Rattle.std.specs.Int.RustNames.{bit_or}

@@ -15,9 +15,13 @@ use Rattle.object_reach.specs.declared.reached.ReachError.TheVariants.{ReachLimi
 use Rattle.object_reach.specs.Reach.{IsBrokenBy, IsReach, IsRightReach, addresses}
 use Rattle.elf64_core.specs.Outcomes.{IsUnless}
 use Rattle.process_memory.specs.Memory.{Fault}
-use Rattle.process_memory.specs.Memory.Fault.{Missing, ThreadLimit, FrameLimit, ChainLimit, BadValue, LocalsLimit, NoText as HasNoText, TooLong as IsTooLong, BadDict as IsBadDict, BadType as IsBadType, Visits as ManyVisits, Depth as ManyLevels, BadCount as IsBadCount, BadBool as IsBadBool, NoDicts, Entries}
+use Rattle.process_memory.specs.Memory.Fault.{Missing, ThreadLimit, FrameLimit, ChainLimit, BadValue, LocalsLimit}
+use Rattle.process_memory.specs.Memory.Fault.{NoText as HasNoText, TooLong as IsTooLong, BadDict as IsBadDict}
+use Rattle.process_memory.specs.Memory.Fault.{BadType as IsBadType, Visits as ManyVisits, Depth as ManyLevels}
+use Rattle.process_memory.specs.Memory.Fault.{BadCount as IsBadCount, BadBool as IsBadBool, NoDicts, Entries}
 use Rattle.py_builtins.specs.declared.error.ObjectError.{ObjectError}
-use Rattle.py_builtins.specs.declared.error.ObjectError.TheVariants.{Unreadable, NoText, TooLong, BadDict, BadType, Visits, Depth, BadCount, BadBool, OutOfMemory}
+use Rattle.py_builtins.specs.declared.error.ObjectError.TheVariants.{Unreadable, NoText, TooLong, BadDict, BadType}
+use Rattle.py_builtins.specs.declared.error.ObjectError.TheVariants.{Visits, Depth, BadCount, BadBool, OutOfMemory}
 use Rattle.py_builtins.specs.ObjectError.{object_fault}
 use Rattle.std.specs.Prelude.{Option, Some, None, option_map, Result, Ok, Err, ◌≢◌}
 use Rattle.object_reach.proofs.Searches.{none_in, head_in, tail_in, in_cons}

@@ -10,7 +10,8 @@ use Rattle.py_builtins.specs.ObjectError.{object_fault}
 use Rattle.object_reach.specs.declared.objects.ObjectRead.{ObjectRead}
 use Rattle.object_reach.specs.declared.reached.ReachError.{ReachError}
 use Rattle.object_reach.specs.declared.reached.ReachError.TheVariants.{ReachLimit, OutOfMemory}
-use Rattle.object_reach.specs.Objects.{PartsRead, all_or, object_at, object_of, object_with, part_words, parts_found, parts_in_front, words_of_first}
+use Rattle.object_reach.specs.Objects.{PartsRead, all_or, object_at, object_of, object_with, part_words, parts_found}
+use Rattle.object_reach.specs.Objects.{parts_in_front, words_of_first}
 use Rattle.object_reach.specs.Reading.{IsBroken, ShowsObject, ShowsOr, slots_cost}
 
 words_next : (part : ℕ → Found (List ℕ)) (n : ℕ) (ws w : List ℕ) → words_of_first part n ≡ Ok ws → part n ≡ Ok w → words_of_first part (suc n) ≡ Ok (ws ++ w)

@@ -1,5 +1,6 @@
 -- What the search keeps from one object to the next, and what it has in the end.
-use Rattle.std.proofs.Common.{ℕ, List, [], ◌∷◌, ◌≡◌, ◌≤◌, ◌<◌, ◌+◌, ◌-◌, ◌^◌, ◌⊎◌, ◌↔◌, inl, inr, refl, sym, subst, ap, ◌∙◌, Bool, true, false, arith, nat_eq, length, map, rules, Option}
+use Rattle.std.proofs.Common.{ℕ, List, [], ◌∷◌, ◌≡◌, ◌≤◌, ◌<◌, ◌+◌, ◌-◌, ◌^◌, ◌⊎◌, ◌↔◌, inl, inr, refl, sym, subst, ap}
+use Rattle.std.proofs.Common.{◌∙◌, Bool, true, false, arith, nat_eq, length, map, rules, Option}
 use Rattle.std.specs.BTreeMap.{insert_entry}
 use Rattle.std.specs.BTreeMap.Range.{IsLtBy}
 use Rattle.std.specs.Cmp.{nat_eq_equiv}
@@ -8,7 +9,9 @@ use Rattle.std.specs.List.Sorted.{IsStrictlySortedBy, IsStrictlyIncreasing}
 use Rattle.std.specs.Map.{keys_of}
 use Rattle.std.specs.Ordering.{nat_cmp}
 use Rattle.std.proofs.lemmas.Bool.Decides.{nat_tests, Decides-eqb}
-use Rattle.std.proofs.lemmas.List.Elements.{All-cons, All-contains, All-weaker, All-nil, All-map, Contains-get_or, Contains-append_right, Contains-append_cases, Contains-push_cases, recursion_from_All}
+use Rattle.std.proofs.lemmas.List.Elements.{All-cons, All-contains, All-weaker, All-nil, All-map, Contains-get_or}
+use Rattle.std.proofs.lemmas.List.Elements.{Contains-append_right, Contains-append_cases, Contains-push_cases}
+use Rattle.std.proofs.lemmas.List.Elements.{recursion_from_All}
 use Rattle.std.proofs.lemmas.List.Sorted.{length_permutation}
 use Rattle.std.proofs.lemmas.List.Sums.{sum_by-cons}
 use Rattle.std.proofs.lemmas.Map.Keys.{IsDistinct-cons, IsStrictlyIncreasing-from_sorted}
@@ -22,7 +25,8 @@ use Rattle.object_reach.specs.Reading.{ShowsObject, listed_as}
 use Rattle.object_reach.specs.Front.{IsSeen, IsApart, AddsToFront, Overfills}
 use Rattle.object_reach.specs.Reach.{IsReached, IsReach, IsBrokenBy, PassesLimit, addresses, slots_in_all}
 use Rattle.object_reach.proofs.Paths.{reached_root, reached_child, reached_within}
-use Rattle.object_reach.proofs.Sums.{sum_by-insert_entry, permutation-insert_entry, All-insert_entry, sum_by-le_distinct}
+use Rattle.object_reach.proofs.Sums.{sum_by-insert_entry, permutation-insert_entry, All-insert_entry}
+use Rattle.object_reach.proofs.Sums.{sum_by-le_distinct}
 use Rattle.object_reach.proofs.Fronts.{distinct_sorted, apart_false}
 
 -- `done` has each object that was read, with its failure, `pending` the addresses that wait, and `room` the slots that are left

@@ -1,5 +1,6 @@
 -- A search over a process: what it has read, and what it may answer where it stops.
-use Rattle.std.proofs.Common.{◌≡◌, ℕ, ◌+◌, ◌*◌, ◌-◌, ◌^◌, ◌<◌, ◌≤◌, ◌⊎◌, ◌↔◌, List, [], ◌∷◌, length, map, refl, ap, ◌∙◌, arith, subst, Option}
+use Rattle.std.proofs.Common.{◌≡◌, ℕ, ◌+◌, ◌*◌, ◌-◌, ◌^◌, ◌<◌, ◌≤◌, ◌⊎◌, ◌↔◌, List, [], ◌∷◌, length, map, refl, ap, ◌∙◌}
+use Rattle.std.proofs.Common.{arith, subst, Option}
 use Rattle.std.specs.Prelude.{Ok, Err}
 use Rattle.std.specs.BTreeMap.{insert_entry}
 use Rattle.std.specs.List.{Contains}
@@ -23,7 +24,8 @@ use Rattle.object_reach.specs.Reading.{ShowsObject, ShowsOr, listed_as, reach_co
 use Rattle.object_reach.specs.Reach.{IsRightReach, PassesLimit, addresses, slots_in_all}
 use Rattle.object_reach.specs.Front.{AddsToFront, Overfills}
 use Rattle.object_reach.proofs.Sums.{permutation-insert_entry}
-use Rattle.object_reach.proofs.Searches.{IsFront, addresses-listed, children_pass, front_first, front_last, front_next, is_reach, new_key, roots_pass, slots_pass, within_limit}
+use Rattle.object_reach.proofs.Searches.{IsFront, addresses-listed, children_pass, front_first, front_last, front_next}
+use Rattle.object_reach.proofs.Searches.{is_reach, new_key, roots_pass, slots_pass, within_limit}
 
 -- what was read and what waits, over each memory that covers the reads: six for each object, and two for each slot
 pub record Searching (l : Layout) (roots : List ℕ) (s0 s1 : Seen) (done : List (ℕ × Option ObjectError)) (pending : List ℕ) (room : ℕ) : Type 0 where

@@ -1,9 +1,11 @@
 -- What the readers of objects read: an object's parts as code has them, and how many reads they take.
-use Rattle.std.specs.Prelude.{◌≡◌, ◌<◌, ◌≤◌, ◌+◌, ◌*◌, ◌^◌, ℕ, List, [], ◌∷◌, Option, Some, IsSome, length, Result, Ok, Err, ⊤}
+use Rattle.std.specs.Prelude.{◌≡◌, ◌<◌, ◌≤◌, ◌+◌, ◌*◌, ◌^◌, ℕ, List, [], ◌∷◌, Option, Some, IsSome, length, Result, Ok}
+use Rattle.std.specs.Prelude.{Err, ⊤}
 use Rattle.py_builtins.specs.declared.error.ObjectError.{ObjectError}
 use Rattle.py_builtins.specs.ObjectError.{object_fault}
 use Rattle.object_reach.specs.declared.parts.Place.{Place}
-use Rattle.object_reach.specs.declared.parts.Place.TheVariants.{Nowhere as NoPlace, Items as ItemPlace, Slots as SlotPlace}
+use Rattle.object_reach.specs.declared.parts.Place.TheVariants.{Nowhere as NoPlace, Items as ItemPlace}
+use Rattle.object_reach.specs.declared.parts.Place.TheVariants.{Slots as SlotPlace}
 use Rattle.object_reach.specs.declared.parts.Parts.{Parts}
 use Rattle.object_reach.specs.declared.parts.Part.{Part}
 use Rattle.object_reach.specs.declared.parts.Part.TheVariants.{Nothing, Item, Slot as SlotPart}

@@ -1,5 +1,7 @@
 -- How many pieces ranges have: each starts where a range starts or ends, so there are at most twice as many.
-use Rattle.std.proofs.Common.{◌≡◌, ◌≢◌, ◌⊎◌, ℕ, zero, suc, ◌+◌, ◌-◌, ◌*◌, ◌<◌, ◌≤◌, ◌^◌, leb, Bool, true, false, cond, List, [], ◌∷◌, ◌++◌, length, get_or, map, refl, ap, subst, arith, inl, inr, ⊎_elim, length-append, ◌||◌}
+use Rattle.std.proofs.Common.{◌≡◌, ◌≢◌, ◌⊎◌, ℕ, zero, suc, ◌+◌, ◌-◌, ◌*◌, ◌<◌, ◌≤◌, ◌^◌, leb, Bool, true, false, cond}
+use Rattle.std.proofs.Common.{List, [], ◌∷◌, ◌++◌, length, get_or, map, refl, ap, subst, arith, inl, inr, ⊎_elim}
+use Rattle.std.proofs.Common.{length-append, ◌||◌}
 use Rattle.std.specs.Prelude.{All}
 use Rattle.std.specs.List.{AllByRecursion, AllPairs, list_any}
 use Rattle.std.proofs.lemmas.Bool.{cases_lt, cases_eq, le-leb, lt-leb}
@@ -11,7 +13,8 @@ use Rattle.elf64_core.specs.declared.span_table.TableEntry.{TableEntry}
 use Rattle.piece_table.specs.declared.overlay.Owned.{Owned}
 use Rattle.piece_table.specs.Overlays.{ArePieces, IsPiece, IsPieceOf, IsBoundedRange, owner_of, spans}
 use Rattle.piece_table.specs.Laid.{AnyHolds, AreLaid, HaveRoom, Holds, Rises, piece_end, table_entry_of}
-use Rattle.piece_table.proofs.Overlays.{IsPieceAt, first_below, owner_spans, pieces_room, piece_within, spans_from, spans_within}
+use Rattle.piece_table.proofs.Overlays.{IsPieceAt, first_below, owner_spans, pieces_room, piece_within, spans_from}
+use Rattle.piece_table.proofs.Overlays.{spans_within}
 
 abbrev IsIn : ℕ → List ℕ → Type 0
 IsIn x [] = ⊥

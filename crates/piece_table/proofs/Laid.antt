@@ -1,12 +1,14 @@
 -- Pieces that ascend, and what they have between two addresses.
-use Rattle.std.proofs.Common.{◌≡◌, ℕ, zero, suc, ◌+◌, ◌<◌, ◌≤◌, leb, min, max, true, List, [], ◌∷◌, ◌++◌, length, drop, get_or, refl, sym, ap, subst, ◌∙◌, arith, append_assoc}
+use Rattle.std.proofs.Common.{◌≡◌, ℕ, zero, suc, ◌+◌, ◌<◌, ◌≤◌, leb, min, max, true, List, [], ◌∷◌, ◌++◌, length, drop}
+use Rattle.std.proofs.Common.{get_or, refl, sym, ap, subst, ◌∙◌, arith, append_assoc}
 use Rattle.std.specs.Prelude.{Option, None}
 use Rattle.std.specs.List.{AllByRecursion, cons_option}
 use Rattle.std.proofs.lemmas.Bool.{le-leb}
 use Rattle.std.proofs.lemmas.List.{drop_more}
 use Rattle.std.proofs.lemmas.List.Elements.{All-from_recursion}
 use Rattle.piece_table.specs.declared.overlay.Owned.{Owned}
-use Rattle.piece_table.specs.Laid.{AreBelow, HasPieceRoom, HaveRoom, Rises, piece_end, overlaid, part_between, parts_between}
+use Rattle.piece_table.specs.Laid.{AreBelow, HasPieceRoom, HaveRoom, Rises, piece_end, overlaid, part_between}
+use Rattle.piece_table.specs.Laid.{parts_between}
 
 -- a piece that ends at an address or before it has nothing from there on, one that starts there nothing below
 part_below : (low high shift : ℕ) (p : Owned) → piece_end p ≤ low → part_between low high shift p ≡ None

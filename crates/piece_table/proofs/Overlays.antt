@@ -1,5 +1,7 @@
 -- Pieces of ranges: that those of one half, laid over those of the other, are those of all.
-use Rattle.std.proofs.Common.{◌≡◌, ◌⊎◌, ℕ, zero, suc, ◌+◌, ◌-◌, ◌<◌, ◌≤◌, ◌^◌, leb, min, max, Bool, true, false, not, cond, List, [], ◌∷◌, ◌++◌, length, get_or, refl, sym, ap, subst, ◌∙◌, arith, inl, inr, ⊎_elim, length-append, take, drop, take-append-drop}
+use Rattle.std.proofs.Common.{◌≡◌, ◌⊎◌, ℕ, zero, suc, ◌+◌, ◌-◌, ◌<◌, ◌≤◌, ◌^◌, leb, min, max, Bool, true, false, not}
+use Rattle.std.proofs.Common.{cond, List, [], ◌∷◌, ◌++◌, length, get_or, refl, sym, ap, subst, ◌∙◌, arith, inl, inr}
+use Rattle.std.proofs.Common.{⊎_elim, length-append, take, drop, take-append-drop}
 use Rattle.std.specs.Prelude.{Option, Some, None, All, option_map, slice_get}
 use Rattle.std.specs.List.{AllByRecursion, cons_option, position_or_len}
 use Rattle.std.proofs.lemmas.Bool.{cases_lt, leb-false, leb-true}
@@ -9,7 +11,8 @@ use Rattle.std.proofs.lemmas.Option.{same_Some, slice_get-get_or}
 use Rattle.elf64_core.specs.declared.span_table.TableEntry.{TableEntry}
 use Rattle.piece_table.specs.declared.overlay.Owned.{Owned}
 use Rattle.piece_table.specs.Overlays.{IsPieceOf, IsBoundedRange, found_by, owner_of, spans}
-use Rattle.piece_table.specs.Laid.{AnyHolds, AreLaid, HasPieceRoom, HaveRoom, Holds, Rises, piece_end, overlaid, part_between, parts_between}
+use Rattle.piece_table.specs.Laid.{AnyHolds, AreLaid, HasPieceRoom, HaveRoom, Holds, Rises, piece_end, overlaid}
+use Rattle.piece_table.specs.Laid.{part_between, parts_between}
 
 pub spans_within : (addr : ℕ) (r : TableEntry) → r.start ≤ addr → addr < r.start + r.len → spans addr r ≡ true
 spans_within addr r le less = grind (arith, nat_tests)

@@ -1,5 +1,6 @@
 -- Where what stands at the addresses of a piece is found.
-use Rattle.std.proofs.Common.{◌≡◌, ◌⊎◌, ℕ, ◌+◌, ◌-◌, ◌<◌, ◌≤◌, ◌^◌, min, true, false, List, length, get_or, refl, sym, ap, subst, ◌∙◌, arith, inl, inr, ⊎_elim}
+use Rattle.std.proofs.Common.{◌≡◌, ◌⊎◌, ℕ, ◌+◌, ◌-◌, ◌<◌, ◌≤◌, ◌^◌, min, true, false, List, length, get_or, refl, sym}
+use Rattle.std.proofs.Common.{ap, subst, ◌∙◌, arith, inl, inr, ⊎_elim}
 use Rattle.std.specs.Prelude.{IfSome, Option, Some, None, option_map, slice_get}
 use Rattle.std.specs.Option.{is_some}
 use Rattle.std.specs.List.{list_any}
@@ -11,7 +12,8 @@ use Rattle.std.proofs.lemmas.Option.{same_Some, slice_get-get_or, slice_get_past
 use Rattle.elf64_core.specs.declared.span_table.TableEntry.{TableEntry}
 use Rattle.piece_table.specs.declared.table.FileRange.{FileRange}
 use Rattle.piece_table.specs.Overlays.{ArePieces, found_by, owner_of, spans}
-use Rattle.piece_table.specs.Places.{IsFilePiece, IsStretch, addresses_of, file_of_range, place_by, range_of_file, stands_at}
+use Rattle.piece_table.specs.Places.{IsFilePiece, IsStretch, addresses_of, file_of_range, place_by, range_of_file}
+use Rattle.piece_table.specs.Places.{stands_at}
 use Rattle.piece_table.proofs.Overlays.{IsWithin, owner_spans, piece_within, spans_from}
 
 pub no_file : FileRange

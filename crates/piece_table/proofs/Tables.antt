@@ -1,5 +1,6 @@
 -- What a table keeps of ranges: their pieces, and the number of the range of each.
-use Rattle.std.proofs.Common.{◌≡◌, ℕ, zero, suc, ◌+◌, ◌-◌, ◌<◌, ◌≤◌, ◌^◌, List, [], ◌∷◌, ◌++◌, length, drop, get_or, map, refl, sym, ap, subst, ◌∙◌, arith, inr, ⊎_elim, append_assoc}
+use Rattle.std.proofs.Common.{◌≡◌, ℕ, zero, suc, ◌+◌, ◌-◌, ◌<◌, ◌≤◌, ◌^◌, List, [], ◌∷◌, ◌++◌, length, drop, get_or}
+use Rattle.std.proofs.Common.{map, refl, sym, ap, subst, ◌∙◌, arith, inr, ⊎_elim, append_assoc}
 use Rattle.std.specs.Prelude.{All, Some, option_map, slice_get}
 use Rattle.std.proofs.lemmas.List.{append-nil, drop_all, drop_more, length-map}
 use Rattle.std.proofs.lemmas.List.Elements.{All-from_recursion, All-map}
@@ -10,7 +11,8 @@ use Rattle.piece_table.specs.declared.table.FileRange.{FileRange}
 use Rattle.piece_table.specs.Laid.{AreLaid, table_entry_of}
 use Rattle.piece_table.specs.Lookups.{IsHit}
 use Rattle.piece_table.specs.Overlays.{ArePieces, IsPieceOf, IsBoundedRange}
-use Rattle.piece_table.specs.Places.{IsBounded, IsFilePiece, IsKept, addresses_of, file_of_range, owned_by, range_of_file}
+use Rattle.piece_table.specs.Places.{IsBounded, IsFilePiece, IsKept, addresses_of, file_of_range, owned_by}
+use Rattle.piece_table.specs.Places.{range_of_file}
 use Rattle.piece_table.proofs.Boundaries.{ArePieces-laid}
 use Rattle.piece_table.proofs.Overlays.{IsPieceAt, piece_within}
 

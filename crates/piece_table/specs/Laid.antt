@@ -1,6 +1,7 @@
 -- Pieces of ranges, each with the number of the range whose it is, and how those of some ranges are laid over
 -- those of others.
-use Rattle.std.specs.Prelude.{◌⊎◌, ℕ, ◌+◌, ◌-◌, ◌<◌, ◌≤◌, ◌^◌, nat_le, min, max, if◌then◌else◌, List, [], ◌∷◌, ◌++◌, length, Option, Some, None, filter_map, take, ⊤}
+use Rattle.std.specs.Prelude.{◌⊎◌, ℕ, ◌+◌, ◌-◌, ◌<◌, ◌≤◌, ◌^◌, nat_le, min, max, if◌then◌else◌, List, [], ◌∷◌, ◌++◌}
+use Rattle.std.specs.Prelude.{length, Option, Some, None, filter_map, take, ⊤}
 use Rattle.std.specs.List.{AllByRecursion}
 use Rattle.elf64_core.specs.declared.span_table.TableEntry.{TableEntry}
 use Rattle.piece_table.specs.Overlays.{IsPieceOf, found_by, owner_of}

@@ -1,6 +1,7 @@
 -- Ranges of addresses in an order of preference: an address is that of the first range that holds it. The pieces
 -- of such ranges are the longest intervals of addresses that are one range's. This is the project's own rule.
-use Rattle.std.specs.Prelude.{◌≡◌, ◌≢◌, ◌⊎◌, ℕ, ◌+◌, ◌-◌, ◌<◌, ◌≤◌, ◌^◌, nat_le, nat_lt, ◌&&◌, true, All, Bool, List, length, Some, option_map, slice_get}
+use Rattle.std.specs.Prelude.{◌≡◌, ◌≢◌, ◌⊎◌, ℕ, ◌+◌, ◌-◌, ◌<◌, ◌≤◌, ◌^◌, nat_le, nat_lt, ◌&&◌, true, All, Bool, List}
+use Rattle.std.specs.Prelude.{length, Some, option_map, slice_get}
 use Rattle.std.specs.List.{AllPairs, list_any, position_or_len}
 use Rattle.elf64_core.specs.SpanTables.{StandsBefore}
 use Rattle.elf64_core.specs.declared.span_table.TableEntry.{TableEntry}

@@ -1,6 +1,7 @@
 -- Where what stands at an address is found: in which file, and where there, by the first of some ranges that holds
 -- the address. This is the project's own rule.
-use Rattle.std.specs.Prelude.{◌≡◌, ◌≢◌, ℕ, ◌+◌, ◌-◌, ◌<◌, ◌≤◌, ◌^◌, true, All, List, [], ◌∷◌, length, map, Option, Some, option_map, slice_get}
+use Rattle.std.specs.Prelude.{◌≡◌, ◌≢◌, ℕ, ◌+◌, ◌-◌, ◌<◌, ◌≤◌, ◌^◌, true, All, List, [], ◌∷◌, length, map, Option, Some}
+use Rattle.std.specs.Prelude.{option_map, slice_get}
 use Rattle.elf64_core.specs.declared.span_table.TableEntry.{TableEntry}
 use Rattle.piece_table.specs.Laid.{AreLaid}
 use Rattle.piece_table.specs.Overlays.{IsBoundedRange, IsPiece, IsPieceOf, found_by, owner_of, spans}

@@ -1,5 +1,6 @@
 -- How the clauses of readers are put together.
-use Rattle.std.proofs.Common.{◌≡◌, ℕ, ◌-◌, ◌+◌, ◌<◌, ◌≤◌, ◌^◌, ltb, false, List, [], ◌∷◌, ◌++◌, length, refl, sym, ◌∙◌, ap, arith, length-append}
+use Rattle.std.proofs.Common.{◌≡◌, ℕ, ◌-◌, ◌+◌, ◌<◌, ◌≤◌, ◌^◌, ltb, false, List, [], ◌∷◌, ◌++◌, length, refl, sym, ◌∙◌}
+use Rattle.std.proofs.Common.{ap, arith, length-append}
 use Rattle.std.specs.Prelude.{Option, Some, None, IsSome, Result, Ok, Err}
 use Rattle.std.proofs.lemmas.Bool.Decides.{nat_tests}
 use Rattle.std.proofs.lemmas.Option.{slice_get_within}
@@ -9,8 +10,10 @@ use Rattle.process_memory.specs.declared.memory.ReadFault.{ReadFault}
 use Rattle.process_memory.specs.declared.memory.ReadFault.TheVariants.{Unreadable, OutOfMemory}
 use Rattle.process_memory.specs.Memory.Fault.{Missing}
 use Rattle.process_memory.specs.Memory.{Memory, byte_at, record_at, Found, Fault, ◌>>=◌, word_at}
-use Rattle.process_memory.specs.Seen.{Seen, Extends, HoldsRead, ReadingBelow, OneRead, Answers, FaultIs, read_fault, ranges_after, with_range, IsPartWith, AddsShort, with_bytes}
-use Rattle.process_memory.proofs.Ranges.{slice_get-end, holds-before, holds-after, extends-trans, extends-self, holds-both, holds-self, short-both, short-self}
+use Rattle.process_memory.specs.Seen.{Seen, Extends, HoldsRead, ReadingBelow, OneRead, Answers, FaultIs, read_fault}
+use Rattle.process_memory.specs.Seen.{ranges_after, with_range, IsPartWith, AddsShort, with_bytes}
+use Rattle.process_memory.proofs.Ranges.{slice_get-end, holds-before, holds-after, extends-trans, extends-self}
+use Rattle.process_memory.proofs.Ranges.{holds-both, holds-self, short-both, short-self}
 use Rattle.process_memory.proofs.Records.{Within, record_kept, record_lost, record_all}
 
 -- one reader after another

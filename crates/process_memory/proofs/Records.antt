@@ -1,12 +1,14 @@
 -- Records of a memory, byte by byte, and of each memory that agrees with it.
-use Rattle.std.proofs.Common.{◌≡◌, ℕ, zero, suc, ◌+◌, ◌-◌, ◌<◌, ◌≤◌, ◌^◌, true, false, cond, ltb, List, [], ◌∷◌, ◌++◌, length, get_or, take, drop, refl, sym, ap, ◌∙◌, rules, arith, add-zero, add_assoc}
+use Rattle.std.proofs.Common.{◌≡◌, ℕ, zero, suc, ◌+◌, ◌-◌, ◌<◌, ◌≤◌, ◌^◌, true, false, cond, ltb, List, [], ◌∷◌, ◌++◌}
+use Rattle.std.proofs.Common.{length, get_or, take, drop, refl, sym, ap, ◌∙◌, rules, arith, add-zero, add_assoc}
 use Rattle.std.specs.Prelude.{Option, Some, None, IsSome, IfOk, Result, Ok, Err, vec_len}
 use Rattle.std.specs.Global.{Vec}
 use Rattle.std.proofs.lemmas.Bool.Decides.{nat_tests}
 use Rattle.std.proofs.Math.Seq.{take-append_seam}
 use Rattle.process_memory.specs.declared.memory.ReadFault.{ReadFault}
 use Rattle.process_memory.specs.Memory.Fault.{Missing}
-use Rattle.process_memory.specs.Memory.{Memory, Region, byte_at, bytes_at, in_front, found_or, outside, record_at, Fault}
+use Rattle.process_memory.specs.Memory.{Memory, Region, byte_at, bytes_at, in_front, found_or, outside, record_at}
+use Rattle.process_memory.specs.Memory.{Fault}
 use Rattle.process_memory.specs.Seen.{Answers, read_fault, items_of}
 
 -- each byte of `m` is that of `w`

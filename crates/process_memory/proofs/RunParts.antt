@@ -1,5 +1,6 @@
 -- The first bytes of a run.
-use Rattle.std.proofs.Common.{◌≡◌, ℕ, ◌+◌, ◌<◌, ◌≤◌, List, length, get_or, take, sym, ap, ◌∙◌, arith, get_or-take, length-take-le}
+use Rattle.std.proofs.Common.{◌≡◌, ℕ, ◌+◌, ◌<◌, ◌≤◌, List, length, get_or, take, sym, ap, ◌∙◌, arith, get_or-take}
+use Rattle.std.proofs.Common.{length-take-le}
 use Rattle.std.specs.Prelude.{None, Some}
 use Rattle.process_memory.specs.Memory.{Region, byte_at}
 

@@ -1,6 +1,7 @@
 -- Walks as a whole: what holds of each member's cost holds of the sums along a walk, and a whole chain within its
 -- limits, each of whose members can be read, is what the walk answers.
-use Rattle.std.proofs.Common.{◌≡◌, ◌≢◌, ℕ, zero, suc, ◌+◌, ◌*◌, ◌≤◌, List, [], ◌∷◌, length, map, refl, sym, ◌∙◌, ap, arith}
+use Rattle.std.proofs.Common.{◌≡◌, ◌≢◌, ℕ, zero, suc, ◌+◌, ◌*◌, ◌≤◌, List, [], ◌∷◌, length, map, refl, sym, ◌∙◌, ap}
+use Rattle.std.proofs.Common.{arith}
 use Rattle.std.proofs.Math.Nat.{mul-add}
 use Rattle.std.specs.Prelude.{Ok, Err, IsOkAnd, ⊤}
 use Rattle.process_memory.specs.Memory.{Found, Fault}

@@ -1,10 +1,12 @@
 -- Walks, member by member.
-use Rattle.std.proofs.Common.{◌≡◌, ◌≢◌, ℕ, zero, suc, ◌+◌, ◌-◌, ◌<◌, ◌≤◌, List, [], ◌∷◌, ◌++◌, length, map, refl, sym, ◌∙◌, ap, subst, arith, append-nil, append_assoc, zero-add}
+use Rattle.std.proofs.Common.{◌≡◌, ◌≢◌, ℕ, zero, suc, ◌+◌, ◌-◌, ◌<◌, ◌≤◌, List, [], ◌∷◌, ◌++◌, length, map, refl, sym}
+use Rattle.std.proofs.Common.{◌∙◌, ap, subst, arith, append-nil, append_assoc, zero-add}
 use Rattle.std.proofs.Math.Nat.{sub-zero}
 use Rattle.std.specs.Prelude.{Option, Some, None, Result, Ok, Err}
 use Rattle.process_memory.specs.Memory.{Memory, Found, Fault, ◌>>=◌, byte_at}
 use Rattle.process_memory.specs.Seen.{Seen, Reading, Reads, Answers, FaultIs}
-use Rattle.process_memory.specs.Walk.{IsChain, Step, walk_at, walk_cost, after_all, Walking, walk_faults, goes_on, or_else, first_fault, fault_in}
+use Rattle.process_memory.specs.Walk.{IsChain, Step, walk_at, walk_cost, after_all, Walking, walk_faults, goes_on}
+use Rattle.process_memory.specs.Walk.{or_else, first_fault, fault_in}
 use Rattle.process_memory.specs.Faults.{faults_then, FaultsAre, IsFirst}
 use Rattle.process_memory.proofs.Reading.{reading_then, reading_gives, reading_none, reading_here}
 

@@ -1,6 +1,7 @@
 -- The memory of a process: which byte stands at which address, and what a record or a word there is.
 -- The rules of missing bytes are this project's own.
-use Rattle.std.specs.Prelude.{ℕ, zero, suc, ◌+◌, ◌-◌, ◌^◌, nat_lt, nat_le, Option, Some, None, List, [], ◌∷◌, slice_get, if◌then◌else◌, Result, Ok, Err, ℤ}
+use Rattle.std.specs.Prelude.{ℕ, zero, suc, ◌+◌, ◌-◌, ◌^◌, nat_lt, nat_le, Option, Some, None, List, [], ◌∷◌, slice_get}
+use Rattle.std.specs.Prelude.{if◌then◌else◌, Result, Ok, Err, ℤ}
 use Rattle.std.specs.Int.{w64, from_le_bytes}
 
 -- the byte at each address, if there is one

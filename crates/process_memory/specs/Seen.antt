@@ -1,5 +1,6 @@
 -- What an object that reads a process's memory means, and what each reader of it owes.
-use Rattle.std.specs.Prelude.{◌≡◌, ℕ, ◌+◌, ◌<◌, ◌≤◌, ◌^◌, Bool, Option, Some, None, IsSome, List, [], ◌∷◌, ◌++◌, length, slice_get, Result, Ok, Err, ⊤}
+use Rattle.std.specs.Prelude.{◌≡◌, ℕ, ◌+◌, ◌<◌, ◌≤◌, ◌^◌, Bool, Option, Some, None, IsSome, List, [], ◌∷◌, ◌++◌, length}
+use Rattle.std.specs.Prelude.{slice_get, Result, Ok, Err, ⊤}
 use Rattle.std.specs.Borrow.{GName}
 use Rattle.std.specs.Global.{Vec}
 use Rattle.process_memory.specs.declared.memory.Span.{Span}

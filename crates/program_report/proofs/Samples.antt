@@ -1,5 +1,6 @@
 -- The program of a seed is always written for the example of a layout, and its report has its threads and frames.
-use Rattle.std.proofs.Common.{◌≡◌, ◌∙◌, ℕ, ◌+◌, ◌*◌, ◌<◌, ◌≤◌, ◌^◌, Bool, true, false, zero, suc, List, [], ◌∷◌, length, map, refl, ap, ap₂, sym, arith, inl, rules}
+use Rattle.std.proofs.Common.{◌≡◌, ◌∙◌, ℕ, ◌+◌, ◌*◌, ◌<◌, ◌≤◌, ◌^◌, Bool, true, false, zero, suc, List, [], ◌∷◌, length}
+use Rattle.std.proofs.Common.{map, refl, ap, ap₂, sym, arith, inl, rules}
 use Rattle.std.specs.Prelude.{Option, None, if◌then◌else◌}
 use Rattle.std.specs.List.{sum_by}
 use Rattle.std.proofs.lemmas.List.{length-map}
@@ -18,14 +19,16 @@ use Rattle.object_builder.specs.Room.{HasRoom}
 use Rattle.object_builder.specs.Sizes.{all_under, is_short_headed, rounded, text_len}
 use Rattle.object_builder.specs.Texts.{IsBriefText}
 use Rattle.memory_builder.specs.Program.{Frame, Program, Thread}
-use Rattle.memory_builder.specs.Sizes.{frame_size, held_size, item_size, local_size, name_size, program_size, records_size, shared_size, table_len, thread_size}
+use Rattle.memory_builder.specs.Sizes.{frame_size, held_size, item_size, local_size, name_size, program_size}
+use Rattle.memory_builder.specs.Sizes.{records_size, shared_size, table_len, thread_size}
 use Rattle.memory_builder.specs.Validity.{IsValidFrame}
 use Rattle.image_builder.specs.Built.{built_core}
 use Rattle.image_builder.specs.Covered.{IsCovered}
 use Rattle.image_builder.specs.Generated.{each, frame_count, frame_of, generated, thread_of}
 use Rattle.image_builder.specs.Refusals.{IsUnbuilt, room_for}
 use Rattle.image_builder.specs.RuntimeWords.{HasWordRoom}
-use Rattle.image_builder.specs.Shown.{is_owner, shown_frames, shown_thread, shown_threads, unplaced_call, unplaced_trace}
+use Rattle.image_builder.specs.Shown.{is_owner, shown_frames, shown_thread, shown_threads, unplaced_call}
+use Rattle.image_builder.specs.Shown.{unplaced_trace}
 use Rattle.image_builder.specs.declared.error.BuildError.{BuildError}
 use Rattle.image_builder.specs.declared.error.BuildError.TheVariants.{Uncovered, NotValid, NoRoom, OutOfMemory}
 use Rattle.image_builder.proofs.EachAt.{length_each}

@@ -1,5 +1,6 @@
 -- The steps of reading dicts.
-use Rattle.std.proofs.Common.{◌≡◌, ◌≢◌, ℕ, zero, suc, ◌+◌, ◌-◌, ◌*◌, ◌<◌, ◌≤◌, ◌^◌, leb, Bool, true, false, cond, refl, ap, arith}
+use Rattle.std.proofs.Common.{◌≡◌, ◌≢◌, ℕ, zero, suc, ◌+◌, ◌-◌, ◌*◌, ◌<◌, ◌≤◌, ◌^◌, leb, Bool, true, false, cond, refl}
+use Rattle.std.proofs.Common.{ap, arith}
 use Rattle.std.specs.Prelude.{Option, Some, None, IfSome, Ok, Err, nat_eq}
 use Rattle.std.specs.Int.{bit_at}
 use Rattle.std.specs.Int.Bits.{bit_and}
@@ -10,7 +11,8 @@ use Rattle.process_memory.specs.Memory.Fault.{BadDict}
 use Rattle.py_fields.specs.declared.layout.HeapAt.{HeapAt}
 use Rattle.py_fields.specs.declared.layout.Layout.{Layout}
 use Rattle.py_builtins.specs.declared.dicts.Slot.TheVariants.{Empty, Entry}
-use Rattle.py_builtins.specs.Dicts.{dict_slots, held_slots, shared_slots, values_of, value_by, slot_by, entry_width, key_at}
+use Rattle.py_builtins.specs.Dicts.{dict_slots, held_slots, shared_slots, values_of, value_by, slot_by, entry_width}
+use Rattle.py_builtins.specs.Dicts.{key_at}
 
 -- ---- slots
 

@@ -8,7 +8,8 @@ use Rattle.process_memory.specs.Memory.Fault.{Missing, TooLong as IsTooLong, NoT
 use Rattle.process_memory.specs.Seen.{Seen, Reads, Answers}
 use Rattle.process_memory.proofs.Reading.{reading_gives}
 use Rattle.py_builtins.specs.declared.error.ObjectError.{ObjectError}
-use Rattle.py_builtins.specs.declared.error.ObjectError.TheVariants.{TooLong, Unreadable, NoText, BadDict, BadType, Visits, Depth, BadCount, BadBool, OutOfMemory}
+use Rattle.py_builtins.specs.declared.error.ObjectError.TheVariants.{TooLong, Unreadable, NoText, BadDict, BadType}
+use Rattle.py_builtins.specs.declared.error.ObjectError.TheVariants.{Visits, Depth, BadCount, BadBool, OutOfMemory}
 use Rattle.py_builtins.specs.declared.strings.Characters.{Characters}
 use Rattle.py_builtins.specs.TextKind.{width, decoded}
 use Rattle.py_builtins.specs.Texts.{characters_at}

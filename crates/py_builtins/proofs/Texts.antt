@@ -1,5 +1,6 @@
 -- The steps of reading a text.
-use Rattle.std.proofs.Common.{◌≡◌, ℕ, zero, suc, ◌*◌, ◌<◌, ◌≤◌, leb, true, false, List, [], refl, sym, ap, ◌∙◌, arith, inl, inr}
+use Rattle.std.proofs.Common.{◌≡◌, ℕ, zero, suc, ◌*◌, ◌<◌, ◌≤◌, leb, true, false, List, [], refl, sym, ap, ◌∙◌, arith}
+use Rattle.std.proofs.Common.{inl, inr}
 use Rattle.std.specs.Prelude.{Option, Some, None, Result, Ok, Err, IfOk, MatchResult}
 use Rattle.std.specs.Str.{chars}
 use Rattle.std.proofs.lemmas.Str.{chars-nil}
@@ -13,10 +14,13 @@ use Rattle.process_memory.specs.Seen.{Answers}
 use Rattle.py_fields.specs.declared.layout.Layout.{Layout}
 use Rattle.py_builtins.specs.declared.strings.Characters.{Characters}
 use Rattle.py_builtins.specs.declared.error.ObjectError.{ObjectError}
-use Rattle.py_builtins.specs.declared.error.ObjectError.TheVariants.{Unreadable, NoText as HasNoText, TooLong as IsTooLong, BadDict, BadType, Visits, Depth, BadCount, BadBool, OutOfMemory}
+use Rattle.py_builtins.specs.declared.error.ObjectError.TheVariants.{Unreadable, NoText as HasNoText}
+use Rattle.py_builtins.specs.declared.error.ObjectError.TheVariants.{TooLong as IsTooLong, BadDict, BadType, Visits}
+use Rattle.py_builtins.specs.declared.error.ObjectError.TheVariants.{Depth, BadCount, BadBool, OutOfMemory}
 use Rattle.py_builtins.specs.ObjectError.{object_fault}
 use Rattle.py_builtins.specs.TextKind.{width, decoded}
-use Rattle.py_builtins.specs.Texts.{characters_of, characters_at, text_of_length, text_at, StandsAt, HasCharacters, IsText}
+use Rattle.py_builtins.specs.Texts.{characters_of, characters_at, text_of_length, text_at, StandsAt, HasCharacters}
+use Rattle.py_builtins.specs.Texts.{IsText}
 use Rattle.py_builtins.proofs.Codings.{decoded_is, coding_of_decoded}
 
 module _ (l : Layout) (m : Memory) (a : ℕ) (object : List ℕ) where

@@ -1,6 +1,7 @@
 -- Dicts: where their slots are, and what each slot is. The rules are CPython's of its dict objects; which of
 -- its forms a dict has is the layout's to say.
-use Rattle.std.specs.Prelude.{ℕ, zero, suc, ◌+◌, ◌*◌, ◌%◌, ◌^◌, ◌<◌, nat_lt, nat_le, ◌==◌, Bool, true, false, Option, Some, None, List, if◌then◌else◌, Result, Ok, Err}
+use Rattle.std.specs.Prelude.{ℕ, zero, suc, ◌+◌, ◌*◌, ◌%◌, ◌^◌, ◌<◌, nat_lt, nat_le, ◌==◌, Bool, true, false, Option}
+use Rattle.std.specs.Prelude.{Some, None, List, if◌then◌else◌, Result, Ok, Err}
 use Rattle.elf64_core.specs.Fields.{u64_in, u8_in}
 use Rattle.process_memory.specs.Memory.{Memory, Found, ◌>>=◌, record_at, word_at, address_before}
 use Rattle.process_memory.specs.Memory.Fault.{BadDict}

@@ -1,5 +1,6 @@
 -- The entries of a dict, one after another.
-use Rattle.std.specs.Prelude.{◌≡◌, ℕ, ◌-◌, ◌*◌, ◌<◌, ◌≤◌, max, IsTrue, Option, Some, None, Result, Ok, Err, IsErrOf, IfSome}
+use Rattle.std.specs.Prelude.{◌≡◌, ℕ, ◌-◌, ◌*◌, ◌<◌, ◌≤◌, max, IsTrue, Option, Some, None, Result, Ok, Err, IsErrOf}
+use Rattle.std.specs.Prelude.{IfSome}
 use Rattle.process_memory.specs.Memory.{Memory, Found}
 use Rattle.process_memory.specs.Seen.{Seen, Reading, Reads, Answers}
 use Rattle.py_builtins.specs.declared.error.ObjectError.{ObjectError}

@@ -1,5 +1,6 @@
 -- Integer objects. The rules are CPython's of its integers.
-use Rattle.std.specs.Prelude.{ℕ, zero, suc, ◌+◌, ◌*◌, ◌/◌, ◌%◌, ◌^◌, nat_lt, ◌==◌, Bool, if◌then◌else◌, List, ℤ, pos, neg_ℤ, unsigned_abs, int_lt, Ok}
+use Rattle.std.specs.Prelude.{ℕ, zero, suc, ◌+◌, ◌*◌, ◌/◌, ◌%◌, ◌^◌, nat_lt, ◌==◌, Bool, if◌then◌else◌, List, ℤ, pos}
+use Rattle.std.specs.Prelude.{neg_ℤ, unsigned_abs, int_lt, Ok}
 use Rattle.std.specs.Int.{w64, cast_signed}
 use Rattle.elf64_core.specs.Fields.{u64_in, u32_in}
 use Rattle.process_memory.specs.Memory.{Memory, Found, ◌>>=◌, record_at, word_at}

@@ -1,9 +1,12 @@
 -- The faults that errors name.
 use Rattle.std.specs.Prelude.{Option, Some, None}
 use Rattle.process_memory.specs.Memory.{Fault}
-use Rattle.process_memory.specs.Memory.Fault.{Missing, NoText as HasNoText, TooLong as IsTooLong, BadDict as IsBadDict, BadType as IsBadType, Visits as ManyVisits, Depth as ManyLevels, BadCount as IsBadCount, BadBool as IsBadBool}
+use Rattle.process_memory.specs.Memory.Fault.{Missing, NoText as HasNoText, TooLong as IsTooLong, BadDict as IsBadDict}
+use Rattle.process_memory.specs.Memory.Fault.{BadType as IsBadType, Visits as ManyVisits, Depth as ManyLevels}
+use Rattle.process_memory.specs.Memory.Fault.{BadCount as IsBadCount, BadBool as IsBadBool}
 use Rattle.py_builtins.specs.declared.error.ObjectError.{ObjectError}
-use Rattle.py_builtins.specs.declared.error.ObjectError.TheVariants.{Unreadable, NoText, TooLong, BadDict, BadType, Visits, Depth, BadCount, BadBool, OutOfMemory}
+use Rattle.py_builtins.specs.declared.error.ObjectError.TheVariants.{Unreadable, NoText, TooLong, BadDict, BadType}
+use Rattle.py_builtins.specs.declared.error.ObjectError.TheVariants.{Visits, Depth, BadCount, BadBool, OutOfMemory}
 
 -- the fault that an error names; want of memory names none
 abbrev pub object_fault : ObjectError → Option Fault

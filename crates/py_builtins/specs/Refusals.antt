@@ -4,7 +4,8 @@ use Rattle.process_memory.specs.Memory.{Memory, Found}
 use Rattle.process_memory.specs.Memory.Fault.{TooLong as IsTooLong}
 use Rattle.process_memory.specs.Seen.{Seen, Reading}
 use Rattle.py_builtins.specs.declared.error.ObjectError.{ObjectError}
-use Rattle.py_builtins.specs.declared.error.ObjectError.TheVariants.{TooLong, Unreadable, NoText, BadDict, BadType, Visits, Depth, BadCount, BadBool, OutOfMemory}
+use Rattle.py_builtins.specs.declared.error.ObjectError.TheVariants.{TooLong, Unreadable, NoText, BadDict, BadType}
+use Rattle.py_builtins.specs.declared.error.ObjectError.TheVariants.{Visits, Depth, BadCount, BadBool, OutOfMemory}
 
 -- where a length is refused, one read at most was made, of a record that says it
 abbrev pub RefusesEarly : {T U : Type 0} → Seen → Seen → (Memory → Found U) → Result T ObjectError → Type 0

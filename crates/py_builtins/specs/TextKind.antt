@@ -1,5 +1,6 @@
 -- How the characters of a text are coded, and which characters bytes code.
-use Rattle.std.specs.Prelude.{◌≡◌, ℕ, ◌/◌, Bool, true, Option, Some, None, List, length, map, if◌then◌else◌, ◌&&◌, encode_utf8_all}
+use Rattle.std.specs.Prelude.{◌≡◌, ℕ, ◌/◌, Bool, true, Option, Some, None, List, length, map, if◌then◌else◌, ◌&&◌}
+use Rattle.std.specs.Prelude.{encode_utf8_all}
 use Rattle.std.specs.List.{flat_map}
 use Rattle.std.specs.Int.{Width, w16, w32, to_le_bytes, from_le_bytes}
 use Rattle.std.specs.Simd.{first_chunks}

@@ -1,6 +1,7 @@
 -- Text objects: the characters that they are read as. The rule is CPython's of its str objects; that a
 -- length is below 4096 is this project's.
-use Rattle.std.specs.Prelude.{◌≡◌, ℕ, zero, suc, ◌+◌, ◌*◌, ◌/◌, ◌%◌, ◌^◌, ◌<◌, nat_le, Bool, Option, Some, None, List, [], if◌then◌else◌, ◌==◌, Ok, Err}
+use Rattle.std.specs.Prelude.{◌≡◌, ℕ, zero, suc, ◌+◌, ◌*◌, ◌/◌, ◌%◌, ◌^◌, ◌<◌, nat_le, Bool, Option, Some, None, List}
+use Rattle.std.specs.Prelude.{[], if◌then◌else◌, ◌==◌, Ok, Err}
 use Rattle.std.specs.Int.{w64, cast_signed, bit_at}
 use Rattle.elf64_core.specs.Fields.{u64_in, u32_in}
 use Rattle.process_memory.specs.Memory.{Memory, Found, found_or, ◌>>=◌, record_at}

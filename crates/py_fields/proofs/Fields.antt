@@ -2,7 +2,8 @@
 -- numbers are. `let fits = thread_fits sound in omega arith` has all the facts on threads.
 use Rattle.std.proofs.Common.{◌≡◌, ℕ, ◌+◌, ◌<◌, ◌≤◌, ◌^◌, Option, Some, None, arith}
 use Rattle.std.specs.Prelude.{IfSome, IsSome}
-use Rattle.py_fields.specs.Places.{optional_place, instr_width, thread_places, frame_places, code_places, string_head, string_places, state_bits}
+use Rattle.py_fields.specs.Places.{optional_place, instr_width, thread_places, frame_places, code_places, string_head}
+use Rattle.py_fields.specs.Places.{string_places, state_bits}
 use Rattle.py_fields.specs.declared.layout.Strings.TheVariants.{State}
 use Rattle.py_fields.specs.Sound.{IsPlain, IsStart, IsSound}
 use Rattle.py_fields.specs.declared.layout.Lasti.{Lasti}

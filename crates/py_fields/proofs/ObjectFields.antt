@@ -1,7 +1,8 @@
 -- What a sound layout says of the fields of objects, dicts, the lock and a runtime record.
 use Rattle.std.proofs.Common.{◌≡◌, ℕ, ◌+◌, ◌<◌, ◌≤◌, ◌^◌, Some}
 use Rattle.py_fields.proofs.Fields.{optional_end, some_is}
-use Rattle.py_fields.specs.Places.{bytes_places, tuple_places, list_places, object_places, klass_places, long_places, value_places, dict_places, keys_places, heap_places, gil_places, offsets_places}
+use Rattle.py_fields.specs.Places.{bytes_places, tuple_places, list_places, object_places, klass_places, long_places}
+use Rattle.py_fields.specs.Places.{value_places, dict_places, keys_places, heap_places, gil_places, offsets_places}
 use Rattle.py_fields.specs.Sound.{IsRecord, IsSound, IsSoundKeys, IsSoundHeap}
 use Rattle.py_fields.specs.declared.layout.BytesAt.{BytesAt}
 use Rattle.py_fields.specs.declared.layout.TupleAt.{TupleAt}

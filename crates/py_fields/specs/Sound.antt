@@ -1,6 +1,9 @@
 -- Sound layouts, and the versions that they cover.
 use Rattle.std.specs.Prelude.{◌≡◌, ◌≢◌, ℕ, ◌+◌, ◌<◌, ◌≤◌, ◌^◌, ◌↔◌, List, IsSome, IfSome}
-use Rattle.py_fields.specs.Places.{Place, IsGroup, AreApart, EndBy, interpreter_places, thread_places, frame_places, code_places, string_head, string_places, state_bits, bytes_places, tuple_places, list_places, object_places, klass_places, long_places, value_places, dict_places, keys_places, heap_places, gil_places, offsets_places}
+use Rattle.py_fields.specs.Places.{Place, IsGroup, AreApart, EndBy, interpreter_places, thread_places, frame_places}
+use Rattle.py_fields.specs.Places.{code_places, string_head, string_places, state_bits, bytes_places, tuple_places}
+use Rattle.py_fields.specs.Places.{list_places, object_places, klass_places, long_places, value_places, dict_places}
+use Rattle.py_fields.specs.Places.{keys_places, heap_places, gil_places, offsets_places}
 use Rattle.py_fields.specs.declared.layout.Head.TheVariants.{Offsets}
 use Rattle.py_fields.specs.declared.layout.Lock.{Lock}
 use Rattle.py_fields.specs.declared.layout.Lock.TheVariants.{Gil}

@@ -1,5 +1,6 @@
 -- No interpreter is left out, where there are no more than are shown.
-use Rattle.std.proofs.Common.{◌≡◌, ◌≢◌, ℕ, zero, suc, ◌+◌, ◌<◌, ◌≤◌, Bool, true, false, ltb, ◌||◌, List, [], ◌∷◌, ◌++◌, length, refl, sym, subst, ◌∙◌, ap, arith, append-nil, append_assoc, get_or}
+use Rattle.std.proofs.Common.{◌≡◌, ◌≢◌, ℕ, zero, suc, ◌+◌, ◌<◌, ◌≤◌, Bool, true, false, ltb, ◌||◌, List, [], ◌∷◌, ◌++◌}
+use Rattle.std.proofs.Common.{length, refl, sym, subst, ◌∙◌, ap, arith, append-nil, append_assoc, get_or}
 use Rattle.std.specs.Prelude.{All, Ok, Err, Option, Some, None, Result, IfOk, slice_get, nat_eq}
 use Rattle.std.proofs.lemmas.Bool.Decides.{nat_tests}
 use Rattle.std.proofs.lemmas.List.Elements.{All-cons, All-from_get_or, All-nil, All-weaker}
@@ -16,7 +17,10 @@ use Rattle.py_fronts.specs.declared.interpreters.FoundInterpreters.{FoundInterpr
 use Rattle.py_fronts.specs.Answers.{IsOrNoMemory}
 use Rattle.py_fronts.specs.Candidates.{named_candidates, record_candidates, searched_candidates}
 use Rattle.py_fronts.specs.Front.Ending.{Whole}
-use Rattle.py_fronts.specs.Interpreters.{Finds, address_at, after_candidate, after_candidates, after_record_of, after_records, finds_of, finds_result, headed_at, headed_by, interpreter_limit, interpreters_at, is_found, none_found, shown_head, shown_where, whole_head, with_head, with_one}
+use Rattle.py_fronts.specs.Interpreters.{Finds, address_at, after_candidate, after_candidates, after_record_of}
+use Rattle.py_fronts.specs.Interpreters.{after_records, finds_of, finds_result, headed_at, headed_by, interpreter_limit}
+use Rattle.py_fronts.specs.Interpreters.{interpreters_at, is_found, none_found, shown_head, shown_where, whole_head}
+use Rattle.py_fronts.specs.Interpreters.{with_head, with_one}
 use Rattle.py_fronts.specs.ShownInterpreters.{AreAll, IsHeaded, IsTaken, IsTakenWhole}
 use Rattle.py_fronts.specs.ThreadFronts.{threads_front}
 use Rattle.py_fronts.proofs.FindLaws.{interpreters_shown}

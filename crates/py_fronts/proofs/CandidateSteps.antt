@@ -1,5 +1,6 @@
 -- Candidates, one after another.
-use Rattle.std.proofs.Common.{◌≡◌, ℕ, ◌*◌, ◌/◌, ◌<◌, ◌≤◌, min, List, [], ◌∷◌, ◌++◌, length, refl, sym, ◌∙◌, ap, arith, append-nil, append_assoc}
+use Rattle.std.proofs.Common.{◌≡◌, ℕ, ◌*◌, ◌/◌, ◌<◌, ◌≤◌, min, List, [], ◌∷◌, ◌++◌, length, refl, sym, ◌∙◌, ap, arith}
+use Rattle.std.proofs.Common.{append-nil, append_assoc}
 use Rattle.std.specs.Prelude.{Ok, Err, Option, Some, None, Result, if◌then◌else◌, nat_eq, option_map, option_to_list}
 use Rattle.elf64_core.specs.Fields.{u64_in}
 use Rattle.process_memory.specs.Memory.{Found, Memory, record_at}

@@ -1,5 +1,6 @@
 -- Both ends of a chain as they are shown, and chains of threads.
-use Rattle.std.proofs.Common.{◌≡◌, ℕ, ◌+◌, ◌*◌, ◌-◌, ◌≤◌, Bool, true, false, leb, List, [], length, map, take, drop, refl, ◌∙◌, ap, arith}
+use Rattle.std.proofs.Common.{◌≡◌, ℕ, ◌+◌, ◌*◌, ◌-◌, ◌≤◌, Bool, true, false, leb, List, [], length, map, take, drop}
+use Rattle.std.proofs.Common.{refl, ◌∙◌, ap, arith}
 use Rattle.std.proofs.Math.Nat.{mul-add, mul-le-mul_left}
 use Rattle.std.proofs.lemmas.Bool.{leb-false, leb-true}
 use Rattle.std.proofs.lemmas.List.{length-drop, length-take-le}
@@ -14,7 +15,8 @@ use Rattle.py_stacks.specs.declared.error.StackError.{StackError}
 use Rattle.py_stacks.specs.declared.error.StackError.TheVariants as stack
 use Rattle.py_fronts.specs.declared.members.Chain.{Chain}
 use Rattle.py_fronts.specs.Answers.{IsOrNoMemory}
-use Rattle.py_fronts.specs.FrameFronts.{FramesShown, HasNoChain, chain_from, chain_of_thread, ends_reads, frames_shown, number_between, shown_first, shown_last}
+use Rattle.py_fronts.specs.FrameFronts.{FramesShown, HasNoChain, chain_from, chain_of_thread, ends_reads, frames_shown}
+use Rattle.py_fronts.specs.FrameFronts.{number_between, shown_first, shown_last}
 use Rattle.py_fronts.specs.Members.{Chained, chained_of_result, kept_of, members_front}
 use Rattle.py_fronts.specs.Standings.{standing_at, standing_reads}
 use Rattle.py_fronts.proofs.FirstFrameLaws.{frames_equal}

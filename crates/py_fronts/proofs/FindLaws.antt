@@ -1,5 +1,6 @@
 -- The interpreters that are found are shown, each once.
-use Rattle.std.proofs.Common.{◌≡◌, ℕ, zero, suc, ◌+◌, ◌<◌, Bool, true, false, ltb, ◌||◌, List, [], ◌∷◌, ◌++◌, length, refl, sym, ◌∙◌, ap, arith, length-append}
+use Rattle.std.proofs.Common.{◌≡◌, ℕ, zero, suc, ◌+◌, ◌<◌, Bool, true, false, ltb, ◌||◌, List, [], ◌∷◌, ◌++◌, length}
+use Rattle.std.proofs.Common.{refl, sym, ◌∙◌, ap, arith, length-append}
 use Rattle.std.specs.Prelude.{Ok, Err, Option, Some, None, Result, IfOk, nat_eq, if◌then◌else◌}
 use Rattle.std.proofs.lemmas.Bool.Decides.{nat_tests}
 use Rattle.std.proofs.lemmas.List.Elements.{All-append, All-cons, All-nil}
@@ -16,7 +17,10 @@ use Rattle.py_fronts.specs.Answers.{IsOrNoMemory}
 use Rattle.py_fronts.specs.Candidates.{named_candidates, record_candidates, searched_candidates}
 use Rattle.py_fronts.specs.Front.{Ending}
 use Rattle.py_fronts.specs.Front.Ending.{Whole, Cut, Broken}
-use Rattle.py_fronts.specs.Interpreters.{Finds, address_at, after_candidate, after_candidates, after_record_of, after_records, finds_of, finds_result, headed_at, headed_by, interpreter_limit, interpreters_at, is_found, names_it, none_found, shown_head, shown_where, whole_head, with_head}
+use Rattle.py_fronts.specs.Interpreters.{Finds, address_at, after_candidate, after_candidates, after_record_of}
+use Rattle.py_fronts.specs.Interpreters.{after_records, finds_of, finds_result, headed_at, headed_by, interpreter_limit}
+use Rattle.py_fronts.specs.Interpreters.{interpreters_at, is_found, names_it, none_found, shown_head, shown_where}
+use Rattle.py_fronts.specs.Interpreters.{whole_head, with_head}
 use Rattle.py_fronts.specs.ShownInterpreters.{AreShown, EachOnce, IsHeaded, IsShown}
 use Rattle.py_fronts.specs.ThreadFronts.{threads_front}
 

@@ -1,5 +1,6 @@
 -- Interpreters that are found, one after another.
-use Rattle.std.proofs.Common.{◌≡◌, ℕ, suc, ◌+◌, ◌*◌, ◌-◌, ◌<◌, ◌≤◌, ◌^◌, Bool, true, false, List, [], ◌∷◌, ◌++◌, length, refl, sym, ◌∙◌, ap, arith, length-append}
+use Rattle.std.proofs.Common.{◌≡◌, ℕ, suc, ◌+◌, ◌*◌, ◌-◌, ◌<◌, ◌≤◌, ◌^◌, Bool, true, false, List, [], ◌∷◌, ◌++◌, length}
+use Rattle.std.proofs.Common.{refl, sym, ◌∙◌, ap, arith, length-append}
 use Rattle.std.proofs.Math.Nat.{mul-le-mul_left}
 use Rattle.std.specs.Prelude.{Option, Some, None, Result}
 use Rattle.process_memory.specs.Memory.{Memory}
@@ -15,7 +16,10 @@ use Rattle.py_process.specs.Facts.{Known}
 use Rattle.py_fronts.specs.Candidates.{named_candidates, record_candidates, searched_candidates}
 use Rattle.py_fronts.specs.ChainEnds.{ending_of}
 use Rattle.py_fronts.specs.Front.{Ending}
-use Rattle.py_fronts.specs.Interpreters.{Finds, Takes, Taking, Turning, address_at, after_candidate, after_candidates, after_record_of, after_records, candidate_reads, finds_of, headed_at, interpreter_limit, interpreters_at, is_found, none_found, record_reads, shown_head, whole_head, with_one}
+use Rattle.py_fronts.specs.Interpreters.{Finds, Takes, Taking, Turning, address_at, after_candidate, after_candidates}
+use Rattle.py_fronts.specs.Interpreters.{after_record_of, after_records, candidate_reads, finds_of, headed_at}
+use Rattle.py_fronts.specs.Interpreters.{interpreter_limit, interpreters_at, is_found, none_found, record_reads}
+use Rattle.py_fronts.specs.Interpreters.{shown_head, whole_head, with_one}
 use Rattle.py_fronts.specs.ThreadFronts.{threads_front}
 
 -- ---- one candidate

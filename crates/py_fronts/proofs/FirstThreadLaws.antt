@@ -8,7 +8,8 @@ use Rattle.py_stacks.specs.Threads.{first_frame_at, thread_limit}
 use Rattle.py_fronts.specs.FirstThreads.{AreFirstThreads, AreThreadFronts, IsThreadFront}
 use Rattle.py_fronts.specs.FrameFronts.{chain_of_thread, thread_members_limit}
 use Rattle.py_fronts.specs.Front.{Front, Leads}
-use Rattle.py_fronts.specs.ThreadFronts.{ThreadShown, ThreadsShown, after_record, front_shown, thread_by, thread_of, thread_shown, threads_front, threads_shown}
+use Rattle.py_fronts.specs.ThreadFronts.{ThreadShown, ThreadsShown, after_record, front_shown, thread_by, thread_of}
+use Rattle.py_fronts.specs.ThreadFronts.{thread_shown, threads_front, threads_shown}
 use Rattle.py_fronts.proofs.FirstFrameLaws.{first_frames_found, first_frames_only}
 use Rattle.py_fronts.proofs.FrontLaws.{front_found, front_unique, some_next}
 

@@ -1,5 +1,6 @@
 -- Fronts of chains, member by member; that there is one alone; and that a whole one is the chain to null.
-use Rattle.std.proofs.Common.{◌≡◌, ◌≢◌, ℕ, zero, suc, ◌≤◌, List, [], ◌∷◌, ◌++◌, length, refl, sym, ◌∙◌, ap, arith, append-nil, append_assoc}
+use Rattle.std.proofs.Common.{◌≡◌, ◌≢◌, ℕ, zero, suc, ◌≤◌, List, [], ◌∷◌, ◌++◌, length, refl, sym, ◌∙◌, ap, arith}
+use Rattle.std.proofs.Common.{append-nil, append_assoc}
 use Rattle.std.specs.Prelude.{Ok, Err, IsOkAnd, Result}
 use Rattle.process_memory.specs.Memory.{Found}
 use Rattle.process_memory.specs.Walk.{IsChain}

@@ -1,5 +1,6 @@
 -- Interpreters with their threads, one after another.
-use Rattle.std.proofs.Common.{◌≡◌, ℕ, ◌+◌, ◌*◌, ◌-◌, ◌≤◌, Bool, List, [], ◌∷◌, ◌++◌, length, map, refl, sym, ◌∙◌, ap, arith, length-append}
+use Rattle.std.proofs.Common.{◌≡◌, ℕ, ◌+◌, ◌*◌, ◌-◌, ◌≤◌, Bool, List, [], ◌∷◌, ◌++◌, length, map, refl, sym, ◌∙◌, ap}
+use Rattle.std.proofs.Common.{arith, length-append}
 use Rattle.std.proofs.Math.Nat.{mul-le-mul_left}
 use Rattle.std.proofs.lemmas.List.{map-append}
 use Rattle.process_memory.specs.Memory.{Memory}
@@ -15,7 +16,9 @@ use Rattle.py_fronts.specs.declared.fronts.InterpreterFront.{InterpreterFront}
 use Rattle.py_fronts.specs.declared.interpreters.FoundInterpreter.{FoundInterpreter}
 use Rattle.py_fronts.specs.declared.thread_front.ThreadsFront.{ThreadsFront}
 use Rattle.py_fronts.specs.FrameFronts.{ends_reads}
-use Rattle.py_fronts.specs.Fronts.{FrontsShown, InterpreterShown, Passing, found_left, fronts_at, interpreter_front, interpreter_most, interpreter_of_front, interpreters_fronts, interpreters_most, threads_from}
+use Rattle.py_fronts.specs.Fronts.{FrontsShown, InterpreterShown, Passing, found_left, fronts_at, interpreter_front}
+use Rattle.py_fronts.specs.Fronts.{interpreter_most, interpreter_of_front, interpreters_fronts, interpreters_most}
+use Rattle.py_fronts.specs.Fronts.{threads_from}
 use Rattle.py_fronts.specs.Interpreters.{Finds, interpreters_at}
 use Rattle.py_fronts.specs.ThreadFronts.{ThreadsShown, left_after, threads_of}
 

@@ -1,5 +1,6 @@
 -- The frames of a whole chain of members are those of a report.
-use Rattle.std.proofs.Common.{◌≡◌, ◌≢◌, ℕ, zero, suc, ◌≤◌, Bool, true, false, cond, List, [], ◌∷◌, ◌++◌, length, map, refl, sym, ◌∙◌, ap, arith}
+use Rattle.std.proofs.Common.{◌≡◌, ◌≢◌, ℕ, zero, suc, ◌≤◌, Bool, true, false, cond, List, [], ◌∷◌, ◌++◌, length, map}
+use Rattle.std.proofs.Common.{refl, sym, ◌∙◌, ap, arith}
 use Rattle.std.proofs.lemmas.Bool.Decides.{nat_tests}
 use Rattle.std.specs.Prelude.{Option, Some, None, Ok, Err, nat_eq, not, ◌||◌, is_none}
 use Rattle.std.specs.List.{filter}
@@ -12,7 +13,8 @@ use Rattle.py_builtins.specs.Texts.{text_at}
 use Rattle.py_stacks.specs.declared.asked.Asked.{Asked}
 use Rattle.py_stacks.specs.Asking.{nothing}
 use Rattle.py_stacks.specs.Detail.{detail_at}
-use Rattle.py_stacks.specs.Frames.{Call, back_by, back_of, begins_hidden, detailed, is_entered, is_hidden, plain_by, records_at, shown_at, shown_by, visible, with_detail, with_mark}
+use Rattle.py_stacks.specs.Frames.{Call, back_by, back_of, begins_hidden, detailed, is_entered, is_hidden, plain_by}
+use Rattle.py_stacks.specs.Frames.{records_at, shown_at, shown_by, visible, with_detail, with_mark}
 use Rattle.py_stacks.specs.Member.{MemberAt, readable}
 use Rattle.py_process.specs.Reports.{bare_call}
 use Rattle.py_fronts.specs.BesideReports.{NoTextAtNull, frames_among}

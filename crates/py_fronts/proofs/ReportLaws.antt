@@ -1,9 +1,11 @@
 -- A front shows the threads and frames of a report, where there is one.
-use Rattle.std.proofs.Common.{◌≡◌, ℕ, zero, suc, ◌-◌, ◌<◌, inl, inr, ◌⊎◌, min, Bool, true, false, leb, List, [], ◌∷◌, ◌++◌, length, map, refl, sym, ◌∙◌, ap, arith}
+use Rattle.std.proofs.Common.{◌≡◌, ℕ, zero, suc, ◌-◌, ◌<◌, inl, inr, ◌⊎◌, min, Bool, true, false, leb, List, [], ◌∷◌}
+use Rattle.std.proofs.Common.{◌++◌, length, map, refl, sym, ◌∙◌, ap, arith}
 use Rattle.std.proofs.lemmas.Bool.{leb-false, leb-true}
 use Rattle.std.proofs.lemmas.Bool.Decides.{nat_tests}
 use Rattle.std.proofs.lemmas.List.{length-map, map-append}
-use Rattle.std.proofs.lemmas.List.Elements.{All-cons, All-contains, All-head, All-nil, All-tail, Contains-append_cases, Contains-append_left, Contains-append_right}
+use Rattle.std.proofs.lemmas.List.Elements.{All-cons, All-contains, All-head, All-nil, All-tail, Contains-append_cases}
+use Rattle.std.proofs.lemmas.List.Elements.{Contains-append_left, Contains-append_right}
 use Rattle.std.specs.Prelude.{All, Contains, ◌||◌, IfOk, Option, Some, None, Ok, Err, Result, nat_eq}
 use Rattle.std.specs.List.{filter, flat_map}
 use Rattle.elf64_core.specs.Fields.{u64_in}
@@ -18,7 +20,8 @@ use Rattle.py_stacks.specs.Frames.{AreFrames, Call, back_of, member_limit}
 use Rattle.py_stacks.specs.Interpreter.{interpreter_named_by, named_at, threads_head}
 use Rattle.py_stacks.specs.Threads.{AreTraces, AreTracesOf, IsTraceOf, Trace, thread_after, thread_limit}
 use Rattle.py_stacks.specs.declared.error.StackError.{StackError}
-use Rattle.py_process.specs.Candidates.{IsInterpreterIn, candidates_of, head_by, runtime_words, section_words, words_of_image, words_of_images}
+use Rattle.py_process.specs.Candidates.{IsInterpreterIn, candidates_of, head_by, runtime_words, section_words}
+use Rattle.py_process.specs.Candidates.{words_of_image, words_of_images}
 use Rattle.py_process.specs.Facts.{Facts, Known}
 use Rattle.py_process.specs.Reports.{bare_call}
 use Rattle.py_fronts.specs.declared.fronts.Fronts.{Fronts}
@@ -26,19 +29,23 @@ use Rattle.py_fronts.specs.declared.interpreters.FoundInterpreter.{FoundInterpre
 use Rattle.py_fronts.specs.declared.interpreters.FoundInterpreters.{FoundInterpreters}
 use Rattle.py_fronts.specs.declared.thread_front.ThreadsFront.{ThreadsFront}
 use Rattle.py_fronts.specs.Answers.{IsOrNoMemory}
-use Rattle.py_fronts.specs.BesideReports.{AgreeWithReport, AgreesWithReport, FindsReported, IsReported, NameIt, NoTextAtNull, ShowTraces, ShowsCalls, ShowsTrace, frames_among, is_shown}
+use Rattle.py_fronts.specs.BesideReports.{AgreeWithReport, AgreesWithReport, FindsReported, IsReported, NameIt}
+use Rattle.py_fronts.specs.BesideReports.{NoTextAtNull, ShowTraces, ShowsCalls, ShowsTrace, frames_among, is_shown}
 use Rattle.py_fronts.specs.Candidates.{bss_of_image, head_given, head_in_sections, named_candidates, or_else}
 use Rattle.py_fronts.specs.Candidates.{record_candidates, runtime_of_image, searched_candidates}
 use Rattle.py_fronts.specs.FirstFrames.{ShowsEnds}
-use Rattle.py_fronts.specs.FrameFronts.{FramesShown, all_members_limit, chain_from, chain_of_thread, frames_shown, thread_members_limit}
+use Rattle.py_fronts.specs.FrameFronts.{FramesShown, all_members_limit, chain_from, chain_of_thread, frames_shown}
+use Rattle.py_fronts.specs.FrameFronts.{thread_members_limit}
 use Rattle.py_fronts.specs.Front.{Break, Front, Leads, front_at, or_lost}
 use Rattle.py_fronts.specs.Front.Ending.{Whole, Cut}
-use Rattle.py_fronts.specs.Fronts.{InterpreterShown, fronts_at, fronts_result, interpreter_front, interpreters_fronts, threads_from}
+use Rattle.py_fronts.specs.Fronts.{InterpreterShown, fronts_at, fronts_result, interpreter_front, interpreters_fronts}
+use Rattle.py_fronts.specs.Fronts.{threads_from}
 use Rattle.py_fronts.specs.Interpreters.{Finds, finds_of, finds_result, interpreters_at, is_found}
 use Rattle.py_fronts.specs.Members.{caller_of, is_kept, members_front}
 use Rattle.py_fronts.specs.ShownInterpreters.{AreAll, IsHeaded, IsShown, IsTaken, IsTakenWhole}
 use Rattle.py_fronts.specs.Standings.{Stood, standing_at}
-use Rattle.py_fronts.specs.ThreadFronts.{after_record, front_shown, left_after, thread_of, thread_shown, threads_front, threads_of, threads_result, threads_shown}
+use Rattle.py_fronts.specs.ThreadFronts.{after_record, front_shown, left_after, thread_of, thread_shown, threads_front}
+use Rattle.py_fronts.specs.ThreadFronts.{threads_of, threads_result, threads_shown}
 use Rattle.py_fronts.proofs.AllFound.{interpreters_all}
 use Rattle.py_fronts.proofs.FindLaws.{interpreters_shown}
 use Rattle.py_fronts.proofs.FirstFrameLaws.{ends_found}

@@ -1,5 +1,6 @@
 -- What stands for members, step by step.
-use Rattle.std.proofs.Common.{◌≡◌, ◌≢◌, ℕ, zero, suc, ◌+◌, ◌*◌, ◌<◌, ◌≤◌, Bool, true, false, List, [], ◌∷◌, ◌++◌, length, map, refl, sym, ◌∙◌, ap, arith, length-append}
+use Rattle.std.proofs.Common.{◌≡◌, ◌≢◌, ℕ, zero, suc, ◌+◌, ◌*◌, ◌<◌, ◌≤◌, Bool, true, false, List, [], ◌∷◌, ◌++◌}
+use Rattle.std.proofs.Common.{length, map, refl, sym, ◌∙◌, ap, arith, length-append}
 use Rattle.std.proofs.Math.Nat.{mul-le-mul_left}
 use Rattle.std.proofs.lemmas.List.{map-append}
 use Rattle.std.specs.Prelude.{MatchOption, Option, Some, None, Ok, Err, Result, is_none, ℤ, Vec}
@@ -27,7 +28,10 @@ use Rattle.py_fronts.specs.declared.standing.Locals.{Locals}
 use Rattle.py_fronts.specs.declared.standing.Standing.{Standing}
 use Rattle.py_fronts.specs.declared.standing.Standing.TheVariants as standing
 use Rattle.py_fronts.specs.Answers.{IsOrNoMemory}
-use Rattle.py_fronts.specs.Standings.{IsUnread, LocalsAre, Showing, Stood, call_by, framed, has_no_caller, is_before_start, line_or_first, locals_or_fault, lost_locals, shows_none, standing_at, standing_by, standing_named, standing_reads, stood, stood_result, texts_at}
+use Rattle.py_fronts.specs.Standings.{IsUnread, LocalsAre, Showing, Stood, call_by, framed, has_no_caller}
+use Rattle.py_fronts.specs.Standings.{is_before_start, line_or_first, locals_or_fault, lost_locals, shows_none}
+use Rattle.py_fronts.specs.Standings.{standing_at, standing_by, standing_named, standing_reads, stood, stood_result}
+use Rattle.py_fronts.specs.Standings.{texts_at}
 use Rattle.py_fronts.specs.Standings.Stood.{IsFrame}
 
 -- ---- lines

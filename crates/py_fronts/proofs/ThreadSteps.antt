@@ -1,5 +1,6 @@
 -- Walks along an interpreter's threads, one by one.
-use Rattle.std.proofs.Common.{◌≡◌, ◌≢◌, ℕ, suc, ◌+◌, ◌*◌, ◌-◌, ◌<◌, ◌≤◌, min, List, [], ◌∷◌, ◌++◌, length, map, refl, sym, ◌∙◌, ap, arith, length-append}
+use Rattle.std.proofs.Common.{◌≡◌, ◌≢◌, ℕ, suc, ◌+◌, ◌*◌, ◌-◌, ◌<◌, ◌≤◌, min, List, [], ◌∷◌, ◌++◌, length, map, refl}
+use Rattle.std.proofs.Common.{sym, ◌∙◌, ap, arith, length-append}
 use Rattle.std.proofs.Math.Nat.{mul-le-mul_left}
 use Rattle.std.proofs.lemmas.List.{map-append}
 use Rattle.std.specs.Prelude.{Ok, Err, Result}
@@ -17,12 +18,15 @@ use Rattle.py_fronts.specs.declared.thread_front.ThreadFront.{ThreadFront}
 use Rattle.py_fronts.specs.declared.thread_front.Thread.TheVariants.{Broken}
 use Rattle.py_fronts.specs.ChainEnds.{ending_of}
 use Rattle.py_fronts.specs.declared.frame_front.FramesFront.{FramesFront}
-use Rattle.py_fronts.specs.FrameFronts.{FramesShown, chain_of_thread, ends_reads, frames_front, frames_shown, thread_members_limit}
+use Rattle.py_fronts.specs.FrameFronts.{FramesShown, chain_of_thread, ends_reads, frames_front, frames_shown}
+use Rattle.py_fronts.specs.FrameFronts.{thread_members_limit}
 use Rattle.py_fronts.specs.Members.{Chained}
 use Rattle.py_fronts.proofs.FirstThreadLaws.{thread_equal}
 use Rattle.py_fronts.specs.Front.{Break, Ending, behind, front_at}
 use Rattle.py_fronts.specs.Front.Ending.{Whole, Cut}
-use Rattle.py_fronts.specs.ThreadFronts.{ThreadIs, ThreadShown, ThreadsShown, Threading, after_record, front_shown, left_after, thread_by, thread_front, thread_of, thread_shown, threads_front, threads_shown}
+use Rattle.py_fronts.specs.ThreadFronts.{ThreadIs, ThreadShown, ThreadsShown, Threading, after_record, front_shown}
+use Rattle.py_fronts.specs.ThreadFronts.{left_after, thread_by, thread_front, thread_of, thread_shown, threads_front}
+use Rattle.py_fronts.specs.ThreadFronts.{threads_shown}
 use Rattle.py_fronts.proofs.FrontLaws.{behind_ends, behind_more, front_end, front_full, front_stop}
 
 pub frames_met : (q : Asked) (l : Layout) (m : Memory) (limit : ℕ) (f : FramesFront) (c : Chained) → frames_front f ≡ frames_shown q l m limit c → f.met ≡ c.met

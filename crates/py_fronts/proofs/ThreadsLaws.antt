@@ -10,7 +10,8 @@ use Rattle.py_fronts.specs.declared.thread_front.ThreadsFront.{ThreadsFront}
 use Rattle.py_fronts.specs.Answers.{IsOrNoMemory}
 use Rattle.py_fronts.specs.FirstThreads.{AreFirstThreads}
 use Rattle.py_fronts.specs.FrameFronts.{ends_reads}
-use Rattle.py_fronts.specs.ThreadFronts.{ThreadsShown, front_shown, threads_front, threads_of, threads_reads, threads_result}
+use Rattle.py_fronts.specs.ThreadFronts.{ThreadsShown, front_shown, threads_front, threads_of, threads_reads}
+use Rattle.py_fronts.specs.ThreadFronts.{threads_result}
 use Rattle.py_fronts.proofs.FirstThreadLaws.{first_threads_found, first_threads_only}
 
 pub threads_right : (q : Asked) (l : Layout) (m : Memory) (limit left i head : ℕ) (r : Result ThreadsFront StackError) → IsOrNoMemory (front_shown q l m limit left (threads_front l i m head)) (threads_result r)

@@ -1,6 +1,7 @@
 -- What a front shows where the same memory has a report: its threads, and their frames. A report asks more of a memory,
 -- that each chain goes on to null, and has no frames without names.
-use Rattle.std.specs.Prelude.{◌≡◌, ◌≢◌, ℕ, ◌≤◌, ◌<◌, ◌⊎◌, nat_eq, Bool, true, false, All, List, [], ◌∷◌, ◌++◌, length, map, Ok, ⊤}
+use Rattle.std.specs.Prelude.{◌≡◌, ◌≢◌, ℕ, ◌≤◌, ◌<◌, ◌⊎◌, nat_eq, Bool, true, false, All, List, [], ◌∷◌, ◌++◌, length}
+use Rattle.std.specs.Prelude.{map, Ok, ⊤}
 use Rattle.std.specs.List.{list_any}
 use Rattle.process_memory.specs.Memory.{Memory}
 use Rattle.py_version.specs.declared.version.Version.{Version}

@@ -1,7 +1,8 @@
 -- The addresses that may be an interpreter's: those of the search, and those that the record of one leads to. CPython
 -- chains its interpreters by `next`, which stands in front of the head of their threads; from 3.13 on one that runs
 -- nothing has no thread. The section `.PyRuntime` has the runtime's record and nothing else.
-use Rattle.std.specs.Prelude.{◌≡◌, ℕ, zero, suc, ◌+◌, ◌*◌, ◌-◌, ◌/◌, ◌≤◌, min, nat_eq, if◌then◌else◌, List, [], ◌∷◌, ◌++◌, flat_map}
+use Rattle.std.specs.Prelude.{◌≡◌, ℕ, zero, suc, ◌+◌, ◌*◌, ◌-◌, ◌/◌, ◌≤◌, min, nat_eq, if◌then◌else◌, List, [], ◌∷◌}
+use Rattle.std.specs.Prelude.{◌++◌, flat_map}
 use Rattle.std.specs.Prelude.{length, Option, Some, None, Result, Ok, Err, Vec}
 use Rattle.std.specs.Global.{Global}
 use Rattle.process_memory.specs.Memory.{Found, Memory, word_at}

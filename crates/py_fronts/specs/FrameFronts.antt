@@ -1,5 +1,6 @@
 -- The front of a thread's frames: the first of the kept members and the last before the end, with the number between.
-use Rattle.std.specs.Prelude.{◌≡◌, ℕ, ◌*◌, ◌-◌, nat_le, if◌then◌else◌, List, [], length, map, take, drop, Result, Ok, Err}
+use Rattle.std.specs.Prelude.{◌≡◌, ℕ, ◌*◌, ◌-◌, nat_le, if◌then◌else◌, List, [], length, map, take, drop, Result, Ok}
+use Rattle.std.specs.Prelude.{Err}
 use Rattle.process_memory.specs.Memory.{Found, Memory}
 use Rattle.py_fields.specs.declared.layout.Layout.{Layout}
 use Rattle.py_stacks.specs.declared.asked.Asked.{Asked}

@@ -1,6 +1,7 @@
 -- What stands for a kept member of a thread's chain: its frame, or itself where it has no names. That a line's offset
 -- below 0 gives the first line of the code is CPython's (`PyCode_Addr2Line`).
-use Rattle.std.specs.Prelude.{◌≡◌, ℕ, zero, suc, ◌+◌, ◌*◌, Bool, true, false, is_none, if◌then◌else◌, List, length, map, MatchOption, Option, Some, None, Result, Ok, Err, ℤ, pos, int_lt, Vec}
+use Rattle.std.specs.Prelude.{◌≡◌, ℕ, zero, suc, ◌+◌, ◌*◌, Bool, true, false, is_none, if◌then◌else◌, List, length, map}
+use Rattle.std.specs.Prelude.{MatchOption, Option, Some, None, Result, Ok, Err, ℤ, pos, int_lt, Vec}
 use Rattle.std.specs.Global.{Global}
 use Rattle.elf64_core.specs.Fields.{u64_in}
 use Rattle.process_memory.specs.Memory.{Fault, Found, Memory, ◌>>=◌}

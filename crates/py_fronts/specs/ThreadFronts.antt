@@ -1,5 +1,6 @@
 -- The front of an interpreter's threads, each with the front of its frames.
-use Rattle.std.specs.Prelude.{◌≡◌, ℕ, ◌+◌, ◌*◌, ◌-◌, ◌≤◌, min, nat_eq, if◌then◌else◌, Option, List, [], ◌∷◌, length, map, Result, Ok, Err, ⊤}
+use Rattle.std.specs.Prelude.{◌≡◌, ℕ, ◌+◌, ◌*◌, ◌-◌, ◌≤◌, min, nat_eq, if◌then◌else◌, Option, List, [], ◌∷◌, length}
+use Rattle.std.specs.Prelude.{map, Result, Ok, Err, ⊤}
 use Rattle.elf64_core.specs.Fields.{u64_in}
 use Rattle.process_memory.specs.Memory.{Found, Memory, record_at}
 use Rattle.process_memory.specs.Seen.{Reading, Seen}
@@ -13,7 +14,8 @@ use Rattle.py_fronts.specs.declared.thread_front.ThreadsFront.{ThreadsFront}
 use Rattle.py_fronts.specs.declared.thread_front.Thread.{Thread}
 use Rattle.py_fronts.specs.declared.thread_front.Thread.TheVariants.{At, Broken}
 use Rattle.py_fronts.specs.ChainEnds.{ending_of}
-use Rattle.py_fronts.specs.FrameFronts.{FramesShown, chain_of_thread, ends_reads, frames_front, frames_shown, thread_members_limit}
+use Rattle.py_fronts.specs.FrameFronts.{FramesShown, chain_of_thread, ends_reads, frames_front, frames_shown}
+use Rattle.py_fronts.specs.FrameFronts.{thread_members_limit}
 use Rattle.py_fronts.specs.Front.{Break, Ending, Front, behind, front_at}
 use Rattle.py_fronts.specs.Front.Break.{Lost, Stray}
 use Rattle.py_fronts.specs.Front.Ending.{Broken as IsBroken}

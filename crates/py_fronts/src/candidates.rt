@@ -22,7 +22,7 @@ use py_stacks::{StackError, get_first_thread};
 use py_version::Version;
 use std::alloc::{AllocFailed, Global};
 
-/// How many words of an interpreter's record are looked at at most.
+/// How many words of an interpreter's record are looked at, at most.
 const RECORD_WORDS_LIMIT: u32 = 1024;
 
 /// How many interpreters without a thread are passed by in a row at most.

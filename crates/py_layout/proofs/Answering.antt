@@ -1,5 +1,6 @@
 -- The one answer that is right for a text.
-use Rattle.std.proofs.Common.{◌≡◌, ◌≢◌, ℕ, List, [], Option, Result, Ok, Err, Some, None, All, IsOk, IfOk, IfErr, ◌↔◌, inl, inr, refl, sym, ap, ◌∙◌}
+use Rattle.std.proofs.Common.{◌≡◌, ◌≢◌, ℕ, List, [], Option, Result, Ok, Err, Some, None, All, IsOk, IfOk, IfErr, ◌↔◌}
+use Rattle.std.proofs.Common.{inl, inr, refl, sym, ap, ◌∙◌}
 use Rattle.std.specs.Str.{chars}
 use Rattle.toml.specs.Data.{Members}
 use Rattle.py_layout.specs.declared.error.LayoutError.{LayoutError}
@@ -9,7 +10,8 @@ use Rattle.py_fields.specs.Sound.{IsSound}
 use Rattle.py_layout.specs.Lists.{AreSound, IsFirstUnsound, IsFirstClash, IsOfList}
 use Rattle.py_layout.specs.Keys.{the_keys}
 use Rattle.elf64_core.specs.Outcomes.{IsUnless}
-use Rattle.py_layout.specs.File.{IsToml, FileSays, HasFlaw, HasUnsound, HasClash, HasLayouts, IsErrorFor, IsRightFor, IsOfText, file_flaw, layouts_of}
+use Rattle.py_layout.specs.File.{IsToml, FileSays, HasFlaw, HasUnsound, HasClash, HasLayouts, IsErrorFor, IsRightFor}
+use Rattle.py_layout.specs.File.{IsOfText, file_flaw, layouts_of}
 use Rattle.py_layout.proofs.Judging.{unsound-not_all, unsound-unique, clash-not_apart, clash-unique}
 
 abbrev refused : LayoutError → Result (List Layout) LayoutError

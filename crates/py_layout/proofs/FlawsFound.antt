@@ -1,5 +1,7 @@
 -- Lists of keys as the code has them, and names of tables.
-use Rattle.std.proofs.Common.{◌≡◌, ℕ, suc, ◌+◌, ◌<◌, ◌≤◌, List, [], ◌∷◌, ◌||◌, Bool, true, false, not, Option, Some, None, String, Global, map, option_map, cond, string_bytes, get_or, drop, length, add-one, drop-cons, refl, sym, ap, ◌∙◌}
+use Rattle.std.proofs.Common.{◌≡◌, ℕ, suc, ◌+◌, ◌<◌, ◌≤◌, List, [], ◌∷◌, ◌||◌, Bool, true, false, not, Option, Some}
+use Rattle.std.proofs.Common.{None, String, Global, map, option_map, cond, string_bytes, get_or, drop, length, add-one}
+use Rattle.std.proofs.Common.{drop-cons, refl, sym, ap, ◌∙◌}
 use Rattle.std.proofs.lemmas.List.{drop_all}
 use Rattle.std.specs.Option.{option_or}
 use Rattle.std.specs.List.{list_any, find}

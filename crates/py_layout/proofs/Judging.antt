@@ -1,5 +1,6 @@
 -- What is found of a list of layouts is found of it alone.
-use Rattle.std.proofs.Common.{◌≡◌, ℕ, ◌<◌, ◌≤◌, List, length, get_or, ◌+◌, ⊎_elim, inl, inr, sym, refl, arith, Bool, true, false, Option, Some, None, Decides}
+use Rattle.std.proofs.Common.{◌≡◌, ℕ, ◌<◌, ◌≤◌, List, length, get_or, ◌+◌, ⊎_elim, inl, inr, sym, refl, arith, Bool}
+use Rattle.std.proofs.Common.{true, false, Option, Some, None, Decides}
 use Rattle.std.proofs.lemmas.List.{get_or_default}
 use Rattle.std.proofs.lemmas.List.Elements.{AllWithin-more}
 use Rattle.std.specs.Prelude.{All, AllPairs, ◌⊎◌, MatchOption}

@@ -1,5 +1,6 @@
 -- The first flaw of a layout's table in a file.
-use Rattle.std.specs.Prelude.{List, [], ◌∷◌, ◌++◌, ℕ, Bool, true, false, ◌&&◌, not, Option, Some, None, codes, bytes_eq, option_map, option_and_then}
+use Rattle.std.specs.Prelude.{List, [], ◌∷◌, ◌++◌, ℕ, Bool, true, false, ◌&&◌, not, Option, Some, None, codes, bytes_eq}
+use Rattle.std.specs.Prelude.{option_map, option_and_then}
 use Rattle.std.specs.Option.{option_or}
 use Rattle.std.specs.List.{list_any, find}
 use Rattle.toml.specs.Data.{Data, Members, no_members, member}
@@ -7,7 +8,9 @@ use Rattle.py_layout.specs.declared.families.Families.{Families}
 use Rattle.py_layout.specs.declared.keys.Kind.{Kind}
 use Rattle.py_layout.specs.declared.keys.Kind.TheVariants.{Group}
 use Rattle.py_layout.specs.declared.keys.Presence.{Presence}
-use Rattle.py_layout.specs.declared.keys.Presence.TheVariants.{Always, Free, WithOffsets, WithGil, WithCframe, WithPointer, WithState, WithDicts, WithGeneral, WithCompact, WithManaged}
+use Rattle.py_layout.specs.declared.keys.Presence.TheVariants.{Always, Free, WithOffsets, WithGil, WithCframe}
+use Rattle.py_layout.specs.declared.keys.Presence.TheVariants.{WithPointer, WithState, WithDicts, WithGeneral}
+use Rattle.py_layout.specs.declared.keys.Presence.TheVariants.{WithCompact, WithManaged}
 use Rattle.py_fields.specs.declared.layout.Head.{Head}
 use Rattle.py_fields.specs.declared.layout.Head.TheVariants as head
 use Rattle.py_fields.specs.declared.layout.Lock.{Lock}

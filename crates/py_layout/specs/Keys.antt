@@ -1,10 +1,13 @@
 -- The keys of a layout in a file, in the order in which they are looked at.
 use Rattle.std.specs.Prelude.{ℕ, List, [], ◌∷◌, ◌++◌, Option, Some, None, map, option_map, codes}
-use Rattle.py_layout.specs.declared.keys.Family.TheVariants.{Head, Lock, Frames, Lasti, Lines, Strings, Integers, Dicts, Managed}
+use Rattle.py_layout.specs.declared.keys.Family.TheVariants.{Head, Lock, Frames, Lasti, Lines, Strings, Integers, Dicts}
+use Rattle.py_layout.specs.declared.keys.Family.TheVariants.{Managed}
 use Rattle.py_layout.specs.declared.keys.Kind.{Kind}
 use Rattle.py_layout.specs.declared.keys.Kind.TheVariants.{Version, Truth, Word, Number, Group}
 use Rattle.py_layout.specs.declared.keys.Presence.{Presence}
-use Rattle.py_layout.specs.declared.keys.Presence.TheVariants.{Always, Free, WithOffsets, WithGil, WithCframe, WithPointer, WithState, WithDicts, WithGeneral, WithCompact, WithManaged}
+use Rattle.py_layout.specs.declared.keys.Presence.TheVariants.{Always, Free, WithOffsets, WithGil, WithCframe}
+use Rattle.py_layout.specs.declared.keys.Presence.TheVariants.{WithPointer, WithState, WithDicts, WithGeneral}
+use Rattle.py_layout.specs.declared.keys.Presence.TheVariants.{WithCompact, WithManaged}
 use Rattle.py_layout.specs.declared.keys.Key as code
 
 -- a key: the group that it stands in, or None for the layout's own table; its name; what it holds; and when it is there

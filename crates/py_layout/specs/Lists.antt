@@ -4,7 +4,8 @@ use Rattle.std.specs.List.{HoldsAt, AllWithin}
 use Rattle.py_fields.specs.declared.layout.Layout.{Layout}
 use Rattle.py_fields.specs.Sound.{IsSound}
 use Rattle.py_layout.specs.declared.error.LayoutError.{LayoutError}
-use Rattle.py_layout.specs.declared.error.LayoutError.TheVariants.{NotToml, Shape, Unsound, Clash as Clashing, OutOfMemory}
+use Rattle.py_layout.specs.declared.error.LayoutError.TheVariants.{NotToml, Shape, Unsound, Clash as Clashing}
+use Rattle.py_layout.specs.declared.error.LayoutError.TheVariants.{OutOfMemory}
 
 -- two layouts have one major, and their ranges of minors meet
 pub record Clash (a b : Layout) : Type 0 where

@@ -1,5 +1,6 @@
 -- The values of a layout's table in a file, by group and name.
-use Rattle.std.specs.Prelude.{ℕ, ◌^◌, ℤ, pos, List, Bool, false, Option, Some, None, is_some, cond, nat_lt, option_and_then, unwrap_or}
+use Rattle.std.specs.Prelude.{ℕ, ◌^◌, ℤ, pos, List, Bool, false, Option, Some, None, is_some, cond, nat_lt}
+use Rattle.std.specs.Prelude.{option_and_then, unwrap_or}
 use Rattle.toml.specs.Data.{Data, integer, Members, get_member, as_table, as_bool}
 use Rattle.py_layout.specs.declared.keys.Kind.{Kind}
 use Rattle.py_layout.specs.declared.keys.Kind.TheVariants.{Version, Truth, Word, Number, Group}

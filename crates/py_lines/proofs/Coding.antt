@@ -1,5 +1,7 @@
 -- Writing a table, piece by piece.
-use Rattle.std.proofs.Common.{◌≡◌, ◌∙◌, ℕ, zero, suc, ◌+◌, ◌-◌, ◌/◌, ◌%◌, ◌^◌, ◌<◌, ◌≤◌, List, [], ◌∷◌, ◌++◌, length, refl, sym, ap, append_assoc, length-append, arith, rules, Bool, true, false, cond, ltb, eqb, ◌&&◌}
+use Rattle.std.proofs.Common.{◌≡◌, ◌∙◌, ℕ, zero, suc, ◌+◌, ◌-◌, ◌/◌, ◌%◌, ◌^◌, ◌<◌, ◌≤◌, List, [], ◌∷◌, ◌++◌, length}
+use Rattle.std.proofs.Common.{refl, sym, ap, append_assoc, length-append, arith, rules, Bool, true, false, cond, ltb}
+use Rattle.std.proofs.Common.{eqb, ◌&&◌}
 use Rattle.std.specs.Prelude.{Option, Some, None, option_map, ℤ, pos, negsuc, ◌≤ℤ◌, IsTrue}
 use Rattle.std.specs.Option.{is_some, unwrap_or}
 use Rattle.std.proofs.lemmas.Bool.Decides.{nat_tests}
@@ -12,7 +14,9 @@ use Rattle.py_lines.specs.declared.lines.LineRange.{LineRange}
 use Rattle.py_lines.specs.declared.runs.Run.{Run}
 use Rattle.py_lines.specs.declared.error.EncodeError.{EncodeError}
 use Rattle.py_lines.specs.declared.error.EncodeError.TheVariants.{NotOrdered, TooLong, OutOfMemory}
-use Rattle.py_lines.specs.Coding.{first_unordered, can_stand, has_form, wholes, rest_of, parts_of, no_run, runs_of, varint_bytes, repeated, run_bytes, runs_bytes, delta_from, covered_by, coded_behind, coded, IsNoRoom, IsRefusal, IsPart, IsRun, AreRuns, IsNearDelta, IsWritable}
+use Rattle.py_lines.specs.Coding.{first_unordered, can_stand, has_form, wholes, rest_of, parts_of, no_run, runs_of}
+use Rattle.py_lines.specs.Coding.{varint_bytes, repeated, run_bytes, runs_bytes, delta_from, covered_by, coded_behind}
+use Rattle.py_lines.specs.Coding.{coded, IsNoRoom, IsRefusal, IsPart, IsRun, AreRuns, IsNearDelta, IsWritable}
 
 -- ---- the first range that can't stand
 

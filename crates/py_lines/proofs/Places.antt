@@ -1,5 +1,6 @@
 -- A walk over a table, entry by entry.
-use Rattle.std.proofs.Common.{◌≡◌, ℕ, zero, suc, ◌+◌, ◌-◌, ◌*◌, ◌^◌, ◌<◌, ◌≤◌, List, [], ◌∷◌, ◌++◌, length, drop, refl, subst, append_assoc, sym, ap, ◌∙◌, arith, true, false, ltb, cond, inl, inr}
+use Rattle.std.proofs.Common.{◌≡◌, ℕ, zero, suc, ◌+◌, ◌-◌, ◌*◌, ◌^◌, ◌<◌, ◌≤◌, List, [], ◌∷◌, ◌++◌, length, drop, refl}
+use Rattle.std.proofs.Common.{subst, append_assoc, sym, ap, ◌∙◌, arith, true, false, ltb, cond, inl, inr}
 use Rattle.std.specs.Prelude.{Option, Some, None, ℤ, pos, negsuc, ◌+ℤ◌, ◌-ℤ◌, ◌≤ℤ◌, ◌<ℤ◌}
 use Rattle.std.specs.Option.{is_some, option_and_then}
 use Rattle.std.specs.Int.{w32}
@@ -15,7 +16,8 @@ use Rattle.py_lines.specs.declared.lines.LineRange.{LineRange}
 use Rattle.py_lines.specs.declared.lines.Place.{Place}
 use Rattle.py_lines.specs.declared.entry.Entry.{Entry}
 use Rattle.py_lines.specs.Entries.{first_entry, entries_within, entries_of, HasEntryRoom, IsSmall, IsWithin}
-use Rattle.py_lines.specs.Lines.{ranges_behind, ranges_of, last_range, line_under, in_i32, covered, moved, delta_of, kept, line_among, holds, shown_line, AscendFrom}
+use Rattle.py_lines.specs.Lines.{ranges_behind, ranges_of, last_range, line_under, in_i32, covered, moved, delta_of}
+use Rattle.py_lines.specs.Lines.{kept, line_among, holds, shown_line, AscendFrom}
 use Rattle.py_lines.specs.Places.{laid, line_with, line_range_at, past, last_at, kept_last, IsNear}
 
 -- ---- the entries

@@ -1,5 +1,6 @@
 -- An entry that is written is the entry that is read.
-use Rattle.std.proofs.Common.{◌≡◌, ◌∙◌, ℕ, zero, suc, ◌+◌, ◌*◌, ◌/◌, ◌%◌, ◌^◌, ◌<◌, ◌≤◌, List, ◌∷◌, ◌++◌, length, refl, ap, arith, true, false, ltb, eqb, inl, inr}
+use Rattle.std.proofs.Common.{◌≡◌, ◌∙◌, ℕ, zero, suc, ◌+◌, ◌*◌, ◌/◌, ◌%◌, ◌^◌, ◌<◌, ◌≤◌, List, ◌∷◌, ◌++◌, length, refl}
+use Rattle.std.proofs.Common.{ap, arith, true, false, ltb, eqb, inl, inr}
 use Rattle.std.specs.Prelude.{Option, Some, None, option_map, ℤ, pos, negsuc, ◌≤ℤ◌}
 use Rattle.std.specs.Int.{w8, bit_at, cast_signed, cast_unsigned}
 use Rattle.std.specs.Int.RustNames.{FitsSigned}
@@ -14,7 +15,8 @@ use Rattle.py_lines.specs.declared.entry.Entry.{Entry}
 use Rattle.py_lines.specs.declared.entry.LocationLine.{LocationLine}
 use Rattle.py_lines.specs.declared.varint.Number.{Number}
 use Rattle.py_lines.specs.Varint.{varint, varint_within, with_low, signed_of}
-use Rattle.py_lines.specs.Entries.{first_entry, pair_entry, range_entry, without_line, no_line, location_entry, location_line, location_with, line_moved_by, IsSmall}
+use Rattle.py_lines.specs.Entries.{first_entry, pair_entry, range_entry, without_line, no_line, location_entry}
+use Rattle.py_lines.specs.Entries.{location_line, location_with, line_moved_by, IsSmall}
 use Rattle.py_lines.specs.Coding.{entry_bytes, location_head, varint_bytes, signed_code, IsPart}
 
 -- ---- an entry that is written is the entry that is read

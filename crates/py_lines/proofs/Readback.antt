@@ -1,5 +1,6 @@
 -- What is written for ranges, read again, has their lines.
-use Rattle.std.proofs.Common.{◌≡◌, ◌∙◌, ℕ, zero, suc, ◌+◌, ◌-◌, ◌^◌, ◌<◌, ◌≤◌, List, [], ◌∷◌, ◌++◌, refl, sym, ap, subst, arith, true, false, cond, ltb, eqb, inl, inr}
+use Rattle.std.proofs.Common.{◌≡◌, ◌∙◌, ℕ, zero, suc, ◌+◌, ◌-◌, ◌^◌, ◌<◌, ◌≤◌, List, [], ◌∷◌, ◌++◌, refl, sym, ap}
+use Rattle.std.proofs.Common.{subst, arith, true, false, cond, ltb, eqb, inl, inr}
 use Rattle.std.specs.Prelude.{Option, Some, None, ℤ, pos, negsuc, ◌+ℤ◌, ◌-ℤ◌}
 use Rattle.std.specs.Option.{is_some, unwrap_or, option_and_then}
 use Rattle.std.specs.Int.{w32}
@@ -14,10 +15,14 @@ use Rattle.py_lines.specs.Entries.{first_entry}
 use Rattle.py_lines.specs.Lines.{ranges_of, kept, holds, line_among, shown_line, in_i32, delta_of}
 use Rattle.py_lines.specs.Places.{line_with}
 use Rattle.py_lines.specs.declared.runs.Run.{Run}
-use Rattle.py_lines.specs.Coding.{first_unordered, end_of, wholes, rest_of, parts_of, run_of, piece_runs, runs_of, runs_bytes, delta_from, coded_behind, coded, IsCoding, KeepsLines, AreRuns, IsNearDelta, IsLine, AreLines}
+use Rattle.py_lines.specs.Coding.{first_unordered, end_of, wholes, rest_of, parts_of, run_of, piece_runs, runs_of}
+use Rattle.py_lines.specs.Coding.{runs_bytes, delta_from, coded_behind, coded, IsCoding, KeepsLines, AreRuns}
+use Rattle.py_lines.specs.Coding.{IsNearDelta, IsLine, AreLines}
 use Rattle.py_lines.proofs.Places.{IsAhead, walk_begins, walk_ends, held_line}
 use Rattle.py_lines.proofs.Coding.{all_stand, stands_so, writable, runs_are}
-use Rattle.py_lines.proofs.ReadRuns.{place, Reads, advanced, climbed, advanced_none, advanced_255, advanced_16, climbed_none, climbed_up, climbed_127, climbed_128, run_past, run_here, once_here, one_some, pieces_at, pieces_past, pieces_here}
+use Rattle.py_lines.proofs.ReadRuns.{place, Reads, advanced, climbed, advanced_none, advanced_255, advanced_16}
+use Rattle.py_lines.proofs.ReadRuns.{climbed_none, climbed_up, climbed_127, climbed_128, run_past, run_here, once_here}
+use Rattle.py_lines.proofs.ReadRuns.{one_some, pieces_at, pieces_past, pieces_here}
 
 -- ---- a range
 

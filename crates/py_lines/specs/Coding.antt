@@ -1,7 +1,9 @@
 -- How ranges are written as a table, in the forms that `Entries` reads. Which of the tables that say the same is
 -- written, is this project's own rule: each number that is beyond what an entry holds is cut, all parts but the
 -- last as great as they can be.
-use Rattle.std.specs.Prelude.{◌≡◌, ℕ, zero, suc, ◌+◌, ◌-◌, ◌*◌, ◌/◌, ◌%◌, ◌^◌, ◌<◌, ◌≤◌, nat_lt, ◌==◌, ◌&&◌, Bool, true, Option, Some, None, List, [], ◌∷◌, ◌++◌, if◌then◌else◌, option_map, length, ℤ, pos, negsuc, neg_ℤ, ◌-ℤ◌, ◌≤ℤ◌, IsTrue}
+use Rattle.std.specs.Prelude.{◌≡◌, ℕ, zero, suc, ◌+◌, ◌-◌, ◌*◌, ◌/◌, ◌%◌, ◌^◌, ◌<◌, ◌≤◌, nat_lt, ◌==◌, ◌&&◌, Bool, true}
+use Rattle.std.specs.Prelude.{Option, Some, None, List, [], ◌∷◌, ◌++◌, if◌then◌else◌, option_map, length, ℤ, pos}
+use Rattle.std.specs.Prelude.{negsuc, neg_ℤ, ◌-ℤ◌, ◌≤ℤ◌, IsTrue}
 use Rattle.std.specs.Option.{is_some, unwrap_or}
 use Rattle.std.specs.Int.{w8, w32, cast_unsigned}
 use Rattle.std.specs.Int.RustNames.{FitsSigned}

@@ -1,7 +1,9 @@
 -- The entries of line tables. `Pairs` are those of code objects up to CPython 3.9 and `Ranges` those of 3.10
 -- (`Objects/lnotab_notes.txt`), `Locations` those from 3.11 on (`Objects/locations.md`). That a table ends
 -- before an entry that is cut, and that an odd last byte is no entry, are this project's rules.
-use Rattle.std.specs.Prelude.{ℕ, zero, suc, ◌+◌, ◌-◌, ◌*◌, ◌/◌, ◌%◌, ◌^◌, ◌≤◌, nat_le, nat_lt, ◌==◌, Option, Some, None, List, [], ◌∷◌, if◌then◌else◌, option_map, length, slice_index, drop, ℤ, pos, negsuc, ◌≤ℤ◌, ◌<ℤ◌}
+use Rattle.std.specs.Prelude.{ℕ, zero, suc, ◌+◌, ◌-◌, ◌*◌, ◌/◌, ◌%◌, ◌^◌, ◌≤◌, nat_le, nat_lt, ◌==◌, Option, Some, None}
+use Rattle.std.specs.Prelude.{List, [], ◌∷◌, if◌then◌else◌, option_map, length, slice_index, drop, ℤ, pos, negsuc, ◌≤ℤ◌}
+use Rattle.std.specs.Prelude.{◌<ℤ◌}
 use Rattle.std.specs.Ordering.{int_eq}
 use Rattle.std.specs.Int.{w8, cast_signed}
 use Rattle.py_lines.specs.declared.lines.LineFamily.{LineFamily}

@@ -1,7 +1,8 @@
 -- What a line table says: ranges of the code, each with a line or with none, as CPython's
 -- `Objects/lnotab_notes.txt` and `Objects/locations.md` have them. That sums are exact, that a line which is
 -- no i32 is none, and that 0 stands for no line, are this project's rules.
-use Rattle.std.specs.Prelude.{ℕ, ◌+◌, ◌^◌, ◌<◌, ◌≤◌, nat_le, nat_lt, Bool, ◌&&◌, Option, Some, None, List, [], ◌∷◌, ◌++◌, if◌then◌else◌, ℤ, pos, negsuc, ◌+ℤ◌}
+use Rattle.std.specs.Prelude.{ℕ, ◌+◌, ◌^◌, ◌<◌, ◌≤◌, nat_le, nat_lt, Bool, ◌&&◌, Option, Some, None, List, [], ◌∷◌}
+use Rattle.std.specs.Prelude.{◌++◌, if◌then◌else◌, ℤ, pos, negsuc, ◌+ℤ◌}
 use Rattle.std.specs.Option.{is_some, unwrap_or}
 use Rattle.std.specs.List.{sum_by}
 use Rattle.py_lines.specs.declared.lines.LineFamily.{LineFamily}

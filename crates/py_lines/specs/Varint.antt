@@ -1,6 +1,7 @@
 -- Numbers of several bytes, by CPython's `Objects/locations.md`: six bits of each byte, the lowest first,
 -- and bit 6 set in each but the last. That a number has at most six bytes is this project's rule.
-use Rattle.std.specs.Prelude.{ℕ, zero, suc, ◌+◌, ◌*◌, ◌/◌, ◌%◌, ◌==◌, Option, Some, None, List, [], ◌∷◌, if◌then◌else◌, option_map, ℤ, pos, neg_ℤ}
+use Rattle.std.specs.Prelude.{ℕ, zero, suc, ◌+◌, ◌*◌, ◌/◌, ◌%◌, ◌==◌, Option, Some, None, List, [], ◌∷◌, if◌then◌else◌}
+use Rattle.std.specs.Prelude.{option_map, ℤ, pos, neg_ℤ}
 use Rattle.std.specs.Int.{bit_at}
 use Rattle.py_lines.specs.declared.varint.Number.{Number}
 

@@ -12,7 +12,8 @@ use Rattle.py_builtins.specs.Integers.{long_at}
 use Rattle.py_builtins.specs.Types.{type_at}
 use Rattle.py_builtins.specs.declared.types.ObjectType.{ObjectType}
 use Rattle.py_names.specs.declared.search.Looked.{Looked}
-use Rattle.py_names.specs.Names.{each_looked, entry_looked, module_looked, module_slots, modules_slots, search_looked, slot_limit, slot_looked, slots_looked_at, thread_looked, thread_slots, threads_looked}
+use Rattle.py_names.specs.Names.{each_looked, entry_looked, module_looked, module_slots, modules_slots, search_looked}
+use Rattle.py_names.specs.Names.{slot_limit, slot_looked, slots_looked_at, thread_looked, thread_slots, threads_looked}
 use Rattle.py_names.specs.Search.{find_from, find_looked}
 use Rattle.py_names.specs.Typed.{plain_slots, typed_slots}
 

@@ -1,5 +1,6 @@
 -- The names of threads, slot by slot.
-use Rattle.std.proofs.Common.{◌≡◌, ℕ, suc, ◌+◌, ◌*◌, ◌-◌, ◌<◌, ◌≤◌, List, [], ◌∷◌, ◌++◌, refl, ◌∙◌, ap, arith, append-nil}
+use Rattle.std.proofs.Common.{◌≡◌, ℕ, suc, ◌+◌, ◌*◌, ◌-◌, ◌<◌, ◌≤◌, List, [], ◌∷◌, ◌++◌, refl, ◌∙◌, ap, arith}
+use Rattle.std.proofs.Common.{append-nil}
 use Rattle.std.proofs.Math.Nat.{sub-zero}
 use Rattle.std.specs.Prelude.{Bool, true, false, cond, nat_eq, option_map, reverse, Option, Some, None, Ok, Err, ⊤}
 use Rattle.std.specs.List.{find}
@@ -13,7 +14,8 @@ use Rattle.py_fields.specs.declared.layout.Layout.{Layout}
 use Rattle.py_builtins.specs.declared.keys.Slots.{Slots}
 use Rattle.py_names.specs.declared.names.Given.{Given}
 use Rattle.py_names.specs.declared.names.Named.{Named}
-use Rattle.py_names.specs.Names.{AnswersNames, HasNames, each_looked, kept_name, name_under, names_from, thread_at, thread_looked}
+use Rattle.py_names.specs.Names.{AnswersNames, HasNames, each_looked, kept_name, name_under, names_from, thread_at}
+use Rattle.py_names.specs.Names.{thread_looked}
 use Rattle.py_names.specs.Search.{looked_in}
 use Rattle.py_names.specs.NamesError.{names_fault}
 use Rattle.py_names.specs.declared.names_error.NamesError.{NamesError}

@@ -12,7 +12,9 @@ use Rattle.py_builtins.specs.Dicts.{dict_slots, slot_at}
 use Rattle.py_builtins.specs.Integers.{long_at}
 use Rattle.py_names.specs.declared.names.Given.{Given}
 use Rattle.py_names.specs.declared.search.Looked.{Looked}
-use Rattle.py_names.specs.Names.{each_looked, entry_in, entry_looked, given, module_looked, module_slots, modules_slots, given_name_at, slot_limit, slot_looked, slots_looked_at, thread_at, thread_in, thread_looked, thread_slots, threads_looked}
+use Rattle.py_names.specs.Names.{each_looked, entry_in, entry_looked, given, module_looked, module_slots, modules_slots}
+use Rattle.py_names.specs.Names.{given_name_at, slot_limit, slot_looked, slots_looked_at, thread_at, thread_in}
+use Rattle.py_names.specs.Names.{thread_looked, thread_slots, threads_looked}
 use Rattle.py_names.specs.Search.{find_from, find_looked, looked, looked_behind, looked_in, or_go_on, named_value_at}
 use Rattle.py_builtins.specs.Types.{type_at}
 use Rattle.py_names.specs.Typed.{typed_slots}

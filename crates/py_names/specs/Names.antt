@@ -1,7 +1,8 @@
 -- The names of an interpreter's threads, as its module `threading` keeps them: four searches over the slots of
 -- dicts. That the module has its threads under `_active`, by their ids, and a thread its own name under `_name`,
 -- is CPython's (`Lib/threading.py`); that so many slots are looked at in all, at most, is this project's rule.
-use Rattle.std.specs.Prelude.{◌≡◌, IsOkAnd, ℕ, zero, suc, ◌+◌, ◌*◌, ◌==◌, Option, Some, None, List, [], ◌∷◌, ◌++◌, codes, Result, Ok, Err, option_map, reverse}
+use Rattle.std.specs.Prelude.{◌≡◌, IsOkAnd, ℕ, zero, suc, ◌+◌, ◌*◌, ◌==◌, Option, Some, None, List, [], ◌∷◌, ◌++◌}
+use Rattle.std.specs.Prelude.{codes, Result, Ok, Err, option_map, reverse}
 use Rattle.std.specs.Int.{w64, cast_unsigned}
 use Rattle.std.specs.List.{find}
 use Rattle.std.specs.Ordering.{nat_cmp}

@@ -1,6 +1,7 @@
 -- The first entry of a dict under a name. How many slots may still be looked at is counted down on the way: that
 -- there are so many at most, over all searches for names, is this project's rule.
-use Rattle.std.specs.Prelude.{ℕ, zero, suc, if◌then◌else◌, ◌+◌, Option, Some, None, List, bytes_eq, encode_utf8_all, Ok, Err}
+use Rattle.std.specs.Prelude.{ℕ, zero, suc, if◌then◌else◌, ◌+◌, Option, Some, None, List, bytes_eq, encode_utf8_all, Ok}
+use Rattle.std.specs.Prelude.{Err}
 use Rattle.process_memory.specs.Memory.{Memory, Found, ◌>>=◌}
 use Rattle.process_memory.specs.Memory.Fault.{Entries}
 use Rattle.py_fields.specs.declared.layout.Layout.{Layout}

@@ -12,7 +12,8 @@ use Rattle.py_objects.specs.Shown.{Shown, ◌>>=◌, give, consult, visit, Tells
 use Rattle.py_objects.specs.ShownTexts.{dots}
 use Rattle.py_objects.specs.Shows.{Brackets, Node, Child, Source, looked_at, child_shown, part_at, node_shown, show_at}
 use Rattle.py_objects.specs.Shows.Child.{Item, Empty, Entry}
-use Rattle.py_objects.proofs.Steps.{Rises, tells_is, tells_then, tells_stop, tells_lost, tells_err, tells_found, bind_rises}
+use Rattle.py_objects.proofs.Steps.{Rises, tells_is, tells_then, tells_stop, tells_lost, tells_err, tells_found}
+use Rattle.py_objects.proofs.Steps.{bind_rises}
 use Rattle.py_objects.proofs.Rising.{show_rises, child_rises, node_rises}
 
 module _ {V P : Type 0} (s : Source V P) (levels w : ℕ) (a : V) where

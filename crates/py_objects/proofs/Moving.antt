@@ -1,12 +1,14 @@
 -- How visits move: whatever holds of no step and of one more visit, and of steps one after another, holds of showing a value.
-use Rattle.std.proofs.Common.{◌≡◌, ℕ, zero, suc, ◌+◌, ◌-◌, ◌<◌, ◌≤◌, true, false, cond, List, [], ◌∷◌, length, refl, arith, max}
+use Rattle.std.proofs.Common.{◌≡◌, ℕ, zero, suc, ◌+◌, ◌-◌, ◌<◌, ◌≤◌, true, false, cond, List, [], ◌∷◌, length, refl}
+use Rattle.std.proofs.Common.{arith, max}
 use Rattle.std.proofs.lemmas.Bool.Decides.{nat_tests}
 use Rattle.std.specs.Prelude.{Option, Some, None, Result, Ok, Err, nat_le, nat_lt}
 use Rattle.process_memory.specs.Memory.{Found, Fault}
 use Rattle.process_memory.specs.Memory.Fault.{Depth, Visits}
 use Rattle.py_objects.specs.Shown.{Shown, goes_on_shown, ◌>>=◌, give, consult, visit, TellsShown}
 use Rattle.py_objects.specs.ShownTexts.{dots}
-use Rattle.py_objects.specs.Shows.{Brackets, Node, Child, Source, looked_at, part_then, parts_at, child_shown, part_at, parts_shown, node_shown, show_at}
+use Rattle.py_objects.specs.Shows.{Brackets, Node, Child, Source, looked_at, part_then, parts_at, child_shown, part_at}
+use Rattle.py_objects.specs.Shows.{parts_shown, node_shown, show_at}
 use Rattle.py_objects.specs.Shows.Brackets.{Square, Round, Curly}
 use Rattle.py_objects.specs.Shows.Node.{Whole, Quoted, Many}
 use Rattle.py_objects.specs.Shows.Child.{Item, Empty, Entry}

@@ -3,9 +3,11 @@ use Rattle.std.proofs.Common.{ℕ, suc, ◌+◌, ◌≤◌, List, arith}
 use Rattle.std.proofs.Math.Nat.{le_refl}
 use Rattle.std.specs.Prelude.{Option}
 use Rattle.py_objects.specs.Shown.{Shown}
-use Rattle.py_objects.specs.Shows.{Brackets, Node, Child, Source, part_then, parts_at, child_shown, part_at, parts_shown, node_shown, show_at}
+use Rattle.py_objects.specs.Shows.{Brackets, Node, Child, Source, part_then, parts_at, child_shown, part_at}
+use Rattle.py_objects.specs.Shows.{parts_shown, node_shown, show_at}
 use Rattle.py_objects.proofs.Steps.{Rises}
-use Rattle.py_objects.proofs.Moving.{part_then_moves, parts_moves, child_moves, part_moves, parts_shown_moves, node_moves, show_moves}
+use Rattle.py_objects.proofs.Moving.{part_then_moves, parts_moves, child_moves, part_moves, parts_shown_moves}
+use Rattle.py_objects.proofs.Moving.{node_moves, show_moves}
 
 abbrev AtMost : ℕ → ℕ → Type 0
 AtMost v n = v ≤ n

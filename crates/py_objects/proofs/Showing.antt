@@ -1,5 +1,6 @@
 -- Parts that are shown one after another.
-use Rattle.std.proofs.Common.{◌≡◌, ℕ, suc, ◌+◌, ◌-◌, ◌*◌, ◌<◌, ◌≤◌, Bool, true, false, List, [], ◌∷◌, ◌++◌, length, refl, sym, ◌∙◌, ap, arith, append-nil, append_assoc, max}
+use Rattle.std.proofs.Common.{◌≡◌, ℕ, suc, ◌+◌, ◌-◌, ◌*◌, ◌<◌, ◌≤◌, Bool, true, false, List, [], ◌∷◌, ◌++◌, length}
+use Rattle.std.proofs.Common.{refl, sym, ◌∙◌, ap, arith, append-nil, append_assoc, max}
 use Rattle.std.proofs.Math.Nat.{sub-zero, le_refl}
 use Rattle.std.specs.Prelude.{Option, Some, None, Ok, Err, nat_le, codes}
 use Rattle.std.proofs.lemmas.Bool.Decides.{nat_tests}
@@ -8,8 +9,10 @@ use Rattle.process_memory.specs.Seen.{Seen, Reading}
 use Rattle.process_memory.proofs.Reading.{reading_then, reading_gives, reading_none}
 use Rattle.py_objects.specs.Shown.{Shown, goes_on_shown, ◌>>=◌, give, TellsShown}
 use Rattle.py_objects.specs.ShownTexts.{dots}
-use Rattle.py_objects.specs.Shows.{Brackets, part_then, parts_at, enclosed, joined, joined_after, separator, opening, closing}
-use Rattle.py_objects.proofs.Steps.{Rises, tells_ok, tells_is, tells_then, tells_stop, tells_lost, tells_err, bind_is, pair_is}
+use Rattle.py_objects.specs.Shows.{Brackets, part_then, parts_at, enclosed, joined, joined_after, separator, opening}
+use Rattle.py_objects.specs.Shows.{closing}
+use Rattle.py_objects.proofs.Steps.{Rises, tells_ok, tells_is, tells_then, tells_stop, tells_lost, tells_err, bind_is}
+use Rattle.py_objects.proofs.Steps.{pair_is}
 use Rattle.py_objects.proofs.Rising.{parts_rises, part_then_rises}
 
 -- texts in front of those that follow

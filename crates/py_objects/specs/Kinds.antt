@@ -5,7 +5,8 @@ use Rattle.py_builtins.specs.Texts.{bit_is_set}
 use Rattle.py_objects.specs.declared.kinds.Scalar.{Scalar}
 use Rattle.py_objects.specs.declared.kinds.Scalar.TheVariants.{Truth, U8, U16, U32, U64, I8, I16, I32, I64, F32, F64}
 use Rattle.py_objects.specs.declared.kinds.Kind.{Kind}
-use Rattle.py_objects.specs.declared.kinds.Kind.TheVariants.{Small, Long, Text, Dict, List as ListKind, Tuple, Float, Nothing, Number, Other}
+use Rattle.py_objects.specs.declared.kinds.Kind.TheVariants.{Small, Long, Text, Dict, List as ListKind, Tuple, Float}
+use Rattle.py_objects.specs.declared.kinds.Kind.TheVariants.{Nothing, Number, Other}
 
 -- how many bytes one of numpy's numbers has
 abbrev pub scalar_width : Scalar → ℕ

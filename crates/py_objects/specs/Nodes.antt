@@ -21,7 +21,8 @@ use Rattle.py_builtins.specs.Texts.{text_at}
 use Rattle.py_builtins.specs.Types.{type_at}
 use Rattle.py_objects.specs.declared.kinds.Scalar.{Scalar}
 use Rattle.py_objects.specs.declared.kinds.Kind.{Kind}
-use Rattle.py_objects.specs.declared.kinds.Kind.TheVariants.{Small, Long, Text, Dict, List as ListKind, Tuple, Float, Nothing, Number, Other}
+use Rattle.py_objects.specs.declared.kinds.Kind.TheVariants.{Small, Long, Text, Dict, List as ListKind, Tuple, Float}
+use Rattle.py_objects.specs.declared.kinds.Kind.TheVariants.{Nothing, Number, Other}
 use Rattle.py_objects.specs.declared.nodes.Parts.{Parts}
 use Rattle.py_objects.specs.declared.nodes.Parts.TheVariants.{Items as ItemParts, Slots as SlotParts}
 use Rattle.py_objects.specs.declared.nodes.Node.{Node as NodeRead}
@@ -29,7 +30,8 @@ use Rattle.py_objects.specs.declared.nodes.Node.TheVariants.{Whole as WholeRead,
 use Rattle.py_objects.specs.declared.nodes.Child.{Child as ChildRead}
 use Rattle.py_objects.specs.declared.nodes.Child.TheVariants.{Item as ItemRead, Slot as SlotRead}
 use Rattle.py_objects.specs.Kinds.{kind_of, scalar_width}
-use Rattle.py_objects.specs.ShownTexts.{before_nul, text_or, number_text, long_text, float_text, scalar_text, other_text}
+use Rattle.py_objects.specs.ShownTexts.{before_nul, text_or, number_text, long_text, float_text, scalar_text}
+use Rattle.py_objects.specs.ShownTexts.{other_text}
 use Rattle.py_objects.specs.Shows.{Brackets, Node, Child, Source}
 use Rattle.py_objects.specs.Shows.Brackets.{Square, Round, Curly}
 use Rattle.py_objects.specs.Shows.Node.{Whole, Quoted, Many}

@@ -7,7 +7,8 @@ use Rattle.process_memory.proofs.Founds.{bound, ok_same}
 use Rattle.py_fields.specs.declared.layout.Layout.{Layout}
 use Rattle.py_stacks.specs.Asking.{asked_of, nothing}
 use Rattle.py_stacks.specs.Detail.{detail_at}
-use Rattle.py_stacks.specs.Frames.{AreFrames, Call, begins_hidden, detailed, plain_by, records_at, shown_at, shown_by, with_detail}
+use Rattle.py_stacks.specs.Frames.{AreFrames, Call, begins_hidden, detailed, plain_by, records_at, shown_at, shown_by}
+use Rattle.py_stacks.specs.Frames.{with_detail}
 use Rattle.py_stacks.specs.Member.{MemberAt}
 use Rattle.py_stacks.specs.Stacks.{by_holder}
 use Rattle.py_stacks.specs.StacksOver.{AreStacksOver}

@@ -14,9 +14,12 @@ use Rattle.py_version.specs.declared.version.Version.{Version}
 use Rattle.py_process.specs.Binary.{SaysFacts}
 use Rattle.py_process.specs.Candidates.{IsFirstOf, IsInterpreterIn, IsNoneOf, candidates_of}
 use Rattle.py_process.specs.Facts.{Facts, Known}
-use Rattle.py_process.specs.Findings.{AfterImages, AfterLayout, AfterMaps, AfterSearch, AfterVersion, FindingIs, IsChosen, IsMade, LayoutSays, LockSays, SearchSays, VersionSays}
+use Rattle.py_process.specs.Findings.{AfterImages, AfterLayout, AfterMaps, AfterSearch, AfterVersion, FindingIs}
+use Rattle.py_process.specs.Findings.{IsChosen, IsMade, LayoutSays, LockSays, SearchSays, VersionSays}
 use Rattle.py_process.specs.Lock.{lock_address_of}
-use Rattle.py_process.specs.Programs.{ArePrograms, FactsAre, FactsOf, FirstMapIs, ImageSays, ImagesSay, IsBadImage, IsFirstMap, IsKnown, IsLibraryMap, IsProgram, MapsSay, Programs, needed_map, path_of}
+use Rattle.py_process.specs.Programs.{ArePrograms, FactsAre, FactsOf, FirstMapIs, ImageSays, ImagesSay, IsBadImage}
+use Rattle.py_process.specs.Programs.{IsFirstMap, IsKnown, IsLibraryMap, IsProgram, MapsSay, Programs, needed_map}
+use Rattle.py_process.specs.Programs.{path_of}
 use Rattle.py_process.specs.Sources.{FirstTells, sources_of}
 use Rattle.py_process.specs.declared.core_error.CoreError.{CoreError}
 use Rattle.py_process.specs.declared.core_error.CoreError.TheVariants as core

@@ -1,5 +1,6 @@
 -- The first element that passes a test, from an index on.
-use Rattle.std.proofs.Common.{◌≡◌, ℕ, ◌+◌, ◌<◌, ◌≤◌, Bool, true, false, List, drop, length, get_or, refl, ap, ◌∙◌, add-one, drop-cons}
+use Rattle.std.proofs.Common.{◌≡◌, ℕ, ◌+◌, ◌<◌, ◌≤◌, Bool, true, false, List, drop, length, get_or, refl, ap, ◌∙◌}
+use Rattle.std.proofs.Common.{add-one, drop-cons}
 use Rattle.std.specs.Prelude.{Some, None, cond}
 use Rattle.std.specs.List.{find}
 use Rattle.std.proofs.Math.ListN.{drop_of_length-le}

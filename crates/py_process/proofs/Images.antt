@@ -7,7 +7,8 @@ use Rattle.elf64_core.specs.Symbols.{symbols_of}
 use Rattle.elf64_core.specs.declared.symbol.SymbolKind.TheVariants.{Plain, Dynamic}
 use Rattle.py_process.specs.declared.binary.BinaryInfo.{BinaryInfo}
 use Rattle.py_process.specs.declared.binary_error.BinaryError.{BinaryError}
-use Rattle.py_process.specs.declared.binary_error.BinaryError.TheVariants.{NotElf64, BadHeader, NoBss, NoExecutable, BadBss, OutOfMemory}
+use Rattle.py_process.specs.declared.binary_error.BinaryError.TheVariants.{NotElf64, BadHeader, NoBss, NoExecutable}
+use Rattle.py_process.specs.declared.binary_error.BinaryError.TheVariants.{BadBss, OutOfMemory}
 use Rattle.py_process.specs.declared.ranges.BssRange.{BssRange}
 use Rattle.py_process.specs.declared.ranges.Ranges.{Ranges}
 use Rattle.py_process.specs.Binary.{HasInfo, IsInfo, SaysFacts, SaySame}

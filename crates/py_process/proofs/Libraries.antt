@@ -1,5 +1,6 @@
 -- What the reader of a library's name takes is what is spelled.
-use Rattle.std.proofs.Common.{◌≡◌, ℕ, Bool, true, false, List, [], ◌∷◌, ◌++◌, take, drop, length, refl, sym, ap, subst, ◌∙◌, arith, append_assoc, ⊎_elim, inl, inr}
+use Rattle.std.proofs.Common.{◌≡◌, ℕ, Bool, true, false, List, [], ◌∷◌, ◌++◌, take, drop, length, refl, sym, ap, subst}
+use Rattle.std.proofs.Common.{◌∙◌, arith, append_assoc, ⊎_elim, inl, inr}
 use Rattle.std.specs.Prelude.{Option, Some, None, ◌==◌, ◌||◌, ◌&&◌, ◌⊎◌, codes, nat_eq}
 use Rattle.std.specs.Char.{encode_utf8, is_ascii_digit}
 use Rattle.std.specs.Str.{IsUtf8}
@@ -10,7 +11,9 @@ use Rattle.std.proofs.lemmas.List.{take-append-drop}
 use Rattle.std.proofs.lemmas.Slice.Eq.{starts_is}
 use Rattle.std.proofs.Math.Seq.{drop-append_seam}
 use Rattle.py_process.specs.Library.{IsDigit, IsDigitOrNone, IsFlagOrNone, IsLibrary, IsLibraryName, IsMark}
-use Rattle.py_process.specs.LibraryFronts.{begins_library, begins_so, digit_end, end_behind, flag_end, has_version_end, has_flag_end, has_minor, has_minor_end, has_version, is_flag, minor_behind, past_mark}
+use Rattle.py_process.specs.LibraryFronts.{begins_library, begins_so, digit_end, end_behind, flag_end, has_version_end}
+use Rattle.py_process.specs.LibraryFronts.{has_flag_end, has_minor, has_minor_end, has_version, is_flag, minor_behind}
+use Rattle.py_process.specs.LibraryFronts.{past_mark}
 use Rattle.py_process.proofs.Marks.{Marked, mark_read, mark_spells}
 
 or_right : (a b : Bool) → b ≡ true → (a || b) ≡ true

@@ -1,5 +1,6 @@
 -- The last part of a path, and the parts of a text between its dots.
-use Rattle.std.proofs.Common.{◌≡◌, ℕ, ◌+◌, ◌-◌, ◌<◌, ◌≤◌, true, false, List, [], ◌∷◌, length, get_or, take, drop, sym, ap, ◌∙◌, arith, length-drop}
+use Rattle.std.proofs.Common.{◌≡◌, ℕ, ◌+◌, ◌-◌, ◌<◌, ◌≤◌, true, false, List, [], ◌∷◌, length, get_or, take, drop, sym}
+use Rattle.std.proofs.Common.{ap, ◌∙◌, arith, length-drop}
 use Rattle.std.specs.Prelude.{All, not}
 use Rattle.std.specs.List.{after_first, after_last, position_or_len, slice_split, suffix_len}
 use Rattle.std.proofs.lemmas.List.Sums.{position_or_len_is, suffix_len_is}

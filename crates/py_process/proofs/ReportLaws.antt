@@ -16,9 +16,12 @@ use Rattle.py_fields.specs.declared.layout.Layout.{Layout}
 use Rattle.py_stacks.specs.Threads.{Trace}
 use Rattle.py_stacks.specs.declared.config.Config.{Config}
 use Rattle.py_process.specs.Causes.{cause_of_dump}
-use Rattle.py_process.specs.Findings.{AfterImages, AfterLayout, AfterMaps, AfterSearch, AfterVersion, Finding, FindingIs, IsFound, IsMade, LayoutSays, LockSays, SearchSays, VersionSays, finding}
+use Rattle.py_process.specs.Findings.{AfterImages, AfterLayout, AfterMaps, AfterSearch, AfterVersion, Finding}
+use Rattle.py_process.specs.Findings.{FindingIs, IsFound, IsMade, LayoutSays, LockSays, SearchSays, VersionSays}
+use Rattle.py_process.specs.Findings.{finding}
 use Rattle.py_process.specs.Programs.{ImagesSay, MapsSay}
-use Rattle.py_process.specs.Reports.{AfterCore, AfterFinding, CoreSays, IsTold, NotesTell, ReportIs, Reported, StacksSay, TellsReport, Dumped, IsDumped, memory_in, first_signal, process_told}
+use Rattle.py_process.specs.Reports.{AfterCore, AfterFinding, CoreSays, IsTold, NotesTell, ReportIs, Reported}
+use Rattle.py_process.specs.Reports.{StacksSay, TellsReport, Dumped, IsDumped, memory_in, first_signal, process_told}
 use Rattle.py_process.specs.declared.core_error.CoreError.{CoreError}
 use Rattle.py_process.specs.declared.core_error.CoreError.TheVariants as core
 use Rattle.py_process.proofs.Agreement.{Agree, IsKept, ok_is, then_agree, then_ok}

@@ -1,5 +1,6 @@
 -- A search in a list, and in one list after another.
-use Rattle.std.proofs.Common.{◌≡◌, ℕ, ◌+◌, ◌*◌, ◌≤◌, ◌^◌, Bool, true, false, cond, List, [], ◌∷◌, ◌++◌, length, refl, sym, ap, subst, ◌∙◌, arith, zero-add}
+use Rattle.std.proofs.Common.{◌≡◌, ℕ, ◌+◌, ◌*◌, ◌≤◌, ◌^◌, Bool, true, false, cond, List, [], ◌∷◌, ◌++◌, length, refl}
+use Rattle.std.proofs.Common.{sym, ap, subst, ◌∙◌, arith, zero-add}
 use Rattle.std.specs.Prelude.{Option, Some, None, Result, Ok, Err, IfOk, find, option_to_list}
 use Rattle.std.specs.Option.{option_or}
 use Rattle.std.proofs.lemmas.List.Elements.{All-cons, All-head, All-nil, All-tail}
@@ -13,7 +14,10 @@ use Rattle.process_memory.specs.declared.memory.ReadFault.TheVariants as read
 use Rattle.process_memory.proofs.Reading.{reading_gives, reading_here, reading_none, reading_then, reads_within}
 use Rattle.py_version.specs.declared.version.Version.{Version}
 use Rattle.py_fields.specs.declared.layout.Layout.{Layout}
-use Rattle.py_process.specs.Candidates.{FirstIs, IsFirstOf, IsInterpreterIn, IsNoneOf, ListIs, NotFoundWhere, SearchIs, Searching, Seeking, candidate_cost, candidates_of, head_lies, interpreter_of, passes_in, search_bound, search_cost, search_most, section_words, walk_bound, words_in, words_of}
+use Rattle.py_process.specs.Candidates.{FirstIs, IsFirstOf, IsInterpreterIn, IsNoneOf, ListIs, NotFoundWhere, SearchIs}
+use Rattle.py_process.specs.Candidates.{Searching, Seeking, candidate_cost, candidates_of, head_lies, interpreter_of}
+use Rattle.py_process.specs.Candidates.{passes_in, search_bound, search_cost, search_most, section_words, walk_bound}
+use Rattle.py_process.specs.Candidates.{words_in, words_of}
 use Rattle.py_stacks.specs.Interpreter.{threads_head}
 use Rattle.py_stacks.proofs.Candidates.{test_most}
 use Rattle.py_process.specs.Facts.{Known}

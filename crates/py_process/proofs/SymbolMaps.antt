@@ -1,5 +1,6 @@
 -- What a map has for each name after one symbol more, and after two lists of them.
-use Rattle.std.proofs.Common.{◌≡◌, ℕ, ◌+◌, ◌<◌, Bool, true, false, List, [], ◌∷◌, ◌++◌, take, map, length, get_or, reverse, refl, sym, ap, subst, ◌∙◌, ⊎_elim}
+use Rattle.std.proofs.Common.{◌≡◌, ℕ, ◌+◌, ◌<◌, Bool, true, false, List, [], ◌∷◌, ◌++◌, take, map, length, get_or}
+use Rattle.std.proofs.Common.{reverse, refl, sym, ap, subst, ◌∙◌, ⊎_elim}
 use Rattle.std.specs.Prelude.{Option, Some, None, option_map, cond, ◌&&◌}
 use Rattle.std.specs.Option.{option_or}
 use Rattle.std.specs.List.{find}

@@ -15,7 +15,9 @@ use Rattle.py_version.proofs.Scans.{not_none}
 use Rattle.py_version.proofs.Unique.{spells_once}
 use Rattle.py_process.specs.Causes.{version_unread}
 use Rattle.py_process.specs.Facts.{facts_of}
-use Rattle.py_process.specs.Sources.{BytesTell, FirstTells, IsVersionTold, SectionTells, VersionSource, TellsVersion, TellsBefore, TextTells, ToldBy, VersionIs, bss_of, version_number_at, text_source_at, version_of_number}
+use Rattle.py_process.specs.Sources.{BytesTell, FirstTells, IsVersionTold, SectionTells, VersionSource, TellsVersion}
+use Rattle.py_process.specs.Sources.{TellsBefore, TextTells, ToldBy, VersionIs, bss_of, version_number_at}
+use Rattle.py_process.specs.Sources.{text_source_at, version_of_number}
 use Rattle.py_process.specs.Sources.VersionSource.{Number, Text, Section, Path}
 use Rattle.py_process.specs.declared.binary.BinaryInfo.{BinaryInfo}
 use Rattle.py_process.specs.declared.version_error.VersionError.{VersionError}

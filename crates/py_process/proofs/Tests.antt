@@ -11,7 +11,8 @@ use Rattle.py_stacks.specs.declared.error.StackError.{StackError}
 use Rattle.py_stacks.specs.StackError.{stack_fault}
 use Rattle.py_stacks.specs.Interpreter.{IsInterpreter, bound_from, passes, passes_from, threads_head}
 use Rattle.py_stacks.proofs.Candidates.{members_split, passes_law, passes_split, threads_split}
-use Rattle.py_process.specs.Candidates.{IsInterpreterIn, ListIs, SearchIs, candidate_cost, candidate_of, head_lies, passes_in}
+use Rattle.py_process.specs.Candidates.{IsInterpreterIn, ListIs, SearchIs, candidate_cost, candidate_of, head_lies}
+use Rattle.py_process.specs.Candidates.{passes_in}
 use Rattle.py_process.specs.declared.search_error.SearchError.{SearchError}
 use Rattle.py_process.specs.declared.search_error.SearchError.TheVariants.{NotFound, OutOfMemory}
 use Rattle.py_process.proofs.Wider.{reading_wider}

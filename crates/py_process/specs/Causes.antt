@@ -8,7 +8,10 @@ use Rattle.process_memory.specs.declared.memory.ReadFault.TheVariants as read
 use Rattle.py_stacks.specs.declared.error.StackError.{StackError}
 use Rattle.py_stacks.specs.declared.error.StackError.TheVariants as stack
 use Rattle.py_process.specs.declared.core_error.CoreError.{CoreError}
-use Rattle.py_process.specs.declared.core_error.CoreError.TheVariants.{NotElf64, BadHeader, NoNotes, BadNote, UnreadableVersion, NoVersion, NoInterpreter, Unreadable, BadValue, LocalsLimit, ThreadLimit, FrameLimit, ChainLimit, OutOfMemory}
+use Rattle.py_process.specs.declared.core_error.CoreError.TheVariants.{NotElf64, BadHeader, NoNotes, BadNote}
+use Rattle.py_process.specs.declared.core_error.CoreError.TheVariants.{UnreadableVersion, NoVersion, NoInterpreter}
+use Rattle.py_process.specs.declared.core_error.CoreError.TheVariants.{Unreadable, BadValue, LocalsLimit, ThreadLimit}
+use Rattle.py_process.specs.declared.core_error.CoreError.TheVariants.{FrameLimit, ChainLimit, OutOfMemory}
 use Rattle.py_process.specs.declared.binary_error.BinaryError.{BinaryError}
 use Rattle.py_process.specs.declared.binary_error.BinaryError.TheVariants as binary
 use Rattle.py_process.specs.declared.search_error.SearchError.{SearchError}

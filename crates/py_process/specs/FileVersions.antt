@@ -1,6 +1,7 @@
 -- The version that the name of Python's program tells, as `python3.9` does. That names tell one is this project's
 -- own rule, after py-spy.
-use Rattle.std.specs.Prelude.{ℕ, ◌^◌, ◌==◌, ◌&&◌, nat_eq, nat_lt, Bool, if◌then◌else◌, List, ◌∷◌, length, drop, Option, Some, None, option_and_then, codes}
+use Rattle.std.specs.Prelude.{ℕ, ◌^◌, ◌==◌, ◌&&◌, nat_eq, nat_lt, Bool, if◌then◌else◌, List, ◌∷◌, length, drop, Option}
+use Rattle.std.specs.Prelude.{Some, None, option_and_then, codes}
 use Rattle.std.specs.Char.{is_ascii_digit}
 use Rattle.std.specs.List.{after_last, list_all, slice_split, starts_with}
 use Rattle.std.specs.Str.Parse.{digits_value}

@@ -17,7 +17,8 @@ use Rattle.py_process.specs.Programs.{ArePrograms, ImagesSay, IsKnown, MapsSay, 
 use Rattle.py_process.specs.Sources.{FirstTells, sources_of}
 use Rattle.py_process.specs.Steps.{Then}
 use Rattle.py_process.specs.declared.core_error.CoreError.{CoreError}
-use Rattle.py_process.specs.declared.core_error.CoreError.TheVariants.{UnreadableVersion, NoVersion, UnsupportedVersion, NoInterpreter, Unreadable, OutOfMemory}
+use Rattle.py_process.specs.declared.core_error.CoreError.TheVariants.{UnreadableVersion, NoVersion, UnsupportedVersion}
+use Rattle.py_process.specs.declared.core_error.CoreError.TheVariants.{NoInterpreter, Unreadable, OutOfMemory}
 
 -- ---- the steps
 

@@ -1,6 +1,7 @@
 -- Whether parts of a library's name stand at the front of some bytes, as the reader tests it. `Library` says
 -- what such a name is.
-use Rattle.std.specs.Prelude.{ℕ, ◌==◌, ◌&&◌, ◌||◌, nat_eq, Bool, false, not, if◌then◌else◌, List, [], ◌∷◌, drop, Option, Some, None, codes}
+use Rattle.std.specs.Prelude.{ℕ, ◌==◌, ◌&&◌, ◌||◌, nat_eq, Bool, false, not, if◌then◌else◌, List, [], ◌∷◌, drop, Option}
+use Rattle.std.specs.Prelude.{Some, None, codes}
 use Rattle.std.specs.Char.{is_ascii_digit}
 use Rattle.std.specs.List.{starts_with}
 use Rattle.bstr.specs.Utf8.{decoded}

@@ -1,7 +1,8 @@
 -- Where the lock of an interpreter is: the address of what names its holder. That older builds keep the current thread
 -- in a variable, `_PyThreadState_Current`, those from 3.7 on in `_PyRuntime`, and newer ones the lock's own record
 -- in each interpreter, is CPython's; which family a build is of is the layout's word.
-use Rattle.std.specs.Prelude.{◌≡◌, ℕ, ◌+◌, ◌-◌, ◌^◌, nat_lt, true, if◌then◌else◌, Option, Some, None, option_map, unwrap_or, Result, Ok, Err, ⊤, codes}
+use Rattle.std.specs.Prelude.{◌≡◌, ℕ, ◌+◌, ◌-◌, ◌^◌, nat_lt, true, if◌then◌else◌, Option, Some, None, option_map}
+use Rattle.std.specs.Prelude.{unwrap_or, Result, Ok, Err, ⊤, codes}
 use Rattle.elf64_core.specs.declared.header.Machine.{Machine}
 use Rattle.process_memory.specs.Memory.{Found, Memory, word_at}
 use Rattle.process_memory.specs.Memory.Fault.{Missing}

@@ -1,6 +1,7 @@
 -- The program of a process and Python's library, by the maps, and what their images say. Which maps they are is
 -- this project's own rule, after py-spy.
-use Rattle.std.specs.Prelude.{◌≡◌, List, ℕ, [], ◌∷◌, ◌++◌, All, Option, Some, None, IsSome, unwrap_or, Result, Ok, Err, ⊤}
+use Rattle.std.specs.Prelude.{◌≡◌, List, ℕ, [], ◌∷◌, ◌++◌, All, Option, Some, None, IsSome, unwrap_or, Result, Ok, Err}
+use Rattle.std.specs.Prelude.{⊤}
 use Rattle.std.specs.Int.{IsBitSet}
 use Rattle.image_memory.specs.Images.{Pushed, first_under}
 use Rattle.image_memory.specs.Mmap.{Mapped, shown_bytes}

@@ -1,7 +1,8 @@
 -- The bss and the runtime section of an image, and how far it was moved. What sections and segments are is
 -- the System V gABI's; which of them counts, and what comes of sums that pass 2^64 - 1, is this project's own
 -- rule, after py-spy.
-use Rattle.std.specs.Prelude.{◌≡◌, ℕ, ◌+◌, ◌-◌, ◌%◌, ◌<◌, ◌≤◌, ◌^◌, nat_eq, nat_lt, ◌&&◌, Bool, true, false, if◌then◌else◌, List, ◌∷◌, ◌++◌, All, Option, Some, None, codes}
+use Rattle.std.specs.Prelude.{◌≡◌, ℕ, ◌+◌, ◌-◌, ◌%◌, ◌<◌, ◌≤◌, ◌^◌, nat_eq, nat_lt, ◌&&◌, Bool, true, false}
+use Rattle.std.specs.Prelude.{if◌then◌else◌, List, ◌∷◌, ◌++◌, All, Option, Some, None, codes}
 use Rattle.std.specs.List.{find}
 use Rattle.std.specs.Cmp.Lexicographic.{pointwise}
 use Rattle.elf64_core.specs.Header.{load_kind, segments_of}

@@ -7,7 +7,8 @@ use Rattle.elf64_core.specs.declared.section.Section.{Section}
 use Rattle.elf64_core.specs.declared.segment.Segment.{Segment}
 use Rattle.elf64_core.specs.declared.symbol.SymbolKind.TheVariants.{Plain, Dynamic}
 use Rattle.py_process.specs.declared.binary_error.BinaryError.{BinaryError}
-use Rattle.py_process.specs.declared.binary_error.BinaryError.TheVariants.{NotElf64, BadHeader, NoBss, NoExecutable, BadBss, OutOfMemory}
+use Rattle.py_process.specs.declared.binary_error.BinaryError.TheVariants.{NotElf64, BadHeader, NoBss, NoExecutable}
+use Rattle.py_process.specs.declared.binary_error.BinaryError.TheVariants.{BadBss, OutOfMemory}
 use Rattle.py_process.specs.declared.ranges.Ranges.{Ranges}
 use Rattle.py_process.specs.Ranges.{AreRanges, BssIs, IsBss, bss_range, executable_of, moved_by}
 

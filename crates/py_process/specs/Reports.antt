@@ -1,5 +1,6 @@
 -- What a report says of a core and its images, and why there is none.
-use Rattle.std.specs.Prelude.{◌≡◌, ℕ, ℤ, pos, true, false, List, [], ◌∷◌, map, Option, Some, None, option_map, unwrap_or, Result, Ok, Err, ⊤, Vec}
+use Rattle.std.specs.Prelude.{◌≡◌, ℕ, ℤ, pos, true, false, List, [], ◌∷◌, map, Option, Some, None, option_map}
+use Rattle.std.specs.Prelude.{unwrap_or, Result, Ok, Err, ⊤, Vec}
 use Rattle.std.specs.Global.{Global}
 use Rattle.bstr.specs.Utf8.{lossy_chars}
 use Rattle.elf64_core.specs.Header.{machine_of}
@@ -14,7 +15,9 @@ use Rattle.image_memory.specs.declared.maps.CoreMapRange.{CoreMapRange}
 use Rattle.image_memory.specs.declared.records.elf_prstatus.{elf_prstatus}
 use Rattle.image_memory.specs.declared.records.elf_prpsinfo.{elf_prpsinfo}
 use Rattle.process_memory.specs.Memory.{Memory, Region, Fault, byte_at}
-use Rattle.process_memory.specs.Memory.Fault.{Missing, BadValue as IsBadValue, LocalsLimit as ManyLocals, ThreadLimit as ManyThreads, FrameLimit as ManyFrames, ChainLimit as ManyMembers}
+use Rattle.process_memory.specs.Memory.Fault.{Missing, BadValue as IsBadValue, LocalsLimit as ManyLocals}
+use Rattle.process_memory.specs.Memory.Fault.{ThreadLimit as ManyThreads, FrameLimit as ManyFrames}
+use Rattle.process_memory.specs.Memory.Fault.{ChainLimit as ManyMembers}
 use Rattle.process_memory.specs.Walk.{first_fault}
 use Rattle.py_fields.specs.declared.layout.Layout.{Layout}
 use Rattle.py_version.specs.declared.version.Version.{Version}
@@ -35,7 +38,10 @@ use Rattle.py_process.specs.Steps.{Then}
 use Rattle.py_process.specs.Variables.{HasRest}
 use Rattle.py_process.specs.declared.report.Report.{Report}
 use Rattle.py_process.specs.declared.core_error.CoreError.{CoreError}
-use Rattle.py_process.specs.declared.core_error.CoreError.TheVariants.{NotElf64, BadHeader, NoNotes, BadNote, Unreadable, NativeUnsupported, SubprocessesUnsupported, BadValue, LocalsLimit, ThreadLimit, FrameLimit, ChainLimit, OutOfMemory}
+use Rattle.py_process.specs.declared.core_error.CoreError.TheVariants.{NotElf64, BadHeader, NoNotes, BadNote}
+use Rattle.py_process.specs.declared.core_error.CoreError.TheVariants.{Unreadable, NativeUnsupported}
+use Rattle.py_process.specs.declared.core_error.CoreError.TheVariants.{SubprocessesUnsupported, BadValue, LocalsLimit}
+use Rattle.py_process.specs.declared.core_error.CoreError.TheVariants.{ThreadLimit, FrameLimit, ChainLimit, OutOfMemory}
 
 -- what is dumped of a process: its maps, and the pieces of its memory
 pub record Dumped : Type 0 where

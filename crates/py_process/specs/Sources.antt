@@ -1,7 +1,8 @@
 -- Where a process tells which version of Python runs in it, and what is told there. `Py_Version` is CPython's
 -- number (PY_VERSION_HEX); the text is that of its `Py_GetVersion`. Which of them counts is this project's own
 -- rule, after py-spy.
-use Rattle.std.specs.Prelude.{◌≡◌, ℕ, ◌/◌, ◌%◌, ◌^◌, ◌==◌, if◌then◌else◌, List, [], ◌∷◌, ◌++◌, Option, Some, None, Result, Ok, Err, ⊤, codes, decimal}
+use Rattle.std.specs.Prelude.{◌≡◌, ℕ, ◌/◌, ◌%◌, ◌^◌, ◌==◌, if◌then◌else◌, List, [], ◌∷◌, ◌++◌, Option, Some, None}
+use Rattle.std.specs.Prelude.{Result, Ok, Err, ⊤, codes, decimal}
 use Rattle.std.specs.Int.{w32, from_le_bytes}
 use Rattle.std.specs.Option.{option_or}
 use Rattle.process_memory.specs.Memory.{Found, Memory, ◌>>=◌, record_at}

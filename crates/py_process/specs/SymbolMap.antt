@@ -1,6 +1,7 @@
 -- Which symbols of an image have an address in the process, and which address a name has. What the fields of
 -- a symbol are is the System V gABI's; which are left out is this project's own rule, after py-spy.
-use Rattle.std.specs.Prelude.{◌≡◌, ℕ, ◌+◌, ◌/◌, ◌%◌, nat_eq, nat_lt, nat_le, ◌&&◌, ◌||◌, Bool, not, List, ◌++◌, reverse, Option, option_map}
+use Rattle.std.specs.Prelude.{◌≡◌, ℕ, ◌+◌, ◌/◌, ◌%◌, nat_eq, nat_lt, nat_le, ◌&&◌, ◌||◌, Bool, not, List, ◌++◌, reverse}
+use Rattle.std.specs.Prelude.{Option, option_map}
 use Rattle.std.specs.List.{find}
 use Rattle.std.specs.Ordering.{nat_cmp}
 use Rattle.std.specs.Cmp.Lexicographic.{slice_cmp}

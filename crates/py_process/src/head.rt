@@ -42,9 +42,9 @@ fn read_by_offsets<P: ProcessMemory>(
     word_past(process, runtime, head)
 }
 
-/// The head by the address of the runtime's own record (`_PyRuntime`), by the layout's family; nothing where that is not
-/// known, where a layout has no such record, as up to 3.6, or where something on the way is not in memory. The one error
-/// is want of memory. At most 2 reads.
+/// The head by the address of the runtime's own record (`_PyRuntime`), by the layout's family; nothing where that is
+/// not known, where a layout has no such record, as up to 3.6, or where something on the way is not in memory. The one
+/// error is want of memory. At most 2 reads.
 pub fn read_head_from<P: ProcessMemory>(
     alloc: Global,
     process: &mut P,

@@ -7,9 +7,12 @@ use Rattle.process_memory.proofs.WalkSums.{walk_ones, walk_sum}
 use Rattle.py_fields.specs.declared.layout.Layout.{Layout}
 use Rattle.py_stacks.specs.declared.asked.Asked.{Asked}
 use Rattle.py_stacks.specs.Frames.{cost_after, extra_cost, frame_step, frames_cost, member_cost, member_limit}
-use Rattle.py_stacks.specs.Met.{details_cost, details_walked, frames_extra, frames_met, members_met, members_walked, of_thread, stacks_bound, thread_bound, thread_details, thread_members, threads_met, threads_walked, where_held}
+use Rattle.py_stacks.specs.Met.{details_cost, details_walked, frames_extra, frames_met, members_met, members_walked}
+use Rattle.py_stacks.specs.Met.{of_thread, stacks_bound, thread_bound, thread_details, thread_members, threads_met}
+use Rattle.py_stacks.specs.Met.{threads_walked, where_held}
 use Rattle.py_stacks.specs.Stacks.{stacks_cost}
-use Rattle.py_stacks.specs.Threads.{first_frame_at, thread_cost, thread_frames_cost, thread_limit, thread_step, threads_cost, traces_cost}
+use Rattle.py_stacks.specs.Threads.{first_frame_at, thread_cost, thread_frames_cost, thread_limit, thread_step}
+use Rattle.py_stacks.specs.Threads.{threads_cost, traces_cost}
 use Rattle.py_stacks.specs.Holder.{holder_id_at}
 
 module _ {S T : Type 0} (step : S → ℕ → Found (Step S T)) where

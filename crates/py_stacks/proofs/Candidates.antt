@@ -12,7 +12,10 @@ use Rattle.py_stacks.specs.StackError.{stack_fault}
 use Rattle.py_stacks.specs.Asking.{nothing}
 use Rattle.py_stacks.specs.Met.{members_met, threads_met}
 use Rattle.py_stacks.specs.Threads.{AreTraces, Trace, traces_at, traces_cost}
-use Rattle.py_stacks.specs.Interpreter.{IsInterpreter, IsInterpreterFrom, RefusesAddress, cost_from, members_from, members_tested, named_at, interpreter_named_by, passes, passes_from, passes_named, test_cost, threads_from, threads_head, threads_tested, was_found, where_named}
+use Rattle.py_stacks.specs.Interpreter.{IsInterpreter, IsInterpreterFrom, RefusesAddress, cost_from, members_from}
+use Rattle.py_stacks.specs.Interpreter.{members_tested, named_at, interpreter_named_by, passes, passes_from}
+use Rattle.py_stacks.specs.Interpreter.{passes_named, test_cost, threads_from, threads_head, threads_tested, was_found}
+use Rattle.py_stacks.specs.Interpreter.{where_named}
 use Rattle.py_stacks.proofs.Bounds.{members_met_most, threads_met_most}
 use Rattle.py_stacks.proofs.Unasked.{plain_bound}
 use Rattle.py_stacks.proofs.ThreadLaws.{traces_found}

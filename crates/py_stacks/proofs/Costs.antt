@@ -8,7 +8,8 @@ use Rattle.process_memory.proofs.Reading.{reading_here}
 use Rattle.py_fields.specs.declared.layout.Layout.{Layout}
 use Rattle.py_stacks.specs.declared.asked.Asked.{Asked}
 use Rattle.py_stacks.specs.Frames.{frames_cost}
-use Rattle.py_stacks.specs.Threads.{first_frame_at, frame_through, thread_cost, thread_frames_cost, threads_cost, traces_cost}
+use Rattle.py_stacks.specs.Threads.{first_frame_at, frame_through, thread_cost, thread_frames_cost, threads_cost}
+use Rattle.py_stacks.specs.Threads.{traces_cost}
 
 pub thread_costs_one : (q : Asked) (l : Layout) (m : Memory) (t : ℕ) → 1 ≤ thread_cost q l m tt t
 unfolding thread_cost

@@ -18,8 +18,11 @@ use Rattle.py_stacks.specs.Detail.{detail_cost}
 use Rattle.py_stacks.specs.Lines.{line_cost}
 use Rattle.py_stacks.specs.Locals.{count_of, count_or_zero, locals_cost, locals_read}
 use Rattle.py_stacks.specs.Member.{MemberAt}
-use Rattle.py_stacks.specs.Frames.{Call, cost_after, extra_cost, frame_limit, frame_step, frames_cost, member_limit, part_cost, plain_by, records_at}
-use Rattle.py_stacks.specs.Met.{details_cost, details_walked, frames_extra, frames_locals, frames_met, locals_met, locals_most, locals_walked, member_locals, members_met, members_walked, of_thread, part_locals, thread_details, thread_locals, thread_members}
+use Rattle.py_stacks.specs.Frames.{Call, cost_after, extra_cost, frame_limit, frame_step, frames_cost, member_limit}
+use Rattle.py_stacks.specs.Frames.{part_cost, plain_by, records_at}
+use Rattle.py_stacks.specs.Met.{details_cost, details_walked, frames_extra, frames_locals, frames_met, locals_met}
+use Rattle.py_stacks.specs.Met.{locals_most, locals_walked, member_locals, members_met, members_walked, of_thread}
+use Rattle.py_stacks.specs.Met.{part_locals, thread_details, thread_locals, thread_members}
 use Rattle.py_stacks.specs.Holder.{holder_id_at}
 use Rattle.py_stacks.specs.Stacks.{stacks_cost}
 use Rattle.py_stacks.specs.Threads.{first_frame_at, thread_cost, thread_frames_cost, thread_limit, thread_step}

@@ -10,7 +10,8 @@ use Rattle.py_stacks.specs.Asking.{nothing}
 use Rattle.py_stacks.specs.Detail.{detail_at, detail_cost, detail_faults, detail_with}
 use Rattle.py_stacks.specs.Member.{MemberAt}
 use Rattle.py_stacks.specs.Lines.{line_at, line_by}
-use Rattle.py_stacks.specs.Locals.{asked_faults, asked_locals, count_of, each_faults, kept_local, local_at, locals_at, locals_cost, locals_faults, locals_from, names_tuple_of}
+use Rattle.py_stacks.specs.Locals.{asked_faults, asked_locals, count_of, each_faults, kept_local, local_at, locals_at}
+use Rattle.py_stacks.specs.Locals.{locals_cost, locals_faults, locals_from, names_tuple_of}
 use Rattle.process_memory.proofs.Walks.{then_same}
 
 from_inner : {T U : Type 0} (d : Found T) (f : T → U) → fault_in d ≡ fault_in (d >>= (λ x. Ok (f x)))

@@ -1,5 +1,6 @@
 -- What the walk along a thread's frames says in the subject's own words: the whole chain, and the first fault.
-use Rattle.std.proofs.Common.{◌≡◌, ℕ, zero, suc, ◌+◌, ◌<◌, ◌≤◌, Bool, true, false, cond, ltb, List, [], ◌∷◌, length, refl, sym, ◌∙◌, ap, arith}
+use Rattle.std.proofs.Common.{◌≡◌, ℕ, zero, suc, ◌+◌, ◌<◌, ◌≤◌, Bool, true, false, cond, ltb, List, [], ◌∷◌, length}
+use Rattle.std.proofs.Common.{refl, sym, ◌∙◌, ap, arith}
 use Rattle.std.specs.Prelude.{Option, Some, None, Ok, Err}
 use Rattle.std.proofs.lemmas.Bool.Decides.{nat_tests}
 use Rattle.process_memory.specs.Memory.{Memory, Found, ◌>>=◌}
@@ -11,7 +12,10 @@ use Rattle.py_fields.specs.declared.layout.Layout.{Layout}
 use Rattle.py_stacks.specs.declared.asked.Asked.{Asked}
 use Rattle.py_stacks.specs.Detail.{detail_at, detail_faults}
 use Rattle.py_stacks.specs.Member.{MemberAt}
-use Rattle.py_stacks.specs.Frames.{AreFrames, Call, back_by, back_of, detailed, frame_faults, frame_limit, frame_next, frame_step, frames_at, frames_faults, kept_next, member_limit, members_at, part_by, part_faults, plain_by, records_at, shown, shown_at, shown_by, step_by, step_part, with_detail}
+use Rattle.py_stacks.specs.Frames.{AreFrames, Call, back_by, back_of, detailed, frame_faults, frame_limit, frame_next}
+use Rattle.py_stacks.specs.Frames.{frame_step, frames_at, frames_faults, kept_next, member_limit, members_at, part_by}
+use Rattle.py_stacks.specs.Frames.{part_faults, plain_by, records_at, shown, shown_at, shown_by, step_by, step_part}
+use Rattle.py_stacks.specs.Frames.{with_detail}
 use Rattle.py_stacks.proofs.Details.{detail_same}
 use Rattle.py_stacks.proofs.Gather.{step_parts}
 use Rattle.py_stacks.proofs.Parts.{plain_is}

@@ -1,5 +1,6 @@
 -- The walk along a thread's frames, member by member.
-use Rattle.std.proofs.Common.{◌≡◌, ◌≢◌, ℕ, ◌+◌, ◌<◌, Bool, true, false, cond, ltb, List, [], ◌∷◌, ◌++◌, length, map, refl, sym, ◌∙◌, ap, arith, length-append}
+use Rattle.std.proofs.Common.{◌≡◌, ◌≢◌, ℕ, ◌+◌, ◌<◌, Bool, true, false, cond, ltb, List, [], ◌∷◌, ◌++◌, length, map}
+use Rattle.std.proofs.Common.{refl, sym, ◌∙◌, ap, arith, length-append}
 use Rattle.std.specs.Prelude.{Option, Some, None, Ok, Err}
 use Rattle.std.proofs.lemmas.List.{map-append}
 use Rattle.std.proofs.lemmas.Option.{same_Some}
@@ -9,7 +10,8 @@ use Rattle.process_memory.specs.Seen.{Seen, Reads}
 use Rattle.process_memory.specs.Walk.{Step, walk_at}
 use Rattle.process_memory.proofs.Founds.{bound, ok_same}
 use Rattle.process_memory.proofs.Reading.{reading_gives, reading_here, answers_then, answers_stop}
-use Rattle.process_memory.proofs.Walks.{walking_init, walking_more, walking_done, walking_full, walking_stop, walking_lost}
+use Rattle.process_memory.proofs.Walks.{walking_init, walking_more, walking_done, walking_full, walking_stop}
+use Rattle.process_memory.proofs.Walks.{walking_lost}
 use Rattle.py_fields.specs.declared.layout.Layout.{Layout}
 use Rattle.py_stacks.specs.declared.asked.Asked.{Asked}
 use Rattle.py_stacks.specs.declared.trace.Frame.{Frame}
@@ -18,7 +20,10 @@ use Rattle.py_stacks.specs.declared.error.StackError.TheVariants as stack
 use Rattle.py_stacks.specs.StackError.{stack_fault}
 use Rattle.py_stacks.specs.Detail.{detail_at}
 use Rattle.py_stacks.specs.Member.{MemberAt}
-use Rattle.py_stacks.specs.Frames.{Call, call_named, call_of, frame_limit, frame_step, frames_at, frames_cost, is_hidden, member_cost, member_limit, members_at, part_by, plain_at, plain_by, records_at, shown, shown_by, step_by, step_of_result, step_part, visible, with_detail, with_mark}
+use Rattle.py_stacks.specs.Frames.{Call, call_named, call_of, frame_limit, frame_step, frames_at, frames_cost}
+use Rattle.py_stacks.specs.Frames.{is_hidden, member_cost, member_limit, members_at, part_by, plain_at, plain_by}
+use Rattle.py_stacks.specs.Frames.{records_at, shown, shown_by, step_by, step_of_result, step_part, visible}
+use Rattle.py_stacks.specs.Frames.{with_detail, with_mark}
 use Rattle.py_stacks.specs.Gathering.{Adds, Gathering, mark_call, mark_last}
 use Rattle.py_stacks.proofs.Marking.{length-mark_last, map-mark_last, shown-kept, shown-last, shown-skipped}
 use Rattle.py_stacks.proofs.Parts.{plain_is}

@@ -22,7 +22,8 @@ use Rattle.py_stacks.specs.StackError.{stack_fault}
 use Rattle.py_stacks.specs.Stacks.{stacks_at, stacks_faults}
 use Rattle.py_stacks.specs.StacksOver.{AreStacksOver, stacks_over_at, stacks_over_cost, values_met}
 use Rattle.py_stacks.specs.Threads.{Trace, trace_of, traces_of_result}
-use Rattle.py_stacks.specs.Values.{by_value, call_visits, trace_visits, traces_visits, value_text, value_visits, value_width}
+use Rattle.py_stacks.specs.Values.{by_value, call_visits, trace_visits, traces_visits, value_text, value_visits}
+use Rattle.py_stacks.specs.Values.{value_width}
 use Rattle.py_stacks.proofs.StackLaws.{from_inner, stacks_found, stacks_same}
 use Rattle.py_stacks.proofs.Wholes.{stacks_whole}
 

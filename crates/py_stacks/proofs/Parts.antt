@@ -11,7 +11,8 @@ use Rattle.py_fields.specs.declared.layout.Layout.{Layout}
 use Rattle.py_stacks.specs.declared.asked.Asked.{Asked}
 use Rattle.py_stacks.specs.Detail.{detail_at, detail_cost}
 use Rattle.py_stacks.specs.Member.{MemberAt}
-use Rattle.py_stacks.specs.Frames.{Call, extra_cost, frame_limit, member_cost, name_at, part_by, part_cost, plain_at, plain_by, records_at, with_detail}
+use Rattle.py_stacks.specs.Frames.{Call, extra_cost, frame_limit, member_cost, name_at, part_by, part_cost, plain_at}
+use Rattle.py_stacks.specs.Frames.{plain_by, records_at, with_detail}
 
 pub plain_is : (l : Layout) (m : Memory) (r : MemberAt) → plain_at l m r ≡ Ok (plain_by l m r)
 unfolding plain_at name_at

@@ -16,7 +16,9 @@ use Rattle.py_stacks.specs.declared.trace.StackTrace.{StackTrace}
 use Rattle.py_stacks.specs.declared.error.StackError.{StackError}
 use Rattle.py_stacks.specs.StackError.{stack_fault}
 use Rattle.py_stacks.specs.Frames.{AreFrames, Call, frames_at}
-use Rattle.py_stacks.specs.Threads.{AreTraces, AreTracesOf, IsTraceOf, Trace, first_frame_at, thread_after, thread_faults, thread_limit, thread_next, thread_step, threads_at, trace_at, trace_by, trace_of, trace_of_result, traces_at, traces_faults}
+use Rattle.py_stacks.specs.Threads.{AreTraces, AreTracesOf, IsTraceOf, Trace, first_frame_at, thread_after}
+use Rattle.py_stacks.specs.Threads.{thread_faults, thread_limit, thread_next, thread_step, threads_at, trace_at}
+use Rattle.py_stacks.specs.Threads.{trace_by, trace_of, trace_of_result, traces_at, traces_faults}
 use Rattle.py_stacks.proofs.FrameLaws.{frames_found, frames_same}
 
 -- what a thread is, by its parts

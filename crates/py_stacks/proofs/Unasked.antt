@@ -8,7 +8,8 @@ use Rattle.py_stacks.specs.declared.asked.Asked.{Asked}
 use Rattle.py_stacks.specs.Asking.{nothing}
 use Rattle.py_stacks.specs.Detail.{detail_cost}
 use Rattle.py_stacks.specs.Member.{MemberAt}
-use Rattle.py_stacks.specs.Frames.{Call, cost_after, extra_cost, frame_limit, frame_step, member_limit, part_cost, plain_by, records_at}
+use Rattle.py_stacks.specs.Frames.{Call, cost_after, extra_cost, frame_limit, frame_step, member_limit, part_cost}
+use Rattle.py_stacks.specs.Frames.{plain_by, records_at}
 use Rattle.py_stacks.specs.Met.{details_cost, frames_extra, members_met, of_thread, threads_met}
 use Rattle.py_stacks.specs.Threads.{first_frame_at, thread_limit, thread_step, traces_cost}
 use Rattle.py_stacks.proofs.Details.{nothing_costs}

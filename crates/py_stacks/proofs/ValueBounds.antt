@@ -1,5 +1,6 @@
 -- How many visits the values of locals take at most, whatever the memory holds.
-use Rattle.std.proofs.Common.{◌≡◌, ℕ, zero, suc, ◌+◌, ◌*◌, ◌≤◌, Bool, true, false, List, [], ◌∷◌, ◌++◌, length, length-append, map, refl, sym, ◌∙◌, ap, subst, arith}
+use Rattle.std.proofs.Common.{◌≡◌, ℕ, zero, suc, ◌+◌, ◌*◌, ◌≤◌, Bool, true, false, List, [], ◌∷◌, ◌++◌, length}
+use Rattle.std.proofs.Common.{length-append, map, refl, sym, ◌∙◌, ap, subst, arith}
 use Rattle.std.specs.Prelude.{Option, Some, None, Ok, Err}
 use Rattle.std.specs.List.{All, sum_by}
 use Rattle.std.proofs.lemmas.List.Elements.{All-cons}
@@ -15,14 +16,17 @@ use Rattle.py_stacks.specs.declared.config.Config.{Config}
 use Rattle.py_stacks.specs.declared.trace.LocalVariable.{LocalVariable}
 use Rattle.py_stacks.specs.Asking.{asked_of}
 use Rattle.py_stacks.specs.Detail.{Detail, detail_at, detail_with}
-use Rattle.py_stacks.specs.Frames.{AreFrames, Call, begins_hidden, cost_after, detailed, plain_by, records_at, shown_at, shown_by, with_detail, with_mark}
+use Rattle.py_stacks.specs.Frames.{AreFrames, Call, begins_hidden, cost_after, detailed, plain_by, records_at, shown_at}
+use Rattle.py_stacks.specs.Frames.{shown_by, with_detail, with_mark}
 use Rattle.py_stacks.specs.Lines.{line_at}
-use Rattle.py_stacks.specs.Locals.{asked_locals, count_of, count_or_zero, kept_local, local_at, locals_at, locals_from, names_tuple_of}
+use Rattle.py_stacks.specs.Locals.{asked_locals, count_of, count_or_zero, kept_local, local_at, locals_at, locals_from}
+use Rattle.py_stacks.specs.Locals.{names_tuple_of}
 use Rattle.py_stacks.specs.Member.{MemberAt}
 use Rattle.py_stacks.specs.Stacks.{AreStacks, by_holder, stacks_at}
 use Rattle.py_stacks.specs.StacksOver.{values_met, variables_most}
 use Rattle.py_stacks.specs.Threads.{AreTracesOf, Trace}
-use Rattle.py_stacks.specs.Values.{asked_visits, call_visits, locals_visits, trace_visits, traces_visits, local_value_at, value_visits, value_width}
+use Rattle.py_stacks.specs.Values.{asked_visits, call_visits, locals_visits, trace_visits, traces_visits}
+use Rattle.py_stacks.specs.Values.{local_value_at, value_visits, value_width}
 use Rattle.py_stacks.proofs.DetailBounds.{count_most}
 use Rattle.py_stacks.proofs.OverLaws.{visits_kept}
 use Rattle.py_stacks.proofs.StackLaws.{stacks_found}

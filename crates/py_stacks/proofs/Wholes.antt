@@ -1,5 +1,6 @@
 -- A walk that has a whole chain within its limits, each of whose members can be read, answers it.
-use Rattle.std.proofs.Common.{◌≡◌, ℕ, ◌+◌, ◌<◌, ◌≤◌, Bool, true, ltb, List, [], ◌∷◌, length, map, refl, sym, ◌∙◌, ap, arith}
+use Rattle.std.proofs.Common.{◌≡◌, ℕ, ◌+◌, ◌<◌, ◌≤◌, Bool, true, ltb, List, [], ◌∷◌, length, map, refl, sym, ◌∙◌, ap}
+use Rattle.std.proofs.Common.{arith}
 use Rattle.std.specs.Prelude.{Option, Some, None, Result, Ok, ⊤}
 use Rattle.std.proofs.lemmas.Bool.Decides.{nat_tests}
 use Rattle.elf64_core.specs.Fields.{u64_in}
@@ -12,8 +13,12 @@ use Rattle.py_fields.specs.declared.layout.Layout.{Layout}
 use Rattle.py_stacks.specs.declared.asked.Asked.{Asked}
 use Rattle.py_stacks.specs.Detail.{detail_at}
 use Rattle.py_stacks.specs.Member.{MemberAt}
-use Rattle.py_stacks.specs.Frames.{AreFrames, Call, back_by, back_of, detailed, frame_limit, frame_step, frames_at, kept_next, member_limit, members_at, part_by, plain_at, plain_by, records_at, shown, shown_at, shown_by, step_by, step_part, with_detail}
-use Rattle.py_stacks.specs.Threads.{AreTraces, AreTracesOf, IsTraceOf, Trace, first_frame_at, thread_after, thread_limit, thread_step, threads_at, trace_at, trace_by, trace_of_result, traces_at, traces_of_result}
+use Rattle.py_stacks.specs.Frames.{AreFrames, Call, back_by, back_of, detailed, frame_limit, frame_step, frames_at}
+use Rattle.py_stacks.specs.Frames.{kept_next, member_limit, members_at, part_by, plain_at, plain_by, records_at, shown}
+use Rattle.py_stacks.specs.Frames.{shown_at, shown_by, step_by, step_part, with_detail}
+use Rattle.py_stacks.specs.Threads.{AreTraces, AreTracesOf, IsTraceOf, Trace, first_frame_at, thread_after}
+use Rattle.py_stacks.specs.Threads.{thread_limit, thread_step, threads_at, trace_at, trace_by, trace_of_result}
+use Rattle.py_stacks.specs.Threads.{traces_at, traces_of_result}
 use Rattle.std.specs.Global.{Vec}
 use Rattle.process_memory.specs.Seen.{Answers}
 use Rattle.py_stacks.specs.declared.trace.StackTrace.{StackTrace}

@@ -1,6 +1,8 @@
 -- The frames of a thread: what each member of their chain is, which are shown, and the faults on the way.
 -- Where the fields are a layout says; which members are shown, and the limits, are this project's rules.
-use Rattle.std.specs.Prelude.{◌≡◌, ℕ, ◌+◌, ◌*◌, ◌/◌, ◌^◌, ◌≤◌, nat_eq, nat_lt, Bool, true, false, not, ◌||◌, Option, Some, None, List, [], ◌∷◌, map, length, Result, Ok, Err, ℤ, pos, if◌then◌else◌, option_map, codes, bytes_eq, encode_utf8_all, Vec}
+use Rattle.std.specs.Prelude.{◌≡◌, ℕ, ◌+◌, ◌*◌, ◌/◌, ◌^◌, ◌≤◌, nat_eq, nat_lt, Bool, true, false, not, ◌||◌, Option}
+use Rattle.std.specs.Prelude.{Some, None, List, [], ◌∷◌, map, length, Result, Ok, Err, ℤ, pos, if◌then◌else◌}
+use Rattle.std.specs.Prelude.{option_map, codes, bytes_eq, encode_utf8_all, Vec}
 use Rattle.std.specs.Global.{Global}
 use Rattle.elf64_core.specs.Fields.{u64_in, u8_in}
 use Rattle.process_memory.specs.Memory.{Memory, Found, Fault, ◌>>=◌, record_at}

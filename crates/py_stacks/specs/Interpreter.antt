@@ -1,5 +1,6 @@
 -- The test of an address that may be an interpreter's: its first thread names it, and its threads can be walked.
-use Rattle.std.specs.Prelude.{◌≡◌, ℕ, ◌+◌, ◌*◌, nat_eq, Bool, true, false, MatchOption, List, Result, Ok, Err, if◌then◌else◌}
+use Rattle.std.specs.Prelude.{◌≡◌, ℕ, ◌+◌, ◌*◌, nat_eq, Bool, true, false, MatchOption, List, Result, Ok, Err}
+use Rattle.std.specs.Prelude.{if◌then◌else◌}
 use Rattle.elf64_core.specs.Fields.{u64_in}
 use Rattle.process_memory.specs.Memory.{Memory, Found, ◌>>=◌, record_at, word_at}
 use Rattle.py_fields.specs.declared.layout.Layout.{Layout}

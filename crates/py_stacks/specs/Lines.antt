@@ -14,7 +14,8 @@ use Rattle.py_fields.specs.declared.layout.Lines.{Lines}
 use Rattle.py_fields.specs.declared.layout.Lines.TheVariants.{Pairs, Ranges, Locations}
 use Rattle.py_fields.specs.declared.layout.Layout.{Layout}
 use Rattle.py_lines.specs.declared.lines.LineFamily.{LineFamily}
-use Rattle.py_lines.specs.declared.lines.LineFamily.TheVariants.{Pairs as PairTables, Ranges as RangeTables, Locations as LocationTables}
+use Rattle.py_lines.specs.declared.lines.LineFamily.TheVariants.{Pairs as PairTables, Ranges as RangeTables}
+use Rattle.py_lines.specs.declared.lines.LineFamily.TheVariants.{Locations as LocationTables}
 use Rattle.py_lines.specs.declared.lines.LineRange.{LineRange}
 use Rattle.py_lines.specs.Lines.{in_i32, line_of, ranges_of}
 use Rattle.py_builtins.specs.Bytes.{bytes_object_at}

@@ -2,7 +2,8 @@
 -- and its slot in the frame. Where these stand a layout says. That a slot's lowest bit is no part of an address,
 -- and that a slot of 0 holds no value, is CPython's; the limit, and which counts can't be, are this project's
 -- rules.
-use Rattle.std.specs.Prelude.{ℕ, zero, suc, ◌+◌, ◌*◌, ◌/◌, ◌^◌, nat_le, nat_lt, Bool, true, false, if◌then◌else◌, Option, Some, None, List, [], ◌∷◌, ◌++◌, Result, Ok, Err, option_map, Vec}
+use Rattle.std.specs.Prelude.{ℕ, zero, suc, ◌+◌, ◌*◌, ◌/◌, ◌^◌, nat_le, nat_lt, Bool, true, false, if◌then◌else◌}
+use Rattle.std.specs.Prelude.{Option, Some, None, List, [], ◌∷◌, ◌++◌, Result, Ok, Err, option_map, Vec}
 use Rattle.std.specs.Global.{Global}
 use Rattle.std.specs.Int.{w32, cast_signed}
 use Rattle.elf64_core.specs.Fields.{u32_in, u64_in}

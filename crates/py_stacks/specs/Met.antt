@@ -5,7 +5,8 @@ use Rattle.process_memory.specs.Memory.{Memory, ◌>>=◌, record_at, word_at}
 use Rattle.process_memory.specs.Walk.{walk_cost}
 use Rattle.py_fields.specs.declared.layout.Layout.{Layout}
 use Rattle.py_stacks.specs.declared.asked.Asked.{Asked}
-use Rattle.py_stacks.specs.Frames.{Call, cost_after, extra_cost, frame_limit, frame_step, member_limit, plain_by, records_at}
+use Rattle.py_stacks.specs.Frames.{Call, cost_after, extra_cost, frame_limit, frame_step, member_limit, plain_by}
+use Rattle.py_stacks.specs.Frames.{records_at}
 use Rattle.py_stacks.specs.Locals.{locals_read}
 use Rattle.py_stacks.specs.Member.{MemberAt}
 use Rattle.py_stacks.specs.Holder.{holder_id_at}

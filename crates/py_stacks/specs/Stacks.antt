@@ -36,4 +36,5 @@ pub record AreStacks (q : Asked) (l : Layout) (m : Memory) (lock interpreter : �
 
 -- the faults, in order: the one on the way to the holder, then those of the threads
 unfoldable pub stacks_faults : Asked → Layout → Memory → ℕ → ℕ → List Fault
-stacks_faults q l m lock interpreter = faults_then (holder_id_at l m lock) (λ holder_id. traces_faults q l m interpreter)
+stacks_faults q l m lock interpreter =
+    faults_then (holder_id_at l m lock) (λ holder_id. traces_faults q l m interpreter)

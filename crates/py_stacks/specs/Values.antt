@@ -1,6 +1,7 @@
 -- The values of locals as text. How wide they are shown, and what stands for one that can't be, is this project's
 -- own; the text of a value is py_objects's.
-use Rattle.std.specs.Prelude.{ℕ, ◌*◌, ◌-◌, ◌^◌, min, Option, Some, None, List, map, option_map, codes, IsSome, ◌≡◌, Result, Ok, Err}
+use Rattle.std.specs.Prelude.{ℕ, ◌*◌, ◌-◌, ◌^◌, min, Option, Some, None, List, map, option_map, codes, IsSome, ◌≡◌}
+use Rattle.std.specs.Prelude.{Result, Ok, Err}
 use Rattle.std.specs.List.{sum_by}
 use Rattle.std.specs.Str.{chars}
 use Rattle.process_memory.specs.Memory.{Memory, Found}

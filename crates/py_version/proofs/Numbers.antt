@@ -1,5 +1,6 @@
 -- The numbers of a version: what the reader takes is what is spelled.
-use Rattle.std.proofs.Common.{◌≡◌, ℕ, zero, suc, ◌+◌, ◌*◌, ◌-◌, ◌<◌, ◌≤◌, Bool, true, false, List, [], ◌∷◌, ◌++◌, refl, sym, ap, ◌∙◌, arith, ⊎_elim}
+use Rattle.std.proofs.Common.{◌≡◌, ℕ, zero, suc, ◌+◌, ◌*◌, ◌-◌, ◌<◌, ◌≤◌, Bool, true, false, List, [], ◌∷◌, ◌++◌, refl}
+use Rattle.std.proofs.Common.{sym, ap, ◌∙◌, arith, ⊎_elim}
 use Rattle.std.specs.Prelude.{Some, None, codes, decimal, if◌then◌else◌, ◌&&◌, ◌==◌, is_none, option_and_then}
 use Rattle.std.specs.Fmt.{digits}
 use Rattle.std.specs.Char.{is_ascii_digit}
@@ -9,7 +10,8 @@ use Rattle.std.proofs.lemmas.Bool.Decides.{nat_tests}
 use Rattle.std.proofs.lemmas.Option.{same_Some}
 use Rattle.std.proofs.lemmas.Fmt.{decimal_digit}
 use Rattle.py_version.specs.Spelling.{IsMajor, IsMinor, IsShort}
-use Rattle.py_version.specs.Fronts.{Front, digit_front, high_minor, low_minor, major_front, minor_front, or_front, short_front, two_digits}
+use Rattle.py_version.specs.Fronts.{Front, digit_front, high_minor, low_minor, major_front, minor_front, or_front}
+use Rattle.py_version.specs.Fronts.{short_front, two_digits}
 
 -- a choice that gave something
 pub chose : {X : Type 0} (b : Bool) (x y : X) → (if b then Some x else None) ≡ Some y → (b ≡ true) × (x ≡ y)

@@ -6,8 +6,10 @@ use Rattle.std.proofs.lemmas.List.{take-append-drop}
 use Rattle.std.proofs.lemmas.Option.{option_and_then_some}
 use Rattle.py_version.specs.declared.version.Version.{Version}
 use Rattle.py_version.specs.Spelling.{AreFlags, IsEnd, IsMetadata, Spells}
-use Rattle.py_version.specs.Fronts.{flags_len, has_end, major_front, metadata_front, minor_front, short_front, spelled, spelled_after, spelled_last, version_by}
-use Rattle.py_version.proofs.Numbers.{chose, major_read, major_spells, minor_read, minor_spells, short_read, short_spells}
+use Rattle.py_version.specs.Fronts.{flags_len, has_end, major_front, metadata_front, minor_front, short_front, spelled}
+use Rattle.py_version.specs.Fronts.{spelled_after, spelled_last, version_by}
+use Rattle.py_version.proofs.Numbers.{chose, major_read, major_spells, minor_read, minor_spells, short_read}
+use Rattle.py_version.proofs.Numbers.{short_spells}
 use Rattle.py_version.proofs.Flags.{flags_read, flags_spell}
 use Rattle.py_version.proofs.Builds.{metadata_read, metadata_spells}
 use Rattle.py_version.proofs.Ends.{behind_flags, behind_patch, end_ends, end_read, end_spells}

@@ -1,6 +1,7 @@
 -- Where an interpreter of a version has what, in bytes from `_PyRuntime` on. These numbers are this project's
 -- own; that a real CPython has them is trusted.
-use Rattle.std.specs.Prelude.{ℕ, ◌==◌, nat_le, if◌then◌else◌, Bool, false, Option, Some, None, List, bytes_eq, codes, encode_utf8_all}
+use Rattle.std.specs.Prelude.{ℕ, ◌==◌, nat_le, if◌then◌else◌, Bool, false, Option, Some, None, List, bytes_eq, codes}
+use Rattle.std.specs.Prelude.{encode_utf8_all}
 use Rattle.std.specs.Int.{is_in_range}
 use Rattle.elf64_core.specs.declared.header.Machine.{Machine}
 use Rattle.elf64_core.specs.declared.header.Machine.TheVariants.{X86_64, Aarch64, Other}

@@ -1,7 +1,8 @@
 -- How a version is spelled, as in `3.10.0rc1 (tags/v3.10.0rc1, ..`: the text of `Py_GetVersion`, whose parts
 -- are CPython's PY_VERSION and what the build adds behind a space. Which numbers and flags count, and that
 -- no border is asked for before it, is this project's own rule.
-use Rattle.std.specs.Prelude.{◌≡◌, ◌≢◌, ℕ, ◌+◌, ◌*◌, ◌-◌, ◌≤◌, ◌<◌, ◌⊎◌, ◌==◌, ◌||◌, Bool, IsTrue, List, [], ◌∷◌, ◌++◌, Option, Some, None, All, codes, decimal, drop}
+use Rattle.std.specs.Prelude.{◌≡◌, ◌≢◌, ℕ, ◌+◌, ◌*◌, ◌-◌, ◌≤◌, ◌<◌, ◌⊎◌, ◌==◌, ◌||◌, Bool, IsTrue, List, [], ◌∷◌, ◌++◌}
+use Rattle.std.specs.Prelude.{Option, Some, None, All, codes, decimal, drop}
 use Rattle.std.specs.Char.{IsScalar, encode_utf8, is_ascii_digit}
 use Rattle.std.specs.Int.{is_in_range}
 use Rattle.py_version.specs.declared.version.Version.{Version}

@@ -48,10 +48,9 @@ const ADDRESSES: &[u8] = b"0x9999\n";
 /// For how many bytes there is room in a stream, where nothing else is said.
 const ROOM: u32 = 1000;
 
-/// A command over files that serve: its words, which for `pysalvage` begin with its name, and the files that it asks for,
-/// in order, each with blanks between them;
-/// how many bytes it prints, and which, where these are a text; and what it prints before the cause where its core is
-/// cut, and with the cause where its image is, if it goes on then.
+/// A command over files that serve: its words, which for `pysalvage` begin with its name, and the files that it asks
+/// for, in order, each with blanks between them; how many bytes it prints, and which, where these are a text; and what
+/// it prints before the cause where its core is cut, and with the cause where its image is, if it goes on then.
 struct Row {
     words: &'static str,
     files: &'static str,

@@ -1,5 +1,6 @@
 -- The tree of what is left has no float.
-use Rattle.std.proofs.Common.{◌≡◌, ℕ, ◌+◌, ℤ, pos, negsuc, Bool, true, false, List, [], ◌∷◌, ◌++◌, map, drop, take, reverse, Option, Some, None, refl, ap, ◌∙◌}
+use Rattle.std.proofs.Common.{◌≡◌, ℕ, ◌+◌, ℤ, pos, negsuc, Bool, true, false, List, [], ◌∷◌, ◌++◌, map, drop, take}
+use Rattle.std.proofs.Common.{reverse, Option, Some, None, refl, ap, ◌∙◌}
 use Rattle.std.specs.Prelude.{◌||◌, Vec, position}
 use Rattle.std.specs.Global.{Global}
 use Rattle.serde_json.specs.Data.{Data, number}
@@ -29,7 +30,8 @@ use Rattle.salvage_marks.specs.Salvaged.{first_crashed}
 use Rattle.salvage_json.specs.Kinds.{end_tree, fault_or_null, fault_tree, lock_tree, why_tree}
 use Rattle.salvage_json.specs.Members.{frame_tree, local_tree, shown_tree, standing_tree, standings_tree, text_tree}
 use Rattle.salvage_json.specs.Threads.{frames_tree, id_tree, placed_trees, reversed_trees, thread_tree, threads_tree}
-use Rattle.salvage_json.specs.Salvaged.{interpreter_tree, interpreter_trees, interpreters_tree, process_tree, salvaged_tree, signal_tree, placed_trees as placed_of_all}
+use Rattle.salvage_json.specs.Salvaged.{interpreter_tree, interpreter_trees, interpreters_tree, process_tree}
+use Rattle.salvage_json.specs.Salvaged.{salvaged_tree, signal_tree, placed_trees as placed_of_all}
 
 items : {X : Type 0} (f : X → Data) (each : (x : X) → has_float (f x) ≡ false) (xs : List X)
     → items_have_float (items_of (map (λ x. f x) xs)) ≡ false

@@ -1,6 +1,7 @@
 -- Two outcomes over the same contents have one status, want of memory aside; and over contents with which nothing is
 -- wrong no outcome is a cause.
-use Rattle.std.proofs.Common.{◌≡◌, ◌≢◌, ◌⊎◌, ◌≤◌, ℕ, List, [], ◌∷◌, Result, Ok, Err, refl, sym, ap, subst, ◌∙◌, arith, inl, inr, ⊎_elim}
+use Rattle.std.proofs.Common.{◌≡◌, ◌≢◌, ◌⊎◌, ◌≤◌, ℕ, List, [], ◌∷◌, Result, Ok, Err, refl, sym, ap, subst, ◌∙◌, arith}
+use Rattle.std.proofs.Common.{inl, inr, ⊎_elim}
 use Rattle.std.specs.Prelude.{Option, map}
 use Rattle.std.proofs.lemmas.Bool.Decides.{eqb_tells}
 use Rattle.image_memory.specs.Images.{Pushed}
@@ -28,7 +29,9 @@ use Rattle.salvage_report.specs.declared.cause.Cause.{Cause}
 use Rattle.salvage_report.specs.declared.cause.Cause.TheVariants.{Core, Layouts, NoInterpreter, OutOfMemory}
 use Rattle.salvage_report.specs.declared.left.Left.{Left}
 use Rattle.salvage_report.specs.Opened.{AfterCore, AfterImages, AfterMaps, AfterVersion, IsMade, Opened, OpenedIs}
-use Rattle.salvage_report.specs.Outcome.{IsFaultless, IsLeft, IsLeftOf, IsOutcome, IsSalvagedBy, IsShowable, Outcome, OutcomeThen, cause_status, core_status, layouts_status, left_at, looked_at, outcome_status, shown_or_none}
+use Rattle.salvage_report.specs.Outcome.{IsFaultless, IsLeft, IsLeftOf, IsOutcome, IsSalvagedBy, IsShowable, Outcome}
+use Rattle.salvage_report.specs.Outcome.{OutcomeThen, cause_status, core_status, layouts_status, left_at, looked_at}
+use Rattle.salvage_report.specs.Outcome.{outcome_status, shown_or_none}
 use Rattle.salvage_report.specs.Reading.{images_read}
 use Rattle.salvage_report.specs.Texts.{shown_left}
 

@@ -1,6 +1,7 @@
 -- Files read in turn: one file more, one that could not be read, and that the contents are the same where the files tell
 -- them.
-use Rattle.std.proofs.Common.{◌≡◌, ◌<◌, ◌+◌, ℕ, List, [], ◌∷◌, ◌++◌, length, take, drop, get_or, map, refl, sym, ap, subst, ◌∙◌}
+use Rattle.std.proofs.Common.{◌≡◌, ◌<◌, ◌+◌, ℕ, List, [], ◌∷◌, ◌++◌, length, take, drop, get_or, map, refl, sym, ap}
+use Rattle.std.proofs.Common.{subst, ◌∙◌}
 use Rattle.std.specs.Prelude.{IsSome, Some, None}
 use Rattle.std.proofs.lemmas.List.{take_more, take-append-drop, at_drop_more, map-append}
 use Rattle.std.proofs.lemmas.Option.{same_Some}

@@ -1,5 +1,6 @@
 -- What the end of a run tells of its status.
-use Rattle.std.proofs.Common.{◌≡◌, ◌≢◌, ◌≤◌, ◌⊎◌, ◌↔◌, ℕ, List, [], ◌∷◌, ◌++◌, length, Option, None, Ok, Err, refl, sym, ap, subst, ◌∙◌, arith, inl, inr, length-append}
+use Rattle.std.proofs.Common.{◌≡◌, ◌≢◌, ◌≤◌, ◌⊎◌, ◌↔◌, ℕ, List, [], ◌∷◌, ◌++◌, length, Option, None, Ok, Err, refl, sym}
+use Rattle.std.proofs.Common.{ap, subst, ◌∙◌, arith, inl, inr, length-append}
 use Rattle.std.specs.Prelude.{IsSome}
 use Rattle.std.specs.List.{concat}
 use Rattle.std.specs.Io.KnownBytes.{Appends}
@@ -17,7 +18,9 @@ use Rattle.salvage_report.specs.declared.trouble.Trouble.TheVariants.{Cause as C
 use Rattle.salvage_report.specs.Lines.{line}
 use Rattle.salvage_report.specs.Outcome.{IsFaultless, IsOutcome, Outcome, cause_status, outcome_status}
 use Rattle.salvage_report.specs.Reading.{files_of}
-use Rattle.salvage_report.specs.Run.{ComesTo, End, HasEnded, HasRun, IsUnreadOf, Ran, Reaches, SalvageComesTo, SaysEnd, TellsContents, cut, end_at, end_parts, printed, refused, end_status, stopped, unread}
+use Rattle.salvage_report.specs.Run.{ComesTo, End, HasEnded, HasRun, IsUnreadOf, Ran, Reaches, SalvageComesTo, SaysEnd}
+use Rattle.salvage_report.specs.Run.{TellsContents, cut, end_at, end_parts, printed, refused, end_status, stopped}
+use Rattle.salvage_report.specs.Run.{unread}
 use Rattle.salvage_report.proofs.Agreement.{cases_five, cause_own, no_cause, outcomes_agree}
 use Rattle.salvage_report.proofs.Contents.{same_contents}
 

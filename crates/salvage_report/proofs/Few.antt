@@ -1,6 +1,7 @@
 -- No words ask for more than 4096 frames.
 use Rattle.std.proofs.Common.{◌≡◌, ◌≤◌, ℕ, Bool, true, false, List, Some, None, refl, subst, arith}
-use Rattle.std.specs.Prelude.{Option, Result, Ok, Err, IfOk, IfSome, nat_le, ◌&&◌, if◌then◌else◌, option_and_then, option_map}
+use Rattle.std.specs.Prelude.{Option, Result, Ok, Err, IfOk, IfSome, nat_le, ◌&&◌, if◌then◌else◌, option_and_then}
+use Rattle.std.specs.Prelude.{option_map}
 use Rattle.std.proofs.lemmas.Bool.Decides.{nat_tests}
 use Rattle.clap.specs.Words.{Row, Text, first_of}
 use Rattle.core_words.specs.Answers.{AnswersWords}
@@ -8,7 +9,8 @@ use Rattle.core_words.specs.Dump.{image_words, images_of}
 use Rattle.core_words.specs.Words.{digits_in}
 use Rattle.core_words.specs.declared.args_error.ArgsError.{ArgsError}
 use Rattle.core_words.specs.declared.args_error.ArgsError.TheVariants.{Refused, OutOfMemory}
-use Rattle.salvage_words.specs.Salvage.{Salvage, in_limits, is_alone, limit_of, salvage_by, salvage_found, salvage_with, salvage_words, taken_rows, words_asked}
+use Rattle.salvage_words.specs.Salvage.{Salvage, in_limits, is_alone, limit_of, salvage_by, salvage_found, salvage_with}
+use Rattle.salvage_words.specs.Salvage.{salvage_words, taken_rows, words_asked}
 use Rattle.salvage_words.specs.Salvage.Wanted.{help, version, salvage}
 use Rattle.salvage_words.specs.Seen.{asked_by}
 use Rattle.salvage_words.specs.declared.asked.Asked.{Asked}

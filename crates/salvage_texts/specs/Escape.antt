@@ -1,6 +1,7 @@
 -- Names and values within a line: what could end the line, or be taken for a quote, is escaped as Rust's literals have
 -- it. Which characters are control characters is Unicode's (category Cc).
-use Rattle.std.specs.Prelude.{ℕ, nat_eq, nat_le, nat_lt, not, ◌&&◌, ◌||◌, ◌++◌, Bool, false, if◌then◌else◌, List, codes, encode_utf8}
+use Rattle.std.specs.Prelude.{ℕ, nat_eq, nat_le, nat_lt, not, ◌&&◌, ◌||◌, ◌++◌, Bool, false, if◌then◌else◌, List, codes}
+use Rattle.std.specs.Prelude.{encode_utf8}
 use Rattle.std.specs.Fmt.{digits}
 use Rattle.std.specs.List.{flat_map}
 

@@ -1,5 +1,6 @@
 -- The text of what is left of a process's stacks.
-use Rattle.std.specs.Prelude.{ℕ, ◌+◌, ◌++◌, nat_lt, Bool, true, false, if◌then◌else◌, List, [], length, map, drop, take, Option, Some, None, codes}
+use Rattle.std.specs.Prelude.{ℕ, ◌+◌, ◌++◌, nat_lt, Bool, true, false, if◌then◌else◌, List, [], length, map, drop, take}
+use Rattle.std.specs.Prelude.{Option, Some, None, codes}
 use Rattle.std.specs.List.{concat}
 use Rattle.py_fronts.specs.declared.fronts.InterpreterFront.{InterpreterFront}
 use Rattle.salvage_marks.specs.declared.crash.Crash.{Crash}

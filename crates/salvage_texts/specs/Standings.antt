@@ -1,5 +1,6 @@
 -- The lines of frames, and of members that have none.
-use Rattle.std.specs.Prelude.{ℕ, ℤ, pos, negsuc, ◌++◌, ◌==◌, true, false, if◌then◌else◌, List, [], map, Option, Some, None, Vec, codes, decimal}
+use Rattle.std.specs.Prelude.{ℕ, ℤ, pos, negsuc, ◌++◌, ◌==◌, true, false, if◌then◌else◌, List, [], map, Option, Some}
+use Rattle.std.specs.Prelude.{None, Vec, codes, decimal}
 use Rattle.std.specs.Fmt.{signed_decimal}
 use Rattle.std.specs.Global.{Global}
 use Rattle.std.specs.List.{concat}

@@ -1,5 +1,6 @@
 -- The lines of threads.
-use Rattle.std.specs.Prelude.{ℕ, ◌+◌, ◌++◌, Bool, if◌then◌else◌, List, [], map, drop, take, reverse, position, Option, Some, None, codes}
+use Rattle.std.specs.Prelude.{ℕ, ◌+◌, ◌++◌, Bool, if◌then◌else◌, List, [], map, drop, take, reverse, position, Option}
+use Rattle.std.specs.Prelude.{Some, None, codes}
 use Rattle.std.specs.List.{concat}
 use Rattle.py_stacks.specs.Shown.{id_text}
 use Rattle.py_fronts.specs.declared.frame_front.FramesFront.{FramesFront}

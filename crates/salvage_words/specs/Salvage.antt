@@ -1,8 +1,10 @@
 -- The words of `pysalvage`: what clap takes for one simple command, and what they ask for.
-use Rattle.std.specs.Prelude.{ℕ, ◌&&◌, Bool, true, false, nat_le, if◌then◌else◌, List, [], ◌∷◌, Option, Some, None, codes, bytes_eq, option_and_then, option_map}
+use Rattle.std.specs.Prelude.{ℕ, ◌&&◌, Bool, true, false, nat_le, if◌then◌else◌, List, [], ◌∷◌, Option, Some, None}
+use Rattle.std.specs.Prelude.{codes, bytes_eq, option_and_then, option_map}
 use Rattle.clap.specs.Words.{App, Row, Rule, Text, count_of, first_of, new_app, new_rule, with_rule}
 use Rattle.clap.specs.declared.builder.ArgAction.TheVariants.{Set}
-use Rattle.core_words.specs.Dump.{flag_rule, image_words, images_of, images_rule, is_set, locals_rule, option_value_of, rows_taken, wanted_rule}
+use Rattle.core_words.specs.Dump.{flag_rule, image_words, images_of, images_rule, is_set, locals_rule, option_value_of}
+use Rattle.core_words.specs.Dump.{rows_taken, wanted_rule}
 use Rattle.core_words.specs.Words.{digits_in}
 
 -- ---- the command, as clap is told of it

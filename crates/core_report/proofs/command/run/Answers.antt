@@ -1,6 +1,7 @@
 use Rattle.core_words.specs.Words.{command_of, texts}
 use Rattle.core_report.specs.Run.{end_after}
-use Rattle.core_report.proofs.Ends.{run_all_read, run_asked, run_complete, run_nothing_out, run_only, run_pieces, run_printed, run_refused, run_silent, run_status, run_unread}
+use Rattle.core_report.proofs.Ends.{run_all_read, run_asked, run_complete, run_nothing_out, run_only, run_pieces}
+use Rattle.core_report.proofs.Ends.{run_printed, run_refused, run_silent, run_status, run_unread}
 use Rattle.core_report.proofs.Headline.{reported_of_run}
 use Rattle.core_report.proofs.command.run.Goals as goal
 

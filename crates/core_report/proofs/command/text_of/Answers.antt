@@ -1,9 +1,11 @@
 use Rattle.std.proofs.Common.{[]}
 use Rattle.std.proofs.lemmas.Result.{err_from_is_err_and}
-use Rattle.core_words.specs.Seen.{asked_dump, asked_locate, asked_merge, asked_reach, asked_sample, asked_slim, asked_walk}
+use Rattle.core_words.specs.Seen.{asked_dump, asked_locate, asked_merge, asked_reach, asked_sample, asked_slim}
+use Rattle.core_words.specs.Seen.{asked_walk}
 use Rattle.core_words.specs.Words.{dump, locate, merge, reach, seeded, slim, walk}
 use Rattle.core_report.specs.Reading.{merge_contents, report_contents, walk_contents}
-use Rattle.core_report.proofs.Turns.{caused_of, comes_of, dump_asks, dump_has, locate_asks, locate_has, reach_asks, reach_has, sample_has, slim_asks, slim_has}
+use Rattle.core_report.proofs.Turns.{caused_of, comes_of, dump_asks, dump_has, locate_asks, locate_has, reach_asks}
+use Rattle.core_report.proofs.Turns.{reach_has, sample_has, slim_asks, slim_has}
 use Rattle.core_report.proofs.command.text_of.Goals as goal
 
 pub returns-in_err-walk_over-in-Walk-clause-comes : goal.returns-in_err-walk_over-in-Walk-clause-comes

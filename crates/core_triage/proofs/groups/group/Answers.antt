@@ -1,4 +1,5 @@
-use Rattle.std.proofs.Common.{Vec, Global, Bor, BTreeMap, Option, ◌≡◌, ◌<◌, ◌+◌, ℕ, List, [], ◌∷◌, ◌++◌, length, map, take, get_or, set, Some, None, sym, ◌∙◌, ap, subst, arith}
+use Rattle.std.proofs.Common.{Vec, Global, Bor, BTreeMap, Option, ◌≡◌, ◌<◌, ◌+◌, ℕ, List, [], ◌∷◌, ◌++◌, length, map}
+use Rattle.std.proofs.Common.{take, get_or, set, Some, None, sym, ◌∙◌, ap, subst, arith}
 use Rattle.std.specs.Prelude.{if◌then◌else◌}
 use Rattle.std.specs.BTreeMap.{is_at, Updates}
 use Rattle.std.specs.Map.{lookup}
@@ -10,7 +11,8 @@ use Rattle.core_triage.specs.Keys.{same_key}
 use Rattle.core_triage.proofs.Growing.{IsAt, at_start, known, fresh, below}
 use Rattle.core_triage.proofs.Keys.{same_laws, by_order}
 use Rattle.core_triage.proofs.groups.group.Invariants.{items_of, number_of}
-use Rattle.core_triage.proofs.groups.group.Goals.{in-Some+in_ok-push-in-Some, in-None+in_ok-insert-in-None+in_ok-vec-in-None+in_ok-push-in-None}
+use Rattle.core_triage.proofs.groups.group.Goals.{in-Some+in_ok-push-in-Some}
+use Rattle.core_triage.proofs.groups.group.Goals.{in-None+in_ok-insert-in-None+in_ok-vec-in-None+in_ok-push-in-None}
 use Rattle.core_triage.proofs.groups.group.Goals as goal
 
 pub loop-place-init : goal.loop-place-init

@@ -14,7 +14,8 @@ use Rattle.image_builder.specs.CoreFiles.{core_file, image_path as path_of_image
 use Rattle.image_builder.specs.Covered.{number_of}
 use Rattle.image_builder.specs.ImageFiles.{image_file}
 use Rattle.image_builder.specs.RuntimeWords.{interpreter_at, runtime_words}
-use Rattle.image_builder.proofs.CoreBack.{core_is, core_machine, core_memory_is, core_notes_are, maps_are, process_is, statuses_are}
+use Rattle.image_builder.proofs.CoreBack.{core_is, core_machine, core_memory_is, core_notes_are, maps_are, process_is}
+use Rattle.image_builder.proofs.CoreBack.{statuses_are}
 use Rattle.py_process.specs.Binary.{HasInfo, SaysFacts}
 use Rattle.image_builder.specs.ImageFacts.{image_facts, image_known}
 use Rattle.image_builder.proofs.ImageBack.{image_info, image_says}
@@ -34,7 +35,8 @@ use Rattle.image_builder.proofs.FoundBack.{is_first}
 use Rattle.image_builder.proofs.KnownBack.{known_is, programs_are}
 use Rattle.image_memory.specs.Mmap.{whole_view}
 use Rattle.py_process.specs.Programs.{IsKnown}
-use Rattle.image_builder.proofs.MemoryBack.{image_there, in_each, no_holder, none_alone, none_at_zero, number_there, objects_there, words_there}
+use Rattle.image_builder.proofs.MemoryBack.{image_there, in_each, no_holder, none_alone, none_at_zero, number_there}
+use Rattle.image_builder.proofs.MemoryBack.{objects_there, words_there}
 use Rattle.image_builder.proofs.Numbers.{number_fits, number_is, version_told}
 use Rattle.image_builder.proofs.WordsBack.{head_back, lock_back, version_back}
 use Rattle.image_builder.proofs.Lengths.{length-core, length-image, length-words}

@@ -3,7 +3,8 @@ use Rattle.std.specs.Bool.{MatchBool}
 use Rattle.image_memory.specs.Cores.{RefusesCore, IsEarly, HasNotes}
 use Rattle.image_memory.specs.Notes.{note_segments}
 use Rattle.image_memory.specs.declared.dump_error.DumpError.{DumpError as Refusal}
-use Rattle.image_memory.specs.declared.dump_error.DumpError.TheVariants.{NotElf64, BadHeader, NoNotes, BadNote, OutOfMemory}
+use Rattle.image_memory.specs.declared.dump_error.DumpError.TheVariants.{NotElf64, BadHeader, NoNotes, BadNote}
+use Rattle.image_memory.specs.declared.dump_error.DumpError.TheVariants.{OutOfMemory}
 use Rattle.image_memory.proofs.contents.accept.Goals as goal
 
 early_refused : (bytes : List ℕ) (e : Refusal) → HasNotes bytes → IsEarly e → RefusesCore bytes e → ⊥

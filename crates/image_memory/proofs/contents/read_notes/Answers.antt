@@ -3,7 +3,8 @@ use Rattle.std.specs.Prelude.{All, IsTrue, filter, filter_map, find, option_and_
 use Rattle.std.proofs.lemmas.List.Elements.{All-map}
 use Rattle.std.proofs.lemmas.Result.{err_from_is_err_and}
 use Rattle.elf64_core.specs.Notes.{noted}
-use Rattle.image_memory.specs.Notes.{IsWhole, TablesSay, is_of_kind, is_table, note_segments, process_kind, process_of, status_noted}
+use Rattle.image_memory.specs.Notes.{IsWhole, TablesSay, is_of_kind, is_table, note_segments, process_kind, process_of}
+use Rattle.image_memory.specs.Notes.{status_noted}
 use Rattle.image_memory.specs.declared.dump_error.DumpError.TheVariants.{BadNote}
 use Rattle.image_memory.proofs.Lists.{All-unmap, filter_map-map, last-map}
 use Rattle.image_memory.proofs.Noted.{NotesOf-once}

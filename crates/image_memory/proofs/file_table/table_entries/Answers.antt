@@ -1,4 +1,5 @@
-use Rattle.std.proofs.Common.{◌≡◌, ◌+◌, ◌∷◌, ◌++◌, [], length, drop, map, ap, subst, sym, ◌∙◌, arith, zero-add, length-append}
+use Rattle.std.proofs.Common.{◌≡◌, ◌+◌, ◌∷◌, ◌++◌, [], length, drop, map, ap, subst, sym, ◌∙◌, arith, zero-add}
+use Rattle.std.proofs.Common.{length-append}
 use Rattle.std.proofs.lemmas.List.{map-append, length-map}
 use Rattle.image_memory.specs.FileTables.{NamesThen, entries_from, entry_at, file_entry_of, names_start}
 use Rattle.image_memory.proofs.Tables.{NamesThen-more, entries_from-more, name_of, no_table}

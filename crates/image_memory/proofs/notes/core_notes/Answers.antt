@@ -1,4 +1,5 @@
-use Rattle.std.proofs.Common.{◌≡◌, ◌++◌, ◌∷◌, [], filter, map, length, drop, ap, subst, sym, ◌∙◌, rules, eq-eqb, IfErr, ◌⊎◌, ◌+◌, Err}
+use Rattle.std.proofs.Common.{◌≡◌, ◌++◌, ◌∷◌, [], filter, map, length, drop, ap, subst, sym, ◌∙◌, rules, eq-eqb, IfErr}
+use Rattle.std.proofs.Common.{◌⊎◌, ◌+◌, Err}
 use Rattle.std.proofs.lemmas.Result.{err_from_is_err_and}
 use Rattle.std.proofs.lemmas.Iterator.Consumers.{YieldsList-from_first, YieldsList-turn}
 use Rattle.std.proofs.lemmas.List.{map-append}

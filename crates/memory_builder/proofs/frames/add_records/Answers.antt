@@ -1,7 +1,8 @@
 use Rattle.std.proofs.Common.{◌≡◌, ◌∙◌, ◌+◌, ◌++◌, List, ℕ, length, map, ap, subst}
 use Rattle.std.specs.Prelude.{IfOk, max}
 use Rattle.memory_builder.specs.Chains.{addresses_from}
-use Rattle.memory_builder.specs.Frames.{code_writes, first_number, frame_writes, laid_records, table_object, table_writes, tuple_writes}
+use Rattle.memory_builder.specs.Frames.{code_writes, first_number, frame_writes, laid_records, table_object}
+use Rattle.memory_builder.specs.Frames.{table_writes, tuple_writes}
 use Rattle.memory_builder.specs.Mirror.{frame_in, local_in}
 use Rattle.object_builder.specs.Objects.{aligned, object}
 use Rattle.memory_builder.specs.Sizes.{frame_len, local_size, name_size, tuple_len}

@@ -4,7 +4,8 @@ use Rattle.std.specs.List.{AllByRecursion, sum_by}
 use Rattle.py_stacks.specs.Lines.{family_of}
 use Rattle.memory_builder.specs.declared.parts.ProgramThread.{ProgramThread}
 use Rattle.memory_builder.specs.Chains.{addresses_from, head_of}
-use Rattle.memory_builder.specs.Laid.{first_place, gil_place, interpreter_object, interpreter_writes, laid_gil, laid_program, owner_place, place_or_none, three_types, types_at, types_place}
+use Rattle.memory_builder.specs.Laid.{first_place, gil_place, interpreter_object, interpreter_writes, laid_gil}
+use Rattle.memory_builder.specs.Laid.{laid_program, owner_place, place_or_none, three_types, types_at, types_place}
 use Rattle.memory_builder.specs.Mirror.{program_in, program_thread}
 use Rattle.object_builder.specs.Objects.{aligned, object}
 use Rattle.memory_builder.specs.Program.{Thread}

@@ -8,7 +8,8 @@ use Rattle.memory_builder.specs.Frames.{laid_frame}
 use Rattle.memory_builder.specs.Mirror.{frame_in, program_thread}
 use Rattle.object_builder.specs.Objects.{aligned, object}
 use Rattle.memory_builder.specs.Sizes.{frame_size, rounded, thread_size}
-use Rattle.memory_builder.specs.Threads.{cframe_place, frame_field, frames_place, laid_cframe, laid_thread, thread_object, thread_writes}
+use Rattle.memory_builder.specs.Threads.{cframe_place, frame_field, frames_place, laid_cframe, laid_thread}
+use Rattle.memory_builder.specs.Threads.{thread_object, thread_writes}
 use Rattle.memory_builder.specs.Validity.{IsValidFrame}
 use Rattle.memory_builder.proofs.Adding.{three_added}
 use Rattle.memory_builder.proofs.threads.add_thread.Goals as goal

@@ -4,7 +4,8 @@ use Rattle.memory_builder.specs.Mirror.{program_in, program_thread}
 use Rattle.memory_builder.specs.Validity.{IsFirstFailing, IsFirstInvalid, IsValidIn, IsValidWhole}
 use Rattle.memory_builder.specs.Program.{Thread}
 use Rattle.memory_builder.proofs.Lists.{length_map, none_map}
-use Rattle.memory_builder.proofs.Firsts.{first_many, first_of, first_whole, next_valid, none_found, some_found, valid_all}
+use Rattle.memory_builder.proofs.Firsts.{first_many, first_of, first_whole, next_valid, none_found, some_found}
+use Rattle.memory_builder.proofs.Firsts.{valid_all}
 use Rattle.memory_builder.proofs.Earlier.{earlier_are, there}
 use Rattle.memory_builder.proofs.validity.first_invalid.Goals as goal
 

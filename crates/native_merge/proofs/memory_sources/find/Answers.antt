@@ -1,4 +1,5 @@
-use Rattle.std.proofs.Common.{◌≡◌, ◌∙◌, ◌≤◌, ◌-◌, ℕ, List, [], ◌∷◌, length, take, drop, false, cond, bytes_eq, sym, ap, arith, Vec, get_or, take_all, Some}
+use Rattle.std.proofs.Common.{◌≡◌, ◌∙◌, ◌≤◌, ◌-◌, ℕ, List, [], ◌∷◌, length, take, drop, false, cond, bytes_eq, sym, ap}
+use Rattle.std.proofs.Common.{arith, Vec, get_or, take_all, Some}
 use Rattle.std.specs.Global.{Global}
 use Rattle.outside.specs.Files.{held_bytes, entries}
 use Rattle.native_merge.proofs.memory_sources.find.Goals as goal

@@ -1,7 +1,8 @@
 use Rattle.std.proofs.Common.{◌≡◌, ◌++◌, sym, ◌∙◌, arith}
 use Rattle.std.specs.Prelude.{codes}
 use Rattle.std.specs.Str.{trim_start}
-use Rattle.native_merge.proofs.SourceNames.{never_open, no_number, read_longest, stripped, tells_no_name, tells_no_number}
+use Rattle.native_merge.proofs.SourceNames.{never_open, no_number, read_longest, stripped, tells_no_name}
+use Rattle.native_merge.proofs.SourceNames.{tells_no_number}
 use Rattle.native_merge.proofs.source_line.line_mark.Goals as goal
 
 pub returns-in_err-end : goal.returns-in_err-end

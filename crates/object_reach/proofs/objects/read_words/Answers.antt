@@ -2,7 +2,8 @@ use Rattle.std.proofs.Common.{refl, arith}
 use Rattle.std.specs.Prelude.{None}
 use Rattle.std.proofs.lemmas.Result.{err_from_is_err_and}
 use Rattle.object_reach.specs.Reading.{parts_told}
-use Rattle.object_reach.proofs.PartSteps.{filling_init, filling_more, filling_done, filling_over, filling_out, filling_lost}
+use Rattle.object_reach.proofs.PartSteps.{filling_init, filling_more, filling_done, filling_over, filling_out}
+use Rattle.object_reach.proofs.PartSteps.{filling_lost}
 use Rattle.object_reach.proofs.objects.read_words.Goals as goal
 
 pub loop-number-init : goal.loop-number-init

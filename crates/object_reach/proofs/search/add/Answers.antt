@@ -3,7 +3,8 @@ use Rattle.std.proofs.lemmas.Map.Entries.{length-keys_of}
 use Rattle.object_reach.proofs.Fronts.{adds_known, adds_new, overfills_new}
 use Rattle.object_reach.proofs.Members.{has_set, has_map, set_added}
 use Rattle.object_reach.proofs.search.add.Goals as goal
-use Rattle.object_reach.proofs.search.add.Goals.{then-contains_key-via-then-contains_key, then-contains_key-via-else-contains_key+then-contains}
+use Rattle.object_reach.proofs.search.add.Goals.{then-contains_key-via-then-contains_key}
+use Rattle.object_reach.proofs.search.add.Goals.{then-contains_key-via-else-contains_key+then-contains}
 
 pub returns-then-contains_key-clause-added : goal.returns-then-contains_key-clause-added
 returns-then-contains_key-clause-added c =

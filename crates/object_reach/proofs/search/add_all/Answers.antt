@@ -2,7 +2,8 @@ use Rattle.std.proofs.Common.{◌≡◌, ◌+◌, ◌⊎◌, take, get_or, inl, 
 use Rattle.std.proofs.lemmas.Result.{err_from_is_err_and}
 use Rattle.std.specs.BTreeMap.{keys}
 use Rattle.object_reach.specs.Objects.{IsNamed}
-use Rattle.object_reach.proofs.Fronts.{named_more, named_kept, named_now, named_whole, adds_like, adds_more, overfills_more}
+use Rattle.object_reach.proofs.Fronts.{named_more, named_kept, named_now, named_whole, adds_like, adds_more}
+use Rattle.object_reach.proofs.Fronts.{overfills_more}
 use Rattle.object_reach.proofs.search.add_all.Goals as goal
 use Rattle.object_reach.proofs.search.add_all.Goals.{then-word-ne-NULL+in_ok-add, else-word-ne-NULL}
 

@@ -6,7 +6,8 @@ use Rattle.object_reach.specs.Front.{Overfills}
 use Rattle.object_reach.proofs.Members.{map_added}
 use Rattle.object_reach.proofs.Searches.{fewer_left, still_apart}
 use Rattle.process_memory.proofs.Reading.{reading_here}
-use Rattle.object_reach.proofs.Searching.{searching_init, searching_popped, searching_next, searching_done, roots_stop, read_stop, lost_stop, children_stop, listed_stop}
+use Rattle.object_reach.proofs.Searching.{searching_init, searching_popped, searching_next, searching_done, roots_stop}
+use Rattle.object_reach.proofs.Searching.{read_stop, lost_stop, children_stop, listed_stop}
 use Rattle.object_reach.proofs.search.search.Goals as goal
 
 pub returns-in_err-add_all : goal.returns-in_err-add_all

@@ -1,7 +1,8 @@
 use Rattle.std.proofs.Common.{arith, ap, length}
 use Rattle.std.proofs.lemmas.Result.{err_from_is_err_and}
 use Rattle.py_fields.proofs.Fields.{thread_fits}
-use Rattle.py_fronts.proofs.HeadSteps.{chaining_broken, chaining_done, chaining_full, chaining_init, chaining_lost, chaining_more}
+use Rattle.py_fronts.proofs.HeadSteps.{chaining_broken, chaining_done, chaining_full, chaining_init, chaining_lost}
+use Rattle.py_fronts.proofs.HeadSteps.{chaining_more}
 use Rattle.py_fronts.proofs.interpreters.threads_end.Goals as goal
 
 pub loop-at-init : goal.loop-at-init

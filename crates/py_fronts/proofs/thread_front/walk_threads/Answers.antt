@@ -3,7 +3,8 @@ use Rattle.std.proofs.lemmas.Result.{err_from_is_err_and}
 use Rattle.py_fields.proofs.Fields.{thread_fits}
 use Rattle.py_stacks.specs.Threads.{thread_limit}
 use Rattle.py_fronts.proofs.Steps.{reading_both}
-use Rattle.py_fronts.proofs.ThreadSteps.{threading_broken, threading_done, threading_full, threading_init, threading_lost, threading_more}
+use Rattle.py_fronts.proofs.ThreadSteps.{threading_broken, threading_done, threading_full, threading_init}
+use Rattle.py_fronts.proofs.ThreadSteps.{threading_lost, threading_more}
 use Rattle.py_fronts.proofs.thread_front.walk_threads.Goals as goal
 
 pub loop-at-init : goal.loop-at-init

@@ -1,4 +1,5 @@
-use Rattle.std.proofs.Common.{◌≡◌, ◌∙◌, ◌++◌, [], ◌+◌, ◌≤◌, List, ℕ, length, sym, ap, subst, refl, arith, rules, to_z, of_z}
+use Rattle.std.proofs.Common.{◌≡◌, ◌∙◌, ◌++◌, [], ◌+◌, ◌≤◌, List, ℕ, length, sym, ap, subst, refl, arith, rules, to_z}
+use Rattle.std.proofs.Common.{of_z}
 use Rattle.std.specs.Prelude.{Option, ℤ}
 use Rattle.std.specs.Option.{unwrap_or}
 use Rattle.std.specs.Int.{w32}
@@ -8,8 +9,10 @@ use Rattle.std.proofs.lemmas.Option.{MatchOption-at_none}
 use Rattle.std.proofs.lemmas.Result.{err_from_is_err_and}
 use Rattle.py_lines.specs.declared.lines.LineRange.{LineRange}
 use Rattle.py_lines.specs.declared.runs.Run.{Run}
-use Rattle.py_lines.specs.Coding.{coded, coded_behind, runs_of, runs_bytes, covered_by, delta_from, AreRuns, AreLines, IsWritable, IsRefusal}
-use Rattle.py_lines.proofs.Coding.{all_stand, stands_so, writable, runs_are, coded_next, coded_none, part_within, part_added, all_added, refusal, runs_same}
+use Rattle.py_lines.specs.Coding.{coded, coded_behind, runs_of, runs_bytes, covered_by, delta_from, AreRuns, AreLines}
+use Rattle.py_lines.specs.Coding.{IsWritable, IsRefusal}
+use Rattle.py_lines.proofs.Coding.{all_stand, stands_so, writable, runs_are, coded_next, coded_none, part_within}
+use Rattle.py_lines.proofs.Coding.{part_added, all_added, refusal, runs_same}
 use Rattle.py_lines.proofs.Readback.{keeps_lines}
 use Rattle.py_lines.proofs.encoding.encode.Goals as goal
 

@@ -8,7 +8,8 @@ use Rattle.py_lines.specs.declared.lines.Place.{Place}
 use Rattle.py_lines.specs.Entries.{first_entry}
 use Rattle.py_lines.specs.Lines.{ranges_of, line_among, holds}
 use Rattle.py_lines.specs.Places.{line_range_at, last_at, kept_last}
-use Rattle.py_lines.proofs.Places.{IsAhead, walk_begins, walk_passes, walk_ends, near_still, held_line, passed_line, no_line_left}
+use Rattle.py_lines.proofs.Places.{IsAhead, walk_begins, walk_passes, walk_ends, near_still, held_line, passed_line}
+use Rattle.py_lines.proofs.Places.{no_line_left}
 use Rattle.py_lines.proofs.lines.line_held.Goals as goal
 
 pub loop-entry-init : goal.loop-entry-init

@@ -2,7 +2,8 @@ use Rattle.std.proofs.Common.{arith, ap, refl}
 use Rattle.std.proofs.lemmas.Result.{err_from_is_err_and}
 use Rattle.py_names.specs.NamesError.{names_fault}
 use Rattle.py_names.specs.declared.names_error.NamesError.TheVariants.{Entries}
-use Rattle.py_names.proofs.SearchSteps.{searching_init, searching_more, searching_found, searching_done, searching_over, searching_stop}
+use Rattle.py_names.proofs.SearchSteps.{searching_init, searching_more, searching_found, searching_done, searching_over}
+use Rattle.py_names.proofs.SearchSteps.{searching_stop}
 use Rattle.py_names.proofs.search.find_in.Goals as goal
 
 pub loop-number-init : goal.loop-number-init

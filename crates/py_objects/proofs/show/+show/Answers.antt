@@ -8,9 +8,13 @@ use Rattle.py_objects.specs.Nodes.{brackets_of, child_of, node_of, part_read, pa
 use Rattle.py_objects.specs.Shows.{show_at, node_shown, parts_shown}
 use Rattle.py_objects.proofs.Steps.{tells_is, tells_lost, reading_both}
 use Rattle.py_objects.proofs.Rising.{show_rises, part_rises, node_rises, parts_shown_rises}
-use Rattle.py_objects.proofs.Showing.{showing_init, showing_skip, showing_more, showing_stop, showing_lost, showing_cut, showing_done, showing_unclosed}
-use Rattle.py_objects.proofs.Levels.{level_small, level_refused, level_deep, level_stops, level_goes, child_empty, item_fails, item_goes, key_fails, value_fails, entry_lost, entry_goes, look_refused, child_stops, child_goes}
-use Rattle.py_objects.proofs.show.+show.Goals.{show_parts-in-None, show_parts-in-Some+else-left-le-NARROW+in_ok-add-in-Some-2}
+use Rattle.py_objects.proofs.Showing.{showing_init, showing_skip, showing_more, showing_stop, showing_lost, showing_cut}
+use Rattle.py_objects.proofs.Showing.{showing_done, showing_unclosed}
+use Rattle.py_objects.proofs.Levels.{level_small, level_refused, level_deep, level_stops, level_goes, child_empty}
+use Rattle.py_objects.proofs.Levels.{item_fails, item_goes, key_fails, value_fails, entry_lost, entry_goes}
+use Rattle.py_objects.proofs.Levels.{look_refused, child_stops, child_goes}
+use Rattle.py_objects.proofs.show.+show.Goals.{show_parts-in-None}
+use Rattle.py_objects.proofs.show.+show.Goals.{show_parts-in-Some+else-left-le-NARROW+in_ok-add-in-Some-2}
 use Rattle.py_objects.proofs.show.+show.Goals as goal
 
 pub show_value-returns-in_err-dots-clause-shown : goal.show_value-returns-in_err-dots-clause-shown

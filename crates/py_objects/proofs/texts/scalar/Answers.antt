@@ -7,7 +7,11 @@ use Rattle.std.specs.Int.{Width, w8, w16, w32, w64, cast_signed}
 use Rattle.std.proofs.lemmas.Int.{to_z-of_z}
 use Rattle.process_memory.specs.Memory.{Found}
 use Rattle.py_objects.specs.ShownTexts.{float_text}
-use Rattle.py_objects.proofs.texts.scalar.Goals.{in-U8+in_ok-text-in-U8, in-U16+in_ok-text-in-U16, in-U32+in_ok-text-in-U32, in-U64+in_ok-text-in-U64, in-I8+in_ok-text-in-I8, in-I16+in_ok-text-in-I16, in-I32+in_ok-text-in-I32, in-I64+in_ok-text-in-I64, in-F32+in_ok-text-in-F32, in-F64+in_ok-text-in-F64}
+use Rattle.py_objects.proofs.texts.scalar.Goals.{in-U8+in_ok-text-in-U8, in-U16+in_ok-text-in-U16}
+use Rattle.py_objects.proofs.texts.scalar.Goals.{in-U32+in_ok-text-in-U32, in-U64+in_ok-text-in-U64}
+use Rattle.py_objects.proofs.texts.scalar.Goals.{in-I8+in_ok-text-in-I8, in-I16+in_ok-text-in-I16}
+use Rattle.py_objects.proofs.texts.scalar.Goals.{in-I32+in_ok-text-in-I32, in-I64+in_ok-text-in-I64}
+use Rattle.py_objects.proofs.texts.scalar.Goals.{in-F32+in_ok-text-in-F32, in-F64+in_ok-text-in-F64}
 use Rattle.py_objects.proofs.texts.scalar.Goals as goal
 
 -- a number with a sign

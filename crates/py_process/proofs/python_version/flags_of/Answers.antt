@@ -6,7 +6,8 @@ use Rattle.std.proofs.lemmas.Str.Ascii.{IsAscii-nil}
 use Rattle.py_process.specs.Sources.{flags_of}
 use Rattle.py_process.proofs.Flags.{a_ascii, b_ascii, other_level, rc_ascii, written}
 use Rattle.py_process.proofs.python_version.flags_of.Goals as goal
-use Rattle.py_process.proofs.python_version.flags_of.Goals.{in-10+in_ok-text-in-10, in-11+in_ok-text-in-11, in-12+in_ok-text-in-12, in_default}
+use Rattle.py_process.proofs.python_version.flags_of.Goals.{in-10+in_ok-text-in-10, in-11+in_ok-text-in-11}
+use Rattle.py_process.proofs.python_version.flags_of.Goals.{in-12+in_ok-text-in-12, in_default}
 
 pub returns : goal.returns
 returns c = elim c.match-level.branch [

@@ -6,7 +6,8 @@ use Rattle.py_process.specs.Ranges.{is_section_named}
 use Rattle.py_process.specs.SymbolMap.{is_kept}
 use Rattle.py_process.proofs.SymbolMaps.{Says, skipped, stored, taken}
 use Rattle.py_process.proofs.symbols.add_symbols.Goals as goal
-use Rattle.py_process.proofs.symbols.add_symbols.Goals.{in-Some+then-is_kept+in_ok-from_slice+in_ok-insert, in-Some+else-is_kept, in_default}
+use Rattle.py_process.proofs.symbols.add_symbols.Goals.{in-Some+then-is_kept+in_ok-from_slice+in_ok-insert}
+use Rattle.py_process.proofs.symbols.add_symbols.Goals.{in-Some+else-is_kept, in_default}
 
 abbrev no_symbol : Symbol
 no_symbol = record { name = None; info = 0; section = 0; value = 0; size = 0 }

@@ -2,7 +2,8 @@ use Rattle.std.proofs.Common.{arith, refl, ap}
 use Rattle.std.proofs.lemmas.List.{map-append}
 use Rattle.std.proofs.lemmas.Result.{err_from_is_err_and}
 use Rattle.process_memory.specs.Memory.Fault.{ThreadLimit}
-use Rattle.process_memory.proofs.Walks.{walking_init, walking_more, walking_done, walking_full, walking_lost, walking_stop}
+use Rattle.process_memory.proofs.Walks.{walking_init, walking_more, walking_done, walking_full, walking_lost}
+use Rattle.process_memory.proofs.Walks.{walking_stop}
 use Rattle.py_stacks.specs.declared.error.StackError.TheVariants as stack
 use Rattle.py_stacks.specs.StackError.{stack_fault}
 use Rattle.py_stacks.specs.Threads.{thread_step, thread_cost, thread_limit, threads_at, threads_cost}

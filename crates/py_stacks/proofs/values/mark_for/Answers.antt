@@ -2,7 +2,8 @@ use Rattle.std.proofs.Common.{◌≡◌, ◌≢◌, ◌∙◌, refl}
 use Rattle.std.specs.Prelude.{IsSome, codes}
 use Rattle.std.specs.Str.{chars}
 use Rattle.py_builtins.specs.declared.error.ObjectError.{ObjectError}
-use Rattle.py_builtins.specs.declared.error.ObjectError.TheVariants.{Unreadable, NoText, TooLong, BadDict, BadType, Visits, Depth, BadCount, BadBool, OutOfMemory}
+use Rattle.py_builtins.specs.declared.error.ObjectError.TheVariants.{Unreadable, NoText, TooLong, BadDict, BadType}
+use Rattle.py_builtins.specs.declared.error.ObjectError.TheVariants.{Visits, Depth, BadCount, BadBool, OutOfMemory}
 use Rattle.py_builtins.specs.ObjectError.{object_fault}
 use Rattle.py_stacks.proofs.values.mark_for.Goals as goal
 

@@ -1,7 +1,8 @@
 use Rattle.core_words.specs.Words.{texts}
 use Rattle.salvage_words.specs.Salvage.{words_asked}
 use Rattle.salvage_report.specs.Run.{end_after}
-use Rattle.salvage_report.proofs.Ends.{run_all_read, run_asked, run_complete, run_nothing_out, run_only, run_printed, run_refused, run_silent, run_status, run_unread}
+use Rattle.salvage_report.proofs.Ends.{run_all_read, run_asked, run_complete, run_nothing_out, run_only, run_printed}
+use Rattle.salvage_report.proofs.Ends.{run_refused, run_silent, run_status, run_unread}
 use Rattle.salvage_report.proofs.Headline.{salvaged_of_run}
 use Rattle.salvage_report.proofs.Few.{asked_few}
 use Rattle.salvage_report.proofs.command.run.Goals as goal

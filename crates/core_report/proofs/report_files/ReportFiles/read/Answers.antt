@@ -1,6 +1,7 @@
 use Rattle.std.proofs.Common.{◌≡◌, ◌∷◌, [], ◌∙◌, Ok, refl}
 use Rattle.std.proofs.lemmas.Result.{err_from_is_err_and}
-use Rattle.core_report.proofs.Turns.{images_from, is_unread, more, report_core, report_images, report_layouts, troubled_from}
+use Rattle.core_report.proofs.Turns.{images_from, is_unread, more, report_core, report_images, report_layouts}
+use Rattle.core_report.proofs.Turns.{troubled_from}
 use Rattle.core_report.proofs.report_files.ReportFiles.read.Goals as goal
 
 pub returns-in_err-core-clause-read : goal.returns-in_err-core-clause-read

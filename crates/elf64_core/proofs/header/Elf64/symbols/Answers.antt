@@ -3,7 +3,8 @@ use Rattle.std.proofs.lemmas.Result.{err_from_is_err_and}
 use Rattle.elf64_core.specs.Header.{IsInside}
 use Rattle.elf64_core.specs.Sections.{contents_of, strings_of}
 use Rattle.elf64_core.specs.Symbols.{symbol_entry_of, entries_in, first_section, symbol_section}
-use Rattle.elf64_core.proofs.Symbols.{HasSymbols-none, HasSymbols-some, HasSymbols-inside, symbols_of-none, symbols_of-some}
+use Rattle.elf64_core.proofs.Symbols.{HasSymbols-none, HasSymbols-some, HasSymbols-inside, symbols_of-none}
+use Rattle.elf64_core.proofs.Symbols.{symbols_of-some}
 use Rattle.elf64_core.proofs.header.Elf64.symbols.Goals as goal
 
 pub returns-in_default-clause-bad : goal.returns-in_default-clause-bad
