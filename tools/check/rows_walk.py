@@ -53,11 +53,24 @@ def words() -> Iterator[Row]:
               line="unreadable at 0xffffffffffffffff, 8 bytes")
 
 
+def files_note(count: int, names: bytes) -> bytes:
+    """A file table that says so many entries, and has two, of a page each, and names."""
+    entries = (2 ** 22, 2 ** 22 + 4096, 0, 5 * 2 ** 20, 5 * 2 ** 20 + 4096, 0)
+    return note(b"CORE\0", 0x46494C45, struct.pack("<8Q", count, 4096, *entries) + names)
+
+
+def many_segments(count: int) -> bytes:
+    """The small core among so many segments, each other one of one byte and apart from the next."""
+    others = [Segment(0x100000 + 16 * index, b"A", 4) for index in range(count - 1)]
+    return core_file([*others[::2], heap().segment(6), *others[1::2]])
+
+
 def cores() -> Iterator[Row]:
     """What is no core, and what isn't in memory."""
     whole = small()
     bare = elf_file(4, [heap().segment(6)])
     long_table = note(b"CORE\0", 0x46494C45, struct.pack("<2Q", 2 ** 60, 4096))
+    two_files = files_note(2, b"a\0b\0")
     with_notes = lambda notes: elf_file(4, [heap().segment(6), Segment(0, notes, 0, kind=NOTE)])
     not_elf, header = "not an ELF64 little-endian file", "bad program headers"
     for what, data, line in (
@@ -72,8 +85,22 @@ def cores() -> Iterator[Row]:
         ("a short status record", with_notes(note(b"CORE\0", 1, bytes(111))), "bad note"),
         ("a short process record", with_notes(note(b"CORE\0", 3, bytes(135))), "bad note"),
         ("a file table of 2^60 entries", with_notes(long_table), "bad note"),
+        ("a file table of 15 bytes", with_notes(note(b"CORE\0", 0x46494C45, bytes(15))), "bad note"),
+        ("a file table of fewer names", with_notes(files_note(2, b"a\0b")), "bad note"),
+        ("a file table of fewer entries", with_notes(files_note(3, b"a\0b\0c\0")), "bad note"),
     ):
         yield row(f"walk: core: {what}", GOOD, {"core": data}, line=line)
+    for what, notes in (
+        ("a short record of another type", note(b"CORE\0", 2, b"")),
+        ("a status record of 112 bytes", note(b"CORE\0", 1, bytes(112))),
+        ("a process record of 136 bytes", note(b"CORE\0", 3, bytes(136))),
+        ("a file table of 16 bytes", note(b"CORE\0", 0x46494C45, bytes(16))),
+        ("a file table of all its names", two_files),
+        ("empty names", files_note(2, b"\0\0")),
+        ("two file tables", two_files + files_note(2, b"c\0d\0")),
+    ):
+        yield row(f"walk: core: {what}", GOOD, {"core": with_notes(notes)}, TEXT)
+    yield row("walk: core: 65,533 segments", GOOD, {"core": many_segments(65533)}, TEXT)
     files = {"core": whole}
     yield row("walk: no layout", "walk core sample 3.8.0 0x10000 0", files, line="no layout for Python 3.8.0")
     yield row("walk: no interpreter there", "walk core sample 3.9.0 0x20000 0", files,

@@ -66,28 +66,46 @@ fn headers_are_read(rt: HostRuntime) -> Result<(), Fail> {
     let elf = Elf64::parse(IMAGE)?;
     let segments: Vec<Segment> = elf.segments().collect(alloc)?;
     assert_eq!(rt; segments.as_slice(), [SEGMENT].as_slice());
-    let sections: Vec<Section> = elf.sections()?.collect(alloc)?;
-    assert_eq!(rt; sections.first().copied(), Some(BSS));
-    assert_eq!(rt;
-        (elf.machine(), sections.len(), elf.section_name(&BSS)),
-        (Machine::X86_64, 4, Some(b".bss".as_slice()))
-    );
+    assert!(rt; elf.machine() == Machine::X86_64);
     Ok(())
 }
 
 #[test]
-fn symbols_and_notes_are_read(rt: HostRuntime) -> Result<(), Fail> {
-    let alloc = rt.alloc();
+fn sections_are_read(rt: HostRuntime) -> Result<(), Fail> {
     let elf = Elf64::parse(IMAGE)?;
-    let symbols = elf.symbols(alloc, SymbolKind::Plain)?;
-    assert_eq!(rt; symbols.as_slice(), SYMBOLS.as_slice());
-    let note = Note {
-        kind: 3,
-        desc: b"ID",
-    };
-    assert_eq!(rt; elf.notes(alloc, 120, 20)?.as_slice(), [note].as_slice());
-    assert_eq!(rt; read_build_id(&elf)?, Some(b"ID".as_slice()));
-    let id = read_elf_build_id(alloc, IMAGE)?;
+    let sections: Vec<Section> = elf.sections()?.collect(rt.alloc())?;
+    assert!(rt; sections.len() == 4 && sections.first() == Some(&BSS));
+    assert!(rt; elf.section_name(&BSS) == Some(b".bss".as_slice()));
+    Ok(())
+}
+
+#[test]
+fn symbols_are_read(rt: HostRuntime) -> Result<(), Fail> {
+    let symbols = Elf64::parse(IMAGE)?.symbols(rt.alloc(), SymbolKind::Plain)?;
+    assert!(rt; symbols.as_slice() == SYMBOLS.as_slice());
+    Ok(())
+}
+
+#[test]
+fn notes_are_read(rt: HostRuntime) -> Result<(), Fail> {
+    let notes = Elf64::parse(IMAGE)?.notes(rt.alloc(), 120, 20)?;
+    assert!(rt; notes.len() == 1 && notes.first().is_some_and(is_of_id));
+    Ok(())
+}
+
+fn is_of_id(note: &Note<'_>) -> bool {
+    note.kind == 3 && note.desc == b"ID".as_slice()
+}
+
+#[test]
+fn a_build_id_is_read(rt: HostRuntime) -> Result<(), Fail> {
+    assert!(rt; read_build_id(&Elf64::parse(IMAGE)?)? == Some(b"ID".as_slice()));
+    Ok(())
+}
+
+#[test]
+fn the_build_id_of_a_file_is_read(rt: HostRuntime) -> Result<(), Fail> {
+    let id = read_elf_build_id(rt.alloc(), IMAGE)?;
     assert!(rt; id.is_some_and(|id| id.as_bytes() == b"ID".as_slice()));
     Ok(())
 }
@@ -98,18 +116,23 @@ fn hash_of<T: Hash>(value: &T) -> u64 {
     state.finish()
 }
 
-/// A name is ordered by its bytes, and what is no UTF-8 in it is read as U+FFFD.
+/// A name is ordered by its bytes.
 #[test]
 fn names_are_their_bytes(rt: HostRuntime) -> Result<(), Fail> {
     let alloc = rt.alloc();
     let long = Name::of(alloc, b"a\xff\xe2\x82")?;
     let short = Name::of(alloc, b"b")?;
-    assert_eq!(rt; (long.cmp(&short), long == short), (Ordering::Less, false));
-    assert_eq!(rt;
-        hash_of(&short),
-        hash_of(&Name::of(alloc, short.as_bytes())?)
-    );
-    assert_eq!(rt; long.lossy(alloc)?.as_str(), "a\u{fffd}\u{fffd}");
+    assert!(rt; long.cmp(&short) == Ordering::Less && long != short);
+    let again = Name::of(alloc, short.as_bytes())?;
+    assert!(rt; hash_of(&short) == hash_of(&again));
+    Ok(())
+}
+
+/// What is no UTF-8 in a name is read as U+FFFD.
+#[test]
+fn names_are_shown_as_characters(rt: HostRuntime) -> Result<(), Fail> {
+    let name = Name::of(rt.alloc(), b"a\xff\xe2\x82")?;
+    assert!(rt; name.lossy(rt.alloc())?.as_str() == "a\u{fffd}\u{fffd}");
     Ok(())
 }
 
@@ -119,8 +142,9 @@ fn texts_are_their_bytes(rt: HostRuntime) -> Result<(), Fail> {
     let alloc = rt.alloc();
     let first = Text::of(alloc, "\u{ffff}")?;
     let last = Text::from(String::from_str(alloc, "😀")?);
-    assert_eq!(rt; (first.cmp(&last), first == last), (Ordering::Less, false));
-    assert_eq!(rt; hash_of(&last), hash_of(&last.copy(alloc)?));
+    assert!(rt; first.cmp(&last) == Ordering::Less && first != last);
+    let again = last.copy(alloc)?;
+    assert!(rt; hash_of(&last) == hash_of(&again));
     Ok(())
 }
 

@@ -20,9 +20,9 @@ const RANGES: [(u64, u64, u64, u64, bool); 10] = [
 
 #[test]
 fn ranges_lie_in_ranges(rt: HostRuntime) -> Result<(), Fail> {
-    for (start, size, sub_start, sub_size, want) in RANGES {
-        let got = is_subrange(start, size, sub_start, sub_size);
-        assert!(rt; got == want, "{start} {size} {sub_start} {sub_size}");
+    for (start, size, sub_start, sub_size, want) in &RANGES {
+        let got = is_subrange(*start, *size, *sub_start, *sub_size);
+        assert!(rt; got == *want, "{start} {size} {sub_start} {sub_size}");
     }
     Ok(())
 }
@@ -75,13 +75,23 @@ fn narrow(view: Mmap, ranges: &[(u64, u64)]) -> Option<Mmap> {
     Some(view)
 }
 
+fn view_of(alloc: Global, bytes: &[u8]) -> Result<Mmap, Fail> {
+    let bytes = bytes.to_vec(alloc)?;
+    Ok(Mmap::of(alloc, bytes)?)
+}
+
+fn shows(view: Option<Mmap>, want: Option<&[u8]>) -> bool {
+    match view {
+        Some(view) => want == Some(view.as_slice()),
+        None => want.is_none(),
+    }
+}
+
 #[test]
 fn views_are_narrowed(rt: HostRuntime) -> Result<(), Fail> {
-    let alloc = rt.alloc();
     for (bytes, ranges, want) in &VIEWS {
-        let view = narrow(Mmap::of(alloc, bytes.to_vec(alloc)?)?, ranges);
-        let shown = view.as_ref().map(|view| view.as_slice());
-        assert_eq!(rt; shown, *want, "{ranges:?}");
+        let view = narrow(view_of(rt.alloc(), bytes)?, ranges);
+        assert!(rt; shows(view, *want), "{ranges:?}");
     }
     Ok(())
 }
@@ -101,17 +111,25 @@ fn image(alloc: Global, kind: u8) -> Result<Vec<u8>, AllocError> {
     Ok(bytes)
 }
 
+fn mapped(alloc: Global, kind: u8) -> Result<Mmap, Fail> {
+    let bytes = image(alloc, kind)?;
+    Ok(Mmap::of(alloc, bytes)?)
+}
+
 #[test]
 fn build_ids_are_read_from_views(rt: HostRuntime) -> Result<(), Fail> {
     let alloc = rt.alloc();
-    for (kind, want) in [(7, Some(b"\x01\x02".as_slice())), (8, None)] {
-        let mmap = Mmap::of(alloc, image(alloc, kind)?)?;
-        let id = read_elf_build_id_from_mmap(alloc, &mmap)?;
-        assert_eq!(rt; id.as_ref().map(|id| id.as_bytes()), want, "{kind}");
-        if let Some(cut) = mmap.constrain(0..63) {
-            let error = read_elf_build_id_from_mmap(alloc, &cut).err();
-            assert_eq!(rt; error, Some(ElfError::NotElf64));
-        }
-    }
+    let noted = read_elf_build_id_from_mmap(alloc, &mapped(alloc, 7)?)?;
+    assert!(rt; noted.is_some_and(|id| id.as_bytes() == b"\x01\x02".as_slice()));
+    let plain = read_elf_build_id_from_mmap(alloc, &mapped(alloc, 8)?)?;
+    assert!(rt; plain.is_none());
+    Ok(())
+}
+
+#[test]
+fn cut_views_are_no_files(rt: HostRuntime) -> Result<(), Fail> {
+    let cut = mapped(rt.alloc(), 7)?.constrain(0..63);
+    let read = cut.map(|cut| read_elf_build_id_from_mmap(rt.alloc(), &cut));
+    assert!(rt; matches!(read, Some(Err(ElfError::NotElf64))));
     Ok(())
 }

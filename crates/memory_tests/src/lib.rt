@@ -10,11 +10,11 @@ mod elf_tests;
 #[cfg(test)]
 mod image_tests;
 #[cfg(test)]
+mod made;
+#[cfg(test)]
 mod piece_table_tests;
 #[cfg(test)]
 mod piece_tests;
-#[cfg(test)]
-mod real_file_tests;
 #[cfg(test)]
 mod record_tests;
 #[cfg(test)]

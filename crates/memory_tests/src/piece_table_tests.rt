@@ -87,18 +87,26 @@ fn is_run(table: &PieceTable, run: &Run) -> bool {
     table.run(run.0, run.1) == want
 }
 
+fn first(alloc: Global) -> Result<PieceTable, AllocError> {
+    let ranges = ranges_of(alloc, &FIRST)?;
+    PieceTable::of(alloc, ranges)
+}
+
+fn both(alloc: Global, first: &PieceTable) -> Result<PieceTable, AllocError> {
+    let ranges = ranges_of(alloc, &OTHERS)?;
+    first.followed_by(alloc, &ranges)
+}
+
 #[test]
 fn an_earlier_range_wins(rt: HostRuntime) -> Result<(), Fail> {
-    let alloc = rt.alloc();
-    let first = PieceTable::of(alloc, ranges_of(alloc, &FIRST)?)?;
-    assert!(rt; first.len() == 2);
-    let table = first.followed_by(alloc, &ranges_of(alloc, &OTHERS)?)?;
-    assert!(rt; table.len() == 5);
+    let first = first(rt.alloc())?;
+    let both = both(rt.alloc(), &first)?;
+    assert!(rt; first.len() == 2 && both.len() == 5);
     for (addr, row) in &PIECES {
-        assert!(rt; is_piece(&table, *addr, row.as_ref()), "{addr:#x}");
+        assert!(rt; is_piece(&both, *addr, row.as_ref()), "{addr:#x}");
     }
     for run in &RUNS {
-        assert!(rt; is_run(&table, run), "{:#x}", run.0);
+        assert!(rt; is_run(&both, run), "{:#x}", run.0);
     }
     Ok(())
 }

@@ -1,14 +1,12 @@
 //! The pieces of cores that are written out, and the addresses of maps that overlap.
-ghost use Rattle.std.specs.Prelude.{◌≡◌, ◌<◌, ◌^◌};
+ghost use Rattle.std.specs.Prelude.{◌≡◌, ◌<◌};
 
-use crate::core_tests::{HELD, Row, core_of};
+use crate::core_tests::HELD;
+use crate::made::{Row, file_of};
 use elf64_core::{LOAD, NOTE, Segment, Steps};
-use image_memory::{
-    BackedDump, ContainsAddr, CoreDump, CoreMapRange, Images, MapTable, ProcessMemory,
-};
+use image_memory::{ContainsAddr, CoreDump, CoreMapRange, MapTable};
 use std::alloc::{AllocError, Global};
 use std::marker::Brand;
-use std::process::Abort;
 use std::sync::ledger::{Blank, Ledger};
 use std::test::Fail;
 
@@ -81,62 +79,29 @@ const CASES: [Case; 3] = [
     ),
 ];
 
+fn core_of(alloc: Global, loads: &[Row]) -> Result<CoreDump, Fail> {
+    let mut segments = loads.to_vec(alloc)?;
+    segments.push((NOTE, 0, 400, 0x3000, 0, 16))?;
+    Ok(CoreDump::new(alloc, file_of(alloc, &segments, HELD)?)?)
+}
+
+/// Whether what is found at each of some addresses is this.
+fn is_found(core: &CoreDump, finds: &[(u64, Option<&'static [u8]>)]) -> bool {
+    for (addr, want) in finds {
+        if found::<Brand>(core, *addr, Blank::new(1)) != *want {
+            return false;
+        }
+    }
+    true
+}
+
 #[test]
 fn pieces_are_the_longest(rt: HostRuntime) -> Result<(), Fail> {
-    let alloc = rt.alloc();
     for (loads, count, finds) in &CASES {
-        let mut segments = loads.to_vec(alloc)?;
-        segments.push((NOTE, 0, 400, 0x3000, 0, 16))?;
-        assert!(rt; segments.len() == 6);
-        let core = CoreDump::new(alloc, core_of(alloc, &segments, HELD)?)?;
-        assert_eq!(rt; core.pieces(), *count);
-        for (addr, want) in finds {
-            let got = found::<Brand>(&core, *addr, Blank::new(1));
-            assert_eq!(rt; got, *want, "{addr:#x}");
-        }
+        let core = core_of(rt.alloc(), loads)?;
+        assert!(rt; core.pieces() == *count && is_found(&core, finds));
     }
     Ok(())
-}
-
-/// Reads the byte at each start, 100 times over.
-fn read_each<P: ProcessMemory + Drop>(rt: &impl Abort, memory: P, count: u64) -> Result<(), Fail>
-    requires { count < 2 ^ 32 }
-{
-    let mut memory = memory;
-    for _ in 0..100 {
-        for number in 0..count {
-            let mut byte = [0];
-            memory.read(0x1000 + 16 * number, &mut byte)?;
-            assert!(rt; u64::from(byte[0]) == number % 251, "{number}");
-        }
-    }
-    Ok(())
-}
-
-#[test]
-fn many_segments_are_read_at_once(rt: HostRuntime) -> Result<(), Fail> {
-    let alloc = rt.alloc();
-    let count = 65533u64;
-    let mut segments = Vec::new(alloc);
-    let mut held = Vec::new(alloc);
-    for number in 0..count {
-        segments.push((
-            LOAD,
-            0,
-            64 + 56 * 65534 + number,
-            0x1000 + 16 * number,
-            1,
-            1,
-        ))?;
-        held.push((number % 251) as u8)?;
-    }
-    segments.push((NOTE, 0, 64, 0, 0, 0))?;
-    assert!(rt; segments.len() < 65535);
-    let core = CoreDump::new(alloc, core_of(alloc, &segments, &held)?)?;
-    assert_eq!(rt; core.pieces(), 65533);
-    read_each(&rt, core.view(), count)?;
-    let dump = BackedDump::new(alloc, core, &Images::new(alloc))?;
-    read_each(&rt, dump.view(), count)
 }
 
 /// The starts and sizes of maps that overlap, one of them past 2^64 - 1.
@@ -167,25 +132,25 @@ fn maps(alloc: Global, past: u64) -> Result<Vec<CoreMapRange>, AllocError> {
     Ok(maps)
 }
 
+/// Whether a table says of the addresses around a map what the maps say.
+fn is_alike(table: &MapTable, maps: &Vec<CoreMapRange>, start: u64, size: u64) -> bool {
+    let end = start.saturating_add(size);
+    for addr in &[start.saturating_sub(1), start, end, end.saturating_sub(1), u64::MAX] {
+        if table.contains_addr(*addr) != maps.contains_addr(*addr) {
+            return false;
+        }
+    }
+    true
+}
+
 #[test]
 fn a_table_of_maps_tests_as_they_do(rt: HostRuntime) -> Result<(), Fail> {
     let alloc = rt.alloc();
-    for past in [0, 1, u64::MAX] {
-        let maps = maps(alloc, past)?;
+    for past in &[0, 1, u64::MAX] {
+        let maps = maps(alloc, *past)?;
         let table = MapTable::of(alloc, &maps)?;
-        for (start, size) in MAPS {
-            for addr in [
-                start.saturating_sub(1),
-                start,
-                start.saturating_add(size),
-                start.saturating_add(size).saturating_sub(1),
-                u64::MAX,
-            ] {
-                assert!(rt;
-                    table.contains_addr(addr) == maps.contains_addr(addr),
-                    "{addr:#x}"
-                );
-            }
+        for (start, size) in &MAPS {
+            assert!(rt; is_alike(&table, &maps, *start, *size), "{start:#x}");
         }
     }
     Ok(())

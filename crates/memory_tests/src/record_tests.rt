@@ -38,8 +38,10 @@ fn part(alloc: Global) -> Result<Part, AllocError> {
     Ok(Part::of(alloc, pieces))
 }
 
-/// Addresses and lengths, and the bytes there, if they are in memory.
-const READS: [(u64, u16, Option<&[u8]>); 18] = [
+/// An address and a length, and the bytes there, if they are in memory.
+type Row = (u64, u16, Option<&'static [u8]>);
+
+const READS: [Row; 18] = [
     (0x100c, 8, Some(b"AAAABBBB")),
     (0x1000, 24, Some(b"AAAAAAAAAAAAAAAABBBBBBBB")),
     (0x1010, 1, Some(b"B")),
@@ -60,39 +62,68 @@ const READS: [(u64, u16, Option<&[u8]>); 18] = [
     (0, 0, Some(b"")),
 ];
 
+/// Whether a read of a row into dots gives its bytes, or that they can't be read, and then leaves the dots.
+fn is_filled(read: &Result<(), ReadFault>, bytes: &[u8], row: &Row) -> bool {
+    let (addr, len) = (row.0, u64::from(row.1));
+    match read {
+        Ok(()) => row.2 == Some(bytes),
+        Err(error) => {
+            let is_left = bytes.iter().all(|byte| *byte == b'.');
+            row.2.is_none() && is_left && *error == ReadFault::Unreadable { addr, len }
+        }
+    }
+}
+
+fn is_read<P: ProcessMemory>(alloc: Global, memory: &mut P, row: &Row) -> Result<bool, AllocError> {
+    let mut bytes = vec![in alloc; b'.'; row.1 as usize]?;
+    let read = memory.read(row.0, &mut bytes);
+    Ok(is_filled(&read, &bytes, row))
+}
+
+fn is_read_in<P: ProcessMemory>(
+    alloc: Global,
+    memory: &mut P,
+    row: &Row,
+) -> Result<bool, AllocError> {
+    let mut bytes = vec![in alloc; b'.'; row.1 as usize]?;
+    let read = record_in(memory, row.0, &mut bytes);
+    Ok(is_filled(&read, &bytes, row))
+}
+
+/// Whether a copy of a row is its bytes, or that they can't be read.
+fn is_copy(copy: &Result<Vec<u8>, ReadFault>, row: &Row) -> bool {
+    let (addr, len) = (row.0, u64::from(row.1));
+    match copy {
+        Ok(bytes) => row.2 == Some(bytes.as_slice()),
+        Err(error) => row.2.is_none() && *error == ReadFault::Unreadable { addr, len },
+    }
+}
+
+fn is_copied<P: ProcessMemory>(alloc: Global, memory: &mut P, row: &Row) -> bool {
+    is_copy(&memory.copy(alloc, row.0, u64::from(row.1)), row)
+}
+
+fn is_record<P: ProcessMemory>(alloc: Global, memory: &mut P, row: &Row) -> bool {
+    is_copy(&record(alloc, memory, row.0, u64::from(row.1)), row)
+}
+
+fn is_wide_record<P: ProcessMemory>(alloc: Global, memory: &mut P, row: &Row) -> bool {
+    is_copy(&record_wide(alloc, memory, u128::from(row.0), u64::from(row.1)), row)
+}
+
 /// Reads each of the ranges in five ways.
 fn check_reads<P: ProcessMemory>(
     rt: &impl Abort,
     alloc: Global,
     memory: &mut P,
 ) -> Result<(), AllocError> {
-    for (addr, short, want) in &READS {
-        let len = *short as u64;
-        let mut buf = vec![in alloc; b'.'; *short as usize]?;
-        let read = memory.read(*addr, &mut buf);
-        let mut again = vec![in alloc; b'.'; *short as usize]?;
-        let read_again = record_in(memory, *addr, &mut again);
-        let copies = [
-            memory.copy(alloc, *addr, len),
-            record(alloc, memory, *addr, len),
-            record_wide(alloc, memory, *addr as u128, len),
-        ];
-        let fault = || ReadFault::Unreadable { addr: *addr, len };
-        let dots = vec![in alloc; b'.'; *short as usize]?;
-        let filled = want.unwrap_or(&dots);
-        assert!(rt; read.err() == want.is_none().then(fault), "{addr:#x} {len}");
-        assert!(rt;
-            read_again.err() == want.is_none().then(fault),
-            "{addr:#x} {len}"
-        );
-        assert_eq!(rt; buf.as_slice(), filled);
-        assert_eq!(rt; again.as_slice(), filled);
-        for copy in copies {
-            match copy {
-                Ok(bytes) => assert_eq!(rt; Some(bytes.as_slice()), *want),
-                Err(error) => assert!(rt; want.is_none() && error == fault(), "{addr:#x} {len}"),
-            }
-        }
+    for row in &READS {
+        let (addr, len) = (row.0, row.1);
+        let is_there = is_read(alloc, memory, row)? && is_read_in(alloc, memory, row)?;
+        assert!(rt; is_there, "{addr:#x} {len}");
+        assert!(rt; is_copied(alloc, memory, row), "{addr:#x} {len}");
+        let is_recorded = is_record(alloc, memory, row) && is_wide_record(alloc, memory, row);
+        assert!(rt; is_recorded, "{addr:#x} {len}");
     }
     Ok(())
 }
@@ -125,17 +156,26 @@ fn a_counted_memory_answers_the_same(rt: HostRuntime) -> Result<(), Fail> {
     check_counted::<Brand>(&rt, rt.alloc(), Blank::new(1))
 }
 
+const SPANS: [Span; 2] = [
+    Span {
+        start: 0x1000,
+        len: 2,
+    },
+    Span {
+        start: u64::MAX,
+        len: 0,
+    },
+];
+
 #[test]
 fn ranges_are_those_read_with_ok(rt: HostRuntime) -> Result<(), Fail> {
     let alloc = rt.alloc();
     let mut recorder = Recorder::new(alloc, part(alloc)?);
-    assert_eq!(rt; recorder.ranges(), [].as_slice());
-    assert_eq!(rt; word(&mut recorder, 0x1010)?, 0x4242_4242_4242_4242);
     assert!(rt; recorder.copy(alloc, 0x1010, 9).is_err());
+    assert!(rt; recorder.ranges().is_empty());
     assert!(rt; recorder.copy(alloc, 0x1000, 2).is_ok());
-    assert_eq!(rt; recorder.read(u64::MAX, &mut []), Ok(()));
-    let spans = [(0x1010, 8), (0x1000, 2), (u64::MAX, 0)].map(|(start, len)| Span { start, len });
-    assert_eq!(rt; recorder.ranges(), spans.as_slice());
+    assert!(rt; recorder.read(u64::MAX, &mut []).is_ok());
+    assert!(rt; recorder.ranges() == SPANS.as_slice());
     Ok(())
 }
 
@@ -143,11 +183,14 @@ fn ranges_are_those_read_with_ok(rt: HostRuntime) -> Result<(), Fail> {
 fn a_range_that_is_not_there_asks_for_no_memory(rt: HostRuntime) -> Result<(), Fail> {
     let alloc = rt.alloc();
     let mut recorder = Recorder::new(alloc, part(alloc)?);
-    for len in [1 << 62, u64::MAX] {
-        let fault = ReadFault::Unreadable { addr: 0x1000, len };
-        assert!(rt; recorder.copy(alloc, 0x1000, len).err() == Some(fault));
+    for len in &[1 << 62, u64::MAX] {
+        let fault = ReadFault::Unreadable {
+            addr: 0x1000,
+            len: *len,
+        };
+        assert!(rt; recorder.copy(alloc, 0x1000, *len).err() == Some(fault));
     }
-    assert_eq!(rt; recorder.ranges(), [].as_slice());
+    assert!(rt; recorder.ranges().is_empty());
     Ok(())
 }
 
@@ -157,31 +200,48 @@ const ADDRESSES: u128 = 0x1_0000_0000_0000_0000;
 /// The bytes `AAAABBBB`, the lowest first.
 const MIXED: u64 = 0x4242_4242_4141_4141;
 
+/// Where a word can't be read.
+type Missing = Option<u64>;
+
+/// Addresses, and where the word there can't be read, if it isn't `MIXED`.
+const WORDS: [(u64, Missing); 2] = [(0x100c, None), (0x1011, Some(0x1011))];
+
+const WORDS_PAST: [(u64, u64, Missing); 6] = [
+    (0x1000, 12, None),
+    (12, 0x1000, None),
+    (0x1000, 0x11, Some(0x1011)),
+    (u64::MAX - 1, 1, Some(u64::MAX)),
+    (u64::MAX, 1, Some(u64::MAX)),
+    (u64::MAX, 0x100d, Some(u64::MAX)),
+];
+
+const WIDE_WORDS: [(u128, Missing); 5] = [
+    (0x100c, None),
+    (0x1011, Some(0x1011)),
+    (ADDRESSES - 1, Some(u64::MAX)),
+    (ADDRESSES, Some(u64::MAX)),
+    (ADDRESSES + 0x100c, Some(u64::MAX)),
+];
+
+fn is_word(read: &Result<u64, ReadFault>, missing: Missing) -> bool {
+    match (read, missing) {
+        (Ok(word), None) => *word == MIXED,
+        (Err(error), Some(addr)) => *error == ReadFault::Unreadable { addr, len: 8 },
+        (Ok(_), Some(_)) | (Err(_), None) => false,
+    }
+}
+
 #[test]
 fn words_are_read_low_byte_first(rt: HostRuntime) -> Result<(), Fail> {
-    let alloc = rt.alloc();
-    let mut part = part(alloc)?;
-    let fault = |addr| Err(ReadFault::Unreadable { addr, len: 8 });
-    assert_eq!(rt; word(&mut part, 0x100c), Ok(MIXED));
-    assert_eq!(rt; word(&mut part, 0x1011), fault(0x1011));
-    for (base, offset, want) in [
-        (0x1000, 12, Ok(MIXED)),
-        (12, 0x1000, Ok(MIXED)),
-        (0x1000, 0x11, fault(0x1011)),
-        (u64::MAX - 1, 1, fault(u64::MAX)),
-        (u64::MAX, 1, fault(u64::MAX)),
-        (u64::MAX, 0x100d, fault(u64::MAX)),
-    ] {
-        assert_eq!(rt; word_past(&mut part, base, offset), want);
+    let mut part = part(rt.alloc())?;
+    for (addr, missing) in &WORDS {
+        assert!(rt; is_word(&word(&mut part, *addr), *missing));
     }
-    for (addr, want) in [
-        (0x100c, Ok(MIXED)),
-        (0x1011, fault(0x1011)),
-        (ADDRESSES - 1, fault(u64::MAX)),
-        (ADDRESSES, fault(u64::MAX)),
-        (ADDRESSES + 0x100c, fault(u64::MAX)),
-    ] {
-        assert_eq!(rt; word_wide(&mut part, addr), want);
+    for (base, offset, missing) in &WORDS_PAST {
+        assert!(rt; is_word(&word_past(&mut part, *base, *offset), *missing));
+    }
+    for (addr, missing) in &WIDE_WORDS {
+        assert!(rt; is_word(&word_wide(&mut part, *addr), *missing));
     }
     Ok(())
 }
@@ -190,14 +250,14 @@ fn words_are_read_low_byte_first(rt: HostRuntime) -> Result<(), Fail> {
 fn records_past_the_last_address_are_unreadable(rt: HostRuntime) -> Result<(), Fail> {
     let alloc = rt.alloc();
     let mut part = part(alloc)?;
-    for addr in [ADDRESSES, ADDRESSES + 0x1000, u128::MAX] {
-        let none = record_wide(alloc, &mut part, addr, 0)?;
+    for addr in &[ADDRESSES, ADDRESSES + 0x1000, u128::MAX] {
+        let none = record_wide(alloc, &mut part, *addr, 0)?;
         assert!(rt; none.is_empty());
         let fault = ReadFault::Unreadable {
             addr: u64::MAX,
             len: 5,
         };
-        assert!(rt; record_wide(alloc, &mut part, addr, 5).err() == Some(fault));
+        assert!(rt; record_wide(alloc, &mut part, *addr, 5).err() == Some(fault));
     }
     Ok(())
 }
