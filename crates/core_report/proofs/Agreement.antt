@@ -34,7 +34,6 @@ use Rattle.core_stacks.proofs.Walked.{walk_agree as walks_agree, walk_complete}
 use Rattle.core_report.specs.declared.cause.Cause.{Cause}
 use Rattle.core_report.specs.declared.cause.Cause.TheVariants.{Core, Layouts, Merge, Reach}
 use Rattle.core_merge.specs.CoreMerges.{CoreMergeIs}
-use Rattle.core_merge.specs.declared.error.CoreMergeError.TheVariants as merging
 use Rattle.core_merge.proofs.Chain.{core_merge_once, err_is as merge_err_is, ok_err as merge_ok_err}
 use Rattle.core_report.specs.Merged.{python_in}
 use Rattle.py_stacks.specs.Asking.{default_config}

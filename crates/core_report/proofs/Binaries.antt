@@ -1,13 +1,13 @@
 -- What the images of Python's two binaries say is one, and says which addresses are Python's.
-use Rattle.std.proofs.Common.{◌≡◌, ℕ, Bool, List, Option, Some, None, refl, sym, ap, subst, ◌∙◌}
+use Rattle.std.proofs.Common.{◌≡◌, ℕ, List, Option, Some, None, refl, sym, ap, subst, ◌∙◌}
 use Rattle.std.specs.Prelude.{Ok, option_map}
-use Rattle.image_memory.specs.Images.{Pushed, first_under}
-use Rattle.image_memory.specs.Mmap.{Mapped, shown_bytes}
+use Rattle.image_memory.specs.Images.{Pushed}
+use Rattle.image_memory.specs.Mmap.{shown_bytes}
 use Rattle.image_memory.specs.declared.maps.CoreMapRange.{CoreMapRange}
 use Rattle.image_memory.proofs.Noted.{AreMaps-once}
 use Rattle.py_process.specs.Binary.{SaysFacts}
 use Rattle.py_process.specs.Facts.{Facts, facts_of}
-use Rattle.py_process.specs.Programs.{ArePrograms, FactsAre, FactsOf, ImageSays, Programs, path_of}
+use Rattle.py_process.specs.Programs.{ArePrograms, FactsAre, FactsOf, ImageSays, Programs}
 use Rattle.py_process.specs.declared.binary.BinaryInfo.{BinaryInfo}
 use Rattle.py_process.proofs.Agreement.{ok_is, ok_kept}
 use Rattle.py_process.proofs.FindingLaws.{maps_agree}

@@ -1,7 +1,7 @@
 -- What cores in groups come to.
-use Rattle.std.proofs.Common.{◌≡◌, ◌≢◌, ℕ, List, [], ◌∷◌, ◌++◌, length, map, drop, take, refl, sym, ap, subst, ◌∙◌}
-use Rattle.std.proofs.Common.{arith, inl, inr, Err, Ok, append_assoc}
-use Rattle.std.specs.Prelude.{Option, Result, Some, Vec}
+use Rattle.std.proofs.Common.{◌≡◌, ◌≢◌, ℕ, List, [], ◌∷◌, ◌++◌, length, drop, refl, sym, ap, subst, ◌∙◌}
+use Rattle.std.proofs.Common.{arith, inl, inr, Err, Ok}
+use Rattle.std.specs.Prelude.{Vec}
 use Rattle.std.specs.Global.{Global}
 use Rattle.std.proofs.lemmas.List.{length-map}
 use Rattle.std.proofs.Math.Seq.{drop-append_seam}
@@ -11,20 +11,18 @@ use Rattle.outside.specs.Files.{FilesSeen}
 use Rattle.py_fields.specs.declared.layout.Layout.{Layout}
 use Rattle.py_layout.specs.File.{IsRightFor}
 use Rattle.py_layout.specs.declared.error.LayoutError.{LayoutError}
-use Rattle.py_layout.specs.declared.error.LayoutError.TheVariants as layout
 use Rattle.core_words.specs.Words.{Triage, triage}
 use Rattle.core_report.specs.Grouped.{IsGroupedText}
-use Rattle.core_report.specs.Outcome.{IsJudged, IsTriageOutcome, IsTriagedBy, Outcome, TextSays, cause_status}
-use Rattle.core_report.specs.Outcome.{images_by, images_read, layouts_status}
-use Rattle.core_report.specs.Reading.{AsksCores, IsAll, IsRead, contents, triage_contents}
+use Rattle.core_report.specs.Outcome.{cause_status}
+use Rattle.core_report.specs.Outcome.{images_by, images_read}
+use Rattle.core_report.specs.Reading.{AsksCores, IsRead, contents}
 use Rattle.core_report.specs.Run.{Comes, ComesTo, HasJudged, IsTroubled}
 use Rattle.core_report.specs.declared.cause.Cause.{Cause}
 use Rattle.core_report.specs.declared.cause.Cause.TheVariants.{Layouts}
 use Rattle.core_report.specs.declared.judged.JudgedCores.{JudgedCores}
-use Rattle.core_report.specs.declared.triage_command.TriageFiles.{TriageFiles}
 use Rattle.core_report.specs.declared.trouble.Trouble.TheVariants.{Cause as Caused}
 use Rattle.core_report.proofs.Agreement.{flawless}
-use Rattle.core_report.proofs.Judging.{all_cores, grouped_text}
+use Rattle.core_report.proofs.Judging.{all_cores}
 
 -- the layouts are at fault: no core is asked for
 pub stopped_by : (old new : FilesSeen) (t : Triage) (text : List ℕ) (images : List (Vec ℕ Global)) (cause : Cause)

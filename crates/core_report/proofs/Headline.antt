@@ -3,18 +3,16 @@ use Rattle.std.proofs.Common.{◌≡◌, ℕ, List, [], ◌∷◌, Ok, Some, inl
 use Rattle.std.specs.Prelude.{Option, Err}
 use Rattle.std.specs.Io.KnownBytes.{Appends}
 use Rattle.std.proofs.lemmas.Option.{same_Some}
-use Rattle.image_memory.specs.Images.{Pushed}
 use Rattle.outside.specs.Files.{Told}
 use Rattle.outside.specs.Streams.{SinkSeen}
 use Rattle.py_fields.specs.declared.layout.Layout.{Layout}
 use Rattle.py_layout.specs.File.{IsRightFor}
 use Rattle.py_process.specs.Reports.{reported_of}
-use Rattle.py_process.specs.declared.report.Report.{Report}
 use Rattle.core_words.specs.Dump.{Dump}
 use Rattle.core_words.specs.Words.{Command, dump}
 use Rattle.core_stacks.proofs.ReportLaws.{report_whole}
 use Rattle.core_report.specs.Headline.{HasReported}
-use Rattle.core_report.specs.Outcome.{IsDumpOutcome, IsDumpedBy, IsOutcome, Outcome, images_read}
+use Rattle.core_report.specs.Outcome.{IsDumpOutcome, IsDumpedBy, Outcome, images_read}
 use Rattle.core_report.specs.Reading.{IsAll, IsRead}
 use Rattle.core_report.specs.Run.{ComesTo, Reaches}
 use Rattle.core_report.specs.declared.cause.Cause.{Cause}

@@ -1,17 +1,16 @@
 -- Cores that are read and judged one after the other.
 use Rattle.std.proofs.Common.{◌≡◌, ◌≢◌, ◌<◌, ◌≤◌, ◌+◌, ℕ, zero, suc, List, [], ◌∷◌, ◌++◌, length, get_or, map, take}
-use Rattle.std.proofs.Common.{refl, sym, ap, subst, ◌∙◌, arith, inl, inr, append_assoc, length-append, Some, None, Ok}
+use Rattle.std.proofs.Common.{refl, sym, ap, subst, ◌∙◌, arith, inl, append_assoc, length-append, Some, Ok}
 use Rattle.std.proofs.Common.{Err}
 use Rattle.std.specs.Borrow.{Bor}
 use Rattle.std.specs.Global.{Global}
-use Rattle.std.specs.Prelude.{Option, Result, String, flat_map, option_map, slice_get, string_bytes}
+use Rattle.std.specs.Prelude.{Result, String, option_map, slice_get, string_bytes}
 use Rattle.std.proofs.lemmas.Option.{same_Some, slice_get-map, slice_get_past, slice_get_read, slice_get_within}
 use Rattle.std.proofs.lemmas.List.{append-nil, map-append, length-map, take_all, take_more}
 use Rattle.std.proofs.lemmas.List.Concat.{flat_map-append}
 use Rattle.image_memory.specs.Images.{Pushed}
 use Rattle.outside.specs.Files.{FilesSeen, Told, Gives}
 use Rattle.py_fields.specs.declared.layout.Layout.{Layout}
-use Rattle.py_layout.specs.File.{IsRightFor}
 use Rattle.py_stacks.specs.Asking.{default_config}
 use Rattle.py_stacks.specs.declared.config.Config.{Config}
 use Rattle.py_process.specs.Reports.{ReportIs, reported_of}
@@ -19,14 +18,14 @@ use Rattle.py_process.specs.declared.core_error.CoreError.{CoreError}
 use Rattle.py_process.specs.declared.core_error.CoreError.TheVariants as core
 use Rattle.py_process.specs.declared.report.Report.{Report}
 use Rattle.core_triage.specs.Groups.{groups_of}
-use Rattle.core_triage.specs.Keys.{Compared, compared_in, compared_of, same_key}
+use Rattle.core_triage.specs.Keys.{compared_in, compared_of, same_key}
 use Rattle.core_triage.specs.declared.key.StackKey.{StackKey}
 use Rattle.core_words.specs.Words.{Triage, kept_files, texts, triage}
 use Rattle.core_report.specs.Grouped.{AreJudged, IsGroupedText, IsJudgedRight, Judged, groups_text, name_by, names_in}
 use Rattle.core_report.specs.Grouped.{refusal_by, refusals_in, refusals_text, stacks_by, stacks_in}
 use Rattle.core_report.specs.Judging.{Keeps, kept_names, kept_refusals, refusal_seen}
-use Rattle.core_report.specs.Reading.{AsksCores, HasFlaw, IsAll, IsNext, IsRead, StopsTriage}
-use Rattle.core_report.specs.Run.{HasFirst, HasJudged}
+use Rattle.core_report.specs.Reading.{AsksCores, IsAll, IsNext, IsRead, StopsTriage}
+use Rattle.core_report.specs.Run.{HasJudged}
 use Rattle.core_report.specs.declared.judged.JudgedCores.{JudgedCores}
 use Rattle.core_report.proofs.Turns.{get-behind, more}
 

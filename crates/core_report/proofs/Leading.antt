@@ -1,7 +1,7 @@
 -- What a thread's locals lead to, over an opened process.
 use Rattle.std.proofs.Common.{◌≡◌, ◌∙◌, ◌∷◌, ℕ, List, Ok, Some, ap, get_or, inr, length, map, nat_lt, refl, subst, sym}
 use Rattle.std.proofs.Common.{true}
-use Rattle.std.specs.Prelude.{Option, Result, option_map, slice_get}
+use Rattle.std.specs.Prelude.{Result, option_map, slice_get}
 use Rattle.std.proofs.lemmas.Bool.{ltb-true}
 use Rattle.std.proofs.lemmas.Option.{slice_get-map, slice_get_read}
 use Rattle.image_memory.specs.Images.{Pushed}

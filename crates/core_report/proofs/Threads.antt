@@ -1,13 +1,13 @@
 -- A thread of an opened process, merged with native addresses.
-use Rattle.std.proofs.Common.{◌≡◌, ◌∙◌, ◌∷◌, ◌++◌, ◌≢◌, ◌⊎◌, [], ℕ, Bool, List, Some, Ok, Err, Result, suc, zero, ap}
+use Rattle.std.proofs.Common.{◌≡◌, ◌∷◌, ◌++◌, ◌≢◌, ◌⊎◌, [], ℕ, List, Ok, Err, Result, suc, zero, ap}
 use Rattle.std.proofs.Common.{drop, inl, inr, length, map, refl, subst, sym, arith}
-use Rattle.std.specs.Prelude.{IsErrOf, Option, Vec, option_map, slice_get}
+use Rattle.std.specs.Prelude.{IsErrOf, Option, Vec, option_map}
 use Rattle.std.specs.Global.{Global}
 use Rattle.image_memory.specs.Images.{Pushed}
 use Rattle.image_memory.specs.Mmap.{whole_view}
 use Rattle.py_fields.specs.declared.layout.Layout.{Layout}
 use Rattle.py_layout.specs.File.{IsRightFor}
-use Rattle.py_process.specs.Facts.{Facts, facts_of}
+use Rattle.py_process.specs.Facts.{facts_of}
 use Rattle.py_process.specs.declared.binary.BinaryInfo.{BinaryInfo}
 use Rattle.py_stacks.specs.Asking.{default_config}
 use Rattle.py_stacks.specs.Frames.{Call, call_of}
@@ -26,7 +26,6 @@ use Rattle.core_words.specs.Words.{Merge as AsksMerge}
 use Rattle.core_report.specs.Outcome.{IsMergeOutcome, IsMergedBy, IsMergedFrom, IsMergedIn, merge_status, Outcome}
 use Rattle.core_report.specs.Outcome.{OutcomeThen, images_by, images_read}
 use Rattle.core_report.specs.Stacked.{Stacked, StackedIs}
-use Rattle.core_report.specs.declared.cause.Cause.{Cause}
 use Rattle.core_report.specs.declared.cause.Cause.TheVariants.{Layouts, Merge}
 
 drop_images : (n : ℕ) (read : List (List ℕ)) (text : List ℕ) → length read ≡ n → drop n (read ++ text ∷ []) ≡ text ∷ []

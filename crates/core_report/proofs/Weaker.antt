@@ -1,5 +1,4 @@
 -- Answers that are right for more.
-use Rattle.std.proofs.Common.{◌≡◌}
 use Rattle.std.specs.Prelude.{ℕ, Result, Ok, Err, Vec}
 use Rattle.std.specs.Global.{Global}
 use Rattle.core_report.specs.declared.cause.Cause.{Cause}

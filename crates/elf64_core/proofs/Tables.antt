@@ -1,7 +1,7 @@
 -- Sections by number, and strings up to their nul.
-use Rattle.std.proofs.Common.{◌≡◌, ℕ, zero, suc, ◌+◌, ◌*◌, ◌<◌, ◌≤◌, Bool, true, false, cond, List, take, Option, Some}
+use Rattle.std.proofs.Common.{◌≡◌, ℕ, zero, suc, ◌+◌, ◌*◌, ◌<◌, ◌≤◌, Bool, true, false, cond, List, Some}
 use Rattle.std.proofs.Common.{None, refl, ap, ◌∙◌, arith}
-use Rattle.std.specs.Prelude.{slice_get, slice_range, option_map}
+use Rattle.std.specs.Prelude.{slice_get, slice_range}
 use Rattle.elf64_core.specs.Sections.{section_in, sections_from, range_at}
 
 pub section_get : (bytes : List ℕ) (at count k : ℕ) → k < count

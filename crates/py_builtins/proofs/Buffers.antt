@@ -1,8 +1,8 @@
 -- Records that are read into the first bytes of a buffer.
-use Rattle.std.proofs.Common.{◌≡◌, ℕ, ◌<◌, ◌≤◌, ◌^◌, List, length, take, ap, sym, subst}
+use Rattle.std.proofs.Common.{ℕ, ◌<◌, ◌≤◌, ◌^◌, List, length, take, ap, sym, subst}
 use Rattle.std.proofs.lemmas.List.{length-take-le}
 use Rattle.std.specs.Prelude.{Option, Result}
-use Rattle.process_memory.specs.Memory.{Memory, Fault, record_at}
+use Rattle.process_memory.specs.Memory.{Fault, record_at}
 use Rattle.process_memory.specs.Seen.{Seen, Reads}
 use Rattle.process_memory.proofs.Reading.{reads_same}
 

@@ -118,7 +118,7 @@ led_append l m place (x ∷ xs) a =
     let first = x ∷ behind_idle l m place idle_limit x in
     ap (λ ws. first ++ ws) (led_append l m (place + 8) xs a)
     ∙ sym
-        (append_assoc first (led_to l m (place + 8) xs) (a ∷ behind_idle l m (place + 8 + 8 * length xs) idle_limit a))
+    (append_assoc first (led_to l m (place + 8) xs) (a ∷ behind_idle l m (place + 8 + 8 * length xs) idle_limit a))
     ∙ ap (λ p. (first ++ led_to l m (place + 8) xs) ++ (a ∷ behind_idle l m p idle_limit a)) same
 
 led_none : (l : Layout) (m : Memory) (place : ℕ) → led_to l m place [] ≡ []

@@ -1,6 +1,6 @@
 -- The JSON of threads.
 use Rattle.std.specs.Prelude.{ℕ, ◌+◌, ◌++◌, List, map, drop, take, reverse, position, Option, Some, None, codes}
-use Rattle.serde_json.specs.Data.{Data, array, boolean, member, no_members, null, number, object, string, unsigned}
+use Rattle.serde_json.specs.Data.{Data, array, boolean, member, no_members, null, number, object, unsigned}
 use Rattle.serde_json.specs.View.{items_of}
 use Rattle.py_fronts.specs.declared.frame_front.FramesFront.{FramesFront}
 use Rattle.py_fronts.specs.declared.thread_front.ThreadFront.{ThreadFront}

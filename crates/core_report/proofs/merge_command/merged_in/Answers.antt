@@ -1,11 +1,8 @@
-use Rattle.std.proofs.Common.{◌≡◌, ◌∙◌, Err, Ok, Some, ap, arith, inl, inr, length, map, refl, subst, sym}
-use Rattle.std.specs.Prelude.{option_map}
+use Rattle.std.proofs.Common.{◌∙◌, ap, arith, inl, inr, length, map, refl, sym}
 use Rattle.std.proofs.lemmas.Bool.{ltb-false}
 use Rattle.std.proofs.lemmas.List.{length-map}
 use Rattle.std.proofs.lemmas.Option.{slice_get_past}
 use Rattle.std.proofs.lemmas.Result.{err_from_is_err_and}
-use Rattle.py_process.specs.Facts.{facts_of}
-use Rattle.py_stacks.specs.Frames.{call_of}
 use Rattle.py_stacks.specs.Threads.{trace_of}
 use Rattle.core_texts.specs.Text.{frames_text}
 use Rattle.native_merge.specs.PythonFrames.{calls}

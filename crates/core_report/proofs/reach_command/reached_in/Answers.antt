@@ -1,4 +1,4 @@
-use Rattle.std.proofs.Common.{◌≡◌, ◌∙◌, Err, Ok, Some, ap, inl, inr, refl, sym}
+use Rattle.std.proofs.Common.{◌∙◌, Err, Ok, ap, inl, inr, refl, sym}
 use Rattle.std.proofs.lemmas.Result.{err_from_is_err_and}
 use Rattle.process_memory.specs.Seen.{Seen}
 use Rattle.process_memory.proofs.Reading.{reading_here}

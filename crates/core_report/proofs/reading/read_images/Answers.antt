@@ -1,4 +1,4 @@
-use Rattle.std.proofs.Common.{◌≡◌, ◌++◌, ◌∙◌, ap, arith, length, refl}
+use Rattle.std.proofs.Common.{◌++◌, ◌∙◌, ap, arith, length, refl}
 use Rattle.std.proofs.lemmas.Result.{err_from_is_err_and}
 use Rattle.core_report.specs.Reading.{contents}
 use Rattle.core_report.proofs.Turns.{count_more, image_next, is_unread, more_image, no_image}

@@ -4,7 +4,7 @@ use Rattle.py_stacks.specs.Lines.{family_of}
 use Rattle.memory_builder.specs.Chains.{addresses_from}
 use Rattle.memory_builder.specs.Laid.{place_or_none}
 use Rattle.memory_builder.specs.Mirror.{program_in}
-use Rattle.memory_builder.specs.Sizes.{shared_size, thread_size}
+use Rattle.memory_builder.specs.Sizes.{thread_size}
 use Rattle.memory_builder.proofs.Programs.{first_is, frames_valid, owner_valid, threads_fit}
 use Rattle.memory_builder.proofs.program.holder_place.Goals as goal
 

@@ -1,6 +1,5 @@
 use Rattle.std.proofs.Common.{◌∙◌, ap, arith}
 use Rattle.py_fields.proofs.ObjectFields.{list_fits}
-use Rattle.py_builtins.specs.declared.items.CountAt.{CountAt}
 use Rattle.py_builtins.specs.Items.{count_at}
 use Rattle.py_builtins.proofs.items.items_by.Goals as goal
 

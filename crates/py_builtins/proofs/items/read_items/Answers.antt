@@ -1,10 +1,8 @@
-use Rattle.std.proofs.Common.{◌≡◌, ◌∙◌, sym, ap, arith}
-use Rattle.std.specs.Prelude.{Ok}
+use Rattle.std.proofs.Common.{sym, ap, arith}
 use Rattle.std.proofs.lemmas.Result.{err_from_is_err_and}
-use Rattle.elf64_core.specs.Fields.{u64_in}
 use Rattle.process_memory.proofs.Reading.{reads_end, reads_halt, reads_known, reads_next}
 use Rattle.py_builtins.specs.ObjectError.{object_fault}
-use Rattle.py_builtins.specs.Items.{item_count, items_at, items_by}
+use Rattle.py_builtins.specs.Items.{items_at}
 use Rattle.py_builtins.proofs.items.read_items.Goals as goal
 
 pub returns-in_err-object : goal.returns-in_err-object

@@ -1,7 +1,5 @@
-use Rattle.std.proofs.Common.{◌≢◌, Err, Ok, refl, rules, subst}
+use Rattle.std.proofs.Common.{◌≢◌, Err, Ok, refl, rules}
 use Rattle.py_process.specs.declared.core_error.CoreError.TheVariants as core
-use Rattle.py_process.specs.Reports.{ReportIs, reported}
-use Rattle.core_report.specs.Grouped.{IsJudgedRight}
 use Rattle.core_report.proofs.Judging.{judged_err, judged_ok, keeps_refusal}
 use Rattle.core_report.proofs.judged.JudgedCores.judge.Goals as goal
 

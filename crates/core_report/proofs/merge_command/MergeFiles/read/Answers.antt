@@ -1,4 +1,4 @@
-use Rattle.std.proofs.Common.{◌≡◌, ◌∙◌, Ok, ap, length}
+use Rattle.std.proofs.Common.{◌∙◌, ap, length}
 use Rattle.std.proofs.lemmas.Result.{err_from_is_err_and}
 use Rattle.core_words.specs.Seen.{asked_merge}
 use Rattle.core_words.specs.Words.{merge}

@@ -1,4 +1,4 @@
-use Rattle.std.proofs.Common.{◌≡◌, ◌∷◌, [], ◌∙◌, None, Some, ap, refl}
+use Rattle.std.proofs.Common.{◌∷◌, [], ◌∙◌, None, Some, ap, refl}
 use Rattle.std.proofs.lemmas.Result.{err_from_is_err_and}
 use Rattle.core_words.specs.Words.{file, sample, walk}
 use Rattle.core_words.specs.Seen.{asked_source, asked_walk}

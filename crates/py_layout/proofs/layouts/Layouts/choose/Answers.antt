@@ -1,6 +1,4 @@
-use Rattle.std.proofs.Common.{rules, sym, subst}
-use Rattle.std.specs.Prelude.{AllPairs}
-use Rattle.py_layout.specs.Lists.{Clash}
+use Rattle.std.proofs.Common.{rules}
 use Rattle.py_layout.proofs.Choosing.{choose_only}
 use Rattle.py_layout.proofs.layouts.Layouts.choose.Goals as goal
 
