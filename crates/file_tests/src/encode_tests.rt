@@ -100,13 +100,16 @@ fn ranges_to(alloc: Global, ends: Ends) -> Result<Vec<LineRange>, Fail> {
     Ok(found)
 }
 
+fn table_of(alloc: Global, family: LineFamily, first: i32, ends: Ends) -> Result<Vec<u8>, Fail> {
+    let ranges = ranges_to(alloc, ends)?;
+    Ok(encode(alloc, family, first, &ranges)?)
+}
+
 #[test]
 fn tables_are_written(rt: HostRuntime) -> Result<(), Fail> {
-    let alloc = rt.alloc();
     for (family, first, ends, table) in &TABLES {
-        let ranges = ranges_to(alloc, ends)?;
-        let found = encode(alloc, *family, *first, &ranges)?;
-        assert!(rt; found.as_slice() == *table, "{family:?} {found:?}");
+        let found = table_of(rt.alloc(), *family, *first, ends)?;
+        assert!(rt; found.as_slice() == *table, "{family:?} {first}");
     }
     Ok(())
 }

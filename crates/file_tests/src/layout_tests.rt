@@ -113,46 +113,79 @@ locked = 16
 holder = 8
 "#;
 
-/// The error of a file, or what covers the version that it is for.
-fn outcome(alloc: Global, text: &str, version: &Version) -> Result<String, AllocError> {
-    match Layouts::from_toml(alloc, text.as_bytes()) {
-        Ok(layouts) => format!(in alloc; "{:?}", layouts.choose(version)),
-        Err(error) => format!(in alloc; "{error}"),
-    }
+#[test]
+fn a_list_is_checked_and_taken(rt: HostRuntime) -> Result<(), Fail> {
+    let list = vec![in rt.alloc(); Layout::sample()]?;
+    assert!(rt; Layouts::check(&list));
+    let layouts = Layouts::of(rt.alloc(), list)?;
+    let version = Version::of_numbers(rt.alloc(), 3, 9, 7)?;
+    assert!(rt; layouts.choose(&version).is_some());
+    Ok(())
+}
+
+/// The layouts of both texts.
+fn both(alloc: Global) -> Result<Layouts, Fail> {
+    let text = format!(in alloc; "{PYTHON_3_12}{PYTHON_3_9}")?;
+    Ok(Layouts::from_toml(alloc, text.as_bytes())?)
+}
+
+/// All fields of a layout.
+fn shown(alloc: Global, layout: Option<&Layout>) -> Result<String, AllocError> {
+    format!(in alloc; "{layout:?}")
 }
 
 #[test]
 fn samples_are_read(rt: HostRuntime) -> Result<(), Fail> {
-    let alloc = rt.alloc();
-    let list = vec![in alloc; Layout::sample()]?;
-    assert!(rt; Layouts::check(&list));
-    let layouts = Layouts::of(alloc, list)?;
-    let version = Version::of_numbers(alloc, 3, 9, 7)?;
-    let wanted = format!(in alloc; "{:?}", layouts.choose(&version))?;
-    let text = format!(in alloc; "{PYTHON_3_12}{PYTHON_3_9}")?;
-    assert_eq!(rt; outcome(alloc, text.as_str(), &version)?, wanted);
-    let other = Version::of_numbers(alloc, 3, 12, 0)?;
-    assert!(rt; layouts.choose(&other).is_none());
-    let layouts = Layouts::from_toml(alloc, text.as_bytes())?;
-    let native_id = layouts.choose(&other).map(|layout| layout.thread.native_id);
-    assert_eq!(rt; native_id, Some(Some(40)));
+    let layouts = both(rt.alloc())?;
+    let version = Version::of_numbers(rt.alloc(), 3, 9, 7)?;
+    let chosen = shown(rt.alloc(), layouts.choose(&version))?;
+    let sample = shown(rt.alloc(), Some(&Layout::sample()))?;
+    assert!(rt; chosen == sample);
     Ok(())
 }
 
 #[test]
-fn errors_are_written(rt: HostRuntime) -> Result<(), Fail> {
-    let alloc = rt.alloc();
-    let version = Version::of_numbers(alloc, 3, 9, 0)?;
-    let twice = format!(in alloc; "{PYTHON_3_9}{PYTHON_3_9}")?;
-    let second = format!(in alloc; "{PYTHON_3_9}[[layout]]\nmajor = 3\n")?;
-    for (text, wanted) in [
-        (twice.as_str(), "tables 0 and 1 clash"),
-        (second.as_str(), "table 1: the key first_minor"),
-        ("[[layout", "not TOML"),
-    ] {
-        assert_eq!(rt; outcome(alloc, text, &version)?.as_str(), wanted);
+fn the_layout_of_another_version_is_read(rt: HostRuntime) -> Result<(), Fail> {
+    let layouts = both(rt.alloc())?;
+    let version = Version::of_numbers(rt.alloc(), 3, 12, 0)?;
+    let native_id = layouts.choose(&version).map(|layout| layout.thread.native_id);
+    assert!(rt; native_id == Some(Some(40)));
+    Ok(())
+}
+
+/// What is written of the error of a text.
+fn error_of(alloc: Global, text: &str) -> Result<Option<String>, Fail> {
+    match Layouts::from_toml(alloc, text.as_bytes()) {
+        Ok(_layouts) => Ok(None),
+        Err(error) => Ok(Some(error.to_string(alloc)?)),
     }
+}
+
+fn is_written(error: &Option<String>, want: &str) -> bool {
+    error.as_ref().is_some_and(|text| text.as_str() == want)
+}
+
+#[test]
+fn clashes_are_written(rt: HostRuntime) -> Result<(), Fail> {
+    let text = format!(in rt.alloc(); "{PYTHON_3_9}{PYTHON_3_9}")?;
+    let error = error_of(rt.alloc(), text.as_str())?;
+    assert!(rt; is_written(&error, "tables 0 and 1 clash"));
+    Ok(())
+}
+
+#[test]
+fn missing_keys_are_written(rt: HostRuntime) -> Result<(), Fail> {
+    let text = format!(in rt.alloc(); "{PYTHON_3_9}[[layout]]\nmajor = 3\n")?;
+    let error = error_of(rt.alloc(), text.as_str())?;
+    assert!(rt; is_written(&error, "table 1: the key first_minor"));
+    Ok(())
+}
+
+#[test]
+fn other_errors_are_written(rt: HostRuntime) -> Result<(), Fail> {
+    let error = error_of(rt.alloc(), "[[layout")?;
+    assert!(rt; is_written(&error, "not TOML"));
     let unsound = LayoutError::Unsound { table: 2 };
-    assert_eq!(rt; unsound.to_string(alloc)?.as_str(), "table 2 is unsound");
+    assert!(rt; unsound.to_string(rt.alloc())?.as_str() == "table 2 is unsound");
     Ok(())
 }

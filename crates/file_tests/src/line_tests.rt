@@ -74,11 +74,8 @@ const LINES: [(LineFamily, i32, &[u8], &[(i64, i32)]); 9] = [
 fn lines_are_those_of_the_ranges(rt: HostRuntime) -> Result<(), Fail> {
     for (family, first, table, lines) in &LINES {
         for (offset, line) in *lines {
-            assert_eq!(rt;
-                line_at(*family, *first, table, *offset),
-                *line,
-                "{family:?} {offset}"
-            );
+            let found = line_at(*family, *first, table, *offset);
+            assert!(rt; found == *line, "{family:?} {offset}");
         }
     }
     Ok(())

@@ -56,15 +56,21 @@ const ENTRIES: [&str; 5] = [
 
 #[test]
 fn lines_of_a_process(rt: HostRuntime) -> Result<(), Fail> {
-    let alloc = rt.alloc();
-    let mut entries = parse_file(alloc, CAT, 7);
-    for want in ENTRIES {
-        assert_eq!(rt; shown_answer(alloc, entries.next())?.as_str(), want);
+    let mut entries = parse_file(rt.alloc(), CAT, 7);
+    for want in &ENTRIES {
+        let entry = shown_answer(rt.alloc(), entries.next())?;
+        assert!(rt; entry.as_str() == *want, "{want}");
     }
     assert!(rt; entries.next().is_none());
-    let mut kept = FilteredEntries::new(parse_file(alloc, CAT, 7));
-    for want in [ENTRIES[0], ENTRIES[1], ENTRIES[3], ENTRIES[4]] {
-        assert_eq!(rt; shown_answer(alloc, kept.next())?.as_str(), want);
+    Ok(())
+}
+
+#[test]
+fn lines_of_a_process_that_are_kept(rt: HostRuntime) -> Result<(), Fail> {
+    let mut kept = FilteredEntries::new(parse_file(rt.alloc(), CAT, 7));
+    for want in &[ENTRIES[0], ENTRIES[1], ENTRIES[3], ENTRIES[4]] {
+        let entry = shown_answer(rt.alloc(), kept.next())?;
+        assert!(rt; entry.as_str() == *want, "{want}");
     }
     assert!(rt; kept.next().is_none());
     Ok(())
@@ -109,21 +115,30 @@ fn first_kept_error(alloc: Global, text: &[u8]) -> Option<MapsError> {
     kept.next()?.err()
 }
 
+/// A line between two that are read, of which the first isn't kept.
+fn among_others(alloc: Global, line: &[u8]) -> Result<Vec<u8>, AllocError> {
+    let mut text = Vec::from_slice(alloc, b"1-2 --- 0 0 0\n")?;
+    text.extend_from_slice(line)?;
+    text.extend_from_slice(b"\n1-2 r-- 0 0 0\n")?;
+    Ok(text)
+}
+
 #[test]
 fn lines_that_are_refused(rt: HostRuntime) -> Result<(), Fail> {
-    let alloc = rt.alloc();
-    for (line, want) in REFUSED {
-        assert!(rt; first_error(alloc, line) == Some(want));
-        let mut text = Vec::from_slice(alloc, b"1-2 --- 0 0 0\n")?;
-        text.extend_from_slice(line)?;
-        text.extend_from_slice(b"\n1-2 r-- 0 0 0\n")?;
-        assert!(rt; first_kept_error(alloc, text.as_slice()) == Some(want));
+    for (line, want) in &REFUSED {
+        assert!(rt; first_error(rt.alloc(), line) == Some(*want));
+        let text = among_others(rt.alloc(), line)?;
+        assert!(rt; first_kept_error(rt.alloc(), text.as_slice()) == Some(*want));
     }
-    let mut entries = parse_file(alloc, b"\n1-2 --- 0 0 0", 7);
+    Ok(())
+}
+
+#[test]
+fn lines_behind_one_that_is_refused(rt: HostRuntime) {
+    let mut entries = parse_file(rt.alloc(), b"\n1-2 --- 0 0 0", 7);
     assert!(rt; matches!(entries.next(), Some(Err(NoRange))));
     assert!(rt; matches!(entries.next(), Some(Ok(_))));
     assert!(rt; entries.next().is_none());
-    Ok(())
 }
 
 /// Lines, and what they show.
@@ -164,26 +179,24 @@ const READ: [(&[u8], &str); 11] = [
 
 #[test]
 fn lines_that_are_read(rt: HostRuntime) -> Result<(), Fail> {
-    let alloc = rt.alloc();
-    for (line, want) in READ {
-        let mut entries = parse_file(alloc, line, u32::MAX);
-        assert_eq!(rt; shown_answer(alloc, entries.next())?.as_str(), want);
-        assert!(rt; entries.next().is_none());
+    for (line, want) in &READ {
+        let mut entries = parse_file(rt.alloc(), line, u32::MAX);
+        let entry = shown_answer(rt.alloc(), entries.next())?;
+        assert!(rt; entry.as_str() == *want && entries.next().is_none(), "{want}");
     }
-    assert!(rt; parse_file(alloc, b"", 7).next().is_none());
+    assert!(rt; parse_file(rt.alloc(), b"", 7).next().is_none());
     Ok(())
 }
 
 #[test]
 fn permissions(rt: HostRuntime) -> Result<(), Fail> {
-    let alloc = rt.alloc();
     let mut perm = Perm::default();
-    assert_eq!(rt; perm.to_string(alloc)?.as_str(), "---");
+    assert!(rt; perm.to_string(rt.alloc())?.as_str() == "---");
     perm |= Perm::R | Perm::X;
-    assert_eq!(rt; perm.to_string(alloc)?.as_str(), "r-x");
+    assert!(rt; perm.to_string(rt.alloc())?.as_str() == "r-x");
     assert!(rt; perm & Perm::W == Perm::default());
     perm &= Perm::X | Perm::W;
-    assert_eq!(rt; perm.to_string(alloc)?.as_str(), "--x");
+    assert!(rt; perm.to_string(rt.alloc())?.as_str() == "--x");
     Ok(())
 }
 
@@ -198,20 +211,23 @@ const NAMES: [(&[u8], &str); 4] = [
     (b" /a", "1000 2000 --- 0 component  /a"),
 ];
 
+fn entry_of(alloc: Global, path: &[u8]) -> Result<MapsEntry, AllocError> {
+    let range = 0x1000..0x2000;
+    let path_name = PathName::of(alloc, 0, &range, path)?;
+    Ok(MapsEntry {
+        range,
+        perm: Perm::default(),
+        offset: 0,
+        path_name,
+        build_id: None,
+    })
+}
+
 #[test]
 fn names_of_paths(rt: HostRuntime) -> Result<(), Fail> {
-    let alloc = rt.alloc();
-    for (path, want) in NAMES {
-        let range = 0x1000..0x2000;
-        let path_name = PathName::of(alloc, 0, &range, path)?;
-        let entry = MapsEntry {
-            range,
-            perm: Perm::default(),
-            offset: 0,
-            path_name,
-            build_id: None,
-        };
-        assert_eq!(rt; shown(alloc, &entry)?.as_str(), want);
+    for (path, want) in &NAMES {
+        let entry = entry_of(rt.alloc(), path)?;
+        assert!(rt; shown(rt.alloc(), &entry)?.as_str() == *want, "{want}");
     }
     Ok(())
 }

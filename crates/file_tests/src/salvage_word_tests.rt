@@ -45,27 +45,35 @@ fn is_asked(words: &SalvageWords, limit: usize, locals: u64, json: bool, images:
         && (words.json, words.images.len()) == (json, images)
 }
 
+fn asked_by(alloc: Global, text: &str) -> Result<Asked, Fail> {
+    let words = strings(alloc, text)?;
+    Ok(read_words(alloc, &words)?)
+}
+
 #[test]
-fn words_ask_for_a_core_or_are_refused(rt: HostRuntime) -> Result<(), Fail> {
-    let alloc = rt.alloc();
+fn words_ask_for_a_core(rt: HostRuntime) -> Result<(), Fail> {
     for (text, limit, locals, json, images) in &TAKEN {
-        let words = strings(alloc, text)?;
-        let asked = read_words(alloc, &words)?;
-        assert!(rt;
-            matches!(&asked, Asked::Salvage(words) if is_asked(words, *limit, *locals, *json, *images)),
-            "at {text}"
-        );
+        let Asked::Salvage(words) = asked_by(rt.alloc(), text)? else {
+            return Err(Fail::from("no core"));
+        };
+        assert!(rt; is_asked(&words, *limit, *locals, *json, *images), "{text}");
     }
+    Ok(())
+}
+
+#[test]
+fn other_words_are_refused(rt: HostRuntime) -> Result<(), Fail> {
     for text in &REFUSED {
-        let words = strings(alloc, text)?;
-        assert_eq!(rt;
-            read_words(alloc, &words).err(),
-            Some(ArgsError::Refused),
-            "at {text}"
-        );
+        let words = strings(rt.alloc(), text)?;
+        let refused = read_words(rt.alloc(), &words).err();
+        assert!(rt; refused == Some(ArgsError::Refused), "{text}");
     }
-    let help = read_words(alloc, &strings(alloc, "p --help")?)?;
-    let version = read_words(alloc, &strings(alloc, "p --version")?)?;
-    assert!(rt; matches!((help, version), (Asked::Help, Asked::Version)));
+    Ok(())
+}
+
+#[test]
+fn words_ask_for_help_or_the_version(rt: HostRuntime) -> Result<(), Fail> {
+    assert!(rt; matches!(asked_by(rt.alloc(), "p --help")?, Asked::Help));
+    assert!(rt; matches!(asked_by(rt.alloc(), "p --version")?, Asked::Version));
     Ok(())
 }

@@ -1,6 +1,7 @@
 //! Symbols written out by hand.
 use covering_symbols::FunctionTable;
 use elf64_core::Symbol;
+use std::alloc::{AllocError, Global};
 use std::test::Fail;
 
 /// Symbols by info, value and size: a function; one inside it; what is no function; two that tie with the second in
@@ -32,22 +33,26 @@ const COVERED: [(u128, Option<usize>); 13] = [
     (0x1_0000_0000_0000_0010, None),
 ];
 
+fn symbol_of((info, value, size): (u8, u64, u64)) -> Symbol<'static> {
+    Symbol {
+        name: None,
+        info,
+        section: 1,
+        value,
+        size,
+    }
+}
+
+fn functions(alloc: Global) -> Result<FunctionTable, AllocError> {
+    let symbols = SYMBOLS.map(symbol_of);
+    FunctionTable::of(alloc, &symbols)
+}
+
 #[test]
 fn functions_cover_addresses(rt: HostRuntime) -> Result<(), Fail> {
-    let alloc = rt.alloc();
-    let mut symbols = Vec::new(alloc);
-    for (info, value, size) in SYMBOLS {
-        symbols.push(Symbol {
-            name: None,
-            info,
-            section: 1,
-            value,
-            size,
-        })?;
-    }
-    let functions = FunctionTable::of(alloc, symbols.as_slice())?;
-    for (addr, number) in COVERED {
-        assert!(rt; functions.covering(addr) == number);
+    let functions = functions(rt.alloc())?;
+    for (addr, number) in &COVERED {
+        assert!(rt; functions.covering(*addr) == *number, "{addr:#x}");
     }
     Ok(())
 }

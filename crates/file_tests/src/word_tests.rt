@@ -19,17 +19,9 @@ fn words_of_a_walk_are_taken(rt: HostRuntime) -> Result<(), Fail> {
     let Ok(Command::Walk(walk)) = read_words(alloc, &words) else {
         return Err(Fail::from("refused"));
     };
-    let (version, addresses) = (walk.version, walk.addresses);
-    assert_eq!(rt;
-        (
-            walk.core,
-            version.minor,
-            version.patch,
-            addresses.interpreter,
-            addresses.lock
-        ),
-        ("core", 10, 999, 0xffab, 65)
-    );
+    assert!(rt; walk.core == "core");
+    assert!(rt; walk.version.minor == 10 && walk.version.patch == 999);
+    assert!(rt; walk.addresses.interpreter == 0xffab && walk.addresses.lock == 65);
     Ok(())
 }
 
@@ -41,13 +33,8 @@ fn words_of_a_report_are_taken(rt: HostRuntime) -> Result<(), Fail> {
         words.push(String::from_str(alloc, "-l")?)?;
     }
     let taken = config_from_args(alloc, &words).or(Err("refused"))?;
-    assert_eq!(rt;
-        (taken.config.dump_json, taken.config.dump_locals),
-        (true, 255)
-    );
-    assert_eq!(rt;
-        (taken.core.as_bytes(), taken.layouts.as_bytes()),
-        (b"-x".as_slice(), b"file".as_slice())
-    );
+    assert!(rt; taken.config.dump_json && taken.config.dump_locals == 255);
+    assert!(rt; taken.core.as_bytes() == b"-x".as_slice());
+    assert!(rt; taken.layouts.as_bytes() == b"file".as_slice());
     Ok(())
 }
