@@ -1,5 +1,6 @@
 //! Bytes objects over pieces of memory, written out by hand.
-use process_memory::{Part, Piece};
+use crate::made::piece;
+use process_memory::Part;
 use py_builtins::{ObjectError, copy_bytes};
 use py_fields::Layout;
 use std::alloc::{AllocError, Global};
@@ -9,56 +10,64 @@ use std::test::Fail;
 /// bytes begin behind it.
 const OBJECT: u64 = 0x1000;
 
-/// Reads an object that states a length, of which `held` bytes are in memory.
-fn read(
-    alloc: Global,
-    length: u64,
-    held: usize,
-) -> Result<Result<Vec<u8>, ObjectError>, AllocError> {
-    let mut bytes = vec![in alloc; 0u8; 16]?;
-    bytes.extend_from_slice(&length.to_le_bytes())?;
-    bytes.extend_from_slice(&[0; 8])?;
-    bytes.extend_from_slice(&[10, 20, 30, 40, 50, 70, 80])?;
-    bytes.truncate(held);
-    let piece = Piece {
-        start: OBJECT,
-        bytes,
-    };
-    let mut part = Part::of(alloc, vec![in alloc; piece]?);
-    Ok(copy_bytes(alloc, &mut part, &Layout::sample(), OBJECT))
+/// An object that states a length, of which `held` bytes are in memory.
+fn object(alloc: Global, length: u64, held: usize) -> Result<Part, AllocError> {
+    let mut piece = piece(alloc, OBJECT, &[0, 0, length, 0])?;
+    piece.bytes.extend_from_slice(&[10, 20, 30, 40, 50, 70, 80])?;
+    piece.bytes.truncate(held);
+    Ok(Part::of(alloc, vec![in alloc; piece]?))
 }
+
+fn read(alloc: Global, mut part: Part) -> Result<Vec<u8>, ObjectError> {
+    copy_bytes(alloc, &mut part, &Layout::sample(), OBJECT)
+}
+
+/// Lengths, and the bytes.
+const READ: [(u64, &[u8]); 3] = [
+    (7, &[10, 20, 30, 40, 50, 70, 80]),
+    (2, &[10, 20]),
+    (0, &[]),
+];
 
 #[test]
 fn bytes_are_read(rt: HostRuntime) -> Result<(), Fail> {
-    let alloc = rt.alloc();
-    for (length, want) in [
-        (7, &[10, 20, 30, 40, 50, 70, 80][..]),
-        (2, &[10, 20]),
-        (0, &[]),
-    ] {
-        let bytes = read(alloc, length, 39)??;
-        assert!(rt; bytes.as_slice() == want, "{length}");
+    for (length, want) in &READ {
+        let part = object(rt.alloc(), *length, 39)?;
+        let bytes = read(rt.alloc(), part)?;
+        assert!(rt; bytes.as_slice() == *want, "{length}");
     }
     Ok(())
 }
 
+/// Lengths, and how an error tells them.
+const TOO_LONG: [(u64, i64); 3] = [(65536, 65536), (u64::MAX, -1), (1 << 63, i64::MIN)];
+
 #[test]
-fn lengths_and_missing_bytes_are_refused(rt: HostRuntime) -> Result<(), Fail> {
-    let alloc = rt.alloc();
-    for (length, len) in [(65536, 65536), (u64::MAX, -1), (1 << 63, i64::MIN)] {
-        let refused = read(alloc, length, 39)?;
-        assert!(rt; refused == Err(ObjectError::TooLong { len }), "{length:#x}");
+fn lengths_are_refused(rt: HostRuntime) -> Result<(), Fail> {
+    for (length, len) in &TOO_LONG {
+        let part = object(rt.alloc(), *length, 39)?;
+        let want = ObjectError::TooLong { len: *len };
+        assert!(rt; read(rt.alloc(), part) == Err(want), "{length:#x}");
     }
-    for (length, held, addr, len) in [
-        (7, 31, OBJECT, 32),
-        (7, 38, OBJECT + 32, 7),
-        (65535, 39, OBJECT + 32, 65535),
-    ] {
-        let refused = read(alloc, length, held)?;
-        assert!(rt;
-            refused == Err(ObjectError::Unreadable { addr, len }),
-            "{held}"
-        );
+    Ok(())
+}
+
+/// Lengths, how many bytes are in memory, and the first range that isn't.
+const MISSING: [(u64, usize, u64, u64); 3] = [
+    (7, 31, OBJECT, 32),
+    (7, 38, OBJECT + 32, 7),
+    (65535, 39, OBJECT + 32, 65535),
+];
+
+#[test]
+fn missing_bytes_are_refused(rt: HostRuntime) -> Result<(), Fail> {
+    for (length, held, addr, len) in &MISSING {
+        let part = object(rt.alloc(), *length, *held)?;
+        let want = ObjectError::Unreadable {
+            addr: *addr,
+            len: *len,
+        };
+        assert!(rt; read(rt.alloc(), part) == Err(want), "{held}");
     }
     Ok(())
 }

@@ -1,5 +1,8 @@
 //! Dicts over pieces of memory, written out by hand.
-use process_memory::{Part, Piece};
+ghost use Rattle.py_fields.specs.Sound.{IsSound};
+
+use crate::made::{Words, memory_of};
+use process_memory::Part;
 use py_builtins::{
     DictCursor, DictIterator, ObjectError, PY_TPFLAGS_INLINE_VALUES, PY_TPFLAGS_MANAGED_DICT, Slot,
 };
@@ -20,22 +23,6 @@ const VALUES: u64 = 0x9000;
 const OBJECT: u64 = 0x5000;
 
 const TYPE: u64 = 0x6000;
-
-/// Memory of words.
-fn memory(alloc: Global, words: &[(u64, &[u64])]) -> Result<Part, AllocError> {
-    let mut pieces = Vec::new(alloc);
-    for (start, words) in words {
-        let mut bytes = Vec::new(alloc);
-        for word in *words {
-            bytes.extend_from_slice(&word.to_le_bytes())?;
-        }
-        pieces.push(Piece {
-            start: *start,
-            bytes,
-        })?;
-    }
-    Ok(Part::of(alloc, pieces))
-}
 
 /// The sample layout with compact dicts. Keys have 32 bytes: the size of the index is at 9, the kind at 10, and
 /// how many are used at 24. The type of an object has 64 bytes: its keys' address is at 48, and values in an
@@ -71,23 +58,40 @@ const GENERAL: [(u64, u64, [u64; 3], Slot); 6] = [
     (8, 8, [7, 0, 0x22], Slot::Empty),
 ];
 
+/// A general dict whose keys state so many slots, and have their one entry so far behind them.
+fn general(alloc: Global, slots: u64, index: u64, entry: &[u64]) -> Result<Part, AllocError> {
+    let words: [Words<'_>; 3] = [
+        (DICT, &[0, 0, 0, 0, KEYS, 0]),
+        (KEYS, &[0, slots, 0, 0, 1]),
+        ((KEYS + 40).saturating_add(index), entry),
+    ];
+    memory_of(alloc, &words)
+}
+
+/// Whether the one slot of a dict is this, met in turn.
+fn is_met(part: &mut Part, layout: &Layout, want: Slot) -> Result<bool, ObjectError>
+    requires { IsSound layout.now }
+{
+    let mut cursor = DictCursor::from(part, layout, DICT)?;
+    let is_first = cursor.remaining() == 1 && cursor.next(part) == Some(Ok(want));
+    Ok(is_first && cursor.remaining() == 0 && cursor.next(part).is_none())
+}
+
+/// Whether it is this by its number.
+fn is_numbered(part: &mut Part, layout: &Layout, want: Slot) -> Result<bool, ObjectError>
+    requires { IsSound layout.now }
+{
+    let mut cursor = DictCursor::from(part, layout, DICT)?;
+    Ok(cursor.slot(part, 0) == Ok(want))
+}
+
 #[test]
 fn general_dicts_have_their_slots_behind_the_index(rt: HostRuntime) -> Result<(), Fail> {
-    let alloc = rt.alloc();
     let layout = Layout::sample();
-    for (slots, index, entry, want) in GENERAL {
-        let words: [(u64, &[u64]); 3] = [
-            (DICT, &[0, 0, 0, 0, KEYS, 0]),
-            (KEYS, &[0, slots, 0, 0, 1]),
-            (KEYS + 40 + index, &entry),
-        ];
-        let mut part = memory(alloc, &words)?;
-        let mut cursor = DictCursor::from(&mut part, &layout, DICT)?;
-        assert!(rt; cursor.remaining() == 1);
-        assert!(rt; cursor.next(&mut part) == Some(Ok(want)), "{slots}");
-        assert!(rt; cursor.remaining() == 0);
-        assert!(rt; cursor.next(&mut part) == None);
-        assert!(rt; cursor.slot(&mut part, 0) == Ok(want));
+    for (slots, index, entry, want) in &GENERAL {
+        let mut part = general(rt.alloc(), *slots, *index, entry)?;
+        assert!(rt; is_met(&mut part, &layout, *want)?, "{slots}");
+        assert!(rt; is_numbered(&mut part, &layout, *want)?, "{slots}");
     }
     Ok(())
 }
@@ -100,8 +104,8 @@ fn refused(
     rt: &impl Abort,
     keys: &[u64],
 ) -> Result<Option<ObjectError>, AllocError> {
-    let words: [(u64, &[u64]); 2] = [(DICT, &[0, 0, 0, 0, KEYS, 0]), (KEYS, keys)];
-    let mut part = memory(alloc, &words)?;
+    let words: [Words<'_>; 2] = [(DICT, &[0, 0, 0, 0, KEYS, 0]), (KEYS, keys)];
+    let mut part = memory_of(alloc, &words)?;
     assert!(rt; is_sound(layout));
     match DictCursor::from(&mut part, layout, DICT) {
         Ok(mut cursor) => match cursor.next(&mut part) {
@@ -112,61 +116,94 @@ fn refused(
     }
 }
 
+/// How many slots keys state and how many are used, and what is wrong with their dict.
+const GENERAL_NUMBERS: [(u64, u64, Option<ObjectError>); 4] = [
+    (8, 0, None),
+    (8, 1 << 63, Some(ObjectError::BadDict)),
+    (u64::MAX, 1, Some(ObjectError::BadDict)),
+    (
+        u64::MAX >> 1,
+        1,
+        Some(ObjectError::Unreadable {
+            addr: u64::MAX,
+            len: 24,
+        }),
+    ),
+];
+
 #[test]
 fn numbers_that_cannot_be_are_no_dict(rt: HostRuntime) -> Result<(), Fail> {
-    let alloc = rt.alloc();
     let sample = Layout::sample();
-    let compact = compact(Managed::Tagged);
-    let missing = |addr, len| Some(ObjectError::Unreadable { addr, len });
-    for (slots, used, want) in [
-        (8, 0, None),
-        (8, 1 << 63, Some(ObjectError::BadDict)),
-        (u64::MAX, 1, Some(ObjectError::BadDict)),
-        (u64::MAX >> 1, 1, missing(u64::MAX, 24)),
-    ] {
-        let found = refused(alloc, &sample, &rt, &[0, slots, 0, 0, used])?;
-        assert!(rt; found == want, "{slots:#x} {used}");
+    for (slots, used, want) in &GENERAL_NUMBERS {
+        let found = refused(rt.alloc(), &sample, &rt, &[0, *slots, 0, 0, *used])?;
+        assert!(rt; found == *want, "{slots:#x} {used}");
     }
-    for (log2, want) in [
-        (63, missing(0x8000_0000_0000_2020, 24)),
-        (64, Some(ObjectError::BadDict)),
-    ] {
-        let found = refused(alloc, &compact, &rt, &[0, log2 << 8, 0, 1])?;
-        assert!(rt; found == want, "{log2}");
-    }
-    assert!(rt; refused(alloc, &sample, &rt, &[0, 8, 0, 0])? == missing(KEYS, 40));
+    let missing = ObjectError::Unreadable {
+        addr: KEYS,
+        len: 40,
+    };
+    assert!(rt; refused(rt.alloc(), &sample, &rt, &[0, 8, 0, 0])? == Some(missing));
     Ok(())
 }
 
+/// The size of the index of compact keys, and what is wrong with their dict.
+const COMPACT_NUMBERS: [(u64, Option<ObjectError>); 2] = [
+    (
+        63,
+        Some(ObjectError::Unreadable {
+            addr: 0x8000_0000_0000_2020,
+            len: 24,
+        }),
+    ),
+    (64, Some(ObjectError::BadDict)),
+];
+
 #[test]
-fn entries_go_on_behind_a_missing_one(rt: HostRuntime) -> Result<(), Fail> {
-    let alloc = rt.alloc();
-    let layout = compact(Managed::Tagged);
-    assert!(rt; is_sound(&layout));
-    // Five slots of 16 bytes behind an index of 8, the third of them empty; the value of the fourth is missing.
-    let words: [(u64, &[u64]); 4] = [
-        (DICT, &[0, 0, 0, 0, KEYS, VALUES]),
-        (
-            KEYS,
-            &[
-                0, 0x1_0300, 0, 5, 0, 0x11, 1, 0x12, 2, 0, 3, 0x14, 4, 0x15, 5,
-            ],
-        ),
-        (VALUES, &[0x21, 0x22, 0x23]),
-        (VALUES + 32, &[0x25]),
-    ];
-    let mut part = memory(alloc, &words)?;
-    let mut entries = DictIterator::from(&mut part, &layout, DICT)?;
-    assert!(rt; entries.remaining() == 5);
-    assert!(rt; entries.next() == Some(Ok((0x11, 0x21))));
-    assert!(rt; entries.next() == Some(Ok((0x12, 0x22))));
-    let missing = ObjectError::Unreadable {
+fn sizes_that_cannot_be_are_no_dict(rt: HostRuntime) -> Result<(), Fail> {
+    let compact = compact(Managed::Tagged);
+    for (log2, want) in &COMPACT_NUMBERS {
+        let found = refused(rt.alloc(), &compact, &rt, &[0, *log2 << 8, 0, 1])?;
+        assert!(rt; found == *want, "{log2}");
+    }
+    Ok(())
+}
+
+/// Five slots of 16 bytes behind an index of 8, the third of them empty; the value of the fourth is missing.
+const FIVE: [Words<'static>; 4] = [
+    (DICT, &[0, 0, 0, 0, KEYS, VALUES]),
+    (
+        KEYS,
+        &[
+            0, 0x1_0300, 0, 5, 0, 0x11, 1, 0x12, 2, 0, 3, 0x14, 4, 0x15, 5,
+        ],
+    ),
+    (VALUES, &[0x21, 0x22, 0x23]),
+    (VALUES + 32, &[0x25]),
+];
+
+/// What is met of them.
+const MET: [Option<Result<(u64, u64), ObjectError>>; 5] = [
+    Some(Ok((0x11, 0x21))),
+    Some(Ok((0x12, 0x22))),
+    Some(Err(ObjectError::Unreadable {
         addr: VALUES + 24,
         len: 8,
-    };
-    assert!(rt; entries.next() == Some(Err(missing)));
-    assert!(rt; entries.next() == Some(Ok((0x15, 0x25))));
-    assert!(rt; entries.next() == None && entries.remaining() == 0);
+    })),
+    Some(Ok((0x15, 0x25))),
+    None,
+];
+
+#[test]
+fn entries_go_on_behind_a_missing_one(rt: HostRuntime) -> Result<(), Fail> {
+    let layout = compact(Managed::Tagged);
+    assert!(rt; is_sound(&layout));
+    let mut part = memory_of(rt.alloc(), &FIVE)?;
+    let mut entries = DictIterator::from(&mut part, &layout, DICT)?;
+    assert!(rt; entries.remaining() == 5);
+    for entry in &MET {
+        assert!(rt; entries.next() == *entry);
+    }
+    assert!(rt; entries.remaining() == 0);
     Ok(())
 }
 
@@ -180,14 +217,14 @@ fn first_entry(
 ) -> Result<Result<Option<(u64, u64)>, ObjectError>, AllocError> {
     let layout = compact(managed);
     assert!(rt; is_sound(&layout));
-    let words: [(u64, &[u64]); 5] = [
+    let words: [Words<'_>; 5] = [
         (DICT, &[0, 0, 0, 0, KEYS, 0]),
         (KEYS, &[0, 0x1_0300, 0, 1, 0, 0x11, 0x22]),
         (VALUES, &[0x33]),
         (OBJECT - 32, &[before.0, before.1, 0, 0, 0, 0, 0, 0x44]),
         (TYPE, &[0, 0, 0, 0, 0, 0, KEYS, 0]),
     ];
-    let mut part = memory(alloc, &words)?;
+    let mut part = memory_of(alloc, &words)?;
     let entries = DictIterator::from_managed_dict(&mut part, &layout, OBJECT, TYPE, flags);
     match entries {
         Ok(mut entries) => match entries.next() {
@@ -199,33 +236,57 @@ fn first_entry(
     }
 }
 
+/// How a dict is found, what stands before an object, and the flags of its type; then the value of the first entry
+/// of its dict, or why it has none.
+type Row = (Managed, (u64, u64), u64, Result<u64, ObjectError>);
+
+const INLINE: u64 = PY_TPFLAGS_MANAGED_DICT | PY_TPFLAGS_INLINE_VALUES;
+
+const END: ObjectError = ObjectError::Unreadable {
+    addr: u64::MAX,
+    len: 8,
+};
+
+const MANAGED: [Row; 8] = [
+    (Managed::Split, (VALUES, DICT), 0, Ok(0x33)),
+    (Managed::Split, (VALUES, 0), INLINE, Ok(0x44)),
+    (Managed::Split, (0, DICT), INLINE, Ok(0x22)),
+    (Managed::Split, (0, 0), 0, Err(ObjectError::BadDict)),
+    (
+        Managed::Tagged,
+        (DICT, VALUES - 1),
+        PY_TPFLAGS_MANAGED_DICT,
+        Ok(0x33),
+    ),
+    (Managed::Tagged, (VALUES, DICT), 0, Ok(0x22)),
+    (Managed::Tagged, (VALUES, 0), 0, Err(ObjectError::BadDict)),
+    (Managed::Tagged, (0, u64::MAX), 0, Err(END)),
+];
+
+/// Whether an entry is that of the key, with this value.
+fn is_entry(
+    found: &Result<Option<(u64, u64)>, ObjectError>,
+    want: &Result<u64, ObjectError>,
+) -> bool {
+    match (found, want) {
+        (Ok(entry), Ok(value)) => *entry == Some((0x11, *value)),
+        (Err(error), Err(want)) => error == want,
+        (Ok(_), Err(_)) | (Err(_), Ok(_)) => false,
+    }
+}
+
 #[test]
 fn managed_dicts_are_found_by_what_stands_before_the_object(rt: HostRuntime) -> Result<(), Fail> {
-    let alloc = rt.alloc();
-    let end = ObjectError::Unreadable {
-        addr: u64::MAX,
-        len: 8,
-    };
-    let inline = PY_TPFLAGS_MANAGED_DICT | PY_TPFLAGS_INLINE_VALUES;
-    for (managed, before, flags, want) in [
-        (Managed::Split, (VALUES, DICT), 0, Ok(Some((0x11, 0x33)))),
-        (Managed::Split, (VALUES, 0), inline, Ok(Some((0x11, 0x44)))),
-        (Managed::Split, (0, DICT), inline, Ok(Some((0x11, 0x22)))),
-        (Managed::Split, (0, 0), 0, Err(ObjectError::BadDict)),
-        (
-            Managed::Tagged,
-            (DICT, VALUES - 1),
-            PY_TPFLAGS_MANAGED_DICT,
-            Ok(Some((0x11, 0x33))),
-        ),
-        (Managed::Tagged, (VALUES, DICT), 0, Ok(Some((0x11, 0x22)))),
-        (Managed::Tagged, (VALUES, 0), 0, Err(ObjectError::BadDict)),
-        (Managed::Tagged, (0, u64::MAX), 0, Err(end)),
-    ] {
-        let found = first_entry(&rt, alloc, managed, before, flags)?;
-        assert!(rt; found == want, "{before:?} {flags}");
+    for (managed, before, flags, want) in &MANAGED {
+        let found = first_entry(&rt, rt.alloc(), *managed, *before, *flags)?;
+        assert!(rt; is_entry(&found, want), "{before:?} {flags}");
     }
-    let mut part = memory(alloc, &[])?;
+    Ok(())
+}
+
+#[test]
+fn a_layout_without_managed_dicts_finds_none(rt: HostRuntime) -> Result<(), Fail> {
+    let mut part = memory_of(rt.alloc(), &[])?;
     let sample = Layout::sample();
     let none = DictCursor::from_managed_dict(&mut part, &sample, OBJECT, TYPE, 0);
     assert!(rt; none.err() == Some(ObjectError::BadDict));

@@ -1,5 +1,6 @@
 //! Integers over pieces of memory, written out by hand.
-use process_memory::{Part, Piece};
+use crate::made::memory_of;
+use process_memory::Part;
 use py_builtins::{ObjectError, copy_int, copy_long};
 use py_fields::{Integers, Layout, is_sound};
 use std::alloc::{AllocError, Global};
@@ -10,16 +11,8 @@ use std::test::Fail;
 const OBJECT: u64 = 0x1000;
 
 fn object(alloc: Global, count: u64, digits: [u32; 2]) -> Result<Part, AllocError> {
-    let mut bytes = vec![in alloc; 0u8; 16]?;
-    bytes.extend_from_slice(&count.to_le_bytes())?;
-    for digit in digits {
-        bytes.extend_from_slice(&digit.to_le_bytes())?;
-    }
-    let piece = Piece {
-        start: OBJECT,
-        bytes,
-    };
-    Ok(Part::of(alloc, vec![in alloc; piece]?))
+    let digits = u64::from(digits[0]) | u64::from(digits[1]) << 32;
+    memory_of(alloc, &[(OBJECT, &[0, 0, count, digits])])
 }
 
 /// The family, the count, the digits, and the number.
@@ -42,21 +35,21 @@ const NUMBERS: [(Integers, u64, [u32; 2], (i64, bool)); 9] = [
 
 #[test]
 fn integers_are_read(rt: HostRuntime) -> Result<(), Fail> {
-    let alloc = rt.alloc();
-    for (integers, count, digits, want) in NUMBERS {
+    for (integers, count, digits, want) in &NUMBERS {
         let layout = Layout {
-            integers,
+            integers: *integers,
             ..Layout::sample()
         };
         assert!(rt; is_sound(&layout));
-        let mut part = object(alloc, count, digits)?;
-        assert!(rt;
-            copy_long(&mut part, &layout, OBJECT) == Ok(want),
-            "{count}"
-        );
+        let mut part = object(rt.alloc(), *count, *digits)?;
+        assert!(rt; copy_long(&mut part, &layout, OBJECT) == Ok(*want), "{count}");
     }
-    let mut part = object(alloc, u64::MAX, [0, 0])?;
-    let layout = Layout::sample();
+    Ok(())
+}
+
+#[test]
+fn small_integers_are_read(rt: HostRuntime) -> Result<(), Fail> {
+    let (mut part, layout) = (object(rt.alloc(), u64::MAX, [0, 0])?, Layout::sample());
     assert!(rt; copy_int(&mut part, &layout, OBJECT) == Ok(-1));
     let missing = Err(ObjectError::Unreadable {
         addr: OBJECT + 16,

@@ -1,6 +1,5 @@
 //! The test of an interpreter, in its two steps.
-use crate::stack_tests::piece;
-use process_memory::Part;
+use crate::made::{Words, memory_of};
 use py_fields::Layout;
 use py_stacks::{StackError, get_first_thread, is_interpreter, is_interpreter_from};
 use std::test::Fail;
@@ -20,32 +19,48 @@ const ROWS: [(u64, Option<u64>, bool); 3] = [
     (THREAD, Some(0), false),
 ];
 
+const MEMORY: [Words<'static>; 3] = [
+    (ONE, &[0, THREAD]),
+    (OTHER, &[0, THREAD]),
+    (THREAD, &[0, 0, ONE, 0, 7, 0, 0, 0]),
+];
+
 #[test]
-fn a_test_has_two_steps(rt: HostRuntime) -> Result<(), Fail> {
-    let alloc = rt.alloc();
-    let layout = Layout::sample();
-    let pieces = vec![in alloc;
-        piece(alloc, ONE, &[0, THREAD])?,
-        piece(alloc, OTHER, &[0, THREAD])?,
-        piece(alloc, THREAD, &[0, 0, ONE, 0, 7, 0, 0, 0])?,
-    ]?;
-    let mut part = Part::of(alloc, pieces);
-    for (addr, thread, is) in ROWS {
-        let head = get_first_thread(&mut part, &layout, addr).ok();
-        assert_eq!(rt; head, thread);
-        let passes = is_interpreter_from(alloc, &mut part, &layout, addr, head.unwrap_or(0));
-        assert_eq!(rt; passes, Ok(is));
-        assert_eq!(rt; is_interpreter(alloc, &mut part, &layout, addr), Ok(is));
+fn interpreters_have_a_first_thread(rt: HostRuntime) -> Result<(), Fail> {
+    let mut part = memory_of(rt.alloc(), &MEMORY)?;
+    for (addr, thread, _) in &ROWS {
+        let head = get_first_thread(&mut part, &Layout::sample(), *addr).ok();
+        assert!(rt; head == *thread, "{addr:#x}");
     }
-    let nowhere = get_first_thread(&mut part, &layout, ONE + 8);
     let missing = StackError::Unreadable {
         addr: ONE + 16,
         len: 8,
     };
-    assert_eq!(rt; nowhere, Err(missing));
-    assert_eq!(rt;
-        is_interpreter_from(alloc, &mut part, &layout, ONE, ONE),
-        Ok(false)
-    );
+    let nowhere = get_first_thread(&mut part, &Layout::sample(), ONE + 8);
+    assert!(rt; nowhere == Err(missing));
+    Ok(())
+}
+
+#[test]
+fn a_first_thread_names_its_interpreter(rt: HostRuntime) -> Result<(), Fail> {
+    let mut part = memory_of(rt.alloc(), &MEMORY)?;
+    let (alloc, layout) = (rt.alloc(), Layout::sample());
+    for (addr, thread, is) in &ROWS {
+        let head = thread.unwrap_or(0);
+        let passes = is_interpreter_from(alloc, &mut part, &layout, *addr, head);
+        assert!(rt; passes == Ok(*is), "{addr:#x}");
+    }
+    assert!(rt; is_interpreter_from(alloc, &mut part, &layout, ONE, ONE) == Ok(false));
+    Ok(())
+}
+
+#[test]
+fn a_test_has_both_steps(rt: HostRuntime) -> Result<(), Fail> {
+    let mut part = memory_of(rt.alloc(), &MEMORY)?;
+    let (alloc, layout) = (rt.alloc(), Layout::sample());
+    for (addr, _, is) in &ROWS {
+        let passes = is_interpreter(alloc, &mut part, &layout, *addr);
+        assert!(rt; passes == Ok(*is), "{addr:#x}");
+    }
     Ok(())
 }

@@ -1,5 +1,5 @@
 //! A list with its type and its items, written out by hand.
-use process_memory::{Part, Piece};
+use crate::made::memory_of;
 use py_builtins::{Sequence, read_item, read_items, read_type};
 use py_fields::Layout;
 use std::test::Fail;
@@ -13,25 +13,31 @@ const TYPE: u64 = LIST + 40;
 
 const ITEMS: u64 = TYPE + 48;
 
+const WORDS: [u64; 13] = [
+    0, TYPE, 2, ITEMS, 0, 0, 0, 0, 0x77, 0x200_0000, 16, 0x11, 0x22,
+];
+
 #[test]
-fn types_and_items_are_read(rt: HostRuntime) -> Result<(), Fail> {
-    let alloc = rt.alloc();
-    let mut bytes = Vec::new(alloc);
-    for word in [
-        0, TYPE, 2, ITEMS, 0, 0, 0, 0, 0x77, 0x200_0000, 16, 0x11, 0x22,
-    ] {
-        bytes.extend_from_slice(&u64::to_le_bytes(word))?;
-    }
-    let piece = Piece { start: LIST, bytes };
-    let mut part = Part::of(alloc, vec![in alloc; piece]?);
-    let layout = Layout::sample();
-    let class = read_type(alloc, &mut part, &layout, LIST)?;
-    assert_eq!(rt; (class.at, class.name), (TYPE, 0x77));
-    assert_eq!(rt; (class.flags, class.dict_offset), (0x200_0000, 16));
-    let list = read_items(alloc, &mut part, &layout, Sequence::List, LIST)?;
-    assert_eq!(rt; list.count, 2);
-    assert!(rt; read_item(&mut part, &list, 1) == Ok(0x22));
-    let tuple = read_items(alloc, &mut part, &layout, Sequence::Tuple, LIST)?;
+fn types_are_read(rt: HostRuntime) -> Result<(), Fail> {
+    let mut part = memory_of(rt.alloc(), &[(LIST, &WORDS)])?;
+    let class = read_type(rt.alloc(), &mut part, &Layout::sample(), LIST)?;
+    assert!(rt; class.at == TYPE && class.name == 0x77);
+    assert!(rt; class.flags == 0x200_0000 && class.dict_offset == 16);
+    Ok(())
+}
+
+#[test]
+fn items_of_lists_are_read(rt: HostRuntime) -> Result<(), Fail> {
+    let mut part = memory_of(rt.alloc(), &[(LIST, &WORDS)])?;
+    let list = read_items(rt.alloc(), &mut part, &Layout::sample(), Sequence::List, LIST)?;
+    assert!(rt; list.count == 2 && read_item(&mut part, &list, 1) == Ok(0x22));
+    Ok(())
+}
+
+#[test]
+fn items_of_tuples_are_read(rt: HostRuntime) -> Result<(), Fail> {
+    let mut part = memory_of(rt.alloc(), &[(LIST, &WORDS)])?;
+    let tuple = read_items(rt.alloc(), &mut part, &Layout::sample(), Sequence::Tuple, LIST)?;
     assert!(rt; read_item(&mut part, &tuple, 0) == Ok(ITEMS));
     Ok(())
 }

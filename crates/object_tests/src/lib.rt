@@ -12,6 +12,8 @@ mod interpreter_tests;
 #[cfg(test)]
 mod item_tests;
 #[cfg(test)]
+mod made;
+#[cfg(test)]
 mod name_tests;
 #[cfg(test)]
 mod process_tests;

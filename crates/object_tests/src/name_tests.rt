@@ -1,6 +1,7 @@
 //! Names of threads over pieces of memory, written out by hand.
+use crate::made::{Words, piece, pieces_of};
 use elf64_core::Text;
-use process_memory::{Part, Piece};
+use process_memory::Part;
 use py_builtins::ObjectError;
 use py_fields::Layout;
 use py_names::{NamesError, thread_names_from_interpreter};
@@ -201,63 +202,44 @@ const ROWS: [Row; 6] = [
     },
 ];
 
-fn push_words(bytes: &mut Vec<u8>, words: &[u64]) -> Result<(), AllocError> {
-    for word in words {
-        bytes.extend_from_slice(&word.to_le_bytes())?;
-    }
-    Ok(())
-}
+/// The keys of the five dicts, in order.
+const DICT_WORDS: [u64; 30] = [
+    0, 0, 0, 0, KEYS, 0,
+    0, 0, 0, 0, KEYS + 256, 0,
+    0, 0, 0, 0, KEYS + 512, 0,
+    0, 0, 0, 0, KEYS + 768, 0,
+    0, 0, 0, 0, KEYS + 1024, 0,
+];
 
-fn piece(alloc: Global, start: u64, words: &[u64]) -> Result<Piece, AllocError> {
-    let mut bytes = Vec::new(alloc);
-    push_words(&mut bytes, words)?;
-    Ok(Piece { start, bytes })
-}
-
-/// The five dicts, by their keys.
-fn dicts(alloc: Global) -> Result<Piece, AllocError> {
-    let mut bytes = Vec::new(alloc);
-    for keys in [KEYS, KEYS + 256, KEYS + 512, KEYS + 768, KEYS + 1024] {
-        push_words(&mut bytes, &[0, 0, 0, 0, keys, 0])?;
-    }
-    Ok(Piece {
-        start: DICTS,
-        bytes,
-    })
-}
+/// What is the same in each row.
+const SHARED: [Words<'static>; 12] = [
+    (INTERPRETER, &[0, 0, DICTS]),
+    (KLASS, &[0, 0, 0, 0, 0, 16]),
+    (MODULE, &[0, KLASS, DICTS + 48, 0]),
+    (FIRST, &[0, KLASS, DICTS + 144, 0]),
+    (SECOND, &[0, KLASS, DICTS + 192, 0]),
+    (DICTS, &DICT_WORDS),
+    (KEYS + 256, &[0, 8, 0, 0, 3, 0, 0, 0, 0, 0, SYS, 0, 0, ACTIVE, DICTS + 96]),
+    (KEYS + 768, &[0, 8, 0, 0, 3, 0, 0, 0, 0, 0, NAME, TEXTS + 288, 0, NAME, SYS]),
+    (KEYS + 1024, &[0, 8, 0, 0, 3, 0, 0, 0, 0, 0, SYS, SYS, 0, NAME, TEXTS + 360]),
+    (TEXTS, &TEXT_WORDS),
+    (NUMBERS, &NUMBER_WORDS),
+    (LONG, &[0, 0, 5000, 0, 0, 0, 0, 0, 0]),
+];
 
 /// The keys of a dict of two entries, of which the first slot of three is empty.
-fn keys(
-    alloc: Global,
-    start: u64,
-    first: (u64, u64),
-    second: (u64, u64),
-) -> Result<Piece, AllocError> {
-    let words = &[
+fn keys(first: (u64, u64), second: (u64, u64)) -> [u64; 15] {
+    [
         0, 8, 0, 0, 3, 0, 0, 0, 0, 0, first.0, first.1, 0, second.0, second.1,
-    ];
-    piece(alloc, start, words)
+    ]
 }
 
 fn memory(alloc: Global, row: &Row) -> Result<Part, AllocError> {
-    let (first, second) = row.modules;
-    let (id, other) = row.ids;
-    let pieces = vec![in alloc;
-        piece(alloc, INTERPRETER, &[0, 0, DICTS])?,
-        piece(alloc, KLASS, &[0, 0, 0, 0, 0, 16])?,
-        piece(alloc, MODULE, &[0, KLASS, DICTS + 48, 0])?,
-        piece(alloc, FIRST, &[0, KLASS, DICTS + 144, 0])?,
-        piece(alloc, SECOND, &[0, KLASS, DICTS + 192, 0])?,
-        dicts(alloc)?,
-        keys(alloc, KEYS, (first, MODULE), (second, MODULE))?,
-        keys(alloc, KEYS + 256, (SYS, 0), (ACTIVE, DICTS + 96))?,
-        keys(alloc, KEYS + 512, (id, FIRST), (other, SECOND))?,
-        keys(alloc, KEYS + 768, (NAME, TEXTS + 288), (NAME, SYS))?,
-        keys(alloc, KEYS + 1024, (SYS, SYS), (NAME, TEXTS + 360))?,
-        piece(alloc, TEXTS, &TEXT_WORDS)?,
-        piece(alloc, NUMBERS, &NUMBER_WORDS)?,
-        piece(alloc, LONG, &[0, 0, 5000, 0, 0, 0, 0, 0, 0])?,
-    ]?;
+    let modules = keys((row.modules.0, MODULE), (row.modules.1, MODULE));
+    let ids = keys((row.ids.0, FIRST), (row.ids.1, SECOND));
+    let mut pieces = pieces_of(alloc, &SHARED)?;
+    pieces.push(piece(alloc, KEYS, &modules)?)?;
+    pieces.push(piece(alloc, KEYS + 512, &ids)?)?;
     Ok(Part::of(alloc, pieces))
 }
 
@@ -265,53 +247,58 @@ fn name_of(names: &BTreeMap<u64, Text>, id: u64) -> Option<&str> {
     names.get(&id).map(|name| name.as_str())
 }
 
+fn are_names(names: &BTreeMap<u64, Text>, want: &Names) -> bool {
+    name_of(names, 0x7f00) == want.first
+        && name_of(names, 0x7f01) == want.second
+        && name_of(names, u64::MAX) == want.last
+}
+
+fn is_found(
+    found: &Result<BTreeMap<u64, Text>, NamesError>,
+    want: &Result<&'static Names, NamesError>,
+) -> bool {
+    match (found, want) {
+        (Ok(names), Ok(want)) => are_names(names, want),
+        (Err(error), Err(want)) => error == want,
+        (Ok(_), Err(_)) | (Err(_), Ok(_)) => false,
+    }
+}
+
 #[test]
 fn threads_have_names_or_their_first_fault(rt: HostRuntime) -> Result<(), Fail> {
-    let alloc = rt.alloc();
     let layout = Layout::sample();
     for row in &ROWS {
-        let mut part = memory(alloc, row)?;
-        let found = thread_names_from_interpreter(alloc, INTERPRETER, &mut part, &layout);
-        match (&found, &row.want) {
-            (Ok(names), Ok(want)) => {
-                assert_eq!(rt; name_of(names, 0x7f00), want.first);
-                assert_eq!(rt; name_of(names, 0x7f01), want.second);
-                assert_eq!(rt; name_of(names, u64::MAX), want.last);
-            }
-            (Err(error), Err(want)) => {
-                assert_eq!(rt; error, want);
-            }
-            _ => return Err(Fail::from("another answer")),
-        }
+        let mut part = memory(rt.alloc(), row)?;
+        let found = thread_names_from_interpreter(rt.alloc(), INTERPRETER, &mut part, &layout);
+        assert!(rt; is_found(&found, &row.want));
     }
     Ok(())
 }
 
 /// A dict of modules of so many empty slots.
 fn slots(alloc: Global, used: u64, bytes: usize) -> Result<Part, AllocError> {
-    let mut entries = Vec::new(alloc);
-    push_words(&mut entries, &[0, 8, 0, 0, used, 0])?;
-    entries.resize(bytes, 0)?;
-    let pieces = vec![in alloc;
-        piece(alloc, INTERPRETER, &[0, 0, DICTS])?,
-        dicts(alloc)?,
-        Piece {
-            start: KEYS,
-            bytes: entries
-        },
-    ]?;
+    let rows: [Words<'_>; 2] = [(INTERPRETER, &[0, 0, DICTS]), (DICTS, &DICT_WORDS)];
+    let mut pieces = pieces_of(alloc, &rows)?;
+    let mut keys = piece(alloc, KEYS, &[0, 8, 0, 0, used, 0])?;
+    keys.bytes.resize(bytes, 0)?;
+    pieces.push(keys)?;
     Ok(Part::of(alloc, pieces))
 }
 
 #[test]
 fn at_most_65536_slots_are_looked_at(rt: HostRuntime) -> Result<(), Fail> {
-    let alloc = rt.alloc();
-    let layout = Layout::sample();
-    let mut most = slots(alloc, 65536, 48 + 24 * 65536)?;
-    let names = thread_names_from_interpreter(alloc, INTERPRETER, &mut most, &layout);
-    assert_eq!(rt; names.map_err(|_| "no names")?.len(), 0);
-    let mut more = slots(alloc, 65537, 48 + 24 * 65537)?;
-    let refused = thread_names_from_interpreter(alloc, INTERPRETER, &mut more, &layout);
+    let mut most = slots(rt.alloc(), 65536, 48 + 24 * 65536)?;
+    let names =
+        thread_names_from_interpreter(rt.alloc(), INTERPRETER, &mut most, &Layout::sample());
+    assert!(rt; names.is_ok_and(|names| names.is_empty()));
+    Ok(())
+}
+
+#[test]
+fn more_slots_are_refused(rt: HostRuntime) -> Result<(), Fail> {
+    let mut more = slots(rt.alloc(), 65537, 48 + 24 * 65537)?;
+    let refused =
+        thread_names_from_interpreter(rt.alloc(), INTERPRETER, &mut more, &Layout::sample());
     assert!(rt; matches!(refused, Err(NamesError::Entries)));
     Ok(())
 }

@@ -1,13 +1,14 @@
 //! What no row of the program shows: memory that no map has, and the holder of a lock alone.
+use crate::made::{Words, memory_of};
 use elf64_core::{LOAD, Machine, Name, Segment};
 use image_memory::CoreMapRange;
-use process_memory::{Part, Piece};
 use py_fields::Layout;
 use py_process::{
     BinaryInfo, LockError, PythonProcessInfo, get_interpreter_address, get_python_version,
     get_threadstate_address,
 };
 use py_stacks::Config;
+use py_version::Version;
 use std::alloc::{AllocError, Global};
 use std::collections::BTreeMap;
 use std::test::Fail;
@@ -22,35 +23,16 @@ const THREAD_UNMAPPED: u64 = 0x20_0100;
 
 const MAPPED: u64 = 0x20_0000;
 
-fn piece(alloc: Global, start: u64, words: &[u64]) -> Result<Piece, AllocError> {
-    let mut bytes = Vec::new(alloc);
-    for word in words {
-        bytes.extend_from_slice(&word.to_le_bytes())?;
-    }
-    Ok(Piece { start, bytes })
-}
-
-/// An interpreter, and its thread, whose record names it.
-fn push_interpreter(
-    alloc: Global,
-    pieces: &mut Vec<Piece>,
-    addr: u64,
-    thread: u64,
-) -> Result<(), AllocError> {
-    pieces.push(piece(alloc, addr, &[0, thread])?)?;
-    pieces.push(piece(alloc, thread, &[0, 0, addr, 0, 7, 0, 0, 0])?)?;
-    Ok(())
-}
-
-fn memory(alloc: Global) -> Result<Part, AllocError> {
-    let mut pieces = Vec::new(alloc);
-    push_interpreter(alloc, &mut pieces, UNMAPPED, 0x20_0400)?;
-    push_interpreter(alloc, &mut pieces, THREAD_UNMAPPED, 0x11_0000)?;
-    push_interpreter(alloc, &mut pieces, MAPPED, 0x20_0500)?;
-    let words = [UNMAPPED, THREAD_UNMAPPED, MAPPED];
-    pieces.push(piece(alloc, BSS, &words)?)?;
-    Ok(Part::of(alloc, pieces))
-}
+/// Interpreters, each with its thread, whose record names it, and the bss.
+const MEMORY: [Words<'static>; 7] = [
+    (UNMAPPED, &[0, 0x20_0400]),
+    (0x20_0400, &[0, 0, UNMAPPED, 0, 7, 0, 0, 0]),
+    (THREAD_UNMAPPED, &[0, 0x11_0000]),
+    (0x11_0000, &[0, 0, THREAD_UNMAPPED, 0, 7, 0, 0, 0]),
+    (MAPPED, &[0, 0x20_0500]),
+    (0x20_0500, &[0, 0, MAPPED, 0, 7, 0, 0, 0]),
+    (BSS, &[UNMAPPED, THREAD_UNMAPPED, MAPPED]),
+];
 
 /// A process of a program that has no symbols and a bss of three words, and of one map of 0x1000 bytes.
 fn info(alloc: Global) -> Result<PythonProcessInfo<Vec<CoreMapRange>>, AllocError> {
@@ -84,24 +66,35 @@ fn info(alloc: Global) -> Result<PythonProcessInfo<Vec<CoreMapRange>>, AllocErro
 }
 
 #[test]
-fn what_is_in_no_map_is_no_interpreter_and_a_holder_needs_a_lock(
-    rt: HostRuntime,
-) -> Result<(), Fail> {
-    let alloc = rt.alloc();
-    let mut part = memory(alloc)?;
-    let info = info(alloc)?;
-    let version = get_python_version(alloc, &info, &mut part)?;
+fn a_path_tells_the_version(rt: HostRuntime) -> Result<(), Fail> {
+    let mut part = memory_of(rt.alloc(), &MEMORY)?;
+    let version = get_python_version(rt.alloc(), &info(rt.alloc())?, &mut part)?;
+    assert!(rt; version.major == 3 && version.minor == 9);
+    Ok(())
+}
+
+#[test]
+fn what_is_in_no_map_is_no_interpreter(rt: HostRuntime) -> Result<(), Fail> {
+    let mut part = memory_of(rt.alloc(), &MEMORY)?;
+    let (info, version) = (info(rt.alloc())?, Version::of_numbers(rt.alloc(), 3, 9, 0)?);
     let layout = Layout::sample();
-    let found = get_interpreter_address(alloc, &info, &mut part, &version, &layout);
-    assert_eq!(rt; (version.minor, found), (9, Ok(MAPPED)));
+    let found = get_interpreter_address(rt.alloc(), &info, &mut part, &version, &layout);
+    assert!(rt; found == Ok(MAPPED));
+    Ok(())
+}
+
+#[test]
+fn a_holder_needs_a_lock(rt: HostRuntime) -> Result<(), Fail> {
+    let mut part = memory_of(rt.alloc(), &MEMORY)?;
+    let (info, version) = (info(rt.alloc())?, Version::of_numbers(rt.alloc(), 3, 9, 0)?);
     let config = Config {
         gil_only: true,
         ..Config::default()
     };
-    let machine = Machine::X86_64;
+    let (machine, layout) = (Machine::X86_64, Layout::sample());
     let lock = get_threadstate_address(
         MAPPED, &info, &mut part, machine, &version, &layout, &config,
     );
-    assert_eq!(rt; lock, Err(LockError::NoLock));
+    assert!(rt; lock == Err(LockError::NoLock));
     Ok(())
 }

@@ -1,6 +1,6 @@
 //! Objects over pieces of memory, written out by hand.
-
-use object_reach::{ReachError, reach};
+use crate::made::{Words, memory_of, piece, pieces_of};
+use object_reach::{ReachError, ReachObject, reach};
 use process_memory::{Part, Piece};
 use py_builtins::ObjectError;
 use py_fields::Layout;
@@ -40,7 +40,7 @@ const LOST: u64 = 0x6000;
 const NOWHERE: u64 = 0x2_0000;
 
 /// Each is a type, an object, whose type's address is its second word, or the items or the keys of one.
-const WORDS: [(u64, &[u64]); 17] = [
+const WORDS: [Words<'static>; 17] = [
     (LIST, &[0, 0, 0, 0, 1 << 25, 0]),
     (TUPLE, &[0, 0, 0, 0, 1 << 26, 0]),
     (DICT, &[0, 0, 0, 0, 1 << 29, 0]),
@@ -90,33 +90,23 @@ fn broken(addr: u64) -> Option<ObjectError> {
     }
 }
 
-fn piece_of(alloc: Global, start: u64, words: &[u64]) -> Result<Piece, AllocError> {
-    let mut bytes = Vec::new(alloc);
-    for word in words {
-        bytes.extend_from_slice(&word.to_le_bytes())?;
+/// Whether objects are those at these addresses, in order.
+fn are_at(objects: &[ReachObject], addresses: &[u64]) -> bool {
+    for (object, addr) in objects.iter().zip(addresses) {
+        if object.addr != *addr || object.broken != broken(*addr) {
+            return false;
+        }
     }
-    Ok(Piece { start, bytes })
-}
-
-fn memory(alloc: Global) -> Result<Vec<Piece>, Fail> {
-    let mut pieces = Vec::new(alloc);
-    for (start, words) in &WORDS {
-        pieces.push(piece_of(alloc, *start, words)?)?;
-    }
-    Ok(pieces)
+    objects.len() == addresses.len()
 }
 
 #[test]
 fn what_is_reached_is_listed(rt: HostRuntime) -> Result<(), Fail> {
     let layout = Layout::sample();
-    let mut part = Part::of(rt.alloc(), memory(rt.alloc())?);
+    let mut part = memory_of(rt.alloc(), &WORDS)?;
     for (roots, addresses) in &REACHED {
         let objects = reach(rt.alloc(), &mut part, &layout, roots)?;
-        assert_eq!(rt; objects.len(), addresses.len());
-        for (object, addr) in objects.iter().zip(*addresses) {
-            assert_eq!(rt; object.addr, *addr);
-            assert!(rt; object.broken == broken(*addr));
-        }
+        assert!(rt; are_at(&objects, addresses));
     }
     Ok(())
 }
@@ -127,9 +117,9 @@ fn reach_lost(alloc: Global, count: u64) -> Result<Result<usize, ReachError>, Fa
     for number in 0..1 << 20 {
         words.push((1 << 40) + number)?;
     }
-    let mut pieces = memory(alloc)?;
-    pieces.push(piece_of(alloc, 0x7000, &[0, LIST, count, 0x8000, 0])?)?;
-    pieces.push(piece_of(alloc, 0x8000, &words)?)?;
+    let mut pieces = pieces_of(alloc, &WORDS)?;
+    pieces.push(piece(alloc, 0x7000, &[0, LIST, count, 0x8000, 0])?)?;
+    pieces.push(piece(alloc, 0x8000, &words)?)?;
     let mut part = Part::of(alloc, pieces);
     let reached = reach(alloc, &mut part, &Layout::sample(), &[0x7000]);
     Ok(reached.map(|objects| objects.len()))
@@ -151,12 +141,12 @@ fn reach_slots(alloc: Global, last: u64) -> Result<Result<usize, ReachError>, Fa
         bytes,
     };
     let mut pieces = vec![in alloc; array]?;
-    pieces.push(piece_of(alloc, LIST, &[0, 0, 0, 0, 1 << 25, 0])?)?;
+    pieces.push(piece(alloc, LIST, &[0, 0, 0, 0, 1 << 25, 0])?)?;
     let mut roots = Vec::new(alloc);
     for number in 0..64 {
         let addr = 0x7000 + number * 64;
         let count = if number < 63 { 1 << 18 } else { last };
-        pieces.push(piece_of(alloc, addr, &[0, LIST, count, 1 << 40, 0])?)?;
+        pieces.push(piece(alloc, addr, &[0, LIST, count, 1 << 40, 0])?)?;
         roots.push(addr)?;
     }
     let mut part = Part::of(alloc, pieces);

@@ -1,12 +1,11 @@
 //! Each public call once over a small memory, and what no row of the program shows: first lines, none, and the
 //! lock's holder alone.
-use process_memory::{Part, Piece};
+use crate::made::{Words, memory_of};
 use py_fields::Layout;
 use py_stacks::{
     Addresses, Config, LineNo, StackError, StackTrace, get_gil_threadid, get_stack_over,
     get_stack_trace, get_stack_traces,
 };
-use std::alloc::{AllocError, Global};
 use std::test::Fail;
 
 /// Where an interpreter stands, its thread, a frame of it, the frame's code, and two texts.
@@ -25,28 +24,17 @@ const NAME: u64 = 0x6000;
 /// Where a word names the thread, which so holds the lock.
 const LOCK: u64 = 0x7000;
 
-pub(crate) fn piece(alloc: Global, start: u64, words: &[u64]) -> Result<Piece, AllocError> {
-    let mut bytes = Vec::new(alloc);
-    for word in words {
-        bytes.extend_from_slice(&word.to_le_bytes())?;
-    }
-    Ok(Piece { start, bytes })
-}
-
 /// A thread of id 7 with one frame, `f` in `a.py`, whose first line is 3 and which has no variables: the tuple of
 /// their names is the interpreter.
-fn memory(alloc: Global) -> Result<Part, AllocError> {
-    let pieces = vec![in alloc;
-        piece(alloc, INTERPRETER, &[0, THREAD, 0])?,
-        piece(alloc, THREAD, &[0, 0, INTERPRETER, FRAME, 7, 0, 0, 0])?,
-        piece(alloc, FRAME, &[0, 0, CODE, 0, 0, 0, 0, 0])?,
-        piece(alloc, CODE, &[0, 0, 0, 3, FILE, NAME, 0, INTERPRETER])?,
-        piece(alloc, FILE, &[0, 0, 4, 0, 100, 0, 0x7970_2e61, 0, 0])?,
-        piece(alloc, NAME, &[0, 0, 1, 0, 100, 0, 0x66, 0, 0])?,
-        piece(alloc, LOCK, &[THREAD])?,
-    ]?;
-    Ok(Part::of(alloc, pieces))
-}
+const MEMORY: [Words<'static>; 7] = [
+    (INTERPRETER, &[0, THREAD, 0]),
+    (THREAD, &[0, 0, INTERPRETER, FRAME, 7, 0, 0, 0]),
+    (FRAME, &[0, 0, CODE, 0, 0, 0, 0, 0]),
+    (CODE, &[0, 0, 0, 3, FILE, NAME, 0, INTERPRETER]),
+    (FILE, &[0, 0, 4, 0, 100, 0, 0x7970_2e61, 0, 0]),
+    (NAME, &[0, 0, 1, 0, 100, 0, 0x66, 0, 0]),
+    (LOCK, &[THREAD]),
+];
 
 /// Whether a trace is that of the thread, with this line and its mark.
 fn is_trace(trace: &StackTrace, line: i32, owns_gil: bool) -> bool {
@@ -63,11 +51,16 @@ fn is_trace(trace: &StackTrace, line: i32, owns_gil: bool) -> bool {
 
 #[test]
 fn stacks_of_all_threads(rt: HostRuntime) -> Result<(), Fail> {
-    let alloc = rt.alloc();
-    let layout = Layout::sample();
-    let mut part = memory(alloc)?;
+    let (alloc, layout) = (rt.alloc(), Layout::sample());
+    let mut part = memory_of(alloc, &MEMORY)?;
     let plain = get_stack_traces(alloc, INTERPRETER, &mut part, &layout, LOCK, None)?;
     assert!(rt; plain.len() == 1 && plain.iter().all(|trace| is_trace(trace, 0, true)));
+    Ok(())
+}
+
+#[test]
+fn stacks_with_their_first_lines(rt: HostRuntime) -> Result<(), Fail> {
+    let (alloc, layout) = (rt.alloc(), Layout::sample());
     let addresses = Addresses {
         interpreter: INTERPRETER,
         lock: 0,
@@ -76,32 +69,39 @@ fn stacks_of_all_threads(rt: HostRuntime) -> Result<(), Fail> {
         lineno: LineNo::First,
         ..Config::default()
     };
+    let mut part = memory_of(alloc, &MEMORY)?;
     let full = get_stack_over(alloc, &mut part, &layout, &addresses, &config)?;
     assert!(rt; full.len() == 1 && full.iter().all(|trace| is_trace(trace, 3, false)));
     Ok(())
 }
 
+/// Whether a trace is that of the thread with this line, and has no variables.
+fn is_plain(trace: &StackTrace, line: i32) -> bool {
+    let locals = trace.frames.first().and_then(|frame| frame.locals.as_ref());
+    is_trace(trace, line, false) && locals.is_some_and(|locals| locals.is_empty())
+}
+
 #[test]
 fn the_stack_of_one_thread(rt: HostRuntime) -> Result<(), Fail> {
-    let alloc = rt.alloc();
-    let layout = Layout::sample();
-    let mut part = memory(alloc)?;
-    for (lineno, line) in [(LineNo::NoLine, 0), (LineNo::First, 3)] {
-        let trace = get_stack_trace(alloc, THREAD, &mut part, &layout, true, lineno)?;
-        assert!(rt; is_trace(&trace, line, false));
-        let locals = trace.frames.first().and_then(|frame| frame.locals.as_ref());
-        assert!(rt; locals.is_some_and(|locals| locals.is_empty()));
+    let (alloc, layout) = (rt.alloc(), Layout::sample());
+    let mut part = memory_of(alloc, &MEMORY)?;
+    for (lineno, line) in &[(LineNo::NoLine, 0), (LineNo::First, 3)] {
+        let trace = get_stack_trace(alloc, THREAD, &mut part, &layout, true, *lineno)?;
+        assert!(rt; is_plain(&trace, *line));
     }
-    assert_eq!(rt; get_gil_threadid(LOCK, &mut part, &layout), Ok(7));
-    assert_eq!(rt; get_gil_threadid(0, &mut part, &layout), Ok(0));
+    Ok(())
+}
+
+#[test]
+fn the_holder_of_a_lock(rt: HostRuntime) -> Result<(), Fail> {
+    let (mut part, layout) = (memory_of(rt.alloc(), &MEMORY)?, Layout::sample());
+    assert!(rt; get_gil_threadid(LOCK, &mut part, &layout) == Ok(7));
+    assert!(rt; get_gil_threadid(0, &mut part, &layout) == Ok(0));
     let missing = StackError::Unreadable {
         addr: LOCK + 8,
         len: 8,
     };
-    assert_eq!(rt;
-        get_gil_threadid(LOCK + 8, &mut part, &layout),
-        Err(missing)
-    );
+    assert!(rt; get_gil_threadid(LOCK + 8, &mut part, &layout) == Err(missing));
     Ok(())
 }
 
@@ -136,12 +136,12 @@ fn ids_and_states_are_shown(rt: HostRuntime) -> Result<(), Fail> {
     for (os, id, want) in &IDS {
         trace.os_thread_id = *os;
         trace.thread_id = *id;
-        assert_eq!(rt; trace.format_threadid(alloc)?.as_str(), *want);
+        assert!(rt; trace.format_threadid(alloc)?.as_str() == *want);
     }
     for (active, owns_gil, want) in &STATES {
         trace.active = *active;
         trace.owns_gil = *owns_gil;
-        assert_eq!(rt; trace.status_str(), *want);
+        assert!(rt; trace.status_str() == *want);
     }
     Ok(())
 }

@@ -121,22 +121,22 @@ fn what_is_no_text_is_refused(rt: HostRuntime) -> Result<(), Fail> {
     Ok(())
 }
 
+/// A memory of these bytes alone.
+fn part_of(alloc: Global, bytes: &[u8]) -> Result<Part, AllocError> {
+    let piece = Piece {
+        start: OBJECT,
+        bytes: bytes.to_vec(alloc)?,
+    };
+    Ok(Part::of(alloc, vec![in alloc; piece]?))
+}
+
 #[test]
 fn a_text_that_is_cut_is_unreadable(rt: HostRuntime) -> Result<(), Fail> {
     let alloc = rt.alloc();
     let mut whole = object(alloc, 3, 0x24)?;
     whole.extend_from_slice(b"cut")?;
     for end in 0..whole.len() {
-        let bytes = whole[..end].to_vec(alloc)?;
-        let mut part = Part::of(
-            alloc,
-            vec![in alloc;
-                Piece {
-                    start: OBJECT,
-                    bytes
-                },
-            ]?,
-        );
+        let mut part = part_of(alloc, &whole[..end])?;
         let (addr, len) = if end < SIZE {
             (OBJECT, 72)
         } else {
@@ -173,26 +173,20 @@ fn bytes_layout() -> Layout {
 
 #[test]
 fn texts_of_bytes_are_utf8(rt: HostRuntime) -> Result<(), Fail> {
-    let alloc = rt.alloc();
     let layout = bytes_layout();
     assert!(rt; is_sound(&layout));
-    for (last, is_text) in [(0xbc, true), (0x62, false)] {
-        let mut bytes = vec![in alloc; 0u8; 16]?;
-        bytes.extend_from_slice(&3u64.to_le_bytes())?;
-        bytes.extend_from_slice(&[0x66, 0xc3, last])?;
-        let mut part = Part::of(
-            alloc,
-            vec![in alloc;
-                Piece {
-                    start: OBJECT,
-                    bytes
-                },
-            ]?,
-        );
-        match copy_string(alloc, &mut part, &layout, OBJECT) {
-            Ok(text) => assert!(rt; is_text && text.as_str() == "fü"),
-            Err(error) => assert!(rt; !is_text && error == ObjectError::NoText),
-        }
-    }
+    let mut part = part_of(rt.alloc(), b"\0\0\0\0\0\0\0\0\0\0\0\0\0\0\0\0\x03\0\0\0\0\0\0\0f\xc3\xbc")?;
+    let text = copy_string(rt.alloc(), &mut part, &layout, OBJECT)?;
+    assert!(rt; text.as_str() == "fü");
+    Ok(())
+}
+
+#[test]
+fn other_bytes_are_no_text(rt: HostRuntime) -> Result<(), Fail> {
+    let layout = bytes_layout();
+    assert!(rt; is_sound(&layout));
+    let mut part = part_of(rt.alloc(), b"\0\0\0\0\0\0\0\0\0\0\0\0\0\0\0\0\x03\0\0\0\0\0\0\0f\xc3b")?;
+    let refused = copy_string(rt.alloc(), &mut part, &layout, OBJECT);
+    assert!(rt; refused == Err(ObjectError::NoText));
     Ok(())
 }

@@ -1,6 +1,7 @@
 //! Values over pieces of memory, written out by hand.
 ghost use Rattle.py_fields.specs.Sound.{IsSound};
 
+use crate::made::{Words, piece, pieces_of};
 use elf64_core::Text;
 use process_memory::{Part, Piece};
 use py_builtins::ObjectError;
@@ -46,7 +47,7 @@ const THREE: u64 = 0x2_0080;
 const QUOTE: u64 = 0x3_0000;
 
 /// Each is a value, whose type's address is its second word, or the items, slots or keys of one.
-const WORDS: [(u64, &[u64]); 24] = [
+const WORDS: [Words<'static>; 24] = [
     (ONE, &[0, 0x1100, 1, 1]),
     (TWO, &[0, 0x1100, 1, 2]),
     (THREE, &[0, 0x1100, 1, 3]),
@@ -112,27 +113,12 @@ const SCALARS: [(u64, u64); 14] = [
     (0x2400, 0x3ff8_0000_0000_0001),
 ];
 
-/// The bytes of words.
-fn add(
-    pieces: &mut Vec<Piece>,
-    alloc: Global,
-    start: u64,
-    words: &[u64],
-) -> Result<(), AllocError> {
-    let mut bytes = Vec::new(alloc);
-    for word in words {
-        bytes.extend_from_slice(&word.to_le_bytes())?;
-    }
-    pieces.push(Piece { start, bytes })?;
-    Ok(())
-}
-
 fn memory(alloc: Global) -> Result<Part, AllocError> {
-    let mut pieces = Vec::new(alloc);
+    let mut pieces = pieces_of(alloc, &WORDS)?;
     let mut start = 0x1000u64;
     for (flags, name) in &TYPES {
         let name_at = start.wrapping_add(0x40);
-        add(&mut pieces, alloc, start, &[0, 0, 0, name_at, *flags, 0])?;
+        pieces.push(piece(alloc, start, &[0, 0, 0, name_at, *flags, 0])?)?;
         let mut bytes = name.to_vec(alloc)?;
         bytes.resize(128, 0)?;
         pieces.push(Piece {
@@ -141,15 +127,12 @@ fn memory(alloc: Global) -> Result<Part, AllocError> {
         })?;
         start = start.wrapping_add(0x100);
     }
-    for (start, words) in &WORDS {
-        add(&mut pieces, alloc, *start, words)?;
-    }
     let mut start = 0x6_0000u64;
     for (kind, word) in &SCALARS {
-        add(&mut pieces, alloc, start, &[0, *kind, *word])?;
+        pieces.push(piece(alloc, start, &[0, *kind, *word])?)?;
         start = start.wrapping_add(0x20);
     }
-    add(&mut pieces, alloc, 0x7_0000, &[0, 0x2500])?;
+    pieces.push(piece(alloc, 0x7_0000, &[0, 0x2500])?)?;
     Ok(Part::of(alloc, pieces))
 }
 
