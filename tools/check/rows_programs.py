@@ -4,7 +4,7 @@ lock, and how many threads and frames there are."""
 from typing import Iterator, List, Optional, Tuple
 
 from built_program import GOOD, SAMPLES, Program, StoredLayout, built, stored_layouts
-from made import layout_of
+from made import EXAMPLE, edited, layout_of
 from row import Row, row
 from rows_built import FRAMES, LOCALS
 
@@ -164,4 +164,25 @@ def listing_rows(listing: str) -> List[Row]:
         version, text = SAMPLES[0]
         words = ["built", "layouts", version, machine, "core", *program.words()]
         found.append(row(f"listing: built: refused: {what}", words, {"layouts": text.encode()}, f"{line}\n"))
-    return found
+    return [*found, *versions_of_listing(), no_room()]
+
+
+def versions_of_listing() -> Iterator[Row]:
+    """Versions of which a number can be made, and others."""
+    files = {"layouts": EXAMPLE.encode()}
+    for version, is_covered in (
+        ("3.9.99", True), ("3.9.0a0", True), ("3.9.0b9", True), ("3.9.0rc15", True), ("3.9.0rc16", False),
+        ("3.9.0a05", False), ("3.9.0c1", False), ("3.9.0+x", False),
+    ):
+        words = ["built", "layouts", version, "x86-64", "places", *Program().words()]
+        found = "600000 500238\n" if is_covered else "uncovered\n"
+        yield row(f"listing: built: version {version}", words, files, found)
+
+
+def no_room() -> Row:
+    """Frames of 65,535 bytes, of which five threads of 4096 have no room."""
+    text = edited(EXAMPLE, frame="{size=65535, code=16, back=24, instr=32, locals=56, code_tag_bits=0}")
+    frame = 65536 + 64 + 48 + 32 + 80 + 80
+    needed = (1 << 18) + 32 + 3 * (48 + 128) + 5 * (64 + 4096 * frame)
+    words = ["built", "layouts", "3.9.0", "x86-64", "core", *Program(threads=5, frames=4096).words()]
+    return row("listing: built: no room", words, {"layouts": text.encode()}, f"no room {needed}\n")

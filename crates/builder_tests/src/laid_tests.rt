@@ -1,4 +1,6 @@
 //! Programs that are laid into memory, as the readers of stacks read them.
+ghost use Rattle.py_fields.specs.Sound.{IsSound};
+
 use elf64_core::Text;
 use memory_builder::{
     Program, ProgramFrame, ProgramItem, ProgramLocal, ProgramThread, ProgramValue, family_of,
@@ -117,25 +119,6 @@ fn locals(alloc: Global) -> Result<Vec<ProgramLocal>, Fail> {
     Ok(found)
 }
 
-/// A text of so many characters, so many numbers in a list, and so many locals that are numbers.
-fn many(alloc: Global, chars: u32, items: u32, rest: u32) -> Result<Vec<ProgramLocal>, Fail> {
-    let mut text = String::new(alloc);
-    for _ in 0..chars {
-        text.push('a')?;
-    }
-    let mut list = Vec::new(alloc);
-    for _ in 0..items {
-        list.push(ProgramItem::Number(1))?;
-    }
-    let mut found = Vec::new(alloc);
-    found.push(local(alloc, "t", ProgramValue::Words(Text::from(text)))?)?;
-    found.push(local(alloc, "y", ProgramValue::List(list))?)?;
-    for _ in 0..rest {
-        found.push(local(alloc, "n", ProgramValue::Number(1))?)?;
-    }
-    Ok(found)
-}
-
 fn frame(
     alloc: Global,
     name: &str,
@@ -179,16 +162,6 @@ fn program(alloc: Global) -> Result<Program, Fail> {
     })
 }
 
-/// A thread of a frame of many locals, of which all are arguments.
-fn wide_program(alloc: Global) -> Result<Program, Fail> {
-    let frames = vec![in alloc; frame(alloc, "f", 4, 300, many(alloc, 4095, 1000, 298)?)?]?;
-    let threads = vec![in alloc; ProgramThread { id: 7, frames }]?;
-    Ok(Program {
-        threads,
-        owner: None,
-    })
-}
-
 /// What a frame says: its name, its line, and what its locals are shown as.
 fn add_frame_text(alloc: Global, text: &mut String, frame: &Frame) -> Result<(), Fail> {
     let head = format!(in alloc; " {}:{}", frame.name.as_str(), frame.line)?;
@@ -219,27 +192,31 @@ fn text_of(alloc: Global, traces: &[StackTrace]) -> Result<String, Fail> {
     Ok(text)
 }
 
-/// The stacks of a program that can be written, where its objects stand in memory and nothing else does.
-fn read_back(alloc: Global, program: &Program, layout: &Layout, lock: u64) -> Result<String, Fail> {
-    if !is_sound(layout) {
-        return Err(Fail::from("the layout isn't sound"));
-    }
+/// The objects of a program that can be written.
+fn laid(alloc: Global, program: &Program, layout: &Layout) -> Result<Part, Fail>
+    requires { IsSound layout.now }
+{
     match first_invalid(alloc, program, family_of(layout.lines))? {
         Some(_) => return Err(Fail::from("it can't be written")),
         None => {}
     }
-    let size = objects_size(alloc, program, layout)?;
-    if size > LONGEST {
+    if objects_size(alloc, program, layout)? > LONGEST {
         return Err(Fail::from("it is too long"));
     }
     let bytes = laid_program(alloc, program, layout, START)?;
-    let pieces = vec![in alloc;
-        Piece {
-            start: START,
-            bytes
-        },
-    ]?;
-    let mut memory = Part::of(alloc, pieces);
+    let piece = Piece {
+        start: START,
+        bytes,
+    };
+    Ok(Part::of(alloc, vec![in alloc; piece]?))
+}
+
+/// The stacks of a program, where its objects stand in memory and nothing else does.
+fn read_back(alloc: Global, program: &Program, layout: &Layout, lock: u64) -> Result<String, Fail> {
+    if !is_sound(layout) {
+        return Err(Fail::from("the layout isn't sound"));
+    }
+    let mut memory = laid(alloc, program, layout)?;
     let config = Config {
         lineno: LineNo::LastInstruction,
         dump_locals: 1000,
@@ -253,31 +230,18 @@ fn read_back(alloc: Global, program: &Program, layout: &Layout, lock: u64) -> Re
     text_of(alloc, &traces)
 }
 
-#[test]
-fn what_is_laid_is_read(rt: HostRuntime) -> Result<(), Fail> {
-    let alloc = rt.alloc();
-    let program = program(alloc)?;
-    let cases = [
-        (Layout::sample(), 0, ""),
-        (sample_3_10(), 0, ""),
-        (sample_3_12(), 0, ""),
-        (sample_3_12(), START + 32, "*"),
-    ];
-    for (layout, lock, mark) in &cases {
-        let text = read_back(alloc, &program, layout, *lock)?;
-        let want = format!(in alloc; "[32512]{}[7][9{}]{}", FIRST, *mark, LAST)?;
-        assert!(rt; text.as_str() == want.as_str(), "{text}");
-    }
-    Ok(())
+/// Whether the program is read back as it is, with this mark of its holder.
+fn is_read_back(alloc: Global, layout: &Layout, lock: u64, mark: &str) -> Result<bool, Fail> {
+    let text = read_back(alloc, &program(alloc)?, layout, lock)?;
+    let want = format!(in alloc; "[32512]{FIRST}[7][9{mark}]{LAST}")?;
+    Ok(text == want)
 }
 
 #[test]
-fn long_values_are_read(rt: HostRuntime) -> Result<(), Fail> {
-    let alloc = rt.alloc();
-    let program = wide_program(alloc)?;
-    for layout in &[sample_3_10(), sample_3_12()] {
-        let text = read_back(alloc, &program, layout, 0)?;
-        assert!(rt; text.as_str().len() == 9 + 4098 + 3001 + 298 * 2);
-    }
+fn what_is_laid_is_read(rt: HostRuntime) -> Result<(), Fail> {
+    assert!(rt; is_read_back(rt.alloc(), &Layout::sample(), 0, "")?);
+    assert!(rt; is_read_back(rt.alloc(), &sample_3_10(), 0, "")?);
+    assert!(rt; is_read_back(rt.alloc(), &sample_3_12(), 0, "")?);
+    assert!(rt; is_read_back(rt.alloc(), &sample_3_12(), START + 32, "*")?);
     Ok(())
 }

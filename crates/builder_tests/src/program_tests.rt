@@ -1,4 +1,4 @@
-//! Programs that can't be written, and how much those that can take; worked out by hand.
+//! Programs that can't be written; more of them are rows of `listing`.
 use elf64_core::Text;
 use memory_builder::{
     FramePlace, Program, ProgramFrame, ProgramItem, ProgramLocal, ProgramThread, ProgramValue,
@@ -115,111 +115,71 @@ fn place(thread: u32, frame: u32) -> Option<FramePlace> {
     Some(FramePlace { thread, frame })
 }
 
+/// Where the first fault of two threads is.
+fn found(
+    alloc: Global,
+    first: FrameCase,
+    id: u64,
+    second: FrameCase,
+) -> Result<Option<FramePlace>, Fail> {
+    let program = two_threads(alloc, first, id, second)?;
+    Ok(first_invalid(alloc, &program, LineFamily::Ranges)?)
+}
+
+#[test]
+fn each_fault_is_found(rt: HostRuntime) -> Result<(), Fail> {
+    for fault in &FAULTS {
+        assert!(rt; found(rt.alloc(), *fault, 8, GOOD)? == place(0, 1));
+        assert!(rt; found(rt.alloc(), GOOD, 8, *fault)? == place(1, 1));
+    }
+    Ok(())
+}
+
+const BAD: FrameCase = FrameCase { args: 2, ..GOOD };
+
+/// The second frame of the first thread, the id of the second and its second frame, and the thread and the frame of
+/// the first fault.
+const FIRST: [(FrameCase, u64, FrameCase, Option<(u32, u32)>); 5] = [
+    (GOOD, 8, GOOD, None),
+    (GOOD, 0, GOOD, Some((1, 0))),
+    (GOOD, 7, GOOD, Some((1, 0))),
+    (GOOD, 7, BAD, Some((1, 0))),
+    (BAD, 7, BAD, Some((0, 1))),
+];
+
 #[test]
 fn the_first_fault_is_found(rt: HostRuntime) -> Result<(), Fail> {
-    let alloc = rt.alloc();
-    for fault in FAULTS {
-        let program = two_threads(alloc, fault, 8, GOOD)?;
-        let found = first_invalid(alloc, &program, LineFamily::Ranges)?;
-        assert!(rt; found == place(0, 1));
-        let program = two_threads(alloc, GOOD, 8, fault)?;
-        let found = first_invalid(alloc, &program, LineFamily::Ranges)?;
-        assert!(rt; found == place(1, 1));
-    }
-    let bad = FrameCase { args: 2, ..GOOD };
-    let cases = [
-        (GOOD, 8, GOOD, None),
-        (GOOD, 0, GOOD, place(1, 0)),
-        (GOOD, 7, GOOD, place(1, 0)),
-        (GOOD, 7, bad, place(1, 0)),
-        (bad, 7, bad, place(0, 1)),
-    ];
-    for (first, id, second, want) in cases {
-        let program = two_threads(alloc, first, id, second)?;
-        let found = first_invalid(alloc, &program, LineFamily::Pairs)?;
-        assert!(rt; found == want, "{id}");
+    for (first, id, second, want) in &FIRST {
+        let want = want.and_then(|(thread, frame)| place(thread, frame));
+        assert!(rt; found(rt.alloc(), *first, *id, *second)? == want, "{id}");
     }
     Ok(())
 }
 
-#[test]
-fn counts_and_owners_are_bounded(rt: HostRuntime) -> Result<(), Fail> {
-    let alloc = rt.alloc();
-    let family = LineFamily::Locations;
-    let none = Program {
-        threads: Vec::new(alloc),
-        owner: None,
-    };
-    assert!(rt; first_invalid(alloc, &none, family)? == place(0, 0));
-    let mut program = two_threads(alloc, GOOD, 8, GOOD)?;
-    program.owner = Some(2);
-    assert!(rt; first_invalid(alloc, &program, family)? == place(0, 0));
-    program.owner = None;
-    for id in 9..4103_u64 {
-        program.threads.push(ProgramThread {
-            id,
-            frames: Vec::new(alloc),
-        })?;
-    }
-    assert!(rt; first_invalid(alloc, &program, family)? == None);
-    let mut frames = Vec::new(alloc);
-    for _ in 0..4097_u32 {
-        frames.push(made(alloc, GOOD)?)?;
-    }
-    program.threads.push(ProgramThread { id: 1, frames })?;
-    assert!(rt; first_invalid(alloc, &program, family)? == place(4096, 0));
-    let last = program.threads.pop();
-    let mut threads = Vec::new(alloc);
-    if let Some(last) = last {
-        threads.push(last)?;
-    }
-    program.threads = threads;
-    assert!(rt; first_invalid(alloc, &program, family)? == place(0, 0));
-    Ok(())
-}
-
-/// A text of so many characters of 3 bytes each.
-fn long_text(alloc: Global, count: u32) -> Result<Text, Fail> {
-    let mut text = String::new(alloc);
+/// A thread of a frame with a list of so many numbers.
+fn listed(alloc: Global, count: u32) -> Result<Program, Fail> {
+    let mut items = Vec::new(alloc);
     for _ in 0..count {
-        text.push('\u{20ac}')?;
+        items.push(ProgramItem::Number(1))?;
     }
-    Ok(Text::from(text))
+    let mut frame = made(alloc, GOOD)?;
+    frame.locals.push(ProgramLocal {
+        name: Text::of(alloc, "y")?,
+        value: ProgramValue::List(items),
+    })?;
+    let frames = vec![in alloc; frame]?;
+    Ok(Program {
+        threads: vec![in alloc; ProgramThread { id: 7, frames }]?,
+        owner: None,
+    })
 }
 
+/// No word of a command line is so long.
 #[test]
-fn texts_and_lists_are_bounded(rt: HostRuntime) -> Result<(), Fail> {
-    let alloc = rt.alloc();
-    let family = LineFamily::Ranges;
-    let cases = [
-        (1365, 65535, None),
-        (1366, 1, place(0, 1)),
-        (1, 65536, place(0, 1)),
-    ];
-    for (chars, count, want) in cases {
-        let mut items = Vec::new(alloc);
-        items.push(ProgramItem::Words(long_text(alloc, chars)?))?;
-        for _ in 1..count {
-            items.push(ProgramItem::Number(1))?;
-        }
-        let mut frame = made(alloc, GOOD)?;
-        frame.locals.push(ProgramLocal {
-            name: Text::of(alloc, "y")?,
-            value: ProgramValue::List(items),
-        })?;
-        let mut thread = thread_of(alloc, 7, GOOD)?;
-        thread.frames.pop();
-        thread.frames.push(frame)?;
-        let mut threads = Vec::new(alloc);
-        threads.push(thread)?;
-        let program = Program {
-            threads,
-            owner: None,
-        };
-        assert!(rt;
-            first_invalid(alloc, &program, family)? == want,
-            "{chars} {count}"
-        );
-    }
+fn lists_are_bounded(rt: HostRuntime) -> Result<(), Fail> {
+    let most = listed(rt.alloc(), 65535)?;
+    assert!(rt; first_invalid(rt.alloc(), &most, LineFamily::Ranges)?.is_none());
+    let more = listed(rt.alloc(), 65536)?;
+    assert!(rt; first_invalid(rt.alloc(), &more, LineFamily::Ranges)? == place(0, 0));
     Ok(())
 }

@@ -5,7 +5,7 @@ use program_report::{
 };
 use py_fields::Layout;
 use py_lines::LineRange;
-use py_stacks::Config;
+use py_stacks::{Config, Frame, StackTrace};
 use py_version::Version;
 use std::alloc::Global;
 use std::test::Fail;
@@ -40,6 +40,20 @@ fn small(alloc: Global) -> Result<Program, Fail> {
     })
 }
 
+fn is_frame(frame: &Frame) -> bool {
+    frame.name.as_str() == "f"
+        && frame.line == 5
+        && frame.is_shim_entry
+        && frame.locals.is_some()
+}
+
+fn is_thread(thread: &StackTrace) -> bool {
+    thread.thread_id == 32512
+        && thread.owns_gil
+        && thread.frames.len() == 1
+        && thread.frames.iter().all(is_frame)
+}
+
 #[test]
 fn a_program_and_its_report(rt: HostRuntime) -> Result<(), Fail> {
     let alloc = rt.alloc();
@@ -56,12 +70,6 @@ fn a_program_and_its_report(rt: HostRuntime) -> Result<(), Fail> {
         &config,
     )??;
     assert!(rt; report.signal == Some(6) && report.traces.len() == 1);
-    for thread in &report.traces {
-        assert!(rt; thread.thread_id == 32512 && thread.owns_gil && thread.frames.len() == 1);
-        for frame in &thread.frames {
-            assert!(rt; frame.name.as_str() == "f" && frame.line == 5 && frame.is_shim_entry);
-            assert!(rt; frame.locals.is_some());
-        }
-    }
+    assert!(rt; report.traces.first().is_some_and(is_thread));
     Ok(())
 }

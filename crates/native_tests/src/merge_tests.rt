@@ -24,21 +24,27 @@ const FUNCTIONS: [(u64, &str, &str); 11] = [
     (0x5006, "__pyx_f_6mtrand_cont0_array", "/m"),
 ];
 
+fn native_of(
+    alloc: Global,
+    addr: u64,
+    function: &str,
+    module: &str,
+) -> Result<NativeFrame, AllocError> {
+    Ok(NativeFrame {
+        addr,
+        function: Some(Text::of(alloc, function)?),
+        filename: None,
+        module: Text::of(alloc, module)?,
+        line: None,
+    })
+}
+
 /// What each of these addresses shows.
 fn symbols_of(alloc: Global, failing: Vec<u64>) -> Result<MemorySymbols, AllocError> {
     let mut answers = Vec::new(alloc);
-    for (addr, function, module) in FUNCTIONS {
-        let function = Text::of(alloc, function)?;
-        let module = Text::of(alloc, module)?;
-        let mut natives = Vec::new(alloc);
-        natives.push(NativeFrame {
-            addr,
-            function: Some(function),
-            filename: None,
-            module,
-            line: None,
-        })?;
-        answers.push((addr, natives))?;
+    for (addr, function, module) in &FUNCTIONS {
+        let native = native_of(alloc, *addr, function, module)?;
+        answers.push((*addr, vec![in alloc; native]?))?;
     }
     Ok(MemorySymbols::new(alloc, answers, failing))
 }
@@ -122,41 +128,58 @@ const MERGES: [(&str, &[u64], &str); 15] = [
     ("A", &[0x1001, 0x1fff], "A 0x1fff? "),
 ];
 
+/// What Python frames and native addresses are merged to.
+fn merged_to(
+    alloc: Global,
+    stack: &mut NativeStack<MemorySymbols, NoSources>,
+    names: &str,
+    addrs: &[u64],
+) -> Result<String, Fail> {
+    let frames = frames_of(alloc, names)?;
+    let merged = stack.merge_native_stack(frames.as_slice(), addrs);
+    shown(alloc, merged)
+}
+
 #[test]
 fn stacks_are_merged(rt: HostRuntime) -> Result<(), Fail> {
     let alloc = rt.alloc();
-    let symbols = symbols_of(alloc, Vec::new(alloc))?;
-    let mut stack = NativeStack::new(alloc, None, Some(python_of(alloc)), symbols, NoSources)?;
-    for (names, addrs, want) in MERGES {
-        let frames = frames_of(alloc, names)?;
-        let merged = stack.merge_native_stack(frames.as_slice(), addrs);
-        assert_eq!(rt; shown(alloc, merged)?.as_str(), want);
+    let (python, symbols) = (python_of(alloc), symbols_of(alloc, Vec::new(alloc))?);
+    let mut stack = NativeStack::new(alloc, None, Some(python), symbols, NoSources)?;
+    for (names, addrs, want) in &MERGES {
+        let text = merged_to(alloc, &mut stack, names, addrs)?;
+        assert!(rt; text.as_str() == *want, "{want}");
     }
     Ok(())
 }
 
 #[test]
-fn calls_that_fail_show_their_address(rt: HostRuntime) -> Result<(), Fail> {
-    let alloc = rt.alloc();
-    let mut failing = Vec::new(alloc);
-    failing.push(1)?;
-    let mut symbols = symbols_of(alloc, failing)?;
-    assert!(rt; symbols.symbolicate(alloc, 0x5000, true).is_ok());
-    let failed = symbols.symbolicate(alloc, 0x5000, true).err();
+fn symbols_fail_at_their_calls(rt: HostRuntime) -> Result<(), Fail> {
+    let mut symbols = symbols_of(rt.alloc(), Vec::from_slice(rt.alloc(), &[1])?)?;
+    assert!(rt; symbols.symbolicate(rt.alloc(), 0x5000, true).is_ok());
+    let failed = symbols.symbolicate(rt.alloc(), 0x5000, true).err();
     assert!(rt; failed == Some(SymbolFault::Failed));
-    let lacking = symbols.symbolicate(alloc, 0x9999, false).err();
+    let lacking = symbols.symbolicate(rt.alloc(), 0x9999, false).err();
     assert!(rt; lacking == Some(SymbolFault::NoBinary));
-    // without binaries each address is native; the second call fails, and the first address is kept
-    let mut failing = Vec::new(alloc);
-    failing.push(1)?;
-    failing.push(2)?;
-    let symbols = symbols_of(alloc, failing)?;
-    let mut stack = NativeStack::new(alloc, None, None, symbols, NoSources)?;
-    let frames = frames_of(alloc, "A")?;
+    Ok(())
+}
+
+/// A stack without binaries, each of whose addresses is native, and of whose calls some fail.
+fn failing_at(
+    alloc: Global,
+    calls: &[u64],
+) -> Result<NativeStack<MemorySymbols, NoSources>, AllocError> {
+    let symbols = symbols_of(alloc, Vec::from_slice(alloc, calls)?)?;
+    NativeStack::new(alloc, None, None, symbols, NoSources)
+}
+
+/// The second call fails, and the first address is kept.
+#[test]
+fn calls_that_fail_show_their_address(rt: HostRuntime) -> Result<(), Fail> {
+    let mut stack = failing_at(rt.alloc(), &[1, 2])?;
     let addrs = [0x1000, 0x1000, 0x1002, 0x1002, 0x1002];
-    let merged = stack.merge_native_stack(frames.as_slice(), &addrs);
+    let text = merged_to(rt.alloc(), &mut stack, "A", &addrs)?;
     let want = "_PyEval_EvalFrameDefault _PyEval_EvalFrameDefault 0x1002? 0x1002? time_sleep A ";
-    assert_eq!(rt; shown(alloc, merged)?.as_str(), want);
+    assert!(rt; text.as_str() == want);
     Ok(())
 }
 
@@ -172,7 +195,7 @@ const ASKED: [(u64, &str); 4] = [
 fn shown_without(alloc: Global, failing: u64) -> Result<String, AllocError> {
     let mut text = String::new(alloc);
     let mut call = 0_u64;
-    for (addr, name) in ASKED {
+    for (addr, name) in &ASKED {
         if call == failing {
             text.push_str(format!(in alloc; "{addr:#x}? ")?.as_str())?;
         } else {
@@ -186,16 +209,12 @@ fn shown_without(alloc: Global, failing: u64) -> Result<String, AllocError> {
 
 #[test]
 fn each_call_that_fails_shows_its_address_alone(rt: HostRuntime) -> Result<(), Fail> {
-    let alloc = rt.alloc();
     let addrs = ASKED.map(|asked| asked.0);
     // the last number is that of no call
     for failing in 0..5_u64 {
-        let symbols = symbols_of(alloc, Vec::from_slice(alloc, &[failing])?)?;
-        let mut stack = NativeStack::new(alloc, None, None, symbols, NoSources)?;
-        let frames = frames_of(alloc, "A")?;
-        let merged = stack.merge_native_stack(frames.as_slice(), &addrs);
-        let want = shown_without(alloc, failing)?;
-        assert_eq!(rt; shown(alloc, merged)?.as_str(), want.as_str());
+        let mut stack = failing_at(rt.alloc(), &[failing])?;
+        let text = merged_to(rt.alloc(), &mut stack, "A", &addrs)?;
+        assert!(rt; text == shown_without(rt.alloc(), failing)?, "{failing}");
     }
     Ok(())
 }

@@ -44,52 +44,70 @@ const NAMES: [(&str, &str); 18] = [
 
 #[test]
 fn names_are_cut(rt: HostRuntime) -> Result<(), Fail> {
-    for (name, left) in NAMES {
-        assert_eq!(rt; demangle(name), left);
+    for (name, left) in &NAMES {
+        assert!(rt; demangle(name) == *left, "{name}");
     }
     assert!(rt; ignore_frame("__Pyx_PyObject_Call"));
     assert!(rt; !ignore_frame("__Pyx_PyObject_Cal"));
     Ok(())
 }
 
+/// Sources of these paths and bytes, of which the calls of these numbers fail.
+fn sources_of(
+    alloc: Global,
+    contents: &[(&[u8], &[u8])],
+    calls: &[u64],
+) -> Result<MemorySources, AllocError> {
+    let mut files = Vec::new(alloc);
+    for (path, bytes) in contents {
+        files.push((Name::of(alloc, path)?, Vec::from_slice(alloc, bytes)?))?;
+    }
+    let failing = Vec::from_slice(alloc, calls)?;
+    Ok(MemorySources::new(alloc, files, failing))
+}
+
+/// Files of sources: a file that is named like a folder is none.
+const FILES: [(&[u8], &[u8]); 3] = [(b"/m/a.pyx", b"x"), (b"b.pyx", b"x"), (b"/m/.", b"x")];
+
+/// A file's name, a module's, and where the file is.
+const FOUND: [(&str, &str, Option<&str>); 9] = [
+    ("b.pyx", "", Some("b.pyx")),
+    ("x/a.pyx", "/m/module.so", Some("/m/a.pyx")),
+    ("x/b.pyx", "module.so", Some("b.pyx")),
+    ("x/b.pyx", "", None),
+    ("x/b.pyx", "/", None),
+    ("x/.", "/m/module.so", None),
+    ("x/..", "/m/module.so", None),
+    ("x/", "/m/module.so", None),
+    ("x/c.pyx", "/m/module.so", None),
+];
+
 #[test]
 fn sources_are_found(rt: HostRuntime) -> Result<(), Fail> {
-    let alloc = rt.alloc();
-    let mut files = Vec::new(alloc);
-    for path in [b"/m/a.pyx".as_slice(), b"b.pyx", b"/m/."] {
-        let name = Name::of(alloc, path)?;
-        files.push((name, Vec::from_slice(alloc, b"x")?))?;
+    let mut sources = sources_of(rt.alloc(), &FILES, &[])?;
+    for (filename, modulename, path) in &FOUND {
+        let found = resolve_filename(rt.alloc(), &mut sources, filename, modulename)?;
+        assert!(rt; found.as_ref().map(|found| found.as_str()) == *path, "{filename}");
     }
-    let mut failing = Vec::new(alloc);
-    failing.push(1)?;
-    let mut sources = MemorySources::new(alloc, files, failing);
-    let cases = [
-        ("b.pyx", "", Some("b.pyx")),
-        ("x/a.pyx", "/m/module.so", Some("/m/a.pyx")),
-        ("x/b.pyx", "module.so", Some("b.pyx")),
-        ("x/b.pyx", "", None),
-        ("x/b.pyx", "/", None),
-        ("x/.", "/m/module.so", None),
-        ("x/..", "/m/module.so", None),
-        ("x/", "/m/module.so", None),
-        ("x/c.pyx", "/m/module.so", None),
-    ];
-    for (filename, modulename, path) in cases {
-        let found = resolve_filename(alloc, &mut sources, filename, modulename)?;
-        let found = match &found {
-            Some(found) => Some(found.as_str()),
-            None => None,
-        };
-        assert!(rt; found == path);
-    }
-    // the calls 0, 1 and 2, of which the second fails; a missing path fails at no call
-    assert!(rt; sources.contents(alloc, b"b.pyx").is_ok());
-    let failed = sources.contents(alloc, b"b.pyx").err();
+    Ok(())
+}
+
+/// Of the calls 0, 1 and 2 the second fails; a missing path fails at no call.
+#[test]
+fn sources_fail_at_their_calls(rt: HostRuntime) -> Result<(), Fail> {
+    let mut sources = sources_of(rt.alloc(), &FILES, &[1])?;
+    assert!(rt; sources.contents(rt.alloc(), b"b.pyx").is_ok());
+    let failed = sources.contents(rt.alloc(), b"b.pyx").err();
     assert!(rt; failed == Some(SourceFault::Failed));
-    let missing = sources.contents(alloc, b"c.pyx").err();
+    let missing = sources.contents(rt.alloc(), b"c.pyx").err();
     assert!(rt; missing == Some(SourceFault::Missing));
+    Ok(())
+}
+
+#[test]
+fn no_sources_have_no_file(rt: HostRuntime) -> Result<(), Fail> {
     assert!(rt; !NoSources.exists(b"b.pyx"));
-    let missing = NoSources.contents(alloc, b"b.pyx").err();
+    let missing = NoSources.contents(rt.alloc(), b"b.pyx").err();
     assert!(rt; missing == Some(SourceFault::Missing));
     Ok(())
 }
@@ -100,10 +118,8 @@ fn lines_of_c_files_are_found(rt: HostRuntime) -> Result<(), Fail> {
     let mut sources = NoSources;
     let contents = "x\n/* \"a.pyx\":6\ny";
     let map = SourceMap::from_contents(alloc, &mut sources, contents, "a.c", None)?;
-    assert!(rt; map.lookup(1).is_none());
-    assert!(rt; matches!(map.lookup(2), Some(("a.pyx", 6))));
-    assert!(rt; matches!(map.lookup(4), Some(("a.pyx", 6))));
-    assert!(rt; map.lookup(5).is_none());
+    assert!(rt; map.lookup(1).is_none() && map.lookup(5).is_none());
+    assert!(rt; map.lookup(2) == Some(("a.pyx", 6)) && map.lookup(4) == map.lookup(2));
     Ok(())
 }
 
@@ -125,54 +141,43 @@ const FIRST_LINES: [(&str, Option<(&str, u32)>); 12] = [
 
 #[test]
 fn first_lines_tell(rt: HostRuntime) -> Result<(), Fail> {
-    let alloc = rt.alloc();
-    for (line, want) in FIRST_LINES {
-        let map = SourceMap::from_contents(alloc, &mut NoSources, line, "a.c", None)?;
-        assert_eq!(rt; map.lookup(2), want, "{line}");
+    for (line, want) in &FIRST_LINES {
+        let map = SourceMap::from_contents(rt.alloc(), &mut NoSources, line, "a.c", None)?;
+        assert!(rt; map.lookup(2) == *want, "{line}");
     }
     Ok(())
 }
 
-/// Sources of these paths and bytes, of which the calls of these numbers fail.
-fn sources_of(
-    alloc: Global,
-    contents: &[(&[u8], &[u8])],
-    calls: &[u64],
-) -> Result<MemorySources, AllocError> {
-    let mut files = Vec::new(alloc);
-    for (path, bytes) in contents {
-        files.push((Name::of(alloc, path)?, Vec::from_slice(alloc, bytes)?))?;
+const C_CONTENTS: [(&[u8], &[u8]); 3] = [
+    (b"a.c", b"/* \"x/a.pyx\":7"),
+    (b"b.c", b"/* \"a.pyx\":7 \xff"),
+    (b"m/a.pyx", b""),
+];
+
+/// A path and a module, and what line 2 of the map tells, for the calls of `contents` from 0 on, of which 4 fails.
+const TOLD: [(&str, Option<&str>, Option<(&str, u32)>); 7] = [
+    ("a.c", None, Some(("x/a.pyx", 7))),
+    ("a.c", Some("m/a.so"), Some(("m/a.pyx", 7))),
+    ("b.c", None, None),
+    ("c.c", None, None),
+    ("a.c", None, None),
+    ("a.c", None, Some(("x/a.pyx", 7))),
+    ("m/a.pyx", None, None),
+];
+
+fn tells(map: &Option<SourceMap>, want: Option<(&str, u32)>) -> bool {
+    match map {
+        Some(map) => map.lookup(2) == want,
+        None => want.is_none(),
     }
-    let failing = Vec::from_slice(alloc, calls)?;
-    Ok(MemorySources::new(alloc, files, failing))
 }
 
 #[test]
 fn c_files_have_maps(rt: HostRuntime) -> Result<(), Fail> {
-    let alloc = rt.alloc();
-    let contents = [
-        (b"a.c".as_slice(), b"/* \"x/a.pyx\":7".as_slice()),
-        (b"b.c", b"/* \"a.pyx\":7 \xff"),
-        (b"m/a.pyx", b""),
-    ];
-    let mut sources = sources_of(alloc, &contents, &[4])?;
-    // what line 2 of the map tells, for the calls of `contents` from 0 on
-    let cases = [
-        ("a.c", None, Some(("x/a.pyx", 7))),
-        ("a.c", Some("m/a.so"), Some(("m/a.pyx", 7))),
-        ("b.c", None, None),
-        ("c.c", None, None),
-        ("a.c", None, None),
-        ("a.c", None, Some(("x/a.pyx", 7))),
-        ("m/a.pyx", None, None),
-    ];
-    for (path, module, want) in cases {
-        let map = SourceMap::new(alloc, &mut sources, path, module)?;
-        let told = match &map {
-            Some(map) => map.lookup(2),
-            None => None,
-        };
-        assert_eq!(rt; told, want, "{path}");
+    let mut sources = sources_of(rt.alloc(), &C_CONTENTS, &[4])?;
+    for (path, module, want) in &TOLD {
+        let map = SourceMap::new(rt.alloc(), &mut sources, path, *module)?;
+        assert!(rt; tells(&map, *want), "{path}");
     }
     Ok(())
 }
@@ -191,20 +196,20 @@ const CYTHON_FILES: [(&str, &str, Option<&str>, &str); 9] = [
     ("x/b.pyx", "x/b.c", Some(""), "x/b.pyx"),
 ];
 
+const PYX_CONTENTS: [(&[u8], &[u8]); 4] = [
+    (b"d/a.pyx", b""),
+    (b"d/ba.pyx", b""),
+    (b"m/b.pyx", b""),
+    (b"c.pyx", b""),
+];
+
 #[test]
 fn cython_files_are_found(rt: HostRuntime) -> Result<(), Fail> {
-    let alloc = rt.alloc();
-    let contents = [
-        (b"d/a.pyx".as_slice(), b"".as_slice()),
-        (b"d/ba.pyx", b""),
-        (b"m/b.pyx", b""),
-        (b"c.pyx", b""),
-    ];
-    let mut sources = sources_of(alloc, &contents, &[])?;
-    for (name, path, module, want) in CYTHON_FILES {
-        let line = format!(in alloc; "/* \"{name}\":7")?;
-        let map = SourceMap::from_contents(alloc, &mut sources, line.as_str(), path, module)?;
-        assert_eq!(rt; map.lookup(2), Some((want, 7)), "{name} {path}");
+    let mut sources = sources_of(rt.alloc(), &PYX_CONTENTS, &[])?;
+    for (name, path, module, want) in &CYTHON_FILES {
+        let line = format!(in rt.alloc(); "/* \"{name}\":7")?;
+        let map = SourceMap::from_contents(rt.alloc(), &mut sources, line.as_str(), path, *module)?;
+        assert!(rt; map.lookup(2) == Some((*want, 7)), "{name} {path}");
     }
     Ok(())
 }
@@ -247,29 +252,51 @@ const FRAMES: [(&str, i32, &str, i32); 17] = [
     (".c", 2, "c.pyx", 9),
 ];
 
+const MARKS: &[u8] = b"\n/* \"a.pyx\":7\n/* \"b.pyx\":2147483647\n/* \"c.pyx\":2147483648";
+
+const MARK: &[u8] = b"/* \"c.pyx\":9";
+
+const MARKED: [(&[u8], &[u8]); 5] = [
+    (b"a.c", MARKS),
+    (b"a.py", MARKS),
+    (b"c.cpp", MARK),
+    (b"b.c", b"/* \"b.pyx\":7 \xff"),
+    (b".c", MARK),
+];
+
+/// A frame at a line of a file, translated.
+fn translated(
+    alloc: Global,
+    maps: &mut SourceMaps,
+    sources: &mut MemorySources,
+    file: &str,
+    line: i32,
+) -> Result<Frame, AllocError> {
+    let mut frame = frame_at(alloc, file, line)?;
+    maps.translate(sources, &mut frame)?;
+    Ok(frame)
+}
+
+fn is_at(frame: &Frame, file: &str, line: i32) -> bool {
+    frame.filename.as_str() == file && frame.line == line
+}
+
 #[test]
 fn frames_are_translated(rt: HostRuntime) -> Result<(), Fail> {
-    let alloc = rt.alloc();
-    let marks = b"\n/* \"a.pyx\":7\n/* \"b.pyx\":2147483647\n/* \"c.pyx\":2147483648".as_slice();
-    let mark = b"/* \"c.pyx\":9".as_slice();
-    let contents = [
-        (b"a.c".as_slice(), marks),
-        (b"a.py", marks),
-        (b"c.cpp", mark),
-        (b"b.c", b"/* \"b.pyx\":7 \xff"),
-        (b".c", mark),
-    ];
-    let mut sources = sources_of(alloc, &contents, &[1, 5])?;
-    let mut maps = SourceMaps::new(alloc);
-    for (file, line, want, number) in FRAMES {
-        let mut frame = frame_at(alloc, file, line)?;
-        maps.translate(&mut sources, &mut frame)?;
-        assert_eq!(rt; frame.filename.as_str(), want, "{file} {line}");
-        assert_eq!(rt; frame.line, number, "{file} {line}");
+    let mut sources = sources_of(rt.alloc(), &MARKED, &[1, 5])?;
+    let mut maps = SourceMaps::new(rt.alloc());
+    for (file, line, want, number) in &FRAMES {
+        let frame = translated(rt.alloc(), &mut maps, &mut sources, file, *line)?;
+        assert!(rt; is_at(&frame, want, *number), "{file} {line}");
     }
-    let mut frame = frame_at(alloc, "a.c", 3)?;
-    SourceMaps::new(alloc).translate(&mut NoSources, &mut frame)?;
-    assert_eq!(rt; frame.filename.as_str(), "a.c");
+    Ok(())
+}
+
+#[test]
+fn frames_without_sources_stay(rt: HostRuntime) -> Result<(), Fail> {
+    let mut frame = frame_at(rt.alloc(), "a.c", 3)?;
+    SourceMaps::new(rt.alloc()).translate(&mut NoSources, &mut frame)?;
+    assert!(rt; is_at(&frame, "a.c", 3));
     Ok(())
 }
 
@@ -277,23 +304,19 @@ fn frames_are_translated(rt: HostRuntime) -> Result<(), Fail> {
 /// failed is asked for again, in the place of its second frame.
 const C_FILES: [&str; 6] = ["a.c", "b.c", "c.cpp", "a.c", "b.c", "c.cpp"];
 
+const A_MARK: &[u8] = b"/* \"a.pyx\":7";
+
+const C_MARKED: [(&[u8], &[u8]); 3] = [(b"a.c", A_MARK), (b"b.c", A_MARK), (b"c.cpp", A_MARK)];
+
 /// Translates a frame of each file, where the call of this number fails: that frame stays, and no other does.
 fn translate_all_but(rt: &impl Abort, alloc: Global, failing: u64) -> Result<(), Fail> {
-    let mark = b"/* \"a.pyx\":7".as_slice();
-    let contents = [(b"a.c".as_slice(), mark), (b"b.c", mark), (b"c.cpp", mark)];
-    let mut sources = sources_of(alloc, &contents, &[failing])?;
+    let mut sources = sources_of(alloc, &C_MARKED, &[failing])?;
     let mut maps = SourceMaps::new(alloc);
     let mut call = 0_u64;
-    for file in C_FILES {
-        let mut frame = frame_at(alloc, file, 2)?;
-        maps.translate(&mut sources, &mut frame)?;
-        let (want, number) = if call == failing {
-            (file, 2)
-        } else {
-            ("a.pyx", 7)
-        };
-        assert_eq!(rt; frame.filename.as_str(), want, "{file} {failing}");
-        assert_eq!(rt; frame.line, number, "{file} {failing}");
+    for file in &C_FILES {
+        let frame = translated(alloc, &mut maps, &mut sources, file, 2)?;
+        let stays = is_at(&frame, file, 2);
+        assert!(rt; if call == failing { stays } else { is_at(&frame, "a.pyx", 7) }, "{file}");
         call = call.saturating_add(1);
     }
     Ok(())
@@ -302,8 +325,8 @@ fn translate_all_but(rt: &impl Abort, alloc: Global, failing: u64) -> Result<(),
 #[test]
 fn each_call_that_fails_leaves_its_frame_alone(rt: HostRuntime) -> Result<(), Fail> {
     // the last number is that of no call
-    for failing in [0, 1, 2, u64::MAX] {
-        translate_all_but(&rt, rt.alloc(), failing)?;
+    for failing in &[0, 1, 2, u64::MAX] {
+        translate_all_but(&rt, rt.alloc(), *failing)?;
     }
     Ok(())
 }

@@ -9,7 +9,7 @@ use image_memory::{CoreDump, Images, Mmap};
 use outside::MemorySink;
 use py_layout::{Layout, Layouts, Version};
 use py_process::Report;
-use py_stacks::{Addresses, Config};
+use py_stacks::{Addresses, Config, StackTrace};
 use std::alloc::Global;
 use std::marker::Brand;
 use std::sync::ledger::{Blank, Ledger};
@@ -64,15 +64,24 @@ fn reports_counted_or_not(rt: HostRuntime) -> Result<(), Fail> {
     Ok(())
 }
 
+fn core_dump(alloc: Global) -> Result<CoreDump, Fail> {
+    let bytes = core(alloc)?;
+    Ok(CoreDump::new(alloc, bytes)?)
+}
+
 /// The process of the core, opened.
-fn opened(alloc: Global) -> Result<PythonCoreDump, Fail> {
-    let core = CoreDump::new(alloc, core(alloc)?)?;
-    Ok(PythonCoreDump::new(alloc, core, &images(alloc)?, &layouts(alloc)?)?)
+fn opened(alloc: Global, images: &Images, layouts: &Layouts) -> Result<PythonCoreDump, Fail> {
+    let core = core_dump(alloc)?;
+    Ok(PythonCoreDump::new(alloc, core, images, layouts)?)
+}
+
+fn stack(python: &PythonCoreDump) -> Result<Vec<StackTrace>, Fail> {
+    Ok(python.get_stack(&Config::default())?)
 }
 
 /// How many threads its stacks have.
 fn stacked(python: &PythonCoreDump) -> Result<usize, Fail> {
-    Ok(python.get_stack(&Config::default())?.len())
+    Ok(stack(python)?.len())
 }
 
 /// How many threads its footprint has, and how many ranges.
@@ -83,26 +92,25 @@ fn walked(python: &PythonCoreDump) -> Result<(usize, usize), Fail> {
 
 /// What is printed of its stacks.
 fn printed(alloc: Global, python: &PythonCoreDump) -> Result<MemorySink, Fail> {
-    let config = Config::default();
-    let traces = python.get_stack(&config)?;
+    let traces = stack(python)?;
     let mut out = MemorySink::new(alloc, 100, Vec::new(alloc))?;
-    python.print_traces(&mut out, b"core", &traces, &config)?;
+    python.print_traces(&mut out, b"core", &traces, &Config::default())?;
     Ok(out)
 }
 
 #[test]
 fn a_process_that_is_opened(rt: HostRuntime) -> Result<(), Fail> {
-    let alloc = rt.alloc();
-    let python = opened(alloc)?;
+    let (images, layouts) = (images(rt.alloc())?, layouts(rt.alloc())?);
+    let python = opened(rt.alloc(), &images, &layouts)?;
     let (threads, ranges) = walked(&python)?;
     assert!(rt; stacked(&python)? == 1 && threads == 1 && ranges > 0);
-    assert_eq!(rt; printed(alloc, &python)?.bytes(), TEXT);
+    assert!(rt; printed(rt.alloc(), &python)?.bytes() == TEXT);
     Ok(())
 }
 
 /// The process of the core, by addresses that are handed in.
 fn opened_at(alloc: Global, addresses: Addresses) -> Result<PythonCoreDump, Fail> {
-    let core = CoreDump::new(alloc, core(alloc)?)?;
+    let core = core_dump(alloc)?;
     let version = Version::of_numbers(alloc, 3, 9, 0)?;
     let layouts = layouts(alloc)?;
     Ok(PythonCoreDump::with_addresses(alloc, core, &layouts, version, addresses)?)

@@ -14,26 +14,39 @@ fn said_within(alloc: Global, room: u32, parts: &[Part<'_>]) -> Result<MemorySin
     Ok(err)
 }
 
+/// Whether what was said on a stream with so much room is this.
+fn is_said(alloc: Global, room: u32, parts: &[Part<'_>], line: &[u8]) -> Result<bool, AllocError> {
+    let err = said_within(alloc, room, parts)?;
+    Ok(err.bytes() == line)
+}
+
 #[test]
-fn a_line_of_each_table_is_said_as_far_as_there_is_room(rt: HostRuntime) -> Result<(), Fail> {
-    let alloc = rt.alloc();
+fn a_fault_of_a_core_is_said(rt: HostRuntime) -> Result<(), Fail> {
     let (addr, len) = (0x7f00_abcd, 24);
-    let core = CoreError::UnreadableVersion { addr, len };
-    let err = said_within(alloc, 100, &core_parts(&core))?;
-    assert_eq!(rt;
-        err.bytes(),
-        b"p: version unreadable at 0x7f00abcd, 24 bytes\n".as_slice()
-    );
+    let error = CoreError::UnreadableVersion { addr, len };
+    let line = b"p: version unreadable at 0x7f00abcd, 24 bytes\n";
+    assert!(rt; is_said(rt.alloc(), 100, &core_parts(&error), line)?);
+    Ok(())
+}
+
+#[test]
+fn a_fault_of_layouts_is_said(rt: HostRuntime) -> Result<(), Fail> {
     let (first, second) = (0, 12);
-    let layouts = LayoutError::Clash { first, second };
-    let err = said_within(alloc, 100, &layout_parts(&layouts))?;
-    assert_eq!(rt;
-        err.bytes(),
-        b"p: layouts: tables 0 and 12 clash\n".as_slice()
-    );
-    let err = said_within(alloc, 100, &file_parts(b"core", FileFault::TooLong))?;
-    assert_eq!(rt; err.bytes(), b"p: file too long: core\n".as_slice());
-    let err = said_within(alloc, 5, &text_part("bad words"))?;
-    assert_eq!(rt; err.bytes(), b"p: ba".as_slice());
+    let error = LayoutError::Clash { first, second };
+    let line = b"p: layouts: tables 0 and 12 clash\n";
+    assert!(rt; is_said(rt.alloc(), 100, &layout_parts(&error), line)?);
+    Ok(())
+}
+
+#[test]
+fn a_fault_of_a_file_is_said(rt: HostRuntime) -> Result<(), Fail> {
+    let parts = file_parts(b"core", FileFault::TooLong);
+    assert!(rt; is_said(rt.alloc(), 100, &parts, b"p: file too long: core\n")?);
+    Ok(())
+}
+
+#[test]
+fn a_line_is_said_as_far_as_there_is_room(rt: HostRuntime) -> Result<(), Fail> {
+    assert!(rt; is_said(rt.alloc(), 5, &text_part("bad words"), b"p: ba")?);
     Ok(())
 }

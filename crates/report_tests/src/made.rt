@@ -49,16 +49,15 @@ fn push_halves(bytes: &mut Vec<u8>, halves: &[u32]) -> Result<(), AllocError> {
 /// and how many there are, the last of which is that of their names.
 fn push_header(
     bytes: &mut Vec<u8>,
-    program_headers: u8,
+    program_headers: u32,
     sections_at: u64,
-    sections: u8,
+    sections: u32,
 ) -> Result<(), AllocError> {
     bytes.extend_from_slice(b"\x7fELF\x02\x01\0\0\0\0\0\0\0\0\0\0")?;
-    bytes.extend_from_slice(&[0, 0, 62, 0, 0, 0, 0, 0])?;
-    push_words(bytes, &[0, 64, sections_at])?;
+    push_words(bytes, &[62 << 16, 0, 64, sections_at])?;
     let names = sections.saturating_sub(1);
-    bytes.extend_from_slice(&[0, 0, 0, 0, 64, 0, 56, 0])?;
-    bytes.extend_from_slice(&[program_headers, 0, 64, 0, sections, 0, names, 0])
+    push_halves(bytes, &[0, 56 << 16 | 64])?;
+    push_halves(bytes, &[64 << 16 | program_headers, names << 16 | sections])
 }
 
 /// A segment: its kind and flags, where its bytes are in the file, and where it is in memory.

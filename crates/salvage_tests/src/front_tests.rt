@@ -1,14 +1,17 @@
 //! Broken memories, written out by hand: how each chain ends, which interpreters are shown, and that whole chains are
 //! those of a report.
+use crate::made::{Words, piece, pieces_of};
 use elf64_core::{LOAD, Name, Segment};
 use image_memory::CoreMapRange;
-use process_memory::{Part, Piece};
+use process_memory::Part;
 use py_fields::Layout;
 use py_fronts::{
-    ChainEnd, FramesFront, Fronts, Standing, find_interpreters, get_fronts, get_threads_front,
+    ChainEnd, FoundInterpreters, FramesFront, Fronts, Standing, ThreadsFront, find_interpreters,
+    get_fronts, get_threads_front,
 };
-use py_process::{BinaryInfo, PythonProcessInfo, get_python_version};
+use py_process::{BinaryInfo, PythonProcessInfo};
 use py_stacks::{Asked, Config, LineNo, StackTrace, get_stack_traces};
+use py_version::Version;
 use std::alloc::{AllocError, Global};
 use std::collections::BTreeMap;
 use std::test::Fail;
@@ -58,7 +61,7 @@ const NO_NAME: u64 = 0x31c0;
 const NO_CODE: u64 = 0x3200;
 
 /// Codes, texts and frames.
-const WORDS: [(u64, &[u64]); 18] = [
+const WORDS: [Words<'static>; 18] = [
     (F, &[0, 0, 0, 3, FILE, F_NAME, 0, 0]),
     (G, &[0, 0, 0, 5, FILE, G_NAME, 0, 0]),
     (SHIM, &[0, 0, 0, 0, SHIM_FILE, F_NAME, 0, 0]),
@@ -108,23 +111,10 @@ const ASKED: Asked = Asked {
     locals: false,
 };
 
-fn piece(alloc: Global, start: u64, words: &[u64]) -> Result<Piece, AllocError> {
-    let mut bytes = Vec::new(alloc);
-    for word in words {
-        bytes.extend_from_slice(&word.to_le_bytes())?;
-    }
-    Ok(Piece { start, bytes })
-}
-
 /// A memory of some records, with the codes, texts and frames.
-fn memory(alloc: Global, records: &[(u64, &[u64])]) -> Result<Part, AllocError> {
-    let mut pieces = Vec::new(alloc);
-    for (start, words) in records {
-        pieces.push(piece(alloc, *start, words)?)?;
-    }
-    for (start, words) in &WORDS {
-        pieces.push(piece(alloc, *start, words)?)?;
-    }
+fn memory(alloc: Global, records: &[Words<'_>]) -> Result<Part, AllocError> {
+    let mut pieces = pieces_of(alloc, records)?;
+    pieces.append(&mut pieces_of(alloc, &WORDS)?)?;
     Ok(Part::of(alloc, pieces))
 }
 
@@ -146,33 +136,29 @@ fn is_shown(frames: &FramesFront, row: &Shown) -> bool {
         && frames.end == *end
 }
 
+/// The front of the threads from a first one on, and how many members may be met behind it.
+fn front_of(
+    alloc: Global,
+    part: &mut Part,
+    head: u64,
+    left: u64,
+) -> Result<(ThreadsFront, u64), Fail> {
+    let (mut left, layout) = (left, Layout::sample());
+    let front = get_threads_front(alloc, part, &layout, ASKED, 1, INTERPRETER, head, &mut left)?;
+    Ok((front, left))
+}
+
 #[test]
 fn frames_end_as_their_chain_does(rt: HostRuntime) -> Result<(), Fail> {
-    let alloc = rt.alloc();
-    let layout = Layout::sample();
     for row in &FRAMES {
         let thread = [0, 0, INTERPRETER, row.0, 7, 0, 0, 0];
-        let mut part = memory(alloc, &[(THREAD, &thread)])?;
-        let mut left = row.1;
-        let front = get_threads_front(
-            alloc,
-            &mut part,
-            &layout,
-            ASKED,
-            1,
-            INTERPRETER,
-            THREAD,
-            &mut left,
-        )?;
-        assert_eq!(rt; (left, front.threads.len()), (row.1 - row.5, 1));
-        assert!(rt;
-            front
-                .threads
-                .iter()
-                .all(|thread| is_shown(&thread.frames, row)),
-            "at {:#x}",
-            row.0
-        );
+        let mut part = memory(rt.alloc(), &[(THREAD, &thread)])?;
+        let (front, left) = front_of(rt.alloc(), &mut part, THREAD, row.1)?;
+        assert!(rt; left.saturating_add(row.5) == row.1, "at {:#x}", row.0);
+        let [thread] = front.threads.as_slice() else {
+            return Err(Fail::from("another number of threads"));
+        };
+        assert!(rt; is_shown(&thread.frames, row), "at {:#x}", row.0);
     }
     Ok(())
 }
@@ -188,7 +174,7 @@ const NEXT_ITSELF: u64 = 0x2140;
 
 const NEXT_FRAME: u64 = 0x2180;
 
-const THREADS: [(u64, &[u64]); 7] = [
+const THREADS: [Words<'static>; 7] = [
     (THREAD, &[0, THREAD + 64, INTERPRETER, WHOLE, 7, 0, 0, 0]),
     (THREAD + 64, &[0, 0, INTERPRETER, WHOLE + 64, 8, 0, 0, 0]),
     (NEXT_LOST, &[0, LOST, INTERPRETER, 0, 9, 0, 0, 0]),
@@ -211,26 +197,10 @@ const CHAINS: [(u64, usize, ChainEnd); 7] = [
 
 #[test]
 fn threads_end_as_their_chain_does(rt: HostRuntime) -> Result<(), Fail> {
-    let alloc = rt.alloc();
-    let layout = Layout::sample();
-    let mut part = memory(alloc, &THREADS)?;
-    for (head, count, end) in CHAINS {
-        let mut left = 9;
-        let front = get_threads_front(
-            alloc,
-            &mut part,
-            &layout,
-            ASKED,
-            1,
-            INTERPRETER,
-            head,
-            &mut left,
-        )?;
-        assert_eq!(rt;
-            (front.threads.len(), front.end),
-            (count, end),
-            "at {head:#x}"
-        );
+    let mut part = memory(rt.alloc(), &THREADS)?;
+    for (head, count, end) in &CHAINS {
+        let (front, _) = front_of(rt.alloc(), &mut part, *head, 9)?;
+        assert!(rt; front.threads.len() == *count && front.end == *end, "at {head:#x}");
     }
     Ok(())
 }
@@ -256,7 +226,7 @@ const IDLER: u64 = 0x1900;
 
 const RING: u64 = 0x1a00;
 
-const INTERPRETERS: [(u64, &[u64]); 15] = [
+const INTERPRETERS: [Words<'static>; 15] = [
     (INTERPRETER, &[LISTED, THREAD]),
     (THREAD, &[0, 0, INTERPRETER, WHOLE, 7, 0, 0, 0]),
     (TWIN, &[0, THREAD]),
@@ -348,25 +318,41 @@ fn info(
     })
 }
 
+/// The interpreters of a process whose symbols have this name.
+fn found(
+    alloc: Global,
+    part: &mut Part,
+    symbol: &[u8],
+    runtime: &[u64],
+    bss: &[u64],
+) -> Result<FoundInterpreters, Fail> {
+    let info = info(alloc, symbol, runtime, bss)?;
+    let version = Version::of_numbers(alloc, 3, 9, 0)?;
+    Ok(find_interpreters(alloc, &info, part, &version, &Layout::sample())?)
+}
+
+fn are_found(finds: &FoundInterpreters, wanted: &[(u64, bool)]) -> bool {
+    let same = finds.found.iter().map(|one| (one.address, one.searched));
+    same.eq(wanted.iter().copied()) && !finds.more
+}
+
+/// The memory of the interpreters, and of both sections.
+fn searched(alloc: Global, runtime: &[u64], bss: &[u64]) -> Result<Part, AllocError> {
+    let mut pieces = pieces_of(alloc, &INTERPRETERS)?;
+    pieces.push(piece(alloc, RUNTIME, runtime)?)?;
+    pieces.push(piece(alloc, BSS, bss)?)?;
+    Ok(Part::of(alloc, pieces))
+}
+
 #[test]
 fn interpreters_are_found_in_order(rt: HostRuntime) -> Result<(), Fail> {
-    let alloc = rt.alloc();
-    let layout = Layout::sample();
     for (runtime, bss, wanted) in &SEARCHES {
-        let mut records = Vec::new(alloc);
-        records.extend_from_slice(&INTERPRETERS)?;
-        records.push((RUNTIME, *runtime))?;
-        records.push((BSS, *bss))?;
-        let mut part = memory(alloc, &records)?;
+        let mut part = searched(rt.alloc(), runtime, bss)?;
+        let named = found(rt.alloc(), &mut part, b"_PyRuntime", runtime, bss)?;
+        assert!(rt; are_found(&named, wanted));
         // the section leads to the head, too
-        for symbol in [b"_PyRuntime".as_slice(), b"no symbol"] {
-            let info = info(alloc, symbol, runtime, bss)?;
-            let version = get_python_version(alloc, &info, &mut part)?;
-            let finds = find_interpreters(alloc, &info, &mut part, &version, &layout)?;
-            let same = finds.found.iter().map(|one| (one.address, one.searched));
-            assert!(rt; same.eq(wanted.iter().copied()));
-            assert!(rt; !finds.more);
-        }
+        let nameless = found(rt.alloc(), &mut part, b"no symbol", runtime, bss)?;
+        assert!(rt; are_found(&nameless, wanted));
     }
     Ok(())
 }
@@ -394,47 +380,60 @@ fn are_fronts_of(fronts: &Fronts, traces: &[StackTrace]) -> bool {
         })
 }
 
-#[test]
-fn whole_fronts_are_a_report(rt: HostRuntime) -> Result<(), Fail> {
-    let alloc = rt.alloc();
-    let layout = Layout::sample();
-    let mut records = Vec::new(alloc);
-    records.extend_from_slice(&THREADS)?;
-    records.push((INTERPRETER, &[0, THREAD]))?;
-    records.push((RUNTIME, &[INTERPRETER]))?;
-    let mut part = memory(alloc, &records)?;
+/// A memory whose interpreter has two threads.
+fn whole(alloc: Global) -> Result<Part, AllocError> {
+    let mut pieces = pieces_of(alloc, &THREADS)?;
+    pieces.push(piece(alloc, INTERPRETER, &[0, THREAD])?)?;
+    pieces.push(piece(alloc, RUNTIME, &[INTERPRETER])?)?;
+    pieces.append(&mut pieces_of(alloc, &WORDS)?)?;
+    Ok(Part::of(alloc, pieces))
+}
+
+fn fronts_of(alloc: Global, part: &mut Part) -> Result<Fronts, Fail> {
     let info = info(alloc, b"_PyRuntime", &[INTERPRETER], &[])?;
-    let version = get_python_version(alloc, &info, &mut part)?;
-    let fronts = get_fronts(alloc, &info, &mut part, &version, &layout, ASKED, 9)?;
+    let version = Version::of_numbers(alloc, 3, 9, 0)?;
+    Ok(get_fronts(alloc, &info, part, &version, &Layout::sample(), ASKED, 9)?)
+}
+
+fn traces_of(alloc: Global, part: &mut Part) -> Result<Vec<StackTrace>, Fail> {
     let config = Config {
         lineno: LineNo::First,
         ..Config::default()
     };
-    let traces = get_stack_traces(alloc, INTERPRETER, &mut part, &layout, 0, Some(&config))?;
+    let layout = Layout::sample();
+    Ok(get_stack_traces(alloc, INTERPRETER, part, &layout, 0, Some(&config))?)
+}
+
+#[test]
+fn whole_fronts_are_a_report(rt: HostRuntime) -> Result<(), Fail> {
+    let mut part = whole(rt.alloc())?;
+    let fronts = fronts_of(rt.alloc(), &mut part)?;
+    let traces = traces_of(rt.alloc(), &mut part)?;
     assert!(rt; traces.len() == 2 && are_fronts_of(&fronts, &traces));
     Ok(())
 }
 
 /// So many interpreters, of which the first word of each names the next one.
+fn ring_of(alloc: Global, count: u64) -> Result<Part, AllocError> {
+    let mut pieces = Vec::new(alloc);
+    let mut addr = INTERPRETER;
+    for number in 0..count {
+        let (thread, after) = (addr.saturating_add(0x40), addr.saturating_add(0x100));
+        let next = if number.saturating_add(1) < count { after } else { 0 };
+        pieces.push(piece(alloc, addr, &[next, thread])?)?;
+        pieces.push(piece(alloc, thread, &[0, 0, addr, 0, 7, 0, 0, 0])?)?;
+        addr = after;
+    }
+    pieces.push(piece(alloc, RUNTIME, &[INTERPRETER])?)?;
+    Ok(Part::of(alloc, pieces))
+}
+
 #[test]
 fn at_most_sixteen_are_shown(rt: HostRuntime) -> Result<(), Fail> {
-    let alloc = rt.alloc();
-    let layout = Layout::sample();
-    for (count, more) in [(16, false), (17, true)] {
-        let mut pieces = Vec::new(alloc);
-        for number in 0..count {
-            let addr = INTERPRETER + number * 0x100;
-            let thread = addr + 0x40;
-            let next = if number + 1 < count { addr + 0x100 } else { 0 };
-            pieces.push(piece(alloc, addr, &[next, thread])?)?;
-            pieces.push(piece(alloc, thread, &[0, 0, addr, 0, 7, 0, 0, 0])?)?;
-        }
-        pieces.push(piece(alloc, RUNTIME, &[INTERPRETER])?)?;
-        let mut part = Part::of(alloc, pieces);
-        let info = info(alloc, b"_PyRuntime", &[INTERPRETER], &[])?;
-        let version = get_python_version(alloc, &info, &mut part)?;
-        let finds = find_interpreters(alloc, &info, &mut part, &version, &layout)?;
-        assert_eq!(rt; (finds.found.len(), finds.more), (16, more));
+    for (count, more) in &[(16, false), (17, true)] {
+        let mut part = ring_of(rt.alloc(), *count)?;
+        let finds = found(rt.alloc(), &mut part, b"_PyRuntime", &[INTERPRETER], &[])?;
+        assert!(rt; finds.found.len() == 16 && finds.more == *more);
     }
     Ok(())
 }

@@ -4,6 +4,8 @@
 #[cfg(test)]
 mod front_tests;
 #[cfg(test)]
+mod made;
+#[cfg(test)]
 mod mark_tests;
 #[cfg(test)]
 mod text_tests;

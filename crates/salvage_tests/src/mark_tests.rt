@@ -1,10 +1,12 @@
 //! A process of one interpreter with two threads, the second of which holds the lock and got the signal.
+use crate::made::{Words, pieces_of};
 use elf64_core::{LOAD, Machine, Name, Segment};
 use image_memory::CoreMapRange;
-use process_memory::{Part, Piece};
+use process_memory::Part;
 use py_fields::Layout;
-use py_process::{BinaryInfo, PythonProcessInfo, get_python_version};
+use py_process::{BinaryInfo, PythonProcessInfo};
 use py_stacks::{Asked, LineNo};
+use py_version::Version;
 use salvage_marks::{
     Crash, LockState, Salvaged, crash_of, crashed_at, first_crashed, holds_lock, is_crashed,
     lock_state, salvage,
@@ -25,22 +27,16 @@ const RUNTIME: u64 = 0x8000;
 
 const SECTION: u64 = 0x7000;
 
-fn piece(alloc: Global, start: u64, words: &[u64]) -> Result<Piece, AllocError> {
-    let mut bytes = Vec::new(alloc);
-    for word in words {
-        bytes.extend_from_slice(&word.to_le_bytes())?;
-    }
-    Ok(Piece { start, bytes })
-}
+const MEMORY: [Words<'static>; 5] = [
+    (INTERPRETER, &[0, FIRST]),
+    (FIRST, &[0, SECOND, INTERPRETER, 0, 7, 0, 0, 0]),
+    (SECOND, &[0, 0, INTERPRETER, 0, 8, 0, 0, 0]),
+    (SECTION, &[INTERPRETER]),
+    (RUNTIME, &[SECOND; 512]),
+];
 
 fn memory(alloc: Global) -> Result<Part, AllocError> {
-    let pieces = vec![in alloc;
-        piece(alloc, INTERPRETER, &[0, FIRST])?,
-        piece(alloc, FIRST, &[0, SECOND, INTERPRETER, 0, 7, 0, 0, 0])?,
-        piece(alloc, SECOND, &[0, 0, INTERPRETER, 0, 8, 0, 0, 0])?,
-        piece(alloc, SECTION, &[INTERPRETER])?,
-        piece(alloc, RUNTIME, &[SECOND; 512])?,
-    ]?;
+    let pieces = pieces_of(alloc, &MEMORY)?;
     Ok(Part::of(alloc, pieces))
 }
 
@@ -95,36 +91,50 @@ fn are_marked(salvaged: &Salvaged) -> bool {
         && first_crashed(salvaged.crash, &salvaged.interpreters) == Some(0)
 }
 
-#[test]
-fn threads_are_marked(rt: HostRuntime) -> Result<(), Fail> {
-    let alloc = rt.alloc();
-    let layout = Layout::sample();
-    let machine = Machine::X86_64;
-    let mut part = memory(alloc)?;
-    let known = info(alloc, RUNTIME)?;
-    let version = get_python_version(alloc, &known, &mut part)?;
-    let asked = Asked {
-        lineno: LineNo::NoLine,
-        locals: false,
-    };
-    // The signal at 12, the thread at 32, and the thread pointer at 280.
+/// A status record: the signal at 12, the thread at 32, and the thread pointer at 280.
+fn status() -> [u8; 288] {
     let mut status = [0; 288];
     status[12] = 6;
     status[32] = 99;
     status[280] = 8;
-    let crash = crash_of(machine, &status);
-    assert_eq!(rt;
-        crash_of(Machine::Aarch64, &status),
-        Some(Crash {
-            native_id: Some(99),
-            thread_pointer: None,
-        })
-    );
-    let salvaged = salvage(
-        alloc, &known, &mut part, machine, &version, &layout, asked, 9, crash,
-    )?;
-    assert!(rt; are_marked(&salvaged));
-    let lost = info(alloc, 0x9_0000)?;
+    status
+}
+
+#[test]
+fn a_status_of_another_machine_has_no_thread_pointer(rt: HostRuntime) {
+    let want = Crash {
+        native_id: Some(99),
+        thread_pointer: None,
+    };
+    assert!(rt; crash_of(Machine::Aarch64, &status()) == Some(want));
+}
+
+const ASKED: Asked = Asked {
+    lineno: LineNo::NoLine,
+    locals: false,
+};
+
+fn salvaged(alloc: Global) -> Result<Salvaged, Fail> {
+    let (mut part, known) = (memory(alloc)?, info(alloc, RUNTIME)?);
+    let (machine, layout) = (Machine::X86_64, Layout::sample());
+    let version = Version::of_numbers(alloc, 3, 9, 0)?;
+    let crash = crash_of(machine, &status());
+    Ok(salvage(
+        alloc, &known, &mut part, machine, &version, &layout, ASKED, 9, crash,
+    )?)
+}
+
+#[test]
+fn threads_are_marked(rt: HostRuntime) -> Result<(), Fail> {
+    assert!(rt; are_marked(&salvaged(rt.alloc())?));
+    Ok(())
+}
+
+#[test]
+fn a_lock_that_is_lost_is_unreadable(rt: HostRuntime) -> Result<(), Fail> {
+    let (mut part, lost) = (memory(rt.alloc())?, info(rt.alloc(), 0x9_0000)?);
+    let (machine, layout) = (Machine::X86_64, Layout::sample());
+    let version = Version::of_numbers(rt.alloc(), 3, 9, 0)?;
     let lock = lock_state(INTERPRETER, &lost, &mut part, machine, &version, &layout)?;
     assert!(rt; matches!(lock, LockState::Unreadable { len: 8, .. }));
     Ok(())

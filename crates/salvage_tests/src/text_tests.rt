@@ -105,43 +105,46 @@ Interpreter 0x2000 (found by search)
 ... more than 16 interpreters
 ";
 
-#[test]
-fn what_is_left_is_shown(rt: HostRuntime) -> Result<(), Fail> {
-    let alloc = rt.alloc();
-    let one = InterpreterFront {
+fn first(alloc: Global) -> Result<SalvagedInterpreter, AllocError> {
+    let front = InterpreterFront {
         address: 0x1000,
         searched: false,
         threads: threads(alloc)?,
     };
-    let other = InterpreterFront {
+    let lock = LockState::Holder(0x7f00);
+    Ok(SalvagedInterpreter { front, lock })
+}
+
+fn second(alloc: Global) -> SalvagedInterpreter {
+    let threads = ThreadsFront {
+        threads: Vec::new(alloc),
+        end: ChainEnd::Cut,
+    };
+    let front = InterpreterFront {
         address: 0x2000,
         searched: true,
-        threads: ThreadsFront {
-            threads: Vec::new(alloc),
-            end: ChainEnd::Cut,
-        },
+        threads,
     };
-    let one = SalvagedInterpreter {
-        front: one,
-        lock: LockState::Holder(0x7f00),
+    let lock = LockState::Unreadable {
+        addr: 0x2030,
+        len: 8,
     };
-    let other = SalvagedInterpreter {
-        front: other,
-        lock: LockState::Unreadable {
-            addr: 0x2030,
-            len: 8,
-        },
-    };
+    SalvagedInterpreter { front, lock }
+}
+
+#[test]
+fn what_is_left_is_shown(rt: HostRuntime) -> Result<(), Fail> {
+    let alloc = rt.alloc();
     let crash = Crash {
         native_id: Some(11),
         thread_pointer: None,
     };
     let salvaged = Salvaged {
-        interpreters: vec![in alloc; one, other]?,
+        interpreters: vec![in alloc; first(alloc)?, second(alloc)]?,
         more: true,
         crash: Some(crash),
     };
     let text = salvaged_text(alloc, &salvaged)?;
-    assert_eq!(rt; text.as_str(), TEXT);
+    assert!(rt; text.as_str() == TEXT);
     Ok(())
 }

@@ -13,8 +13,8 @@ fn printed(
 ) -> Result<Vec<u8>, Fail> {
     let ran = run_trial(alloc, trial)?;
     let words = trial.words;
-    assert_eq!(rt; ran.status, 0, "{words}");
-    assert_eq!(rt; ran.out.bytes().len(), length, "{words}");
+    assert!(rt; ran.status == 0, "{words}");
+    assert!(rt; ran.out.bytes().len() == length, "{words}");
     assert!(rt; ran.err.bytes().is_empty(), "{words}");
     Ok(ran.out.bytes().to_vec(alloc)?)
 }
@@ -185,8 +185,8 @@ fn fail_line(
 
 #[test]
 fn a_line_that_fails_changes_no_status(rt: HostRuntime) -> Result<(), Fail> {
-    for (words, status, line) in LINES {
-        fail_line(&rt, rt.alloc(), words, status, line)?;
+    for (words, status, line) in &LINES {
+        fail_line(&rt, rt.alloc(), words, *status, line)?;
     }
     Ok(())
 }

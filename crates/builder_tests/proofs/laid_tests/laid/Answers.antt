@@ -1,7 +1,7 @@
 use Rattle.std.proofs.Common.{subst}
 use Rattle.memory_builder.specs.Mirror.{program_in}
 use Rattle.memory_builder.specs.Validity.{IsValidProgram}
-use Rattle.builder_tests.proofs.laid_tests.read_back.Goals as goal
+use Rattle.builder_tests.proofs.laid_tests.laid.Goals as goal
 
 pub objects_size-requires-clause-valid : goal.objects_size-requires-clause-valid
 objects_size-requires-clause-valid c =
