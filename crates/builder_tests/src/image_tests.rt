@@ -89,7 +89,10 @@ fn versions_without_a_number_are_uncovered(rt: HostRuntime) -> Result<(), Fail> 
     for (minor, patch, flags) in &UNCOVERED {
         let version = version(rt.alloc(), *minor, *patch, flags)?;
         let answer = admit(rt.alloc(), &program, &layout, &version, Machine::X86_64);
-        assert!(rt; answer == Err(BuildError::Uncovered), "3.{minor}.{patch}{flags}");
+        assert!(rt;
+            answer == Err(BuildError::Uncovered),
+            "3.{minor}.{patch}{flags}"
+        );
     }
     Ok(())
 }
@@ -117,7 +120,13 @@ fn built(alloc: Global) -> Result<Built, Fail> {
     let mut program = small(alloc, 32512, "a.py")?;
     program.owner = Some(0);
     let version = version(alloc, 9, 0, "")?;
-    Ok(build(alloc, &program, &Layout::sample(), &version, Machine::X86_64)?)
+    Ok(build(
+        alloc,
+        &program,
+        &Layout::sample(),
+        &version,
+        Machine::X86_64,
+    )?)
 }
 
 #[test]

@@ -41,10 +41,7 @@ fn small(alloc: Global) -> Result<Program, Fail> {
 }
 
 fn is_frame(frame: &Frame) -> bool {
-    frame.name.as_str() == "f"
-        && frame.line == 5
-        && frame.is_shim_entry
-        && frame.locals.is_some()
+    frame.name.as_str() == "f" && frame.line == 5 && frame.is_shim_entry && frame.locals.is_some()
 }
 
 fn is_thread(thread: &StackTrace) -> bool {

@@ -148,7 +148,9 @@ fn samples_are_read(rt: HostRuntime) -> Result<(), Fail> {
 fn the_layout_of_another_version_is_read(rt: HostRuntime) -> Result<(), Fail> {
     let layouts = both(rt.alloc())?;
     let version = Version::of_numbers(rt.alloc(), 3, 12, 0)?;
-    let native_id = layouts.choose(&version).map(|layout| layout.thread.native_id);
+    let native_id = layouts
+        .choose(&version)
+        .map(|layout| layout.thread.native_id);
     assert!(rt; native_id == Some(Some(40)));
     Ok(())
 }

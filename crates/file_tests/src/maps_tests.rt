@@ -182,7 +182,10 @@ fn lines_that_are_read(rt: HostRuntime) -> Result<(), Fail> {
     for (line, want) in &READ {
         let mut entries = parse_file(rt.alloc(), line, u32::MAX);
         let entry = shown_answer(rt.alloc(), entries.next())?;
-        assert!(rt; entry.as_str() == *want && entries.next().is_none(), "{want}");
+        assert!(rt;
+            entry.as_str() == *want && entries.next().is_none(),
+            "{want}"
+        );
     }
     assert!(rt; parse_file(rt.alloc(), b"", 7).next().is_none());
     Ok(())

@@ -4,7 +4,8 @@ use elf64_core::Name;
 use image_memory::{Images, Mmap};
 use maps_text::{EntryPath, FilteredEntries, MapsEntry, PathName, Perm, parse_file};
 use normalize_core::{
-    FileOffset, NormalizeError, NormalizeOpts, Normalizer, Reason, UserMeta, UserOutput, file_offset, in_order,
+    FileOffset, NormalizeError, NormalizeOpts, Normalizer, Reason, UserMeta, UserOutput,
+    file_offset, in_order,
 };
 use std::alloc::{AllocError, Global};
 use std::test::Fail;

@@ -99,7 +99,12 @@ fn add_records(area: &mut Vec<u8>, signal: i16, pid: i32) -> Result<(), AllocErr
 }
 
 /// Adds a table of two files, of a page each.
-fn add_files(alloc: Global, area: &mut Vec<u8>, second: u64, names: &[u8]) -> Result<(), AllocError> {
+fn add_files(
+    alloc: Global,
+    area: &mut Vec<u8>,
+    second: u64,
+    names: &[u8],
+) -> Result<(), AllocError> {
     let entries = [
         (0x40_0000, 0x40_1000, 0),
         (second, second.saturating_add(0x1000), 0),
@@ -157,8 +162,14 @@ fn is_last(process: &elf_prpsinfo) -> bool {
 #[test]
 fn each_status_and_the_last_process_count(rt: HostRuntime) -> Result<(), Fail> {
     let core = noted_core(rt.alloc())?;
-    let first = core.status().first().map(|status| (status.pr_cursig, status.pr_pid));
-    let last = core.status().last().map(|status| (status.pr_cursig, status.pr_pid));
+    let first = core
+        .status()
+        .first()
+        .map(|status| (status.pr_cursig, status.pr_pid));
+    let last = core
+        .status()
+        .last()
+        .map(|status| (status.pr_cursig, status.pr_pid));
     assert!(rt; core.status().len() == 2 && first == Some((11, 7)) && last == Some((-1, -2)));
     assert!(rt; core.psinfo().is_some_and(is_last));
     Ok(())

@@ -8,7 +8,8 @@ pub(crate) type Row = (u32, u32, u64, u64, u64, u64);
 pub(crate) const FILES: u32 = 0x46494c45;
 
 /// The header of a file for x86-64 whose program headers are behind it, up to their number.
-const HEADER: &[u8] = b"\x7fELF\x02\x01\0\0\0\0\0\0\0\0\0\0\0\0>\0\0\0\0\0\0\0\0\0\0\0\0\0@\0\0\0\0\0\0\0\0\0\0\0\0\0\0\0\0\0\0\0\0\08\0";
+const HEADER: &[u8] =
+    b"\x7fELF\x02\x01\0\0\0\0\0\0\0\0\0\0\0\0>\0\0\0\0\0\0\0\0\0\0\0\0\0@\0\0\0\0\0\0\0\0\0\0\0\0\0\0\0\0\0\0\0\0\08\0";
 
 fn push_words(bytes: &mut Vec<u8>, words: &[u64]) -> Result<(), AllocError> {
     for word in words {

@@ -182,7 +182,13 @@ fn maps(alloc: Global, past: u64) -> Result<Vec<CoreMapRange>, AllocError> {
 /// Whether a table says of the addresses around a map what the maps say.
 fn is_alike(table: &MapTable, maps: &Vec<CoreMapRange>, start: u64, size: u64) -> bool {
     let end = start.saturating_add(size);
-    for addr in &[start.saturating_sub(1), start, end, end.saturating_sub(1), u64::MAX] {
+    for addr in &[
+        start.saturating_sub(1),
+        start,
+        end,
+        end.saturating_sub(1),
+        u64::MAX,
+    ] {
         if table.contains_addr(*addr) != maps.contains_addr(*addr) {
             return false;
         }

@@ -108,7 +108,10 @@ fn is_record<P: ProcessMemory>(alloc: Global, memory: &mut P, row: &Row) -> bool
 }
 
 fn is_wide_record<P: ProcessMemory>(alloc: Global, memory: &mut P, row: &Row) -> bool {
-    is_copy(&record_wide(alloc, memory, u128::from(row.0), u64::from(row.1)), row)
+    is_copy(
+        &record_wide(alloc, memory, u128::from(row.0), u64::from(row.1)),
+        row,
+    )
 }
 
 /// Reads each of the ranges in five ways.

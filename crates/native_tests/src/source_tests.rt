@@ -87,7 +87,10 @@ fn sources_are_found(rt: HostRuntime) -> Result<(), Fail> {
     let mut sources = sources_of(rt.alloc(), &FILES, &[])?;
     for (filename, modulename, path) in &FOUND {
         let found = resolve_filename(rt.alloc(), &mut sources, filename, modulename)?;
-        assert!(rt; found.as_ref().map(|found| found.as_str()) == *path, "{filename}");
+        assert!(rt;
+            found.as_ref().map(|found| found.as_str()) == *path,
+            "{filename}"
+        );
     }
     Ok(())
 }
@@ -316,7 +319,14 @@ fn translate_all_but(rt: &impl Abort, alloc: Global, failing: u64) -> Result<(),
     for file in &C_FILES {
         let frame = translated(alloc, &mut maps, &mut sources, file, 2)?;
         let stays = is_at(&frame, file, 2);
-        assert!(rt; if call == failing { stays } else { is_at(&frame, "a.pyx", 7) }, "{file}");
+        assert!(rt;
+            if call == failing {
+                stays
+            } else {
+                is_at(&frame, "a.pyx", 7)
+            },
+            "{file}"
+        );
         call = call.saturating_add(1);
     }
     Ok(())

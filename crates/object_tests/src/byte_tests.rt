@@ -13,7 +13,9 @@ const OBJECT: u64 = 0x1000;
 /// An object that states a length, of which `held` bytes are in memory.
 fn object(alloc: Global, length: u64, held: usize) -> Result<Part, AllocError> {
     let mut piece = piece(alloc, OBJECT, &[0, 0, length, 0])?;
-    piece.bytes.extend_from_slice(&[10, 20, 30, 40, 50, 70, 80])?;
+    piece
+        .bytes
+        .extend_from_slice(&[10, 20, 30, 40, 50, 70, 80])?;
     piece.bytes.truncate(held);
     Ok(Part::of(alloc, vec![in alloc; piece]?))
 }
@@ -23,11 +25,7 @@ fn read(alloc: Global, mut part: Part) -> Result<Vec<u8>, ObjectError> {
 }
 
 /// Lengths, and the bytes.
-const READ: [(u64, &[u8]); 3] = [
-    (7, &[10, 20, 30, 40, 50, 70, 80]),
-    (2, &[10, 20]),
-    (0, &[]),
-];
+const READ: [(u64, &[u8]); 3] = [(7, &[10, 20, 30, 40, 50, 70, 80]), (2, &[10, 20]), (0, &[])];
 
 #[test]
 fn bytes_are_read(rt: HostRuntime) -> Result<(), Fail> {

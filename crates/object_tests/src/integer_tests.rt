@@ -42,7 +42,10 @@ fn integers_are_read(rt: HostRuntime) -> Result<(), Fail> {
         };
         assert!(rt; is_sound(&layout));
         let mut part = object(rt.alloc(), *count, *digits)?;
-        assert!(rt; copy_long(&mut part, &layout, OBJECT) == Ok(*want), "{count}");
+        assert!(rt;
+            copy_long(&mut part, &layout, OBJECT) == Ok(*want),
+            "{count}"
+        );
     }
     Ok(())
 }

@@ -204,11 +204,36 @@ const ROWS: [Row; 6] = [
 
 /// The keys of the five dicts, in order.
 const DICT_WORDS: [u64; 30] = [
-    0, 0, 0, 0, KEYS, 0,
-    0, 0, 0, 0, KEYS + 256, 0,
-    0, 0, 0, 0, KEYS + 512, 0,
-    0, 0, 0, 0, KEYS + 768, 0,
-    0, 0, 0, 0, KEYS + 1024, 0,
+    0,
+    0,
+    0,
+    0,
+    KEYS,
+    0,
+    0,
+    0,
+    0,
+    0,
+    KEYS + 256,
+    0,
+    0,
+    0,
+    0,
+    0,
+    KEYS + 512,
+    0,
+    0,
+    0,
+    0,
+    0,
+    KEYS + 768,
+    0,
+    0,
+    0,
+    0,
+    0,
+    KEYS + 1024,
+    0,
 ];
 
 /// What is the same in each row.
@@ -219,9 +244,34 @@ const SHARED: [Words<'static>; 12] = [
     (FIRST, &[0, KLASS, DICTS + 144, 0]),
     (SECOND, &[0, KLASS, DICTS + 192, 0]),
     (DICTS, &DICT_WORDS),
-    (KEYS + 256, &[0, 8, 0, 0, 3, 0, 0, 0, 0, 0, SYS, 0, 0, ACTIVE, DICTS + 96]),
-    (KEYS + 768, &[0, 8, 0, 0, 3, 0, 0, 0, 0, 0, NAME, TEXTS + 288, 0, NAME, SYS]),
-    (KEYS + 1024, &[0, 8, 0, 0, 3, 0, 0, 0, 0, 0, SYS, SYS, 0, NAME, TEXTS + 360]),
+    (
+        KEYS + 256,
+        &[0, 8, 0, 0, 3, 0, 0, 0, 0, 0, SYS, 0, 0, ACTIVE, DICTS + 96],
+    ),
+    (
+        KEYS + 768,
+        &[
+            0,
+            8,
+            0,
+            0,
+            3,
+            0,
+            0,
+            0,
+            0,
+            0,
+            NAME,
+            TEXTS + 288,
+            0,
+            NAME,
+            SYS,
+        ],
+    ),
+    (
+        KEYS + 1024,
+        &[0, 8, 0, 0, 3, 0, 0, 0, 0, 0, SYS, SYS, 0, NAME, TEXTS + 360],
+    ),
     (TEXTS, &TEXT_WORDS),
     (NUMBERS, &NUMBER_WORDS),
     (LONG, &[0, 0, 5000, 0, 0, 0, 0, 0, 0]),
@@ -288,8 +338,12 @@ fn slots(alloc: Global, used: u64, bytes: usize) -> Result<Part, AllocError> {
 #[test]
 fn at_most_65536_slots_are_looked_at(rt: HostRuntime) -> Result<(), Fail> {
     let mut most = slots(rt.alloc(), 65536, 48 + 24 * 65536)?;
-    let names =
-        thread_names_from_interpreter(rt.alloc(), INTERPRETER, &mut most, &Layout::sample());
+    let names = thread_names_from_interpreter(
+        rt.alloc(),
+        INTERPRETER,
+        &mut most,
+        &Layout::sample(),
+    );
     assert!(rt; names.is_ok_and(|names| names.is_empty()));
     Ok(())
 }
@@ -297,8 +351,12 @@ fn at_most_65536_slots_are_looked_at(rt: HostRuntime) -> Result<(), Fail> {
 #[test]
 fn more_slots_are_refused(rt: HostRuntime) -> Result<(), Fail> {
     let mut more = slots(rt.alloc(), 65537, 48 + 24 * 65537)?;
-    let refused =
-        thread_names_from_interpreter(rt.alloc(), INTERPRETER, &mut more, &Layout::sample());
+    let refused = thread_names_from_interpreter(
+        rt.alloc(),
+        INTERPRETER,
+        &mut more,
+        &Layout::sample(),
+    );
     assert!(rt; matches!(refused, Err(NamesError::Entries)));
     Ok(())
 }

@@ -175,7 +175,10 @@ fn bytes_layout() -> Layout {
 fn texts_of_bytes_are_utf8(rt: HostRuntime) -> Result<(), Fail> {
     let layout = bytes_layout();
     assert!(rt; is_sound(&layout));
-    let mut part = part_of(rt.alloc(), b"\0\0\0\0\0\0\0\0\0\0\0\0\0\0\0\0\x03\0\0\0\0\0\0\0f\xc3\xbc")?;
+    let mut part = part_of(
+        rt.alloc(),
+        b"\0\0\0\0\0\0\0\0\0\0\0\0\0\0\0\0\x03\0\0\0\0\0\0\0f\xc3\xbc",
+    )?;
     let text = copy_string(rt.alloc(), &mut part, &layout, OBJECT)?;
     assert!(rt; text.as_str() == "fü");
     Ok(())
@@ -185,7 +188,10 @@ fn texts_of_bytes_are_utf8(rt: HostRuntime) -> Result<(), Fail> {
 fn other_bytes_are_no_text(rt: HostRuntime) -> Result<(), Fail> {
     let layout = bytes_layout();
     assert!(rt; is_sound(&layout));
-    let mut part = part_of(rt.alloc(), b"\0\0\0\0\0\0\0\0\0\0\0\0\0\0\0\0\x03\0\0\0\0\0\0\0f\xc3b")?;
+    let mut part = part_of(
+        rt.alloc(),
+        b"\0\0\0\0\0\0\0\0\0\0\0\0\0\0\0\0\x03\0\0\0\0\0\0\0f\xc3b",
+    )?;
     let refused = copy_string(rt.alloc(), &mut part, &layout, OBJECT);
     assert!(rt; refused == Err(ObjectError::NoText));
     Ok(())

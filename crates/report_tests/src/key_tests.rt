@@ -69,7 +69,8 @@ fn trace(alloc: Global, core: &Core) -> Result<StackTrace, AllocError> {
 }
 
 fn key(alloc: Global, core: &Core) -> Result<StackKey, AllocError> {
-    let traces = vec![in alloc; trace(alloc, core)?]?;
+    let trace = trace(alloc, core)?;
+    let traces = vec![in alloc; trace]?;
     key_of(alloc, &traces)
 }
 
@@ -86,7 +87,9 @@ const GROUPS: [&[u32]; 4] = [&[0, 1], &[2, 5], &[3], &[4]];
 
 #[test]
 fn equal_stacks_are_one_group(rt: HostRuntime) -> Result<(), Fail> {
-    let groups = group(rt.alloc(), &keys(rt.alloc())?)?;
+    let keys = keys(rt.alloc())?;
+    assert!(rt; keys.len() == 6);
+    let groups = group(rt.alloc(), &keys)?;
     assert!(rt; groups.len() == GROUPS.len());
     for (found, wanted) in groups.iter().zip(&GROUPS) {
         assert!(rt; found.as_slice() == *wanted);

@@ -45,20 +45,30 @@ fn push_halves(bytes: &mut Vec<u8>, halves: &[u32]) -> Result<(), AllocError> {
     Ok(())
 }
 
-/// The header of a file for x86-64: how many program headers there are behind it, where the section headers begin,
-/// and how many there are, the last of which is that of their names.
-fn push_header(
-    bytes: &mut Vec<u8>,
-    program_headers: u32,
-    sections_at: u64,
-    sections: u32,
-) -> Result<(), AllocError> {
-    bytes.extend_from_slice(b"\x7fELF\x02\x01\0\0\0\0\0\0\0\0\0\0")?;
-    push_words(bytes, &[62 << 16, 0, 64, sections_at])?;
-    let names = sections.saturating_sub(1);
-    push_halves(bytes, &[0, 56 << 16 | 64])?;
-    push_halves(bytes, &[64 << 16 | program_headers, names << 16 | sections])
-}
+/// The header of a core for x86-64, with four program headers behind it.
+const CORE_HEADER: [u64; 8] = [
+    0x102_464c_457f,
+    0,
+    0x3e_0000,
+    0,
+    64,
+    0,
+    0x38_0040_0000_0000,
+    0x40_0004,
+];
+
+/// That of an image, with one program header behind it, and two section headers from 136 on, of which the second is
+/// that of the names.
+const IMAGE_HEADER: [u64; 8] = [
+    0x102_464c_457f,
+    0,
+    0x3e_0000,
+    0,
+    64,
+    136,
+    0x38_0040_0000_0000,
+    0x1_0002_0040_0001,
+];
 
 /// A segment: its kind and flags, where its bytes are in the file, and where it is in memory.
 #[derive(Clone, Copy)]
@@ -86,26 +96,51 @@ fn push_file_table(bytes: &mut Vec<u8>) -> Result<(), AllocError> {
     bytes.extend_from_slice(&[0, 0])
 }
 
+/// Where the bytes of the segments begin.
+const FIRST: u64 = 64 + 4 * 56;
+
+/// The segments of the core: of its objects, of the code, of the bss, and of notes.
+const SEGMENTS: [Segment; 4] = [
+    Segment {
+        kind: LOAD,
+        flags: DATA_FLAGS,
+        offset: FIRST,
+        file_size: 80,
+        addr: INTERPRETER,
+        mem_size: 80,
+    },
+    Segment {
+        kind: LOAD,
+        flags: CODE_FLAGS,
+        offset: FIRST,
+        file_size: 0,
+        addr: CODE,
+        mem_size: PAGE,
+    },
+    Segment {
+        kind: LOAD,
+        flags: DATA_FLAGS,
+        offset: FIRST + 80,
+        file_size: 8,
+        addr: BSS,
+        mem_size: 8,
+    },
+    Segment {
+        kind: NOTE,
+        flags: 0,
+        offset: FIRST + 88,
+        file_size: 80,
+        addr: 0,
+        mem_size: 0,
+    },
+];
+
 /// A core of an interpreter with one thread of id 0x7f00 and no frames.
 pub(crate) fn core(alloc: Global) -> Result<Vec<u8>, AllocError> {
     let mut bytes = Vec::new(alloc);
-    push_header(&mut bytes, 4, 0, 0)?;
-    let first = 64 + 4 * 56;
-    for (kind, flags, offset, file_size, addr, mem_size) in [
-        (LOAD, DATA_FLAGS, first, 80, INTERPRETER, 80),
-        (LOAD, CODE_FLAGS, first, 0, CODE, PAGE),
-        (LOAD, DATA_FLAGS, first + 80, 8, BSS, 8),
-        (NOTE, 0, first + 88, 80, 0, 0),
-    ] {
-        let segment = Segment {
-            kind,
-            flags,
-            offset,
-            file_size,
-            addr,
-            mem_size,
-        };
-        push_segment(&mut bytes, &segment)?;
+    push_words(&mut bytes, &CORE_HEADER)?;
+    for segment in &SEGMENTS {
+        push_segment(&mut bytes, segment)?;
     }
     push_words(&mut bytes, &[0, THREAD])?;
     push_words(&mut bytes, &[0, 0, INTERPRETER, 0, 0x7f00, 0, 0, 0])?;
@@ -117,7 +152,7 @@ pub(crate) fn core(alloc: Global) -> Result<Vec<u8>, AllocError> {
 /// The image of the program: a segment of code, and a bss of one word.
 pub(crate) fn image(alloc: Global) -> Result<Vec<u8>, AllocError> {
     let mut bytes = Vec::new(alloc);
-    push_header(&mut bytes, 1, 136, 2)?;
+    push_words(&mut bytes, &IMAGE_HEADER)?;
     let code = Segment {
         kind: LOAD,
         flags: CODE_FLAGS,

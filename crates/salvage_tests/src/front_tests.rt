@@ -200,7 +200,10 @@ fn threads_end_as_their_chain_does(rt: HostRuntime) -> Result<(), Fail> {
     let mut part = memory(rt.alloc(), &THREADS)?;
     for (head, count, end) in &CHAINS {
         let (front, _) = front_of(rt.alloc(), &mut part, *head, 9)?;
-        assert!(rt; front.threads.len() == *count && front.end == *end, "at {head:#x}");
+        assert!(rt;
+            front.threads.len() == *count && front.end == *end,
+            "at {head:#x}"
+        );
     }
     Ok(())
 }
@@ -419,7 +422,11 @@ fn ring_of(alloc: Global, count: u64) -> Result<Part, AllocError> {
     let mut addr = INTERPRETER;
     for number in 0..count {
         let (thread, after) = (addr.saturating_add(0x40), addr.saturating_add(0x100));
-        let next = if number.saturating_add(1) < count { after } else { 0 };
+        let next = if number.saturating_add(1) < count {
+            after
+        } else {
+            0
+        };
         pieces.push(piece(alloc, addr, &[next, thread])?)?;
         pieces.push(piece(alloc, thread, &[0, 0, addr, 0, 7, 0, 0, 0])?)?;
         addr = after;
