@@ -116,7 +116,7 @@ fn faults_are_refused(rt: HostRuntime) -> Result<(), Fail> {
 }
 
 /// The program with its thread as the holder of the lock, written.
-fn built(alloc: Global) -> Result<Built, Fail> {
+pub(crate) fn built(alloc: Global) -> Result<Built, Fail> {
     let mut program = small(alloc, 32512, "a.py")?;
     program.owner = Some(0);
     let version = version(alloc, 9, 0, "")?;

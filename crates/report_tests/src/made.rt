@@ -2,11 +2,11 @@
 use std::alloc::{AllocError, Global};
 
 /// The path of the program, as the core's file table has it.
-pub(crate) const PATH: &[u8] = b"/usr/bin/python3.9";
+const PATH: &[u8] = b"/usr/bin/python3.9";
 
 /// Where the interpreter stands, whose first thread is named 8 bytes further on, and that thread's record of 64
 /// bytes: its interpreter is at 16, its newest frame at 24, its id at 32.
-pub(crate) const INTERPRETER: u64 = 0x10000;
+const INTERPRETER: u64 = 0x10000;
 
 const THREAD: u64 = INTERPRETER + 0x10;
 

@@ -69,8 +69,8 @@ fn trace(alloc: Global, core: &Core) -> Result<StackTrace, AllocError> {
 }
 
 fn key(alloc: Global, core: &Core) -> Result<StackKey, AllocError> {
-    let trace = trace(alloc, core)?;
-    let traces = vec![in alloc; trace]?;
+    let mut traces = Vec::new(alloc);
+    traces.push(trace(alloc, core)?)?;
     key_of(alloc, &traces)
 }
 

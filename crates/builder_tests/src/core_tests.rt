@@ -2,7 +2,7 @@
 //! process with its stacks, their footprint and their text; and one whose addresses are handed in.
 ghost use Rattle.std.specs.Prelude.{◌≡◌, ◌<◌};
 
-use crate::made::{INTERPRETER, PATH, core, image};
+use crate::image_tests::built;
 use core_stacks::{PythonCoreDump, report, report_counted};
 use elf64_core::{Name, Steps};
 use image_memory::{CoreDump, Images, Mmap};
@@ -20,20 +20,21 @@ fn layouts(alloc: Global) -> Result<Layouts, Fail> {
     Ok(Layouts::of(alloc, list)?)
 }
 
-fn images(alloc: Global) -> Result<Images, Fail> {
-    let name = Name::of(alloc, PATH)?;
-    let image = Mmap::of(alloc, image(alloc)?)?;
+/// The image under the path that the core's file table has.
+fn images(alloc: Global, image: &[u8]) -> Result<Images, Fail> {
+    let image = Mmap::of(alloc, image.to_vec(alloc)?)?;
     let mut images = Images::new(alloc);
-    images.push(name, image)?;
+    images.push(Name::of(alloc, b"/usr/bin/python3")?, image)?;
     Ok(images)
 }
 
 /// What is printed of the core's traces.
-const TEXT: &[u8] = b"Python v3.9.0\n\nThread 0x7F00\n";
+const TEXT: &[u8] =
+    b"Python v3.9.0\n\nThread 0x7F00 (gil)\n    f (a.py:5)\n    <module> (a.py:5)\n";
 
 const ADDRESSES: Addresses = Addresses {
-    interpreter: INTERPRETER,
-    lock: 0,
+    interpreter: 0x60_0000,
+    lock: 0x50_0238,
 };
 
 /// The report of the core, whose reads are counted on a counter of a ledger.
@@ -43,15 +44,17 @@ fn counted<L: Ledger>(alloc: Global, blank: Blank) -> Result<Report, Fail>
     requires some { 0 < L.parts }
 {
     let mut steps = Steps::<L>::new(blank);
-    let (images, layouts) = (images(alloc)?, layouts(alloc)?);
+    let built = built(alloc)?;
+    let (images, layouts) = (images(alloc, &built.image)?, layouts(alloc)?);
     let config = Config::default();
-    Ok(report_counted(alloc, core(alloc)?, &images, &layouts, &config, &mut steps)?)
+    Ok(report_counted(alloc, built.core, &images, &layouts, &config, &mut steps)?)
 }
 
 /// How many threads the report of the core has.
 fn reported(alloc: Global) -> Result<usize, Fail> {
-    let (images, layouts) = (images(alloc)?, layouts(alloc)?);
-    let plain = report(alloc, core(alloc)?, &images, &layouts, &Config::default())?;
+    let built = built(alloc)?;
+    let (images, layouts) = (images(alloc, &built.image)?, layouts(alloc)?);
+    let plain = report(alloc, built.core, &images, &layouts, &Config::default())?;
     Ok(plain.traces.len())
 }
 
@@ -64,15 +67,18 @@ fn reports_counted_or_not(rt: HostRuntime) -> Result<(), Fail> {
     Ok(())
 }
 
-fn core_dump(alloc: Global) -> Result<CoreDump, Fail> {
-    let bytes = core(alloc)?;
-    Ok(CoreDump::new(alloc, bytes)?)
+/// The core, and the image that it mapped.
+fn core_and_images(alloc: Global) -> Result<(CoreDump, Images), Fail> {
+    let built = built(alloc)?;
+    let images = images(alloc, &built.image)?;
+    let core = CoreDump::new(alloc, built.core)?;
+    Ok((core, images))
 }
 
 /// The process of the core, opened.
-fn opened(alloc: Global, images: &Images, layouts: &Layouts) -> Result<PythonCoreDump, Fail> {
-    let core = core_dump(alloc)?;
-    Ok(PythonCoreDump::new(alloc, core, images, layouts)?)
+fn opened(alloc: Global, layouts: &Layouts) -> Result<PythonCoreDump, Fail> {
+    let (core, images) = core_and_images(alloc)?;
+    Ok(PythonCoreDump::new(alloc, core, &images, layouts)?)
 }
 
 fn stack(python: &PythonCoreDump) -> Result<Vec<StackTrace>, Fail> {
@@ -100,8 +106,8 @@ fn printed(alloc: Global, python: &PythonCoreDump) -> Result<MemorySink, Fail> {
 
 #[test]
 fn a_process_that_is_opened(rt: HostRuntime) -> Result<(), Fail> {
-    let (images, layouts) = (images(rt.alloc())?, layouts(rt.alloc())?);
-    let python = opened(rt.alloc(), &images, &layouts)?;
+    let layouts = layouts(rt.alloc())?;
+    let python = opened(rt.alloc(), &layouts)?;
     let (threads, ranges) = walked(&python)?;
     assert!(rt; stacked(&python)? == 1 && threads == 1 && ranges > 0);
     assert!(rt; printed(rt.alloc(), &python)?.bytes() == TEXT);
@@ -110,7 +116,7 @@ fn a_process_that_is_opened(rt: HostRuntime) -> Result<(), Fail> {
 
 /// The process of the core, by addresses that are handed in.
 fn opened_at(alloc: Global, addresses: Addresses) -> Result<PythonCoreDump, Fail> {
-    let core = core_dump(alloc)?;
+    let (core, _images) = core_and_images(alloc)?;
     let version = Version::of_numbers(alloc, 3, 9, 0)?;
     let layouts = layouts(alloc)?;
     Ok(PythonCoreDump::with_addresses(alloc, core, &layouts, version, addresses)?)

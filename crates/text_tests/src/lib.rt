@@ -1,0 +1,11 @@
+//! Tests of texts, lines and keys of stacks, and of what the public types of all crates can do beside their calls.
+#![tactic(auto)]
+
+#[cfg(test)]
+mod derive_tests;
+#[cfg(test)]
+mod key_tests;
+#[cfg(test)]
+mod line_tests;
+#[cfg(test)]
+mod trace_tests;
