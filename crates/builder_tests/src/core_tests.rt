@@ -29,8 +29,14 @@ fn images(alloc: Global, image: &[u8]) -> Result<Images, Fail> {
 }
 
 /// What is printed of the core's traces.
-const TEXT: &[u8] =
-    b"Python v3.9.0\n\nThread 0x7F00 (gil)\n    f (a.py:5)\n    <module> (a.py:5)\n";
+const TEXT: &[u8] = b"Signal 6: core
+Process 1: python3
+Python v3.9.0
+
+Thread 0x7F00 (gil)
+    f (a.py:5)
+    <module> (a.py:5)
+";
 
 const ADDRESSES: Addresses = Addresses {
     interpreter: 0x60_0000,
@@ -99,7 +105,7 @@ fn walked(python: &PythonCoreDump) -> Result<(usize, usize), Fail> {
 /// What is printed of its stacks.
 fn printed(alloc: Global, python: &PythonCoreDump) -> Result<MemorySink, Fail> {
     let traces = stack(python)?;
-    let mut out = MemorySink::new(alloc, 100, Vec::new(alloc))?;
+    let mut out = MemorySink::new(alloc, 1000, Vec::new(alloc))?;
     python.print_traces(&mut out, b"core", &traces, &Config::default())?;
     Ok(out)
 }
