@@ -7,8 +7,7 @@
 A growth that is refused gives status 5 and its line, or the whole answer where it was spare; a read that fails gives
 status 3, a write that fails status 4, and one that is short or interrupted the whole answer. Nothing is printed under
 another status than 0, or than 4, under which a front of the text may be. With --step each Nth growth alone is refused,
-with --most at most so many of a run. The status is 0 exactly where all of that holds, or where there is no gdb that can call
-functions in them.
+with --most at most so many of a run. The status is 0 exactly where all of that holds, or where there is no gdb.
 """
 
 import argparse
@@ -142,15 +141,13 @@ def tried(program: str, name: str, row: Row, step: Step) -> Tuple[Counter, List[
 
 
 def can_run(program: str) -> bool:
-    """Whether gdb is there, can run the program and call a function in it. It can't where processes may not be traced,
-    nor where a processor has registers that this gdb doesn't know (as 13.1 with AMX)."""
+    """Whether gdb is there and can run the program, which it can't where processes may not be traced."""
     if shutil.which("gdb") is None:
         return False
     environment = {"PATH": os.environ.get("PATH", ""), "SHELL": "/bin/sh"}
-    steps = ("tbreak main", "run", "print ((long (*) (void)) getpid) ()", "continue")
-    ran = subprocess.run(["gdb", "-nx", "-batch", *(part for it in steps for part in ("-ex", it)), program],
-                         env=environment, stdin=subprocess.DEVNULL, stdout=subprocess.PIPE, stderr=subprocess.DEVNULL)
-    return b"$1 = " in ran.stdout and b"exited with code 02" in ran.stdout
+    ran = subprocess.run(["gdb", "-nx", "-batch", "-ex", "run", program], env=environment, stdin=subprocess.DEVNULL,
+                         stdout=subprocess.PIPE, stderr=subprocess.DEVNULL)
+    return b"exited with code 02" in ran.stdout
 
 
 def main(arguments: Optional[Sequence[str]] = None) -> int:
@@ -168,7 +165,7 @@ def main(arguments: Optional[Sequence[str]] = None) -> int:
         if os.path.isfile(file) and can_run(os.path.abspath(file)):
             chosen += [(os.path.abspath(file), name, it) for it in rows(name == "pysalvage") if words.only in it.what]
         else:
-            print(f"growths: nothing of {name} was tried: there is no {file}, or no gdb that can call functions in it")
+            print(f"growths: nothing of {name} was tried: there is no {file}, or no gdb that can run it")
     failed = 0
     with ThreadPoolExecutor(words.workers) as pool:
         step = Step(words.step, words.most)

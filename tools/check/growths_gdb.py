@@ -13,9 +13,12 @@ import gdb
 
 EIO, EINTR = 5, 4
 
-COUNT_DOWN = bytes.fromhex("48ff0d39000000 7406 ff2539000000 31c0c3").ljust(64, b"\0")
-"""Code of x86-64 that takes 1 from the number behind it: where that comes to 0 the answer is null, and else that of the
-function whose address stands behind the number. (A stop at each call would take hours, where there are 60,000.)"""
+COUNT_DOWN = bytes.fromhex("49bb"), bytes.fromhex("49ff0b 7404 41ff6308 31c0c3")
+"""Code of x86-64 around an address, where it takes 1 from a number: where that comes to 0 the answer is null, and else
+that of the function whose address stands behind the number. (A stop at each call would take hours, where there are
+60,000.)"""
+
+PAGE = 4096
 
 FAR = 2 ** 62
 """A number that no run counts down to 0."""
@@ -40,7 +43,8 @@ def fail(fault):
             gdb.execute("set $rdx = 1")
     else:
         code = {"failed": EIO, "interrupted": EINTR}[fault]
-        gdb.execute(f"set *((int * (*) (void)) __errno_location) () = {code}")
+        offset = number(f"*(long *) {named_at('__errno_location')}")
+        gdb.execute(f"set *(int *) ($fs_base + {offset}) = {code}")
         answer(-1)
 
 
@@ -74,17 +78,33 @@ def status():
     return None if ended.type.code == gdb.TYPE_CODE_VOID else int(ended)
 
 
+def named_at(code):
+    """The address that the first of two instructions names which names one."""
+    return int(re.search(r"# (0x[0-9a-f]+)", gdb.execute(f"x/2i {code}", to_string=True)).group(1), 16)
+
+
+def room():
+    """Where 16 bytes of the program's memory stand that nothing uses: behind its last data, on the same page."""
+    ends = re.findall(r"- (0x[0-9a-f]+) is \.bss$", gdb.execute("info files", to_string=True), re.M)
+    place = -(-int(ends[0], 16) // 16) * 16
+    if place % PAGE == 0:
+        raise gdb.GdbError("the program's data ends with a page")
+    return place
+
+
 def count_down(task, call, nth):
-    """Begins a run in which the nth call answers null. Returns where its number stands that is counted down."""
+    """Begins a run in which the nth call answers null. Returns where its number stands that is counted down. The code
+    takes the place of the program's first, which has run. (No function is called: gdb 13.1 can't on a processor with
+    AMX.)"""
     gdb.execute("delete")
     gdb.Breakpoint("main", temporary=True)
     begin(task)
-    place = number("((long (*) (long, long, int, int, int, long)) mmap) (0, 4096, 7, 0x22, -1, 0)")
-    entry = re.search(r"# (0x[0-9a-f]+)", gdb.execute(f"x/i '{call}@plt'", to_string=True)).group(1)
+    place, code = room(), number("(long) &_start")
     memory, own = gdb.selected_inferior(), number(f"(long) &{call}")
-    memory.write_memory(place, COUNT_DOWN + nth.to_bytes(8, "little") + own.to_bytes(8, "little"))
-    memory.write_memory(int(entry, 16), place.to_bytes(8, "little"))
-    return place + len(COUNT_DOWN)
+    memory.write_memory(code, place.to_bytes(8, "little").join(COUNT_DOWN))
+    memory.write_memory(place, nth.to_bytes(8, "little") + own.to_bytes(8, "little"))
+    memory.write_memory(named_at(f"'{call}@plt'"), code.to_bytes(8, "little"))
+    return place
 
 
 def calls_of(task, call):
