@@ -21,6 +21,7 @@ SPECS = [
     ROOT / "crates" / name
     for name in (
         "fault_lines/specs/Lines.antt",
+        "program_run/specs/Ends.antt",
         "core_report/specs/Lines.antt",
         "core_report/specs/Run.antt",
         "salvage_report/specs/Lines.antt",

@@ -41,6 +41,7 @@ use Rattle.object_reach.specs.declared.reached.ReachError.{ReachError}
 use Rattle.object_reach.specs.declared.reached.ReachError.TheVariants as reaching
 use Rattle.std.proofs.lemmas.Option.{same_Some, none-some}
 use Rattle.py_process.proofs.Agreement.{err_is, ok_is, ok_kept, ok_not_err}
+use Rattle.program_run.proofs.Statuses.{core_one, flaw_status}
 use Rattle.core_report.specs.Reading.{HasFlaw}
 use Rattle.core_report.specs.Stacked.{LeadsTo, Stacked, StackedIs, locals_asked, reach_text}
 use Rattle.core_report.proofs.Binaries.{binaries_once}
@@ -50,7 +51,7 @@ use Rattle.core_report.specs.Outcome.{IsFaultlessTriage, IsFaultlessWalk, IsMerg
 use Rattle.core_report.specs.Outcome.{IsMergedIn, IsMergedText, IsOwnCause, IsReachOutcome, IsReachedBy, IsReachedFrom}
 use Rattle.core_report.specs.Outcome.{IsReachedIn, IsReported, IsTriageOutcome, IsTriagedBy, reach_status, IsShown}
 use Rattle.core_report.specs.Outcome.{IsWalkOutcome, IsWalkedBy, Outcome, ReportAnswers, SourceSays, OutcomeThen}
-use Rattle.core_report.specs.Outcome.{WalkAnswers, cause_status, core_status, images_read, layouts_status, merge_status}
+use Rattle.core_report.specs.Outcome.{WalkAnswers, cause_status, images_read, merge_status}
 use Rattle.core_report.specs.Outcome.{outcome_status, shown_report}
 
 -- one sound layout is a sound list
@@ -140,13 +141,6 @@ pub flaw_apart : (Says : Laid → Type 0) → Unique Says → (a : List Layout) 
 flaw_apart Says unique a e ne one other =
     ⊎_elim (ok_err a e) (ok_err a layout.OutOfMemory) (unique (Ok a) (Err e) one other (λ is. ne (err_same e layout.OutOfMemory is)))
 
-pub flaw_status : (e : LayoutError) → layouts_status e ≢ 5 → (layouts_status e ≡ 6) × (e ≢ layout.OutOfMemory)
-flaw_status layout.NotToml ne = (refl, λ is. cc)
-flaw_status (layout.Shape table key) ne = (refl, λ is. cc)
-flaw_status (layout.Unsound table) ne = (refl, λ is. cc)
-flaw_status (layout.Clash first second) ne = (refl, λ is. cc)
-flaw_status layout.OutOfMemory ne = absurd (ne refl)
-
 layouts_exclude : (Says : Laid → Type 0) → Unique Says → Excludes (λ error. Layouts error) Says
 layouts_exclude Says unique = record {
   apart = λ l e one other ne. flaw_apart Says unique l e (flaw_status e ne).1 one other;
@@ -181,28 +175,6 @@ source_apart (file name) (text ∷ []) list says = says.sound.apart
 source_apart (file name) (text ∷ more ∷ rest) list says = absurd says
 
 -- ---- the work over a core
-
-pub core_one : (e : CoreError) → core_status e ≢ 5 → (core_status e ≡ 1) × (e ≢ core.OutOfMemory)
-core_one core.NotElf64 ne = (refl, λ is. cc)
-core_one core.BadHeader ne = (refl, λ is. cc)
-core_one core.NoNotes ne = (refl, λ is. cc)
-core_one core.BadNote ne = (refl, λ is. cc)
-core_one core.NoBinary ne = (refl, λ is. cc)
-core_one (core.NoImage path) ne = (refl, λ is. cc)
-core_one (core.BadImage path) ne = (refl, λ is. cc)
-core_one (core.UnreadableVersion addr len) ne = (refl, λ is. cc)
-core_one core.NoVersion ne = (refl, λ is. cc)
-core_one (core.UnsupportedVersion version) ne = (refl, λ is. cc)
-core_one core.NoInterpreter ne = (refl, λ is. cc)
-core_one (core.Unreadable addr len) ne = (refl, λ is. cc)
-core_one core.NativeUnsupported ne = (refl, λ is. cc)
-core_one core.SubprocessesUnsupported ne = (refl, λ is. cc)
-core_one (core.BadValue frame) ne = (refl, λ is. cc)
-core_one (core.LocalsLimit count) ne = (refl, λ is. cc)
-core_one core.ThreadLimit ne = (refl, λ is. cc)
-core_one core.FrameLimit ne = (refl, λ is. cc)
-core_one core.ChainLimit ne = (refl, λ is. cc)
-core_one core.OutOfMemory ne = absurd (ne refl)
 
 -- a step whose causes are those of a core, and whose values exclude them
 core_exclude : {T : Type 0} (First : Result T CoreError → Type 0)

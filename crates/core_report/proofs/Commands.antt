@@ -1,9 +1,6 @@
 -- Two outcomes of a command over the same contents have one status, want of memory aside, but that a slim core and too
 -- many pieces may both be right; and over contents with which nothing is wrong no outcome is a cause but a command's own.
-use Rattle.std.proofs.Common.{◌≡◌, ◌≢◌, ◌⊎◌, ℕ, List, ◌<◌, arith, inl, inr, ⊎_elim}
-use Rattle.std.proofs.lemmas.Bool.Decides.{eqb_tells}
-use Rattle.py_layout.specs.declared.error.LayoutError.{LayoutError}
-use Rattle.py_process.specs.declared.core_error.CoreError.{CoreError}
+use Rattle.std.proofs.Common.{ℕ, List, arith, inr}
 use Rattle.core_words.specs.Words.{Command, dump, locate, merge, reach, seeded, slim, triage, walk}
 use Rattle.core_merge.specs.declared.error.CoreMergeError.{CoreMergeError}
 use Rattle.core_merge.specs.declared.error.CoreMergeError.TheVariants as merging
@@ -12,9 +9,11 @@ use Rattle.object_reach.specs.declared.reached.ReachError.TheVariants as reachin
 use Rattle.core_report.specs.declared.cause.Cause.{Cause}
 use Rattle.core_report.specs.declared.cause.Cause.TheVariants.{Core, Layouts, Merge, MergeIndex, Reach, ReachIndex}
 use Rattle.core_report.specs.declared.cause.Cause.TheVariants.{TooManyPieces, OutOfMemory}
-use Rattle.core_report.specs.Outcome.{IsFaultless, IsOutcome, cause_status, core_status, layouts_status, merge_status}
+use Rattle.core_report.specs.Outcome.{IsFaultless, IsOutcome, cause_status, merge_status}
 use Rattle.core_report.specs.Outcome.{reach_status}
-use Rattle.core_report.proofs.Agreement.{Agree, NoCause, core_one, dump_agree, dump_sound, flaw_status, merge_agree}
+use Rattle.program_run.specs.Ends.{IsOwn}
+use Rattle.program_run.proofs.Statuses.{core_own, layouts_own, own}
+use Rattle.core_report.proofs.Agreement.{Agree, NoCause, dump_agree, dump_sound, merge_agree}
 use Rattle.core_report.proofs.Agreement.{merge_sound, reach_agree, reach_sound, triage_agree, triage_sound, walk_agree}
 use Rattle.core_report.proofs.Agreement.{walk_sound}
 use Rattle.core_report.proofs.Processes.{locate_agree, locate_sound, sample_agree, sample_sound, slim_agree, slim_sound}
@@ -40,31 +39,6 @@ no_cause (slim s) contents good = slim_sound s contents good
 no_cause (seeded s) contents good = sample_sound s contents
 
 -- ---- a cause has none of the statuses of the other ends
-
-pub record IsOwn (n : ℕ) : Type 0 where
-  pub not_0 : n ≢ 0
-  pub not_2 : n ≢ 2
-  pub not_3 : n ≢ 3
-  pub not_4 : n ≢ 4
-
-own : (n : ℕ) → (n ≡ 1) ⊎ (4 < n) → IsOwn n
-own n h = record {
-  not_0 = λ is. omega (arith, h, is);
-  not_2 = λ is. omega (arith, h, is);
-  not_3 = λ is. omega (arith, h, is);
-  not_4 = λ is. omega (arith, h, is);
-}
-
-pub cases_five : (n : ℕ) → (n ≡ 5) ⊎ (n ≢ 5)
-cases_five n = ⊎_elim (λ p. inl p.1) (λ p. inr p.1) (eqb_tells n 5)
-
-core_own : (e : CoreError) → IsOwn (core_status e)
-core_own e = own (core_status e)
-    (⊎_elim (λ five. inr (omega (arith, five))) (λ ne. inl (core_one e ne).0) (cases_five (core_status e)))
-
-layouts_own : (e : LayoutError) → IsOwn (layouts_status e)
-layouts_own e = own (layouts_status e) (inr
-    (⊎_elim (λ five. omega (arith, five)) (λ ne. omega (arith, (flaw_status e ne).0)) (cases_five (layouts_status e))))
 
 reach_status_own : (e : ReachError) → IsOwn (reach_status e)
 reach_status_own reaching.ReachLimit = own 9 (inr (omega arith))

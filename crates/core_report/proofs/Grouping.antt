@@ -16,11 +16,12 @@ use Rattle.core_report.specs.Grouped.{IsGroupedText}
 use Rattle.core_report.specs.Outcome.{cause_status}
 use Rattle.core_report.specs.Outcome.{images_by, images_read}
 use Rattle.core_report.specs.Reading.{AsksCores, IsRead, contents}
-use Rattle.core_report.specs.Run.{Comes, ComesTo, HasJudged, IsTroubled}
+use Rattle.core_report.specs.Run.{ComesTo, HasJudged, pystacks}
 use Rattle.core_report.specs.declared.cause.Cause.{Cause}
 use Rattle.core_report.specs.declared.cause.Cause.TheVariants.{Layouts}
 use Rattle.core_report.specs.declared.judged.JudgedCores.{JudgedCores}
-use Rattle.core_report.specs.declared.trouble.Trouble.TheVariants.{Cause as Caused}
+use Rattle.program_run.specs.Ends.{IsAnswered, IsTroubled}
+use Rattle.program_run.specs.declared.trouble.Trouble.TheVariants.{Cause as Caused}
 use Rattle.core_report.proofs.Agreement.{flawless}
 use Rattle.core_report.proofs.Judging.{all_cores}
 
@@ -28,7 +29,7 @@ use Rattle.core_report.proofs.Judging.{all_cores}
 pub stopped_by : (old new : FilesSeen) (t : Triage) (text : List ℕ) (images : List (Vec ℕ Global)) (cause : Cause)
     → IsRead old.told (triage t) (text ∷ contents images) → length images ≡ length t.images → new.failed ≡ old.failed
     → (cause_status cause ≢ 5 → (error : LayoutError) × (cause ≡ Layouts error) × IsRightFor text (Err error))
-    → IsTroubled old new (triage t) (Caused cause)
+    → IsTroubled pystacks old new (triage t) (Caused cause)
 stopped_by old new t text images cause read count failed judged = (λ ne. by ne (judged ne), failed)
   where
     by : cause_status cause ≢ 5 → (error : LayoutError) × (cause ≡ Layouts error) × IsRightFor text (Err error) → ComesTo old.told (triage t) (Err cause)
@@ -72,7 +73,7 @@ images_front (i ∷ is) (x ∷ xs) ys same = ap (λ r. (i.0, whole_view x) ∷ r
 pub grouped : (old new : FilesSeen) (t : Triage) (text : List ℕ) (images : List (Vec ℕ Global)) (list : List Layout) (pushed : Pushed) (kept : JudgedCores)
     (written : Vec ℕ Global) → length images ≡ length t.images → IsRightFor text (Ok list) → pushed ≡ images_read t.images (contents images)
     → (has : HasJudged old new t (text ∷ contents images) pushed list kept)
-    → IsGroupedText t.cores pushed list has.contents written.items → Comes old new (triage t) (Ok written)
+    → IsGroupedText t.cores pushed list has.contents written.items → IsAnswered pystacks old new (triage t) (Ok written)
 grouped old new t text images list pushed kept written count says are has is = (
   record {
     contents = text ∷ (contents images ++ has.contents);

@@ -14,7 +14,8 @@ use Rattle.core_stacks.proofs.ReportLaws.{report_whole}
 use Rattle.core_report.specs.Headline.{HasReported}
 use Rattle.core_report.specs.Outcome.{IsDumpOutcome, IsDumpedBy, Outcome, images_read}
 use Rattle.core_report.specs.Reading.{IsAll, IsRead}
-use Rattle.core_report.specs.Run.{ComesTo, Reaches}
+use Rattle.program_run.specs.Ends.{Reaches}
+use Rattle.core_report.specs.Run.{ComesTo, pystacks}
 use Rattle.core_report.specs.declared.cause.Cause.{Cause}
 
 text_same : (s t : List ℕ) → ◌≡◌ {A = Outcome} (Ok s) (Ok t) → s ≡ t
@@ -49,6 +50,6 @@ module _ (d : Dump) (told : Told) (old new : SinkSeen) (written : List ℕ) (add
   comes : ComesTo told (dump d) (Ok written) → HasReported d told old new
   comes h = by_contents h.contents h.read h.all h.is
 
-  pub reported_of_run : (asked : Option Command) → asked ≡ Some (dump d) → Reaches asked told (Ok written) → HasReported d told old new
+  pub reported_of_run : (asked : Option Command) → asked ≡ Some (dump d) → Reaches pystacks asked told (Ok written) → HasReported d told old new
   reported_of_run asked is reached =
       comes (subst (λ c. ComesTo told c (Ok written)) (same_Some _ _ (sym reached.is_asked ∙ is)) reached.comes)

@@ -38,8 +38,9 @@ use Rattle.core_report.specs.Opening.{IsOpenedWith, OpenedCore, OpenedIs, level_
 use Rattle.core_report.specs.Outcome.{IsFaultlessProcess, IsLocateOutcome, IsLocated, IsOwnCause, IsSampleOutcome}
 use Rattle.core_report.specs.Outcome.{IsSampledAs, IsSlimOutcome, IsSlimmedFrom, OpensBy, cause_status, images_read}
 use Rattle.core_report.specs.Outcome.{outcome_status}
-use Rattle.core_report.proofs.Agreement.{Agree, Excludes, NoCause, cause_is, core_one, err_kept, flaw_apart}
-use Rattle.core_report.proofs.Agreement.{flaw_status, ok_unique, outcome_class, settled, text_agree, text_apart}
+use Rattle.program_run.proofs.Statuses.{core_one, flaw_status}
+use Rattle.core_report.proofs.Agreement.{Agree, Excludes, NoCause, cause_is, err_kept, flaw_apart}
+use Rattle.core_report.proofs.Agreement.{ok_unique, outcome_class, settled, text_agree, text_apart}
 use Rattle.core_report.proofs.Agreement.{text_sound, then_agree, then_sound}
 use Rattle.core_report.proofs.Stacked.{step}
 

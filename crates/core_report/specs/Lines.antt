@@ -4,14 +4,12 @@ use Rattle.core_merge.specs.declared.error.CoreMergeError.{CoreMergeError}
 use Rattle.core_merge.specs.declared.error.CoreMergeError.TheVariants as merging
 use Rattle.object_reach.specs.declared.reached.ReachError.{ReachError}
 use Rattle.object_reach.specs.declared.reached.ReachError.TheVariants as reach
-use Rattle.fault_lines.specs.Lines.{core_parts, layout_parts, line_of}
+use Rattle.fault_lines.specs.Lines.{core_parts, layout_parts}
+use Rattle.program_run.specs.Ends.{CauseSays}
 use Rattle.core_report.specs.declared.cause.Cause.{Cause}
 use Rattle.core_report.specs.declared.cause.Cause.TheVariants.{Core, Layouts, Merge, MergeIndex, Reach, ReachIndex}
 use Rattle.core_report.specs.declared.cause.Cause.TheVariants.{TooManyPieces, OutOfMemory}
-
--- the line of a text
-abbrev pub line : List ℕ → List ℕ
-line text = line_of (codes "pystacks: ") text
+use Rattle.core_report.specs.Outcome.{cause_status}
 
 abbrev pub reach_parts : ReachError → List (List ℕ)
 reach_parts reach.ReachLimit = codes "more than 1048576 objects or 16777216 slots" ∷ []
@@ -31,3 +29,7 @@ cause_parts (Merge error) = merge_parts error
 cause_parts (MergeIndex index) = codes "cannot merge" ∷ []
 cause_parts (TooManyPieces count) = codes "too many pieces: " ∷ decimal count ∷ []
 cause_parts OutOfMemory = codes "out of memory" ∷ []
+
+-- what is said of a cause
+abbrev pub cause_says : Cause → CauseSays
+cause_says cause = record { status = cause_status cause; parts = cause_parts cause }

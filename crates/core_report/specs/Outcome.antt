@@ -6,11 +6,9 @@ use Rattle.py_fields.specs.declared.layout.Layout.{Layout}
 use Rattle.py_fields.specs.Samples.{sample_layout}
 use Rattle.py_layout.specs.File.{IsRightFor}
 use Rattle.py_layout.specs.declared.error.LayoutError.{LayoutError}
-use Rattle.py_layout.specs.declared.error.LayoutError.TheVariants as layout
 use Rattle.py_stacks.specs.Threads.{Trace}
 use Rattle.py_stacks.specs.declared.trace.StackTrace.{StackTrace}
 use Rattle.py_process.specs.declared.core_error.CoreError.{CoreError}
-use Rattle.py_process.specs.declared.core_error.CoreError.TheVariants as core
 use Rattle.core_words.specs.Dump.{Dump}
 use Rattle.core_words.specs.Words.{Command, LayoutSource, Locate as AsksLocate, Merge as AsksMerge, Reach as AsksReach}
 use Rattle.core_words.specs.Words.{Sample as AsksSample, Slim as AsksSlim, Triage, Walk, dump, file, locate, merge}
@@ -19,6 +17,7 @@ use Rattle.core_texts.specs.Text.{frames_text, report_text, walk_text}
 use Rattle.core_texts.specs.Tree.{report_json}
 use Rattle.image_memory.specs.Images.{Pushed}
 pub use Rattle.named_images.specs.Named.{images_by, images_read}
+pub use Rattle.program_run.specs.Statuses.{core_status, layouts_status}
 use Rattle.py_stacks.specs.declared.config.Config.{Config}
 use Rattle.py_process.specs.Reports.{IsReadable, ReportIs, reported}
 use Rattle.py_process.specs.declared.report.Report.{Report}
@@ -277,14 +276,6 @@ IsOwnCause (TooManyPieces count) = ⊤
 IsOwnCause _ = ⊥
 
 -- ---- statuses
-
-abbrev pub core_status : CoreError → ℕ
-core_status core.OutOfMemory = 5
-core_status _ = 1
-
-abbrev pub layouts_status : LayoutError → ℕ
-layouts_status layout.OutOfMemory = 5
-layouts_status _ = 6
 
 abbrev pub reach_status : ReachError → ℕ
 reach_status reaching.OutOfMemory = 5

@@ -1,16 +1,15 @@
 -- Which files a command asks for, in which order, and what they hold.
-use Rattle.std.specs.Prelude.{◌≡◌, ◌≢◌, ◌⊎◌, ⊤, ℕ, List, [], ◌∷◌, ◌++◌, length, map, slice_get, Option, Some, None, Err}
+use Rattle.std.specs.Prelude.{◌≡◌, ◌≢◌, ◌⊎◌, ⊤, ℕ, List, [], ◌∷◌, ◌++◌, length, slice_get, Option, Some, None, Err}
 use Rattle.std.specs.Prelude.{Vec}
 use Rattle.std.specs.Global.{Global}
 use Rattle.outside.specs.Files.{Told, Gives}
 use Rattle.py_layout.specs.File.{IsRightFor}
 use Rattle.py_layout.specs.declared.error.LayoutError.{LayoutError}
 use Rattle.py_layout.specs.declared.error.LayoutError.TheVariants as layout
-use Rattle.core_words.specs.Words.{Command, Triage, dump, files_of, kept_files, locate, merge, reach, seeded, slim}
+use Rattle.core_words.specs.Words.{Command, Triage, dump, files_of, locate, merge, reach, seeded, slim}
 use Rattle.core_words.specs.Words.{triage, walk}
-pub use Rattle.named_images.specs.Named.{contents}
+pub use Rattle.program_run.specs.Reading.{contents, core_contents}
 use Rattle.core_report.specs.declared.walk_command.WalkFiles.{WalkFiles}
-use Rattle.core_report.specs.declared.report_files.ReportFiles.{ReportFiles}
 use Rattle.core_report.specs.declared.merge_command.MergeFiles.{MergeFiles}
 use Rattle.core_report.specs.declared.triage_command.TriageFiles.{TriageFiles}
 
@@ -70,26 +69,15 @@ text_contents (Some text) = text.items ∷ []
 abbrev pub walk_contents : WalkFiles → List (List ℕ)
 walk_contents files = files.core.items ∷ text_contents files.layouts
 
--- and the files of a report
-abbrev pub report_contents : ReportFiles → List (List ℕ)
-report_contents files = files.core.items ∷ files.layouts.items ∷ contents files.images.items
-
--- and the files of a merge
+-- and the files of a merge, behind those of its core
 abbrev pub merge_contents : MergeFiles → List (List ℕ)
-merge_contents files = report_contents files.report ++ files.addresses.items ∷ []
+merge_contents files = core_contents files.report ++ files.addresses.items ∷ []
 
 -- and those of cores in groups that are read before the cores
 abbrev pub triage_contents : TriageFiles → List (List ℕ)
 triage_contents files = files.layouts.items ∷ contents files.images.items
 
--- ---- files that several commands ask for
-
--- after so many others a command asks for the files of these images
-pub record AsksImages (command : Command) (before : List (List ℕ)) (images : List (List ℕ × List ℕ)) : Type 0 where
-  pub front : List (List ℕ)
-  pub rest : List (List ℕ)
-  pub asked : kept_files command ≡ front ++ (map (λ image. image.1) images ++ rest)
-  pub count : length front ≡ length before
+-- ---- cores in groups
 
 -- cores in groups ask for these files before the cores, and the layouts have no flaw
 pub record AsksCores (t : Triage) (before : List (List ℕ)) : Type 0 where
@@ -98,8 +86,3 @@ pub record AsksCores (t : Triage) (before : List (List ℕ)) : Type 0 where
   pub are : before ≡ text ∷ images
   pub count : length images ≡ length t.images
   pub flawless : ¬ HasFlaw text
-
--- a command asks first for those of a report: a core, a layout file, and the files of images
-pub record AsksReport (command : Command) (core layouts : List ℕ) (images : List (List ℕ × List ℕ)) : Type 0 where
-  pub rest : List (List ℕ)
-  pub asked : kept_files command ≡ core ∷ layouts ∷ (map (λ image. image.1) images ++ rest)

@@ -1,10 +1,12 @@
 //! Why a command gives no text.
 ghost use Rattle.std.specs.Prelude.{◌≡◌};
-ghost use Rattle.core_report.specs.Outcome.{cause_status};
 
+use crate::lines::cause_parts;
 use core_merge::CoreMergeError;
 use core_stacks::SlimmedError;
+use core_texts::Parts;
 use object_reach::ReachError;
+use program_run::RunCause;
 use py_layout::LayoutError;
 use py_process::CoreError;
 use std::alloc::AllocError;
@@ -30,11 +32,22 @@ pub(crate) enum Cause {
     OutOfMemory,
 }
 
-impl Cause {
-    /// The status of a run that ends by this cause.
-    pub(crate) fn status(&self) -> u8
-        ensures { result ≡ cause_status self.now }
-    {
+/// Why a run printed nothing, or not all.
+pub(crate) type Trouble<'a> = program_run::Trouble<'a, Cause>;
+
+impl RunCause for Cause {
+    ghost use Rattle.core_report.specs.Lines.{cause_says};
+    ghost use Rattle.core_report.specs.declared.cause.Cause.TheVariants.{OutOfMemory};
+
+    ghost says = { cause_says };
+
+    ghost memory = { OutOfMemory };
+
+    fn out_of_memory() -> Cause {
+        Cause::OutOfMemory
+    }
+
+    fn status(&self) -> u8 {
         match self {
             Cause::Core(CoreError::OutOfMemory)
             | Cause::Layouts(LayoutError::OutOfMemory)
@@ -47,6 +60,10 @@ impl Cause {
             Cause::TooManyPieces { .. } => 8,
             Cause::Reach(ReachError::ReachLimit) | Cause::ReachIndex { .. } => 9,
         }
+    }
+
+    fn parts<'a>(&'a self) -> Parts<'a> {
+        cause_parts(self)
     }
 }
 

@@ -6,26 +6,24 @@ ghost use Rattle.core_words.specs.Answers.{AnswersWords};
 ghost use Rattle.core_words.specs.Dump.{Dump};
 ghost use Rattle.core_words.specs.Words.{Command as Asked, HasFewCores, command_of, dump, texts};
 ghost use Rattle.core_words.specs.Seen.{asked_command};
+ghost use Rattle.program_run.specs.Ends.{HasEnded, HasRun, IsAnswered, Reaches, end_after, ran};
 ghost use Rattle.core_report.specs.declared.cause.Cause.{Cause as Why};
 ghost use Rattle.core_report.specs.Headline.{HasReported};
 ghost use Rattle.core_report.specs.Outcome.{IsFaultless, IsOutcome, cause_status};
-ghost use Rattle.core_report.specs.Run.{Comes, EndsItself, HasEnded, HasRun, MayBeSlim, Reaches, TellsContents};
-ghost use Rattle.core_report.specs.Run.{end_after, ran};
+ghost use Rattle.core_report.specs.Run.{EndsItself, MayBeSlim, TellsContents, pystacks};
 
-use crate::cause::Cause;
+use crate::cause::{Cause, Trouble};
 use crate::dump_command::dump_over;
-use crate::lines::tell;
 use crate::locate_command::locate_over;
 use crate::merge_command::{MergeFiles, merge_over};
 use crate::reach_command::reach_over;
-use crate::report_files::ReportFiles;
 use crate::sample_command::sample_over;
 use crate::slim_command::slim_over;
 use crate::triage_command::{TriageFiles, triage_over};
-use crate::trouble::Trouble;
 use crate::walk_command::{WalkFiles, walk_over};
 use core_words::{ArgsError, Command, read_words};
 use outside::{Files, Sink};
+use program_run::{CoreFiles, tell};
 use std::alloc::Global;
 
 /// The text of a command.
@@ -36,7 +34,7 @@ fn text_of<'a, F: Files>(
 ) -> Result<Vec<u8>, Trouble<'a>>
     requires few { HasFewCores (asked_command command.now) }
     ensures told { (F.seen files.new).told ≡ (F.seen files.old).told }
-    ensures comes { Comes (F.seen files.old) (F.seen files.new) (asked_command command.now) result }
+    ensures comes { IsAnswered pystacks (F.seen files.old) (F.seen files.new) (asked_command command.now) result }
 {
     match command {
         Command::Walk(words) => {
@@ -45,7 +43,7 @@ fn text_of<'a, F: Files>(
         }
         Command::Dump(words) => {
             let (core, layouts) = (words.core.as_bytes(), words.layouts.as_bytes());
-            let read = ReportFiles::read(alloc, core, layouts, &words.images, files)?;
+            let read = CoreFiles::read(alloc, core, layouts, &words.images, files)?;
             Ok(dump_over(alloc, words, read)?)
         }
         Command::Triage(words) => {
@@ -54,7 +52,7 @@ fn text_of<'a, F: Files>(
         }
         Command::Reach(words) => {
             let (core, layouts) = (words.core.as_bytes(), words.layouts.as_bytes());
-            let read = ReportFiles::read(alloc, core, layouts, &words.images, files)?;
+            let read = CoreFiles::read(alloc, core, layouts, &words.images, files)?;
             Ok(reach_over(alloc, words, read)?)
         }
         Command::Merge(words) => {
@@ -63,12 +61,12 @@ fn text_of<'a, F: Files>(
         }
         Command::Locate(words) => {
             let (core, layouts) = (words.core.as_bytes(), words.layouts.as_bytes());
-            let read = ReportFiles::read(alloc, core, layouts, &words.images, files)?;
+            let read = CoreFiles::read(alloc, core, layouts, &words.images, files)?;
             Ok(locate_over(alloc, words, read)?)
         }
         Command::Slim(words) => {
             let (core, layouts) = (words.core.as_bytes(), words.layouts.as_bytes());
-            let read = ReportFiles::read(alloc, core, layouts, &words.images, files)?;
+            let read = CoreFiles::read(alloc, core, layouts, &words.images, files)?;
             Ok(slim_over(alloc, words, read)?)
         }
         Command::Sample(words) => Ok(sample_over(alloc, words)?),
@@ -83,7 +81,7 @@ fn execute<'a, F: Files, S: Sink>(
     out: &mut S,
 ) -> Result<(), Trouble<'a>>
     requires few { IfOk asked.now (λ command. HasFewCores (asked_command command)) }
-    ensures ends { (asks : Option Asked) → AnswersWords asked_command asks asked.now → HasEnded asks
+    ensures ends { (asks : Option Asked) → AnswersWords asked_command asks asked.now → HasEnded pystacks asks
         (ran (F.seen files.old) (F.seen files.new) (S.seen out.old) (S.seen out.new)) (end_after result) }
     ensures told { (F.seen files.new).told ≡ (F.seen files.old).told }
 {
@@ -130,7 +128,7 @@ pub fn run<F: Files, S: Sink, E: Sink>(
     err: &mut E,
 ) -> u8
     // each status has its cause and its line, and what `out`, `err` and the list of failed names gained
-    ensures right { HasRun (command_of (texts words.now))
+    ensures right { HasRun pystacks (command_of (texts words.now))
         (ran (F.seen files.old) (F.seen files.new) (S.seen out.old) (S.seen out.new))
         (E.seen err.old) (E.seen err.new) result }
 
@@ -138,7 +136,7 @@ pub fn run<F: Files, S: Sink, E: Sink>(
 
     // status 0 comes only after the whole text of what the command comes to was written
     ensures printed { result ≡ 0 → (text : List ℕ)
-        × Reaches (command_of (texts words.now)) (F.seen files.old).told (Ok text)
+        × Reaches pystacks (command_of (texts words.now)) (F.seen files.old).told (Ok text)
         × Appends (S.seen out.old).written (S.seen out.new).written text }
 
     // a dump ends with status 0 only after writing the text of a report whose threads are the whole chain, to null,
@@ -183,5 +181,5 @@ pub fn run<F: Files, S: Sink, E: Sink>(
 {
     let asked = read_words(alloc, words);
     let ended = execute(alloc, &asked, files, out);
-    tell(err, &ended)
+    tell(err, b"pystacks: ", &ended)
 }

@@ -2,15 +2,15 @@
 ghost use Rattle.std.specs.Prelude.{◌≡◌, IfOk};
 ghost use Rattle.core_words.specs.Words.{dump};
 ghost use Rattle.core_words.specs.Seen.{asked_dump};
-ghost use Rattle.core_report.specs.Reading.{report_contents};
+ghost use Rattle.program_run.specs.Reading.{core_contents};
 ghost use Rattle.core_report.specs.Outcome.{IsAnswer, IsOutcome, shown_report};
 
 use crate::cause::Cause;
-use crate::report_files::ReportFiles;
 use core_stacks::report;
 use core_texts::{report_json, report_text};
 use core_words::DumpWords;
 use named_images::image_list;
+use program_run::CoreFiles;
 use py_layout::Layouts;
 use py_process::Report;
 use std::alloc::{AllocError, Global};
@@ -36,11 +36,11 @@ fn shown(alloc: Global, words: &DumpWords, report: &Report) -> Result<Vec<u8>, A
 pub(crate) fn dump_over(
     alloc: Global,
     words: &DumpWords,
-    files: ReportFiles,
+    files: CoreFiles,
 ) -> Result<Vec<u8>, Cause>
-    ensures { IsAnswer (IsOutcome (dump (asked_dump words.now)) (report_contents files)) result }
+    ensures { IsAnswer (IsOutcome (dump (asked_dump words.now)) (core_contents files)) result }
 {
-    let ReportFiles {
+    let CoreFiles {
         core,
         layouts,
         images,

@@ -15,12 +15,9 @@ mod locate_command;
 mod merge_command;
 mod opened;
 mod reach_command;
-mod reading;
-mod report_files;
 mod sample_command;
 mod slim_command;
 mod triage_command;
-mod trouble;
 mod walk_command;
 
 pub use command::run;

@@ -4,13 +4,13 @@ ghost use Rattle.core_words.specs.Words.{locate};
 ghost use Rattle.core_words.specs.Seen.{asked_locate};
 ghost use Rattle.core_report.specs.Opening.{locate_text};
 ghost use Rattle.core_report.specs.Outcome.{IsAnswer, IsOutcome};
-ghost use Rattle.core_report.specs.Reading.{report_contents};
+ghost use Rattle.program_run.specs.Reading.{core_contents};
 
 use crate::cause::Cause;
 use crate::opened::open_process;
-use crate::report_files::ReportFiles;
 use core_texts::{Part, push_parts};
 use core_words::LocateWords;
+use program_run::CoreFiles;
 use py_layout::Version;
 use py_stacks::Addresses;
 use std::alloc::{AllocError, Global};
@@ -41,9 +41,9 @@ fn locate_text(
 pub(crate) fn locate_over(
     alloc: Global,
     words: &LocateWords<'_>,
-    files: ReportFiles,
+    files: CoreFiles,
 ) -> Result<Vec<u8>, Cause>
-    ensures { IsAnswer (IsOutcome (locate (asked_locate words.now)) (report_contents files)) result }
+    ensures { IsAnswer (IsOutcome (locate (asked_locate words.now)) (core_contents files)) result }
 {
     let process = open_process(alloc, &words.images, files)?;
     let text = locate_text(alloc, process.version(), process.addresses())?;

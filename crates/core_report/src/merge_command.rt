@@ -11,10 +11,7 @@ ghost use Rattle.core_report.specs.Run.{HasMergeFiles};
 ghost use Rattle.core_report.specs.Stacked.{StackedIs};
 ghost use Rattle.core_report.specs.Stacks.{threads_in, threads_stacked};
 
-use crate::cause::Cause;
-use crate::reading::read_file;
-use crate::report_files::ReportFiles;
-use crate::trouble::Trouble;
+use crate::cause::{Cause, Trouble};
 use core_merge::merge_thread;
 use core_stacks::{PythonBinaries, PythonCoreDump};
 use core_texts::frames_text;
@@ -22,6 +19,7 @@ use core_words::MergeWords;
 use image_memory::{CoreDump, Images};
 use named_images::image_list;
 use outside::Files;
+use program_run::{CoreFiles, read_file};
 use py_layout::Layouts;
 use py_process::CoreError;
 use py_stacks::{Config, StackTrace};
@@ -30,7 +28,7 @@ use std::alloc::Global;
 /// What the files of a merge hold.
 #[derive(Drop)]
 pub(crate) struct MergeFiles {
-    pub(crate) report: ReportFiles,
+    pub(crate) report: CoreFiles,
     /// The text of the addresses.
     pub(crate) addresses: Vec<u8>,
 }
@@ -46,7 +44,7 @@ impl MergeFiles {
         ensures read { HasMergeFiles (F.seen files.old) (F.seen files.new) (asked_merge words.now) result }
     {
         let (core, layouts) = (words.core.as_bytes(), words.layouts.as_bytes());
-        let report = ReportFiles::read(alloc, core, layouts, &words.images, files)?;
+        let report = CoreFiles::read(alloc, core, layouts, &words.images, files)?;
         let addresses = read_file(alloc, words.addresses.as_bytes(), files)?;
         Ok(MergeFiles { report, addresses })
     }
@@ -126,7 +124,7 @@ pub(crate) fn merge_over(
     ensures { IsAnswer (IsOutcome (merge (asked_merge words.now)) (merge_contents files)) result }
 {
     let MergeFiles { report, addresses } = files;
-    let ReportFiles {
+    let CoreFiles {
         core,
         layouts,
         images,

@@ -2,14 +2,14 @@
 ghost use Rattle.std.specs.Prelude.{◌≡◌};
 ghost use Rattle.core_report.specs.Opening.{OpenedIs};
 ghost use Rattle.core_report.specs.Outcome.{IsOpening};
-ghost use Rattle.core_report.specs.Reading.{report_contents};
+ghost use Rattle.program_run.specs.Reading.{core_contents};
 
 use crate::cause::Cause;
-use crate::report_files::ReportFiles;
 use core_stacks::PythonCoreDump;
 use elf64_core::Name;
 use image_memory::{CoreDump, Images};
 use named_images::image_list;
+use program_run::CoreFiles;
 use py_layout::Layouts;
 use py_process::CoreError;
 use std::alloc::Global;
@@ -31,11 +31,11 @@ fn open_core(
 pub(crate) fn open_process(
     alloc: Global,
     words: &[(Name, Name)],
-    files: ReportFiles,
+    files: CoreFiles,
 ) -> Result<PythonCoreDump, Cause>
-    ensures { IsOpening words.now (report_contents files) result }
+    ensures { IsOpening words.now (core_contents files) result }
 {
-    let ReportFiles {
+    let CoreFiles {
         core,
         layouts,
         images,

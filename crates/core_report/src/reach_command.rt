@@ -4,18 +4,18 @@ ghost use Rattle.py_stacks.specs.Threads.{trace_of};
 ghost use Rattle.core_words.specs.Words.{reach};
 ghost use Rattle.core_words.specs.Seen.{asked_reach};
 ghost use Rattle.core_report.specs.Outcome.{IsAnswer, IsOutcome, IsReachedIn};
-ghost use Rattle.core_report.specs.Reading.{report_contents};
+ghost use Rattle.program_run.specs.Reading.{core_contents};
 ghost use Rattle.core_report.specs.Stacked.{StackedIs, locals_asked, locals_in, object_line, reach_text, roots_of};
 ghost use Rattle.core_report.specs.Stacks.{locals_of, stacked, stacked_in};
 
 use crate::cause::Cause;
-use crate::report_files::ReportFiles;
 use core_stacks::PythonCoreDump;
 use core_texts::{Part, push_parts};
 use core_words::ReachWords;
 use image_memory::{CoreDump, Images};
 use named_images::image_list;
 use object_reach::{ReachObject, reach};
+use program_run::CoreFiles;
 use py_layout::Layouts;
 use py_process::CoreError;
 use py_stacks::{Config, LocalVariable, StackTrace};
@@ -133,11 +133,11 @@ fn push_object(text: &mut Vec<u8>, object: &ReachObject) -> Result<(), AllocErro
 pub(crate) fn reach_over(
     alloc: Global,
     words: &ReachWords<'_>,
-    files: ReportFiles,
+    files: CoreFiles,
 ) -> Result<Vec<u8>, Cause>
-    ensures { IsAnswer (IsOutcome (reach (asked_reach words.now)) (report_contents files)) result }
+    ensures { IsAnswer (IsOutcome (reach (asked_reach words.now)) (core_contents files)) result }
 {
-    let ReportFiles {
+    let CoreFiles {
         core,
         layouts,
         images,

@@ -3,16 +3,17 @@ ghost use Rattle.std.specs.Prelude.{◌≡◌, ◌≤◌, ℕ, IfOk, List, lengt
 ghost use Rattle.core_words.specs.Words.{triage};
 ghost use Rattle.core_words.specs.Seen.{asked_triage};
 ghost use Rattle.core_report.specs.Reading.{AsksCores, IsRead, triage_contents};
-ghost use Rattle.core_report.specs.Run.{Comes, HasCores, HasTriageFiles};
+ghost use Rattle.program_run.specs.Ends.{IsAnswered};
+ghost use Rattle.core_report.specs.Run.{HasCores, HasTriageFiles, pystacks};
 
+use crate::cause::Trouble;
 use crate::judged::JudgedCores;
 use crate::layouts::source_layouts;
-use crate::reading::{read_file, read_images};
-use crate::trouble::Trouble;
 use core_words::TriageWords;
 use image_memory::Images;
 use named_images::image_list;
 use outside::Files;
+use program_run::{read_file, read_images};
 use py_layout::Layouts;
 use std::alloc::Global;
 
@@ -75,7 +76,7 @@ pub(crate) fn triage_over<'a, F: Files>(
     ensures told { (F.seen files.new).told ≡ (F.seen files.old).told }
     ensures comes { IsRead (F.seen files.old).told (triage (asked_triage words.now)) (triage_contents read)
         → length read.images.items ≡ length words.now.images.items
-        → Comes (F.seen files.old) (F.seen files.new) (triage (asked_triage words.now)) result }
+        → IsAnswered pystacks (F.seen files.old) (F.seen files.new) (triage (asked_triage words.now)) result }
 {
     let TriageFiles { layouts, images } = read;
     let layouts = source_layouts(alloc, Some(layouts))?;

@@ -6,14 +6,13 @@ ghost use Rattle.core_report.specs.Reading.{walk_contents};
 ghost use Rattle.core_report.specs.Outcome.{IsAnswer, IsOutcome};
 ghost use Rattle.core_report.specs.Run.{HasWalkFiles};
 
-use crate::cause::Cause;
+use crate::cause::{Cause, Trouble};
 use crate::layouts::source_layouts;
-use crate::reading::read_file;
-use crate::trouble::Trouble;
 use core_stacks::walk;
 use core_texts::walk_text;
 use core_words::{LayoutSource, WalkWords};
 use outside::Files;
+use program_run::read_file;
 use py_layout::Version;
 use std::alloc::Global;
 

@@ -1,9 +1,8 @@
 -- Two outcomes over the same contents have one status, want of memory aside; and over contents with which nothing is
 -- wrong no outcome is a cause.
-use Rattle.std.proofs.Common.{◌≡◌, ◌≢◌, ◌⊎◌, ◌≤◌, ℕ, List, [], ◌∷◌, Result, Ok, Err, refl, sym, ap, subst, ◌∙◌, arith}
+use Rattle.std.proofs.Common.{◌≡◌, ◌≢◌, ◌≤◌, ℕ, List, [], ◌∷◌, Result, Ok, Err, refl, sym, ap, subst, ◌∙◌, arith}
 use Rattle.std.proofs.Common.{inl, inr, ⊎_elim}
 use Rattle.std.specs.Prelude.{Option, map}
-use Rattle.std.proofs.lemmas.Bool.Decides.{eqb_tells}
 use Rattle.image_memory.specs.Images.{Pushed}
 use Rattle.py_fields.specs.declared.layout.Layout.{Layout}
 use Rattle.py_layout.specs.declared.error.LayoutError.{LayoutError}
@@ -30,9 +29,11 @@ use Rattle.salvage_report.specs.declared.cause.Cause.TheVariants.{Core, Layouts,
 use Rattle.salvage_report.specs.declared.left.Left.{Left}
 use Rattle.salvage_report.specs.Opened.{AfterCore, AfterImages, AfterMaps, AfterVersion, IsMade, Opened, OpenedIs}
 use Rattle.salvage_report.specs.Outcome.{IsFaultless, IsLeft, IsLeftOf, IsOutcome, IsSalvagedBy, IsShowable, Outcome}
-use Rattle.salvage_report.specs.Outcome.{OutcomeThen, cause_status, core_status, layouts_status, left_at, looked_at}
+use Rattle.salvage_report.specs.Outcome.{OutcomeThen, cause_status, left_at, looked_at}
 use Rattle.salvage_report.specs.Outcome.{outcome_status, shown_or_none}
-use Rattle.salvage_report.specs.Reading.{images_read}
+use Rattle.named_images.specs.Named.{images_read}
+use Rattle.program_run.specs.Ends.{IsOwn}
+use Rattle.program_run.proofs.Statuses.{core_one, core_own, core_within, flaw_status, layouts_own, layouts_within, own}
 use Rattle.salvage_report.specs.Texts.{shown_left}
 
 -- two outcomes have one status, unless memory ran out
@@ -46,62 +47,17 @@ NoCause Right = (cause : Cause) → cause_status cause ≢ 5 → Right (Err caus
 
 -- ---- statuses
 
-pub cases_five : (n : ℕ) → (n ≡ 5) ⊎ (n ≢ 5)
-cases_five n = ⊎_elim (λ p. inl p.1) (λ p. inr p.1) (eqb_tells n 5)
-
-core_one : (e : CoreError) → core_status e ≢ 5 → (core_status e ≡ 1) × (e ≢ core.OutOfMemory)
-core_one core.NotElf64 ne = (refl, λ is. cc)
-core_one core.BadHeader ne = (refl, λ is. cc)
-core_one core.NoNotes ne = (refl, λ is. cc)
-core_one core.BadNote ne = (refl, λ is. cc)
-core_one core.NoBinary ne = (refl, λ is. cc)
-core_one (core.NoImage path) ne = (refl, λ is. cc)
-core_one (core.BadImage path) ne = (refl, λ is. cc)
-core_one (core.UnreadableVersion addr len) ne = (refl, λ is. cc)
-core_one core.NoVersion ne = (refl, λ is. cc)
-core_one (core.UnsupportedVersion version) ne = (refl, λ is. cc)
-core_one core.NoInterpreter ne = (refl, λ is. cc)
-core_one (core.Unreadable addr len) ne = (refl, λ is. cc)
-core_one core.NativeUnsupported ne = (refl, λ is. cc)
-core_one core.SubprocessesUnsupported ne = (refl, λ is. cc)
-core_one (core.BadValue frame) ne = (refl, λ is. cc)
-core_one (core.LocalsLimit count) ne = (refl, λ is. cc)
-core_one core.ThreadLimit ne = (refl, λ is. cc)
-core_one core.FrameLimit ne = (refl, λ is. cc)
-core_one core.ChainLimit ne = (refl, λ is. cc)
-core_one core.OutOfMemory ne = absurd (ne refl)
-
-flaw_status : (e : LayoutError) → layouts_status e ≢ 5 → (layouts_status e ≡ 6) × (e ≢ layout.OutOfMemory)
-flaw_status layout.NotToml ne = (refl, λ is. cc)
-flaw_status (layout.Shape table key) ne = (refl, λ is. cc)
-flaw_status (layout.Unsound table) ne = (refl, λ is. cc)
-flaw_status (layout.Clash first second) ne = (refl, λ is. cc)
-flaw_status layout.OutOfMemory ne = absurd (ne refl)
-
--- the status of a cause is no other end's
-pub record IsOwn (n : ℕ) : Type 0 where
-  pub within : n ≤ 6
-  pub not_0 : n ≢ 0
-  pub not_2 : n ≢ 2
-  pub not_3 : n ≢ 3
-  pub not_4 : n ≢ 4
-
-own : (n : ℕ) → (n ≡ 1) ⊎ ((n ≡ 5) ⊎ (n ≡ 6)) → IsOwn n
-own n h = record {
-  within = ⊎_elim (λ a. omega (arith, a)) (λ r. ⊎_elim (λ b. omega (arith, b)) (λ d. omega (arith, d)) r) h;
-  not_0 = λ is. ⊎_elim (λ a. omega (arith, a, is)) (λ r. ⊎_elim (λ b. omega (arith, b, is)) (λ d. omega (arith, d, is)) r) h;
-  not_2 = λ is. ⊎_elim (λ a. omega (arith, a, is)) (λ r. ⊎_elim (λ b. omega (arith, b, is)) (λ d. omega (arith, d, is)) r) h;
-  not_3 = λ is. ⊎_elim (λ a. omega (arith, a, is)) (λ r. ⊎_elim (λ b. omega (arith, b, is)) (λ d. omega (arith, d, is)) r) h;
-  not_4 = λ is. ⊎_elim (λ a. omega (arith, a, is)) (λ r. ⊎_elim (λ b. omega (arith, b, is)) (λ d. omega (arith, d, is)) r) h;
-}
-
 pub cause_own : (cause : Cause) → IsOwn (cause_status cause)
-cause_own (Core e) =
-    own (core_status e) (⊎_elim (λ five. inr (inl five)) (λ ne. inl (core_one e ne).0) (cases_five (core_status e)))
-cause_own (Layouts e) =
-    own (layouts_status e) (⊎_elim (λ five. inr (inl five)) (λ ne. inr (inr (flaw_status e ne).0)) (cases_five (layouts_status e)))
+cause_own (Core e) = core_own e
+cause_own (Layouts e) = layouts_own e
 cause_own (NoInterpreter addresses) = own 1 (inl refl)
-cause_own OutOfMemory = own 5 (inr (inl refl))
+cause_own OutOfMemory = own 5 (inr (omega arith))
+
+pub cause_within : (cause : Cause) → cause_status cause ≤ 6
+cause_within (Core e) = core_within e
+cause_within (Layouts e) = layouts_within e
+cause_within (NoInterpreter addresses) = omega arith
+cause_within OutOfMemory = omega arith
 
 -- ---- two steps
 

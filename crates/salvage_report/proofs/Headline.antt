@@ -13,8 +13,11 @@ use Rattle.salvage_words.specs.Salvage.Wanted.{salvage}
 use Rattle.salvage_report.specs.declared.cause.Cause.{Cause}
 use Rattle.salvage_report.specs.Headline.{HasSalvaged}
 use Rattle.salvage_report.specs.Outcome.{IsOutcome, IsSalvagedBy, Outcome, looked_at, shown_or_none}
-use Rattle.salvage_report.specs.Reading.{AreRead, files_of, images_read}
-use Rattle.salvage_report.specs.Run.{ComesTo, Reaches}
+use Rattle.named_images.specs.Named.{images_read}
+use Rattle.program_run.specs.Ends.{Reaches}
+use Rattle.program_run.specs.Reading.{AreRead}
+use Rattle.salvage_report.specs.Reading.{files_of}
+use Rattle.salvage_report.specs.Run.{ComesTo, pysalvage}
 use Rattle.salvage_report.specs.Texts.{shown_left}
 
 no_text : (s : List ℕ) (cause : Cause) → ◌≡◌ {A = Outcome} (Ok s) (Err cause) → ⊥
@@ -56,6 +59,6 @@ module _ (s : Salvage) (told : Told) (old new : SinkSeen) (written : List ℕ) (
   comes : ComesTo told (salvage s) (Ok written) → HasSalvaged s told old new
   comes h = by_contents h.contents h.read h.is
 
-  pub salvaged_of_run : (asked : Option Wanted) → asked ≡ Some (salvage s) → Reaches asked told (Ok written) → HasSalvaged s told old new
+  pub salvaged_of_run : (asked : Option Wanted) → asked ≡ Some (salvage s) → Reaches pysalvage asked told (Ok written) → HasSalvaged s told old new
   salvaged_of_run asked is reached =
       comes (subst (λ w. ComesTo told w (Ok written)) (same_Some _ _ (sym reached.is_asked ∙ is)) reached.comes)

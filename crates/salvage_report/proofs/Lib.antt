@@ -1,4 +1,3 @@
-pub mod Contents
 pub mod Opening
 pub mod Remains
 pub mod Agreement

@@ -9,7 +9,9 @@ use Rattle.salvage_words.specs.Salvage.{Salvage}
 use Rattle.salvage_report.specs.declared.left.Left.{Left}
 use Rattle.salvage_report.specs.Opened.{Opened, OpenedIs}
 use Rattle.salvage_report.specs.Outcome.{IsLeft}
-use Rattle.salvage_report.specs.Reading.{AreRead, files_of, images_read}
+use Rattle.named_images.specs.Named.{images_read}
+use Rattle.program_run.specs.Reading.{AreRead}
+use Rattle.salvage_report.specs.Reading.{files_of}
 use Rattle.salvage_report.specs.Texts.{shown_left}
 
 -- The text of what is left of a process was written, or its JSON where the words ask for that: of at least one

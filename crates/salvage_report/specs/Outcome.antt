@@ -7,13 +7,9 @@ use Rattle.image_memory.specs.Images.{Pushed}
 use Rattle.image_memory.specs.Maps.{in_maps}
 use Rattle.py_fields.specs.declared.layout.Layout.{Layout}
 use Rattle.py_layout.specs.File.{IsRightFor}
-use Rattle.py_layout.specs.declared.error.LayoutError.{LayoutError}
-use Rattle.py_layout.specs.declared.error.LayoutError.TheVariants as layout
 use Rattle.py_stacks.specs.declared.asked.Asked.{Asked}
 use Rattle.py_stacks.specs.declared.asked.LineNo.TheVariants.{LastInstruction}
 use Rattle.py_process.specs.Reports.{NotesTell, memory_in}
-use Rattle.py_process.specs.declared.core_error.CoreError.{CoreError}
-use Rattle.py_process.specs.declared.core_error.CoreError.TheVariants as core
 use Rattle.py_fronts.specs.Candidates.{named_candidates, searched_candidates}
 use Rattle.salvage_marks.specs.Salvaged.{SalvagedShown, locked, salvaged_at}
 use Rattle.salvage_marks.specs.declared.crash.Crash.{Crash}
@@ -25,7 +21,8 @@ use Rattle.salvage_report.specs.declared.cause.Cause.TheVariants.{Core, Layouts,
 use Rattle.salvage_report.specs.declared.left.Left.{Left}
 use Rattle.salvage_report.specs.Crashed.{CrashTold}
 use Rattle.salvage_report.specs.Opened.{Opened, OpenedIs}
-use Rattle.salvage_report.specs.Reading.{images_read}
+use Rattle.named_images.specs.Named.{images_read}
+pub use Rattle.program_run.specs.Statuses.{core_status, layouts_status}
 use Rattle.salvage_report.specs.Texts.{shown_left}
 use Rattle.std.specs.Prelude.{map}
 
@@ -105,14 +102,6 @@ IsFaultless s (bytes ∷ text ∷ images) = (layouts : List Layout) × IsRightFo
 IsFaultless s _ = ⊥
 
 -- ---- statuses
-
-abbrev pub core_status : CoreError → ℕ
-core_status core.OutOfMemory = 5
-core_status _ = 1
-
-abbrev pub layouts_status : LayoutError → ℕ
-layouts_status layout.OutOfMemory = 5
-layouts_status _ = 6
 
 -- want of memory has one status, wherever it came
 abbrev pub cause_status : Cause → ℕ

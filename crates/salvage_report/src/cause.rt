@@ -1,7 +1,9 @@
 //! Why there is no text.
 ghost use Rattle.std.specs.Prelude.{◌≡◌};
-ghost use Rattle.salvage_report.specs.Outcome.{cause_status};
 
+use crate::lines::cause_parts;
+use core_texts::Parts;
+use program_run::RunCause;
 use py_layout::LayoutError;
 use py_process::CoreError;
 use py_stacks::StackError;
@@ -20,11 +22,22 @@ pub(crate) enum Cause {
     OutOfMemory,
 }
 
-impl Cause {
-    /// The status of a run that ends by this cause.
-    pub(crate) fn status(&self) -> u8
-        ensures { result ≡ cause_status self.now }
-    {
+/// Why a run printed nothing, or not all.
+pub(crate) type Trouble<'a> = program_run::Trouble<'a, Cause>;
+
+impl RunCause for Cause {
+    ghost use Rattle.salvage_report.specs.Lines.{cause_says};
+    ghost use Rattle.salvage_report.specs.declared.cause.Cause.TheVariants.{OutOfMemory};
+
+    ghost says = { cause_says };
+
+    ghost memory = { OutOfMemory };
+
+    fn out_of_memory() -> Cause {
+        Cause::OutOfMemory
+    }
+
+    fn status(&self) -> u8 {
         match self {
             Cause::Core(CoreError::OutOfMemory)
             | Cause::Layouts(LayoutError::OutOfMemory)
@@ -32,6 +45,10 @@ impl Cause {
             Cause::Core(_) | Cause::NoInterpreter { .. } => 1,
             Cause::Layouts(_) => 6,
         }
+    }
+
+    fn parts<'a>(&'a self) -> Parts<'a> {
+        cause_parts(self)
     }
 }
 

@@ -9,15 +9,14 @@ ghost use Rattle.salvage_words.specs.Seen.{asked_by};
 ghost use Rattle.salvage_report.specs.declared.cause.Cause.{Cause as Why};
 ghost use Rattle.salvage_report.specs.Headline.{HasSalvaged};
 ghost use Rattle.salvage_report.specs.Outcome.{IsFaultless, IsOutcome, cause_status};
-ghost use Rattle.salvage_report.specs.Run.{Comes, HasEnded, HasRun, IsFew, Reaches, TellsContents, end_after, ran};
+ghost use Rattle.salvage_report.specs.Run.{IsFew, TellsContents, pysalvage};
+ghost use Rattle.program_run.specs.Ends.{HasEnded, HasRun, IsAnswered, Reaches, end_after, ran};
 
-use crate::cause::Cause;
-use crate::files::SalvageFiles;
+use crate::cause::{Cause, Trouble};
 use crate::help::{help, program_version};
 use crate::left::salvage_over;
-use crate::lines::tell;
-use crate::trouble::Trouble;
 use outside::{Files, Sink};
+use program_run::{CoreFiles, tell};
 use salvage_words::{ArgsError, Asked, read_words};
 use std::alloc::Global;
 
@@ -29,13 +28,14 @@ fn text_of<'a, F: Files>(
 ) -> Result<Vec<u8>, Trouble<'a>>
     requires few { IsFew (asked_by asked.now) }
     ensures told { (F.seen files.new).told ≡ (F.seen files.old).told }
-    ensures comes { Comes (F.seen files.old) (F.seen files.new) (asked_by asked.now) result }
+    ensures comes { IsAnswered pysalvage (F.seen files.old) (F.seen files.new) (asked_by asked.now) result }
 {
     match asked {
         Asked::Help => Ok(help(alloc)?),
         Asked::Version => Ok(program_version(alloc)?),
         Asked::Salvage(words) => {
-            let read = SalvageFiles::read(alloc, words, files)?;
+            let (core, layouts) = (words.core.as_bytes(), words.layouts.as_bytes());
+            let read = CoreFiles::read(alloc, core, layouts, &words.images, files)?;
             Ok(salvage_over(alloc, words, read)?)
         }
     }
@@ -49,7 +49,7 @@ fn execute<'a, F: Files, S: Sink>(
     out: &mut S,
 ) -> Result<(), Trouble<'a>>
     requires few { IfOk asked.now (λ wanted. IsFew (asked_by wanted)) }
-    ensures ends { (asks : Option Wanted) → AnswersWords asked_by asks asked.now → HasEnded asks
+    ensures ends { (asks : Option Wanted) → AnswersWords asked_by asks asked.now → HasEnded pysalvage asks
         (ran (F.seen files.old) (F.seen files.new) (S.seen out.old) (S.seen out.new)) (end_after result) }
     ensures told { (F.seen files.new).told ≡ (F.seen files.old).told }
 {
@@ -91,7 +91,7 @@ pub fn run<F: Files, S: Sink, E: Sink>(
     err: &mut E,
 ) -> u8
     // each status has its cause and its line, and what `out`, `err` and the list of failed names gained
-    ensures right { HasRun (words_asked (texts words.now))
+    ensures right { HasRun pysalvage (words_asked (texts words.now))
         (ran (F.seen files.old) (F.seen files.new) (S.seen out.old) (S.seen out.new))
         (E.seen err.old) (E.seen err.new) result }
 
@@ -99,7 +99,7 @@ pub fn run<F: Files, S: Sink, E: Sink>(
 
     // status 0 comes only after the whole text of what is asked for was written
     ensures printed { result ≡ 0 → (text : List ℕ)
-        × Reaches (words_asked (texts words.now)) (F.seen files.old).told (Ok text)
+        × Reaches pysalvage (words_asked (texts words.now)) (F.seen files.old).told (Ok text)
         × Appends (S.seen out.old).written (S.seen out.new).written text }
 
     // where a core is asked for, the text is that of what is left of its interpreters over the memory of the core and
@@ -136,5 +136,5 @@ pub fn run<F: Files, S: Sink, E: Sink>(
 {
     let asked = read_words(alloc, words);
     let ended = execute(alloc, &asked, files, out);
-    tell(err, &ended)
+    tell(err, b"pysalvage: ", &ended)
 }

@@ -3,17 +3,17 @@ ghost use Rattle.std.specs.Prelude.{◌≡◌, ◌≤◌, IfOk};
 ghost use Rattle.py_fields.specs.Sound.{IsSound};
 ghost use Rattle.salvage_words.specs.Seen.{asked_salvage};
 ghost use Rattle.salvage_report.specs.Outcome.{IsAnswer, IsOutcome, IsSalvagedBy};
-ghost use Rattle.salvage_report.specs.Reading.{files_contents};
+ghost use Rattle.program_run.specs.Reading.{core_contents};
 ghost use Rattle.salvage_report.specs.Seen.{Counts, Salvages, ShowsLeft};
 
 use crate::cause::Cause;
 use crate::crash::first_crash;
-use crate::files::SalvageFiles;
 use crate::process::{Process, open};
 use crate::text::shown;
 use elf64_core::Text;
 use image_memory::Images;
 use named_images::image_list;
+use program_run::CoreFiles;
 use py_fronts::{named_candidates, searched_candidates};
 use py_layout::{Layouts, Version};
 use py_stacks::{Asked, LineNo, StackError};
@@ -125,12 +125,12 @@ fn salvage_core(
 pub(crate) fn salvage_over(
     alloc: Global,
     words: &SalvageWords,
-    files: SalvageFiles,
+    files: CoreFiles,
 ) -> Result<Vec<u8>, Cause>
     requires few { words.now.limit ≤ 4096 }
-    ensures { IsAnswer (IsOutcome (asked_salvage words.now) (files_contents files)) result }
+    ensures { IsAnswer (IsOutcome (asked_salvage words.now) (core_contents files)) result }
 {
-    let SalvageFiles {
+    let CoreFiles {
         core,
         layouts,
         images,

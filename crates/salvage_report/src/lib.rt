@@ -7,12 +7,10 @@
 mod cause;
 mod command;
 mod crash;
-mod files;
 mod help;
 mod left;
 mod lines;
 mod process;
 mod text;
-mod trouble;
 
 pub use command::run;

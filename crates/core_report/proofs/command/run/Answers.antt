@@ -1,7 +1,10 @@
 use Rattle.core_words.specs.Words.{command_of, texts}
-use Rattle.core_report.specs.Run.{end_after}
-use Rattle.core_report.proofs.Ends.{run_all_read, run_asked, run_complete, run_nothing_out, run_only, run_pieces}
-use Rattle.core_report.proofs.Ends.{run_printed, run_refused, run_silent, run_status, run_unread}
+use Rattle.program_run.specs.Ends.{end_after}
+use Rattle.program_run.proofs.Ends.{run_all_read, run_asked, run_nothing_out, run_printed, run_refused, run_silent}
+use Rattle.program_run.proofs.Ends.{run_unread}
+use Rattle.core_report.specs.Run.{pystacks}
+use Rattle.core_report.proofs.Commands.{cause_own}
+use Rattle.core_report.proofs.Ends.{run_complete, run_only, run_pieces, run_status}
 use Rattle.core_report.proofs.Headline.{reported_of_run}
 use Rattle.core_report.proofs.command.run.Goals as goal
 
@@ -17,7 +20,7 @@ pub returns-clause-statuses : goal.returns-clause-statuses
 returns-clause-statuses g c = run_status (returns-clause-right g c)
 
 pub returns-clause-printed : goal.returns-clause-printed
-returns-clause-printed g c = run_printed (returns-clause-right g c)
+returns-clause-printed g c = run_printed pystacks cause_own (returns-clause-right g c)
 
 pub returns-clause-headline : goal.returns-clause-headline
 returns-clause-headline g c d asks is =
@@ -26,22 +29,22 @@ returns-clause-headline g c d asks is =
     printed.0 printed.2 (command_of (texts c.args.words.now)) asks printed.1
 
 pub returns-clause-silent : goal.returns-clause-silent
-returns-clause-silent g c = run_silent (returns-clause-right g c)
+returns-clause-silent g c = run_silent pystacks cause_own (returns-clause-right g c)
 
 pub returns-clause-nothing_out : goal.returns-clause-nothing_out
-returns-clause-nothing_out g c = run_nothing_out (returns-clause-right g c)
+returns-clause-nothing_out g c = run_nothing_out pystacks cause_own (returns-clause-right g c)
 
 pub returns-clause-refused : goal.returns-clause-refused
-returns-clause-refused g c = run_refused (returns-clause-right g c)
+returns-clause-refused g c = run_refused pystacks cause_own (returns-clause-right g c)
 
 pub returns-clause-asked : goal.returns-clause-asked
-returns-clause-asked g c = run_asked (returns-clause-right g c)
+returns-clause-asked g c = run_asked pystacks cause_own (returns-clause-right g c)
 
 pub returns-clause-unread : goal.returns-clause-unread
-returns-clause-unread g c = run_unread (returns-clause-right g c)
+returns-clause-unread g c = run_unread pystacks cause_own (returns-clause-right g c)
 
 pub returns-clause-all_read : goal.returns-clause-all_read
-returns-clause-all_read g c = run_all_read (returns-clause-right g c)
+returns-clause-all_read g c = run_all_read pystacks cause_own (returns-clause-right g c)
 
 pub returns-clause-only : goal.returns-clause-only
 returns-clause-only g c = run_only (returns-clause-right g c)

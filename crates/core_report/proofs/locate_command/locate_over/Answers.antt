@@ -2,7 +2,7 @@ use Rattle.std.proofs.Common.{Err, Ok, ap, ap₂, inl, inr, refl, subst, ◌∙�
 use Rattle.std.proofs.lemmas.Result.{err_from_is_err_and}
 use Rattle.core_report.specs.Opening.{locate_text}
 use Rattle.core_report.specs.Outcome.{OpensBy}
-use Rattle.core_report.specs.Reading.{report_contents}
+use Rattle.core_report.specs.Reading.{core_contents}
 use Rattle.core_report.proofs.locate_command.locate_over.Goals as goal
 
 pub returns-in_err-process : goal.returns-in_err-process
@@ -12,7 +12,7 @@ returns-in_err-process c =
     rw (p.1, p.2) (λ ne. inl (
       error,
       refl,
-      subst (λ named. OpensBy named (report_contents c.args.files) (Err error))
+      subst (λ named. OpensBy named (core_contents c.args.files) (Err error))
           c.deref.ensures.value (c.in_err-process.ensures ne),
     ))
 
@@ -23,7 +23,7 @@ returns-in_err-text c =
 
 pub returns : goal.returns
 returns c =
-    let opens = subst (λ named. OpensBy named (report_contents c.args.files) (Ok c.in_ok-process.process))
+    let opens = subst (λ named. OpensBy named (core_contents c.args.files) (Ok c.in_ok-process.process))
     c.deref.ensures.value c.in_ok-process.ensures in
     inr (
       c.in_ok-process.process,

@@ -3,7 +3,7 @@ use Rattle.std.proofs.lemmas.Result.{err_from_is_err_and}
 use Rattle.core_words.specs.Seen.{asked_reach}
 use Rattle.core_report.specs.declared.cause.Cause.TheVariants.{Core}
 use Rattle.core_report.specs.Outcome.{IsReachOutcome, IsReachedBy, IsReachedIn, images_read}
-use Rattle.core_report.specs.Reading.{contents, report_contents}
+use Rattle.core_report.specs.Reading.{contents, core_contents}
 use Rattle.core_report.specs.Stacks.{stacked}
 use Rattle.core_report.proofs.Leading.{reached_over}
 use Rattle.core_report.proofs.Weaker.{answer_weaker}
@@ -29,7 +29,7 @@ returns c =
     let says = rw c.deref.ensures.value at c.in_ok-layouts.ensures.right in
     let s = stacked c.in_ok-stacks.stacks in
     let files = c.args.files in
-    answer_weaker (IsReachedIn r.index s) (IsReachOutcome r (report_contents files))
+    answer_weaker (IsReachedIn r.index s) (IsReachOutcome r (core_contents files))
     (reached_over r files.core.items files.layouts.items (contents files.images.items) _ c.in_ok-layouts.layouts s says
     (c.in_ok-images.ensures ∙ ap (λ w. images_read w (contents files.images.items)) c.deref-2.ensures.value) c.in_ok-stacks.ensures)
     c.reached_in.result c.reached_in.ensures

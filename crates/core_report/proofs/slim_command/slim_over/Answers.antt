@@ -2,7 +2,7 @@ use Rattle.std.proofs.Common.{Err, Ok, inl, inr, refl, subst}
 use Rattle.std.proofs.lemmas.Result.{err_from_is_err_and}
 use Rattle.core_stacks.specs.Slimmed.{SlimmedSays}
 use Rattle.core_report.specs.Outcome.{OpensBy}
-use Rattle.core_report.specs.Reading.{report_contents}
+use Rattle.core_report.specs.Reading.{core_contents}
 use Rattle.core_report.proofs.slim_command.slim_over.Goals as goal
 
 pub returns-in_err-process : goal.returns-in_err-process
@@ -12,14 +12,14 @@ returns-in_err-process c =
     rw (p.1, p.2) (λ ne. inl (
       error,
       refl,
-      subst (λ named. OpensBy named (report_contents c.args.files) (Err error))
+      subst (λ named. OpensBy named (core_contents c.args.files) (Err error))
           c.deref.ensures.value (c.in_err-process.ensures ne),
     ))
 
 pub returns-in_err-bytes : goal.returns-in_err-bytes
 returns-in_err-bytes c =
     let p = err_from_is_err_and c.from_residual-in_err-bytes.result c.from_residual-in_err-bytes.ensures.1 in
-    let opens = subst (λ named. OpensBy named (report_contents c.args.files) (Ok c.in_ok-process.process))
+    let opens = subst (λ named. OpensBy named (core_contents c.args.files) (Ok c.in_ok-process.process))
     c.deref.ensures.value c.in_ok-process.ensures in
     let o = c.in_ok-process.process in
     let error = c.in_err-bytes.field-0.0 in
@@ -35,7 +35,7 @@ returns-in_err-bytes c =
 
 pub returns : goal.returns
 returns c =
-    let opens = subst (λ named. OpensBy named (report_contents c.args.files) (Ok c.in_ok-process.process))
+    let opens = subst (λ named. OpensBy named (core_contents c.args.files) (Ok c.in_ok-process.process))
     c.deref.ensures.value c.in_ok-process.ensures in
     let o = c.in_ok-process.process in
     inr (

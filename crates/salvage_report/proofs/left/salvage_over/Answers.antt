@@ -2,7 +2,7 @@ use Rattle.std.proofs.Common.{◌∙◌, ap, inl, refl, subst}
 use Rattle.std.proofs.lemmas.Result.{err_from_is_err_and}
 use Rattle.salvage_words.specs.Seen.{asked_salvage}
 use Rattle.salvage_report.specs.Outcome.{IsAnswer, IsSalvagedBy}
-use Rattle.salvage_report.specs.Reading.{contents, images_read}
+use Rattle.named_images.specs.Named.{contents, images_read}
 use Rattle.py_layout.specs.File.{IsRightFor}
 use Rattle.salvage_report.specs.declared.cause.Cause.TheVariants.{Layouts}
 use Rattle.salvage_report.proofs.Comes.{after}

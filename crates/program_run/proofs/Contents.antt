@@ -1,15 +1,14 @@
--- Files read in turn: one file more, one that could not be read, and that the contents are the same where the files tell
--- them.
+-- Files read in turn: one file more, one that could not be read, and that the contents are the same where the files
+-- tell them.
 use Rattle.std.proofs.Common.{◌≡◌, ◌<◌, ◌+◌, ℕ, List, [], ◌∷◌, ◌++◌, length, take, drop, get_or, map, refl, sym, ap}
 use Rattle.std.proofs.Common.{subst, ◌∙◌}
 use Rattle.std.specs.Prelude.{IsSome, Some, None}
 use Rattle.std.proofs.lemmas.List.{take_more, take-append-drop, at_drop_more, map-append}
 use Rattle.std.proofs.lemmas.Option.{same_Some}
 use Rattle.outside.specs.Files.{FilesSeen, Told, Gives}
-use Rattle.salvage_report.specs.declared.cause.Cause.TheVariants.{OutOfMemory}
-use Rattle.salvage_report.specs.declared.trouble.Trouble.{Trouble}
-use Rattle.salvage_report.specs.declared.trouble.Trouble.TheVariants.{Cause as Caused, File}
-use Rattle.salvage_report.specs.Reading.{AreRead, IsReadTrouble, IsUnreadTrouble}
+use Rattle.program_run.specs.declared.trouble.FileTrouble.{FileTrouble}
+use Rattle.program_run.specs.declared.trouble.FileTrouble.TheVariants.{File, OutOfMemory}
+use Rattle.program_run.specs.Reading.{AreRead, IsReadTrouble, IsUnreadTrouble}
 
 -- one file more
 pub more_read : (told : Told) (names contents : List (List ℕ)) (name bytes : List ℕ) → AreRead told names contents
@@ -20,12 +19,13 @@ more_read told (n ∷ ns) [] name bytes are gives = absurd are
 more_read told (n ∷ ns) (b ∷ bs) name bytes are gives = (are.0, more_read told ns bs name bytes are.1 gives)
 
 -- the files of the first elements of a list, and one more
-pub one_more : {T : Type 0} (told now : Told) (f : T → List ℕ) (xs : List T) (i : ℕ) (x d : T) (contents new : List (List ℕ)) (bytes : List ℕ)
-    → i < length xs → x ≡ get_or xs i d → AreRead told (map f (take i xs)) contents → now ≡ told → Gives now (f x) bytes
+pub one_more : {T : Type 0} (told now : Told) (f : T → List ℕ) (xs : List T) (i : ℕ) (x d : T)
+    (contents new : List (List ℕ)) (bytes : List ℕ) → i < length xs → x ≡ get_or xs i d → AreRead told (map f (take i xs)) contents → now ≡ told → Gives now (f x) bytes
     → new ≡ contents ++ bytes ∷ [] → AreRead told (map f (take (i + 1) xs)) new
 one_more told now f xs i x d contents new bytes lt is are same gives pushed =
     let names : map f (take (i + 1) xs) ≡ map f (take i xs) ++ f x ∷ [] =
-    ap (map f) (take_more xs i d lt) ∙ map-append f (take i xs) (get_or xs i d ∷ []) ∙ ap (λ y. map f (take i xs) ++ f y ∷ []) (sym is) in
+    ap (map f) (take_more xs i d lt) ∙ map-append f (take i xs) (get_or xs i d ∷ [])
+    ∙ ap (λ y. map f (take i xs) ++ f y ∷ []) (sym is) in
     subst (λ ns. AreRead told ns new) (sym names) (subst (AreRead told (map f (take i xs) ++ f x ∷ [])) (sym pushed)
     (more_read told (map f (take i xs)) contents (f x) bytes are (subst (λ t. Gives t (f x) bytes) same gives)))
 
@@ -39,44 +39,47 @@ around f xs i x d lt is =
 
 -- ---- a file that could not be read
 
-pub unread : (old mid new : FilesSeen) (names before behind contents : List (List ℕ)) (name : List ℕ) (t : Trouble)
+pub unread : (old mid new : FilesSeen) (names before behind contents : List (List ℕ)) (name : List ℕ) (t : FileTrouble)
     → names ≡ before ++ name ∷ behind → AreRead old.told before contents → mid.failed ≡ old.failed
     → IsReadTrouble mid.failed new.failed name t → IsUnreadTrouble old new names t
-unread old mid new names before behind contents name (Caused OutOfMemory) are read same h = h ∙ same
+unread old mid new names before behind contents name OutOfMemory are read same h = h ∙ same
 unread old mid new names before behind contents name (File n why) are read same h = record {
-  before = before;
-  behind = behind;
-  are = are ∙ ap (λ x. before ++ x ∷ behind) (sym h.0);
-  contents = contents;
-  read = read;
+  asks = record {
+    before = before;
+    behind = behind;
+    are = are ∙ ap (λ x. before ++ x ∷ behind) (sym h.0);
+    contents = contents;
+    read = read;
+  };
   not_memory = h.1;
   failed = h.2 ∙ ap (λ b. b ++ (n.now, why) ∷ []) same;
 }
-unread old mid new names before behind contents name _ are read same h = absurd h
 
 -- after another file that was read
-pub later : (old mid new : FilesSeen) (names : List (List ℕ)) (name bytes : List ℕ) (t : Trouble)
+pub later : (old mid new : FilesSeen) (names : List (List ℕ)) (name bytes : List ℕ) (t : FileTrouble)
     → mid.told ≡ old.told → mid.failed ≡ old.failed → Gives old.told name bytes
     → IsUnreadTrouble mid new names t → IsUnreadTrouble old new (name ∷ names) t
-later old mid new names name bytes (Caused OutOfMemory) told failed gives h = h ∙ failed
+later old mid new names name bytes OutOfMemory told failed gives h = h ∙ failed
 later old mid new names name bytes (File n why) told failed gives h = record {
-  before = name ∷ h.before;
-  behind = h.behind;
-  are = ap (λ ns. name ∷ ns) h.are;
-  contents = bytes ∷ h.contents;
-  read = (gives, subst (λ t. AreRead t h.before h.contents) told h.read);
+  asks = record {
+    before = name ∷ h.asks.before;
+    behind = h.asks.behind;
+    are = ap (λ ns. name ∷ ns) h.asks.are;
+    contents = bytes ∷ h.asks.contents;
+    read = (gives, subst (λ t. AreRead t h.asks.before h.asks.contents) told h.asks.read);
+  };
   not_memory = h.not_memory;
   failed = h.failed ∙ ap (λ b. b ++ (n.now, why) ∷ []) failed;
 }
-later old mid new names name bytes _ told failed gives h = absurd h
 
 -- ---- the contents are the same where the files tell them
 
-told_same : (told : Told) (name a b : List ℕ) → IsSome told → Gives told name a → Gives told name b → a ≡ b
+pub told_same : (told : Told) (name a b : List ℕ) → IsSome told → Gives told name a → Gives told name b → a ≡ b
 told_same None name a b some one other = absurd (let h : _ = some in cc)
 told_same (Some files) name a b some one other = same_Some a b (sym one ∙ other)
 
-pub same_contents : (told : Told) (names xs ys : List (List ℕ)) → IsSome told → AreRead told names xs → AreRead told names ys → xs ≡ ys
+pub same_contents : (told : Told) (names xs ys : List (List ℕ)) → IsSome told → AreRead told names xs
+    → AreRead told names ys → xs ≡ ys
 same_contents told [] [] [] some a b = refl
 same_contents told [] (x ∷ xs) ys some a b = absurd a
 same_contents told [] [] (y ∷ ys) some a b = absurd b

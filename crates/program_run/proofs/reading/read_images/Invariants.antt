@@ -1,6 +1,6 @@
 use Rattle.std.proofs.Common.{◌≡◌, map, take}
-use Rattle.salvage_report.specs.Reading.{AreRead, contents}
-use Rattle.salvage_report.proofs.files.read_images.Given as goal
+use Rattle.program_run.specs.Reading.{AreRead, contents}
+use Rattle.program_run.proofs.reading.read_images.Given as goal
 
 abbrev pub invariant-loop-image : goal.invariant-loop-image
 invariant-loop-image g l = record {
