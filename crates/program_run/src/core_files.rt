@@ -9,7 +9,7 @@ use outside::Files;
 use std::alloc::Global;
 
 /// What the files of a core hold.
-#[derive(Debug, Drop)]
+#[derive(Drop)]
 pub struct CoreFiles {
     /// The bytes of the core.
     pub core: Vec<u8>,

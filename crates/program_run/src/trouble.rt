@@ -6,7 +6,7 @@ use outside::FileFault;
 use std::alloc::AllocError;
 
 /// Why a file was not read.
-#[derive(Debug, Drop)]
+#[derive(Drop)]
 pub enum FileTrouble<'a> {
     /// The file of this name could not be read, or is too long.
     File { name: &'a [u8], fault: FileFault },
@@ -15,7 +15,7 @@ pub enum FileTrouble<'a> {
 }
 
 /// Why a run printed nothing, or not all.
-#[derive(Debug, Drop)]
+#[derive(Drop)]
 pub enum Trouble<'a, C> {
     /// What the words ask for comes to no text.
     Cause(C),
