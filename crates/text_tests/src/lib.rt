@@ -1,4 +1,5 @@
-//! Tests of texts, lines and keys of stacks, and of what the public types of all crates can do beside their calls.
+//! Tests of texts, lines and keys of stacks, of the system's files and streams, and of what the public types of all
+//! crates can do beside their calls.
 #![tactic(auto)]
 
 #[cfg(test)]
@@ -7,5 +8,7 @@ mod derive_tests;
 mod key_tests;
 #[cfg(test)]
 mod line_tests;
+#[cfg(test)]
+mod system_tests;
 #[cfg(test)]
 mod trace_tests;
