@@ -48,6 +48,12 @@ def words() -> Iterator[Row]:
         ("no lock", "walk core sample 3.9.0 0x10000 "),
     ):
         yield row(f"walk: words: {what}", text, files, line="bad words", status=2)
+    for what, text, name in (
+        ("a core of an empty name", "walk  sample 3.9.0 0x10000 0", ""), ("a folder for a core", "walk . sample 3.9.0 0x10000 0", "."),
+        ("a layout file of an empty name", "walk core  3.9.0 0x10000 0", ""),
+        ("a core below a file", "walk core/core sample 3.9.0 0x10000 0", "core/core"),
+    ):
+        yield row(f"walk: {what}", text, files, line=f"cannot read {name}", status=3)
     yield row("walk: digits of either case", "walk core sample 3.9.0 0xfFaB 0", files, line="unreadable at 0xffb3, 8 bytes")
     yield row("walk: the greatest address", "walk core sample 3.9.0 18446744073709551615 0", files,
               line="unreadable at 0xffffffffffffffff, 8 bytes")
