@@ -18,7 +18,7 @@ fn address_of_line(line: &[u8]) -> Option<u64>
 ///
 /// A line is `0x` and 1 to 16 hexadecimal digits of either case, and ends with a newline, which the last one need not
 /// have; a text of no bytes has no line. `BadLine` exactly where a line is none, with the number of the first such,
-/// counted from 1. `OutOfMemory` may come in place of any other answer. Time is in proportion to the text.
+/// counted from 1. `OutOfMemory` may come in place of any other answer.
 pub fn addresses_in(alloc: Global, text: &[u8]) -> Result<Vec<u64>, CoreMergeError>
     ensures right { IsErrOf result CoreMergeError.OutOfMemory ⊎ AddressesSay text.now (numbers_in result) }
 {

@@ -73,10 +73,10 @@ impl<'a> Elf64<'a> {
     /// bytes, its owner's name and its descriptor, each padded to 4 bytes; of the padding after the last
     /// descriptor some or all may be missing.
     ///
-    /// `BadHeader` comes exactly where the range does not lie in the file. `BadNote` comes exactly where it
-    /// does and no list of notes has these bytes: a name or a descriptor passes their end, or 1 to 11
-    /// bytes are left. Else the one error is want of memory. Time is in proportion to the notes;
-    /// descriptors are parts of the file.
+    /// `BadHeader` comes exactly where the range does not lie in the file. `BadNote` comes only where it does
+    /// and no list of notes has these bytes: a name or a descriptor passes their end, or 1 to 11 bytes are
+    /// left; there no other error comes but want of memory. Else the one error is want of memory.
+    /// Descriptors are parts of the file.
     pub fn notes(&self, alloc: Global, start: u64, len: u64) -> Result<Vec<Note<'a>>, ElfError>
         ensures outside { IsErrOf result ElfError.BadHeader ↔ (¬ IsInside self.now start len) }
         ensures bad { IsErrOf result ElfError.BadNote → IsBadRange self.now start len }

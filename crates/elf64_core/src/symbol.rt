@@ -98,8 +98,7 @@ impl<'a> Elf64<'a> {
     /// kind. What is left after its last whole entry of 24 bytes is not looked at.
     ///
     /// `BadHeader` comes exactly where it comes from `sections`, or the bytes of that section do not lie
-    /// in the file. Else the one error is want of memory. It takes the symbols' room and time in
-    /// proportion to them and their names; names are parts of the file.
+    /// in the file. Else the one error is want of memory. Names are parts of the file.
     pub fn symbols(&self, alloc: Global, kind: SymbolKind) -> Result<Vec<Symbol<'a>>, ElfError>
         ensures bad { IsErrOf result ElfError.BadHeader ↔ (¬ HasSymbols self.now kind) }
         ensures only { IfErr result (λ error. (error ≡ ElfError.BadHeader) ⊎ (error ≡ ElfError.OutOfMemory)) }

@@ -33,7 +33,7 @@ RefusesCore bytes NoNotes = IsAccepted bytes × (note_segments bytes ≡ [])
 RefusesCore bytes BadNote = HasNotes bytes × HasBadNote bytes
 RefusesCore bytes OutOfMemory = ⊤
 
--- the errors that come before any memory is taken
+-- the errors in whose place want of memory never comes
 abbrev pub IsEarly : DumpError → Type 0
 IsEarly NotElf64 = ⊤
 IsEarly BadHeader = ⊤

@@ -75,8 +75,7 @@ fn read_whole<P: Pieces>(pieces: &P, addr: u64, buf: &mut [u8]) -> bool
 /// Fills the buffer with the bytes from `addr` on, each that of the first piece that holds its address.
 ///
 /// Ok exactly where every byte of the range is there; else `Unreadable` names the range, and the buffer is
-/// as it was. It takes no memory. A range in one run is copied from it; any other is looked at whole before
-/// anything is copied, run by run.
+/// as it was. Want of memory never comes.
 pub fn read_pieces<P: Pieces>(pieces: &P, addr: u64, buf: &mut [u8]) -> Result<(), ReadFault>
     ensures gives { Answers read_fault
         (record_at (byte_at (P.regions pieces.now)) addr (length buf.old))
@@ -99,8 +98,8 @@ pub fn read_pieces<P: Pieces>(pieces: &P, addr: u64, buf: &mut [u8]) -> Result<(
 
 /// A copy of the `len` bytes from `addr` on, each that of the first piece that holds its address.
 ///
-/// Ok exactly where every byte of the range is there; else `Unreadable` names the range. Memory is taken only
-/// once the whole range was looked at, run by run.
+/// `Unreadable` names the range, and comes only where a byte of it isn't there. Else the one error is want of
+/// memory, which comes only where the whole range is there.
 pub fn copy_pieces<P: Pieces>(
     alloc: Global,
     pieces: &P,
