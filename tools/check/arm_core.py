@@ -208,7 +208,7 @@ def main() -> int:
     try:
         print(f"arm_core: {try_root(parser.parse_args())}")
     except Skip as reason:
-        print(f"arm_core: no core was walked: {reason}")
+        print(f"arm_core: skipped: {reason}")
     except Failure as reason:
         print(f"arm_core: FAILED: {reason}")
         return 1

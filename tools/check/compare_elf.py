@@ -231,10 +231,10 @@ def main() -> int:
     parser.add_argument("file", nargs="*", help="ELF files (default: those of the running Python, /bin/sh, a core)")
     args = parser.parse_args()
     if not shutil.which("readelf"):
-        print("compare_elf: nothing was compared: there is no readelf")
+        print("compare_elf: skipped: there is no readelf")
         return 0
     if not os.path.isfile(args.program):
-        print(f"compare_elf: nothing was compared: there is no {args.program}")
+        print(f"compare_elf: skipped: there is no {args.program}")
         return 0
     status = 0
     for path in args.file or default_files():
@@ -242,7 +242,7 @@ def main() -> int:
         difference = compare(args.program, path, "python" in os.path.basename(path), words)
         print(f"compare_elf: {path}: {difference or 'agrees with readelf'}")
         if words.unknown:
-            print(f"compare_elf: {path}: not compared, as their numbers aren't known here: {', '.join(sorted(words.unknown))}")
+            print(f"compare_elf: skipped: {path}: as their numbers aren't known here: {', '.join(sorted(words.unknown))}")
         status = 1 if difference else status
     if not args.file:
         difference = compare_built(args.program)

@@ -97,7 +97,7 @@ def main() -> int:
     parser.add_argument("--program", required=True, help="the program listing")
     args = parser.parse_args()
     if not os.path.isfile(args.program):
-        print(f"compare_maps: nothing was compared: there is no {args.program}")
+        print(f"compare_maps: skipped: there is no {args.program}")
         return 0
     count = -1
     for name, maps in all_maps():

@@ -441,7 +441,7 @@ def main() -> int:
             if os.path.isfile(program):
                 failed += failures(words, pool, program, command)
             else:
-                print(f"fuzz: no case of {command} was run: there is no {program}")
+                print(f"fuzz: skipped: {command}: there is no {program}")
     return 1 if failed else 0
 
 

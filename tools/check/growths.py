@@ -165,7 +165,7 @@ def main(arguments: Optional[Sequence[str]] = None) -> int:
         if os.path.isfile(file) and can_run(os.path.abspath(file)):
             chosen += [(os.path.abspath(file), name, it) for it in rows(name == "pysalvage") if words.only in it.what]
         else:
-            print(f"growths: nothing of {name} was tried: there is no {file}, or no gdb that can run it")
+            print(f"growths: skipped: {name}: there is no {file}, or no gdb that can run it")
     failed = 0
     with ThreadPoolExecutor(words.workers) as pool:
         step = Step(words.step, words.most)

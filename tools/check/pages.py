@@ -245,9 +245,9 @@ def pages_in(folder: Path, program: Optional[Path]) -> Dict[str, Path]:
         if program and program.is_file():
             found["real"] = real_page(program, folder)
         else:
-            print("pages: no page of a real core was opened: the program isn't built")
+            print("pages: skipped: pages of real cores: the program isn't built")
     except Skip as reason:
-        print(f"pages: no page of a real core was opened: {reason}")
+        print(f"pages: skipped: pages of real cores: {reason}")
     return found
 
 
@@ -259,7 +259,7 @@ def main() -> int:
     words = parser.parse_args()
     path = browser_path()
     if path is None:
-        print("pages: no page was opened: there is no Chromium")
+        print("pages: skipped: there is no Chromium")
         return 0
     failed = 0
     with tempfile.TemporaryDirectory(prefix="pages-") as name:

@@ -188,20 +188,20 @@ def main() -> int:
     parser.add_argument("--salvage", default=str(ROOT / "crates" / "pysalvage" / "out" / "pysalvage"), help="the built program pysalvage")
     words = parser.parse_args()
     if not os.path.isfile(words.salvage):
-        print("real_broken: no broken core was shown: pysalvage isn't built")
+        print("real_broken: skipped: pysalvage isn't built")
         return 0
     failed = 0
     try:
         names = core_names()
     except Skip as reason:
-        print(f"real_broken: no broken core was shown: {reason}")
+        print(f"real_broken: skipped: {reason}")
         return 0
     for python in words.python or usual(r"3\.(8|9|1[0-3])"):
         try:
             print(tried(python, words, names), flush=True)
         except Failure as reason:
             failed += 1
-            print(f"FAILED: {python}: {reason}", flush=True)
+            print(f"real_broken: FAILED: {python}: {reason}", flush=True)
     return 1 if failed else 0
 
 

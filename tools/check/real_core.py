@@ -567,10 +567,10 @@ def try_all(words: argparse.Namespace) -> int:
                 program, python, names, listing if listing.is_file() else None)
             print(told, flush=True)
         except (Skip, DeriveError) as reason:
-            print(f"skipped: {python}: {getattr(reason, 'brief', reason)}", flush=True)
+            print(f"real_core: skipped: {python}: {getattr(reason, 'brief', reason)}", flush=True)
         except Failure as reason:
             failed += 1
-            print(f"FAILED: {python}: {reason}", flush=True)
+            print(f"real_core: FAILED: {python}: {reason}", flush=True)
     return failed
 
 
@@ -585,7 +585,7 @@ def main() -> int:
     try:
         failed = try_all(words)
     except Skip as reason:
-        print(f"real_core: no core was walked: {reason}")
+        print(f"real_core: skipped: {reason}")
         return 0
     except Failure as reason:
         print(f"real_core: FAILED: {reason}")

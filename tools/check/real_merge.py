@@ -138,7 +138,7 @@ def main() -> int:
             raise Skip("there is no gdb or no readelf")
         names = core_names()
     except Skip as reason:
-        print(f"real_merge: nothing was merged: {reason}")
+        print(f"real_merge: skipped: {reason}")
         return 0
     for python in words.python or pythons():
         try:

@@ -300,12 +300,12 @@ def main() -> int:
     program, salvage = Path(words.program).resolve(), Path(words.salvage).resolve()
     for it in (program, salvage):
         if not os.path.isfile(it):
-            print(f"real_salvage: no core was tried: there is no {it}")
+            print(f"real_salvage: skipped: there is no {it}")
             return 0
     try:
         return 1 if try_all(program, salvage, words.python or pythons()) else 0
     except Skip as reason:
-        print(f"real_salvage: no core was tried: {reason}")
+        print(f"real_salvage: skipped: {reason}")
         return 0
 
 

@@ -99,7 +99,7 @@ def main() -> int:
         lists += [(words.program, [*rows_built.rows(listing), *rows_programs.rows(listing)]),
                   (words.listing, [*rows_built.listing_rows(listing), *rows_programs.listing_rows(listing)])]
     else:
-        print(f"rows: those of built programs are not known: there is no {words.listing}")
+        print(f"rows: skipped: those of built programs: there is no {words.listing}")
     chosen = [(program, [row for row in rows if words.only in row.what]) for program, rows in lists]
     names = [row.what for _, rows in chosen for row in rows]
     assert len(set(names)) == len(names), "two rows of one name"
@@ -109,7 +109,7 @@ def main() -> int:
     count = 0
     for program, rows in chosen:
         if not os.path.isfile(program):
-            print(f"rows: {len(rows)} were not run: there is no {program}")
+            print(f"rows: skipped: {len(rows)} rows: there is no {program}")
             continue
         failed = failures(os.path.abspath(program), rows)
         print(f"rows: {len(rows) - failed} of {len(rows)} of {os.path.basename(program)} come out as they say")

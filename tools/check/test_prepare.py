@@ -470,7 +470,7 @@ class Gcore(Case):
             results = list(pool.map(self.shown, found, range(len(found))))
         for python, told, status, out, said in results:
             if told is None:
-                print(f"test_prepare: no core of {python} was taken", flush=True)
+                print(f"test_prepare: skipped: no core of {python} was taken", flush=True)
                 continue
             self.assertEqual(status, 0, (python, said))
             self.assertIn("of its file table added", said)

@@ -3,10 +3,8 @@ ghost use Rattle.py_fields.specs.Sound.{IsSound};
 
 use elf64_core::{Machine, Text};
 use image_builder::{BuildError, Built, Program, ProgramFrame, ProgramThread, build};
-use image_memory::CoreDump;
 use py_fields::Layout;
 use py_lines::LineRange;
-use py_process::parse_binary;
 use py_version::Version;
 use std::alloc::Global;
 use std::test::Fail;
@@ -67,19 +65,6 @@ fn admit(
     build(alloc, program, layout, version, machine).map(|_| ())
 }
 
-/// A program is built for a machine, where it asks for no lock's place.
-#[test]
-fn a_lock_has_a_place_on_known_machines(rt: HostRuntime) -> Result<(), Fail> {
-    let (layout, version) = (Layout::sample(), version(rt.alloc(), 9, 0, "")?);
-    let mut program = small(rt.alloc(), 32512, "a.py")?;
-    assert!(rt; admit(rt.alloc(), &program, &layout, &version, Machine::Other) == Ok(()));
-    program.owner = Some(0);
-    assert!(rt; admit(rt.alloc(), &program, &layout, &version, Machine::Aarch64) == Ok(()));
-    let unplaced = admit(rt.alloc(), &program, &layout, &version, Machine::Other);
-    assert!(rt; unplaced == Err(BuildError::Uncovered));
-    Ok(())
-}
-
 /// Minors, patches and flags that no text spells so, or that no layout has.
 const UNCOVERED: [(u64, u64, &str); 3] = [(9, 0, "rc"), (9, 256, ""), (11, 0, "")];
 
@@ -97,24 +82,6 @@ fn versions_without_a_number_are_uncovered(rt: HostRuntime) -> Result<(), Fail> 
     Ok(())
 }
 
-/// A file and an id that no frame and no thread have, and where they are.
-const INVALID: [(u64, &str, u32); 2] = [(32512, "<shim>", 1), (0, "a.py", 0)];
-
-#[test]
-fn faults_are_refused(rt: HostRuntime) -> Result<(), Fail> {
-    let (layout, version) = (Layout::sample(), version(rt.alloc(), 9, 0, "")?);
-    for (id, filename, frame) in &INVALID {
-        let program = small(rt.alloc(), *id, filename)?;
-        let answer = admit(rt.alloc(), &program, &layout, &version, Machine::X86_64);
-        let want = BuildError::NotValid {
-            thread: 0,
-            frame: *frame,
-        };
-        assert!(rt; answer == Err(want), "{filename}");
-    }
-    Ok(())
-}
-
 /// The program with its thread as the holder of the lock, written.
 pub(crate) fn built(alloc: Global) -> Result<Built, Fail> {
     let mut program = small(alloc, 32512, "a.py")?;
@@ -127,24 +94,4 @@ pub(crate) fn built(alloc: Global) -> Result<Built, Fail> {
         &version,
         Machine::X86_64,
     )?)
-}
-
-#[test]
-fn files_are_built(rt: HostRuntime) -> Result<(), Fail> {
-    let built = built(rt.alloc())?;
-    // The interpreter, three types with their names, a thread, and two frames with what goes with them.
-    let objects = 32 + 3 * (48 + 128) + 64 + 2 * (64 + 64 + 48 + 32 + 80 + 80);
-    assert!(rt; built.core.len() == 0x2_3000 + objects);
-    assert!(rt; built.interpreter == 0x60_0000 && built.lock == 0x50_0238);
-    Ok(())
-}
-
-#[test]
-fn files_that_are_built_are_read(rt: HostRuntime) -> Result<(), Fail> {
-    let built = built(rt.alloc())?;
-    let info = parse_binary(rt.alloc(), &built.image, 0x40_0000, 0x2000)?;
-    assert!(rt; info.bss_addr == 0x50_0000 && info.bss_size == 0x2_0000);
-    let core = CoreDump::new(rt.alloc(), built.core)?;
-    assert!(rt; core.maps().len() == 3);
-    Ok(())
 }

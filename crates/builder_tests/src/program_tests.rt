@@ -33,37 +33,6 @@ const GOOD: FrameCase = FrameCase {
     number: 7,
 };
 
-/// Others, each with one fault.
-const FAULTS: [FrameCase; 12] = [
-    FrameCase {
-        filename: "",
-        ..GOOD
-    },
-    FrameCase {
-        filename: "<shim>",
-        ..GOOD
-    },
-    FrameCase { first: 0, ..GOOD },
-    FrameCase { end: 0, ..GOOD },
-    FrameCase { end: 7, ..GOOD },
-    FrameCase { line: None, ..GOOD },
-    FrameCase {
-        line: Some(0),
-        ..GOOD
-    },
-    FrameCase { offset: 3, ..GOOD },
-    FrameCase { offset: 8, ..GOOD },
-    FrameCase { args: 2, ..GOOD },
-    FrameCase {
-        number: 1 << 60,
-        ..GOOD
-    },
-    FrameCase {
-        number: -(1 << 60),
-        ..GOOD
-    },
-];
-
 fn made(alloc: Global, case: FrameCase) -> Result<ProgramFrame, Fail> {
     let mut ranges = Vec::new(alloc);
     ranges.push(LineRange {
@@ -87,73 +56,8 @@ fn made(alloc: Global, case: FrameCase) -> Result<ProgramFrame, Fail> {
     })
 }
 
-/// A thread of a good frame and another one.
-fn thread_of(alloc: Global, id: u64, second: FrameCase) -> Result<ProgramThread, Fail> {
-    let mut frames = Vec::new(alloc);
-    frames.push(made(alloc, GOOD)?)?;
-    frames.push(made(alloc, second)?)?;
-    Ok(ProgramThread { id, frames })
-}
-
-/// Two threads, of which the first has id 7.
-fn two_threads(
-    alloc: Global,
-    first: FrameCase,
-    id: u64,
-    second: FrameCase,
-) -> Result<Program, Fail> {
-    let mut threads = Vec::new(alloc);
-    threads.push(thread_of(alloc, 7, first)?)?;
-    threads.push(thread_of(alloc, id, second)?)?;
-    Ok(Program {
-        threads,
-        owner: Some(1),
-    })
-}
-
 fn place(thread: u32, frame: u32) -> Option<FramePlace> {
     Some(FramePlace { thread, frame })
-}
-
-/// Where the first fault of two threads is.
-fn found(
-    alloc: Global,
-    first: FrameCase,
-    id: u64,
-    second: FrameCase,
-) -> Result<Option<FramePlace>, Fail> {
-    let program = two_threads(alloc, first, id, second)?;
-    Ok(first_invalid(alloc, &program, LineFamily::Ranges)?)
-}
-
-#[test]
-fn each_fault_is_found(rt: HostRuntime) -> Result<(), Fail> {
-    for fault in &FAULTS {
-        assert!(rt; found(rt.alloc(), *fault, 8, GOOD)? == place(0, 1));
-        assert!(rt; found(rt.alloc(), GOOD, 8, *fault)? == place(1, 1));
-    }
-    Ok(())
-}
-
-const BAD: FrameCase = FrameCase { args: 2, ..GOOD };
-
-/// The second frame of the first thread, the id of the second and its second frame, and the thread and the frame of
-/// the first fault.
-const FIRST: [(FrameCase, u64, FrameCase, Option<(u32, u32)>); 5] = [
-    (GOOD, 8, GOOD, None),
-    (GOOD, 0, GOOD, Some((1, 0))),
-    (GOOD, 7, GOOD, Some((1, 0))),
-    (GOOD, 7, BAD, Some((1, 0))),
-    (BAD, 7, BAD, Some((0, 1))),
-];
-
-#[test]
-fn the_first_fault_is_found(rt: HostRuntime) -> Result<(), Fail> {
-    for (first, id, second, want) in &FIRST {
-        let want = want.and_then(|(thread, frame)| place(thread, frame));
-        assert!(rt; found(rt.alloc(), *first, *id, *second)? == want, "{id}");
-    }
-    Ok(())
 }
 
 /// A thread of a frame with a list of so many numbers.

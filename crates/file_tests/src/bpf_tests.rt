@@ -1,5 +1,5 @@
 //! Names, tags and type information written out by hand: each call once, and tags in every form.
-use normalize_core::{BpfProg, BpfTag, Btf, bpf_line_info, btf_header};
+use normalize_core::{BpfProg, Btf, bpf_line_info, btf_header};
 use std::alloc::Global;
 use std::test::Fail;
 
@@ -31,14 +31,6 @@ fn programs_have_tags(rt: HostRuntime) -> Result<(), Fail> {
         let tag = tag_of(rt.alloc(), name)?;
         assert!(rt; tag.as_ref().map(|tag| tag.as_str()) == *want, "{name}");
     }
-    Ok(())
-}
-
-#[test]
-fn programs_have_their_names_and_addresses(rt: HostRuntime) -> Result<(), Fail> {
-    let program = BpfProg::parse(rt.alloc(), NAMES[0].0, 0x1337)?;
-    let is_kept = |it: &BpfProg| it.addr() == 0x1337 && it.name() == NAMES[0].0;
-    assert!(rt; program.as_ref().is_some_and(is_kept));
     Ok(())
 }
 

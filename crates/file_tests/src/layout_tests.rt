@@ -1,6 +1,6 @@
 //! Each public call once, over files of layouts, and how errors are written. Each flaw of a file is a row of the
 //! program.
-use py_layout::{Layout, LayoutError, Layouts, Version};
+use py_layout::{Layout, Layouts, Version};
 use std::alloc::{AllocError, Global};
 use std::test::Fail;
 
@@ -141,53 +141,5 @@ fn samples_are_read(rt: HostRuntime) -> Result<(), Fail> {
     let chosen = shown(rt.alloc(), layouts.choose(&version))?;
     let sample = shown(rt.alloc(), Some(&Layout::sample()))?;
     assert!(rt; chosen == sample);
-    Ok(())
-}
-
-#[test]
-fn the_layout_of_another_version_is_read(rt: HostRuntime) -> Result<(), Fail> {
-    let layouts = both(rt.alloc())?;
-    let version = Version::of_numbers(rt.alloc(), 3, 12, 0)?;
-    let native_id = layouts
-        .choose(&version)
-        .map(|layout| layout.thread.native_id);
-    assert!(rt; native_id == Some(Some(40)));
-    Ok(())
-}
-
-/// What is written of the error of a text.
-fn error_of(alloc: Global, text: &str) -> Result<Option<String>, Fail> {
-    match Layouts::from_toml(alloc, text.as_bytes()) {
-        Ok(_layouts) => Ok(None),
-        Err(error) => Ok(Some(error.to_string(alloc)?)),
-    }
-}
-
-fn is_written(error: &Option<String>, want: &str) -> bool {
-    error.as_ref().is_some_and(|text| text.as_str() == want)
-}
-
-#[test]
-fn clashes_are_written(rt: HostRuntime) -> Result<(), Fail> {
-    let text = format!(in rt.alloc(); "{PYTHON_3_9}{PYTHON_3_9}")?;
-    let error = error_of(rt.alloc(), text.as_str())?;
-    assert!(rt; is_written(&error, "tables 0 and 1 clash"));
-    Ok(())
-}
-
-#[test]
-fn missing_keys_are_written(rt: HostRuntime) -> Result<(), Fail> {
-    let text = format!(in rt.alloc(); "{PYTHON_3_9}[[layout]]\nmajor = 3\n")?;
-    let error = error_of(rt.alloc(), text.as_str())?;
-    assert!(rt; is_written(&error, "table 1: the key first_minor"));
-    Ok(())
-}
-
-#[test]
-fn other_errors_are_written(rt: HostRuntime) -> Result<(), Fail> {
-    let error = error_of(rt.alloc(), "[[layout")?;
-    assert!(rt; is_written(&error, "not TOML"));
-    let unsound = LayoutError::Unsound { table: 2 };
-    assert!(rt; unsound.to_string(rt.alloc())?.as_str() == "table 2 is unsound");
     Ok(())
 }

@@ -14,8 +14,6 @@ mod maps_tests;
 #[cfg(test)]
 mod normalize_tests;
 #[cfg(test)]
-mod salvage_word_tests;
-#[cfg(test)]
 mod symbol_tests;
 #[cfg(test)]
 mod version_tests;

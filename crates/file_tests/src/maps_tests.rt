@@ -55,17 +55,6 @@ const ENTRIES: [&str; 5] = [
 ];
 
 #[test]
-fn lines_of_a_process(rt: HostRuntime) -> Result<(), Fail> {
-    let mut entries = parse_file(rt.alloc(), CAT, 7);
-    for want in &ENTRIES {
-        let entry = shown_answer(rt.alloc(), entries.next())?;
-        assert!(rt; entry.as_str() == *want, "{want}");
-    }
-    assert!(rt; entries.next().is_none());
-    Ok(())
-}
-
-#[test]
 fn lines_of_a_process_that_are_kept(rt: HostRuntime) -> Result<(), Fail> {
     let mut kept = FilteredEntries::new(parse_file(rt.alloc(), CAT, 7));
     for want in &[ENTRIES[0], ENTRIES[1], ENTRIES[3], ENTRIES[4]] {
@@ -130,64 +119,6 @@ fn lines_that_are_refused(rt: HostRuntime) -> Result<(), Fail> {
         let text = among_others(rt.alloc(), line)?;
         assert!(rt; first_kept_error(rt.alloc(), text.as_slice()) == Some(*want));
     }
-    Ok(())
-}
-
-#[test]
-fn lines_behind_one_that_is_refused(rt: HostRuntime) {
-    let mut entries = parse_file(rt.alloc(), b"\n1-2 --- 0 0 0", 7);
-    assert!(rt; matches!(entries.next(), Some(Err(NoRange))));
-    assert!(rt; matches!(entries.next(), Some(Ok(_))));
-    assert!(rt; entries.next().is_none());
-}
-
-/// Lines, and what they show.
-const READ: [(&[u8], &str); 11] = [
-    (b"1-2 --xp a 0:0 0", "1 2 --x a"),
-    (b"1-2 --xp a 0:0 0\n", "1 2 --x a"),
-    (b"1-2 --xp a 0:0 0\r\n", "1 2 --x a"),
-    (b"1-2 Rws a 0:0 ", "1 2 -w- a"),
-    (
-        b"FFFFFFFFFFFFFFFE-ffffffffffffffff rwxp 0AbCdEf 0:0 0   ",
-        "fffffffffffffffe ffffffffffffffff rwx abcdef",
-    ),
-    (
-        b"1-2\tr--p\t0\t0:0\t0\t \t/x y \r\n",
-        "1 2 r-- 0 file /proc/4294967295/map_files/1-2 /x y",
-    ),
-    (
-        b"1-2 r--p 0 0:0 0 /x (deleted)",
-        "1 2 r-- 0 file /proc/4294967295/map_files/1-2 /x",
-    ),
-    (
-        b"0-0 r--p 0 0:0 0 / (deleted) (deleted)",
-        "0 0 r-- 0 file /proc/4294967295/map_files/0-0 / (deleted)",
-    ),
-    (
-        b"1-2 r--p 0 0:0 0  (deleted)",
-        "1 2 r-- 0 component (deleted)",
-    ),
-    (
-        b"1-2 r--p 0 0:0 0 anon_inode:bpf-map (deleted)",
-        "1 2 r-- 0 component anon_inode:bpf-map (deleted)",
-    ),
-    (
-        b"1-2 r--p 0 0:0 0 [\xffx]",
-        "1 2 r-- 0 component [\u{fffd}x]",
-    ),
-];
-
-#[test]
-fn lines_that_are_read(rt: HostRuntime) -> Result<(), Fail> {
-    for (line, want) in &READ {
-        let mut entries = parse_file(rt.alloc(), line, u32::MAX);
-        let entry = shown_answer(rt.alloc(), entries.next())?;
-        assert!(rt;
-            entry.as_str() == *want && entries.next().is_none(),
-            "{want}"
-        );
-    }
-    assert!(rt; parse_file(rt.alloc(), b"", 7).next().is_none());
     Ok(())
 }
 

@@ -91,18 +91,6 @@ fn normalized(alloc: Global) -> Result<UserOutput, Fail> {
 }
 
 #[test]
-fn addresses_of_a_process(rt: HostRuntime) -> Result<(), Fail> {
-    let output = normalized(rt.alloc())?;
-    let text = shown(rt.alloc(), &output)?;
-    assert!(rt;
-        text.as_str()
-            == "7fd5ba200000@2 7fd5ba1fe000@1 10@0 2004@0 7ffe103fa000@3 \
-                | /bin/cat id ID | unmapped | missing component | unsupported "
-    );
-    Ok(())
-}
-
-#[test]
 fn metas_of_a_process(rt: HostRuntime) -> Result<(), Fail> {
     let output = normalized(rt.alloc())?;
     let first = output.meta.first();

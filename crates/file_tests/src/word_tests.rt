@@ -1,5 +1,5 @@
 //! Each public call once, and a count that no command prints. Words that are refused are rows of the program.
-use core_words::{Command, config_from_args, read_words};
+use core_words::config_from_args;
 use std::alloc::{AllocError, Global};
 use std::test::Fail;
 
@@ -10,19 +10,6 @@ fn split_words(alloc: Global, text: &str) -> Result<Vec<String>, AllocError> {
         words.push(String::from_str(alloc, word)?)?;
     }
     Ok(words)
-}
-
-#[test]
-fn words_of_a_walk_are_taken(rt: HostRuntime) -> Result<(), Fail> {
-    let alloc = rt.alloc();
-    let words = split_words(alloc, "walk core sample 3.10.999 0xfFaB 65")?;
-    let Ok(Command::Walk(walk)) = read_words(alloc, &words) else {
-        return Err(Fail::from("refused"));
-    };
-    assert!(rt; walk.core == "core");
-    assert!(rt; walk.version.minor == 10 && walk.version.patch == 999);
-    assert!(rt; walk.addresses.interpreter == 0xffab && walk.addresses.lock == 65);
-    Ok(())
 }
 
 #[test]

@@ -2,7 +2,7 @@
 use crate::core_tests::is_answer;
 use crate::made::{FILES, add_note, file_of, file_table};
 use elf64_core::{LOAD, NOTE, Name};
-use image_memory::{BackedDump, CoreDump, FilePlace, Images, Mmap, ProcessMemory};
+use image_memory::{BackedDump, CoreDump, Images, Mmap, ProcessMemory};
 use std::alloc::{AllocError, Global};
 use std::test::Fail;
 
@@ -73,17 +73,6 @@ fn the_first_image_of_a_path_counts(rt: HostRuntime) -> Result<(), Fail> {
     Ok(())
 }
 
-#[test]
-fn maps_have_their_places(rt: HostRuntime) -> Result<(), Fail> {
-    let core = core(rt.alloc())?;
-    let place = FilePlace {
-        pages: 1,
-        page_size: 4,
-    };
-    assert!(rt; core.file_place(0) == Some(place) && core.file_place(8).is_none());
-    Ok(())
-}
-
 fn backed(alloc: Global) -> Result<BackedDump, Fail> {
     Ok(BackedDump::new(alloc, core(alloc)?, &images(alloc)?)?)
 }
@@ -110,13 +99,5 @@ fn images_fill_what_a_core_lacks(rt: HostRuntime) -> Result<(), Fail> {
         assert!(rt; is_answer(&read, *addr, *len, *want), "{addr:#x} {len}");
         assert!(rt; dump.piece(*addr, *len) == *piece, "{addr:#x}");
     }
-    Ok(())
-}
-
-#[test]
-fn the_core_alone_lacks_them(rt: HostRuntime) -> Result<(), Fail> {
-    let dump = backed(rt.alloc())?;
-    assert!(rt; dump.core().pieces() == 1);
-    assert!(rt; dump.core().view().read(0x3000, &mut [0]).is_err());
     Ok(())
 }

@@ -1,31 +1,8 @@
 //! Ranges, and views of files.
-use elf64_core::ElfError;
-use image_memory::{Mmap, is_subrange, read_elf_build_id_from_mmap};
+
+use image_memory::{Mmap, read_elf_build_id_from_mmap};
 use std::alloc::{AllocError, Global};
 use std::test::Fail;
-
-/// A range's start and size, another's, and whether the second lies in the first.
-const RANGES: [(u64, u64, u64, u64, bool); 10] = [
-    (0, 100, 90, 10, true),
-    (0, 100, 90, 11, false),
-    (0, 10, 9, 2, false),
-    (5, 10, 5, 10, true),
-    (5, 10, 4, 2, false),
-    (0, u64::MAX, 1, u64::MAX, false),
-    (1, u64::MAX, 2, 1, false),
-    (0, u64::MAX, 0, u64::MAX, true),
-    (0, 0, 0, 0, false),
-    (0, 10, 5, 0, false),
-];
-
-#[test]
-fn ranges_lie_in_ranges(rt: HostRuntime) -> Result<(), Fail> {
-    for (start, size, sub_start, sub_size, want) in &RANGES {
-        let got = is_subrange(*start, *size, *sub_start, *sub_size);
-        assert!(rt; got == *want, "{start} {size} {sub_start} {sub_size}");
-    }
-    Ok(())
-}
 
 /// What is there, ranges that it is narrowed by one after the other, and what is shown then.
 const VIEWS: [(&[u8], &[(u64, u64)], Option<&[u8]>); 12] = [
@@ -123,13 +100,5 @@ fn build_ids_are_read_from_views(rt: HostRuntime) -> Result<(), Fail> {
     assert!(rt; noted.is_some_and(|id| id.as_bytes() == b"\x01\x02".as_slice()));
     let plain = read_elf_build_id_from_mmap(alloc, &mapped(alloc, 8)?)?;
     assert!(rt; plain.is_none());
-    Ok(())
-}
-
-#[test]
-fn cut_views_are_no_files(rt: HostRuntime) -> Result<(), Fail> {
-    let cut = mapped(rt.alloc(), 7)?.constrain(0..63);
-    let read = cut.map(|cut| read_elf_build_id_from_mmap(rt.alloc(), &cut));
-    assert!(rt; matches!(read, Some(Err(ElfError::NotElf64))));
     Ok(())
 }

@@ -131,17 +131,6 @@ fn check_reads<P: ProcessMemory>(
     Ok(())
 }
 
-#[test]
-fn each_memory_answers_the_same(rt: HostRuntime) -> Result<(), Fail> {
-    let alloc = rt.alloc();
-    let mut part = part(alloc)?;
-    check_reads(&rt, alloc, &mut part)?;
-    let mut recorder = Recorder::new(alloc, &mut part);
-    check_reads(&rt, alloc, &mut recorder)?;
-    check_reads(&rt, alloc, &mut &mut recorder)?;
-    Ok(())
-}
-
 fn check_counted<L: Ledger>(rt: &impl Abort, alloc: Global, blank: Blank) -> Result<(), Fail>
     requires name { blank.name ≡ L.name }
     requires parts { blank.parts ≡ L.parts }
@@ -179,21 +168,6 @@ fn ranges_are_those_read_with_ok(rt: HostRuntime) -> Result<(), Fail> {
     assert!(rt; recorder.copy(alloc, 0x1000, 2).is_ok());
     assert!(rt; recorder.read(u64::MAX, &mut []).is_ok());
     assert!(rt; recorder.ranges() == SPANS.as_slice());
-    Ok(())
-}
-
-#[test]
-fn a_range_that_is_not_there_asks_for_no_memory(rt: HostRuntime) -> Result<(), Fail> {
-    let alloc = rt.alloc();
-    let mut recorder = Recorder::new(alloc, part(alloc)?);
-    for len in &[1 << 62, u64::MAX] {
-        let fault = ReadFault::Unreadable {
-            addr: 0x1000,
-            len: *len,
-        };
-        assert!(rt; recorder.copy(alloc, 0x1000, *len).err() == Some(fault));
-    }
-    assert!(rt; recorder.ranges().is_empty());
     Ok(())
 }
 
@@ -245,22 +219,6 @@ fn words_are_read_low_byte_first(rt: HostRuntime) -> Result<(), Fail> {
     }
     for (addr, missing) in &WIDE_WORDS {
         assert!(rt; is_word(&word_wide(&mut part, *addr), *missing));
-    }
-    Ok(())
-}
-
-#[test]
-fn records_past_the_last_address_are_unreadable(rt: HostRuntime) -> Result<(), Fail> {
-    let alloc = rt.alloc();
-    let mut part = part(alloc)?;
-    for addr in &[ADDRESSES, ADDRESSES + 0x1000, u128::MAX] {
-        let none = record_wide(alloc, &mut part, *addr, 0)?;
-        assert!(rt; none.is_empty());
-        let fault = ReadFault::Unreadable {
-            addr: u64::MAX,
-            len: 5,
-        };
-        assert!(rt; record_wide(alloc, &mut part, *addr, 5).err() == Some(fault));
     }
     Ok(())
 }

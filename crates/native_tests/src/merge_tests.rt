@@ -3,10 +3,8 @@ use elf64_core::Text;
 use native_merge::{
     MemorySymbols, MergeError, NativeFrame, NativeStack, NoSources, SymbolFault, Symbolicator,
 };
-use py_process::BinaryInfo;
 use py_stacks::Frame;
 use std::alloc::{AllocError, Global};
-use std::collections::BTreeMap;
 use std::test::Fail;
 
 /// Native addresses, the names of their functions and their modules. Those below 0x2000 are Python's.
@@ -49,19 +47,6 @@ fn symbols_of(alloc: Global, failing: Vec<u64>) -> Result<MemorySymbols, AllocEr
     Ok(MemorySymbols::new(alloc, answers, failing))
 }
 
-/// Python's binary, from 0x1000 on.
-fn python_of(alloc: Global) -> BinaryInfo {
-    BinaryInfo {
-        symbols: BTreeMap::new(alloc),
-        bss_addr: 0,
-        bss_size: 0,
-        pyruntime_addr: 0,
-        pyruntime_size: 0,
-        addr: 0x1000,
-        size: 0x1000,
-    }
-}
-
 /// A frame for each character, with a mark where it is an upper-case letter.
 fn frames_of(alloc: Global, names: &str) -> Result<Vec<Frame>, AllocError> {
     let mut frames = Vec::new(alloc);
@@ -101,33 +86,6 @@ fn shown(alloc: Global, merged: Result<Vec<Frame>, MergeError>) -> Result<String
     Ok(text)
 }
 
-/// Python frames, native addresses, and what they are merged to.
-const MERGES: [(&str, &[u64], &str); 15] = [
-    ("AB", &[], "A B "),
-    ("AB", &[0x1000], "1 of 2"),
-    ("AB", &[0x1000, 0x1001], "A B "),
-    ("AB", &[0x1000, 0x1000, 0x1000], "A B "),
-    ("AB", &[0x1000, 0x1000, 0x1000, 0x1000], "4 of 2"),
-    ("AB", &[0x9999], "0x9999? A B "),
-    (
-        "aBcD",
-        &[0x5000, 0x1000, 0x1002, 0x1003, 0x1000],
-        "main a B time_sleep c D ",
-    ),
-    ("ab", &[0x1000], "a b "),
-    ("ab", &[0x1000, 0x1000], "4 of 2"),
-    ("Ab", &[0x1000, 0x1000], "A b "),
-    ("", &[0x5000], "main "),
-    ("", &[0x1000], ""),
-    ("", &[0x1000, 0x1000], "2 of 0"),
-    (
-        "",
-        &[0x5001, 0x5002, 0x5003, 0x5004, 0x5005, 0x5006],
-        "__clone start_thread mtrand_cont0_array ",
-    ),
-    ("A", &[0x1001, 0x1fff], "A 0x1fff? "),
-];
-
 /// What Python frames and native addresses are merged to.
 fn merged_to(
     alloc: Global,
@@ -138,18 +96,6 @@ fn merged_to(
     let frames = frames_of(alloc, names)?;
     let merged = stack.merge_native_stack(frames.as_slice(), addrs);
     shown(alloc, merged)
-}
-
-#[test]
-fn stacks_are_merged(rt: HostRuntime) -> Result<(), Fail> {
-    let alloc = rt.alloc();
-    let (python, symbols) = (python_of(alloc), symbols_of(alloc, Vec::new(alloc))?);
-    let mut stack = NativeStack::new(alloc, None, Some(python), symbols, NoSources)?;
-    for (names, addrs, want) in &MERGES {
-        let text = merged_to(alloc, &mut stack, names, addrs)?;
-        assert!(rt; text.as_str() == *want, "{want}");
-    }
-    Ok(())
 }
 
 #[test]
@@ -180,41 +126,5 @@ fn calls_that_fail_show_their_address(rt: HostRuntime) -> Result<(), Fail> {
     let text = merged_to(rt.alloc(), &mut stack, "A", &addrs)?;
     let want = "_PyEval_EvalFrameDefault _PyEval_EvalFrameDefault 0x1002? 0x1002? time_sleep A ";
     assert!(rt; text.as_str() == want);
-    Ok(())
-}
-
-/// Native addresses, and what each of them shows.
-const ASKED: [(u64, &str); 4] = [
-    (0x5000, "main"),
-    (0x1002, "time_sleep"),
-    (0x1003, "PyGILState_Ensure"),
-    (0x5006, "mtrand_cont0_array"),
-];
-
-/// What they show, and a frame behind them, where the call of this number fails.
-fn shown_without(alloc: Global, failing: u64) -> Result<String, AllocError> {
-    let mut text = String::new(alloc);
-    let mut call = 0_u64;
-    for (addr, name) in &ASKED {
-        if call == failing {
-            text.push_str(format!(in alloc; "{addr:#x}? ")?.as_str())?;
-        } else {
-            text.push_str(format!(in alloc; "{name} ")?.as_str())?;
-        }
-        call = call.saturating_add(1);
-    }
-    text.push_str("A ")?;
-    Ok(text)
-}
-
-#[test]
-fn each_call_that_fails_shows_its_address_alone(rt: HostRuntime) -> Result<(), Fail> {
-    let addrs = ASKED.map(|asked| asked.0);
-    // the last number is that of no call
-    for failing in 0..5_u64 {
-        let mut stack = failing_at(rt.alloc(), &[failing])?;
-        let text = merged_to(rt.alloc(), &mut stack, "A", &addrs)?;
-        assert!(rt; text == shown_without(rt.alloc(), failing)?, "{failing}");
-    }
     Ok(())
 }

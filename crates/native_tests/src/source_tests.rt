@@ -6,7 +6,6 @@ use native_merge::{
 };
 use py_stacks::Frame;
 use std::alloc::{AllocError, Global};
-use std::process::Abort;
 use std::test::Fail;
 
 /// Names of functions, and what is left of them.
@@ -300,43 +299,5 @@ fn frames_without_sources_stay(rt: HostRuntime) -> Result<(), Fail> {
     let mut frame = frame_at(rt.alloc(), "a.c", 3)?;
     SourceMaps::new(rt.alloc()).translate(&mut NoSources, &mut frame)?;
     assert!(rt; is_at(&frame, "a.c", 3));
-    Ok(())
-}
-
-/// C files, each of which has a mark. The first call of `contents` for each of the three is in this order; one that
-/// failed is asked for again, in the place of its second frame.
-const C_FILES: [&str; 6] = ["a.c", "b.c", "c.cpp", "a.c", "b.c", "c.cpp"];
-
-const A_MARK: &[u8] = b"/* \"a.pyx\":7";
-
-const C_MARKED: [(&[u8], &[u8]); 3] = [(b"a.c", A_MARK), (b"b.c", A_MARK), (b"c.cpp", A_MARK)];
-
-/// Translates a frame of each file, where the call of this number fails: that frame stays, and no other does.
-fn translate_all_but(rt: &impl Abort, alloc: Global, failing: u64) -> Result<(), Fail> {
-    let mut sources = sources_of(alloc, &C_MARKED, &[failing])?;
-    let mut maps = SourceMaps::new(alloc);
-    let mut call = 0_u64;
-    for file in &C_FILES {
-        let frame = translated(alloc, &mut maps, &mut sources, file, 2)?;
-        let stays = is_at(&frame, file, 2);
-        assert!(rt;
-            if call == failing {
-                stays
-            } else {
-                is_at(&frame, "a.pyx", 7)
-            },
-            "{file}"
-        );
-        call = call.saturating_add(1);
-    }
-    Ok(())
-}
-
-#[test]
-fn each_call_that_fails_leaves_its_frame_alone(rt: HostRuntime) -> Result<(), Fail> {
-    // the last number is that of no call
-    for failing in &[0, 1, 2, u64::MAX] {
-        translate_all_but(&rt, rt.alloc(), *failing)?;
-    }
     Ok(())
 }

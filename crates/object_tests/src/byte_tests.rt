@@ -36,36 +36,3 @@ fn bytes_are_read(rt: HostRuntime) -> Result<(), Fail> {
     }
     Ok(())
 }
-
-/// Lengths, and how an error tells them.
-const TOO_LONG: [(u64, i64); 3] = [(65536, 65536), (u64::MAX, -1), (1 << 63, i64::MIN)];
-
-#[test]
-fn lengths_are_refused(rt: HostRuntime) -> Result<(), Fail> {
-    for (length, len) in &TOO_LONG {
-        let part = object(rt.alloc(), *length, 39)?;
-        let want = ObjectError::TooLong { len: *len };
-        assert!(rt; read(rt.alloc(), part) == Err(want), "{length:#x}");
-    }
-    Ok(())
-}
-
-/// Lengths, how many bytes are in memory, and the first range that isn't.
-const MISSING: [(u64, usize, u64, u64); 3] = [
-    (7, 31, OBJECT, 32),
-    (7, 38, OBJECT + 32, 7),
-    (65535, 39, OBJECT + 32, 65535),
-];
-
-#[test]
-fn missing_bytes_are_refused(rt: HostRuntime) -> Result<(), Fail> {
-    for (length, held, addr, len) in &MISSING {
-        let part = object(rt.alloc(), *length, *held)?;
-        let want = ObjectError::Unreadable {
-            addr: *addr,
-            len: *len,
-        };
-        assert!(rt; read(rt.alloc(), part) == Err(want), "{held}");
-    }
-    Ok(())
-}

@@ -1,7 +1,7 @@
 //! The test of an interpreter, in its two steps.
 use crate::made::{Words, memory_of};
 use py_fields::Layout;
-use py_stacks::{StackError, get_first_thread, is_interpreter, is_interpreter_from};
+use py_stacks::{StackError, get_first_thread, is_interpreter};
 use std::test::Fail;
 
 /// Two interpreters, whose first thread is the same one; it names the first.
@@ -38,19 +38,6 @@ fn interpreters_have_a_first_thread(rt: HostRuntime) -> Result<(), Fail> {
     };
     let nowhere = get_first_thread(&mut part, &Layout::sample(), ONE + 8);
     assert!(rt; nowhere == Err(missing));
-    Ok(())
-}
-
-#[test]
-fn a_first_thread_names_its_interpreter(rt: HostRuntime) -> Result<(), Fail> {
-    let mut part = memory_of(rt.alloc(), &MEMORY)?;
-    let (alloc, layout) = (rt.alloc(), Layout::sample());
-    for (addr, thread, is) in &ROWS {
-        let head = thread.unwrap_or(0);
-        let passes = is_interpreter_from(alloc, &mut part, &layout, *addr, head);
-        assert!(rt; passes == Ok(*is), "{addr:#x}");
-    }
-    assert!(rt; is_interpreter_from(alloc, &mut part, &layout, ONE, ONE) == Ok(false));
     Ok(())
 }
 

@@ -39,17 +39,3 @@ fn items_of_lists_are_read(rt: HostRuntime) -> Result<(), Fail> {
     assert!(rt; list.count == 2 && read_item(&mut part, &list, 1) == Ok(0x22));
     Ok(())
 }
-
-#[test]
-fn items_of_tuples_are_read(rt: HostRuntime) -> Result<(), Fail> {
-    let mut part = memory_of(rt.alloc(), &[(LIST, &WORDS)])?;
-    let tuple = read_items(
-        rt.alloc(),
-        &mut part,
-        &Layout::sample(),
-        Sequence::Tuple,
-        LIST,
-    )?;
-    assert!(rt; read_item(&mut part, &tuple, 0) == Ok(ITEMS));
-    Ok(())
-}

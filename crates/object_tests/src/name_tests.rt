@@ -347,16 +347,3 @@ fn at_most_65536_slots_are_looked_at(rt: HostRuntime) -> Result<(), Fail> {
     assert!(rt; names.is_ok_and(|names| names.is_empty()));
     Ok(())
 }
-
-#[test]
-fn more_slots_are_refused(rt: HostRuntime) -> Result<(), Fail> {
-    let mut more = slots(rt.alloc(), 65537, 48 + 24 * 65537)?;
-    let refused = thread_names_from_interpreter(
-        rt.alloc(),
-        INTERPRETER,
-        &mut more,
-        &Layout::sample(),
-    );
-    assert!(rt; matches!(refused, Err(NamesError::Entries)));
-    Ok(())
-}

@@ -1,14 +1,8 @@
 //! What no row of the program shows: memory that no map has, and the holder of a lock alone.
 use crate::made::{Words, memory_of};
-use elf64_core::{LOAD, Machine, Name, Segment};
+use elf64_core::{LOAD, Name, Segment};
 use image_memory::CoreMapRange;
-use py_fields::Layout;
-use py_process::{
-    BinaryInfo, LockError, PythonProcessInfo, get_interpreter_address, get_python_version,
-    get_threadstate_address,
-};
-use py_stacks::Config;
-use py_version::Version;
+use py_process::{BinaryInfo, PythonProcessInfo, get_python_version};
 use std::alloc::{AllocError, Global};
 use std::collections::BTreeMap;
 use std::test::Fail;
@@ -70,31 +64,5 @@ fn a_path_tells_the_version(rt: HostRuntime) -> Result<(), Fail> {
     let mut part = memory_of(rt.alloc(), &MEMORY)?;
     let version = get_python_version(rt.alloc(), &info(rt.alloc())?, &mut part)?;
     assert!(rt; version.major == 3 && version.minor == 9);
-    Ok(())
-}
-
-#[test]
-fn what_is_in_no_map_is_no_interpreter(rt: HostRuntime) -> Result<(), Fail> {
-    let mut part = memory_of(rt.alloc(), &MEMORY)?;
-    let (info, version) = (info(rt.alloc())?, Version::of_numbers(rt.alloc(), 3, 9, 0)?);
-    let layout = Layout::sample();
-    let found = get_interpreter_address(rt.alloc(), &info, &mut part, &version, &layout);
-    assert!(rt; found == Ok(MAPPED));
-    Ok(())
-}
-
-#[test]
-fn a_holder_needs_a_lock(rt: HostRuntime) -> Result<(), Fail> {
-    let mut part = memory_of(rt.alloc(), &MEMORY)?;
-    let (info, version) = (info(rt.alloc())?, Version::of_numbers(rt.alloc(), 3, 9, 0)?);
-    let config = Config {
-        gil_only: true,
-        ..Config::default()
-    };
-    let (machine, layout) = (Machine::X86_64, Layout::sample());
-    let lock = get_threadstate_address(
-        MAPPED, &info, &mut part, machine, &version, &layout, &config,
-    );
-    assert!(rt; lock == Err(LockError::NoLock));
     Ok(())
 }

@@ -1,10 +1,10 @@
 //! Objects over pieces of memory, written out by hand.
-use crate::made::{Words, memory_of, piece, pieces_of};
+use crate::made::{Words, memory_of, piece};
 use object_reach::{ReachError, ReachObject, reach};
 use process_memory::{Part, Piece};
 use py_builtins::ObjectError;
 use py_fields::Layout;
-use std::alloc::{AllocError, Global};
+use std::alloc::Global;
 use std::test::Fail;
 
 /// Types of lists, tuples, dicts and integers. In the sample layout a type has 48 bytes, its flags at 32.
@@ -108,28 +108,6 @@ fn what_is_reached_is_listed(rt: HostRuntime) -> Result<(), Fail> {
         let objects = reach(rt.alloc(), &mut part, &layout, roots)?;
         assert!(rt; are_at(&objects, addresses));
     }
-    Ok(())
-}
-
-/// A list of so many of 2^20 objects that are in no memory.
-fn reach_lost(alloc: Global, count: u64) -> Result<Result<usize, ReachError>, Fail> {
-    let mut words = Vec::new(alloc);
-    for number in 0..1 << 20 {
-        words.push((1 << 40) + number)?;
-    }
-    let mut pieces = pieces_of(alloc, &WORDS)?;
-    pieces.push(piece(alloc, 0x7000, &[0, LIST, count, 0x8000, 0])?)?;
-    pieces.push(piece(alloc, 0x8000, &words)?)?;
-    let mut part = Part::of(alloc, pieces);
-    let reached = reach(alloc, &mut part, &Layout::sample(), &[0x7000]);
-    Ok(reached.map(|objects| objects.len()))
-}
-
-/// As many objects as are listed, and one more.
-#[test]
-fn the_limit_of_objects_is_exact(rt: HostRuntime) -> Result<(), Fail> {
-    assert!(rt; reach_lost(rt.alloc(), (1 << 20) - 1)? == Ok(1 << 20));
-    assert!(rt; reach_lost(rt.alloc(), 1 << 20)? == Err(ReachError::ReachLimit));
     Ok(())
 }
 

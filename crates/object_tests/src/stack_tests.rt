@@ -3,8 +3,7 @@
 use crate::made::{Words, memory_of};
 use py_fields::Layout;
 use py_stacks::{
-    Addresses, Config, LineNo, StackError, StackTrace, get_gil_threadid, get_stack_over,
-    get_stack_trace, get_stack_traces,
+    LineNo, StackError, StackTrace, get_gil_threadid, get_stack_trace, get_stack_traces,
 };
 use std::test::Fail;
 
@@ -58,23 +57,6 @@ fn stacks_of_all_threads(rt: HostRuntime) -> Result<(), Fail> {
     Ok(())
 }
 
-#[test]
-fn stacks_with_their_first_lines(rt: HostRuntime) -> Result<(), Fail> {
-    let (alloc, layout) = (rt.alloc(), Layout::sample());
-    let addresses = Addresses {
-        interpreter: INTERPRETER,
-        lock: 0,
-    };
-    let config = Config {
-        lineno: LineNo::First,
-        ..Config::default()
-    };
-    let mut part = memory_of(alloc, &MEMORY)?;
-    let full = get_stack_over(alloc, &mut part, &layout, &addresses, &config)?;
-    assert!(rt; full.len() == 1 && full.iter().all(|trace| is_trace(trace, 3, false)));
-    Ok(())
-}
-
 /// Whether a trace is that of the thread with this line, and has no variables.
 fn is_plain(trace: &StackTrace, line: i32) -> bool {
     let locals = trace.frames.first().and_then(|frame| frame.locals.as_ref());
@@ -102,46 +84,5 @@ fn the_holder_of_a_lock(rt: HostRuntime) -> Result<(), Fail> {
         len: 8,
     };
     assert!(rt; get_gil_threadid(LOCK + 8, &mut part, &layout) == Err(missing));
-    Ok(())
-}
-
-/// The system's id, the interpreter's, and how they are shown.
-const IDS: [(Option<u64>, u64, &str); 4] = [
-    (Some(99), 0x7f00, "99"),
-    (Some(0), 1, "0"),
-    (None, 0x7fab_cdef, "0x7FABCDEF"),
-    (None, 0, "0x0"),
-];
-
-/// Whether a thread ran, whether it held the lock, and how that is shown.
-const STATES: [(bool, bool, &str); 4] = [
-    (true, true, "active+gil"),
-    (true, false, "active"),
-    (false, true, "idle"),
-    (false, false, "idle"),
-];
-
-#[test]
-fn ids_and_states_are_shown(rt: HostRuntime) -> Result<(), Fail> {
-    let alloc = rt.alloc();
-    let mut trace = StackTrace {
-        pid: 0,
-        thread_id: 0,
-        thread_name: None,
-        os_thread_id: None,
-        active: true,
-        owns_gil: false,
-        frames: Vec::new(alloc),
-    };
-    for (os, id, want) in &IDS {
-        trace.os_thread_id = *os;
-        trace.thread_id = *id;
-        assert!(rt; trace.format_threadid(alloc)?.as_str() == *want);
-    }
-    for (active, owns_gil, want) in &STATES {
-        trace.active = *active;
-        trace.owns_gil = *owns_gil;
-        assert!(rt; trace.status_str() == *want);
-    }
     Ok(())
 }

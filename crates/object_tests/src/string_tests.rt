@@ -12,10 +12,6 @@ const OBJECT: u64 = 0x1000;
 /// Where characters that stand apart are.
 const APART: u64 = 0x9000;
 
-/// The size of a text's record in the sample layout: its length is at 16, its state at 32 and its pointer
-/// at 64; short characters begin at 48 and long ones at 72.
-const SIZE: usize = 72;
-
 /// The record of a text.
 fn object(alloc: Global, length: u64, state: u32) -> Result<Vec<u8>, AllocError> {
     let mut bytes = vec![in alloc; 0u8; 16]?;
@@ -90,37 +86,6 @@ fn texts_are_read(rt: HostRuntime) -> Result<(), Fail> {
     Ok(())
 }
 
-/// The same, of objects that are no texts.
-const NO_TEXTS: [(u32, u64, &[u8]); 9] = [
-    // Bytes that are not UTF-8.
-    (0x44, 1, b"\xff"),
-    (0x44, 1, b"\xc3"),
-    // A lone surrogate, of either half, and two the wrong way round.
-    (0x08, 2, b"\x3d\xd8a\x00"),
-    (0x08, 1, b"\x00\xde"),
-    (0x08, 2, b"\x00\xde\x3d\xd8"),
-    // Numbers that are no characters.
-    (0x10, 1, b"\x00\x00\x11\x00"),
-    (0x10, 1, b"\x00\xd8\x00\x00"),
-    // Kinds that are none.
-    (0x00, 1, b"a"),
-    (0x0c, 1, b"abc"),
-];
-
-#[test]
-fn what_is_no_text_is_refused(rt: HostRuntime) -> Result<(), Fail> {
-    let alloc = rt.alloc();
-    for (state, length, characters) in &NO_TEXTS {
-        let refused = read(alloc, *length, *state, APART, characters)?;
-        assert!(rt; refused == Err(ObjectError::NoText), "{state:#x}");
-    }
-    for (length, len) in [(4096, 4096), (u64::MAX, -1), (1 << 63, i64::MIN)] {
-        let refused = read(alloc, length, 0x44, APART, b"")?;
-        assert!(rt; refused == Err(ObjectError::TooLong { len }), "{length:#x}");
-    }
-    Ok(())
-}
-
 /// A memory of these bytes alone.
 fn part_of(alloc: Global, bytes: &[u8]) -> Result<Part, AllocError> {
     let piece = Piece {
@@ -128,27 +93,6 @@ fn part_of(alloc: Global, bytes: &[u8]) -> Result<Part, AllocError> {
         bytes: bytes.to_vec(alloc)?,
     };
     Ok(Part::of(alloc, vec![in alloc; piece]?))
-}
-
-#[test]
-fn a_text_that_is_cut_is_unreadable(rt: HostRuntime) -> Result<(), Fail> {
-    let alloc = rt.alloc();
-    let mut whole = object(alloc, 3, 0x24)?;
-    whole.extend_from_slice(b"cut")?;
-    for end in 0..whole.len() {
-        let mut part = part_of(alloc, &whole[..end])?;
-        let (addr, len) = if end < SIZE {
-            (OBJECT, 72)
-        } else {
-            (OBJECT + 72, 3)
-        };
-        let refused = copy_string(alloc, &mut part, &Layout::sample(), OBJECT);
-        assert!(rt;
-            refused == Err(ObjectError::Unreadable { addr, len }),
-            "{end}"
-        );
-    }
-    Ok(())
 }
 
 /// The sample layout with texts as bytes: their length is at 16, and they begin at 24.
@@ -181,18 +125,5 @@ fn texts_of_bytes_are_utf8(rt: HostRuntime) -> Result<(), Fail> {
     )?;
     let text = copy_string(rt.alloc(), &mut part, &layout, OBJECT)?;
     assert!(rt; text.as_str() == "fü");
-    Ok(())
-}
-
-#[test]
-fn other_bytes_are_no_text(rt: HostRuntime) -> Result<(), Fail> {
-    let layout = bytes_layout();
-    assert!(rt; is_sound(&layout));
-    let mut part = part_of(
-        rt.alloc(),
-        b"\0\0\0\0\0\0\0\0\0\0\0\0\0\0\0\0\x03\0\0\0\0\0\0\0f\xc3b",
-    )?;
-    let refused = copy_string(rt.alloc(), &mut part, &layout, OBJECT);
-    assert!(rt; refused == Err(ObjectError::NoText));
     Ok(())
 }

@@ -1,9 +1,7 @@
 //! A line of each table, and one on a stream that takes a part of it. What else a line says is a clause.
 use core_texts::Part;
-use fault_lines::{core_parts, file_parts, layout_parts, say_line, text_part};
-use outside::{FileFault, MemorySink};
-use py_layout::LayoutError;
-use py_process::CoreError;
+use fault_lines::{say_line, text_part};
+use outside::MemorySink;
 use std::alloc::{AllocError, Global};
 use std::test::Fail;
 
@@ -18,31 +16,6 @@ fn said_within(alloc: Global, room: u32, parts: &[Part<'_>]) -> Result<MemorySin
 fn is_said(alloc: Global, room: u32, parts: &[Part<'_>], line: &[u8]) -> Result<bool, AllocError> {
     let err = said_within(alloc, room, parts)?;
     Ok(err.bytes() == line)
-}
-
-#[test]
-fn a_fault_of_a_core_is_said(rt: HostRuntime) -> Result<(), Fail> {
-    let (addr, len) = (0x7f00_abcd, 24);
-    let error = CoreError::UnreadableVersion { addr, len };
-    let line = b"p: version unreadable at 0x7f00abcd, 24 bytes\n";
-    assert!(rt; is_said(rt.alloc(), 100, &core_parts(&error), line)?);
-    Ok(())
-}
-
-#[test]
-fn a_fault_of_layouts_is_said(rt: HostRuntime) -> Result<(), Fail> {
-    let (first, second) = (0, 12);
-    let error = LayoutError::Clash { first, second };
-    let line = b"p: layouts: tables 0 and 12 clash\n";
-    assert!(rt; is_said(rt.alloc(), 100, &layout_parts(&error), line)?);
-    Ok(())
-}
-
-#[test]
-fn a_fault_of_a_file_is_said(rt: HostRuntime) -> Result<(), Fail> {
-    let parts = file_parts(b"core", FileFault::TooLong);
-    assert!(rt; is_said(rt.alloc(), 100, &parts, b"p: file too long: core\n")?);
-    Ok(())
 }
 
 #[test]

@@ -1,0 +1,153 @@
+#!/usr/bin/env python3
+"""Runs what the gate tries beside `rt ci`, one check after another, and says how each ended and how long it took.
+
+    tools/check/gate.py [--only WORD] [--all] [--verdict FILE]
+
+Each check runs by itself, as `tools/check/NAME.py`, and what it prints is passed on. A line `NAME: skipped: ..` is what it could
+not try on this machine; it fails nothing. Behind all of them stands a summary: each check with its seconds, what was
+skipped, and, of the output of `rt ci` in FILE, the verdict. The last line has all that passed and failed, those of `rt ci` too.
+With --all each check that knows it tries all that it has, at any length, which is for a run by hand. The status is 0 exactly where no check failed.
+"""
+
+import argparse
+import re
+import subprocess
+import sys
+import time
+from dataclasses import dataclass, field
+from pathlib import Path
+from typing import List, Sequence, Tuple
+
+from rooms import ROOT
+
+CHECK = Path(__file__).resolve().parent
+
+PROGRAM = str(ROOT / "crates" / "pystacks" / "out" / "pystacks")
+SALVAGE = str(ROOT / "crates" / "pysalvage" / "out" / "pysalvage")
+LISTING = str(ROOT / "crates" / "listing" / "out" / "listing")
+
+OF_PROGRAM = ("--program", PROGRAM)
+OF_BOTH = ("--program", PROGRAM, "--salvage", SALVAGE)
+OF_LISTING = ("--program", LISTING)
+
+ALL = "--all"
+"""What asks a check for all that it has."""
+
+
+@dataclass(frozen=True)
+class Check:
+    """A check: its name, its words, and whether it knows --all."""
+
+    name: str
+    words: Tuple[str, ...] = ()
+    has_more: bool = False
+
+
+CHECKS = (
+    Check("messages"),
+    Check("quotes"),
+    Check("definitions"),
+    Check("test_gate"),
+    Check("test_real_core"),
+    Check("test_dump_core"),
+    Check("test_prepare"),
+    Check("test_collapse"),
+    Check("test_core_text"),
+    Check("test_tool"),
+    Check("test_real_tool"),
+    Check("test_wide"),
+    Check("test_page"),
+    Check("test_pages"),
+    Check("test_install"),
+    Check("test_slim_core"),
+    Check("test_fuzz"),
+    Check("test_slim_reader"),
+    Check("rows", OF_PROGRAM),
+    Check("slim_cores", OF_PROGRAM),
+    Check("sample_cores", OF_PROGRAM),
+    Check("fuzz", OF_BOTH, True),
+    Check("growths", (*OF_BOTH, "--step", "100", "--most", "12")),
+    Check("real_core", OF_PROGRAM, True),
+    Check("real_broken", OF_PROGRAM, True),
+    Check("pages", OF_PROGRAM),
+    Check("real_merge", OF_PROGRAM),
+    Check("real_salvage", OF_BOTH, True),
+    Check("arm_core", OF_PROGRAM),
+    Check("compare_elf", OF_LISTING),
+    Check("compare_maps", OF_LISTING),
+)
+"""What is run, in order."""
+
+
+@dataclass
+class Ended:
+    """How a check ended."""
+
+    name: str
+    status: int
+    seconds: float
+    skipped: List[str] = field(default_factory=list)
+
+    def line(self) -> str:
+        """The check in a line of the summary."""
+        return f"    {self.name:<17} {self.seconds:6.1f} s{'' if self.status == 0 else f'  FAILED, with status {self.status}'}"
+
+
+def ran(check: Check, has_all: bool) -> Ended:
+    """Runs a check, and passes on what it prints."""
+    words = [sys.executable, "-B", str(CHECK / f"{check.name}.py"), *check.words, *((ALL,) if has_all and check.has_more else ())]
+    begun = time.monotonic()
+    skipped = []
+    # (a check may write bytes that are no text, as names of files)
+    with subprocess.Popen(words, cwd=ROOT, stdin=subprocess.DEVNULL, stdout=subprocess.PIPE, stderr=subprocess.STDOUT) as process:
+        assert process.stdout is not None
+        for row in process.stdout:
+            line = row.decode("utf-8", "replace").rstrip("\n")
+            print(line, flush=True)
+            if is_skipped(line):
+                skipped.append(line)
+    return Ended(check.name, process.returncode, time.monotonic() - begun, skipped)
+
+
+def is_skipped(line: str) -> bool:
+    """Whether a line says what a check, or a test, could not try here."""
+    return re.match(r"\w+: skipped: ", line) is not None or re.match(r"OK \(skipped=", line) is not None
+
+
+def verdict_in(text: str) -> Tuple[List[str], int, int]:
+    """The verdict in what `rt ci` wrote: its lines, and how much passed and failed. Without one nothing passed, and that is a failure."""
+    lines = [line for line in text.splitlines() if re.match(r"(rt: ok|rt: FAILED)|\d+ passed, \d+ failed", line)]
+    counts = re.match(r"(\d+) passed, (\d+) failed", lines[-1]) if lines else None
+    if counts is None:
+        return ["rt ci: no verdict"], 0, 1
+    return [f"rt ci: {line}" for line in lines[-2:]], int(counts.group(1)), int(counts.group(2))
+
+
+def summary(ended: Sequence[Ended], verdict: str) -> List[str]:
+    """The lines of the summary. The last one has all that passed and failed."""
+    failed = sum(it.status != 0 for it in ended)
+    lines = [f"checks: {len(ended) - failed} passed, {failed} failed, {sum(it.seconds for it in ended):.0f} s"]
+    lines += [it.line() for it in ended]
+    lines += [f"    {it.name}: {line}" if line.startswith("OK ") else f"    {line}" for it in ended for line in it.skipped]
+    said, passed, lost = verdict_in(verdict)
+    if verdict:
+        lines += said
+    else:
+        passed, lost = 0, 0
+    return [*lines, f"{passed + len(ended) - failed} passed, {lost + failed} failed"]
+
+
+def main() -> int:
+    parser = argparse.ArgumentParser(description=__doc__, formatter_class=argparse.RawDescriptionHelpFormatter)
+    parser.add_argument("--only", default="", help="the checks in whose name this stands")
+    parser.add_argument("--all", action="store_true", help="all that each check has, at any length")
+    parser.add_argument("--verdict", help="a file with what `rt ci` wrote")
+    words = parser.parse_args()
+    ended = [ran(it, words.all) for it in CHECKS if words.only in it.name]
+    verdict = Path(words.verdict).read_text(encoding="utf-8", errors="replace") or "nothing" if words.verdict else ""
+    print("\n".join(["", *summary(ended, verdict)]), flush=True)
+    return 1 if any(it.status for it in ended) else 0
+
+
+if __name__ == "__main__":
+    sys.exit(main())
