@@ -1,43 +1,42 @@
-//! Which programs are refused, and the files of one that isn't; more of both are rows of `listing`.
+//! Which versions are refused, and the files of a program; more of both are rows of `listing`.
 ghost use Rattle.py_fields.specs.Sound.{IsSound};
 
+use crate::laid_tests::sample_3_12;
 use elf64_core::{Machine, Text};
 use image_builder::{BuildError, Built, Program, ProgramFrame, ProgramThread, build};
-use py_fields::Layout;
+use memory_builder::{ProgramItem, ProgramLocal, ProgramValue};
+use py_fields::{Layout, is_sound};
 use py_lines::LineRange;
 use py_version::Version;
 use std::alloc::Global;
 use std::test::Fail;
 
-/// A frame of code of one line from 0 on.
-fn frame(alloc: Global, name: &str, filename: &str, end: u64) -> Result<ProgramFrame, Fail> {
-    let mut ranges = Vec::new(alloc);
-    ranges.push(LineRange {
+/// A frame of `a.py`, whose code has one line from 0 on and begins at the line `first`.
+fn frame(alloc: Global, name: &str, first: i32, line: i32, end: u64) -> Result<ProgramFrame, Fail> {
+    let range = LineRange {
         start: 0,
         end,
-        line: Some(5),
-    })?;
+        line: Some(line),
+    };
     Ok(ProgramFrame {
         name: Text::of(alloc, name)?,
-        filename: Text::of(alloc, filename)?,
-        first: 3,
-        ranges,
-        offset: 2,
+        filename: Text::of(alloc, "a.py")?,
+        first,
+        ranges: vec![in alloc; range]?,
+        offset: 0,
         args: 0,
         locals: Vec::new(alloc),
     })
 }
 
-/// One thread of two frames.
-fn small(alloc: Global, id: u64, filename: &str) -> Result<Program, Fail> {
-    let mut frames = Vec::new(alloc);
-    frames.push(frame(alloc, "f", "a.py", 8)?)?;
-    frames.push(frame(alloc, "<module>", filename, 4)?)?;
-    let mut threads = Vec::new(alloc);
-    threads.push(ProgramThread { id, frames })?;
+/// One thread of two frames, which holds the lock if anybody does.
+fn small(alloc: Global, owner: Option<u32>) -> Result<Program, Fail> {
+    let mut first = frame(alloc, "f", 3, 5, 8)?;
+    first.offset = 2;
+    let frames = vec![in alloc; first, frame(alloc, "<module>", 1, 1, 4)?]?;
     Ok(Program {
-        threads,
-        owner: None,
+        threads: vec![in alloc; ProgramThread { id: 32512, frames }]?,
+        owner,
     })
 }
 
@@ -70,7 +69,7 @@ const UNCOVERED: [(u64, u64, &str); 3] = [(9, 0, "rc"), (9, 256, ""), (11, 0, ""
 
 #[test]
 fn versions_without_a_number_are_uncovered(rt: HostRuntime) -> Result<(), Fail> {
-    let (layout, program) = (Layout::sample(), small(rt.alloc(), 32512, "a.py")?);
+    let (layout, program) = (Layout::sample(), small(rt.alloc(), None)?);
     for (minor, patch, flags) in &UNCOVERED {
         let version = version(rt.alloc(), *minor, *patch, flags)?;
         let answer = admit(rt.alloc(), &program, &layout, &version, Machine::X86_64);
@@ -84,8 +83,7 @@ fn versions_without_a_number_are_uncovered(rt: HostRuntime) -> Result<(), Fail> 
 
 /// The program with its thread as the holder of the lock, written.
 pub(crate) fn built(alloc: Global) -> Result<Built, Fail> {
-    let mut program = small(alloc, 32512, "a.py")?;
-    program.owner = Some(0);
+    let program = small(alloc, Some(0))?;
     let version = version(alloc, 9, 0, "")?;
     Ok(build(
         alloc,
@@ -94,4 +92,33 @@ pub(crate) fn built(alloc: Global) -> Result<Built, Fail> {
         &version,
         Machine::X86_64,
     )?)
+}
+
+fn local(alloc: Global, name: &str, value: ProgramValue) -> Result<ProgramLocal, Fail> {
+    let name = Text::of(alloc, name)?;
+    Ok(ProgramLocal { name, value })
+}
+
+/// A number, and a list of a text and a number.
+fn locals(alloc: Global) -> Result<Vec<ProgramLocal>, Fail> {
+    let words = ProgramItem::Words(Text::of(alloc, "s")?);
+    let items = vec![in alloc; words, ProgramItem::Number(7)]?;
+    let number = local(alloc, "x", ProgramValue::Number(-5))?;
+    Ok(vec![in alloc; number, local(alloc, "y", ProgramValue::List(items))?]?)
+}
+
+/// The program by 3.12's sample, with the lock free, or with locals in its first frame, by the thread that holds it.
+pub(crate) fn built_by_3_12(alloc: Global, has_locals: bool) -> Result<Built, Fail> {
+    let layout = sample_3_12();
+    if !is_sound(&layout) {
+        return Err(Fail::from("the layout isn't sound"));
+    }
+    let owner = if has_locals { Some(0) } else { None };
+    let mut program = small(alloc, owner)?;
+    if has_locals {
+        program.threads[0].frames[0].args = 1;
+        program.threads[0].frames[0].locals = locals(alloc)?;
+    }
+    let version = version(alloc, 12, 0, "")?;
+    Ok(build(alloc, &program, &layout, &version, Machine::X86_64)?)
 }

@@ -38,7 +38,7 @@ fn sample_3_10() -> Layout {
     }
 }
 
-fn sample_3_12() -> Layout {
+pub(crate) fn sample_3_12() -> Layout {
     Layout {
         first_minor: 12,
         last_minor: 12,

@@ -128,6 +128,15 @@ fn has_pieces(core: &CoreDump, pieces: &[(u64, &[u8])]) -> bool {
     true
 }
 
+/// How many bytes a slim core of these pieces has: a header of 64, 56 for each segment, 88 of notes, and the pieces.
+fn length_of(pieces: &[(u64, &[u8])]) -> usize {
+    let mut length: usize = 64 + 56 + 88;
+    for (_, held) in pieces {
+        length = length.saturating_add(56).saturating_add(held.len());
+    }
+    length
+}
+
 /// Whether a core has one segment of notes, of 88 bytes.
 fn has_notes(core: &CoreDump) -> bool {
     match core.note_segment(0) {
@@ -136,18 +145,19 @@ fn has_notes(core: &CoreDump) -> bool {
     }
 }
 
-/// The slim core of ranges of the core of six segments.
-fn slim_of_six(alloc: Global, rows: &[(u64, u64)]) -> Result<CoreDump, Fail> {
+/// The bytes of the slim core of ranges of the core of six segments.
+fn slim_of_six(alloc: Global, rows: &[(u64, u64)]) -> Result<Vec<u8>, Fail> {
     let dump = dump_of_six(alloc)?;
     let ranges = ranges_of(alloc, rows)?;
-    let bytes = slim_held(alloc, &dump, &ranges)?;
-    Ok(CoreDump::new(alloc, bytes)?)
+    Ok(slim_held(alloc, &dump, &ranges)?)
 }
 
 #[test]
 fn pieces_are_joined(rt: HostRuntime) -> Result<(), Fail> {
     for (rows, pieces) in &ROWS {
-        let core = slim_of_six(rt.alloc(), rows)?;
+        let bytes = slim_of_six(rt.alloc(), rows)?;
+        assert!(rt; bytes.len() == length_of(pieces));
+        let core = CoreDump::new(rt.alloc(), bytes)?;
         assert!(rt; has_pieces(&core, pieces) && has_notes(&core));
     }
     Ok(())
