@@ -1,8 +1,9 @@
-"""Rows of `listing footprint`: which ranges the stacks of a core are read from."""
+"""Rows of `listing footprint` and `listing reads`: which ranges the stacks of a core are read from, and how many reads a
+report takes."""
 
 from typing import Iterator, List
 
-from made import READABLE, WRITABLE, Segment, core_file
+from made import READABLE, WRITABLE, Objects, Segment, core_file
 from row import CALLER, CODE, FILE, FRAME, FUNCTION, HEAP, MODULE, MODULE_CODE, THREAD, Row, heap, row
 from rows_dump import IMAGE, bss, files_of, mapped, small
 
@@ -34,7 +35,7 @@ def small_reads() -> str:
 
 def rows() -> List[Row]:
     """All of them."""
-    return list(footprints())
+    return [*footprints(), *counts()]
 
 
 def footprints() -> Iterator[Row]:
@@ -51,3 +52,20 @@ def footprints() -> Iterator[Row]:
         ("no ELF file", WORDS, files_of(b"text")),
     ):
         yield row(f"listing: footprint: {what}", words, files, "refused\n")
+
+
+def counts() -> Iterator[Row]:
+    """How many reads a report takes at most. Of the small core: 10 for the search and 3 for 0x400000; 3, 2 for its thread
+    and 6 for each of two members for the interpreter; and for its stacks 15, 2 and 9 for each. Of one whose second
+    frame is skipped and leads to itself: 10, 3 for 0x400000, 3, 2 and 6 for each of 16384 members, and no more than 15 beside."""
+
+    def cyclic(objects: Objects) -> None:
+        code = objects.record("code", None, filename=objects.text("<shim>"), name=FUNCTION)
+        objects.frame(at=CALLER, code=code, back=CALLER)
+
+    most = 10 + 3 + (3 + 2 + 2 * 6) + (15 + 2 + 2 * 9)
+    yield row("listing: reads of the small core", f"reads layouts {most} core {IMAGE}", files_of(small()), f"report, in {most} reads or fewer\n")
+    ring = 10 + 3 + (3 + 2 + 6 * 16384) + 15
+    yield row("listing: reads of a ring of skipped members", f"reads layouts {ring} core {IMAGE}", files_of(small(cyclic)), f"none, in {ring} reads or fewer\n")
+    for what, words in (("no core", "reads layouts 1"), ("no number", f"reads layouts x core {IMAGE}")):
+        yield row(f"listing: reads: {what}", words, files_of(small()), "refused\n")

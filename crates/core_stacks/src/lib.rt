@@ -17,5 +17,5 @@ pub use finding::process_info;
 pub use found::PythonBinaries;
 pub use notes::Notes;
 pub use python_core::PythonCoreDump;
-pub use reporting::{Loaded, load, report, report_counted};
+pub use reporting::{Loaded, load, report, report_counted, report_over};
 pub use slimmed_error::SlimmedError;

@@ -10,7 +10,10 @@ use std::io::{self, Write};
 use std::rt::Files;
 
 /// The images that the words `PATH=FILE` name; none where a word has no equals sign.
-fn images_of<R: Files + Alloc<A = Global>>(rt: &R, words: &[String]) -> io::Result<Option<Images>> {
+pub(crate) fn images_of<R: Files + Alloc<A = Global>>(
+    rt: &R,
+    words: &[String],
+) -> io::Result<Option<Images>> {
     let mut images = Images::new(rt.alloc());
     for word in words {
         let Some((path, file)) = word.as_str().split_once('=') else {

@@ -1,12 +1,14 @@
 //! What is read in a file, line by line, for comparison with other readers: `listing elf FILE [ADDR SIZE]`,
-//! `listing maps FILE` and `listing footprint LAYOUTS CORE [PATH=FILE]..`; and the files of programs that are built:
+//! `listing maps FILE`, `listing footprint LAYOUTS CORE [PATH=FILE]..` and `listing reads LAYOUTS MOST CORE
+//! [PATH=FILE]..`; and the files of programs that are built:
 //! `listing built LAYOUTS VERSION MACHINE PART SEED` or `.. PART THREADS FRAMES OWNER ARGS [NAME=VALUE]..`.
 //!
 //! Of an ELF file the machine, each segment, each section, each symbol and the build id have a line; with
 //! ADDR and SIZE, decimal numbers, also what the file says as an image that is mapped there. Of maps text,
 //! which is read as that of the process 1, each line has one. All these numbers are decimal. A name that is no
 //! text is `?`, and `-` stands for none. Of a core each read of its stacks, by a layout file and the files that its
-//! process had mapped, has a line in order: the start and the size of the range, in hexadecimal digits.
+//! process had mapped, has a line in order: the start and the size of the range, in hexadecimal digits. Or one line says
+//! whether there is a report, and that it took MOST reads or fewer, or how many.
 //!
 //! A program that is built is that of a seed, or has so many threads, of ids from 32512 on, of so many frames each, all
 //! with the same locals, of which the first so many are arguments. A VALUE is a number, a text, or `[` and items with
@@ -22,11 +24,13 @@ mod built;
 mod elf_file;
 mod footprint;
 mod maps_file;
+mod reads;
 
 use built::list_built;
 use elf_file::list_elf;
 use footprint::list_footprint;
 use maps_file::list_maps;
+use reads::list_reads;
 use std::alloc::Global;
 use std::env::Env;
 use std::io::{BufWriter, Write};
@@ -62,6 +66,7 @@ fn run<R: Env + Files + Print + Alloc<A = Global>>(rt: &R) -> io::Result<()> {
         "elf" => list_elf(&mut out, rt.alloc(), &bytes, map_of(rest))?,
         "maps" => list_maps(&mut out, rt.alloc(), &bytes)?,
         "footprint" => list_footprint(&mut out, rt, &bytes, rest)?,
+        "reads" => list_reads(&mut out, rt, &bytes, rest)?,
         "built" => list_built(&mut out, rt.alloc(), &bytes, rest)?,
         _ => writeln!(out, "refused")?,
     }
