@@ -55,6 +55,11 @@ CASES = (
     Case("main", USUAL),
     Case("many", USUAL),
 )
+"""Each situation in a process of its own, and some as cores are usually written."""
+
+GATE_CASES = (Case("many", folder="ein Ordner für 日本"), Case("free", USUAL))
+"""One process, whose threads are in all the situations, and one that lacks what is still as in the files, with the
+lock let go."""
 
 
 @dataclass(frozen=True)

@@ -28,6 +28,7 @@ from child_cores import SECONDS, Failure, Skip, core_names, find_core, raise_cor
 from core_images import image_words, read_core
 from core_maps import Use
 from core_places import LAYOUTS
+from each_python import each_python
 from find_pythons import pythons
 
 CHILD = Path(__file__).resolve().with_name("real_broken_child.py")
@@ -196,9 +197,9 @@ def main() -> int:
     except Skip as reason:
         print(f"real_broken: skipped: {reason}")
         return 0
-    for python in words.python or usual(r"3\.(8|9|1[0-3])"):
+    for python, told in each_python(lambda it: tried(it, words, names), words.python or usual(r"3\.(8|9|1[0-3])")):
         try:
-            print(tried(python, words, names), flush=True)
+            print(f"real_broken: {told()}", flush=True)
         except Failure as reason:
             failed += 1
             print(f"real_broken: FAILED: {python}: {reason}", flush=True)

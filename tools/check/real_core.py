@@ -36,13 +36,14 @@ from typing import Dict, Iterator, List, Optional, Sequence, Tuple
 from rooms import ROOT  # (first: it makes the other rooms known)
 
 import child_cores
-from child_cores import CASES, Core, Failure, Skip, Thread, Told, core_names, leave_core
+from child_cores import CASES, GATE_CASES, Case, Core, Failure, Skip, Thread, Told, core_names, leave_core
 from core_maps import Use, machine_of, wanted_files
 from core_prepare import Wishes, prepared
 from derive_layout import Build, Derived, DeriveError, How, build_of, derive, same_version, told_of
 from core_images import image_words
 from find_pythons import pythons
 from footprints import Footprint, blotted, footprint_of
+from each_python import each_python
 from layout_plan import plan_of
 from layout_swaps import swaps
 from real_groups import check_objects, groups_text, kept
@@ -428,10 +429,10 @@ def over_core(program: Path, derived: Derived, core: Core, room: Path) -> Walk:
     return run
 
 
-def cores_of(derived: Derived, names: str, room: Path) -> Iterator[Core]:
+def cores_of(derived: Derived, names: str, room: Path, cases: Sequence[Case]) -> Iterator[Core]:
     """A core of each case, in a folder of its own, where the layout stands too. It is removed behind its use."""
     (room / "layout.toml").write_text(derived.text, encoding="utf-8")
-    for number, case in enumerate(CASES):
+    for number, case in enumerate(cases):
         core = leave_core(derived, names, room / str(number), case)
         try:
             yield core
@@ -450,14 +451,14 @@ def what_of(cores: Sequence[Core], derived: Derived, stored: str, footprints: Se
     return f"{len(cores)} cores ({usual} usual): {counts}; {holders}; reports agree {names}; {read}; {stored}"
 
 
-def tried(program: Path, python: str, names: str, listing: Optional[Path] = None) -> str:
+def tried(program: Path, python: str, names: str, cases: Sequence[Case] = CASES, listing: Optional[Path] = None) -> str:
     """Derives the layout of one Python, and tries it on some cores. Returns the line that tells of it."""
     build = build_of(python)
     derived = derived_for(build)
     stored = as_stored(derived, ROOT / "layouts")
     cores, runs, sizes, footprints, kept_names = [], [], [], [], []
     with tempfile.TemporaryDirectory(prefix="real-core-") as name:
-        for core in cores_of(derived, names, Path(name)):
+        for core in cores_of(derived, names, Path(name), cases):
             cores.append(core)
             sizes.append(core.path.stat().st_size)
             kept_names.append(kept(core, Path(name), len(kept_names)))
@@ -561,11 +562,12 @@ def try_all(words: argparse.Namespace) -> int:
     failed = 0
     if not words.swaps:
         print(row("Python", "core, MiB", "walk, s", "walk, MiB", "result"), flush=True)
-    for python in found:
+    cases = CASES if words.all else GATE_CASES
+    read = listing if listing.is_file() else None
+    for python, told in each_python(
+            lambda it: swapped(program, it, names) if words.swaps else tried(program, it, names, cases, read), found):
         try:
-            told = swapped(program, python, names) if words.swaps else tried(
-                program, python, names, listing if listing.is_file() else None)
-            print(told, flush=True)
+            print(told(), flush=True)
         except (Skip, DeriveError) as reason:
             print(f"real_core: skipped: {python}: {getattr(reason, 'brief', reason)}", flush=True)
         except Failure as reason:
@@ -580,6 +582,7 @@ def main() -> int:
     parser.add_argument("python", nargs="*", help="the interpreters (default: all that are found)")
     parser.add_argument("--program", help="the built program (default: rt builds it)")
     parser.add_argument("--listing", help="the built program `listing` (default: that of crates/listing, if it is built)")
+    parser.add_argument("--all", action="store_true", help="each case in a process of its own, six cores of each Python; else one that has them as its threads")
     parser.add_argument("--swaps", action="store_true", help="tell which wrong numbers of a layout are noticed")
     words = parser.parse_args()
     try:

@@ -25,6 +25,7 @@ from typing import Dict, List, Sequence, Tuple
 import rooms  # (first: it makes the other rooms known)
 from child_cores import Failure, Skip, core_names, find_core, raise_core_limit
 from core_maps import EXECUTABLE, maps_of
+from each_python import each_python
 from find_pythons import pythons
 from native_addresses import Fault, addresses_of
 
@@ -140,9 +141,10 @@ def main() -> int:
     except Skip as reason:
         print(f"real_merge: skipped: {reason}")
         return 0
-    for python in words.python or pythons():
+    program = Path(words.program).resolve()
+    for python, told in each_python(lambda it: tried(program, it, names), words.python or pythons()):
         try:
-            print(f"real_merge: {python}: {tried(Path(words.program).resolve(), python, names)}", flush=True)
+            print(f"real_merge: {python}: {told()}", flush=True)
         except (Skip, Fault) as reason:
             print(f"real_merge: skipped: {python}: {reason}", flush=True)
         except Failure as reason:

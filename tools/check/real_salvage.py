@@ -26,6 +26,7 @@ from broken_words import LOW, check_words, with_word
 from child_cores import Case, Failure, Skip, core_names, find_core, leave_core, raise_core_limit
 from core_prepare import Unprepared, Wishes, prepared
 from derive_layout import DeriveError, build_of
+from each_python import each_python
 from find_pythons import pythons
 from made import layout_of
 from real_core import derived_for, images_of, ran
@@ -279,9 +280,9 @@ def try_all(program: Path, salvage: Path, found: Sequence[str]) -> int:
     """Tries each Python, and returns how many failed."""
     names = core_names()
     failed = 0
-    for python in found:
+    for python, told in each_python(lambda it: tried(program, salvage, it, names), found):
         try:
-            print(f"real_salvage: {tried(program, salvage, python, names)}", flush=True)
+            print(f"real_salvage: {told()}", flush=True)
         except (Skip, DeriveError) as reason:
             print(f"real_salvage: skipped: {python}: {getattr(reason, 'brief', reason)}", flush=True)
         except Failure as reason:
