@@ -20,7 +20,7 @@ use Rattle.core_merge.specs.CoreEntries.{AreCoreEntries, AreOrdered, EntriesSay,
 use Rattle.core_merge.specs.CoreEntries.{is_placed}
 use Rattle.core_merge.specs.CoreMerges.{CoreMergeIs, MergedBy, MergedWith}
 use Rattle.core_merge.specs.ImageMerges.{ImageMergeSays}
-use Rattle.core_merge.specs.Steps.{Then}
+use Rattle.py_process.specs.Steps.{Then}
 use Rattle.core_merge.specs.declared.error.CoreMergeError.{CoreMergeError}
 use Rattle.core_merge.specs.declared.error.CoreMergeError.TheVariants.{BadLine, BadOffset, MapsOverlap, OffsetOverflow}
 use Rattle.core_merge.specs.declared.error.CoreMergeError.TheVariants.{Mismatch, OutOfMemory}

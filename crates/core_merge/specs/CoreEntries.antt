@@ -17,7 +17,7 @@ use Rattle.maps_text.specs.Relevance.{is_relevant}
 use Rattle.maps_text.specs.declared.entry.MapsEntry.{MapsEntry}
 use Rattle.normalize_core.specs.Order.{in_order}
 use Rattle.std.specs.declared.ops.Range.{Range}
-use Rattle.core_merge.specs.Steps.{Then}
+use Rattle.py_process.specs.Steps.{Then}
 use Rattle.core_merge.specs.declared.error.CoreMergeError.{CoreMergeError}
 use Rattle.core_merge.specs.declared.error.CoreMergeError.TheVariants.{BadOffset, MapsOverlap}
 

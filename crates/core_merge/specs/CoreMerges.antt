@@ -9,7 +9,7 @@ use Rattle.native_merge.specs.ImageSymbols.{files_mapped}
 use Rattle.core_merge.specs.Addresses.{AddressesSay}
 use Rattle.core_merge.specs.CoreEntries.{EntriesSay}
 use Rattle.core_merge.specs.ImageMerges.{ImageMergeSays}
-use Rattle.core_merge.specs.Steps.{Then}
+use Rattle.py_process.specs.Steps.{Then}
 use Rattle.core_merge.specs.declared.error.CoreMergeError.{CoreMergeError}
 use Rattle.core_merge.specs.declared.error.CoreMergeError.TheVariants.{OffsetOverflow}
 

@@ -2,4 +2,3 @@ pub mod Addresses
 pub mod CoreEntries
 pub mod CoreMerges
 pub mod ImageMerges
-pub mod Steps

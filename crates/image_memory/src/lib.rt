@@ -37,4 +37,4 @@ pub use process_memory::{
 };
 pub use records::{elf_prpsinfo, elf_prstatus};
 pub use subrange::is_subrange;
-pub use view::{BackedView, View};
+pub use view::{BackedView, View, ViewOf};

@@ -2,57 +2,33 @@
 ghost use Rattle.std.specs.Prelude.{◌≡◌};
 
 use crate::{BackedDump, CoreDump};
-use process_memory::{ProcessMemory, ReadFault, copy_pieces, read_pieces};
+use process_memory::{Pieces, ProcessMemory, ReadFault, copy_pieces, read_pieces};
 use std::alloc::Global;
 
-/// The memory of a core, over the core's own bytes: one piece for each load segment, in table order.
+/// The memory of pieces that something has: a core, or a core with its images.
 #[derive(Drop)]
-pub struct View<'a> {
-    core: &'a CoreDump,
+pub struct ViewOf<'a, D> {
+    dump: &'a D,
 }
 
-impl<'a> View<'a> {
-    pub(crate) fn new(core: &'a CoreDump) -> View<'a>
-        ensures { result.core.now ≡ core.now }
-    {
-        View { core }
-    }
-}
-
-impl<'a> ProcessMemory for View<'a> {
-    ghost use Rattle.image_memory.specs.Pieces.{memory_of};
-    ghost use Rattle.process_memory.specs.Layers.{plain};
-
-    ghost seen = { λ v. plain (memory_of v.core.now) };
-
-    fn read(&mut self, addr: u64, buf: &mut [u8]) -> Result<(), ReadFault> {
-        read_pieces(self.core, addr, buf)
-    }
-
-    fn copy(&mut self, alloc: Global, addr: u64, len: u64) -> Result<Vec<u8>, ReadFault> {
-        copy_pieces(alloc, self.core, addr, len)
-    }
-}
+/// The memory of a core, over the core's own bytes: one piece for each load segment, in table order.
+pub type View<'a> = ViewOf<'a, CoreDump>;
 
 /// The memory of a core and its images: the core's own pieces, and then those that come from images.
-#[derive(Drop)]
-pub struct BackedView<'a> {
-    dump: &'a BackedDump,
-}
+pub type BackedView<'a> = ViewOf<'a, BackedDump>;
 
-impl<'a> BackedView<'a> {
-    pub(crate) fn new(dump: &'a BackedDump) -> BackedView<'a>
+impl<'a, D: Pieces> ViewOf<'a, D> {
+    pub(crate) fn new(dump: &'a D) -> ViewOf<'a, D>
         ensures { result.dump.now ≡ dump.now }
     {
-        BackedView { dump }
+        ViewOf { dump }
     }
 }
 
-impl<'a> ProcessMemory for BackedView<'a> {
-    ghost use Rattle.image_memory.specs.Backed.{regions_of};
+impl<'a, D: Pieces> ProcessMemory for ViewOf<'a, D> {
     ghost use Rattle.process_memory.specs.Layers.{plain};
 
-    ghost seen = { λ v. plain (regions_of v.dump.now) };
+    ghost seen = { λ v. plain (D.regions v.dump.now) };
 
     fn read(&mut self, addr: u64, buf: &mut [u8]) -> Result<(), ReadFault> {
         read_pieces(self.dump, addr, buf)
