@@ -63,7 +63,7 @@ CHECKS = (
     Check("slim_cores", OF_PROGRAM),
     Check("sample_cores", OF_PROGRAM),
     Check("fuzz", OF_BOTH, (*OF_BOTH, "--count", "5000")),
-    Check("growths", (*OF_BOTH, "--step", "100", "--most", "12"), OF_BOTH),
+    Check("growths", (*OF_BOTH, "--step", "100", "--most", "6"), OF_BOTH),
     Check("real_core", OF_PROGRAM, (*OF_PROGRAM, "--all")),
     Check("real_broken", OF_PROGRAM),
     Check("pages", OF_PROGRAM),
