@@ -253,6 +253,14 @@ def interpreters() -> Iterator[Row]:
     yield salvage("interpreters: one twice", GOOD, named(objects, one, one), head + "Thread 0x1\n")
     maps = [objects.segment(6), mapped(), bss(0, two), runtime(one)]
     yield salvage("interpreters: by search", GOOD, files_of(core_file(maps), program=NAMED), head + found)
+    objects.word(one, one)
+    searched = f"Interpreter 0x{one:x} (found by search)\nThread 0x1\n"
+    yield salvage("interpreters: by search, one that names itself", GOOD, named(objects, 0, one, two),
+                  head + searched + f"Interpreter 0x{two:x} (found by search)\nThread 0x2\n")
+    objects, (one, two) = several(2, True)
+    told = f"Interpreter 0x{two:x}\nThread 0x2\n"
+    yield salvage("interpreters: by search, one that names the other", GOOD, named(objects, 0, one, two), head + searched + told)
+    yield salvage("interpreters: by search, one that names the one before", GOOD, named(objects, 0, two, one), head + told + searched)
     broken = heap()
     broken.record("thread", THREAD, interp=HEAP, next=0x70000000, id=0x7F00)
     yield salvage("interpreters: by search, with a broken chain", GOOD, files_of(core_file([broken.segment(6), mapped(), bss()])),

@@ -13,6 +13,9 @@ returns-clause-answer g c =
 pub returns-clause-few : goal.returns-clause-few
 returns-clause-few g c =
     let count : c.from.result ≡ min (c.args.layout.now.interpreter.threads / 8) 1024 = omega arith in
-    words_few_recorded c.args.layout.now _ c.args.interpreter _
-    (words_recorded c.args.layout.now _ c.args.interpreter c.from.result c.new-words.result.items _
-    c.new-words.ensures.items count (reading_here c.in_ok-add_section.ensures))
+    omega (
+      arith,
+      words_few_recorded c.args.layout.now _ c.args.interpreter _
+          (words_recorded c.args.layout.now _ c.args.interpreter c.from.result c.new-words.result.items _
+          c.new-words.ensures.items count (reading_here c.in_ok-add_section.ensures)),
+    )
