@@ -28,10 +28,15 @@ def frame_of(tree: Dict[str, Any]) -> Frame:
     return Frame(tree["name"], tree["filename"], tree["line"], shown)
 
 
+def is_holder(tree: Dict[str, Any]) -> bool:
+    """Whether a thread held the lock. One of the id 0, which no thread has, is marked by `dump` where nobody held it."""
+    return tree["owns_gil"] and tree["thread_id"] != 0
+
+
 def thread_of(tree: Dict[str, Any]) -> Thread:
     """A thread."""
     frames = tuple(frame_of(it) for it in tree["frames"])
-    return Thread(tree["thread_id"], frames, tree["os_thread_id"], tree["thread_name"], tree["owns_gil"])
+    return Thread(tree["thread_id"], frames, tree["os_thread_id"], tree["thread_name"], is_holder(tree))
 
 
 def number_of(text: Optional[str]) -> Optional[int]:
@@ -74,7 +79,7 @@ def thread_tree(tree: Dict[str, Any]) -> Dict[str, Any]:
     members = [member_tree(it) for it in tree["frames"]]
     frames = {"between": 0, "end": {"kind": "whole"}, "first": members, "last": [], "met": None}
     return {
-        "address": None, "crashed": None, "frames": frames, "gil": tree["owns_gil"], "os_thread_id": tree["os_thread_id"],
+        "address": None, "crashed": None, "frames": frames, "gil": is_holder(tree), "os_thread_id": tree["os_thread_id"],
         "thread_id": tree["thread_id"], "thread_name": tree["thread_name"],
     }
 

@@ -148,6 +148,11 @@ def marks() -> Iterator[Row]:
     objects.threads(HEAP, [{"id": number} for number in (1, 2, 3)])
     yield salvage("the crashed thread first", GOOD, named(objects, notes=[status_record(11, 4, 2)]),
                   "Signal 11: core\nPython v3.9.0\n\nThread 0x2 (crashed)\nThread 0x3\nThread 0x1\n")
+    nobody = Objects(layout_of(EXAMPLE), HEAP)
+    nobody.record("interpreter", HEAP)
+    nobody.threads(HEAP, [{"id": number} for number in (0, 1, 0)])
+    yield salvage("an id of 0 marks no thread", GOOD, named(nobody, notes=[status_record(11, 4)]),
+                  "Signal 11: core\nPython v3.9.0\n\nThread 0x0\nThread 0x1\nThread 0x0\n")
     lock = heap()
     lock.word(HEAP + 24, 0x70000000)
     gil = edited(EXAMPLE, lock='"gil"', interpreter="{threads=8, modules=16, gil=24}", gil="{size=24, locked=16, holder=8}")

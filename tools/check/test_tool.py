@@ -155,6 +155,13 @@ class Shown(Case):
         self.assertEqual((status, said), (0, ""))
         self.assertEqual(out.split("\n", 1)[1], head.split("\n", 1)[1] + 'Thread 99 (gil): "Main"\n    boom (a.py:5)\n    <module> (a.py:9)\n' + wanted)
 
+    def test_nobody_holds_the_lock(self):
+        # (`dump` marks a thread of the id 0 then)
+        nobody, other = (thread(number, [frame("f")]) for number in (0, 7))
+        self.programs(threads=[{**nobody, "gil": True}, other])
+        self.assertEqual(self.tool()[1].split("\n\n")[1], "Thread 0x0\n    f (a.py:1)\nThread 0x7\n    f (a.py:1)\n")
+        self.assertEqual(self.tool("--json")[1].count('"gil": false'), 2)
+
     def test_plain(self):
         self.programs(salvage(interpreter([CRASHED])))
         self.assertEqual(self.tool("--plain"), (0, stand_ins.text_of([CRASHED]), ""))
