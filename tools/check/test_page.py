@@ -121,7 +121,7 @@ class Pages(unittest.TestCase):
         one = Thread(1, (F, Frame(why="a name that is no text"), MAIN), first=2, between=7, end="cut after 10 members")
         page = report_page(Report((Interpreter((one,), 0x10, True, "lock unreadable at 0x8, 8 bytes", "more than 4096 threads"), Interpreter((), 0x20)),
                                   "3.9.0", has_more=True), Style())
-        for it in ("? (a name that is no text)", "... 7 more frames", "... cut after 10 members", "Interpreter 0x10 (found by search)", "Interpreter 0x20",
+        for it in ("? a name that is no text", "... 7 more frames", "... cut after 10 members", "Interpreter 0x10 (found by search)", "Interpreter 0x20",
                    "... lock unreadable at 0x8, 8 bytes", "... more than 4096 threads", "... more than 16 interpreters"):
             self.assertEqual(sum(page.count(f"{front}{it}") for front in ('class="end">', "<h3>")), 1, it)
 

@@ -139,7 +139,7 @@ class Shown(Case):
         self.programs(salvage(interpreter([cut, stray], lock=lock, end=end), more=True, signal=None, arguments=None), threads=[])
         self.assertEqual(self.tool()[1].splitlines(), [
             "Python v3.11.7", "", "... lock unreadable at 0x10200, 8 bytes", "... threads of the interpreter at 0x30000", "Thread 0x1",
-            "    ? (unreadable at 0x10200, 48 bytes)", "    ? (a name that is no text)", "    ? (a name that is too long)",
+            "    ? unreadable at 0x10200, 48 bytes", "    ? a name that is no text", "    ? a name that is too long",
             "    f (a.py:1)", "        ... locals with a bad name or count", "    f (a.py:1)", "        ... locals more than 65535",
             "    f (a.py:1)", "        ... locals unreadable at 0x10200, 48 bytes", "    ... 3 more frames", "    h (a.py:1)",
             "    ... cut after 16384 members", "Thread 0x2", "    ... of the interpreter at 0x30000", "... more than 16 interpreters"])

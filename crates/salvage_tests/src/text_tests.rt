@@ -95,7 +95,7 @@ Thread 11 (gil) (crashed)
     g (a.py)
         ... locals unreadable at 0x1f, 8 bytes
     ... 18324 more frames
-    ? (unreadable at 0x10200, 48 bytes)
+    ? unreadable at 0x10200, 48 bytes
     ... cut after 20000 members
 Thread 0x7F01
     ... unreadable at 0x20008, 8 bytes
