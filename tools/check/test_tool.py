@@ -155,6 +155,15 @@ class Shown(Case):
         self.assertEqual((status, said), (0, ""))
         self.assertEqual(out.split("\n", 1)[1], head.split("\n", 1)[1] + 'Thread 99 (gil): "Main"\n    boom (a.py:5)\n    <module> (a.py:9)\n' + wanted)
 
+    def test_arguments_forge_no_version(self):
+        # (the text of `dump` has them as they are)
+        head = "Signal 11: core\nProcess 4711: x\nPython v9.9\n\nThread 0x1 (gil)\n"
+        threads = [thread(7, [frame("f\nPython v8.8\n\n")])]
+        stand_ins.program(self.program, stand_ins.dump_json(threads), stand_ins.text_of(threads, head))
+        wanted = ("Process 4711: x\\u{a}Python v9.9\\u{a}\\u{a}Thread 0x1 (gil)\nPython v3.11.7\n\n"
+                  "Thread 0x7\n    f\\u{a}Python v8.8\\u{a}\\u{a} (a.py:1)\n")
+        self.assertEqual(self.tool()[1].split("\n", 1)[1], wanted)
+
     def test_nobody_holds_the_lock(self):
         # (`dump` marks a thread of the id 0 then)
         nobody, other = (thread(number, [frame("f")]) for number in (0, 7))
