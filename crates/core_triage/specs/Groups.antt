@@ -32,7 +32,7 @@ times n ns = count_by (λ m. nat_eq m n) ns
 abbrev pub StandTogether : List (List ℕ) → ℕ → ℕ → Type 0
 StandTogether groups p q = Any (λ group. Contains group p × Contains group q) groups
 
--- The places of a list's elements in groups, by which elements are the same: one list of groups alone is it
+-- The places of a list's elements in groups, by which elements are the same
 pub record IsGrouping {K : Type 0} (Same : K → K → Type 0) (xs : List K) (groups : List (List ℕ)) : Type 0 where
   -- each element's place stands in one group, and once; no other number stands in any
   pub once : (place : ℕ) → times place (concat groups) ≡ (if nat_lt place (length xs) then 1 else 0)
