@@ -4,7 +4,7 @@ use Rattle.std.proofs.Common.{refl, sym, ◌∙◌, ap, arith, length-append}
 use Rattle.std.proofs.Math.Nat.{mul-le-mul_left}
 use Rattle.std.specs.Prelude.{Option, Some, None, Result}
 use Rattle.process_memory.specs.Memory.{Memory}
-use Rattle.process_memory.specs.Seen.{Reading, ReadingBelow, Seen}
+use Rattle.process_memory.specs.Seen.{Reading, Seen}
 use Rattle.process_memory.proofs.Reading.{reading_gives, reading_none, reading_then}
 use Rattle.py_fields.specs.declared.layout.Layout.{Layout}
 use Rattle.py_stacks.specs.declared.error.StackError.{StackError}
@@ -105,7 +105,7 @@ pub turning_init : (c : ℕ → Bool) (l : Layout) (finds : FoundInterpreters) (
 turning_init c l finds s = record { within = omega arith; reading = reading_none _ s _ (λ m. refl) }
 
 pub turning_more : {c : ℕ → Bool} {l : Layout} {start : Finds} {s0 s1 s2 : Seen} {index : ℕ} {finds : FoundInterpreters} (new : FoundInterpreters) → Turning c l start s0 s1 index finds → index < interpreter_limit
-    → ReadingBelow (2 ^ 64) record_reads s1 s2 (λ m. finds_of new ≡ after_record_of c l m (finds_of finds) (address_at (finds_of finds).found index)) → Turning c l start s0 s2 (index + 1) new
+    → Reading record_reads s1 s2 (λ m. finds_of new ≡ after_record_of c l m (finds_of finds) (address_at (finds_of finds).found index)) → Turning c l start s0 s2 (index + 1) new
 turning_more {c = c} {l = l} {start = start} {index = index} {finds = finds} new w below r =
     let room : interpreter_limit - index ≡ suc (interpreter_limit - (index + 1)) = omega arith in
     record {
@@ -116,13 +116,13 @@ turning_more {c = c} {l = l} {start = start} {index = index} {finds = finds} new
     }
 
 pub turning_done : {c : ℕ → Bool} {l : Layout} {start : Finds} {s0 s1 : Seen} {index : ℕ} {finds : FoundInterpreters} → Turning c l start s0 s1 index finds → index ≡ interpreter_limit
-    → ReadingBelow (2 ^ 64) (16 * record_reads) s0 s1 (λ m. finds_of finds ≡ after_records c l m interpreter_limit 0 start)
+    → Reading (16 * record_reads) s0 s1 (λ m. finds_of finds ≡ after_records c l m interpreter_limit 0 start)
 turning_done {c = c} {l = l} {index = index} {finds = finds} w all =
     let none : interpreter_limit - index ≡ 0 = omega arith in
     reading_gives _ _ w.reading (omega arith) (λ m p. sym (p ∙ ap (λ n. after_records c l m n index (finds_of finds)) none ∙ records_done c l m index (finds_of finds)))
 
 pub turning_lost : {c : ℕ → Bool} {l : Layout} {start : Finds} {s0 s1 s2 : Seen} {index : ℕ} {finds : FoundInterpreters} (e f : StackError) → Turning c l start s0 s1 index finds → index < interpreter_limit
-    → ReadingBelow (2 ^ 64) record_reads s1 s2 (λ m. f ≡ stack.OutOfMemory) → e ≡ f → ReadingBelow (2 ^ 64) (16 * record_reads) s0 s2 (λ m. e ≡ stack.OutOfMemory)
+    → Reading record_reads s1 s2 (λ m. f ≡ stack.OutOfMemory) → e ≡ f → Reading (16 * record_reads) s0 s2 (λ m. e ≡ stack.OutOfMemory)
 turning_lost e f w below r same = reading_gives _ _ (reading_then (λ m. e ≡ stack.OutOfMemory) w.reading r (λ m p h. same ∙ h)) (omega arith) (λ m h. h)
 
 pub no_record : (c : ℕ → Bool) (l : Layout) (m : Memory) (r : Finds) (index : ℕ) (address : Option ℕ) → address ≡ address_at r.found index → address ≡ None → r ≡ after_record_of c l m r (address_at r.found index)

@@ -2,11 +2,12 @@
 use Rattle.std.specs.Prelude.{◌≡◌, ℕ, ◌+◌, ◌*◌, ◌-◌, ◌^◌, ◌≤◌, Bool, List, [], ◌∷◌, length, map, Result, Ok, Err, Vec}
 use Rattle.std.specs.Global.{Global}
 use Rattle.process_memory.specs.Memory.{Memory, byte_at}
-use Rattle.process_memory.specs.Seen.{Reading, ReadingBelow, Seen}
+use Rattle.process_memory.specs.Seen.{Reading, ReadingOf, Seen}
 use Rattle.py_version.specs.declared.version.Version.{Version}
 use Rattle.py_fields.specs.declared.layout.Layout.{Layout}
 use Rattle.py_stacks.specs.declared.asked.Asked.{Asked}
 use Rattle.py_process.specs.Facts.{Known}
+use Rattle.py_process.specs.Sections.{IsSearched}
 use Rattle.py_fronts.specs.declared.fronts.Fronts.{Fronts}
 use Rattle.py_fronts.specs.declared.fronts.InterpreterFront.{InterpreterFront}
 use Rattle.py_fronts.specs.declared.interpreters.FoundInterpreter.{FoundInterpreter}
@@ -71,10 +72,10 @@ interpreter_most q limit = 1 + (7 + ends_reads q limit) * 4096
 abbrev pub interpreters_most : Asked → ℕ → ℕ
 interpreters_most q limit = 5 * 4194304 + interpreter_most q limit * 16
 
--- what the reader of all fronts owes
+-- what the reader of all fronts owes: each read is one of fewer than 65536 bytes, or of exactly a section
 abbrev pub Fronting : Known → Version → Layout → Asked → ℕ → Seen → Seen → (Memory → Type 0) → Type 0
 Fronting k v l q limit old new Q =
-    ReadingBelow (2 ^ 64) (interpreters_reads k v l (byte_at old.pieces) + interpreters_most q limit) old new Q
+    ReadingOf (IsSearched k) (interpreters_reads k v l (byte_at old.pieces) + interpreters_most q limit) old new Q
 
 -- the interpreters that were read so far, and how many members may be met yet
 pub record Passing (q : Asked) (l : Layout) (limit before : ℕ) (old new : Seen) (found : List FoundInterpreter)

@@ -4,13 +4,14 @@ use Rattle.std.specs.Prelude.{if◌then◌else◌, List, [], ◌∷◌, ◌++◌
 use Rattle.std.specs.Prelude.{Result, Ok, Err}
 use Rattle.std.specs.List.{list_any}
 use Rattle.process_memory.specs.Memory.{Found, Memory, byte_at}
-use Rattle.process_memory.specs.Seen.{ReadingBelow, Seen}
+use Rattle.process_memory.specs.Seen.{Reading, ReadingOf, Seen}
 use Rattle.py_version.specs.declared.version.Version.{Version}
 use Rattle.py_fields.specs.declared.layout.Layout.{Layout}
 use Rattle.py_stacks.specs.Interpreter.{interpreter_named_by, threads_head}
 use Rattle.py_stacks.specs.declared.error.StackError.{StackError}
 use Rattle.py_stacks.specs.declared.error.StackError.TheVariants.{OutOfMemory}
 use Rattle.py_process.specs.Facts.{Known}
+use Rattle.py_process.specs.Sections.{IsSearched}
 use Rattle.py_fronts.specs.declared.chain_end.ChainEnd.{ChainEnd}
 use Rattle.py_fronts.specs.declared.interpreters.FoundInterpreter.{FoundInterpreter}
 use Rattle.py_fronts.specs.declared.interpreters.FoundInterpreters.{FoundInterpreters}
@@ -151,20 +152,20 @@ record_reads = 131073 + 2 * 66560
 pub record Chaining (l : Layout) (interpreter head : ℕ) (old new : Seen) (count at : ℕ) : Type 0 where
   pub members : List ℕ
   pub within : count ≤ thread_limit
-  pub reading : ReadingBelow (2 ^ 16) count old new (λ m. (threads_front l interpreter m head
+  pub reading : Reading count old new (λ m. (threads_front l interpreter m head
       ≡ behind members (front_at (thread_of l interpreter m) (thread_limit - count) at)))
 
 -- the candidates that were taken so far
 pub record Taking (searched : Bool) (contains : ℕ → Bool) (l : Layout) (start : Finds) (old new : Seen) (taken : List ℕ)
     (finds : FoundInterpreters) : Type 0 where
-  pub reading : ReadingBelow (2 ^ 16) (candidate_reads searched * length taken) old new
+  pub reading : Reading (candidate_reads searched * length taken) old new
       (λ m. finds_of finds ≡ after_candidates searched contains l m start taken)
 
 -- the records that were looked at so far
 pub record Turning (contains : ℕ → Bool) (l : Layout) (start : Finds) (old new : Seen) (index : ℕ)
     (finds : FoundInterpreters) : Type 0 where
   pub within : index ≤ interpreter_limit
-  pub reading : ReadingBelow (2 ^ 64) (record_reads * index) old new
+  pub reading : Reading (record_reads * index) old new
       (λ m. after_records contains l m interpreter_limit 0 start
       ≡ after_records contains l m (interpreter_limit - index) index (finds_of finds))
 
@@ -173,6 +174,6 @@ abbrev pub interpreters_reads : Known → Version → Layout → Memory → ℕ
 interpreters_reads k v l m =
     131083 + 2 * length (named_candidates k v l m) + 4098 * length (searched_candidates k m) + 32 * record_reads
 
--- what the search for interpreters owes
+-- what the search for interpreters owes: each read is one of fewer than 65536 bytes, or of exactly a section
 abbrev pub Looking : Known → Version → Layout → Seen → Seen → (Memory → Type 0) → Type 0
-Looking k v l old new Q = ReadingBelow (2 ^ 64) (interpreters_reads k v l (byte_at old.pieces)) old new Q
+Looking k v l old new Q = ReadingOf (IsSearched k) (interpreters_reads k v l (byte_at old.pieces)) old new Q

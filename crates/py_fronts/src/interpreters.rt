@@ -1,7 +1,7 @@
 //! Which interpreters of a process are shown.
 ghost use Rattle.std.specs.Prelude.{◌≡◌, ◌+◌, ◌*◌, ◌≤◌, ◌^◌, false, IfOk, OnOk, length};
 ghost use Rattle.process_memory.specs.Memory.{byte_at};
-ghost use Rattle.process_memory.specs.Seen.{Reading, ReadingBelow};
+ghost use Rattle.process_memory.specs.Seen.{Reading};
 ghost use Rattle.py_fields.specs.Sound.{IsSound};
 ghost use Rattle.py_process.specs.Facts.{known_of};
 ghost use Rattle.py_fronts.specs.Answers.{IsOrNoMemory};
@@ -278,7 +278,7 @@ fn take_record<M: ContainsAddr, P: ProcessMemory>(
     finds: &mut FoundInterpreters,
 ) -> Result<(), StackError>
     requires sound { IsSound layout.now }
-    ensures { ReadingBelow (2 ^ 64) record_reads (P.seen process.old) (P.seen process.new) (λ m. Takes
+    ensures { Reading record_reads (P.seen process.old) (P.seen process.new) (λ m. Takes
         (after_record_of (M.contains maps.now) layout.now m (finds_of finds.old)
         (address_at (finds_of finds.old).found index)) finds.new result) }
 {
@@ -299,7 +299,7 @@ fn take_records<M: ContainsAddr, P: ProcessMemory>(
     finds: &mut FoundInterpreters,
 ) -> Result<(), StackError>
     requires sound { IsSound layout.now }
-    ensures { ReadingBelow (2 ^ 64) (16 * record_reads) (P.seen process.old) (P.seen process.new) (λ m. Takes
+    ensures { Reading (16 * record_reads) (P.seen process.old) (P.seen process.new) (λ m. Takes
         (after_records (M.contains maps.now) layout.now m 16 0 (finds_of finds.old)) finds.new result) }
 {
     for index in 0..INTERPRETER_LIMIT {
@@ -319,7 +319,7 @@ fn take_with_records<M: ContainsAddr, P: ProcessMemory>(
     finds: &mut FoundInterpreters,
 ) -> Result<(), StackError>
     requires sound { IsSound layout.now }
-    ensures { ReadingBelow (2 ^ 64) (candidate_reads searched * length candidates.now + 16 * record_reads)
+    ensures { Reading (candidate_reads searched * length candidates.now + 16 * record_reads)
         (P.seen process.old) (P.seen process.new) (λ m. Takes
         (after_records (M.contains maps.now) layout.now m 16 0 (after_candidates searched (M.contains maps.now)
         layout.now m (finds_of finds.old) candidates.now)) finds.new result) }
