@@ -8,7 +8,7 @@ use Rattle.std.proofs.lemmas.List.{take_all}
 use Rattle.std.proofs.lemmas.List.Sums.{sum_by-append, sum_by-take-le, sum_by_more}
 use Rattle.std.specs.Prelude.{Option, Some, None, Result, sum_by}
 use Rattle.process_memory.specs.Memory.{Memory, byte_at}
-use Rattle.process_memory.specs.Seen.{Reading, ReadingBelow, Seen}
+use Rattle.process_memory.specs.Seen.{Reading, Seen}
 use Rattle.process_memory.proofs.Reading.{reading_gives, reading_here, reading_none, reading_then}
 use Rattle.py_fields.specs.declared.layout.Layout.{Layout}
 use Rattle.py_stacks.specs.declared.error.StackError.{StackError}
@@ -163,7 +163,7 @@ module _ {c : ℕ → Bool} {l : Layout} {start : Finds} {s0 s1 : Seen} {index :
       )
 
   pub turning_more : {s2 : Seen} (new : FoundInterpreters) → Turning c l start s0 s1 index finds → index < interpreter_limit
-      → ReadingBelow (2 ^ 64) (reads_of_record l (byte_at s1.pieces) (address_at (finds_of finds).found index)) s1 s2 (λ m. finds_of new ≡ after_record_of c l m (finds_of finds) (address_at (finds_of finds).found index)) → Turning c l start s0 s2 (index + 1) new
+      → Reading (reads_of_record l (byte_at s1.pieces) (address_at (finds_of finds).found index)) s1 s2 (λ m. finds_of new ≡ after_record_of c l m (finds_of finds) (address_at (finds_of finds).found index)) → Turning c l start s0 s2 (index + 1) new
   turning_more new w below r =
       let room : interpreter_limit - index ≡ suc (interpreter_limit - (index + 1)) = omega arith in
       record {
@@ -175,7 +175,7 @@ module _ {c : ℕ → Bool} {l : Layout} {start : Finds} {s0 s1 : Seen} {index :
       }
 
   pub turning_done : Turning c l start s0 s1 index finds → index ≡ interpreter_limit
-      → ReadingBelow (2 ^ 64) (records_reads l (byte_at s0.pieces) (after_records c l (byte_at s0.pieces) interpreter_limit 0 start).found) s0 s1 (λ m. finds_of finds ≡ after_records c l m interpreter_limit 0 start)
+      → Reading (records_reads l (byte_at s0.pieces) (after_records c l (byte_at s0.pieces) interpreter_limit 0 start).found) s0 s1 (λ m. finds_of finds ≡ after_records c l m interpreter_limit 0 start)
   turning_done w all =
       let none : interpreter_limit - index ≡ 0 = omega arith in
       let here = byte_at s0.pieces in
@@ -184,8 +184,8 @@ module _ {c : ℕ → Bool} {l : Layout} {start : Finds} {s0 s1 : Seen} {index :
       (λ m p. sym (p ∙ ap (λ n. after_records c l m n index (finds_of finds)) none ∙ records_done c l m index (finds_of finds)))
 
   pub turning_lost : {s2 : Seen} (e f : StackError) → Turning c l start s0 s1 index finds
-      → ReadingBelow (2 ^ 64) (reads_of_record l (byte_at s1.pieces) (address_at (finds_of finds).found index)) s1 s2 (λ m. f ≡ stack.OutOfMemory) → e ≡ f
-      → ReadingBelow (2 ^ 64) (records_reads l (byte_at s0.pieces) (after_records c l (byte_at s0.pieces) interpreter_limit 0 start).found) s0 s2 (λ m. e ≡ stack.OutOfMemory)
+      → Reading (reads_of_record l (byte_at s1.pieces) (address_at (finds_of finds).found index)) s1 s2 (λ m. f ≡ stack.OutOfMemory) → e ≡ f
+      → Reading (records_reads l (byte_at s0.pieces) (after_records c l (byte_at s0.pieces) interpreter_limit 0 start).found) s0 s2 (λ m. e ≡ stack.OutOfMemory)
   turning_lost e f w r same =
       let here = byte_at s0.pieces in
       reading_gives _ _ (reading_then (λ m. e ≡ stack.OutOfMemory) w.reading r (λ m p h. same ∙ h))

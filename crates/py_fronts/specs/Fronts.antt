@@ -3,11 +3,12 @@ use Rattle.std.specs.Prelude.{◌≡◌, ℕ, ◌+◌, ◌*◌, ◌^◌, ◌≤�
 use Rattle.std.specs.Prelude.{Ok, Err, Vec}
 use Rattle.std.specs.Global.{Global}
 use Rattle.process_memory.specs.Memory.{Memory, byte_at}
-use Rattle.process_memory.specs.Seen.{Reading, ReadingBelow, Seen}
+use Rattle.process_memory.specs.Seen.{Reading, ReadingOf, Seen}
 use Rattle.py_version.specs.declared.version.Version.{Version}
 use Rattle.py_fields.specs.declared.layout.Layout.{Layout}
 use Rattle.py_stacks.specs.declared.asked.Asked.{Asked}
 use Rattle.py_process.specs.Facts.{Known}
+use Rattle.py_process.specs.Sections.{IsSearched}
 use Rattle.py_fronts.specs.declared.fronts.Fronts.{Fronts}
 use Rattle.py_fronts.specs.declared.fronts.InterpreterFront.{InterpreterFront}
 use Rattle.py_fronts.specs.declared.interpreters.FoundInterpreter.{FoundInterpreter}
@@ -84,9 +85,9 @@ abbrev pub all_most : (ℕ → Bool) → Known → Version → Layout → Memory
 all_most contains k v l m q limit = interpreters_reads contains k v l m
     + fronts_most q limit (length (interpreters_at contains k v l m).found)
 
--- what the reader of all fronts owes
+-- what the reader of all fronts owes: each read is one of fewer than 65536 bytes, or of exactly a section
 abbrev pub Fronting : (ℕ → Bool) → Known → Version → Layout → Asked → ℕ → Seen → Seen → (Memory → Type 0) → Type 0
-Fronting contains k v l q limit old new Q = ReadingBelow (2 ^ 64)
+Fronting contains k v l q limit old new Q = ReadingOf (IsSearched k)
     (interpreters_reads contains k v l (byte_at old.pieces)
     + fronts_reads q (fronts_at contains k v l (byte_at old.pieces) q limit).interpreters) old new Q
 

@@ -5,13 +5,14 @@ use Rattle.std.specs.Prelude.{Option, Some, None}
 use Rattle.std.specs.Prelude.{Result, Ok, Err}
 use Rattle.std.specs.List.{list_any}
 use Rattle.process_memory.specs.Memory.{Found, Memory, byte_at}
-use Rattle.process_memory.specs.Seen.{ReadingBelow, Seen}
+use Rattle.process_memory.specs.Seen.{Reading, ReadingOf, Seen}
 use Rattle.py_version.specs.declared.version.Version.{Version}
 use Rattle.py_fields.specs.declared.layout.Layout.{Layout}
 use Rattle.py_stacks.specs.Interpreter.{interpreter_named_by, threads_head}
 use Rattle.py_stacks.specs.declared.error.StackError.{StackError}
 use Rattle.py_stacks.specs.declared.error.StackError.TheVariants.{OutOfMemory}
 use Rattle.py_process.specs.Facts.{Known}
+use Rattle.py_process.specs.Sections.{IsSearched}
 use Rattle.py_fronts.specs.declared.chain_end.ChainEnd.{ChainEnd}
 use Rattle.py_fronts.specs.declared.interpreters.FoundInterpreter.{FoundInterpreter}
 use Rattle.py_fronts.specs.declared.interpreters.FoundInterpreters.{FoundInterpreters}
@@ -176,13 +177,13 @@ taking_reads searched contains l m r xs = candidate_reads searched * length xs
 pub record Chaining (l : Layout) (interpreter head : ℕ) (old new : Seen) (count at : ℕ) : Type 0 where
   pub members : List ℕ
   pub within : count ≤ thread_limit
-  pub reading : ReadingBelow (2 ^ 16) count old new (λ m. (threads_front l interpreter m head
+  pub reading : Reading count old new (λ m. (threads_front l interpreter m head
       ≡ behind members (front_at (thread_of l interpreter m) (thread_limit - count) at)))
 
 -- the candidates that were taken so far
 pub record Taking (searched : Bool) (contains : ℕ → Bool) (l : Layout) (start : Finds) (old new : Seen) (taken : List ℕ)
     (finds : FoundInterpreters) : Type 0 where
-  pub reading : ReadingBelow (2 ^ 16) (candidate_reads searched * length taken) old new
+  pub reading : Reading (candidate_reads searched * length taken) old new
       (λ m. finds_of finds ≡ after_candidates searched contains l m start taken)
 
 -- the records that were looked at so far
@@ -192,7 +193,7 @@ pub record Turning (contains : ℕ → Bool) (l : Layout) (start : Finds) (old n
   pub spent : ℕ
   pub cost : spent ≤ records_reads l (byte_at old.pieces) (take index
       (after_records contains l (byte_at old.pieces) interpreter_limit 0 start).found)
-  pub reading : ReadingBelow (2 ^ 64) spent old new
+  pub reading : Reading spent old new
       (λ m. after_records contains l m interpreter_limit 0 start
       ≡ after_records contains l m (interpreter_limit - index) index (finds_of finds))
 
@@ -203,7 +204,7 @@ interpreters_reads contains k v l m =
     11 + 4 * length (named_candidates k v l m) + 4098 * length (searched_candidates k m)
     + 2 * records_reads l m (interpreters_at contains k v l m).found
 
--- what the search for interpreters owes
+-- what the search for interpreters owes: each read is one of fewer than 65536 bytes, or of exactly a section
 abbrev pub Looking : (ℕ → Bool) → Known → Version → Layout → Seen → Seen → (Memory → Type 0) → Type 0
 Looking contains k v l old new Q =
-    ReadingBelow (2 ^ 64) (interpreters_reads contains k v l (byte_at old.pieces)) old new Q
+    ReadingOf (IsSearched k) (interpreters_reads contains k v l (byte_at old.pieces)) old new Q

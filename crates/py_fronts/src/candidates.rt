@@ -2,11 +2,12 @@
 ghost use Rattle.std.specs.Prelude.{◌≡◌, ◌≤◌, ◌∷◌, ◌++◌, ◌+◌, ◌*◌, ◌^◌, Err, IfOk, MatchOption, None, Ok, OnOk};
 ghost use Rattle.std.specs.Prelude.{length, option_map};
 ghost use Rattle.process_memory.specs.Memory.{byte_at, word_at};
-ghost use Rattle.process_memory.specs.Seen.{Reading, ReadingBelow, ReadingBy};
+ghost use Rattle.process_memory.specs.Seen.{IsRange, Reading, ReadingBy, ReadingOf};
 ghost use Rattle.py_fields.specs.Sound.{IsSound};
 ghost use Rattle.py_stacks.specs.StackError.{stack_fault};
 ghost use Rattle.py_process.specs.Candidates.{ListIs, section_words, words_of};
 ghost use Rattle.py_process.specs.Facts.{facts_of, known_of};
+ghost use Rattle.py_process.specs.Sections.{IsSection, IsSectionIn};
 ghost use Rattle.py_fronts.specs.Answers.{IsOrNoMemory};
 ghost use Rattle.py_fronts.specs.Candidates.{AddsWords, behind_idle, bss_of_image, found_or_none, head_given};
 ghost use Rattle.py_fronts.specs.Candidates.{head_in_sections, led_to, named_candidates, next_by, other_than};
@@ -47,7 +48,7 @@ fn add_section<P: ProcessMemory>(
     addr: u64,
     size: u64,
 ) -> Result<(), StackError>
-    ensures { ReadingBelow (2 ^ 64) 1 (P.seen process.old) (P.seen process.new)
+    ensures { ReadingOf (IsRange addr size) 1 (P.seen process.old) (P.seen process.new)
         (λ m. AddsWords words.old.items (section_words m addr size) words.new.items result) }
 {
     let bytes = match process.copy(alloc, addr, size) {
@@ -66,7 +67,7 @@ fn add_runtime<P: ProcessMemory>(
     words: &mut Vec<u64>,
     binary: &Option<BinaryInfo>,
 ) -> Result<(), StackError>
-    ensures { ReadingBelow (2 ^ 64) 1 (P.seen process.old) (P.seen process.new)
+    ensures { ReadingOf (IsSectionIn (option_map facts_of binary.now)) 1 (P.seen process.old) (P.seen process.new)
         (λ m. AddsWords words.old.items (runtime_of_image m (option_map facts_of binary.now)) words.new.items result) }
 {
     let Some(binary) = binary else {
@@ -91,7 +92,7 @@ fn add_bss<P: ProcessMemory>(
     words: &mut Vec<u64>,
     binary: &Option<BinaryInfo>,
 ) -> Result<(), StackError>
-    ensures { ReadingBelow (2 ^ 64) 1 (P.seen process.old) (P.seen process.new)
+    ensures { ReadingOf (IsSectionIn (option_map facts_of binary.now)) 1 (P.seen process.old) (P.seen process.new)
         (λ m. AddsWords words.old.items (bss_of_image m (option_map facts_of binary.now)) words.new.items result) }
 {
     match binary {
@@ -200,7 +201,7 @@ fn record_words<P: ProcessMemory>(
     layout: &Layout,
     interpreter: u64,
 ) -> Result<Vec<u64>, StackError>
-    ensures answer { ReadingBelow (2 ^ 64) 1 (P.seen process.old) (P.seen process.new)
+    ensures answer { Reading 1 (P.seen process.old) (P.seen process.new)
         (λ m. IsOrNoMemory (record_words layout.now m interpreter) (words_result result)) }
     ensures few { IfOk result (λ words. length words.items ≤ 1024) }
 {
@@ -224,7 +225,7 @@ fn add_record<P: ProcessMemory>(
     layout: &Layout,
     interpreter: u64,
 ) -> Result<(), StackError>
-    ensures { ReadingBelow (2 ^ 64) (record_words_reads layout.now (byte_at (P.seen process.old).pieces) interpreter)
+    ensures { Reading (record_words_reads layout.now (byte_at (P.seen process.old).pieces) interpreter)
         (P.seen process.old) (P.seen process.new) (λ m.
         AddsWords candidates.old.items (record_candidates layout.now m interpreter) candidates.new.items result) }
 {
@@ -239,7 +240,7 @@ fn head_candidates<P: ProcessMemory>(
     layout: &Layout,
     head: u64,
 ) -> Result<Vec<u64>, StackError>
-    ensures { ReadingBelow (2 ^ 64) (record_words_reads layout.now (byte_at (P.seen process.old).pieces) head)
+    ensures { Reading (record_words_reads layout.now (byte_at (P.seen process.old).pieces) head)
         (P.seen process.old) (P.seen process.new)
         (λ m. IsOrNoMemory (head ∷ record_candidates layout.now m head) (words_result result)) }
 {
@@ -270,7 +271,7 @@ fn read_in_sections<M: ContainsAddr, P: ProcessMemory>(
     layout: &Layout,
 ) -> Result<Option<u64>, SearchError>
     requires sound { IsSound layout.now }
-    ensures { ReadingBelow (2 ^ 64) 4 (P.seen process.old) (P.seen process.new)
+    ensures { Reading 4 (P.seen process.old) (P.seen process.new)
         (λ m. ListIs (head_in_sections (known_of info.now) version.now layout.now m) result) }
 {
     let program = runtime_in(&info.python_binary);
@@ -290,7 +291,7 @@ fn read_given<M: ContainsAddr, P: ProcessMemory>(
     layout: &Layout,
 ) -> Result<Option<u64>, SearchError>
     requires sound { IsSound layout.now }
-    ensures { ReadingBelow (2 ^ 64) 6 (P.seen process.old) (P.seen process.new)
+    ensures { Reading 6 (P.seen process.old) (P.seen process.new)
         (λ m. ListIs (head_given (known_of info.now) version.now layout.now m) result) }
 {
     match read_head(alloc, info, process, version, layout)? {
@@ -310,7 +311,7 @@ pub fn named_candidates<M: ContainsAddr, P: ProcessMemory>(
     layout: &Layout,
 ) -> Result<Vec<u64>, StackError>
     requires sound { IsSound layout.now }
-    ensures { ReadingBelow (2 ^ 64) (7 + 2 * length (named_candidates (known_of info.now) version.now layout.now
+    ensures { Reading (7 + 2 * length (named_candidates (known_of info.now) version.now layout.now
         (byte_at (P.seen process.old).pieces))) (P.seen process.old) (P.seen process.new) (λ m. IsOrNoMemory
         (named_candidates (known_of info.now) version.now layout.now m) (words_result result)) }
 {
@@ -329,7 +330,7 @@ pub fn searched_candidates<M: ContainsAddr, P: ProcessMemory>(
     info: &PythonProcessInfo<M>,
     process: &mut P,
 ) -> Result<Vec<u64>, StackError>
-    ensures { ReadingBelow (2 ^ 64) 4 (P.seen process.old) (P.seen process.new)
+    ensures { ReadingOf (IsSection (known_of info.now)) 4 (P.seen process.old) (P.seen process.new)
         (λ m. IsOrNoMemory (searched_candidates (known_of info.now) m) (words_result result)) }
 {
     let mut words = Vec::new(alloc);
@@ -356,7 +357,7 @@ pub(crate) fn others_led_to<P: ProcessMemory>(
     layout: &Layout,
     interpreter: u64,
 ) -> Result<Vec<u64>, StackError>
-    ensures answer { ReadingBelow (2 ^ 64)
+    ensures answer { Reading
         (record_words_reads layout.now (byte_at (P.seen process.old).pieces) interpreter)
         (P.seen process.old) (P.seen process.new)
         (λ m. IsOrNoMemory (others_led_to layout.now m interpreter) (words_result result)) }

@@ -1,7 +1,7 @@
 //! Which interpreters of a process are shown.
 ghost use Rattle.std.specs.Prelude.{◌≡◌, ℕ, ◌+◌, ◌*◌, ◌≤◌, ◌^◌, false, IfOk, OnOk, length, map};
 ghost use Rattle.process_memory.specs.Memory.{byte_at};
-ghost use Rattle.process_memory.specs.Seen.{Reading, ReadingBelow};
+ghost use Rattle.process_memory.specs.Seen.{Reading};
 ghost use Rattle.py_fields.specs.Sound.{IsSound};
 ghost use Rattle.py_process.specs.Facts.{known_of};
 ghost use Rattle.py_fronts.specs.Answers.{IsOrNoMemory};
@@ -300,7 +300,7 @@ fn take_record<M: ContainsAddr, P: ProcessMemory>(
     finds: &mut FoundInterpreters,
 ) -> Result<(), StackError>
     requires sound { IsSound layout.now }
-    ensures { ReadingBelow (2 ^ 64) (reads_of_record layout.now (byte_at (P.seen process.old).pieces)
+    ensures { Reading (reads_of_record layout.now (byte_at (P.seen process.old).pieces)
         (address_at (finds_of finds.old).found index)) (P.seen process.old) (P.seen process.new) (λ m. Takes
         (after_record_of (M.contains maps.now) layout.now m (finds_of finds.old)
         (address_at (finds_of finds.old).found index)) finds.new result) }
@@ -322,7 +322,7 @@ fn take_records<M: ContainsAddr, P: ProcessMemory>(
     finds: &mut FoundInterpreters,
 ) -> Result<(), StackError>
     requires sound { IsSound layout.now }
-    ensures { ReadingBelow (2 ^ 64) (records_reads layout.now (byte_at (P.seen process.old).pieces)
+    ensures { Reading (records_reads layout.now (byte_at (P.seen process.old).pieces)
         (after_records (M.contains maps.now) layout.now (byte_at (P.seen process.old).pieces) 16 0
         (finds_of finds.old)).found) (P.seen process.old) (P.seen process.new) (λ m. Takes
         (after_records (M.contains maps.now) layout.now m 16 0 (finds_of finds.old)) finds.new result) }
@@ -344,7 +344,7 @@ fn take_with_records<M: ContainsAddr, P: ProcessMemory>(
     finds: &mut FoundInterpreters,
 ) -> Result<(), StackError>
     requires sound { IsSound layout.now }
-    ensures { ReadingBelow (2 ^ 64) (taking_reads searched (M.contains maps.now) layout.now
+    ensures { Reading (taking_reads searched (M.contains maps.now) layout.now
         (byte_at (P.seen process.old).pieces) (finds_of finds.old) candidates.now) (P.seen process.old)
         (P.seen process.new) (λ m. Takes (with_their_records searched (M.contains maps.now) layout.now m
         (finds_of finds.old) candidates.now) finds.new result) }

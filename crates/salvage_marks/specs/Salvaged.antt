@@ -4,11 +4,12 @@ use Rattle.std.specs.Prelude.{Ok, Err, Vec}
 use Rattle.std.specs.Global.{Global}
 use Rattle.elf64_core.specs.declared.header.Machine.{Machine}
 use Rattle.process_memory.specs.Memory.{Memory, byte_at}
-use Rattle.process_memory.specs.Seen.{Reading, ReadingBelow, Seen}
+use Rattle.process_memory.specs.Seen.{Reading, ReadingOf, Seen}
 use Rattle.py_version.specs.declared.version.Version.{Version}
 use Rattle.py_fields.specs.declared.layout.Layout.{Layout}
 use Rattle.py_stacks.specs.declared.asked.Asked.{Asked}
 use Rattle.py_process.specs.Facts.{Known}
+use Rattle.py_process.specs.Sections.{IsSearched}
 use Rattle.py_fronts.specs.declared.fronts.InterpreterFront.{InterpreterFront}
 use Rattle.py_fronts.specs.Fronts.{InterpreterShown, all_most, fronts_at, fronts_reads, interpreter_of_front}
 use Rattle.py_fronts.specs.Interpreters.{interpreters_at, interpreters_reads}
@@ -80,7 +81,7 @@ salvage_most contains k v l m q limit =
 -- what the reader of all owes
 abbrev pub Salvaging : (ℕ → Bool) → Known → Version → Layout → Asked → ℕ → Seen → Seen → (Memory → Type 0) → Type 0
 Salvaging contains k v l q limit old new Q =
-    ReadingBelow (2 ^ 64) (salvage_reads contains k v l (byte_at old.pieces) q limit) old new Q
+    ReadingOf (IsSearched k) (salvage_reads contains k v l (byte_at old.pieces) q limit) old new Q
 
 -- the interpreters whose locks were read so far, and those that are left
 pub record Locking (machine : Machine) (k : Known) (v : Version) (l : Layout) (old new : Seen)

@@ -1,6 +1,6 @@
 //! What is left of a process's stacks.
 ghost use Rattle.std.specs.Prelude.{◌≡◌, ◌≤◌, ◌*◌, ◌+◌, ◌^◌, is_some, length, map, position};
-ghost use Rattle.process_memory.specs.Seen.{Reading, ReadingBelow};
+ghost use Rattle.process_memory.specs.Seen.{Reading};
 ghost use Rattle.process_memory.specs.Memory.{byte_at};
 ghost use Rattle.py_fields.specs.Sound.{IsSound};
 ghost use Rattle.py_process.specs.Facts.{known_of};

@@ -1,8 +1,8 @@
 use Rattle.std.proofs.Common.{arith, ap, ◌^◌, ◌∙◌}
 use Rattle.std.proofs.lemmas.Result.{err_from_is_err_and}
 use Rattle.process_memory.proofs.Reading.{reading_gives, reading_here, reading_then}
-use Rattle.py_process.proofs.Wider.{reading_wider}
 use Rattle.py_process.specs.Facts.{known_of}
+use Rattle.py_process.proofs.Sections.{searching}
 use Rattle.process_memory.specs.Memory.{byte_at}
 use Rattle.py_fronts.specs.Fronts.{fronts_reads, interpreters_fronts}
 use Rattle.py_fronts.specs.Interpreters.{Finds, finds_of}
@@ -21,7 +21,7 @@ returns-in_err-interpreters g c =
     c.args.limit c.deref.result.now
     (c.deref.ensures.value ∙ ap (λ (x : Finds). x.found) (reading_here c.in_ok-finds.ensures.answer)) in
     rw p.1 (lost_then _ c.in_ok-finds.ensures.answer
-    (reading_wider (2 ^ 64) c.in_err-interpreters.ensures (omega arith)) p.2 (omega (arith, same, cost)))
+    (searching (known_of c.args.info.now) c.in_err-interpreters.ensures) p.2 (omega (arith, same, cost)))
 
 pub returns : goal.returns
 returns g c =
@@ -32,7 +32,7 @@ returns g c =
     c.args.limit c.deref.result.now
     (c.deref.ensures.value ∙ ap (λ (x : Finds). x.found) (reading_here c.in_ok-finds.ensures.answer)) in
     reading_gives _ _
-    (reading_then _ c.in_ok-finds.ensures.answer (reading_wider (2 ^ 64) c.in_ok-interpreters.ensures (omega arith))
+    (reading_then _ c.in_ok-finds.ensures.answer (searching (known_of c.args.info.now) c.in_ok-interpreters.ensures)
     (λ m a b. fronts_found (g.M.ContainsAddr.contains c.args.info.now.maps) (known_of c.args.info.now)
     c.args.version.now c.args.layout.now m c.args.asked c.args.limit (finds_of c.in_ok-finds.finds) _ _ a
     c.deref.ensures.value b)) (omega (arith, same, cost)) (λ m h. h)

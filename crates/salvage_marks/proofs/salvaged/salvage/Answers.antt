@@ -1,9 +1,9 @@
-use Rattle.std.proofs.Common.{arith, refl, ◌^◌}
+use Rattle.std.proofs.Common.{arith, refl}
 use Rattle.std.proofs.lemmas.Result.{err_from_is_err_and}
 use Rattle.process_memory.specs.Memory.{byte_at}
 use Rattle.process_memory.proofs.Reading.{reading_gives, reading_here, reading_then}
-use Rattle.py_process.proofs.Wider.{reading_wider}
 use Rattle.py_process.specs.Facts.{known_of}
+use Rattle.py_process.proofs.Sections.{searching}
 use Rattle.py_fronts.proofs.ReadLimits.{shown_number}
 use Rattle.py_fronts.proofs.Steps.{lost_then}
 use Rattle.salvage_marks.proofs.Locking.{read_few, salvaged_is}
@@ -18,7 +18,7 @@ returns-in_err-interpreters-clause-answer g c =
     c.in_ok-fronts.fronts.interpreters.items
     c.in_ok-fronts.fronts.more (reading_here c.in_ok-fronts.ensures.answer) in
     rw p.1 (lost_then _ c.in_ok-fronts.ensures.answer
-    (reading_wider (2 ^ 64) c.in_err-interpreters.ensures (omega arith)) p.2 (omega (arith, few)))
+    (searching (known_of c.args.info.now) c.in_err-interpreters.ensures) p.2 (omega (arith, few)))
 
 pub returns-clause-answer : goal.returns-clause-answer
 returns-clause-answer g c =
@@ -28,7 +28,7 @@ returns-clause-answer g c =
     c.in_ok-fronts.fronts.more (reading_here c.in_ok-fronts.ensures.answer) in
     reading_gives _ _
     (reading_then _ c.in_ok-fronts.ensures.answer
-    (reading_wider (2 ^ 64) c.in_ok-interpreters.ensures (omega arith))
+    (searching (known_of c.args.info.now) c.in_ok-interpreters.ensures)
     (λ m a b. salvaged_is (g.M.ContainsAddr.contains c.args.info.now.maps) c.args.machine (known_of c.args.info.now)
     c.args.version.now c.args.layout.now m c.args.asked c.args.limit c.args.crash _ _ _ _ a refl b))
     (omega (arith, few)) (λ m h. h)
