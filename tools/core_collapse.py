@@ -21,9 +21,9 @@ def escaped(text: str) -> str:
 
 
 def label(frame: Frame) -> str:
-    """A frame in a line."""
+    """A frame in a line; or why it has no names, which doesn't end in a parenthesis, as each frame does."""
     if frame.why:
-        return escaped(f"? ({frame.why})")
+        return escaped(f"? {frame.why}")
     line = f":{frame.line}" if frame.line else ""
     return escaped(f"{frame.name} ({frame.filename}{line})")
 

@@ -7,9 +7,9 @@ from typing import Any, Dict, List, Optional
 from core_model import Frame, Interpreter, Local, Report, Thread
 
 HEAD = re.compile(
-    r"(?:Signal (?P<signal>-?[0-9]+): [^\n]*\n)?(?:Process (?P<pid>-?[0-9]+): (?P<arguments>.*?)\n)?Python v(?P<version>[^\n]*)\n\n",
+    r"(?:Signal (?P<signal>-?[0-9]+): [^\n]*\n)?(?:Process (?P<pid>-?[0-9]+): (?P<arguments>.*)\n)?Python v(?P<version>[^\n]*)\n\n",
     re.DOTALL)
-"""The lines before the threads."""
+"""The lines before the threads, of which the last is that of the version: the arguments may have any."""
 
 
 class Unexpected(Exception):
@@ -28,10 +28,26 @@ def frame_of(tree: Dict[str, Any]) -> Frame:
     return Frame(tree["name"], tree["filename"], tree["line"], shown)
 
 
+def is_holder(tree: Dict[str, Any]) -> bool:
+    """Whether a thread held the lock. One of the id 0, which no thread has, is marked by `dump` where nobody held it."""
+    return tree["owns_gil"] and tree["thread_id"] != 0
+
+
 def thread_of(tree: Dict[str, Any]) -> Thread:
     """A thread."""
     frames = tuple(frame_of(it) for it in tree["frames"])
-    return Thread(tree["thread_id"], frames, tree["os_thread_id"], tree["thread_name"], tree["owns_gil"])
+    return Thread(tree["thread_id"], frames, tree["os_thread_id"], tree["thread_name"], is_holder(tree))
+
+
+def text_of(tree: Dict[str, Any]) -> str:
+    """A thread in the program's text without locals, which has names as they are."""
+    native, name = tree["os_thread_id"], tree["thread_name"]
+    label = f"0x{tree['thread_id']:X}" if native is None else native
+    lines = [f"Thread {label}{' (gil)' * tree['owns_gil']}" + ("" if name is None else f': "{name}"')]
+    for it in tree["frames"]:
+        line = f":{it['line']}" if it["line"] else ""
+        lines.append(f"    {it['name']} ({it['filename']}{line})")
+    return "".join(f"{line}\n" for line in lines)
 
 
 def number_of(text: Optional[str]) -> Optional[int]:
@@ -41,14 +57,16 @@ def number_of(text: Optional[str]) -> Optional[int]:
 
 def report_of(tree: str, text: str, word: str, core: str) -> Report:
     """The report by the JSON and the text of one core, for which the program had this word. The text's threads stand in
-    the reverse of the JSON's order, and so they do here."""
-    head = HEAD.match(text.replace(f": {word}\n", ": \n", 1))
-    if not head:
-        raise Unexpected("the head of its text")
+    the reverse of the JSON's order, and so they do here; its head is what stands before them."""
     try:
-        threads = tuple(thread_of(it) for it in reversed(json.loads(tree)))
+        trees = list(reversed(json.loads(tree)))
+        threads, rest = tuple(thread_of(it) for it in trees), "".join(text_of(it) for it in trees)
     except (ValueError, KeyError, TypeError) as error:
         raise Unexpected(f"its JSON: {error!r}") from None
+    front = text[: len(text) - len(rest)].replace(f": {word}\n", ": \n", 1)
+    head = HEAD.fullmatch(front) if text.endswith(rest) else None
+    if not head:
+        raise Unexpected("the head of its text")
     pid = number_of(head["pid"])
     process = None if pid is None else (pid, head["arguments"])
     return Report((Interpreter(threads),), head["version"], number_of(head["signal"]), process, core=core)
@@ -74,7 +92,7 @@ def thread_tree(tree: Dict[str, Any]) -> Dict[str, Any]:
     members = [member_tree(it) for it in tree["frames"]]
     frames = {"between": 0, "end": {"kind": "whole"}, "first": members, "last": [], "met": None}
     return {
-        "address": None, "crashed": None, "frames": frames, "gil": tree["owns_gil"], "os_thread_id": tree["os_thread_id"],
+        "address": None, "crashed": None, "frames": frames, "gil": is_holder(tree), "os_thread_id": tree["os_thread_id"],
         "thread_id": tree["thread_id"], "thread_name": tree["thread_name"],
     }
 

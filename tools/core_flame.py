@@ -93,11 +93,13 @@ def number(value: float) -> str:
 
 
 def fitted(label: str, width: float) -> str:
-    """As much of a label as a bar has room for."""
+    """As much of a label as a bar has room for. One that is cut ends in a parenthesis where the whole does, as each frame's
+    does and no other's."""
     room = int((width - 2 * MARGIN) / GLYPH)
     if room < SHORTEST:
         return ""
-    return label if len(label) <= room else label[: room - 2] + ".."
+    end = "..)" if label.endswith(")") else ".."
+    return label if len(label) <= room else label[: room - len(end)] + end
 
 
 def bar_svg(bar: Bar, total: int, bottom: int) -> str:

@@ -38,9 +38,9 @@ class Style:
 
 
 def place_of(frame: Frame, style: Style = Style()) -> str:
-    """A frame's function, file and line, or why there are none."""
+    """A frame's function, file and line, or why there are none: this doesn't end in a parenthesis, as each frame does."""
     if frame.why:
-        return f"? ({in_line(frame.why)})"
+        return f"? {in_line(frame.why)}"
     line = f":{frame.line}" if frame.line else ""
     return f"{style.paint(as_name(frame.name), BOLD)} ({as_name(frame.filename)}{line})"
 

@@ -6,7 +6,7 @@
 Each check runs by itself, as `tools/check/NAME.py`, and what it prints is passed on. A line `NAME: skipped: ..` is what it could
 not try on this machine; it fails nothing. Behind all of them stands a summary: each check with its seconds, what was
 skipped, and, of the output of `rt ci` in FILE, the verdict. The last line has all that passed and failed, those of `rt ci` too.
-With --all each check that knows it tries all that it has, at any length, which is for a run by hand. The status is 0 exactly where no check failed.
+With --all each check tries all that it has, at any length, which is for a run by hand. The status is 0 exactly where no check failed.
 """
 
 import argparse
@@ -30,17 +30,14 @@ OF_PROGRAM = ("--program", PROGRAM)
 OF_BOTH = ("--program", PROGRAM, "--salvage", SALVAGE)
 OF_LISTING = ("--program", LISTING)
 
-ALL = "--all"
-"""What asks a check for all that it has."""
-
 
 @dataclass(frozen=True)
 class Check:
-    """A check: its name, its words, and whether it knows --all."""
+    """A check: its name, its words in the gate, and those by which it tries all that it has, where that is more."""
 
     name: str
     words: Tuple[str, ...] = ()
-    has_more: bool = False
+    more: Tuple[str, ...] = ()
 
 
 CHECKS = (
@@ -65,13 +62,13 @@ CHECKS = (
     Check("rows", OF_PROGRAM),
     Check("slim_cores", OF_PROGRAM),
     Check("sample_cores", OF_PROGRAM),
-    Check("fuzz", OF_BOTH, True),
-    Check("growths", (*OF_BOTH, "--step", "100", "--most", "12")),
-    Check("real_core", OF_PROGRAM, True),
-    Check("real_broken", OF_PROGRAM, True),
+    Check("fuzz", OF_BOTH, (*OF_BOTH, "--count", "5000")),
+    Check("growths", (*OF_BOTH, "--step", "100", "--most", "6"), OF_BOTH),
+    Check("real_core", OF_PROGRAM, (*OF_PROGRAM, "--all")),
+    Check("real_broken", OF_PROGRAM),
     Check("pages", OF_PROGRAM),
     Check("real_merge", OF_PROGRAM),
-    Check("real_salvage", OF_BOTH, True),
+    Check("real_salvage", OF_BOTH),
     Check("arm_core", OF_PROGRAM),
     Check("compare_elf", OF_LISTING),
     Check("compare_maps", OF_LISTING),
@@ -95,7 +92,7 @@ class Ended:
 
 def ran(check: Check, has_all: bool) -> Ended:
     """Runs a check, and passes on what it prints."""
-    words = [sys.executable, "-B", str(CHECK / f"{check.name}.py"), *check.words, *((ALL,) if has_all and check.has_more else ())]
+    words = [sys.executable, "-B", str(CHECK / f"{check.name}.py"), *(check.more if has_all and check.more else check.words)]
     begun = time.monotonic()
     skipped = []
     # (a check may write bytes that are no text, as names of files)

@@ -352,6 +352,8 @@ def main():
     """The whole program."""
     who = sys.argv[2]
     keep(sys.argv[3])
+    # (a core has all of each stack, so that those of many threads would take most of it)
+    threading.stack_size(1 << 20)
     natives = OrderedDict([(own_id(), native_id())])
     descend = module(ONE_BYTE, "récursion.py")["descend"]
     drain = module(FOUR_BYTES, "𝄞.py")["drain"]

@@ -260,6 +260,7 @@ def families_of_lines() -> Iterator[Row]:
     units, by_range = edited(EXAMPLE, lasti='"units"'), edited(EXAMPLE, lines='"ranges"')
     located = edited(EXAMPLE, lines='"locations"')
     for what, text, first, table, instruction, line in (
+        ("pairs, a sum below 1", EXAMPLE, 3, bytes([0, 0xF7]), 0, ":-6"),
         ("units of two bytes", units, 3, PAIRS, 15, ":7"), ("a unit before the first", units, 3, PAIRS, 0xFFFFFFFF, ""),
         ("an address", start, 3, PAIRS, CODE + 16 + 30, ":7"), ("an address before the code", start, 3, PAIRS, CODE + 15, ""),
         ("the last address", start, 3, PAIRS, 2 ** 64 - 1, ""),

@@ -46,7 +46,7 @@ LOCKS = {"3.9.0": 0x500238, "3.10.0": 0x500238, "3.12.0": 0x600020}
 
 def rows(listing: str) -> List[Row]:
     """All that need a program built."""
-    return [it for part in (edges, counts, many_locals, holders, versions, walks, many) for it in part(listing)]
+    return [it for part in (edges, counts, many_locals, holders, versions, zeros, walks, many) for it in part(listing)]
 
 
 def walk(version: str) -> str:
@@ -119,6 +119,13 @@ def versions(listing: str) -> Iterator[Row]:
                 yield row(f"built: lock of {version} by {it.file}: {who}", GOOD, files, program.text(it.text, version))
 
 
+def zeros(listing: str) -> Iterator[Row]:
+    """Zeros in front of a serial number, which the version that is told doesn't have."""
+    for asked_for, told in (("3.9.0a05", "3.9.0a5"), ("3.9.0b00", "3.9.0b0"), ("3.9.0rc10", "3.9.0rc10")):
+        files = built(listing, EXAMPLE, Program().words(), asked_for)
+        yield row(f"built: version {asked_for}", GOOD, files, Program().text(EXAMPLE, told))
+
+
 def walks(listing: str) -> Iterator[Row]:
     """Who holds the lock, by the address of the lock; and by none, with which nobody is marked."""
     for version, text in SAMPLES:
@@ -172,7 +179,7 @@ def versions_of_listing() -> Iterator[Row]:
     files = {"layouts": EXAMPLE.encode()}
     for version, is_covered in (
         ("3.9.99", True), ("3.9.0a0", True), ("3.9.0b9", True), ("3.9.0rc15", True), ("3.9.0rc16", False),
-        ("3.9.0a05", False), ("3.9.0c1", False), ("3.9.0+x", False),
+        ("3.9.0a05", True), ("3.9.0rc00", True), ("3.9.0c1", False), ("3.9.0+x", False),
     ):
         words = ["built", "layouts", version, "x86-64", "places", *Program().words()]
         found = "600000 500238\n" if is_covered else "uncovered\n"

@@ -2,7 +2,7 @@
 
 import json
 import struct
-from typing import Callable, Dict, Iterator, List, Optional, Sequence, Tuple
+from typing import Callable, Dict, Iterator, List, Optional, Sequence, Tuple, Union
 
 from made import AARCH64, EXAMPLE, Objects, Section, Segment, Symbol, core_file, edited, image_file, layout_of, note, process_record
 from row import CALLER, CODE, FILE, FRAME, FUNCTION, HEAP, MODULE_CODE, TEXT, THREAD, Row, heap, row
@@ -44,7 +44,7 @@ def rows() -> List[Row]:
 
 
 def salvage(
-    what: str, words: str, files: Dict[str, bytes], out: str = "", line: bytes = b"", status: Optional[int] = None,
+    what: str, words: Union[str, Sequence[str]], files: Dict[str, bytes], out: str = "", line: bytes = b"", status: Optional[int] = None,
 ) -> Row:
     """A row, whose line begins with this program's name."""
     made = row(f"salvage: {what}", words, files, out, status=(1 if line else 0) if status is None else status)
@@ -130,6 +130,10 @@ def heads() -> Iterator[Row]:
     notes = [status_record(11, 4), status_record(6, 5), process_record(4, b"python3", b'python3 -c "a\xff\n"\0x')]
     yield salvage("signal and process", GOOD, files_of(small(notes=notes)),
                   'Signal 11: core\nProcess 4: python3 -c "a\ufffd\\u{a}"\n' + TEXT)
+    odd = 'a"\\\nThread 0x1 (gil)\x1b\u2028é'
+    files = files_of(small(notes=notes[:1]))
+    yield salvage("a core of an odd name", [odd, *GOOD.split(" ")[1:]], {**files, odd: files["core"]},
+                  'Signal 11: a"\\\\u{a}Thread 0x1 (gil)\\u{1b}\\u{2028}é\n' + TEXT)
 
 
 def marks() -> Iterator[Row]:
@@ -148,11 +152,24 @@ def marks() -> Iterator[Row]:
     objects.threads(HEAP, [{"id": number} for number in (1, 2, 3)])
     yield salvage("the crashed thread first", GOOD, named(objects, notes=[status_record(11, 4, 2)]),
                   "Signal 11: core\nPython v3.9.0\n\nThread 0x2 (crashed)\nThread 0x3\nThread 0x1\n")
+    nobody = Objects(layout_of(EXAMPLE), HEAP)
+    nobody.record("interpreter", HEAP)
+    nobody.threads(HEAP, [{"id": number} for number in (0, 1, 0)])
+    yield salvage("an id of 0 marks no thread", GOOD, named(nobody, notes=[status_record(11, 4)]),
+                  "Signal 11: core\nPython v3.9.0\n\nThread 0x0\nThread 0x1\nThread 0x0\n")
     lock = heap()
     lock.word(HEAP + 24, 0x70000000)
     gil = edited(EXAMPLE, lock='"gil"', interpreter="{threads=8, modules=16, gil=24}", gil="{size=24, locked=16, holder=8}")
     yield salvage("a lock that can't be read", GOOD, {**named(lock), "layouts": gil.encode()},
                   TEXT.replace("Thread", "... lock unreadable at 0x70000000, 24 bytes\nThread"))
+
+
+def lined(step: int) -> Callable[[Objects], None]:
+    """Has the line of `f` be so far from the third one, which is its first."""
+    def change(objects: Objects) -> None:
+        table = objects.table(bytes([0, step % 256]))
+        objects.record("code", CODE, filename=FILE, name=FUNCTION, first_line=3, table=table)
+    return change
 
 
 def frames() -> Iterator[Row]:
@@ -168,8 +185,9 @@ def frames() -> Iterator[Row]:
         ("a first frame that is missing", lambda it: it.record("thread", THREAD, interp=HEAP, frame=0x70000000, id=0x7F00),
          missing),
         ("a name that is missing", lambda it: it.word(CODE + code["name"], 0x70000000),
-         f"    ? (unreadable at 0x70000000, {string['size']} bytes)\n" + last),
-        ("a name that is too long", lambda it: it.word(FUNCTION + string["length"], -1), "    ? (a name that is too long)\n" + last),
+         f"    ? unreadable at 0x70000000, {string['size']} bytes\n" + last),
+        ("a name that is too long", lambda it: it.word(FUNCTION + string["length"], -1), "    ? a name that is too long\n" + last),
+        ("a line", lined(1), "    f (a.py:4)\n" + last), ("a line below 1", lined(-9), first + last),
         ("a shim", lambda it: it.word(CODE + code["filename"], 0), last),
     ):
         objects = heap()
@@ -253,6 +271,14 @@ def interpreters() -> Iterator[Row]:
     yield salvage("interpreters: one twice", GOOD, named(objects, one, one), head + "Thread 0x1\n")
     maps = [objects.segment(6), mapped(), bss(0, two), runtime(one)]
     yield salvage("interpreters: by search", GOOD, files_of(core_file(maps), program=NAMED), head + found)
+    objects.word(one, one)
+    searched = f"Interpreter 0x{one:x} (found by search)\nThread 0x1\n"
+    yield salvage("interpreters: by search, one that names itself", GOOD, named(objects, 0, one, two),
+                  head + searched + f"Interpreter 0x{two:x} (found by search)\nThread 0x2\n")
+    objects, (one, two) = several(2, True)
+    told = f"Interpreter 0x{two:x}\nThread 0x2\n"
+    yield salvage("interpreters: by search, one that names the other", GOOD, named(objects, 0, one, two), head + searched + told)
+    yield salvage("interpreters: by search, one that names the one before", GOOD, named(objects, 0, two, one), head + told + searched)
     broken = heap()
     broken.record("thread", THREAD, interp=HEAP, next=0x70000000, id=0x7F00)
     yield salvage("interpreters: by search, with a broken chain", GOOD, files_of(core_file([broken.segment(6), mapped(), bss()])),
@@ -269,6 +295,11 @@ def names() -> Iterator[Row]:
     objects = heap()
     objects.text('f\n"\\\x1b', FUNCTION)
     yield salvage("names: a line feed", GOOD, named(objects), TEXT.replace("f (", "f\\u{a}\\u{22}\\u{5c}\\u{1b} (", 1))
+    for why in (f"unreadable at 0x70000000, {group('string')['size']} bytes", "a name that is too long", "a name that is no text"):
+        objects = heap()
+        objects.text("?", FUNCTION)
+        objects.word(CODE + group("code")["filename"], objects.text(why))
+        yield salvage(f"names: as those of a member that has none: {why}", GOOD, named(objects), TEXT.replace("f (a.py)", f"? ({why})", 1))
 
 
 def trees() -> Iterator[Row]:
@@ -282,6 +313,10 @@ def trees() -> Iterator[Row]:
     notes = [status_record(11, 4, 0x7F00), process_record(4, b"p", b"p\n")]
     text = lambda it: json.dumps(it, indent=2, ensure_ascii=False) + "\n"
     yield salvage("JSON", f"{GOOD} -j", named(heap(), notes=notes), text(tree))
+    below = heap()
+    lined(-9)(below)
+    unmarked = {**interpreter, "threads": [{**thread, "crashed": False}]}
+    yield salvage("JSON of a line below 1", f"{GOOD} -j", named(below), text({**tree, "interpreters": [unmarked], "process": None, "signal": None}))
     cut = heap()
     cut.word(CODE + group("code")["name"], 0x70000000)
     cut.frame(at=CALLER, code=MODULE_CODE, back=0x70000008)

@@ -78,7 +78,7 @@ def check_member(tree: object) -> None:
         return
     need_keys(tree, "filename", "line", "locals", "locals_fault", "name")
     need_texts(tree["filename"], tree["name"])
-    need(type(tree["line"]) is int, "a line that is no number")
+    need_number(tree["line"])
     need(tree["locals"] is None or tree["locals_fault"] is None, "locals beside why there are none")
     if tree["locals_fault"] is not None:
         check_kind(tree["locals_fault"], FAULTS)
@@ -182,7 +182,7 @@ def escaped(text: str, is_name: bool = True) -> str:
 def lines_of_member(tree: Tree) -> List[str]:
     """The lines of a member."""
     if "why" in tree:
-        return [f"    ? ({why_of(tree['why'])})"]
+        return [f"    ? {why_of(tree['why'])}"]
     line = f":{tree['line']}" if tree["line"] else ""
     lines = [f"    {escaped(tree['name'])} ({escaped(tree['filename'])}{line})"]
     for it in tree["locals"] or ():
@@ -216,7 +216,7 @@ def lines_of_interpreter(tree: Tree, is_one_of_several: bool) -> List[str]:
 def text_of(tree: Tree, core: str) -> str:
     """The text of a core of this name."""
     signal, process, interpreters = tree["signal"], tree["process"], tree["interpreters"]
-    lines = [] if signal is None else [f"Signal {signal}: {core}"]
+    lines = [] if signal is None else [f"Signal {signal}: {escaped(core, False)}"]
     lines += [] if process is None else [f"Process {process['pid']}: {escaped(process['arguments'], False)}"]
     lines += [f"Python v{tree['version']}", ""]
     lines += [line for it in interpreters for line in lines_of_interpreter(it, len(interpreters) > 1)]

@@ -10,7 +10,7 @@ from pathlib import Path
 from rooms import TOOLS  # (first: it makes the other rooms known)
 
 import stand_ins
-from core_collapse import collapsed
+from core_collapse import collapsed, label
 from core_model import Frame, Thread
 from core_next import NEXT
 from core_places import PROGRAM
@@ -50,7 +50,12 @@ class Lines(unittest.TestCase):
     def test_broken_chains(self):
         cut = thread(frame("f"), frame("g"), first=1, between=7, end="unreadable at 0x10, 8 bytes")
         self.assertEqual(collapsed([cut]), ["... unreadable at 0x10, 8 bytes;g (a.py);... 7 more frames;f (a.py) 1"])
-        self.assertEqual(collapsed([thread(Frame(why="a name; no text"))]), [r"? (a name\x3b no text) 1"])
+        self.assertEqual(collapsed([thread(Frame(why="a name; no text"))]), [r"? a name\x3b no text 1"])
+
+    def test_a_name_forges_no_place(self):
+        for why in ("unreadable at 0x70000000, 72 bytes", "a name that is no text", "... 7 more frames"):
+            frames = frame("?", why), Frame(why=why), frame(f"? {why}"), frame("? ", why)
+            self.assertEqual(len({label(it) for it in frames}), 4, why)
 
 
 class Tool(unittest.TestCase):

@@ -11,7 +11,7 @@ import rooms  # (first: it makes the other rooms known)
 from core_escape import as_name, in_line, signal_name, with_decimals
 from core_model import Frame, Interpreter, Local, Report, Thread
 from core_sources import Sources
-from core_text import Style, report_lines
+from core_text import Style, report_lines, stack_lines
 
 HEAD = "Signal 11 (SIGSEGV): core\nProcess 7: python3 a.py\nPython v3.11.7\n"
 
@@ -70,7 +70,7 @@ class Stacks(unittest.TestCase):
     def test_ends(self):
         one = Thread(0xAB, (F, Frame(why="unreadable at 0x10, 48 bytes"), MAIN), first=2, between=18324, end="unreadable at 0x20008, 8 bytes")
         wanted = (
-            "Thread 0xAB\n    f (a.py:5)\n    ? (unreadable at 0x10, 48 bytes)\n    ... 18324 more frames\n    <module> (a.py:9)\n"
+            "Thread 0xAB\n    f (a.py:5)\n    ? unreadable at 0x10, 48 bytes\n    ... 18324 more frames\n    <module> (a.py:9)\n"
             "    ... unreadable at 0x20008, 8 bytes\n")
         self.assertEqual(text(threads(one)), HEAD + "\n" + wanted)
 
@@ -95,6 +95,14 @@ class Stacks(unittest.TestCase):
         frame = Frame("f\nThread 0x2 (crashed)", "a\\u{a}\u2028.py", 1)
         wanted = "    f\\u{a}Thread 0x2 (crashed) (a\\u{5c}u{a}\\u{2028}.py:1)\n"
         self.assertEqual(text(threads(Thread(1, (frame,)))), HEAD + "\nThread 0x1\n" + wanted)
+
+    def test_a_name_forges_no_mark(self):
+        why = "unreadable at 0x70000000, 72 bytes"
+        for odd in (Frame("?", why), Frame(f"? {why}", ""), Frame("... 7 more frames"), Frame("... " + why, "a)\n")):
+            lines = list(stack_lines(Thread(1, (odd,)), Style()))
+            self.assertEqual([it.endswith(")") for it in lines], [True], odd)
+        marks = list(stack_lines(Thread(1, (Frame(why=why), MAIN), first=1, between=7, end=why), Style()))
+        self.assertEqual(marks, [f"    ? {why}", "    ... 7 more frames", "    <module> (a.py:9)", f"    ... {why}"])
 
     def test_colours(self):
         one = Thread(1, (F,), None, None, True, True)

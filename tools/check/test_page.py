@@ -14,7 +14,7 @@ from pathlib import Path
 import rooms  # (first: it makes the other rooms known)
 
 from core_collapse import places
-from core_flame import WIDTH, flame_of
+from core_flame import WIDTH, fitted, flame_of
 from core_group import groups_of
 from core_model import Frame, Interpreter, Local, Report, Thread
 from core_page import LARGEST, group_page, report_page
@@ -121,7 +121,7 @@ class Pages(unittest.TestCase):
         one = Thread(1, (F, Frame(why="a name that is no text"), MAIN), first=2, between=7, end="cut after 10 members")
         page = report_page(Report((Interpreter((one,), 0x10, True, "lock unreadable at 0x8, 8 bytes", "more than 4096 threads"), Interpreter((), 0x20)),
                                   "3.9.0", has_more=True), Style())
-        for it in ("? (a name that is no text)", "... 7 more frames", "... cut after 10 members", "Interpreter 0x10 (found by search)", "Interpreter 0x20",
+        for it in ("? a name that is no text", "... 7 more frames", "... cut after 10 members", "Interpreter 0x10 (found by search)", "Interpreter 0x20",
                    "... lock unreadable at 0x8, 8 bytes", "... more than 4096 threads", "... more than 16 interpreters"):
             self.assertEqual(sum(page.count(f"{front}{it}") for front in ('class="end">', "<h3>")), 1, it)
 
@@ -245,6 +245,13 @@ class Graphs(unittest.TestCase):
         counts = Counter((label, depth[y]) for label, _, count, _, y, _ in bars for _ in range(count))
         wanted = Counter((label, at) for stack in stacks for at, label in enumerate(stack, 1))
         self.assertEqual({key: count for key, count in counts.items() if key[1]}, dict(wanted))
+
+    def test_cut_labels(self):
+        why = "unreadable at 0x70000000, 72 bytes"
+        frame, member = places(Thread(1, (Frame(f"? {why}", "a.py"), Frame(why=why))))[::-1]
+        self.assertEqual([fitted(it, 100) for it in (frame, member, "f (a.py)")], ["? unreadabl..)", "? unreadable..", "f (a.py)"])
+        self.assertEqual([fitted(it, 34) for it in (frame, member)], ["?..)", "? .."])
+        self.assertEqual([fitted(it, 30) for it in (frame, member)], ["", ""])
 
     def test_order(self):
         # (a bar's threads are those whose places in the order it has)

@@ -139,7 +139,7 @@ class Shown(Case):
         self.programs(salvage(interpreter([cut, stray], lock=lock, end=end), more=True, signal=None, arguments=None), threads=[])
         self.assertEqual(self.tool()[1].splitlines(), [
             "Python v3.11.7", "", "... lock unreadable at 0x10200, 8 bytes", "... threads of the interpreter at 0x30000", "Thread 0x1",
-            "    ? (unreadable at 0x10200, 48 bytes)", "    ? (a name that is no text)", "    ? (a name that is too long)",
+            "    ? unreadable at 0x10200, 48 bytes", "    ? a name that is no text", "    ? a name that is too long",
             "    f (a.py:1)", "        ... locals with a bad name or count", "    f (a.py:1)", "        ... locals more than 65535",
             "    f (a.py:1)", "        ... locals unreadable at 0x10200, 48 bytes", "    ... 3 more frames", "    h (a.py:1)",
             "    ... cut after 16384 members", "Thread 0x2", "    ... of the interpreter at 0x30000", "... more than 16 interpreters"])
@@ -154,6 +154,22 @@ class Shown(Case):
         status, out, said = self.tool()
         self.assertEqual((status, said), (0, ""))
         self.assertEqual(out.split("\n", 1)[1], head.split("\n", 1)[1] + 'Thread 99 (gil): "Main"\n    boom (a.py:5)\n    <module> (a.py:9)\n' + wanted)
+
+    def test_arguments_forge_no_version(self):
+        # (the text of `dump` has them as they are)
+        head = "Signal 11: core\nProcess 4711: x\nPython v9.9\n\nThread 0x1 (gil)\n"
+        threads = [thread(7, [frame("f\nPython v8.8\n\n")])]
+        stand_ins.program(self.program, stand_ins.dump_json(threads), stand_ins.text_of(threads, head))
+        wanted = ("Process 4711: x\\u{a}Python v9.9\\u{a}\\u{a}Thread 0x1 (gil)\nPython v3.11.7\n\n"
+                  "Thread 0x7\n    f\\u{a}Python v8.8\\u{a}\\u{a} (a.py:1)\n")
+        self.assertEqual(self.tool()[1].split("\n", 1)[1], wanted)
+
+    def test_nobody_holds_the_lock(self):
+        # (`dump` marks a thread of the id 0 then)
+        nobody, other = (thread(number, [frame("f")]) for number in (0, 7))
+        self.programs(threads=[{**nobody, "gil": True}, other])
+        self.assertEqual(self.tool()[1].split("\n\n")[1], "Thread 0x0\n    f (a.py:1)\nThread 0x7\n    f (a.py:1)\n")
+        self.assertEqual(self.tool("--json")[1].count('"gil": false'), 2)
 
     def test_plain(self):
         self.programs(salvage(interpreter([CRASHED])))

@@ -3,7 +3,9 @@ ghost use Rattle.py_fields.specs.Sound.{IsSound};
 
 use crate::laid_tests::sample_3_12;
 use elf64_core::{Machine, Text};
-use image_builder::{BuildError, Built, Program, ProgramFrame, ProgramThread, build};
+use image_builder::{
+    BuildError, Built, Program, ProgramFrame, ProgramThread, build, has_room, has_word_room,
+};
 use memory_builder::{ProgramItem, ProgramLocal, ProgramValue};
 use py_fields::{Layout, is_sound};
 use py_lines::LineRange;
@@ -78,6 +80,31 @@ fn versions_without_a_number_are_uncovered(rt: HostRuntime) -> Result<(), Fail> 
             "3.{minor}.{patch}{flags}"
         );
     }
+    Ok(())
+}
+
+#[test]
+fn zeros_may_stand_in_front(rt: HostRuntime) -> Result<(), Fail> {
+    let (layout, program) = (Layout::sample(), small(rt.alloc(), None)?);
+    let version = version(rt.alloc(), 9, 0, "a05")?;
+    assert!(rt; admit(rt.alloc(), &program, &layout, &version, Machine::X86_64) == Ok(()));
+    Ok(())
+}
+
+#[test]
+fn the_example_has_room(rt: HostRuntime) -> Result<(), Fail> {
+    let (layout, version) = (Layout::sample(), version(rt.alloc(), 9, 0, "")?);
+    assert!(rt; has_room(&layout));
+    assert!(rt; has_word_room(&layout, Machine::X86_64, &version));
+    Ok(())
+}
+
+/// Where a list counts its items in the place of its type, both are not told.
+#[test]
+fn a_list_may_have_no_room(rt: HostRuntime) -> Result<(), Fail> {
+    let mut layout = Layout::sample();
+    layout.list.count = layout.object.klass + 7;
+    assert!(rt; !has_room(&layout));
     Ok(())
 }
 

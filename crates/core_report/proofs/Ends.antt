@@ -7,7 +7,7 @@ use Rattle.std.proofs.lemmas.Option.{same_Some, none-some}
 use Rattle.outside.specs.Counts.{Rose}
 use Rattle.outside.specs.Files.{Told}
 use Rattle.outside.specs.Streams.{SinkSeen}
-use Rattle.core_words.specs.Words.{Command}
+use Rattle.core_words.specs.Words.{Command, Slim, slim}
 use Rattle.program_run.specs.Ends.{End, HasEnded, HasRun, Ran, Reaches, cut, end_status, printed, refused, stopped}
 use Rattle.program_run.specs.Ends.{unread}
 use Rattle.program_run.proofs.Ends.{one_more}
@@ -22,10 +22,11 @@ use Rattle.object_reach.specs.declared.reached.ReachError.TheVariants as reachin
 use Rattle.core_report.specs.Lines.{cause_says}
 use Rattle.core_report.specs.Outcome.{IsFaultless, IsOutcome, Outcome, cause_status, merge_status, outcome_status}
 use Rattle.core_report.specs.Outcome.{reach_status}
-use Rattle.core_report.specs.Run.{ComesTo, EndsItself, MayBeSlim, TellsContents, pystacks}
+use Rattle.core_report.specs.Run.{ComesTo, EndsItself, HasFewReads, MayBeSlim, TellsContents, pystacks}
 use Rattle.core_report.proofs.Turns.{same_contents}
 use Rattle.core_report.proofs.Agreement.{outcome_class, settled, settled-other}
 use Rattle.core_report.proofs.Commands.{cause_own, no_cause, outcomes_agree}
+use Rattle.core_report.proofs.Processes.{slim_few}
 
 -- the text is written, want of memory aside, unless the command comes to a cause of its own
 abbrev Completes : Command → List (List ℕ) → ℕ → Type 0
@@ -142,6 +143,17 @@ module _ (asked : Option Command) (r : Ran) where
   complete_of (unread name why) ended command contents tells good same quiet = absurd (one_more r.files.failed (name, why) (sym ended.unread.failed ∙ same))
   complete_of cut ended command contents tells good same quiet = absurd (quiet ended.cut.rose)
 
+  -- a slim core whose stacks take few reads has few pieces
+  pub few_of : (end : End Cause) → HasEnded pystacks asked r end → (s : Slim) (contents : List (List ℕ)) → TellsContents asked r.files.told (slim s) contents
+      → HasFewReads s contents → end_status cause_says end ≢ 8
+  few_of printed ended s contents tells few is = absurd (omega (arith, is))
+  few_of (stopped cause) ended s contents tells few is =
+      let ne5 : cause_status cause ≢ 5 = λ five. absurd (omega (arith, five, is)) in
+      slim_few s contents few cause is (told_outcome (slim s) contents (Err cause) tells (ended.reached ne5))
+  few_of refused ended s contents tells few is = absurd (omega (arith, is))
+  few_of (unread name why) ended s contents tells few is = absurd (omega (arith, is))
+  few_of cut ended s contents tells few is = absurd (omega (arith, is))
+
 -- ---- what a run tells
 
 module _ {asked : Option Command} {r : Ran} {err err_after : SinkSeen} {status : ℕ} (run : HasRun pystacks asked r err err_after status) where
@@ -158,6 +170,9 @@ module _ {asked : Option Command} {r : Ran} {err err_after : SinkSeen} {status :
       → IsOutcome command contents (Err cause) → cause_status cause ≡ 8 → r.files_after.failed ≡ r.files.failed → MayBeSlim status
   run_pieces command contents cause tells is eight same = subst MayBeSlim (sym run.is)
       (pieces_of asked r run.end run.ended command contents cause tells is eight same)
+
+  pub run_few : (s : Slim) (contents : List (List ℕ)) → TellsContents asked r.files.told (slim s) contents → HasFewReads s contents → status ≢ 8
+  run_few s contents tells few is = few_of asked r run.end run.ended s contents tells few (sym run.is ∙ is)
 
   pub run_complete : (command : Command) (contents : List (List ℕ)) → TellsContents asked r.files.told command contents → IsFaultless command contents
       → r.files_after.failed ≡ r.files.failed → (Rose r.out.faults r.out_after.faults → ⊥) → Completes command contents status

@@ -17,7 +17,7 @@ use Rattle.py_process.specs.Reports.{ReportIs, reported_of}
 use Rattle.py_process.specs.declared.core_error.CoreError.{CoreError}
 use Rattle.py_process.specs.declared.core_error.CoreError.TheVariants as core
 use Rattle.py_process.specs.declared.report.Report.{Report}
-use Rattle.core_triage.specs.Groups.{groups_of}
+use Rattle.core_triage.specs.Groups.{IsGrouping, groups_of}
 use Rattle.core_triage.specs.Keys.{compared_in, compared_of, same_key}
 use Rattle.core_triage.specs.declared.key.StackKey.{StackKey}
 use Rattle.core_words.specs.Words.{Triage, kept_files, texts, triage}
@@ -201,13 +201,15 @@ all_cores old new t before images layouts kept asks has = inl (slice_get_past (k
 pub grouped_text : (old new : FilesSeen) (t : Triage) (before : List (List ℕ)) (images : Pushed) (layouts : List Layout) (kept : JudgedCores) (text : List ℕ)
     → (has : HasJudged old new t before images layouts kept)
     → text ≡ groups_text (kept_names kept) 1 (groups_of same_key kept.keys.items) ++ refusals_text (kept_refusals kept)
+    → IsGrouping (λ a b. a ≡ b) (map compared_in kept.keys.items) (groups_of same_key kept.keys.items)
     → IsGroupedText t.cores images layouts has.contents text
-grouped_text old new t before images layouts kept text has is = record {
+grouped_text old new t before images layouts kept text has is groups = record {
   cores = has.cores;
   named = has.named;
   judged = has.judged;
   keys = kept.keys.items;
   keys_are = has.keeps.stacks;
+  grouped = subst (λ stacks. IsGrouping (λ a b. a ≡ b) stacks (groups_of same_key kept.keys.items)) has.keeps.stacks groups;
   text_is = is ∙ ap (λ names. groups_text names 1 (groups_of same_key kept.keys.items) ++ refusals_text (kept_refusals kept)) has.keeps.names
       ∙ ap (λ rs. groups_text (names_in has.cores) 1 (groups_of same_key kept.keys.items) ++ refusals_text rs) has.keeps.refusals;
 }

@@ -1,7 +1,7 @@
 -- Where an interpreter is, and slim cores: two outcomes over the same contents agree, and over contents with which
 -- nothing is wrong no outcome is a cause but that there are too many pieces.
 use Rattle.std.proofs.Common.{◌≡◌, ◌≢◌, ◌⊎◌, ℕ, Bool, true, false, List, [], ◌∷◌, Result, Ok, Err, refl, sym, ap, subst}
-use Rattle.std.proofs.Common.{◌∙◌, inl, inr, ⊎_elim}
+use Rattle.std.proofs.Common.{◌∙◌, ◌≤◌, arith, inl, inr, length, ⊎_elim}
 use Rattle.elf64_core.specs.Header.{machine_of}
 use Rattle.image_memory.specs.Cores.{IsCore}
 use Rattle.image_memory.specs.Images.{Pushed}
@@ -21,9 +21,12 @@ use Rattle.py_process.proofs.Dumped.{backed_once}
 use Rattle.py_process.proofs.FindingLaws.{ChoosesOnce, finding_agree}
 use Rattle.py_process.proofs.ReportLaws.{core_agree}
 use Rattle.py_process.proofs.StackCauses.{stacks_agree}
+use Rattle.core_slim.proofs.Fewer.{pieces_few}
 use Rattle.core_slim.proofs.Parts.{whole_held}
 use Rattle.core_slim.specs.declared.error.SlimError.{SlimError}
+use Rattle.core_slim.specs.declared.error.SlimError.TheVariants as slimmer
 use Rattle.core_stacks.specs.Opened.{IsOpened, Opened, Opens, opened_memory}
+use Rattle.core_stacks.specs.Reached.{finding_cost}
 use Rattle.core_stacks.specs.Seen.{FindsProcess}
 use Rattle.core_stacks.specs.Slimmed.{IsSlimmedFor, SlimmedSays}
 use Rattle.core_stacks.specs.declared.slimmed_error.SlimmedError.{SlimmedError}
@@ -38,7 +41,8 @@ use Rattle.core_report.specs.Opening.{IsOpenedWith, OpenedCore, OpenedIs, level_
 use Rattle.core_report.specs.Outcome.{IsFaultlessProcess, IsLocateOutcome, IsLocated, IsOwnCause, IsSampleOutcome}
 use Rattle.core_report.specs.Outcome.{IsSampledAs, IsSlimOutcome, IsSlimmedFrom, OpensBy, cause_status, images_read}
 use Rattle.core_report.specs.Outcome.{outcome_status}
-use Rattle.program_run.proofs.Statuses.{core_one, flaw_status}
+use Rattle.core_report.specs.Run.{HasFewReads}
+use Rattle.program_run.proofs.Statuses.{core_one, core_within, flaw_status}
 use Rattle.core_report.proofs.Agreement.{Agree, Excludes, NoCause, cause_is, err_kept, flaw_apart}
 use Rattle.core_report.proofs.Agreement.{ok_unique, outcome_class, settled, text_agree, text_apart}
 use Rattle.core_report.proofs.Agreement.{text_sound, then_agree, then_sound}
@@ -267,3 +271,24 @@ slim_sound s (core ∷ []) good = absurd good
 slim_sound s (core ∷ text ∷ images) (list, says, good) = then_sound (λ cause. cause) (OpensBy s.images (core ∷ text ∷ images)) (IsSlimmedFrom s.level)
     (open_sound s.images core text images (level_asked s.level) list says good)
     (λ o opened. slimmed_sound s.level o (stacks_sound s.images core text images (level_asked s.level) list says good o opened))
+
+-- stacks that take few reads have no footprint of too many pieces
+module _ (s : AsksSlim) (contents : List (List ℕ)) (few : HasFewReads s contents) where
+  fewer_pieces : (o : Opened) → o ≡ few.process → (count : ℕ) → IsSlimmedFor o (level_asked s.level) (Err (slimmer.TooManyPieces count)) → ⊥
+  fewer_pieces o same count h =
+      let ranges : length h.is.0 ≤ length h.ranges = pieces_few h.ranges h.is.0 h.is.1 in
+      let cost = ap (λ (x : Opened). finding_cost (level_asked s.level) (opened_memory x) x.finding) same in
+      omega (arith, ranges, h.is.2, h.footprint.few, cost, few.few)
+
+  never_too_many : (o : Opened) → o ≡ few.process → (cause : Cause) → cause_status cause ≡ 8 → (e : SlimmedError) → cause ≡ slim_cause e
+      → SlimmedSays o (level_asked s.level) (Err e) → ⊥
+  never_too_many o same cause eight (slim.Core e) is says = omega (arith, eight, ap cause_status is, core_within e)
+  never_too_many o same cause eight (slim.TooManyPieces count) is says = fewer_pieces o same count says
+  never_too_many o same cause eight slim.OutOfMemory is says = omega (arith, eight, ap cause_status is)
+
+  pub slim_few : (cause : Cause) → cause_status cause ≡ 8 → IsSlimOutcome s contents (Err cause) → ⊥
+  slim_few cause eight (inl (other, is, opens)) =
+      (opens_exclude s.images contents).apart few.process other few.opens opens (λ five. absurd (omega (arith, eight, five, ap cause_status (cause_is cause other is))))
+  slim_few cause eight (inr (o, opens, inl (e, is, says))) =
+      never_too_many o (opens_once s.images contents o few.process opens few.opens) cause eight e (cause_is cause (slim_cause e) is) says
+  slim_few cause eight (inr (o, opens, inr p)) = absurd (let h : _ = p.2 in cc)

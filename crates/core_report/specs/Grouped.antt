@@ -9,7 +9,7 @@ use Rattle.py_process.specs.Reports.{ReportIs, reported}
 use Rattle.py_process.specs.declared.core_error.CoreError.{CoreError}
 use Rattle.py_process.specs.declared.core_error.CoreError.TheVariants as core
 use Rattle.py_process.specs.declared.report.Report.{Report}
-use Rattle.core_triage.specs.Groups.{groups_of}
+use Rattle.core_triage.specs.Groups.{IsGrouping, groups_of}
 use Rattle.core_triage.specs.Keys.{Compared, compared_in, compared_of, same_key}
 use Rattle.core_triage.specs.declared.key.StackKey.{StackKey}
 use Rattle.fault_lines.specs.Lines.{core_parts}
@@ -82,8 +82,9 @@ refusals_text [] = []
 refusals_text (r ∷ rs) = concat (codes "Refused: " ∷ decimal (length (r ∷ rs)) ∷ codes "\n" ∷ [])
     ++ concat (map (λ refused. refusal_line refused) (r ∷ rs))
 
--- The text of some cores in groups: those that have a report, by the groups of their keys, and the others. A core is
--- named by the word that named it
+-- The text of some cores in groups: those that have a report, by the groups of their keys, and the others. The groups
+-- that are printed are a grouping of these cores by what is compared of their stacks. A core is named by the word that
+-- named it
 pub record IsGroupedText (names : List (List ℕ)) (images : Pushed) (layouts : List Layout) (contents : List (List ℕ))
     (text : List ℕ) : Type 0 where
   pub cores : List Judged
@@ -91,4 +92,5 @@ pub record IsGroupedText (names : List (List ℕ)) (images : Pushed) (layouts : 
   pub judged : AreJudged images layouts contents cores
   pub keys : List StackKey
   pub keys_are : map compared_in keys ≡ stacks_in cores
+  pub grouped : IsGrouping (λ a b. a ≡ b) (stacks_in cores) (groups_of same_key keys)
   pub text_is : text ≡ groups_text (names_in cores) 1 (groups_of same_key keys) ++ refusals_text (refusals_in cores)

@@ -1,11 +1,14 @@
 -- What a run of the top call means.
-use Rattle.std.specs.Prelude.{◌≡◌, ◌⊎◌, ◌++◌, ℕ, List, length, map, Option, Some, IsSome, Result, Ok, Err, codes}
+use Rattle.std.specs.Prelude.{◌≡◌, ◌⊎◌, ◌++◌, ℕ, ◌+◌, ◌≤◌, List, length, map, Option, Some, IsSome, Result, Ok, Err}
+use Rattle.std.specs.Prelude.{codes}
 use Rattle.outside.specs.Files.{FilesSeen, Told}
 use Rattle.image_memory.specs.Images.{Pushed}
 use Rattle.py_fields.specs.declared.layout.Layout.{Layout}
 use Rattle.program_run.specs.Ends.{IsTroubled, Program}
 use Rattle.program_run.specs.declared.trouble.Trouble.{Trouble}
-use Rattle.core_words.specs.Words.{Command, Merge, Triage, Walk, kept_files, merge, triage, walk}
+use Rattle.core_stacks.specs.Opened.{Opened, opened_memory}
+use Rattle.core_stacks.specs.Reached.{finding_cost}
+use Rattle.core_words.specs.Words.{Command, Merge, Slim, Triage, Walk, kept_files, merge, triage, walk}
 use Rattle.core_report.specs.declared.cause.Cause.{Cause}
 use Rattle.core_report.specs.declared.walk_command.WalkFiles.{WalkFiles}
 use Rattle.core_report.specs.declared.judged.JudgedCores.{JudgedCores}
@@ -14,7 +17,8 @@ use Rattle.core_report.specs.declared.triage_command.TriageFiles.{TriageFiles}
 use Rattle.core_report.specs.Grouped.{AreJudged, Judged}
 use Rattle.core_report.specs.Judging.{Keeps}
 use Rattle.core_report.specs.Reading.{IsAll, IsNext, IsRead, merge_contents, triage_contents, walk_contents}
-use Rattle.core_report.specs.Outcome.{IsOutcome, IsOwnCause, Outcome, cause_status}
+use Rattle.core_report.specs.Opening.{level_asked}
+use Rattle.core_report.specs.Outcome.{IsOutcome, IsOwnCause, OpensBy, Outcome, cause_status}
 use Rattle.core_report.specs.Lines.{cause_says}
 
 -- over the contents of all the files that it asks for, a command comes to this outcome
@@ -52,6 +56,13 @@ pub record EndsItself (command : Command) (contents : List (List ℕ)) (status :
 -- a slim core was written, or a front of one, or there were too many pieces, or memory ran out
 abbrev pub MayBeSlim : ℕ → Type 0
 MayBeSlim status = (status ≡ 0) ⊎ ((status ≡ 4) ⊎ ((status ≡ 5) ⊎ (status ≡ 8)))
+
+-- the process that the files open has stacks that take no more reads than a slim core may have pieces: no footprint of
+-- them has more ranges than that
+pub record HasFewReads (s : Slim) (contents : List (List ℕ)) : Type 0 where
+  pub process : Opened
+  pub opens : OpensBy s.images contents (Ok process)
+  pub few : 13 + finding_cost (level_asked s.level) (opened_memory process) process.finding ≤ 65533
 
 -- ---- as files are read
 

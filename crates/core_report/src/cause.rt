@@ -26,7 +26,8 @@ pub(crate) enum Cause {
     Merge(CoreMergeError),
     /// A thread was to be merged with native addresses, and there are no more threads than this number.
     MergeIndex { index: u64 },
-    /// What the stacks of a process need has this many pieces, more than a core's header can count.
+    /// What the stacks of a process need has this many pieces, more than a core's header can count
+    /// (`core_stacks::SlimmedError::TooManyPieces`).
     TooManyPieces { count: u64 },
     /// There was no memory left.
     OutOfMemory,

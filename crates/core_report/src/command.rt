@@ -4,13 +4,13 @@ ghost use Rattle.std.specs.Io.KnownBytes.{Appends};
 ghost use Rattle.outside.specs.Counts.{Rose};
 ghost use Rattle.core_words.specs.Answers.{AnswersWords};
 ghost use Rattle.core_words.specs.Dump.{Dump};
-ghost use Rattle.core_words.specs.Words.{Command as Asked, HasFewCores, command_of, dump, texts};
+ghost use Rattle.core_words.specs.Words.{Command as Asked, HasFewCores, Slim, command_of, dump, slim, texts};
 ghost use Rattle.core_words.specs.Seen.{asked_command};
 ghost use Rattle.program_run.specs.Ends.{HasEnded, HasRun, IsAnswered, Reaches, end_after, ran};
 ghost use Rattle.core_report.specs.declared.cause.Cause.{Cause as Why};
 ghost use Rattle.core_report.specs.Headline.{HasReported};
 ghost use Rattle.core_report.specs.Outcome.{IsFaultless, IsOutcome, cause_status};
-ghost use Rattle.core_report.specs.Run.{EndsItself, MayBeSlim, TellsContents, pystacks};
+ghost use Rattle.core_report.specs.Run.{EndsItself, HasFewReads, MayBeSlim, TellsContents, pystacks};
 
 use crate::cause::{Cause, Trouble};
 use crate::dump_command::dump_over;
@@ -116,8 +116,8 @@ fn execute<'a, F: Files, S: Sink>(
 /// - 7: the frames of a thread were to be merged with native addresses, and there is no thread of that number, a line
 ///   of the addresses is none, maps overlap, a place in a file passes 2^64 - 1, or the steps don't fit the frames
 ///   (`core_merge::merge_thread`).
-/// - 8: a slim core was asked for, and what the stacks need has more than 65533 pieces
-///   (`core_stacks::PythonCoreDump::slimmed`).
+/// - 8: a slim core was asked for, and what the stacks need has more than 65533 pieces: never where they take no more
+///   reads than that (`core_stacks::PythonCoreDump::slimmed`, `core_stacks::SlimmedError::TooManyPieces`).
 /// - 9: what a thread's locals lead to was asked for, and there is no thread of that number, or they lead to more than
 ///   2^20 objects or 2^24 slots (`object_reach::reach`).
 pub fn run<F: Files, S: Sink, E: Sink>(
@@ -169,6 +169,11 @@ pub fn run<F: Files, S: Sink, E: Sink>(
         → TellsContents (command_of (texts words.now)) (F.seen files.old).told command contents
         → IsOutcome command contents (Err cause) → cause_status cause ≡ 8
         → (F.seen files.new).failed ≡ (F.seen files.old).failed → MayBeSlim result }
+
+    // where the stacks take no more reads than a slim core may have pieces, there are never too many
+    ensures few { (s : Slim) (contents : List (List ℕ))
+        → TellsContents (command_of (texts words.now)) (F.seen files.old).told (slim s) contents
+        → HasFewReads s contents → result ≢ 8 }
 
     // where nothing is wrong with what they tell, and no write fails, the text is written, want of memory aside, unless
     // the command comes to a cause of its own: of walks, reports and cores in groups there is none

@@ -1,7 +1,7 @@
 //! Cores that are judged one after the other, and their text.
 ghost use Rattle.std.specs.Prelude.{◌≡◌, ◌+◌, ◌++◌, ◌∷◌, ◌<◌, ◌≤◌, ◌^◌, ℕ, [], IfOk, List, OnOk, get_or, length, map};
-ghost use Rattle.core_triage.specs.Groups.{groups_of};
-ghost use Rattle.core_triage.specs.Keys.{same_key};
+ghost use Rattle.core_triage.specs.Groups.{IsGrouping, groups_of};
+ghost use Rattle.core_triage.specs.Keys.{compared_in, same_key};
 ghost use Rattle.core_report.specs.Grouped.{IsJudgedRight, Judged, group_text, groups_text, name_line, refusal_line};
 ghost use Rattle.core_report.specs.Grouped.{refusals_text};
 ghost use Rattle.core_report.specs.Judging.{Keeps, kept_names, kept_refusals, refusal_seen};
@@ -85,9 +85,11 @@ impl<'a> JudgedCores<'a> {
     /// The groups of the cores that have a report, and then the others.
     pub(crate) fn text(&self) -> Result<Vec<u8>, AllocError>
         requires few { length self.now.keys.items < 2 ^ 32 }
-        ensures { IfOk result (λ text. text.items
+        ensures text_is { IfOk result (λ text. text.items
             ≡ groups_text (kept_names self.now) 1 (groups_of same_key self.now.keys.items)
             ++ refusals_text (kept_refusals self.now)) }
+        ensures grouped { OnOk result (IsGrouping (λ a b. a ≡ b) (map compared_in self.now.keys.items)
+            (groups_of same_key self.now.keys.items)) }
     {
         let groups = group(self.alloc, &self.keys)?;
         let mut text = Vec::new(self.alloc);

@@ -5,7 +5,7 @@ use Rattle.std.proofs.lemmas.List.Elements.{All-from_get_or}
 use Rattle.std.proofs.lemmas.Option.{slice_get-get_or}
 use Rattle.process_memory.specs.Layers.{plain, recorded}
 use Rattle.process_memory.specs.Memory.{Region, byte_at}
-use Rattle.process_memory.specs.Seen.{AddsShort, HoldsRead, HoldsSpan, Reading, Seen}
+use Rattle.process_memory.specs.Seen.{AddsOnly, HoldsRead, HoldsSpan, Reading, Seen}
 use Rattle.process_memory.specs.declared.memory.Span.{Span}
 use Rattle.process_memory.proofs.Reading.{reading_part}
 use Rattle.py_stacks.specs.declared.config.Config.{Config}
@@ -27,7 +27,7 @@ pub footprint_of : {s0 s1 : Seen} (pieces : List Region) (f : Finding) (config :
 footprint_of {s0} {s1} pieces f config traces ranges from to count r =
     let r' = rw from at r in
     let here : HoldsRead (Some []) (Some ranges) (byte_at pieces) (byte_at pieces) = rw to at r'.here in
-    let short : AddsShort (2 ^ 16) (Some []) (Some ranges) = rw to at r'.short in
+    let short : AddsOnly (λ s. s.len < 2 ^ 16) (Some []) (Some ranges) = rw to at r'.only in
     record {
       held = each (HoldsSpan (byte_at pieces)) ranges (λ k s at. here k s (omega arith) at);
       short = each (λ s. s.len < 2 ^ 16) ranges (λ k s at. short k s (omega arith) at);

@@ -22,7 +22,7 @@ use Rattle.py_process.specs.Reports.{IsTold, ReportIs, Reported, StacksSay, Tell
 use Rattle.py_process.specs.Steps.{Then}
 use Rattle.py_process.specs.declared.core_error.CoreError.{CoreError}
 use Rattle.py_process.specs.declared.core_error.CoreError.TheVariants as core
-use Rattle.py_process.proofs.Wider.{reading_wider}
+use Rattle.py_process.proofs.Sections.{searching}
 use Rattle.core_stacks.specs.Reached.{AfterKnown, IsCounted, IsTrialBy, Reporting, Trying, cost_of, finding_cost}
 use Rattle.core_stacks.specs.Reached.{trial_cost}
 use Rattle.core_stacks.specs.Sole.{Settles}
@@ -50,9 +50,9 @@ module _ (s0 s1 : Seen) (bytes : List ℕ) (contains : ℕ → Bool) (layouts : 
 
   -- the search fails
   pub search_ends : (e : CoreError) (r : Result Reported CoreError)
-      → Trying (IsTrialBy (byte_at s0.pieces) layouts k) contains 10 s0 s1 (λ m. Settles (AfterImages m (machine_of bytes) contains layouts k) (Err e))
+      → Trying k (IsTrialBy (byte_at s0.pieces) layouts k) contains 10 s0 s1 (λ m. Settles (AfterImages m (machine_of bytes) contains layouts k) (Err e))
       → r ≡ Err e
-      → Reporting (IsTrialBy (byte_at s0.pieces) layouts k) (λ f. AfterImages (byte_at s0.pieces) (machine_of bytes) contains layouts k (Ok f)) contains config s0 s1
+      → Reporting k (IsTrialBy (byte_at s0.pieces) layouts k) (λ f. AfterImages (byte_at s0.pieces) (machine_of bytes) contains layouts k (Ok f)) contains config s0 s1
       (λ m. Settles (AfterKnown bytes m contains layouts config k) r)
   search_ends e r t is = record {
     tried = t.tried;
@@ -63,18 +63,18 @@ module _ (s0 s1 : Seen) (bytes : List ℕ) (contains : ℕ → Bool) (layouts : 
   }
 
   pub search_memory : (e : CoreError)
-      → Trying (IsTrialBy (byte_at s0.pieces) layouts k) contains 10 s0 s1 (λ m. Settles (AfterImages m (machine_of bytes) contains layouts k) (Err e))
+      → Trying k (IsTrialBy (byte_at s0.pieces) layouts k) contains 10 s0 s1 (λ m. Settles (AfterImages m (machine_of bytes) contains layouts k) (Err e))
       → (f : Finding) → AfterImages (byte_at s0.pieces) (machine_of bytes) contains layouts k (Ok f) → e ≡ core.OutOfMemory
   search_memory e t f right =
       ⊎_elim (λ is. absurd (ok_not_err f e (sym is))) (λ is. err_is e core.OutOfMemory is) ((reading_here t.reading).only (Ok f) right (ok_kept f))
 
   module _ (s2 : Seen) (f : Finding)
-      (t : Trying (IsTrialBy (byte_at s0.pieces) layouts k) contains 10 s0 s1 (λ m. Settles (AfterImages m (machine_of bytes) contains layouts k) (Ok f)))
+      (t : Trying k (IsTrialBy (byte_at s0.pieces) layouts k) contains 10 s0 s1 (λ m. Settles (AfterImages m (machine_of bytes) contains layouts k) (Ok f)))
       (x : Result (List Trace) CoreError)
       (stacks : Reading (13 + finding_cost config (byte_at s1.pieces) f) s1 s2 (λ m. StacksSay m f config x)) where
     -- what is found, and what comes of it over each memory
     pub stacks_report : (r : Result Reported CoreError) → ((m : Memory) → StacksSay m f config x → Settles (Then (StacksSay m f config) (IsTold bytes f)) r)
-        → Reporting (IsTrialBy (byte_at s0.pieces) layouts k) (λ f. AfterImages (byte_at s0.pieces) (machine_of bytes) contains layouts k (Ok f)) contains config s0 s2
+        → Reporting k (IsTrialBy (byte_at s0.pieces) layouts k) (λ f. AfterImages (byte_at s0.pieces) (machine_of bytes) contains layouts k (Ok f)) contains config s0 s2
         (λ m. Settles (AfterKnown bytes m contains layouts config k) r)
     stacks_report r f_rest =
         let same = ap (λ ps. finding_cost config (byte_at ps) f) t.reading.pieces in
@@ -83,7 +83,7 @@ module _ (s0 s1 : Seen) (bytes : List ℕ) (contains : ℕ → Bool) (layouts : 
           is_tried = t.is;
           found = Some f;
           is_found = (reading_here t.reading).right;
-          reading = reads_within _ (reading_then _ t.reading (reading_wider (2 ^ 64) stacks (omega arith))
+          reading = reads_within _ (reading_then _ t.reading (searching k stacks)
               (λ m a b. settles_by_ok (sought m) (rest m) f r a (f_rest m b))) (omega (arith, same));
         }
 
@@ -202,7 +202,7 @@ module _ (bytes : List ℕ) (images : Pushed) (layouts : List Layout) (config : 
           subst (λ test. after test r) tested (subst (λ ps. AfterImages (byte_at ps) (machine_of bytes) contains layouts k r) same h)
 
       pub known_reports : (s1 : Seen) (r : Result Reported CoreError)
-          → Reporting (IsTrialBy (byte_at s0.pieces) layouts k) (λ f. AfterImages (byte_at s0.pieces) (machine_of bytes) contains layouts k (Ok f)) contains config s0 s1
+          → Reporting k (IsTrialBy (byte_at s0.pieces) layouts k) (λ f. AfterImages (byte_at s0.pieces) (machine_of bytes) contains layouts k (Ok f)) contains config s0 s1
           (λ m. Settles (AfterKnown bytes m contains layouts config k) r)
           → Settles (ReportIs bytes images layouts config) r
       known_reports s1 r h =
@@ -218,7 +218,7 @@ module _ (bytes : List ℕ) (images : Pushed) (layouts : List Layout) (config : 
           found_by (memory_in d) (machine_of bytes) d.maps images layouts f (inr (known_by.0, known_by.1, inr (k, known_by.2, here (Ok f) h)))
 
       pub known_counted : (s1 : Seen) (Q : Memory → Type 0)
-          → Reporting (IsTrialBy (byte_at s0.pieces) layouts k) (λ f. AfterImages (byte_at s0.pieces) (machine_of bytes) contains layouts k (Ok f)) contains config s0 s1 Q
+          → Reporting k (IsTrialBy (byte_at s0.pieces) layouts k) (λ f. AfterImages (byte_at s0.pieces) (machine_of bytes) contains layouts k (Ok f)) contains config s0 s1 Q
           → IsCounted bytes images layouts config s0.reads s1.reads
       known_counted s1 Q h =
           let tests = ap (λ test. cost_of (trial_cost test (byte_at s0.pieces)) h.tried) tested in
@@ -256,23 +256,23 @@ module _ (bytes : List ℕ) (images : Pushed) (layouts : List Layout) (config : 
 
 module _ (bytes : List ℕ) (images : Pushed) (layouts : List Layout) (config : Config) (d : Dumped) (accepted : IsCore bytes) (dumped : IsDumped bytes images d) where
   pub report_settles : {s0 s1 : Seen} {core : List ℕ} {contains : ℕ → Bool} {k : Known} {r : Result Reported CoreError}
-      → Reporting (IsTrialBy (byte_at s0.pieces) layouts k) (λ f. AfterImages (byte_at s0.pieces) (machine_of core) contains layouts k (Ok f)) contains config s0 s1
+      → Reporting k (IsTrialBy (byte_at s0.pieces) layouts k) (λ f. AfterImages (byte_at s0.pieces) (machine_of core) contains layouts k (Ok f)) contains config s0 s1
       (λ m. Settles (AfterKnown core m contains layouts config k) r)
       → core ≡ bytes → s0.pieces ≡ d.pieces → contains ≡ in_maps d.maps → Then (MapsSay d.maps) (ImagesSay images) (Ok k)
       → Settles (ReportIs bytes images layouts config) r
   report_settles {s0} {s1} {core} {contains} {k} {r} h core_is same tested says =
       known_reports bytes images layouts config d accepted dumped s0 contains k same tested says s1 r
-      (subst (λ x. Reporting (IsTrialBy (byte_at s0.pieces) layouts k) (λ f. AfterImages (byte_at s0.pieces) (machine_of x) contains layouts k (Ok f)) contains config s0 s1
+      (subst (λ x. Reporting k (IsTrialBy (byte_at s0.pieces) layouts k) (λ f. AfterImages (byte_at s0.pieces) (machine_of x) contains layouts k (Ok f)) contains config s0 s1
       (λ m. Settles (AfterKnown x m contains layouts config k) r)) core_is h)
 
   pub report_counts : {s0 s1 : Seen} {core : List ℕ} {contains : ℕ → Bool} {k : Known} {Q : Memory → Type 0}
-      → Reporting (IsTrialBy (byte_at s0.pieces) layouts k) (λ f. AfterImages (byte_at s0.pieces) (machine_of core) contains layouts k (Ok f)) contains config s0 s1 Q
+      → Reporting k (IsTrialBy (byte_at s0.pieces) layouts k) (λ f. AfterImages (byte_at s0.pieces) (machine_of core) contains layouts k (Ok f)) contains config s0 s1 Q
       → core ≡ bytes → s0.pieces ≡ d.pieces → contains ≡ in_maps d.maps → Then (MapsSay d.maps) (ImagesSay images) (Ok k)
       → {file : List ℕ} {old new : ℕ} → bytes ≡ file → s0.reads ≡ old → s1.reads ≡ new → IsCounted file images layouts config old new
   report_counts {s0} {s1} {core} {contains} {k} {Q} h core_is same tested says {file} {old} {new} is from to =
       subst (λ bs. IsCounted bs images layouts config old new) is (subst (λ n. IsCounted bytes images layouts config old n) to (subst (λ n. IsCounted bytes images layouts config n s1.reads) from
       (known_counted bytes images layouts config d accepted dumped s0 contains k same tested says s1 Q
-      (subst (λ x. Reporting (IsTrialBy (byte_at s0.pieces) layouts k) (λ f. AfterImages (byte_at s0.pieces) (machine_of x) contains layouts k (Ok f)) contains config s0 s1 Q) core_is h))))
+      (subst (λ x. Reporting k (IsTrialBy (byte_at s0.pieces) layouts k) (λ f. AfterImages (byte_at s0.pieces) (machine_of x) contains layouts k (Ok f)) contains config s0 s1 Q) core_is h))))
 
   pub report_goods : {pieces : List Region} {core : List ℕ} {contains : ℕ → Bool} {k : Known} {Goal : Type 0}
       → ((f : Finding) → AfterImages (byte_at pieces) (machine_of core) contains layouts k (Ok f) → AsksNoOther config → fault_on (byte_at pieces) f config ≡ None → Goal)

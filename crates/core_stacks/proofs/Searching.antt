@@ -9,7 +9,7 @@ use Rattle.image_memory.specs.Images.{Pushed}
 use Rattle.image_memory.specs.Maps.{AreMaps, in_maps}
 use Rattle.image_memory.specs.declared.maps.CoreMapRange.{CoreMapRange}
 use Rattle.process_memory.specs.Memory.{Memory, Region, byte_at}
-use Rattle.process_memory.specs.Seen.{ReadingBelow, Seen}
+use Rattle.process_memory.specs.Seen.{ReadingOf, Seen}
 use Rattle.process_memory.proofs.Reading.{reading_gives, reading_here, reading_none, reading_then, reads_within}
 use Rattle.py_fields.specs.declared.layout.Layout.{Layout}
 use Rattle.py_version.specs.declared.version.Version.{Version}
@@ -17,6 +17,7 @@ use Rattle.py_stacks.specs.Interpreter.{threads_head}
 use Rattle.py_stacks.proofs.Candidates.{test_most}
 use Rattle.py_process.specs.Candidates.{candidate_cost, head_lies, search_bound, walk_bound}
 use Rattle.py_process.specs.Facts.{Known}
+use Rattle.py_process.specs.Sections.{IsSearched}
 use Rattle.py_process.specs.Findings.{AfterImages, AfterLayout, AfterVersion, Finding, IsChosen}
 use Rattle.py_process.specs.Programs.{ImagesSay, MapsSay}
 use Rattle.py_process.specs.Sources.{FirstTells, VersionIs, sources_of}
@@ -32,14 +33,14 @@ use Rattle.core_stacks.proofs.Steps.{images_fail, images_then, layout_then, maps
 use Rattle.core_stacks.proofs.Steps.{version_then}
 
 -- nothing is tried, and nothing was read
-pub untried : {IsTrialHere : Trial → Type 0} {contains : ℕ → Bool} {n : ℕ} {s : Seen} (Q : Memory → Type 0) → ((m : Memory) → Q m) → Trying IsTrialHere contains n s s Q
+pub untried : {k : Known} {IsTrialHere : Trial → Type 0} {contains : ℕ → Bool} {n : ℕ} {s : Seen} (Q : Memory → Type 0) → ((m : Memory) → Q m) → Trying k IsTrialHere contains n s s Q
 untried {n = n} {s = s} Q f = record { tried = None; is = tt; reading = reading_none (n + 0) s Q f }
 
 -- the layout that covers the version, and the search by it
 pub layout_tries : {s0 s1 : Seen} (machine : Machine) (contains : ℕ → Bool) (layouts : List Layout) (k : Known) (v : Version) (l : Layout) (r : Result Finding CoreError)
     → IsChosen layouts v l → ((other : Layout) → IsChosen layouts v other → other ≡ l)
-    → ReadingBelow (2 ^ 64) (search_bound contains k v l (byte_at s0.pieces) + 1) s0 s1 (λ m. Settles (AfterLayout m machine contains k v l) r)
-    → Trying (IsTrialAt layouts k v) contains 7 s0 s1 (λ m. Settles (AfterVersion m machine contains layouts k v) r)
+    → ReadingOf (IsSearched k) (search_bound contains k v l (byte_at s0.pieces) + 1) s0 s1 (λ m. Settles (AfterLayout m machine contains k v l) r)
+    → Trying k (IsTrialAt layouts k v) contains 7 s0 s1 (λ m. Settles (AfterVersion m machine contains layouts k v) r)
 unfolding search_bound
 layout_tries machine contains layouts k v l r chosen once reading = record {
   tried = Some (record { known = k; version = v; layout = l });
@@ -49,9 +50,9 @@ layout_tries machine contains layouts k v l r chosen once reading = record {
 
 -- the version, and the search by it
 pub version_tries : {s0 s1 s2 : Seen} (machine : Machine) (contains : ℕ → Bool) (layouts : List Layout) (k : Known) (v : Version) (r : Result Finding CoreError)
-    → ReadingBelow (2 ^ 64) 3 s0 s1 (λ m. FirstTells m (sources_of k) (Ok (Some v)))
-    → Trying (IsTrialAt layouts k v) contains 7 s1 s2 (λ m. Settles (AfterVersion m machine contains layouts k v) r)
-    → Trying (IsTrialBy (byte_at s0.pieces) layouts k) contains 10 s0 s2 (λ m. Settles (AfterImages m machine contains layouts k) r)
+    → ReadingOf (IsSearched k) 3 s0 s1 (λ m. FirstTells m (sources_of k) (Ok (Some v)))
+    → Trying k (IsTrialAt layouts k v) contains 7 s1 s2 (λ m. Settles (AfterVersion m machine contains layouts k v) r)
+    → Trying k (IsTrialBy (byte_at s0.pieces) layouts k) contains 10 s0 s2 (λ m. Settles (AfterImages m machine contains layouts k) r)
 version_tries {s0} {s1} machine contains layouts k v r told t =
     let same = ap (λ ps. cost_of (trial_cost contains (byte_at ps)) t.tried) told.pieces in
     record {
@@ -67,8 +68,8 @@ version_tries {s0} {s1} machine contains layouts k v r told t =
 
 -- or why there is none
 pub version_ends : {s0 s1 : Seen} (machine : Machine) (contains : ℕ → Bool) (layouts : List Layout) (k : Known) (e : VersionError) (error : CoreError) (r : Result Finding CoreError)
-    → error ≡ cause_of_version e → ReadingBelow (2 ^ 64) 3 s0 s1 (λ m. VersionIs m (sources_of k) (Err e)) → r ≡ Err error
-    → Trying (IsTrialBy (byte_at s0.pieces) layouts k) contains 10 s0 s1 (λ m. Settles (AfterImages m machine contains layouts k) r)
+    → error ≡ cause_of_version e → ReadingOf (IsSearched k) 3 s0 s1 (λ m. VersionIs m (sources_of k) (Err e)) → r ≡ Err error
+    → Trying k (IsTrialBy (byte_at s0.pieces) layouts k) contains 10 s0 s1 (λ m. Settles (AfterImages m machine contains layouts k) r)
 version_ends machine contains layouts k e error r cause told is = record {
   tried = None;
   is = tt;

@@ -4,7 +4,8 @@ use Rattle.std.specs.Prelude.{None, Result, Ok, Err}
 use Rattle.process_memory.specs.Layers.{plain}
 use Rattle.process_memory.specs.Memory.{Memory, Region, byte_at}
 use Rattle.process_memory.proofs.Reading.{reading_here}
-use Rattle.process_memory.specs.Seen.{Reading, ReadingBelow, Seen}
+use Rattle.process_memory.specs.declared.memory.Span.{Span}
+use Rattle.process_memory.specs.Seen.{Reading, ReadingOf, Seen}
 use Rattle.process_memory.specs.Faults.{IsFirst}
 use Rattle.py_stacks.specs.StackError.{stack_fault}
 use Rattle.py_stacks.specs.StacksOver.{AreStacksOver}
@@ -18,15 +19,15 @@ use Rattle.py_process.specs.declared.core_error.CoreError.{CoreError}
 use Rattle.py_process.proofs.StackCauses.{stack_fails}
 
 -- another count of the reads, and what follows from two facts
-pub reading_both : {limit n k j : ℕ} {s0 s1 : Seen} {P Q : Memory → Type 0} (R : Memory → Type 0) → ReadingBelow limit n s0 s1 P → ReadingBelow limit k s0 s1 Q
-    → s1.reads ≤ s0.reads + j → ((m : Memory) → P m → Q m → R m) → ReadingBelow limit j s0 s1 R
+pub reading_both : {allowed : Memory → Span → Type 0} {n k j : ℕ} {s0 s1 : Seen} {P Q : Memory → Type 0} (R : Memory → Type 0) → ReadingOf allowed n s0 s1 P → ReadingOf allowed k s0 s1 Q
+    → s1.reads ≤ s0.reads + j → ((m : Memory) → P m → Q m → R m) → ReadingOf allowed j s0 s1 R
 reading_both R p q cost f = record {
   pieces = p.pieces;
   counter = p.counter;
   memory = p.memory;
   ranges = p.ranges;
   here = p.here;
-  short = p.short;
+  only = p.only;
   cost = cost;
   holds = λ m c. f m (p.holds m c) (q.holds m c);
 }
@@ -45,13 +46,13 @@ module _ {n j : ℕ} {s0 s1 : Seen} (f : Finding) (config : Config) (asks : Asks
       reading_both _ faults faults cost (λ m first again. stack_fails m m f config e error r asks refl cause first is)
 
 -- where the ranges aren't kept, a memory with the same bytes covers what was read
-pub over_same : {limit n : ℕ} {s0 s1 : Seen} {Q : Memory → Type 0} (pieces : List Region) (m : Memory) → s0 ≡ plain pieces
-    → ((a : ℕ) → m a ≡ byte_at pieces a) → ReadingBelow limit n s0 s1 Q → Q m
+pub over_same : {allowed : Memory → Span → Type 0} {n : ℕ} {s0 s1 : Seen} {Q : Memory → Type 0} (pieces : List Region) (m : Memory) → s0 ≡ plain pieces
+    → ((a : ℕ) → m a ≡ byte_at pieces a) → ReadingOf allowed n s0 s1 Q → Q m
 over_same pieces m from same r =
     let r' = rw from at r in
     r'.holds m (record { agrees = λ a b is. sym (same a) ∙ is; holds = λ a some. rw (same a) some })
 
 -- what is read of a memory is right over it
-pub over_this : {limit n : ℕ} {s0 s1 : Seen} {Q : Memory → Type 0} (pieces : List Region) → s0.pieces ≡ pieces
-    → ReadingBelow limit n s0 s1 Q → Q (byte_at pieces)
+pub over_this : {allowed : Memory → Span → Type 0} {n : ℕ} {s0 s1 : Seen} {Q : Memory → Type 0} (pieces : List Region) → s0.pieces ≡ pieces
+    → ReadingOf allowed n s0 s1 Q → Q (byte_at pieces)
 over_this {Q = Q} pieces same r = subst (λ ps. Q (byte_at ps)) same (reading_here r)

@@ -5,7 +5,7 @@ use Rattle.image_memory.specs.Images.{Pushed}
 use Rattle.image_memory.specs.Maps.{in_maps}
 use Rattle.image_memory.specs.declared.maps.CoreMapRange.{CoreMapRange}
 use Rattle.process_memory.specs.Memory.{Memory, byte_at}
-use Rattle.process_memory.specs.Seen.{ReadingBelow, Seen}
+use Rattle.process_memory.specs.Seen.{ReadingOf, Seen}
 use Rattle.py_fields.specs.declared.layout.Layout.{Layout}
 use Rattle.py_version.specs.declared.version.Version.{Version}
 use Rattle.py_stacks.specs.declared.config.Config.{Config}
@@ -18,6 +18,7 @@ use Rattle.py_process.specs.Facts.{Known}
 use Rattle.py_process.specs.Findings.{AfterImages, Finding, IsChosen, IsFound}
 use Rattle.py_process.specs.Programs.{ArePrograms, IsKnown, Programs}
 use Rattle.py_process.specs.Reports.{Dumped, IsDumped, IsTold, Reported, StacksSay, memory_in}
+use Rattle.py_process.specs.Sections.{IsSearched}
 use Rattle.py_process.specs.Steps.{Then}
 use Rattle.py_process.specs.Sources.{FirstTells, sources_of}
 use Rattle.py_process.specs.declared.core_error.CoreError.{CoreError}
@@ -57,13 +58,13 @@ cost_of cost (Some x) = cost x
 abbrev pub trial_cost : (ℕ → Bool) → Memory → Trial → ℕ
 trial_cost contains m t = search_cost contains t.layout m (candidates_of t.known t.version t.layout m)
 
--- what a search owes: it makes at most `n` reads, of which a section's is one, and those of the candidates that it
--- tries, and `Q` holds of every memory that covers them
-pub record Trying (IsTrialHere : Trial → Type 0) (contains : ℕ → Bool) (n : ℕ) (old new : Seen)
+-- what a search owes by what is known of a process: it makes at most `n` reads and those of the candidates that it
+-- tries, each of fewer than 65536 bytes or of exactly a section, and `Q` holds of every memory that covers them
+pub record Trying (k : Known) (IsTrialHere : Trial → Type 0) (contains : ℕ → Bool) (n : ℕ) (old new : Seen)
     (Q : Memory → Type 0) : Type 0 where
   pub tried : Option Trial
   pub is : IfSome tried IsTrialHere
-  pub reading : ReadingBelow (2 ^ 64) (n + cost_of (trial_cost contains (byte_at old.pieces)) tried) old new Q
+  pub reading : ReadingOf (IsSearched k) (n + cost_of (trial_cost contains (byte_at old.pieces)) tried) old new Q
 
 -- the reads of the stacks of what was found beside the 13 that each takes: 2 for each thread that is met, 9 for each
 -- member, 4 for each variable, 8 for each visit of a value, and 12 for each slot
@@ -75,16 +76,17 @@ finding_cost c m f =
     + 8 * values_met c f.layout m f.addresses.lock f.addresses.interpreter
     + 12 * slots_named (asked_of c) f.layout m f.addresses.lock f.addresses.interpreter
 
--- what a report over a memory owes: it makes at most 10 reads for the search and 13 for the stacks, those of the
--- candidates that it tries and of the stacks of what it found, and `Q` holds of every memory that covers them
-pub record Reporting (IsTrialHere : Trial → Type 0) (IsFoundHere : Finding → Type 0) (contains : ℕ → Bool)
+-- what a report over a memory owes by what is known of its process: it makes at most 10 reads for the search and 13
+-- for the stacks, those of the candidates that it tries and of the stacks of what it found, each of fewer than 65536
+-- bytes or of exactly a section, and `Q` holds of every memory that covers them
+pub record Reporting (k : Known) (IsTrialHere : Trial → Type 0) (IsFoundHere : Finding → Type 0) (contains : ℕ → Bool)
     (config : Config)
     (old new : Seen) (Q : Memory → Type 0) : Type 0 where
   pub tried : Option Trial
   pub is_tried : IfSome tried IsTrialHere
   pub found : Option Finding
   pub is_found : IfSome found IsFoundHere
-  pub reading : ReadingBelow (2 ^ 64) (10 + 13 + (cost_of (trial_cost contains (byte_at old.pieces)) tried
+  pub reading : ReadingOf (IsSearched k) (10 + 13 + (cost_of (trial_cost contains (byte_at old.pieces)) tried
       + cost_of (finding_cost config (byte_at old.pieces)) found)) old new Q
 
 -- the report of what is known of a process, or the first cause: of the search, of the stacks

@@ -1,8 +1,8 @@
 //! What is found of a Python process, by the memory, the maps and the images.
-ghost use Rattle.std.specs.Prelude.{◌^◌, IfOk, option_map};
+ghost use Rattle.std.specs.Prelude.{IfOk, option_map};
 ghost use Rattle.image_memory.specs.Backed.{IsBackedMemory, regions_of};
 ghost use Rattle.process_memory.specs.Memory.{byte_at};
-ghost use Rattle.process_memory.specs.Seen.{ReadingBelow};
+ghost use Rattle.process_memory.specs.Seen.{Reading};
 ghost use Rattle.py_fields.specs.Sound.{IsSound};
 ghost use Rattle.py_process.specs.Facts.{facts_of, known_of};
 ghost use Rattle.py_process.specs.Findings.{AfterImages, LockSays};
@@ -33,7 +33,7 @@ fn find_lock<M: ContainsAddr, P: ProcessMemory>(
     layout: &Layout,
 ) -> Result<u64, CoreError>
     requires { IsSound layout.now }
-    ensures { ReadingBelow (2 ^ 64) 1 (P.seen process.old) (P.seen process.new)
+    ensures { Reading 1 (P.seen process.old) (P.seen process.new)
         (λ m. LockSays m machine (known_of info.now) version.now layout.now interpreter result) }
 {
     let config = Config::default();
@@ -64,7 +64,8 @@ pub(crate) fn find_process<M: ContainsAddr, P: ProcessMemory>(
     machine: Machine,
     layouts: &Layouts,
 ) -> Result<Found, CoreError>
-    ensures settles { Trying (IsTrialBy (byte_at (P.seen process.old).pieces) layouts.now (known_of info.now))
+    ensures settles { Trying (known_of info.now)
+        (IsTrialBy (byte_at (P.seen process.old).pieces) layouts.now (known_of info.now))
         (M.contains info.now.maps) 10 (P.seen process.old) (P.seen process.new)
         (λ m. Settles (AfterImages m machine (M.contains info.now.maps) layouts.now (known_of info.now))
         (finding_in result)) }

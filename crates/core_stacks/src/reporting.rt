@@ -66,7 +66,8 @@ pub fn report_over<M: ContainsAddr, P: ProcessMemory>(
     config: &Config,
 ) -> Result<Report, CoreError>
     requires notes { NotesTell core.now notes.signal notes.process }
-    ensures reports { Reporting (IsTrialBy (byte_at (P.seen process.old).pieces) layouts.now (known_of info.now))
+    ensures reports { Reporting (known_of info.now)
+        (IsTrialBy (byte_at (P.seen process.old).pieces) layouts.now (known_of info.now))
         (λ finding. AfterImages (byte_at (P.seen process.old).pieces) (machine_of core.now) (M.contains info.now.maps)
         layouts.now (known_of info.now) (Ok finding))
         (M.contains info.now.maps) config.now (P.seen process.old) (P.seen process.new)

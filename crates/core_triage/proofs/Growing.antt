@@ -14,14 +14,14 @@ use Rattle.core_triage.specs.Groups.{places_from, firsts_after, groups_of}
 -- ---- one more element
 
 -- one place, or none
-abbrev at_most : Bool → ℕ → List ℕ
+abbrev pub at_most : Bool → ℕ → List ℕ
 at_most b n = if b then (n ∷ []) else []
 
 in_turn : (b : Bool) (n : ℕ) (xs ys : List ℕ) → (if b then (n ∷ (xs ++ ys)) else (xs ++ ys)) ≡ (if b then (n ∷ xs) else xs) ++ ys
 in_turn true n xs ys = refl
 in_turn false n xs ys = refl
 
-moved : (a b c : Bool) → ((a || b) || c) ≡ (b || (a || c))
+pub moved : (a b c : Bool) → ((a || b) || c) ≡ (b || (a || c))
 moved true true c = refl
 moved true false c = refl
 moved false true c = refl
@@ -63,7 +63,7 @@ suc_if false n = refl
 
 module _ {K : Type 0} where
   -- the places of a longer list
-  places_push : (passes : K → Bool) (at : ℕ) (xs : List K) (x : K)
+  pub places_push : (passes : K → Bool) (at : ℕ) (xs : List K) (x : K)
       → places_from passes at (xs ++ x ∷ []) ≡ places_from passes at xs ++ at_most (passes x) (at + length xs)
   places_push passes at [] x = ap (at_most (passes x)) (omega arith)
   places_push passes at (y ∷ ys) x =
@@ -74,7 +74,7 @@ module _ {K : Type 0} where
   abbrev one_if_not : Bool → K → List K
   one_if_not b x = if b then [] else (x ∷ [])
 
-  abbrev again : (K → K → Bool) → List K → List K → K → Bool
+  abbrev pub again : (K → K → Bool) → List K → List K → K → Bool
   again same before xs x = list_any (same x) before || list_any (same x) (firsts_after same before xs)
 
   firsts_push : (same : K → K → Bool) (before xs : List K) (x : K)
@@ -169,7 +169,7 @@ module _ {K : Type 0} {same : K → K → Bool} (laws : IsEquivalence same) wher
       ∙ ap (λ r. h f ∷ r) (unmoved h x p fs (or_second (same x f) (list_any (same x) fs) none))
 
   -- of elements that are apart the one that is the same as x gains it
-  rest_apart : (x f : K) (fs : List K) → same x f ≡ true → AllByRecursion (λ g. same f g ≡ false) fs → list_any (same x) fs ≡ false
+  pub rest_apart : (x f : K) (fs : List K) → same x f ≡ true → AllByRecursion (λ g. same f g ≡ false) fs → list_any (same x) fs ≡ false
   rest_apart x f [] e all = refl
   rest_apart x f (g ∷ gs) e all = ap (λ b. b || list_any (same x) gs) (laws.congr x f g e ∙ all.0) ∙ rest_apart x f gs e all.1
 
@@ -198,7 +198,7 @@ module _ {K : Type 0} {same : K → K → Bool} (laws : IsEquivalence same) wher
   no_place_first at y ys x e = ap (λ b. if b then (at ∷ places_from (same x) (at + 1) ys) else places_from (same x) (at + 1) ys) e
 
   -- elements that aren't the same as x, neither those before nor those of the list, have no place of it
-  no_places : (before : List K) (at : ℕ) (xs : List K) (x : K) → again same before xs x ≡ false → places_from (same x) at xs ≡ []
+  pub no_places : (before : List K) (at : ℕ) (xs : List K) (x : K) → again same before xs x ≡ false → places_from (same x) at xs ≡ []
   no_places before at [] x none = refl
   no_places before at (y ∷ ys) x none = elim (cases_Bool (list_any (same y) before)) [
     | inl old ↦

@@ -1,2 +1,3 @@
+pub mod Groupings
 pub mod Growing
 pub mod Keys

@@ -14,7 +14,7 @@ pub struct FrameKey {
     pub name: Text,
     /// The file's name.
     pub filename: Text,
-    /// The line, from 1 on; 0 where none is known.
+    /// The line, as the frame has it.
     pub line: i32,
 }
 

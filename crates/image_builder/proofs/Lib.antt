@@ -13,6 +13,7 @@ pub mod NotesBack
 pub mod CoreBack
 pub mod ImageBack
 pub mod Numbers
+pub mod ToldVersions
 pub mod WordsBack
 pub mod MemoryBack
 pub mod OwnerBack

@@ -1,12 +1,13 @@
 -- The number of a version tells that version.
 use Rattle.std.proofs.Common.{◌≡◌, ◌∙◌, ℕ, ◌+◌, ◌*◌, ◌/◌, ◌%◌, ◌<◌, ◌≤◌, ◌^◌, List, ap, refl, sym, inl, inr, arith}
-use Rattle.std.specs.Prelude.{codes, ◌++◌}
+use Rattle.std.specs.Prelude.{codes, replicate, ◌++◌}
 use Rattle.std.specs.Fmt.{decimal}
 use Rattle.std.specs.Option.{unwrap_or}
 use Rattle.py_version.specs.declared.version.Version.{Version}
 use Rattle.py_process.specs.Sources.{flags_of, version_of_number}
-use Rattle.image_builder.specs.Covered.{IsNumberOf, IsNumbered, IsPreFinal, IsReleaseByte, number_of}
-use Rattle.image_builder.proofs.Releases.{is_found}
+use Rattle.image_builder.specs.Covered.{IsNumberOf, IsNumbered, IsPreFinal, IsReleaseByte, number_of, plain_flags}
+use Rattle.image_builder.specs.Covered.{told_version}
+use Rattle.image_builder.proofs.Releases.{is_found, plain_number}
 
 pub number_is : (v : Version) → IsNumbered v → IsNumberOf v (number_of v)
 unfolding number_of
@@ -28,25 +29,29 @@ byte_small flags byte (inr (inr (inr h))) = omega (arith, h.byte_is, h.small)
 -- a level and a serial number
 pre_told : (letters : List ℕ) (level n : ℕ) (flags : List ℕ) (byte : ℕ)
     → ((serial : ℕ) → flags_of level serial ≡ letters ++ decimal serial) → IsPreFinal letters level flags byte
-    → n / 2 ^ 4 % 16 ≡ byte / 16 → n % 16 ≡ byte % 16 → level < 16 → flags_of (n / 2 ^ 4 % 16) (n % 16) ≡ flags
-pre_told letters level n flags byte told h high low small =
+    → n / 2 ^ 4 % 16 ≡ byte / 16 → n % 16 ≡ byte % 16 → level < 16
+    → ((xs : List ℕ) → plain_flags (letters ++ xs) ≡ letters ++ plain_flags xs)
+    → flags_of (n / 2 ^ 4 % 16) (n % 16) ≡ plain_flags flags
+pre_told letters level n flags byte told h high low small past =
     let level_is : n / 2 ^ 4 % 16 ≡ level = omega (arith, high, h.byte_is, h.small) in
     let serial_is : n % 16 ≡ h.serial = omega (arith, low, h.byte_is, h.small) in
-    ap (λ l. flags_of l (n % 16)) level_is ∙ ap (flags_of level) serial_is ∙ told h.serial ∙ sym h.flags_are
+    ap (λ l. flags_of l (n % 16)) level_is ∙ ap (flags_of level) serial_is ∙ told h.serial
+    ∙ sym (ap (λ xs. letters ++ xs) (plain_number h.zeros h.serial h.small))
+    ∙ sym (past (replicate h.zeros 48 ++ decimal h.serial)) ∙ sym (ap plain_flags h.flags_are)
 
 flags_told : (n : ℕ) (flags : List ℕ) (byte : ℕ) → IsReleaseByte flags byte → n / 2 ^ 4 % 16 ≡ byte / 16
-    → n % 16 ≡ byte % 16 → flags_of (n / 2 ^ 4 % 16) (n % 16) ≡ flags
+    → n % 16 ≡ byte % 16 → flags_of (n / 2 ^ 4 % 16) (n % 16) ≡ plain_flags flags
 flags_told n flags byte (inl h) high low =
     let level_is : n / 2 ^ 4 % 16 ≡ 15 = omega (arith, high, h.1) in
-    ap (λ l. flags_of l (n % 16)) level_is ∙ sym h.0
+    ap (λ l. flags_of l (n % 16)) level_is ∙ sym (ap plain_flags h.0)
 flags_told n flags byte (inr (inl h)) high low = pre_told (codes "a") 10 n flags byte (λ s. refl) h high low
-    (omega arith)
+    (omega arith) (λ xs. refl)
 flags_told n flags byte (inr (inr (inl h))) high low = pre_told (codes "b") 11 n flags byte (λ s. refl) h high low
-    (omega arith)
+    (omega arith) (λ xs. refl)
 flags_told n flags byte (inr (inr (inr h))) high low = pre_told (codes "rc") 12 n flags byte (λ s. refl) h high low
-    (omega arith)
+    (omega arith) (λ xs. refl)
 
-pub version_told : (v : Version) (n : ℕ) → IsNumbered v → IsNumberOf v n → version_of_number n ≡ v
+pub version_told : (v : Version) (n : ℕ) → IsNumbered v → IsNumberOf v n → version_of_number n ≡ told_version v
 unfolding version_of_number
 version_told v n is h =
     let byte = h.byte in

@@ -2,7 +2,8 @@
 use Rattle.std.proofs.Common.{◌≡◌, ◌∙◌, ◌+◌, ◌-◌, ◌*◌, ◌<◌, ◌≤◌, ℕ, zero, suc, Bool, true, false, List, [], ◌∷◌, ◌++◌}
 use Rattle.std.proofs.Common.{refl, sym, ap, inl, inr, arith}
 use Rattle.std.specs.Prelude.{Option, Some, None, MatchOption, IsTrue, ◌↔◌, codes, if◌then◌else◌, ◌&&◌, ◌==◌}
-use Rattle.std.specs.Prelude.{option_map, encode_utf8_all, ◌⊎◌}
+use Rattle.std.specs.Prelude.{option_map, encode_utf8_all, replicate, ◌⊎◌}
+use Rattle.std.specs.Char.{is_ascii_digit}
 use Rattle.std.specs.Option.{is_some}
 use Rattle.std.specs.Fmt.{decimal, digits}
 use Rattle.std.specs.Int.{is_in_range}
@@ -14,30 +15,72 @@ use Rattle.std.proofs.lemmas.Option.{same_Some}
 use Rattle.std.proofs.lemmas.Str.{encodes_same, encodes-IsAscii, IsAscii-append}
 use Rattle.std.proofs.lemmas.Str.Ascii.{IsAscii-cons, IsAscii-nil}
 use Rattle.image_builder.specs.Covered.{HasReleaseByte, IsPreFinal, IsReleaseByte, byte_behind, candidate_byte}
-use Rattle.image_builder.specs.Covered.{release_byte, serial_of}
+use Rattle.image_builder.specs.Covered.{plain_digits, plain_flags, release_byte, serial_of, short_serial}
 
 -- ---- serial numbers
 
-serial_small : (n : ℕ) → n < 16 → serial_of (decimal n) ≡ Some n
+-- how a serial number is written: by a first digit and others, which have no zeros in front
+abbrev Written : ℕ → Type 0
+Written n = (d : ℕ) × (ds : List ℕ) × (decimal n ≡ d ∷ ds) × (is_ascii_digit d ≡ true) × (plain_digits (d ∷ ds) ≡ d ∷ ds)
+    × (short_serial (d ∷ ds) ≡ Some n)
+
+written : (n : ℕ) → n < 16 → Written n
 unfolding digits
-serial_small zero h = refl
-serial_small (suc zero) h = refl
-serial_small (suc (suc zero)) h = refl
-serial_small (suc (suc (suc zero))) h = refl
-serial_small (suc (suc (suc (suc zero)))) h = refl
-serial_small (suc (suc (suc (suc (suc zero))))) h = refl
-serial_small (suc (suc (suc (suc (suc (suc zero)))))) h = refl
-serial_small (suc (suc (suc (suc (suc (suc (suc zero))))))) h = refl
-serial_small (suc (suc (suc (suc (suc (suc (suc (suc zero)))))))) h = refl
-serial_small (suc (suc (suc (suc (suc (suc (suc (suc (suc zero))))))))) h = refl
-serial_small (suc (suc (suc (suc (suc (suc (suc (suc (suc (suc zero)))))))))) h = refl
-serial_small (suc (suc (suc (suc (suc (suc (suc (suc (suc (suc (suc zero))))))))))) h = refl
-serial_small (suc (suc (suc (suc (suc (suc (suc (suc (suc (suc (suc (suc zero)))))))))))) h = refl
-serial_small (suc (suc (suc (suc (suc (suc (suc (suc (suc (suc (suc (suc (suc zero))))))))))))) h = refl
-serial_small (suc (suc (suc (suc (suc (suc (suc (suc (suc (suc (suc (suc (suc (suc zero)))))))))))))) h = refl
-serial_small (suc (suc (suc (suc (suc (suc (suc (suc (suc (suc (suc (suc (suc (suc (suc zero))))))))))))))) h = refl
-serial_small (suc (suc (suc (suc (suc (suc (suc (suc (suc (suc (suc (suc (suc (suc (suc (suc k)))))))))))))))) h =
+written zero h = (48, [], refl, refl, refl, refl)
+written (suc zero) h = (49, [], refl, refl, refl, refl)
+written (suc (suc zero)) h = (50, [], refl, refl, refl, refl)
+written (suc (suc (suc zero))) h = (51, [], refl, refl, refl, refl)
+written (suc (suc (suc (suc zero)))) h = (52, [], refl, refl, refl, refl)
+written (suc (suc (suc (suc (suc zero))))) h = (53, [], refl, refl, refl, refl)
+written (suc (suc (suc (suc (suc (suc zero)))))) h = (54, [], refl, refl, refl, refl)
+written (suc (suc (suc (suc (suc (suc (suc zero))))))) h = (55, [], refl, refl, refl, refl)
+written (suc (suc (suc (suc (suc (suc (suc (suc zero)))))))) h = (56, [], refl, refl, refl, refl)
+written (suc (suc (suc (suc (suc (suc (suc (suc (suc zero))))))))) h = (57, [], refl, refl, refl, refl)
+written (suc (suc (suc (suc (suc (suc (suc (suc (suc (suc zero)))))))))) h = (49, (48 ∷ []), refl, refl, refl, refl)
+written (suc (suc (suc (suc (suc (suc (suc (suc (suc (suc (suc zero))))))))))) h = (49, (49 ∷ []), refl, refl, refl, refl)
+written (suc (suc (suc (suc (suc (suc (suc (suc (suc (suc (suc (suc zero)))))))))))) h = (49, (50 ∷ []), refl, refl, refl, refl)
+written (suc (suc (suc (suc (suc (suc (suc (suc (suc (suc (suc (suc (suc zero))))))))))))) h = (49, (51 ∷ []), refl, refl, refl, refl)
+written (suc (suc (suc (suc (suc (suc (suc (suc (suc (suc (suc (suc (suc (suc zero)))))))))))))) h = (49, (52 ∷ []), refl, refl, refl, refl)
+written (suc (suc (suc (suc (suc (suc (suc (suc (suc (suc (suc (suc (suc (suc (suc zero))))))))))))))) h = (49, (53 ∷ []), refl, refl, refl, refl)
+written (suc (suc (suc (suc (suc (suc (suc (suc (suc (suc (suc (suc (suc (suc (suc (suc k)))))))))))))))) h =
     absurd (omega (arith, h))
+
+-- zeros in front are dropped
+zeros_dropped : (k d : ℕ) (ds : List ℕ) → plain_digits (replicate k 48 ++ (d ∷ ds)) ≡ plain_digits (d ∷ ds)
+zeros_dropped zero d ds = refl
+zeros_dropped (suc zero) d ds = refl
+zeros_dropped (suc (suc k)) d ds = zeros_dropped (suc k) d ds
+
+pub plain_serial : (k n : ℕ) → n < 16 → plain_digits (replicate k 48 ++ decimal n) ≡ decimal n
+plain_serial k n small =
+    let (d, ds, is, digit, plain, serial) = written n small in
+    ap (λ xs. plain_digits (replicate k 48 ++ xs)) is ∙ zeros_dropped k d ds ∙ plain ∙ sym is
+
+serial_small : (k n : ℕ) → n < 16 → serial_of (replicate k 48 ++ decimal n) ≡ Some n
+serial_small k n small =
+    let (d, ds, is, digit, plain, serial) = written n small in
+    ap short_serial (plain_serial k n small ∙ is) ∙ serial
+
+-- where flags come to a digit the zeros in front are dropped
+at_digit : (c : ℕ) (rest : List ℕ) → is_ascii_digit c ≡ true → plain_flags (c ∷ rest) ≡ plain_digits (c ∷ rest)
+at_digit c rest is = ap (λ b. if b then plain_digits (c ∷ rest) else (c ∷ plain_flags rest)) is
+
+pub plain_number : (k n : ℕ) → n < 16 → plain_flags (replicate k 48 ++ decimal n) ≡ decimal n
+plain_number zero n small =
+    let (d, ds, is, digit, plain, serial) = written n small in
+    ap plain_flags is ∙ at_digit d ds digit ∙ plain ∙ sym is
+plain_number (suc k) n small = at_digit 48 (replicate k 48 ++ decimal n) refl ∙ plain_serial (suc k) n small
+
+-- digits are zeros and what is left without them
+zeros_split : (ds : List ℕ) → (k : ℕ) × (ds ≡ replicate k 48 ++ plain_digits ds)
+zeros_split [] = (0, refl)
+zeros_split (d ∷ []) = (0, refl)
+zeros_split (d ∷ e ∷ rest) = by_test (d == 48) refl (zeros_split (e ∷ rest))
+  where
+    by_test : (b : Bool) → (d == 48) ≡ b → (k : ℕ) × (e ∷ rest ≡ replicate k 48 ++ plain_digits (e ∷ rest))
+        → (k : ℕ) × (d ∷ e ∷ rest ≡ replicate k 48 ++ (if b then plain_digits (e ∷ rest) else (d ∷ e ∷ rest)))
+    by_test true is (k, split) = (suc k, ap (λ x. x ∷ e ∷ rest) ((Decides-eqb d 48).0 is) ∙ ap (λ xs. 48 ∷ xs) split)
+    by_test false is more = (0, refl)
 
 teen : (k : ℕ) → k ≤ 5 → decimal (10 + k) ≡ 49 ∷ (48 + k) ∷ []
 unfolding digits
@@ -80,12 +123,18 @@ two_digit tens ones n is value =
           ∙ sym (decimal_teen n (omega arith) (omega arith)),
     )
 
-serial_back : (ds : List ℕ) (n : ℕ) → serial_of ds ≡ Some n → (n < 16) × (ds ≡ decimal n)
-serial_back [] n e = absurd (cc)
-serial_back (ones ∷ []) n e = let p = chose (is_in_range 48 57 ones) (ones - 48) n e in one_digit ones n p.0 p.1
-serial_back (tens ∷ ones ∷ []) n e = let p = chose (tens == 49 && is_in_range 48 53 ones) (ones - 38) n e in
+short_back : (ds : List ℕ) (n : ℕ) → short_serial ds ≡ Some n → (n < 16) × (ds ≡ decimal n)
+short_back [] n e = absurd (cc)
+short_back (ones ∷ []) n e = let p = chose (is_in_range 48 57 ones) (ones - 48) n e in one_digit ones n p.0 p.1
+short_back (tens ∷ ones ∷ []) n e = let p = chose (tens == 49 && is_in_range 48 53 ones) (ones - 38) n e in
     two_digit tens ones n p.0 p.1
-serial_back (a ∷ b ∷ c ∷ rest) n e = absurd (cc)
+short_back (a ∷ b ∷ c ∷ rest) n e = absurd (cc)
+
+serial_back : (ds : List ℕ) (n : ℕ) → serial_of ds ≡ Some n → (n < 16) × (k : ℕ) × (ds ≡ replicate k 48 ++ decimal n)
+serial_back ds n e =
+    let (small, is) = short_back (plain_digits ds) n e in
+    let (k, split) = zeros_split ds in
+    (small, k, split ∙ ap (λ xs. replicate k 48 ++ xs) is)
 
 -- ---- letters and a serial number
 
@@ -98,7 +147,8 @@ behind_back level ds byte (Some n) is e letters flags are =
     record {
       serial = n;
       small = p.0;
-      flags_are = are ∙ ap (λ xs. letters ++ xs) p.1;
+      zeros = p.1;
+      flags_are = are ∙ ap (λ xs. letters ++ xs) p.2;
       byte_is =
           sym (same_Some (16 * level + n) byte e);
     }
@@ -138,16 +188,16 @@ found_is (c ∷ rest) byte e =
         ]
 
 -- what is written so is found
-behind_found : (level serial byte : ℕ) → serial < 16 → byte ≡ 16 * level + serial
-    → byte_behind level (decimal serial) ≡ Some byte
-behind_found level serial byte small is =
-    ap (option_map (λ n. 16 * level + n)) (serial_small serial small) ∙ ap (λ n. Some n) (sym is)
+behind_found : (level serial zeros byte : ℕ) → serial < 16 → byte ≡ 16 * level + serial
+    → byte_behind level (replicate zeros 48 ++ decimal serial) ≡ Some byte
+behind_found level serial zeros byte small is =
+    ap (option_map (λ n. 16 * level + n)) (serial_small zeros serial small) ∙ ap (λ n. Some n) (sym is)
 
 pub is_found : (flags : List ℕ) (byte : ℕ) → IsReleaseByte flags byte → release_byte flags ≡ Some byte
 is_found flags byte (inl final) = ap release_byte final.0 ∙ ap (λ n. Some n) (sym final.1)
-is_found flags byte (inr (inl h)) = ap release_byte h.flags_are ∙ behind_found 10 h.serial byte h.small h.byte_is
-is_found flags byte (inr (inr (inl h))) = ap release_byte h.flags_are ∙ behind_found 11 h.serial byte h.small h.byte_is
-is_found flags byte (inr (inr (inr h))) = ap release_byte h.flags_are ∙ behind_found 12 h.serial byte h.small h.byte_is
+is_found flags byte (inr (inl h)) = ap release_byte h.flags_are ∙ behind_found 10 h.serial h.zeros byte h.small h.byte_is
+is_found flags byte (inr (inr (inl h))) = ap release_byte h.flags_are ∙ behind_found 11 h.serial h.zeros byte h.small h.byte_is
+is_found flags byte (inr (inr (inr h))) = ap release_byte h.flags_are ∙ behind_found 12 h.serial h.zeros byte h.small h.byte_is
 
 -- ---- characters and bytes
 
@@ -157,9 +207,14 @@ same_ascii flags bytes xs is ascii e = encodes_same flags xs (sym is ∙ e ∙ s
 ascii_same : (flags bytes xs : List ℕ) → bytes ≡ encode_utf8_all flags → IsAscii xs → flags ≡ xs → bytes ≡ xs
 ascii_same flags bytes xs is ascii e = is ∙ ap encode_utf8_all e ∙ encodes-IsAscii xs ascii
 
-behind_ascii : (letters : List ℕ) (serial : ℕ) → IsAscii letters → serial < 16 → IsAscii (letters ++ decimal serial)
-behind_ascii letters serial ascii small = IsAscii-append letters (decimal serial) ascii
-    (IsAscii-decimal serial (omega (arith, small)))
+zeros_ascii : (k : ℕ) → IsAscii (replicate k 48)
+zeros_ascii zero = IsAscii-nil
+zeros_ascii (suc k) = IsAscii-cons 48 (replicate k 48) (omega arith) (zeros_ascii k)
+
+behind_ascii : (letters : List ℕ) (zeros serial : ℕ) → IsAscii letters → serial < 16
+    → IsAscii (letters ++ (replicate zeros 48 ++ decimal serial))
+behind_ascii letters zeros serial ascii small = IsAscii-append letters (replicate zeros 48 ++ decimal serial) ascii
+    (IsAscii-append (replicate zeros 48) (decimal serial) (zeros_ascii zeros) (IsAscii-decimal serial (omega (arith, small))))
 
 a_ascii : IsAscii (codes "a")
 a_ascii = IsAscii-cons 97 [] (omega arith) IsAscii-nil
@@ -175,8 +230,9 @@ final_there : (letters : List ℕ) (level : ℕ) (flags bytes : List ℕ) (byte 
 final_there letters level flags bytes byte ascii is h = record {
   serial = h.serial;
   small = h.small;
-  flags_are = same_ascii flags bytes (letters ++ decimal h.serial) is
-      (behind_ascii letters h.serial ascii h.small) h.flags_are;
+  zeros = h.zeros;
+  flags_are = same_ascii flags bytes (letters ++ (replicate h.zeros 48 ++ decimal h.serial)) is
+      (behind_ascii letters h.zeros h.serial ascii h.small) h.flags_are;
   byte_is = h.byte_is;
 }
 
@@ -185,8 +241,9 @@ final_here : (letters : List ℕ) (level : ℕ) (flags bytes : List ℕ) (byte :
 final_here letters level flags bytes byte ascii is h = record {
   serial = h.serial;
   small = h.small;
-  flags_are = ascii_same flags bytes (letters ++ decimal h.serial) is
-      (behind_ascii letters h.serial ascii h.small) h.flags_are;
+  zeros = h.zeros;
+  flags_are = ascii_same flags bytes (letters ++ (replicate h.zeros 48 ++ decimal h.serial)) is
+      (behind_ascii letters h.zeros h.serial ascii h.small) h.flags_are;
   byte_is = h.byte_is;
 }
 

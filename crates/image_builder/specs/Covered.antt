@@ -1,7 +1,9 @@
 -- Which versions can be written for a layout. A process tells its version by CPython's number (PY_VERSION_HEX), whose
--- low byte has a release's level and serial number; so a version that no such number tells can't be written.
+-- low byte has a release's level and serial number; so a version that no such number tells can't be written. The number
+-- keeps no zeros that stand in front of a serial number, so the version that is told has none.
 use Rattle.std.specs.Prelude.{◌≡◌, ℕ, ◌+◌, ◌*◌, ◌-◌, ◌<◌, ◌≤◌, ◌⊎◌, ◌==◌, ◌&&◌, if◌then◌else◌, Option, Some, None}
-use Rattle.std.specs.Prelude.{option_map, IsSome, List, [], ◌∷◌, ◌++◌, codes}
+use Rattle.std.specs.Prelude.{option_map, IsSome, List, [], ◌∷◌, ◌++◌, codes, replicate}
+use Rattle.std.specs.Char.{is_ascii_digit}
 use Rattle.std.specs.Fmt.{decimal}
 use Rattle.std.specs.Option.{unwrap_or}
 use Rattle.std.specs.Int.{is_in_range}
@@ -14,12 +16,13 @@ use Rattle.py_fields.specs.Sound.{Covers}
 
 -- ---- the flags of a version
 
--- flags of a release that isn't final: letters, and a serial number below 16 as it is written; the byte has the
--- level in its high half and the serial number in its low half
+-- flags of a release that isn't final: letters, and a serial number below 16, perhaps with zeros in front; the byte has
+-- the level in its high half and the serial number in its low half
 pub record IsPreFinal (letters : List ℕ) (level : ℕ) (flags : List ℕ) (byte : ℕ) : Type 0 where
   pub serial : ℕ
   pub small : serial < 16
-  pub flags_are : flags ≡ letters ++ decimal serial
+  pub zeros : ℕ
+  pub flags_are : flags ≡ letters ++ (replicate zeros 48 ++ decimal serial)
   pub byte_is : byte ≡ 16 * level + serial
 
 -- the byte of flags: 0xF0 for a final release, which has none
@@ -31,14 +34,35 @@ IsReleaseByte flags byte = ((flags ≡ []) × (byte ≡ 0xF0))
 abbrev pub HasReleaseByte : List ℕ → Type 0
 HasReleaseByte flags = (byte : ℕ) × IsReleaseByte flags byte
 
+-- ---- the version that is told
+
+-- digits without the zeros in front of the last one
+abbrev pub plain_digits : List ℕ → List ℕ
+plain_digits [] = []
+plain_digits (d ∷ []) = d ∷ []
+plain_digits (d ∷ e ∷ rest) = if d == 48 then plain_digits (e ∷ rest) else (d ∷ e ∷ rest)
+
+-- flags without the zeros in front of their number
+abbrev pub plain_flags : List ℕ → List ℕ
+plain_flags [] = []
+plain_flags (c ∷ rest) = if is_ascii_digit c then plain_digits (c ∷ rest) else (c ∷ plain_flags rest)
+
+-- the version that a process tells of which this one is written: as it is, its flags without such zeros
+abbrev pub told_version : Version → Version
+told_version v = record v { release_flags = plain_flags v.release_flags }
+
 -- ---- how the byte is found
+
+-- a serial number below 16, with no zeros in front
+abbrev pub short_serial : List ℕ → Option ℕ
+short_serial [] = None
+short_serial (ones ∷ []) = if is_in_range 48 57 ones then Some (ones - 48) else None
+short_serial (tens ∷ ones ∷ []) = if tens == 49 && is_in_range 48 53 ones then Some (ones - 38) else None
+short_serial (a ∷ b ∷ c ∷ rest) = None
 
 -- a serial number below 16
 abbrev pub serial_of : List ℕ → Option ℕ
-serial_of [] = None
-serial_of (ones ∷ []) = if is_in_range 48 57 ones then Some (ones - 48) else None
-serial_of (tens ∷ ones ∷ []) = if tens == 49 && is_in_range 48 53 ones then Some (ones - 38) else None
-serial_of (a ∷ b ∷ c ∷ rest) = None
+serial_of digits = short_serial (plain_digits digits)
 
 -- behind the letters of a level
 abbrev pub byte_behind : ℕ → List ℕ → Option ℕ

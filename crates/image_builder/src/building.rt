@@ -26,7 +26,7 @@ ghost use Rattle.image_builder.specs.Built.{built_core, built_image, built_lock,
 ghost use Rattle.image_builder.specs.CoreFacts.{InEachMemory, built_maps, built_memory, built_process, built_programs};
 ghost use Rattle.image_builder.specs.CoreFacts.{built_status};
 ghost use Rattle.image_builder.specs.CoreFiles.{image_path as path_of_image};
-ghost use Rattle.image_builder.specs.Covered.{IsNumberOf};
+ghost use Rattle.image_builder.specs.Covered.{IsNumberOf, told_version};
 ghost use Rattle.image_builder.specs.ImageFacts.{image_facts, image_known};
 ghost use Rattle.image_builder.specs.Inverse.{FindsAlone, HasFramesOf, IsCoreOf, IsReadableAsAsked, IsReportOf};
 ghost use Rattle.image_builder.specs.Inverse.{image_alone};
@@ -84,12 +84,14 @@ fn lock_address(layout: &Layout, version: &Version, machine: Machine) -> u64
 /// The core is of a process that was ended by signal 6 and has the number 1, the name `python3` and the path
 /// `/usr/bin/python3` for its image. It has the image's 0x2000 bytes at 0x400000, the image's bss of 0x20000 bytes at
 /// 0x500000, and the program's objects from 0x600000 on, with the interpreter first. The words of the bss by which a
-/// reader finds the interpreter and the holder of the lock name them; the version's number stands at `Py_Version`.
+/// reader finds the interpreter and the holder of the lock name them; the version's number stands at `Py_Version`. It
+/// tells the version without zeros in front of a serial number: of `3.9.0a05` what is told and shown is `3.9.0a5`.
 ///
-/// Where the layout has room for the types of values, and for the word of the lock beside the runtime record's field,
-/// all that was built is read back from the core with the image under its path: the interpreter and the lock that a
-/// search finds are the built ones, a report is owed to each `Config` that asks for neither native frames nor those of
-/// other processes, and the one right report shows the program (`shown_report`), addresses of locals aside.
+/// Where the layout has room for the types of values (`has_room`), and for the word of the lock beside the runtime
+/// record's field (`has_word_room`), all that was built is read back from the core with the image under its path: the
+/// interpreter and the lock that a search finds are the built ones, a report is owed to each `Config` that asks for
+/// neither native frames nor those of other processes, and the one right report shows the program (`shown_report`),
+/// addresses of locals aside.
 ///
 /// `Uncovered`, `NotValid` and `NoRoom` come for the causes that `BuildError` names, in that order. Else the one error
 /// is want of memory. The files are written in one pass each.
@@ -125,20 +127,22 @@ pub fn build(
     ensures known { IfOk result (λ built. IsKnown ((built.image_path, whole_view built.image.items) ∷ [])
         built_programs image_known) }
     ensures version { IfOk result (λ _. (number : ℕ) → IsNumberOf version.now number
-        → version_of_number number ≡ version.now) }
+        → version_of_number number ≡ told_version version.now) }
     ensures told { IfOk result (λ built. InEachMemory built.core.items
-        (λ m. FirstTells m (sources_of image_known) (Ok (Some version.now)))) }
+        (λ m. FirstTells m (sources_of image_known) (Ok (Some (told_version version.now))))) }
     ensures head { HasWordRoom layout.now machine version.now → IfOk result (λ built. InEachMemory built.core.items
-        (λ m. head_by layout.now.head image_known version.now layout.now m ≡ built.interpreter ∷ [])) }
+        (λ m. head_by layout.now.head image_known (told_version version.now) layout.now m
+        ≡ built.interpreter ∷ [])) }
     ensures found { HasRoom layout.now → HasWordRoom layout.now machine version.now → IfOk result
         (λ built. InEachMemory built.core.items (λ m.
         IsFirstOf (in_maps (built_maps (length (built_objects layout.now (program_in program.now))))) layout.now m
-        (candidates_of image_known version.now layout.now m) built.interpreter)) }
+        (candidates_of image_known (told_version version.now) layout.now m) built.interpreter)) }
     ensures objects { IfOk result (λ built. InEachMemory built.core.items
         (λ m. Stands m built.interpreter (built_objects layout.now (program_in program.now)))) }
     ensures named { HasRoom layout.now → HasWordRoom layout.now machine version.now → IfOk result
         (λ built. InEachMemory built.core.items (λ m.
-        lock_address_of machine image_known version.now layout.now m built.interpreter ≡ Ok built.lock)) }
+        lock_address_of machine image_known (told_version version.now) layout.now m built.interpreter
+        ≡ Ok built.lock)) }
     ensures stacks { HasRoom layout.now → HasWordRoom layout.now machine version.now → IfOk result
         (λ built. InEachMemory built.core.items (λ m. (config : Config) (traces : List Trace)
         → AreStacksOver config layout.now m built.lock built.interpreter traces
@@ -147,7 +151,7 @@ pub fn build(
     // of the core, the image under its path and this layout alone: what is found is what was built
     ensures finds { HasRoom layout.now → HasWordRoom layout.now machine version.now → IfOk result
         (λ built. FindsAlone built.core.items (image_alone built.image_path built.image.items) (layout.now ∷ [])
-        (finding version.now layout.now built.interpreter built.lock)) }
+        (finding (told_version version.now) layout.now built.interpreter built.lock)) }
     ensures readable { HasRoom layout.now → HasWordRoom layout.now machine version.now → IfOk result
         (λ built. IsReadableAsAsked built.core.items (image_alone built.image_path built.image.items)
         (layout.now ∷ [])) }
@@ -155,11 +159,11 @@ pub fn build(
     ensures frames { HasRoom layout.now → HasWordRoom layout.now machine version.now → IfOk result
         (λ built. (config : Config)
         → HasFramesOf built.core.items (image_alone built.image_path built.image.items) (layout.now ∷ [])
-        (shown_report config layout.now version.now (program_in program.now))) }
+        (shown_report config layout.now (told_version version.now) (program_in program.now))) }
     ensures report { HasRoom layout.now → HasWordRoom layout.now machine version.now → IfOk result
         (λ built. (config : Config) → AsksNoOther config
         → IsReportOf built.core.items (image_alone built.image_path built.image.items) (layout.now ∷ []) config
-        (shown_report config layout.now version.now (program_in program.now))) }
+        (shown_report config layout.now (told_version version.now) (program_in program.now))) }
     // the core alone has the stacks of the program, by no lock
     ensures alone { HasRoom layout.now → IfOk result
         (λ built. IsCoreOf layout.now (program_in program.now) built.core.items) }

@@ -2,6 +2,7 @@
 ghost use Rattle.std.specs.Prelude.{◌≡◌, ◌↔◌, ◌≤◌, IsTrue, ℕ, IfSome, MatchOption};
 ghost use Rattle.py_fields.specs.declared.layout.Lock.TheVariants.{Runtime};
 ghost use Rattle.image_builder.specs.Covered.{serial_of, byte_behind, release_byte, IsReleaseByte, HasReleaseByte};
+ghost use Rattle.image_builder.specs.Covered.{plain_digits};
 ghost use Rattle.image_builder.specs.Covered.{IsNumbered, IsCovered, number_of};
 
 use elf64_core::{Machine, Text};
@@ -11,12 +12,26 @@ use py_version::{Version, get_tstate_current_offset};
 /// The byte of a final release.
 const FINAL: u8 = 0xF0;
 
-/// A serial number below 16.
+/// Digits without the zeros in front of the last one.
+fn plain_digits(digits: &[u8]) -> &[u8]
+    ensures { result.now ≡ plain_digits digits.now }
+{
+    let mut rest = digits;
+    while let [b'0', after @ ..] = rest {
+        if after.is_empty() {
+            return rest;
+        }
+        rest = after;
+    }
+    rest
+}
+
+/// A serial number below 16, perhaps with zeros in front.
 fn serial_of(digits: &[u8]) -> Option<u8>
     ensures value { result ≡ serial_of digits.now }
     ensures bound { IfSome result (λ serial. serial ≤ 15) }
 {
-    match digits {
+    match plain_digits(digits) {
         [ones @ b'0'..=b'9'] => Some(*ones - b'0'),
         [b'1', ones @ b'0'..=b'5'] => Some(10 + (*ones - b'0')),
         _ => None,

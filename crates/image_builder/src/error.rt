@@ -6,8 +6,8 @@ use thiserror::Error;
 #[derive(Debug, Drop, Error, PartialEq, Eq)]
 pub enum BuildError {
     /// The layout doesn't cover the version; or no number of CPython's tells the version: it has metadata, a number
-    /// above 255, or flags other than none, `a`, `b` or `rc` with a number below 16, written without zeros in front;
-    /// or a thread holds the lock, the layout has it in the runtime record, and the version has no place for it there.
+    /// above 255, or flags other than none, `a`, `b` or `rc` with a number below 16, perhaps with zeros in front; or a
+    /// thread holds the lock, the layout has it in the runtime record, and the version has no place for it there.
     #[error("the layout doesn't cover the version")]
     Uncovered,
     /// The first place at which the program can't be written: a thread and one of its frames, both counted from 0.

@@ -9,6 +9,7 @@ mod elf_records;
 mod error;
 mod image_file;
 mod records;
+mod room;
 mod runtime_words;
 mod seeded;
 
@@ -17,4 +18,5 @@ pub use error::BuildError;
 pub use memory_builder::{
     Program, ProgramFrame, ProgramItem, ProgramLocal, ProgramThread, ProgramValue,
 };
+pub use room::{has_room, has_word_room};
 pub use seeded::generate;

@@ -27,7 +27,7 @@ fn head_place(head: Head, version: &Version) -> u32
 }
 
 /// Where the runtime record says where that word is.
-fn head_field(layout: &Layout) -> Option<u32>
+pub(crate) fn head_field(layout: &Layout) -> Option<u32>
     requires { IsSound layout.now }
     ensures value { result ≡ head_field layout.now.head layout.now.offsets }
     ensures bound { IfSome result (λ at. at ≤ 0x1_0000) }

@@ -8,7 +8,7 @@ use Rattle.native_merge.specs.SymbolCaches.{Answer, AreKnown, HeldFrames, IsHeld
 use Rattle.native_merge.specs.Symbols.{SymbolsSeen}
 use Rattle.native_merge.proofs.SymbolsKnown.{told_answer, known_after}
 
-as_held : (answer : Answer) (o : Option NativeFrame) → IfSome o (λ f. answer ≡ Ok (f ∷ [])) → IfSome o (λ f. IsHeldAnswer f answer)
+pub as_held : (answer : Answer) (o : Option NativeFrame) → IfSome o (λ f. answer ≡ Ok (f ∷ [])) → IfSome o (λ f. IsHeldAnswer f answer)
 as_held answer None h = tt
 as_held answer (Some f) h = subst (IsHeldAnswer f) (sym h) refl
 

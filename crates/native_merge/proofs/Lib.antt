@@ -1,10 +1,12 @@
 pub mod AnswersTold
+pub mod Asked
 pub mod FileMaps
 pub mod Fronts
 pub mod Gathers
 pub mod ImagesRead
 pub mod KeptByName
 pub mod Marks
+pub mod MapsKept
 pub mod MergeEnds
 pub mod MergeLaws
 pub mod MergeSteps

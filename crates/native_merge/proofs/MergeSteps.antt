@@ -71,7 +71,7 @@ held_is : (f : NativeFrame) (answer : Answer) → HasRoom answer → IsHeldAnswe
 held_is f (Ok fs) k h = ap Ok h
 held_is f (Err e) k h = absurd (k (ap Err h))
 
-told_as : (old mid : SymbolsSeen) (addr : ℕ) (lines : Bool) (answer : Answer) → SymbolsStay old mid
+pub told_as : (old mid : SymbolsSeen) (addr : ℕ) (lines : Bool) (answer : Answer) → SymbolsStay old mid
     → IsToldAnswer mid addr lines answer → IsToldAnswer old addr lines answer
 told_as old mid addr lines (Ok fs) s h = λ t. (s.gives addr lines fs).0 (h (s.tells ∙ t))
 told_as old mid addr lines (Err e) s h = tt

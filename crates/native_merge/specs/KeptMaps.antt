@@ -2,7 +2,7 @@
 -- looked up is py-spy's rule, for frames of a line above 0; that a file that could not be read isn't kept, and that a
 -- line past an i32 becomes 0, is this project's own.
 use Rattle.std.specs.Prelude.{◌≡◌, ℕ, ◌^◌, nat_eq, nat_lt, Bool, ◌&&◌, ◌||◌, not, if◌then◌else◌, List, encode_utf8_all}
-use Rattle.std.specs.Prelude.{codes, Option, Some, None, is_some, option_map, ℤ, pos, negsuc, ◌⊎◌}
+use Rattle.std.specs.Prelude.{codes, Option, Some, None, is_some, option_map, ℤ, pos, negsuc, ◌⊎◌, IfSome, true, false}
 use Rattle.std.specs.FinMap as map
 use Rattle.std.specs.List.{ends_with}
 use Rattle.std.specs.Ordering.{nat_cmp, on}
@@ -80,3 +80,9 @@ pub record KeepsMap (seen : SourcesSeen) (frame : Frame) (old new : Kept) : Type
 abbrev pub AddsMap : SourcesSeen → SourcesSeen → Frame → Kept → Kept → Type 0
 AddsMap before now frame old new =
     KeepsMap before frame old new ⊎ (FailsToRead before now (encode_utf8_all frame.filename) × (new ≡ old))
+
+-- what is kept for a file stays; what is new under a file's name is the map of that file, or that it has none
+pub record MapsStay (seen : SourcesSeen) (old new : Kept) : Type 0 where
+  pub stay : (name : List ℕ) → map.contains_key old name ≡ true → map.get new name ≡ map.get old name
+  pub right : (name : List ℕ) → map.contains_key old name ≡ false → IfSome (map.get new name)
+      (λ answer. (module_name : Option (List ℕ)) × IsMapOfFile seen (encode_utf8_all name) module_name answer)

@@ -15,7 +15,7 @@ use Rattle.native_merge.specs.Gathered.{capped}
 use Rattle.native_merge.specs.MergedStacks.{StackItem, MergedFrame, Misfit, merged, pythons, natives, natives_in}
 use Rattle.native_merge.specs.NativesShown.{NativeItem, ShowsFrame, answer_items}
 use Rattle.native_merge.specs.PythonFrames.{calls, ends_part}
-use Rattle.native_merge.specs.SymbolCaches.{Answer, AreKnown, HeldFrames, IsAfter, IsToldAnswer}
+use Rattle.native_merge.specs.SymbolCaches.{Answer, AreKnown, HeldFrames, IsAfter, IsHeldAnswer, IsToldAnswer}
 use Rattle.native_merge.specs.Symbols.{SymbolsSeen}
 
 -- ---- which addresses are Python's
@@ -56,6 +56,21 @@ pub data AreAnswered (seen : SymbolsSeen) (python : ℕ → Bool)
   More : {held mid after : HeldFrames} {addr : ℕ} {answer : Answer} {addrs : List ℕ} {answers : List Answer}
       → IsAnswered seen python held addr answer mid → AreAnswered seen python mid addrs answers after
       → AreAnswered seen python held (addr ∷ addrs) (answer ∷ answers) after
+
+-- an address that was asked about, whether or not there was memory for the answer, and the cache before it and after
+-- it: the answer is the frame that was held, or what is told
+pub record IsAsked (seen : SymbolsSeen) (python : ℕ → Bool) (held : HeldFrames) (addr : ℕ) (after : HeldFrames)
+    : Type 0 where
+  pub answer : Answer
+  pub cached : IfSome (lookup (nat_eq addr) held.entries) (λ f. IsHeldAnswer f answer)
+  pub told : lookup (nat_eq addr) held.entries ≡ None → IsToldAnswer seen addr (has_lines python addr) answer
+  pub kept : IsAfter held after addr answer
+
+-- the first of some addresses, or all of them, were asked about in order, and the cache before them and after them
+pub data AreAsked (seen : SymbolsSeen) (python : ℕ → Bool) : HeldFrames → List ℕ → HeldFrames → Type 0 where
+  Enough : {held : HeldFrames} {addrs : List ℕ} → AreAsked seen python held addrs held
+  Asked : {held mid after : HeldFrames} {addr : ℕ} {addrs : List ℕ} → IsAsked seen python held addr mid
+      → AreAsked seen python mid addrs after → AreAsked seen python held (addr ∷ addrs) after
 
 abbrev pub is_failed : Answer → Bool
 is_failed (Ok fs) = false

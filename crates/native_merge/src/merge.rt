@@ -2,7 +2,7 @@
 ghost use Rattle.std.specs.Prelude.{◌≡◌, ◌⊎◌, ℕ, Bool, List, IsErrOf};
 ghost use Rattle.native_merge.specs.Gathered.{Gathered};
 ghost use Rattle.native_merge.specs.MergedStacks.{StackItem, merged};
-ghost use Rattle.native_merge.specs.Merges.{IsMerged, ShowsMerged, calls_of_answer, is_mapped_at, is_python};
+ghost use Rattle.native_merge.specs.Merges.{AreAsked, IsMerged, ShowsMerged, calls_of_answer, is_mapped_at, is_python};
 ghost use Rattle.native_merge.specs.NativesShown.{NativeItem};
 ghost use Rattle.native_merge.specs.PythonFrames.{calls, ends_part};
 ghost use Rattle.native_merge.specs.Sources.{Stay};
@@ -74,6 +74,8 @@ pub(crate) fn merge<S: Symbolicator, F: Sources>(
     ensures merges { IsErrOf result MergeError.OutOfMemory
         ⊎ IsMerged (S.seen symbols.old) (S.seen symbols.new) (F.seen sources.old).exists
         (is_python python.now libpython.now) frames.now native_stack.now cache.old cache.new (calls_of_answer result) }
+    ensures asked { AreAsked (S.seen symbols.old) (is_python python.now libpython.now) cache.old native_stack.now
+        cache.new }
     ensures symbols { SymbolsStay (S.seen symbols.old) (S.seen symbols.new) }
     ensures sources { Stay (F.seen sources.old) (F.seen sources.new) }
 {

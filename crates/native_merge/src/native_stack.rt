@@ -2,9 +2,11 @@
 ghost use Rattle.std.specs.Prelude.{◌≡◌, ◌⊎◌, [], IfOk, IsErrOf};
 ghost use Rattle.lru.specs.LruCache.{lru_cache};
 ghost use Rattle.std.specs.FinMap as map;
-ghost use Rattle.native_merge.specs.Merges.{EachOnce, StayTold, is_python};
+ghost use Rattle.native_merge.specs.KeptMaps.{MapsStay};
+ghost use Rattle.native_merge.specs.Merges.{AreAsked, EachOnce, StayTold, has_lines, is_python};
 ghost use Rattle.native_merge.specs.TranslatedStacks.{IsMergedStack, frames_of_answer};
 ghost use Rattle.native_merge.specs.Sources.{Stay};
+ghost use Rattle.native_merge.specs.SymbolCaches.{AreKnown};
 ghost use Rattle.native_merge.specs.Symbols.{SymbolsStay};
 
 use crate::merge::merge;
@@ -61,6 +63,10 @@ impl<S: Symbolicator + Drop, F: Sources + Drop> NativeStack<S, F> {
     }
 
     /// The frames of a thread, the newest first, merged with its native addresses.
+    ///
+    /// Whatever it answers, what is kept stays right. The cache is what the addresses that were asked about leave of
+    /// it: where all that it held was told, all that it holds is, and its size is the same. What is kept for a source
+    /// file stays, and what is new is the map of a file, or that it has none.
     pub fn merge_native_stack(
         &mut self,
         frames: &[Frame],
@@ -72,6 +78,13 @@ impl<S: Symbolicator + Drop, F: Sources + Drop> NativeStack<S, F> {
             self.old.cache self.new.cache self.old.maps self.new.maps (frames_of_answer result) }
         ensures once { EachOnce }
         ensures told { StayTold (S.seen self.old.symbols) (is_python self.old.python self.old.libpython) }
+        ensures asked { AreAsked (S.seen self.old.symbols) (is_python self.old.python self.old.libpython)
+            self.old.cache native_stack.now self.new.cache }
+        ensures known { AreKnown (S.seen self.old.symbols) (has_lines (is_python self.old.python self.old.libpython))
+            self.old.cache → AreKnown (S.seen self.old.symbols)
+            (has_lines (is_python self.old.python self.old.libpython)) self.new.cache }
+        ensures size { self.new.cache.cap ≡ self.old.cache.cap }
+        ensures maps { MapsStay (F.seen self.old.sources) self.old.maps self.new.maps }
         ensures symbols { SymbolsStay (S.seen self.old.symbols) (S.seen self.new.symbols) }
         ensures sources { Stay (F.seen self.old.sources) (F.seen self.new.sources) }
         ensures python { (self.new.python ≡ self.old.python) × (self.new.libpython ≡ self.old.libpython) }
@@ -85,6 +98,9 @@ impl<S: Symbolicator + Drop, F: Sources + Drop> NativeStack<S, F> {
             ⊎ IsMergedStack (S.seen self.old.symbols) (S.seen self.new.symbols) (F.seen self.old.sources)
             (F.seen self.new.sources) (is_python self.old.python self.old.libpython) frames.now native_stack.now
             self.old.cache self.new.cache self.old.maps self.new.maps (frames_of_answer result) }
+        ensures asked { AreAsked (S.seen self.old.symbols) (is_python self.old.python self.old.libpython)
+            self.old.cache native_stack.now self.new.cache }
+        ensures maps { MapsStay (F.seen self.old.sources) self.old.maps self.new.maps }
         ensures symbols { SymbolsStay (S.seen self.old.symbols) (S.seen self.new.symbols) }
         ensures sources { Stay (F.seen self.old.sources) (F.seen self.new.sources) }
         ensures python { (self.new.python ≡ self.old.python) × (self.new.libpython ≡ self.old.libpython) }

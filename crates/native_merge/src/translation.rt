@@ -1,5 +1,6 @@
 //! Merged frames, in the files that they come from.
 ghost use Rattle.std.specs.Prelude.{◌≡◌, IfErr, OnOk};
+ghost use Rattle.native_merge.specs.KeptMaps.{MapsStay};
 ghost use Rattle.native_merge.specs.Sources.{Stay};
 ghost use Rattle.native_merge.specs.TranslatedStacks.{AreTranslated};
 
@@ -14,6 +15,7 @@ pub(crate) fn translate_all<F: Sources>(
 ) -> Result<(), MergeError>
     ensures all { OnOk result (AreTranslated (F.seen sources.old) maps.old frames.old
         (F.seen sources.new) maps.new frames.new) }
+    ensures maps { MapsStay (F.seen sources.old) maps.old maps.new }
     ensures refused { IfErr result (λ error. error ≡ MergeError.OutOfMemory) }
     ensures stay { Stay (F.seen sources.old) (F.seen sources.new) }
 {

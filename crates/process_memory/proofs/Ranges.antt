@@ -6,7 +6,7 @@ use Rattle.std.proofs.lemmas.Bool.{cases_lt}
 use Rattle.std.proofs.lemmas.Option.{slice_get_within}
 use Rattle.process_memory.specs.declared.memory.Span.{Span}
 use Rattle.process_memory.specs.Memory.{Memory}
-use Rattle.process_memory.specs.Seen.{Extends, HoldsRead, AddsShort}
+use Rattle.process_memory.specs.Seen.{Extends, HoldsRead, AddsOnly}
 
 slice_get-append : {X : Type 0} (xs zs : List X) (k : ℕ) (x : X) → slice_get xs k ≡ Some x → slice_get (xs ++ zs) k ≡ Some x
 slice_get-append [] zs k x h = cc
@@ -64,13 +64,19 @@ pub holds-self : (r : Option (List Span)) (w : Memory) → HoldsRead r r w w
 holds-self None w = λ a h. h
 holds-self (Some xs) w = λ k s above at. absurd (omega (arith, slice_get_within xs k s at))
 
-pub short-both : (limit : ℕ) (r0 r1 r2 : Option (List Span)) → Extends r0 r1 → Extends r1 r2 → AddsShort limit r0 r1 → AddsShort limit r1 r2 → AddsShort limit r0 r2
-short-both limit None r1 r2 d e p q = tt
-short-both limit (Some xs) None r2 d e p q = absurd d
-short-both limit (Some xs) (Some ys) None d e p q = tt
-short-both limit (Some xs) (Some ys) (Some ws) d (zs, e) p q =
+pub only-both : (allowed : Span → Type 0) (r0 r1 r2 : Option (List Span)) → Extends r0 r1 → Extends r1 r2 → AddsOnly allowed r0 r1 → AddsOnly allowed r1 r2 → AddsOnly allowed r0 r2
+only-both allowed None r1 r2 d e p q = tt
+only-both allowed (Some xs) None r2 d e p q = absurd d
+only-both allowed (Some xs) (Some ys) None d e p q = tt
+only-both allowed (Some xs) (Some ys) (Some ws) d (zs, e) p q =
     λ k s above at. elim (cases_lt k (length ys)) [ inl lt ↦ p k s above (slice_get-front ys zs k s lt (rw e at at)) | inr le ↦ q k s le at ]
 
-pub short-self : (limit : ℕ) (r : Option (List Span)) → AddsShort limit r r
-short-self limit None = tt
-short-self limit (Some xs) = λ k s above at. absurd (omega (arith, slice_get_within xs k s at))
+pub only-self : (allowed : Span → Type 0) (r : Option (List Span)) → AddsOnly allowed r r
+only-self allowed None = tt
+only-self allowed (Some xs) = λ k s above at. absurd (omega (arith, slice_get_within xs k s at))
+
+-- what is read among some ranges is read among more
+pub only-wider : (allowed more : Span → Type 0) (r0 r1 : Option (List Span)) → ((s : Span) → allowed s → more s) → AddsOnly allowed r0 r1 → AddsOnly more r0 r1
+only-wider allowed more None r1 f h = tt
+only-wider allowed more (Some xs) None f h = tt
+only-wider allowed more (Some xs) (Some ys) f h = λ k s above at. f s (h k s above at)

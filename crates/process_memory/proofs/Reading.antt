@@ -10,21 +10,21 @@ use Rattle.process_memory.specs.declared.memory.ReadFault.{ReadFault}
 use Rattle.process_memory.specs.declared.memory.ReadFault.TheVariants.{Unreadable, OutOfMemory}
 use Rattle.process_memory.specs.Memory.Fault.{Missing}
 use Rattle.process_memory.specs.Memory.{Memory, byte_at, record_at, Found, Fault, ◌>>=◌, word_at}
-use Rattle.process_memory.specs.Seen.{Seen, Extends, HoldsRead, ReadingBelow, OneRead, Answers, FaultIs, read_fault}
-use Rattle.process_memory.specs.Seen.{ranges_after, with_range, IsPartWith, AddsShort, with_bytes}
+use Rattle.process_memory.specs.Seen.{Seen, Extends, HoldsRead, ReadingOf, OneRead, Answers, FaultIs, read_fault}
+use Rattle.process_memory.specs.Seen.{ranges_after, with_range, IsPartWith, AddsOnly, with_bytes}
 use Rattle.process_memory.proofs.Ranges.{slice_get-end, holds-before, holds-after, extends-trans, extends-self}
-use Rattle.process_memory.proofs.Ranges.{holds-both, holds-self, short-both, short-self}
+use Rattle.process_memory.proofs.Ranges.{holds-both, holds-self, only-both, only-self, only-wider}
 use Rattle.process_memory.proofs.Records.{Within, record_kept, record_lost, record_all}
 
 -- one reader after another
-pub reading_then : {limit : ℕ} {n k : ℕ} {s0 s1 s2 : Seen} {P Q : Memory → Type 0} (R : Memory → Type 0) → ReadingBelow limit n s0 s1 P → ReadingBelow limit k s1 s2 Q → ((m : Memory) → P m → Q m → R m) → ReadingBelow limit (n + k) s0 s2 R
-reading_then {s0 = s0} {s1 = s1} {s2 = s2} R p q f = record {
+pub reading_then : {allowed : Memory → Span → Type 0} {n k : ℕ} {s0 s1 s2 : Seen} {P Q : Memory → Type 0} (R : Memory → Type 0) → ReadingOf allowed n s0 s1 P → ReadingOf allowed k s1 s2 Q → ((m : Memory) → P m → Q m → R m) → ReadingOf allowed (n + k) s0 s2 R
+reading_then {allowed = allowed} {s0 = s0} {s1 = s1} {s2 = s2} R p q f = record {
   pieces = q.pieces ∙ p.pieces;
   counter = q.counter ∙ p.counter;
   memory = q.memory ∙ p.memory;
   ranges = extends-trans s0.ranges s1.ranges s2.ranges p.ranges q.ranges;
   here = holds-both s0.ranges s1.ranges s2.ranges (byte_at s0.pieces) (byte_at s0.pieces) q.ranges p.here (rw p.pieces at q.here);
-  short = short-both _ s0.ranges s1.ranges s2.ranges p.ranges q.ranges p.short q.short;
+  only = only-both (allowed (byte_at s0.pieces)) s0.ranges s1.ranges s2.ranges p.ranges q.ranges p.only (rw p.pieces at q.only);
   cost = omega (arith, p.cost, q.cost);
   holds = λ m c. f m
       (p.holds m (record { agrees = c.agrees; holds = holds-before s0.ranges s1.ranges s2.ranges (byte_at s0.pieces) m q.ranges c.holds }))
@@ -32,12 +32,12 @@ reading_then {s0 = s0} {s1 = s1} {s2 = s2} R p q f = record {
 }
 
 -- fewer reads, and what follows from the fact
-pub reading_gives : {limit : ℕ} {n : ℕ} {s0 s1 : Seen} {P : Memory → Type 0} (k : ℕ) (Q : Memory → Type 0) → ReadingBelow limit n s0 s1 P → n ≤ k → ((m : Memory) → P m → Q m) → ReadingBelow limit k s0 s1 Q
-reading_gives k Q p le f = record { pieces = p.pieces; counter = p.counter; memory = p.memory; ranges = p.ranges; here = p.here; short = p.short; cost = omega (arith, p.cost); holds = λ m c. f m (p.holds m c) }
+pub reading_gives : {allowed : Memory → Span → Type 0} {n : ℕ} {s0 s1 : Seen} {P : Memory → Type 0} (k : ℕ) (Q : Memory → Type 0) → ReadingOf allowed n s0 s1 P → n ≤ k → ((m : Memory) → P m → Q m) → ReadingOf allowed k s0 s1 Q
+reading_gives k Q p le f = record { pieces = p.pieces; counter = p.counter; memory = p.memory; ranges = p.ranges; here = p.here; only = p.only; cost = omega (arith, p.cost); holds = λ m c. f m (p.holds m c) }
 
 -- nothing was read
-pub reading_none : {limit : ℕ} (k : ℕ) (s : Seen) (Q : Memory → Type 0) → ((m : Memory) → Q m) → ReadingBelow limit k s s Q
-reading_none k s Q f = record { pieces = refl; counter = refl; memory = refl; ranges = extends-self s.ranges; here = holds-self s.ranges (byte_at s.pieces); short = short-self _ s.ranges; cost = omega arith; holds = λ m c. f m }
+pub reading_none : {allowed : Memory → Span → Type 0} (k : ℕ) (s : Seen) (Q : Memory → Type 0) → ((m : Memory) → Q m) → ReadingOf allowed k s s Q
+reading_none k s Q f = record { pieces = refl; counter = refl; memory = refl; ranges = extends-self s.ranges; here = holds-self s.ranges (byte_at s.pieces); only = only-self _ s.ranges; cost = omega arith; holds = λ m c. f m }
 
 -- what a read of one range says of each memory that covers it
 read_spans : (r0 : Option (List Span)) (s : Span) (w m : Memory) → HoldsRead r0 (with_range r0 s) w m → (k : ℕ) → k < s.len → IsSome (w (s.start + k)) → IsSome (m (s.start + k))
@@ -68,24 +68,24 @@ read_here (Ok bs) s (Some xs) w p = λ k t above at.
     let t_is2 : s ≡ t = cc in
     rw (← t_is2) (record_all w s.start s.len bs p.is)
 
-read_short : (limit : ℕ) (r : Result (List ℕ) ReadFault) (s : Span) (r0 : Option (List Span)) → s.len < limit → AddsShort limit r0 (ranges_after r r0 s)
-read_short limit r s None lt = elim r as (λ v. AddsShort limit None (ranges_after v None s)) [ Ok bs ↦ tt | Err e ↦ tt ]
-read_short limit (Err e) s (Some xs) lt = short-self limit (Some xs)
-read_short limit (Ok bs) s (Some xs) lt = λ k t above at.
+read_only : (allowed : Span → Type 0) (r : Result (List ℕ) ReadFault) (s : Span) (r0 : Option (List Span)) → allowed s → AddsOnly allowed r0 (ranges_after r r0 s)
+read_only allowed r s None is = elim r as (λ v. AddsOnly allowed None (ranges_after v None s)) [ Ok bs ↦ tt | Err e ↦ tt ]
+read_only allowed (Err e) s (Some xs) is = only-self allowed (Some xs)
+read_only allowed (Ok bs) s (Some xs) is = λ k t above at.
     let below = slice_get_within (xs ++ s ∷ []) k t at in
     let k_is : k ≡ length xs = omega (arith, below, length-append xs (s ∷ [])) in
     let t_is : Some s ≡ Some t = sym (slice_get-end xs s) ∙ rw k_is at at in
     let t_is2 : s ≡ t = cc in
-    rw (← t_is2) lt
+    rw (← t_is2) is
 
 -- one read, as a clause of a reader
-pub reading_one : {limit : ℕ} {old new : Seen} {a n : ℕ} {r : Result (List ℕ) ReadFault} → n < limit → OneRead old new a n r → ReadingBelow limit 1 old new (λ m. Answers read_fault (record_at m a n) r)
-reading_one {old} {new} {a} {n} {r} lt o = let s : Span = record { start = a; len = n } in record {
+pub reading_one : {allowed : Memory → Span → Type 0} {old new : Seen} {a n : ℕ} {r : Result (List ℕ) ReadFault} → allowed (byte_at old.pieces) (record { start = a; len = n }) → OneRead old new a n r → ReadingOf allowed 1 old new (λ m. Answers read_fault (record_at m a n) r)
+reading_one {allowed} {old} {new} {a} {n} {r} is o = let s : Span = record { start = a; len = n } in record {
   pieces = o.pieces;
   counter = o.counter;
   memory = o.memory;
   ranges = rw o.ranges (read_ranges r s old.ranges);
-  short = rw o.ranges (read_short _ r s old.ranges lt);
+  only = rw o.ranges (read_only (allowed (byte_at old.pieces)) r s old.ranges is);
   here = rw o.ranges (read_here r s old.ranges (byte_at old.pieces) o.answer);
   cost = o.cost;
   holds = λ m c. let h : HoldsRead old.ranges new.ranges (byte_at old.pieces) m = c.holds in read_answers r s old.ranges (byte_at old.pieces) m c.agrees (rw o.ranges at h) o.answer;
@@ -103,15 +103,15 @@ answers_stop {fault = fault} fault' {d = d} {e = e} e' f p same = record {
 }
 
 -- one step of a reader that goes on
-pub reads_then : {limit : ℕ} {T U E E' : Type 0} {fault : E → Option Fault} {fault' : E' → Option Fault} {n k : ℕ} {s0 s1 s2 : Seen} {d : Memory → Found T} {x : T} (f : Memory → T → Found U) {r : Result U E'} → ReadingBelow limit n s0 s1 (λ m. Answers fault (d m) (Ok x)) → ReadingBelow limit k s1 s2 (λ m. Answers fault' (f m x) r) → ReadingBelow limit (n + k) s0 s2 (λ m. Answers fault' (d m >>= f m) r)
+pub reads_then : {allowed : Memory → Span → Type 0} {T U E E' : Type 0} {fault : E → Option Fault} {fault' : E' → Option Fault} {n k : ℕ} {s0 s1 s2 : Seen} {d : Memory → Found T} {x : T} (f : Memory → T → Found U) {r : Result U E'} → ReadingOf allowed n s0 s1 (λ m. Answers fault (d m) (Ok x)) → ReadingOf allowed k s1 s2 (λ m. Answers fault' (f m x) r) → ReadingOf allowed (n + k) s0 s2 (λ m. Answers fault' (d m >>= f m) r)
 reads_then f p q = reading_then _ p q (λ m a b. answers_then (f m) a b)
 
 -- a step at which it stops
-pub reads_stop : {limit : ℕ} {T U E E' : Type 0} {fault : E → Option Fault} {fault' : E' → Option Fault} (n k : ℕ) {s0 s1 : Seen} {d : Memory → Found T} {e : E} (e' : E') (f : Memory → T → Found U) → ReadingBelow limit n s0 s1 (λ m. Answers {T = T} fault (d m) (Err e)) → fault' e' ≡ fault e → ReadingBelow limit (n + k) s0 s1 (λ m. Answers fault' (d m >>= f m) (Err e'))
+pub reads_stop : {allowed : Memory → Span → Type 0} {T U E E' : Type 0} {fault : E → Option Fault} {fault' : E' → Option Fault} (n k : ℕ) {s0 s1 : Seen} {d : Memory → Found T} {e : E} (e' : E') (f : Memory → T → Found U) → ReadingOf allowed n s0 s1 (λ m. Answers {T = T} fault (d m) (Err e)) → fault' e' ≡ fault e → ReadingOf allowed (n + k) s0 s1 (λ m. Answers fault' (d m >>= f m) (Err e'))
 reads_stop {fault' = fault'} n k e' f p same = reading_gives (n + k) _ p (omega arith) (λ m a. answers_stop fault' e' (f m) a same)
 
 -- no step
-pub reads_none : {limit : ℕ} {T E : Type 0} {fault : E → Option Fault} (k : ℕ) {s : Seen} {x : T} → ReadingBelow limit k s s (λ m. Answers fault (Ok x) (Ok x))
+pub reads_none : {allowed : Memory → Span → Type 0} {T E : Type 0} {fault : E → Option Fault} (k : ℕ) {s : Seen} {x : T} → ReadingOf allowed k s s (λ m. Answers fault (Ok x) (Ok x))
 reads_none k {s} {x} = reading_none k s _ (λ m. record { is = refl })
 
 pub word_stops : (m : Memory) (a : ℕ) (bytes : List ℕ) (e : ReadFault) → Answers read_fault (record_at m a 8) (with_bytes bytes (Err e)) → Answers {T = ℕ} read_fault (word_at m a) (Err e)
@@ -127,34 +127,47 @@ unfolding word_at record_at
 word_outside m a h = let past : ltb a (2 ^ 64) ≡ false = grind (arith, nat_tests) in record { is = rw past refl }
 
 -- a larger bound
-pub reads_within : {limit : ℕ} {n : ℕ} {s0 s1 : Seen} {Q : Memory → Type 0} (k : ℕ) → ReadingBelow limit n s0 s1 Q → n ≤ k → ReadingBelow limit k s0 s1 Q
-reads_within k p le = record { pieces = p.pieces; counter = p.counter; memory = p.memory; ranges = p.ranges; here = p.here; short = p.short; cost = omega (arith, p.cost); holds = p.holds }
+pub reads_within : {allowed : Memory → Span → Type 0} {n : ℕ} {s0 s1 : Seen} {Q : Memory → Type 0} (k : ℕ) → ReadingOf allowed n s0 s1 Q → n ≤ k → ReadingOf allowed k s0 s1 Q
+reads_within k p le = record { pieces = p.pieces; counter = p.counter; memory = p.memory; ranges = p.ranges; here = p.here; only = p.only; cost = omega (arith, p.cost); holds = p.holds }
 
 -- the same steps, with the bound as a side condition
-pub reads_next : {limit : ℕ} {T U E E' : Type 0} {fault : E → Option Fault} {fault' : E' → Option Fault} {n k : ℕ} (t : ℕ) {s0 s1 s2 : Seen} {d : Memory → Found T} {x : T} (f : Memory → T → Found U) {r : Result U E'} → ReadingBelow limit n s0 s1 (λ m. Answers fault (d m) (Ok x)) → ReadingBelow limit k s1 s2 (λ m. Answers fault' (f m x) r) → n + k ≤ t → ReadingBelow limit t s0 s2 (λ m. Answers fault' (d m >>= f m) r)
+pub reads_next : {allowed : Memory → Span → Type 0} {T U E E' : Type 0} {fault : E → Option Fault} {fault' : E' → Option Fault} {n k : ℕ} (t : ℕ) {s0 s1 s2 : Seen} {d : Memory → Found T} {x : T} (f : Memory → T → Found U) {r : Result U E'} → ReadingOf allowed n s0 s1 (λ m. Answers fault (d m) (Ok x)) → ReadingOf allowed k s1 s2 (λ m. Answers fault' (f m x) r) → n + k ≤ t → ReadingOf allowed t s0 s2 (λ m. Answers fault' (d m >>= f m) r)
 reads_next t f p q le = reads_within t (reads_then f p q) le
 
-pub reads_halt : {limit : ℕ} {T U E E' : Type 0} {fault : E → Option Fault} {fault' : E' → Option Fault} {n : ℕ} (t : ℕ) {s0 s1 : Seen} {d : Memory → Found T} {e : E} (e' : E') (f : Memory → T → Found U) → ReadingBelow limit n s0 s1 (λ m. Answers {T = T} fault (d m) (Err e)) → fault' e' ≡ fault e → n ≤ t → ReadingBelow limit t s0 s1 (λ m. Answers fault' (d m >>= f m) (Err e'))
+pub reads_halt : {allowed : Memory → Span → Type 0} {T U E E' : Type 0} {fault : E → Option Fault} {fault' : E' → Option Fault} {n : ℕ} (t : ℕ) {s0 s1 : Seen} {d : Memory → Found T} {e : E} (e' : E') (f : Memory → T → Found U) → ReadingOf allowed n s0 s1 (λ m. Answers {T = T} fault (d m) (Err e)) → fault' e' ≡ fault e → n ≤ t → ReadingOf allowed t s0 s1 (λ m. Answers fault' (d m >>= f m) (Err e'))
 reads_halt {fault' = fault'} t e' f p same le = reading_gives t _ p le (λ m a. answers_stop fault' e' (f m) a same)
 
 -- what holds of this memory
-pub reading_here : {limit : ℕ} {n : ℕ} {s0 s1 : Seen} {Q : Memory → Type 0} → ReadingBelow limit n s0 s1 Q → Q (byte_at s0.pieces)
+pub reading_here : {allowed : Memory → Span → Type 0} {n : ℕ} {s0 s1 : Seen} {Q : Memory → Type 0} → ReadingOf allowed n s0 s1 Q → Q (byte_at s0.pieces)
 reading_here {s0 = s0} p = p.holds (byte_at s0.pieces) (record { agrees = λ a b h. h; holds = p.here })
 
 -- the value at the end
-pub reads_end : {limit : ℕ} {T E : Type 0} {fault : E → Option Fault} (k : ℕ) {s : Seen} {x y : T} → x ≡ y → ReadingBelow limit k s s (λ m. Answers fault (Ok x) (Ok y))
+pub reads_end : {allowed : Memory → Span → Type 0} {T E : Type 0} {fault : E → Option Fault} (k : ℕ) {s : Seen} {x y : T} → x ≡ y → ReadingOf allowed k s s (λ m. Answers fault (Ok x) (Ok y))
 reads_end k {s} {x} {y} e = reading_none k s _ (λ m. record { is = ap Ok e })
 
 -- the same definition
-pub reads_same : {limit : ℕ} {T E : Type 0} {fault : E → Option Fault} {n : ℕ} {s0 s1 : Seen} {r : Result T E} (d e : Memory → Found T) → ((m : Memory) → d m ≡ e m) → ReadingBelow limit n s0 s1 (λ m. Answers fault (e m) r) → ReadingBelow limit n s0 s1 (λ m. Answers fault (d m) r)
+pub reads_same : {allowed : Memory → Span → Type 0} {T E : Type 0} {fault : E → Option Fault} {n : ℕ} {s0 s1 : Seen} {r : Result T E} (d e : Memory → Found T) → ((m : Memory) → d m ≡ e m) → ReadingOf allowed n s0 s1 (λ m. Answers fault (e m) r) → ReadingOf allowed n s0 s1 (λ m. Answers fault (d m) r)
 reads_same d e same p = reading_gives _ _ p (omega arith) (λ m a. rw (same m) a)
 
 -- nothing was read, and the definition says the result
-pub reads_known : {limit : ℕ} {T E : Type 0} {fault : E → Option Fault} (k : ℕ) {s : Seen} (d : Memory → Found T) (r : Result T E) → ((m : Memory) → Answers fault (d m) r) → ReadingBelow limit k s s (λ m. Answers fault (d m) r)
+pub reads_known : {allowed : Memory → Span → Type 0} {T E : Type 0} {fault : E → Option Fault} (k : ℕ) {s : Seen} (d : Memory → Found T) (r : Result T E) → ((m : Memory) → Answers fault (d m) r) → ReadingOf allowed k s s (λ m. Answers fault (d m) r)
 reads_known k d r f = reading_none k _ _ f
 
 -- where the ranges were kept from the start
-pub reading_part : {limit : ℕ} {n : ℕ} {s0 s1 : Seen} {Q : Memory → Type 0} (ranges : List Span) (m : Memory) → ReadingBelow limit n s0 s1 Q → s0.ranges ≡ Some [] → s1.ranges ≡ Some ranges → IsPartWith (byte_at s0.pieces) ranges m → Q m
+pub reading_part : {allowed : Memory → Span → Type 0} {n : ℕ} {s0 s1 : Seen} {Q : Memory → Type 0} (ranges : List Span) (m : Memory) → ReadingOf allowed n s0 s1 Q → s0.ranges ≡ Some [] → s1.ranges ≡ Some ranges → IsPartWith (byte_at s0.pieces) ranges m → Q m
 reading_part {s0 = s0} {s1 = s1} ranges m r from to part =
     let h : HoldsRead (Some []) (Some ranges) (byte_at s0.pieces) m = λ k s above at. part.holds k s at in
     r.holds m (record { agrees = part.agrees; holds = rw (from, to) h })
+
+-- the same reads, among more ranges
+pub reading_wider : {allowed : Memory → Span → Type 0} {n : ℕ} {s0 s1 : Seen} {Q : Memory → Type 0} (more : Memory → Span → Type 0) → ReadingOf allowed n s0 s1 Q → ((m : Memory) (s : Span) → allowed m s → more m s) → ReadingOf more n s0 s1 Q
+reading_wider {allowed} {s0 = s0} {s1 = s1} more p f = record {
+  pieces = p.pieces;
+  counter = p.counter;
+  memory = p.memory;
+  ranges = p.ranges;
+  here = p.here;
+  only = only-wider (allowed (byte_at s0.pieces)) (more (byte_at s0.pieces)) s0.ranges s1.ranges (f (byte_at s0.pieces)) p.only;
+  cost = p.cost;
+  holds = p.holds;
+}

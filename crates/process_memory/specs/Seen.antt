@@ -1,5 +1,5 @@
 -- What an object that reads a process's memory means, and what each reader of it owes.
-use Rattle.std.specs.Prelude.{◌≡◌, ℕ, ◌+◌, ◌<◌, ◌≤◌, ◌^◌, Bool, Option, Some, None, IsSome, List, [], ◌∷◌, ◌++◌, length}
+use Rattle.std.specs.Prelude.{◌≡◌, ℕ, ◌+◌, ◌<◌, ◌≤◌, ◌^◌, ◌⊎◌, Bool, Option, Some, None, IsSome, List, [], ◌∷◌, ◌++◌, length}
 use Rattle.std.specs.Prelude.{slice_get, Result, Ok, Err, ⊤}
 use Rattle.std.specs.Borrow.{GName}
 use Rattle.std.specs.Global.{Vec}
@@ -90,27 +90,39 @@ pub record Suffices (old new : Seen) (m : Memory) : Type 0 where
   pub agrees : (a b : ℕ) → m a ≡ Some b → byte_at old.pieces a ≡ Some b
   pub holds : HoldsRead old.ranges new.ranges (byte_at old.pieces) m
 
--- each of the added ranges is shorter than a limit
-abbrev pub AddsShort : ℕ → Option (List Span) → Option (List Span) → Type 0
-AddsShort limit None new = ⊤
-AddsShort limit (Some xs) None = ⊤
-AddsShort limit (Some xs) (Some ys) = (k : ℕ) (s : Span) → length xs ≤ k → slice_get ys k ≡ Some s → s.len < limit
+-- each of the added ranges is one that may be read
+abbrev pub AddsOnly : (Span → Type 0) → Option (List Span) → Option (List Span) → Type 0
+AddsOnly allowed None new = ⊤
+AddsOnly allowed (Some xs) None = ⊤
+AddsOnly allowed (Some xs) (Some ys) = (k : ℕ) (s : Span) → length xs ≤ k → slice_get ys k ≡ Some s → allowed s
 
--- `new` comes of `old` by at most `n` reads of fewer bytes than a limit, and `Q` holds of every memory that
--- covers them, of which this one is one
-pub record ReadingBelow (limit n : ℕ) (old new : Seen) (Q : Memory → Type 0) : Type 0 where
+-- a range shorter than 65536 bytes, in whatever memory
+abbrev pub IsShort : Memory → Span → Type 0
+IsShort m s = s.len < 2 ^ 16
+
+-- exactly the `len` bytes from `addr` on
+abbrev pub IsRange : (addr len : ℕ) → Memory → Span → Type 0
+IsRange addr len m s = s ≡ record { start = addr; len = len }
+
+-- a range shorter than 65536 bytes, or one of some others
+abbrev pub IsShortOr : (Memory → Span → Type 0) → Memory → Span → Type 0
+IsShortOr others m s = IsShort m s ⊎ others m s
+
+-- `new` comes of `old` by at most `n` reads, each of a range that this memory allows, and `Q` holds of every memory
+-- that covers them, of which this one is one
+pub record ReadingOf (allowed : Memory → Span → Type 0) (n : ℕ) (old new : Seen) (Q : Memory → Type 0) : Type 0 where
   pub pieces : new.pieces ≡ old.pieces
   pub counter : new.counter ≡ old.counter
   pub memory : new.may_want_memory ≡ old.may_want_memory
   pub ranges : Extends old.ranges new.ranges
   pub here : HoldsRead old.ranges new.ranges (byte_at old.pieces) (byte_at old.pieces)
-  pub short : AddsShort limit old.ranges new.ranges
+  pub only : AddsOnly (allowed (byte_at old.pieces)) old.ranges new.ranges
   pub cost : new.reads ≤ old.reads + n
   pub holds : (m : Memory) → Suffices old new m → Q m
 
 -- what readers of objects and stacks owe: each range that they read is shorter than 65536 bytes
 abbrev pub Reading : ℕ → Seen → Seen → (Memory → Type 0) → Type 0
-Reading n old new Q = ReadingBelow (2 ^ 16) n old new Q
+Reading n old new Q = ReadingOf IsShort n old new Q
 
 -- `new` comes of `old` by at most `n` reads, and the result is what the definition says over every memory
 -- that covers them

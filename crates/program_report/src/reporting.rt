@@ -6,6 +6,7 @@ ghost use Rattle.object_builder.specs.Room.{HasRoom};
 ghost use Rattle.memory_builder.specs.Mirror.{program_in};
 ghost use Rattle.image_builder.specs.Built.{built_core, built_image};
 ghost use Rattle.image_builder.specs.CoreFiles.{image_path as path_of_image};
+ghost use Rattle.image_builder.specs.Covered.{told_version};
 ghost use Rattle.image_builder.specs.Inverse.{image_alone};
 ghost use Rattle.image_builder.specs.Refusals.{IsBuildable, IsUnbuilt};
 ghost use Rattle.image_builder.specs.RuntimeWords.{HasWordRoom};
@@ -47,10 +48,11 @@ fn list_of(alloc: Global, layout: Layout) -> Result<Layouts, AllocError>
 /// The report of a core and an image that are written of a program, for a layout, a version and a machine, by that
 /// layout alone; or why they are not written (`image_builder::build`).
 ///
-/// Where the layout has room for the types of values, and for the word of the lock beside the runtime record's field,
-/// and neither native frames nor those of other processes are asked for, the report shows that program: its threads,
-/// frames, lines and locals, in order, and nothing else, whatever the addresses of the locals are. The one error of the
-/// report is want of memory then.
+/// Where the layout has room for the types of values (`image_builder::has_room`), and for the word of the lock beside
+/// the runtime record's field (`image_builder::has_word_room`), and neither native frames nor those of other processes
+/// are asked for, the report shows that program: its threads, frames, lines and locals, in order, and nothing else,
+/// whatever the addresses of the locals are; and the version, with no zeros in front of its serial number. The one
+/// error of the report is want of memory then.
 pub fn report_of_program(
     alloc: Global,
     program: &Program,
@@ -67,7 +69,7 @@ pub fn report_of_program(
         (image_alone path_of_image (built_image version.now machine)) (layout ∷ []) config.now (reported answer)) }
     ensures shown { HasRoom layout → HasWordRoom layout machine version.now → AsksNoOther config.now → IfOk result
         (λ answer. IfOk answer (λ report. without_addresses (reported_of report)
-        ≡ shown_report config.now layout version.now (program_in program.now))) }
+        ≡ shown_report config.now layout (told_version version.now) (program_in program.now))) }
     ensures memory { HasRoom layout → HasWordRoom layout machine version.now → AsksNoOther config.now → IfOk result
         (λ answer. IfErr answer (λ error. error ≡ CoreError.OutOfMemory)) }
 {

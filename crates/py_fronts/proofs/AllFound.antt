@@ -1,9 +1,10 @@
 -- No interpreter is left out, where there are no more than are shown.
-use Rattle.std.proofs.Common.{◌≡◌, ◌≢◌, ℕ, zero, suc, ◌+◌, ◌<◌, ◌≤◌, Bool, true, false, ltb, ◌||◌, List, [], ◌∷◌, ◌++◌}
-use Rattle.std.proofs.Common.{length, refl, sym, subst, ◌∙◌, ap, arith, append-nil, append_assoc, get_or}
-use Rattle.std.specs.Prelude.{All, Ok, Err, Option, Some, None, Result, IfOk, slice_get, nat_eq}
+use Rattle.std.proofs.Common.{◌≡◌, ◌≢◌, ℕ, zero, suc, ◌+◌, ◌<◌, ◌≤◌, Bool, true, false, ltb, ◌||◌, List, [], ◌∷◌}
+use Rattle.std.proofs.Common.{length, refl, sym, subst, ◌∙◌, ap, arith, get_or}
+use Rattle.std.specs.Prelude.{All, Ok, Err, Option, Some, None, Result, IfOk, option_map, slice_get, nat_eq, not}
+use Rattle.std.specs.Prelude.{if◌then◌else◌}
 use Rattle.std.proofs.lemmas.Bool.Decides.{nat_tests}
-use Rattle.std.proofs.lemmas.List.Elements.{All-cons, All-from_get_or, All-nil, All-weaker}
+use Rattle.std.proofs.lemmas.List.Elements.{All-cons, All-from_get_or, All-head, All-nil, All-tail, All-weaker}
 use Rattle.std.proofs.lemmas.List.Folds.{list_any-append}
 use Rattle.std.proofs.lemmas.Option.{slice_get-get_or, slice_get_past}
 use Rattle.process_memory.specs.Memory.{Memory}
@@ -15,78 +16,21 @@ use Rattle.py_process.specs.Facts.{Known}
 use Rattle.py_fronts.specs.declared.interpreters.FoundInterpreter.{FoundInterpreter}
 use Rattle.py_fronts.specs.declared.interpreters.FoundInterpreters.{FoundInterpreters}
 use Rattle.py_fronts.specs.Answers.{IsOrNoMemory}
-use Rattle.py_fronts.specs.Candidates.{named_candidates, record_candidates, searched_candidates}
+use Rattle.py_fronts.specs.Candidates.{named_candidates, other_than, others_led_to, record_candidates}
+use Rattle.py_fronts.specs.Candidates.{searched_candidates}
 use Rattle.py_fronts.specs.Front.Ending.{Whole}
 use Rattle.py_fronts.specs.Interpreters.{Finds, address_at, after_candidate, after_candidates, after_record_of}
 use Rattle.py_fronts.specs.Interpreters.{after_records, finds_of, finds_result, headed_at, headed_by, interpreter_limit}
 use Rattle.py_fronts.specs.Interpreters.{interpreters_at, is_found, none_found, shown_head, shown_where, whole_head}
-use Rattle.py_fronts.specs.Interpreters.{with_head, with_one}
+use Rattle.py_fronts.specs.Interpreters.{with_name, with_one}
 use Rattle.py_fronts.specs.ShownInterpreters.{AreAll, IsHeaded, IsTaken, IsTakenWhole}
 use Rattle.py_fronts.specs.ThreadFronts.{threads_front}
 use Rattle.py_fronts.proofs.FindLaws.{interpreters_shown}
-
--- ---- what is found stays so
-
-record Grows (r new : Finds) : Type 0 where
-  added : List FoundInterpreter
-  found : new.found ≡ r.found ++ added
-  fewer : new.more ≡ false → r.more ≡ false
-
-same_grows : (r : Finds) → Grows r r
-same_grows r = record { added = []; found = sym (append-nil r.found); fewer = λ e. e }
-
-grows_on : (a b c : Finds) → Grows a b → Grows b c → Grows a c
-grows_on a b c one two = record {
-  added = one.added ++ two.added;
-  found = two.found ∙ ap (λ xs. xs ++ two.added) one.found ∙ append_assoc a.found one.added two.added;
-  fewer = λ e. one.fewer (two.fewer e);
-}
-
-still : (a : ℕ) (r new : Finds) → Grows r new → is_found r.found a ≡ true → is_found new.found a ≡ true
-still a r new grows e = ap (λ xs. is_found xs a) grows.found
-    ∙ list_any-append (λ (one : FoundInterpreter). nat_eq one.address a) r.found grows.added ∙ rw e refl
-
-one_grows : (r : Finds) (h : FoundInterpreter) (room : Bool) → ltb (length r.found) interpreter_limit ≡ room
-    → Grows r (with_one r h)
-one_grows r h true e = rw e (record { added = h ∷ []; found = refl; fewer = λ more. more })
-one_grows r h false e = rw e (record { added = []; found = sym (append-nil r.found); fewer = λ more. absurd (cc) })
-
-head_grows : (r : Finds) (searched : Bool) (a : ℕ) (head : Option ℕ) → Grows r (with_head r searched a head)
-head_grows r searched a None = same_grows r
-head_grows r searched a (Some h) = one_grows r (record { address = a; head = h; searched = searched })
-    (ltb (length r.found) interpreter_limit) refl
-
-candidate_grows : (searched : Bool) (c : ℕ → Bool) (l : Layout) (m : Memory) (r : Finds) (a : ℕ) (known : Bool)
-    → is_found r.found a ≡ known → Grows r (after_candidate searched c l m r a)
-candidate_grows searched c l m r a true e = rw e (same_grows r)
-candidate_grows searched c l m r a false e = rw e (head_grows r searched a (shown_head searched c l m a))
-
-candidates_grow : (searched : Bool) (c : ℕ → Bool) (l : Layout) (m : Memory) (r : Finds) (xs : List ℕ)
-    → Grows r (after_candidates searched c l m r xs)
-unfolding after_candidates
-candidates_grow searched c l m r [] = same_grows r
-candidates_grow searched c l m r (a ∷ rest) =
-    grows_on r (after_candidate searched c l m r a) _ (candidate_grows searched c l m r a (is_found r.found a) refl)
-    (candidates_grow searched c l m (after_candidate searched c l m r a) rest)
-
-record_grows : (c : ℕ → Bool) (l : Layout) (m : Memory) (r : Finds) (address : Option ℕ)
-    → Grows r (after_record_of c l m r address)
-record_grows c l m r None = same_grows r
-record_grows c l m r (Some a) = candidates_grow false c l m r (record_candidates l m a)
-
-records_grow : (c : ℕ → Bool) (l : Layout) (m : Memory) (turns index : ℕ) (r : Finds)
-    → Grows r (after_records c l m turns index r)
-unfolding after_records
-records_grow c l m zero index r = same_grows r
-records_grow c l m (suc turns) index r =
-    grows_on r (after_record_of c l m r (address_at r.found index)) _
-    (record_grows c l m r (address_at r.found index))
-    (records_grow c l m turns (index + 1) (after_record_of c l m r (address_at r.found index)))
+use Rattle.py_fronts.proofs.Growing.{Grows, at_still, candidates_grow, grows_on, records_grow, same_grows, still}
+use Rattle.py_fronts.proofs.FoundMarks.{found_at, found_kept}
+use Rattle.py_fronts.proofs.FoundMarks.{same_address, same_by}
 
 -- ---- a candidate that is an interpreter's is taken
-
-same_address : (a : ℕ) → nat_eq a a ≡ true
-same_address a = grind (arith, nat_tests)
 
 names_head : (c : ℕ → Bool) (l : Layout) (m : Memory) (a head : ℕ) → head ≢ 0 → c head ≡ true
     → interpreter_named_by l m head ≡ Ok a → headed_by c l m a (Ok head) ≡ Some head
@@ -126,10 +70,15 @@ one_taken r h false e few = absurd (full e few)
     full : ltb (length r.found) interpreter_limit ≡ false → (with_one r h).more ≡ false → ⊥
     full e few = let more : (with_one r h).more ≡ true = rw e refl in cc
 
+pub named_found : (r : Finds) (searched : Bool) (b a : ℕ)
+    → is_found (with_name r searched b).found a ≡ is_found r.found a
+named_found r true b a = refl
+named_found r false b a = found_kept b r.found a
+
 taken_one : (searched : Bool) (c : ℕ → Bool) (l : Layout) (m : Memory) (r : Finds) (a head : ℕ) (known : Bool)
     → is_found r.found a ≡ known → shown_head searched c l m a ≡ Some head
     → (after_candidate searched c l m r a).more ≡ false → is_found (after_candidate searched c l m r a).found a ≡ true
-taken_one searched c l m r a head true e shown few = rw e e
+taken_one searched c l m r a head true e shown few = rw e (named_found r searched a a ∙ e)
 taken_one searched c l m r a head false e shown few =
     let is : after_candidate searched c l m r a ≡ with_one r
     (record { address = a; head = head; searched = searched }) = rw (e, shown) refl in
@@ -178,65 +127,90 @@ none_behind c l m (suc turns) index r past =
     let none : slice_get r.found index ≡ None = slice_get_past r.found index past in
     rw none (none_behind c l m turns (index + 1) r (omega (arith, past)))
 
-get_front : (xs ys : List FoundInterpreter) (i : ℕ) (x : FoundInterpreter) → slice_get xs i ≡ Some x
-    → slice_get (xs ++ ys) i ≡ Some x
-get_front [] ys i x e = absurd (cc)
-get_front (y ∷ xs) ys zero x e = e
-get_front (y ∷ xs) ys (suc i) x e = get_front xs ys i x e
-
-past_none : (xs : List FoundInterpreter) (i : ℕ) → slice_get xs i ≡ None → length xs ≤ i
+past_none : (xs : List FoundInterpreter) (i : ℕ) → address_at xs i ≡ None → length xs ≤ i
 past_none [] i e = omega arith
 past_none (x ∷ xs) zero e = absurd (cc)
 past_none (x ∷ xs) (suc i) e = omega (arith, past_none xs i e)
 
-record_then : (c : ℕ → Bool) (l : Layout) (m : Memory) (turns index : ℕ) (r : Finds) (one : FoundInterpreter)
-    (d : Option FoundInterpreter) → slice_get r.found index ≡ d
-    → (after_records c l m (suc turns) index r).more ≡ false → slice_get
-    (after_records c l m (suc turns) index r).found index ≡ Some one
-    → All (IsTaken c l m (after_records c l m (suc turns) index r)) (record_candidates l m one.address)
-unfolding after_records
-record_then c l m turns index r one None e few at =
-    let same = none_behind c l m (suc turns) index r (past_none r.found index e) in
-    absurd (let none : slice_get (after_records c l m (suc turns) index r).found index ≡ None = ap
-    (λ (x : Finds). slice_get x.found index) same ∙ e in cc)
-record_then c l m turns index r one (Some x) e few at =
-    let grows = records_grow c l m (suc turns) index r in
-    let here : slice_get (after_records c l m (suc turns) index r).found index ≡ Some x = ap
-    (λ xs. slice_get xs index) grows.found ∙ get_front r.found grows.added index x e in
-    let same : x ≡ one = let both : Some x ≡ Some one = sym here ∙ at in cc in
-    let address : address_at r.found index ≡ Some one.address = rw e
-    (ap (λ (y : FoundInterpreter). Some y.address) same) in
-    let behind = after_candidates false c l m r (record_candidates l m one.address) in
-    let is : after_records c l m (suc turns) index r ≡ after_records c l m turns (index + 1) behind = ap
-    (λ x. after_records c l m turns (index + 1) (after_record_of c l m r x)) address in
-    subst (λ new. All (IsTaken c l m new) (record_candidates l m one.address)) (sym is)
-    (named_then c l m r (after_records c l m turns (index + 1) behind) (record_candidates l m one.address)
-    (records_grow c l m turns (index + 1) behind) (ap (λ (x : Finds). x.more) (sym is) ∙ few))
+-- what holds of all after those that the record of one leads to, and goes on to hold, holds after the records of all
+module _ (c : ℕ → Bool) (l : Layout) (m : Memory) (b : ℕ) (Q : Finds → Type 0) where
+  reaches_here : (turns index : ℕ) (r : Finds) (d : Option ℕ)
+      → ((r : Finds) → Q (after_candidates false c l m r (others_led_to l m b)))
+      → ((turns index : ℕ) (r : Finds) → Q r → Q (after_records c l m turns index r)) → address_at r.found index ≡ d
+      → address_at (after_records c l m (suc turns) index r).found index ≡ Some b
+      → Q (after_records c l m (suc turns) index r)
+  unfolding after_records
+  reaches_here turns index r None each kept e at =
+      let same = none_behind c l m (suc turns) index r (past_none r.found index e) in
+      absurd (let none : address_at (after_records c l m (suc turns) index r).found index ≡ None = ap
+      (λ (x : Finds). address_at x.found index) same ∙ e in cc)
+  reaches_here turns index r (Some x) each kept e at =
+      let here = at_still r (after_records c l m (suc turns) index r) index x (records_grow c l m (suc turns) index r)
+      e in
+      let same : x ≡ b = let both : Some x ≡ Some b = sym here ∙ at in cc in
+      let behind = after_candidates false c l m r (others_led_to l m b) in
+      let is : after_records c l m (suc turns) index r ≡ after_records c l m turns (index + 1) behind = ap
+      (λ y. after_records c l m turns (index + 1) (after_record_of c l m r y)) (e ∙ ap Some same) in
+      subst Q (sym is) (kept turns (index + 1) behind (each r))
 
-record_place : (c : ℕ → Bool) (l : Layout) (m : Memory) (turns index : ℕ) (r : Finds) (i : ℕ) (one : FoundInterpreter)
-    (b : Bool) → nat_eq i index ≡ b → (after_records c l m (suc turns) index r).more ≡ false → index ≤ i
-    → slice_get (after_records c l m (suc turns) index r).found i ≡ Some
-    one → (index + 1 ≤ i → All (IsTaken c l m (after_records c l m (suc turns) index r))
-    (record_candidates l m one.address))
-    → All (IsTaken c l m (after_records c l m (suc turns) index r)) (record_candidates l m one.address)
-record_place c l m turns index r i one true e few from at later =
-    let same : i ≡ index = grind (arith, nat_tests) in
-    record_then c l m turns index r one (slice_get r.found index) refl few
-    (ap (slice_get (after_records c l m (suc turns) index r).found) (sym same) ∙ at)
-record_place c l m turns index r i one false e few from at later =
-    let apart : i ≢ index = grind (arith, nat_tests) in
-    later (omega (arith, from, apart))
+  reaches_place : (turns index : ℕ) (r : Finds) (i : ℕ) (place : Bool)
+      → ((r : Finds) → Q (after_candidates false c l m r (others_led_to l m b)))
+      → ((turns index : ℕ) (r : Finds) → Q r → Q (after_records c l m turns index r)) → nat_eq i index ≡ place
+      → index ≤ i → address_at (after_records c l m (suc turns) index r).found i ≡ Some b
+      → (index + 1 ≤ i → Q (after_records c l m (suc turns) index r)) → Q (after_records c l m (suc turns) index r)
+  reaches_place turns index r i true each kept e from at later =
+      let same : i ≡ index = grind (arith, nat_tests) in
+      reaches_here turns index r (address_at r.found index) each kept refl
+      (ap (address_at (after_records c l m (suc turns) index r).found) (sym same) ∙ at)
+  reaches_place turns index r i false each kept e from at later =
+      let apart : i ≢ index = grind (arith, nat_tests) in
+      later (omega (arith, from, apart))
 
-records_taken : (c : ℕ → Bool) (l : Layout) (m : Memory) (turns index : ℕ) (r : Finds) (i : ℕ)
-    (one : FoundInterpreter) → (after_records c l m turns index r).more ≡ false → index ≤ i → i < index + turns
-    → slice_get (after_records c l m turns index r).found i ≡ Some one → All
-    (IsTaken c l m (after_records c l m turns index r)) (record_candidates l m one.address)
-unfolding after_records
-records_taken c l m zero index r i one few from below at = absurd (omega (arith, from, below))
-records_taken c l m (suc turns) index r i one few from below at =
-    record_place c l m turns index r i one (nat_eq i index) refl few from at
-    (λ later. records_taken c l m turns (index + 1) (after_record_of c l m r (address_at r.found index)) i one few
-    later (omega (arith, below)) at)
+  pub record_reaches : (turns index : ℕ) (r : Finds) (i : ℕ)
+      → ((r : Finds) → Q (after_candidates false c l m r (others_led_to l m b)))
+      → ((turns index : ℕ) (r : Finds) → Q r → Q (after_records c l m turns index r)) → index ≤ i → i < index + turns
+      → address_at (after_records c l m turns index r).found i ≡ Some b → Q (after_records c l m turns index r)
+  unfolding after_records
+  record_reaches zero index r i each kept from below at = absurd (omega (arith, from, below))
+  record_reaches (suc turns) index r i each kept from below at =
+      reaches_place turns index r i (nat_eq i index) each kept refl from at
+      (λ later. record_reaches turns (index + 1) (after_record_of c l m r (address_at r.found index)) i each kept later
+      (omega (arith, below)) at)
+
+but_by : (P : ℕ → Type 0) (a x : ℕ) (xs others : List ℕ) (b : Bool) → nat_eq x a ≡ b → P a
+    → All P (if not b then x ∷ others else others) → (All P others → All P xs) → All P (x ∷ xs)
+but_by P a x xs others true e p h rest = All-cons P x xs (subst P (sym (same_by x a e)) p) (rest h)
+but_by P a x xs others false e p h rest =
+    All-cons P x xs (All-head P x others h) (rest (All-tail P x others h))
+
+-- what holds of an address, and of those of a list that are not it, holds of the list
+pub all_but : (P : ℕ → Type 0) (a : ℕ) (xs : List ℕ) → P a → All P (other_than a xs) → All P xs
+all_but P a [] p h = All-nil P
+all_but P a (x ∷ xs) p h =
+    but_by P a x xs (other_than a xs) (nat_eq x a) refl p h (λ others. all_but P a xs p others)
+
+record_taken : (c : ℕ → Bool) (l : Layout) (m : Memory) (r : Finds) (i : ℕ) (d : FoundInterpreter)
+    → (after_records c l m interpreter_limit 0 r).more ≡ false
+    → i < length (after_records c l m interpreter_limit 0 r).found
+    → length (after_records c l m interpreter_limit 0 r).found ≤ interpreter_limit
+    → All (IsTaken c l m (after_records c l m interpreter_limit 0 r))
+    (record_candidates l m (get_or (after_records c l m interpreter_limit 0 r).found i d).address)
+unfolding others_led_to
+record_taken c l m r i d few below within =
+    let all = after_records c l m interpreter_limit 0 r in
+    let one = get_or all.found i d in
+    all_but (IsTaken c l m all) one.address (record_candidates l m one.address)
+    (λ head headed. found_at all.found i d below)
+    (record_reaches c l m one.address
+    (λ x. x.more ≡ false → All (IsTaken c l m x) (others_led_to l m one.address)) interpreter_limit 0 r i
+    (λ x. named_then c l m x (after_candidates false c l m x (others_led_to l m one.address))
+    (others_led_to l m one.address) (same_grows _))
+    (λ turns index x h few. let grows = records_grow c l m turns index x in
+    All-weaker (IsTaken c l m x) (IsTaken c l m (after_records c l m turns index x))
+    (λ a is head headed. still a x (after_records c l m turns index x) grows (is head headed))
+    (others_led_to l m one.address) (h (grows.fewer few)))
+    (omega arith) (omega (arith, below, within))
+    (ap (option_map (λ (x : FoundInterpreter). x.address)) (slice_get-get_or all.found i d below)) few)
 
 -- ---- all of them
 
@@ -257,8 +231,7 @@ interpreters_all c k v l m few =
           (grows_on named first all one (grows_on first searched all two three)) few;
       recorded = All-from_get_or (λ (h : FoundInterpreter). All (IsTaken c l m all) (record_candidates l m h.address))
           all.found none
-          (λ i below. records_taken c l m interpreter_limit 0 searched i (get_or all.found i none) few (omega arith)
-          (omega (arith, below, (interpreters_shown c k v l m).few)) (slice_get-get_or all.found i none below));
+          (λ i below. record_taken c l m searched i none few below (interpreters_shown c k v l m).few);
       searched = All-weaker (IsShownIn true c l m all) (IsTakenWhole c l m all)
           (λ a h head headed whole. h head (is_whole c l m a head headed whole)) (searched_candidates k m)
           (taken_then true c l m first all (searched_candidates k m) three few);

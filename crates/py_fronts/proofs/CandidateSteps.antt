@@ -1,5 +1,5 @@
 -- Candidates, one after another.
-use Rattle.std.proofs.Common.{◌≡◌, ℕ, ◌*◌, ◌/◌, ◌<◌, ◌≤◌, min, List, [], ◌∷◌, ◌++◌, length, refl, sym, ◌∙◌, ap, arith}
+use Rattle.std.proofs.Common.{◌≡◌, ℕ, suc, ◌*◌, ◌/◌, ◌<◌, ◌≤◌, min, Bool, true, false, not, List, [], ◌∷◌, ◌++◌, length, refl, sym, ◌∙◌, ap, arith}
 use Rattle.std.proofs.Common.{append-nil, append_assoc}
 use Rattle.std.specs.Prelude.{Ok, Err, Option, Some, None, Result, if◌then◌else◌, nat_eq, option_map, option_to_list}
 use Rattle.elf64_core.specs.Fields.{u64_in}
@@ -19,9 +19,9 @@ use Rattle.py_process.proofs.Words.{word_first, word_none}
 use Rattle.py_stacks.specs.declared.error.StackError.{StackError}
 use Rattle.py_fronts.specs.Answers.{IsOrNoMemory}
 use Rattle.py_fronts.specs.Candidates.{AddsWords, bss_of_image, head_given, head_in_sections, led_to}
-use Rattle.py_fronts.specs.Candidates.{named_candidates, or_else, runtime_in}
+use Rattle.py_fronts.specs.Candidates.{named_candidates, or_else, other_than, others_led_to, runtime_in}
 use Rattle.py_fronts.specs.Candidates.{record_candidates, record_words, runtime_of_image, searched_candidates}
-use Rattle.py_fronts.specs.Candidates.{with_records}
+use Rattle.py_fronts.specs.Candidates.{record_most, record_words_limit, with_records}
 use Rattle.py_fronts.proofs.IdleSteps.{led_few}
 
 pub words_start : (start bytes rest : List ℕ) → rest ≡ bytes → start ++ words_of rest ≡ start ++ words_of bytes
@@ -135,9 +135,30 @@ unfolding record_candidates
 record_added l m a words read old new (Ok u) is same h = h ∙ ap (λ ws. old ++ led_to l m 0 ws) (same ∙ is)
 record_added l m a words read old new (Err e) is same h = h
 
-pub record_led : (l : Layout) (m : Memory) (a : ℕ) (words one : List ℕ) → words ≡ []
-    → one ≡ words ++ record_candidates l m a → one ≡ record_candidates l m a
-record_led l m a words one h p = p ∙ ap (λ ws. ws ++ record_candidates l m a) h
+kept_few : (b : Bool) (x : ℕ) (xs : List ℕ) (n : ℕ) → length xs ≤ n → length (if b then x ∷ xs else xs) ≤ suc n
+kept_few true x xs n h = omega (arith, h)
+kept_few false x xs n h = omega (arith, h)
+
+others_few : (a : ℕ) (xs : List ℕ) → length (other_than a xs) ≤ length xs
+others_few a [] = omega arith
+others_few a (x ∷ xs) = kept_few (not (nat_eq x a)) x (other_than a xs) (length xs) (others_few a xs)
+
+-- its reads, by what is read
+pub record_cost : (l : Layout) (m : Memory) (a : ℕ) (words read : List ℕ) → words ≡ record_words l m a → read ≡ words
+    → length (led_to l m 0 read) ≡ length (record_candidates l m a)
+unfolding record_candidates
+record_cost l m a words read is same = ap (λ ws. length (led_to l m 0 ws)) (same ∙ is)
+
+pub others_within : (l : Layout) (m : Memory) (a : ℕ) (words : List ℕ) → words ≡ others_led_to l m a
+    → length words ≤ length (record_candidates l m a)
+unfolding others_led_to
+others_within l m a words e = omega (arith, ap length e, others_few a (record_candidates l m a))
+
+pub record_led : (l : Layout) (m : Memory) (a : ℕ) (words one others : List ℕ) → words ≡ []
+    → one ≡ words ++ record_candidates l m a → others ≡ other_than a one → others ≡ others_led_to l m a
+unfolding others_led_to
+record_led l m a words one others h p e =
+    e ∙ ap (other_than a) (p ∙ ap (λ ws. ws ++ record_candidates l m a) h)
 
 pub bss_none : (m : Memory) (binary : Option BinaryInfo) (words : List ℕ) → binary ≡ None → words ≡ words ++ bss_of_image m (option_map facts_of binary)
 bss_none m binary words e = rw e (sym (append-nil words))
@@ -159,15 +180,20 @@ few_in m a n (Ok bytes) e = omega (arith, words_few bytes, record_length m a n b
 few_in m a n (Err f) e = omega arith
 
 pub words_few_recorded : (l : Layout) (m : Memory) (a : ℕ) (words : List ℕ) → words ≡ record_words l m a
-    → length words ≤ 1024
+    → length words ≤ min (l.interpreter.threads / 8) record_words_limit
 unfolding record_words
 words_few_recorded l m a words e =
     let size = 8 * min (l.interpreter.threads / 8) 1024 in
     let few = few_in m a size (record_at m a size) refl in
     omega (arith, few, ap length e)
 
-pub record_few : (l : Layout) (m : Memory) (a : ℕ) (words : List ℕ) → words ≡ record_candidates l m a
-    → length words ≤ 66560
+pub candidates_few : (l : Layout) (m : Memory) (a : ℕ) → length (record_candidates l m a) ≤ record_most l
 unfolding record_candidates
+candidates_few l m a =
+    omega (arith, led_few l m 0 (record_words l m a), words_few_recorded l m a (record_words l m a) refl)
+
+pub record_few : (l : Layout) (m : Memory) (a : ℕ) (words : List ℕ) → words ≡ others_led_to l m a
+    → length words ≤ record_most l
+unfolding others_led_to
 record_few l m a words e =
-    omega (arith, led_few l m 0 (record_words l m a), words_few_recorded l m a (record_words l m a) refl, ap length e)
+    omega (arith, others_few a (record_candidates l m a), candidates_few l m a, ap length e)

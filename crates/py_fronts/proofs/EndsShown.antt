@@ -1,10 +1,8 @@
 -- Both ends of a chain as they are shown, and chains of threads.
-use Rattle.std.proofs.Common.{◌≡◌, ℕ, ◌+◌, ◌*◌, ◌-◌, ◌≤◌, Bool, true, false, leb, List, [], length, map, take, drop}
+use Rattle.std.proofs.Common.{◌≡◌, ℕ, ◌+◌, ◌*◌, ◌≤◌, List, length, map}
 use Rattle.std.proofs.Common.{refl, ◌∙◌, ap, arith}
-use Rattle.std.proofs.Math.Nat.{mul-add, mul-le-mul_left}
-use Rattle.std.proofs.lemmas.Bool.{leb-false, leb-true}
-use Rattle.std.proofs.lemmas.List.{length-drop, length-take-le}
-use Rattle.std.specs.Prelude.{Ok, Err, Result, if◌then◌else◌, IfOk}
+use Rattle.std.proofs.Math.Nat.{mul-add}
+use Rattle.std.specs.Prelude.{Ok, Err, Result, IfOk}
 use Rattle.process_memory.specs.Memory.{Found, Memory}
 use Rattle.process_memory.specs.Seen.{FaultIs}
 use Rattle.py_fields.specs.declared.layout.Layout.{Layout}
@@ -21,21 +19,11 @@ use Rattle.py_fronts.specs.Members.{Chained, chained_of_result, kept_of, members
 use Rattle.py_fronts.specs.Standings.{standing_at, standing_reads}
 use Rattle.py_fronts.proofs.FirstFrameLaws.{frames_equal}
 
-few_by : (limit : ℕ) (kept : List ℕ) (few : Bool) → leb (length kept) (2 * limit) ≡ few
-    → length (if few then kept else take limit kept) + length (if few then [] else drop (length kept - limit) kept) ≤ 2 * limit
-few_by limit kept true e = omega (arith, leb-true (length kept) (2 * limit) e)
-few_by limit kept false e =
-    let more = leb-false (length kept) (2 * limit) e in
-    omega (arith, more, length-take-le limit kept (omega (arith, more)), length-drop (length kept - limit) kept)
+-- both ends together are those that are shown
+pub ends_few : (q : Asked) (limit : ℕ) (kept first last : List ℕ) → first ≡ shown_first limit kept → last ≡ shown_last limit kept → standing_reads q * length first + standing_reads q * length last ≤ ends_reads q limit kept
+ends_few q limit kept first last f e = rw (← f, ← e) (omega (arith, mul-add (standing_reads q) (length first) (length last)))
 
--- both ends together are at most twice as many as were asked for
-pub ends_few : (q : Asked) (limit : ℕ) (kept first last : List ℕ) → first ≡ shown_first limit kept → last ≡ shown_last limit kept → standing_reads q * length first + standing_reads q * length last ≤ ends_reads q limit
-ends_few q limit kept first last f e =
-    let few = few_by limit kept (leb (length kept) (2 * limit)) refl in
-    let both : length first + length last ≤ 2 * limit = rw (f, e) few in
-    omega (arith, mul-add (standing_reads q) (length first) (length last), mul-le-mul_left (standing_reads q) both)
-
-pub first_few : (q : Asked) (limit : ℕ) (kept first : List ℕ) → first ≡ shown_first limit kept → standing_reads q * length first ≤ ends_reads q limit
+pub first_few : (q : Asked) (limit : ℕ) (kept first : List ℕ) → first ≡ shown_first limit kept → standing_reads q * length first ≤ ends_reads q limit kept
 first_few q limit kept first f = let both = ends_few q limit kept first (shown_last limit kept) f refl in omega (arith, both)
 
 pub ends_shown : (q : Asked) (l : Layout) (m : Memory) (limit : ℕ) (c : Chained) (first last : List ℕ) (between : ℕ) (r : FramesShown) → first ≡ shown_first limit c.kept → between ≡ number_between limit c.kept → last ≡ shown_last limit c.kept
@@ -50,6 +38,12 @@ pub chain_there : (l : Layout) (m : Memory) (limit : ℕ) (thread : List ℕ) (f
     → IsOrNoMemory (chain_of_thread l m limit thread) result
 unfolding chain_of_thread
 chain_there l m limit thread first result e h = rw e h
+
+-- its reads, where its first member is known
+pub chain_cost : (l : Layout) (m : Memory) (limit : ℕ) (thread : List ℕ) (first : ℕ) → first_frame_at l m thread ≡ Ok first
+    → (chain_of_thread l m limit thread).met ≡ length (members_front l m limit first).members
+unfolding chain_of_thread
+chain_cost l m limit thread first e = rw e refl
 
 missing_by : (l : Layout) (m : Memory) (limit : ℕ) (d : Found ℕ) (e : StackError) (result : Result Chain StackError) → FaultIs d (stack_fault e) → HasNoChain e result → IsOrNoMemory (chain_from l m limit d) (chained_of_result result)
 missing_by l m limit d (stack.Unreadable addr len) (Ok c) h is = rw h is

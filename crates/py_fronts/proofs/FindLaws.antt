@@ -1,9 +1,10 @@
 -- The interpreters that are found are shown, each once.
-use Rattle.std.proofs.Common.{◌≡◌, ℕ, zero, suc, ◌+◌, ◌<◌, Bool, true, false, ltb, ◌||◌, List, [], ◌∷◌, ◌++◌, length}
-use Rattle.std.proofs.Common.{refl, sym, ◌∙◌, ap, arith, length-append}
+use Rattle.std.proofs.Common.{◌≡◌, ℕ, zero, suc, ◌+◌, ◌<◌, Bool, true, false, ltb, not, ◌||◌, ◌&&◌, List, [], ◌∷◌, ◌++◌}
+use Rattle.std.proofs.Common.{length, map, refl, sym, ◌∙◌, ap, arith, length-append}
 use Rattle.std.specs.Prelude.{Ok, Err, Option, Some, None, Result, IfOk, nat_eq, if◌then◌else◌}
 use Rattle.std.proofs.lemmas.Bool.Decides.{nat_tests}
-use Rattle.std.proofs.lemmas.List.Elements.{All-append, All-cons, All-nil}
+use Rattle.std.proofs.lemmas.List.Elements.{All-append, All-cons, All-map, All-nil, All-weaker}
+use Rattle.std.proofs.lemmas.List.{length-map}
 use Rattle.std.proofs.lemmas.List.Folds.{list_any-append}
 use Rattle.process_memory.specs.Memory.{Found, Memory}
 use Rattle.py_version.specs.declared.version.Version.{Version}
@@ -14,18 +15,16 @@ use Rattle.py_process.specs.Facts.{Known}
 use Rattle.py_fronts.specs.declared.interpreters.FoundInterpreter.{FoundInterpreter}
 use Rattle.py_fronts.specs.declared.interpreters.FoundInterpreters.{FoundInterpreters}
 use Rattle.py_fronts.specs.Answers.{IsOrNoMemory}
-use Rattle.py_fronts.specs.Candidates.{named_candidates, record_candidates, searched_candidates}
+use Rattle.py_fronts.specs.Candidates.{named_candidates, others_led_to, searched_candidates}
 use Rattle.py_fronts.specs.Front.{Ending}
 use Rattle.py_fronts.specs.Front.Ending.{Whole, Cut, Broken}
 use Rattle.py_fronts.specs.Interpreters.{Finds, address_at, after_candidate, after_candidates, after_record_of}
 use Rattle.py_fronts.specs.Interpreters.{after_records, finds_of, finds_result, headed_at, headed_by, interpreter_limit}
 use Rattle.py_fronts.specs.Interpreters.{interpreters_at, is_found, names_it, none_found, shown_head, shown_where}
-use Rattle.py_fronts.specs.Interpreters.{whole_head, with_head}
+use Rattle.py_fronts.specs.Interpreters.{named_if, whole_head, with_head, with_name}
 use Rattle.py_fronts.specs.ShownInterpreters.{AreShown, EachOnce, IsHeaded, IsShown}
 use Rattle.py_fronts.specs.ThreadFronts.{threads_front}
-
-same_by : (a b : ℕ) → nat_eq a b ≡ true → a ≡ b
-same_by a b e = grind (arith, nat_tests)
+use Rattle.py_fronts.proofs.FoundMarks.{found_kept, same_by}
 
 named_by_test : (named a head h : ℕ) (b : Bool) → nat_eq named a ≡ b → ◌≡◌ {A = Option ℕ} (if b then Some head else None) (Some h) → (named ≡ a) × (head ≡ h)
 named_by_test named a head h true e s = (same_by named a e, let k : head ≡ h = cc in k)
@@ -114,8 +113,32 @@ head_by_case : (searched : Bool) (c : ℕ → Bool) (l : Layout) (m : Memory) (r
 head_by_case searched c l m r a None e s new = s
 head_by_case searched c l m r a (Some h) e s new = one_by c l m r (record { address = a; head = h; searched = searched }) (ltb (length r.found) interpreter_limit) refl s (shown_is searched c l m a h e) new
 
-candidate_by : (searched : Bool) (c : ℕ → Bool) (l : Layout) (m : Memory) (r : Finds) (a : ℕ) (known : Bool) → is_found r.found a ≡ known → AreShown c l m r → AreShown c l m (if known then r else with_head r searched a (shown_head searched c l m a))
-candidate_by searched c l m r a true e s = s
+-- what is named stays what it is
+
+and_first : (a b : Bool) → (a && b) ≡ true → a ≡ true
+and_first true b e = refl
+and_first false b e = absurd (cc)
+
+once_kept : (a : ℕ) (xs : List FoundInterpreter) → EachOnce xs → EachOnce (map (named_if a) xs)
+once_kept a [] once = tt
+once_kept a (one ∷ rest) once = (found_kept a rest one.address ∙ once.0, once_kept a rest once.1)
+
+named_shown : (c : ℕ → Bool) (l : Layout) (m : Memory) (r : Finds) (searched : Bool) (a : ℕ) → AreShown c l m r
+    → AreShown c l m (with_name r searched a)
+named_shown c l m r true a s = s
+named_shown c l m r false a s = record {
+  each = All-map (IsShown c l m) (named_if a) r.found
+      (All-weaker (IsShown c l m) (λ one. IsShown c l m (named_if a one))
+      (λ one h. record {
+        headed = h.headed;
+        whole = λ e. h.whole (and_first one.searched (not (nat_eq one.address a)) e);
+      }) r.found s.each);
+  once = once_kept a r.found s.once;
+  few = omega (arith, s.few, length-map r.found (named_if a));
+}
+
+candidate_by : (searched : Bool) (c : ℕ → Bool) (l : Layout) (m : Memory) (r : Finds) (a : ℕ) (known : Bool) → is_found r.found a ≡ known → AreShown c l m r → AreShown c l m (if known then with_name r searched a else with_head r searched a (shown_head searched c l m a))
+candidate_by searched c l m r a true e s = named_shown c l m r searched a s
 candidate_by searched c l m r a false e s = head_by_case searched c l m r a (shown_head searched c l m a) refl s e
 
 candidates_shown : (searched : Bool) (c : ℕ → Bool) (l : Layout) (m : Memory) (r : Finds) (xs : List ℕ) → AreShown c l m r → AreShown c l m (after_candidates searched c l m r xs)
@@ -125,7 +148,7 @@ candidates_shown searched c l m r (a ∷ rest) s = candidates_shown searched c l
 
 record_shown : (c : ℕ → Bool) (l : Layout) (m : Memory) (r : Finds) (address : Option ℕ) → AreShown c l m r → AreShown c l m (after_record_of c l m r address)
 record_shown c l m r None s = s
-record_shown c l m r (Some a) s = candidates_shown false c l m r (record_candidates l m a) s
+record_shown c l m r (Some a) s = candidates_shown false c l m r (others_led_to l m a) s
 
 records_shown : (c : ℕ → Bool) (l : Layout) (m : Memory) (turns index : ℕ) (r : Finds) → AreShown c l m r → AreShown c l m (after_records c l m turns index r)
 unfolding after_records

@@ -10,12 +10,16 @@ pub mod Shown
 pub mod EndsShown
 pub mod ThreadSteps
 pub mod ThreadsLaws
+pub mod ReadLimits
 pub mod IdleSteps
 pub mod CandidateSteps
 pub mod HeadSteps
+pub mod FoundMarks
+pub mod Growing
 pub mod FindSteps
 pub mod FindLaws
 pub mod FrontSteps
 pub mod MemberFrames
 pub mod ReportLaws
 pub mod AllFound
+pub mod NameLaws

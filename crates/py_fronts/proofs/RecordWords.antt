@@ -6,7 +6,8 @@ use Rattle.std.proofs.lemmas.Bool.Decides.{nat_tests}
 use Rattle.elf64_core.specs.Fields.{u64_in}
 use Rattle.process_memory.specs.Memory.{Memory, Region, byte_at, bytes_at, in_front, record_at, word_at}
 use Rattle.process_memory.specs.Memory.Fault.{Missing}
-use Rattle.process_memory.specs.Seen.{ReadingBelow, Seen}
+use Rattle.process_memory.specs.declared.memory.Span.{Span}
+use Rattle.process_memory.specs.Seen.{ReadingOf, Seen}
 use Rattle.process_memory.proofs.Records.{Within, byte_at-below, found_ok, in_front_some, record_all}
 
 bytes_behind : (m : Memory) (a k n : ℕ) (bs : List ℕ) → bytes_at m a (k + n) ≡ Some bs
@@ -61,16 +62,16 @@ field_below ps m a n k bs within e inside =
     omega (arith, byte_at-below ps (a + k) there)
 
 -- a reader's clause, where what follows asks that each byte of a memory is one of this one
-pub reading_inside : {limit n : ℕ} {s0 s1 : Seen} {P : Memory → Type 0} (k : ℕ) (Q : Memory → Type 0)
-    → ReadingBelow limit n s0 s1 P → n ≤ k → ((m : Memory) → Within m (byte_at s0.pieces) → P m → Q m)
-    → ReadingBelow limit k s0 s1 Q
+pub reading_inside : {allowed : Memory → Span → Type 0} {n : ℕ} {s0 s1 : Seen} {P : Memory → Type 0} (k : ℕ) (Q : Memory → Type 0)
+    → ReadingOf allowed n s0 s1 P → n ≤ k → ((m : Memory) → Within m (byte_at s0.pieces) → P m → Q m)
+    → ReadingOf allowed k s0 s1 Q
 reading_inside k Q p le f = record {
   pieces = p.pieces;
   counter = p.counter;
   memory = p.memory;
   ranges = p.ranges;
   here = p.here;
-  short = p.short;
+  only = p.only;
   cost = omega (arith, p.cost);
   holds = λ m c. f m c.agrees (p.holds m c);
 }

@@ -6,7 +6,8 @@ use Rattle.process_memory.specs.Memory.{Found, Memory}
 use Rattle.process_memory.specs.Memory.Fault.{Missing}
 use Rattle.process_memory.specs.declared.memory.ReadFault.{ReadFault}
 use Rattle.process_memory.specs.declared.memory.ReadFault.TheVariants as read
-use Rattle.process_memory.specs.Seen.{FaultIs, ReadingBelow, Seen, read_fault}
+use Rattle.process_memory.specs.declared.memory.Span.{Span}
+use Rattle.process_memory.specs.Seen.{FaultIs, ReadingOf, Seen, read_fault}
 use Rattle.process_memory.proofs.Reading.{reading_gives, reading_then}
 use Rattle.py_fields.specs.declared.layout.Layout.{Layout}
 use Rattle.py_builtins.specs.Texts.{text_at}
@@ -25,15 +26,15 @@ use Rattle.py_fronts.specs.Members.{StepIs, StopsBy, caller_of, hides, is_kept, 
 use Rattle.py_fronts.specs.ThreadFronts.{RecordIs, ThreadIs}
 
 -- memory was wanting behind other readers, or at the first
-pub lost_then : {limit n k : ℕ} {s0 s1 s2 : Seen} {P : Memory → Type 0} (t : ℕ) {e f : StackError} → ReadingBelow limit n s0 s1 P → ReadingBelow limit k s1 s2 (λ m. f ≡ stack.OutOfMemory) → e ≡ f → n + k ≤ t
-    → ReadingBelow limit t s0 s2 (λ m. e ≡ stack.OutOfMemory)
+pub lost_then : {allowed : Memory → Span → Type 0} {n k : ℕ} {s0 s1 s2 : Seen} {P : Memory → Type 0} (t : ℕ) {e f : StackError} → ReadingOf allowed n s0 s1 P → ReadingOf allowed k s1 s2 (λ m. f ≡ stack.OutOfMemory) → e ≡ f → n + k ≤ t
+    → ReadingOf allowed t s0 s2 (λ m. e ≡ stack.OutOfMemory)
 lost_then t {e} p q same le = reading_gives t _ (reading_then (λ m. e ≡ stack.OutOfMemory) p q (λ m a b. same ∙ b)) le (λ m h. h)
 
-pub lost_first : {limit k : ℕ} {s0 s1 : Seen} (t : ℕ) {e f : StackError} → ReadingBelow limit k s0 s1 (λ m. f ≡ stack.OutOfMemory) → e ≡ f → k ≤ t → ReadingBelow limit t s0 s1 (λ m. e ≡ stack.OutOfMemory)
+pub lost_first : {allowed : Memory → Span → Type 0} {k : ℕ} {s0 s1 : Seen} (t : ℕ) {e f : StackError} → ReadingOf allowed k s0 s1 (λ m. f ≡ stack.OutOfMemory) → e ≡ f → k ≤ t → ReadingOf allowed t s0 s1 (λ m. e ≡ stack.OutOfMemory)
 lost_first t p same le = reading_gives t _ p le (λ m b. same ∙ b)
 
 -- two readers, one after another, and what both say
-pub reading_both : {limit n k : ℕ} {s0 s1 s2 : Seen} {P Q : Memory → Type 0} → ReadingBelow limit n s0 s1 P → ReadingBelow limit k s1 s2 Q → ReadingBelow limit (n + k) s0 s2 (λ m. P m × Q m)
+pub reading_both : {allowed : Memory → Span → Type 0} {n k : ℕ} {s0 s1 s2 : Seen} {P Q : Memory → Type 0} → ReadingOf allowed n s0 s1 P → ReadingOf allowed k s1 s2 Q → ReadingOf allowed (n + k) s0 s2 (λ m. P m × Q m)
 reading_both {P = P} {Q = Q} p q = reading_then (λ m. P m × Q m) p q (λ m a b. (a, b))
 
 -- ---- members

@@ -1,13 +1,14 @@
 -- Walks along an interpreter's threads, one by one.
 use Rattle.std.proofs.Common.{◌≡◌, ◌≢◌, ℕ, suc, ◌+◌, ◌*◌, ◌-◌, ◌<◌, ◌≤◌, min, List, [], ◌∷◌, ◌++◌, length, map, refl}
 use Rattle.std.proofs.Common.{sym, ◌∙◌, ap, arith, length-append}
-use Rattle.std.proofs.Math.Nat.{mul-le-mul_left}
-use Rattle.std.proofs.lemmas.List.{map-append}
-use Rattle.std.specs.Prelude.{Ok, Err, Result}
+use Rattle.std.proofs.Math.Nat.{le_refl}
+use Rattle.std.proofs.lemmas.List.{length-map, map-append}
+use Rattle.std.proofs.lemmas.List.Sums.{sum_by-cons, sum_by_push}
+use Rattle.std.specs.Prelude.{Ok, Err, Result, sum_by}
 use Rattle.elf64_core.specs.Fields.{u64_in}
-use Rattle.process_memory.specs.Memory.{Memory, record_at}
+use Rattle.process_memory.specs.Memory.{Memory, byte_at, record_at}
 use Rattle.process_memory.specs.Seen.{Reading, Seen}
-use Rattle.process_memory.proofs.Reading.{reading_gives, reading_none, reading_then}
+use Rattle.process_memory.proofs.Reading.{reading_gives, reading_here, reading_none, reading_then}
 use Rattle.py_fields.specs.declared.layout.Layout.{Layout}
 use Rattle.py_stacks.specs.Threads.{native_id, thread_limit}
 use Rattle.py_stacks.specs.declared.asked.Asked.{Asked}
@@ -19,14 +20,16 @@ use Rattle.py_fronts.specs.declared.thread_front.Thread.TheVariants.{Broken}
 use Rattle.py_fronts.specs.ChainEnds.{ending_of}
 use Rattle.py_fronts.specs.declared.frame_front.FramesFront.{FramesFront}
 use Rattle.py_fronts.specs.FrameFronts.{FramesShown, chain_of_thread, ends_reads, frames_front, frames_shown}
-use Rattle.py_fronts.specs.FrameFronts.{thread_members_limit}
+use Rattle.py_fronts.specs.FrameFronts.{shown_first, shown_last, thread_members_limit}
 use Rattle.py_fronts.specs.Members.{Chained}
 use Rattle.py_fronts.proofs.FirstThreadLaws.{thread_equal}
-use Rattle.py_fronts.specs.Front.{Break, Ending, behind, front_at}
+use Rattle.py_fronts.specs.Front.{Break, Ending, Front, behind, front_at}
 use Rattle.py_fronts.specs.Front.Ending.{Whole, Cut}
 use Rattle.py_fronts.specs.ThreadFronts.{ThreadIs, ThreadShown, ThreadsShown, Threading, after_record, front_shown}
 use Rattle.py_fronts.specs.ThreadFronts.{left_after, thread_by, thread_front, thread_of, thread_shown, threads_front}
-use Rattle.py_fronts.specs.ThreadFronts.{threads_shown}
+use Rattle.py_fronts.specs.ThreadFronts.{ReadingThreads, thread_reads, threads_reads, threads_shown}
+use Rattle.py_fronts.specs.Standings.{standing_at}
+use Rattle.py_fronts.proofs.Steps.{reading_both}
 use Rattle.py_fronts.proofs.FrontLaws.{behind_ends, behind_more, front_end, front_full, front_stop}
 
 pub frames_met : (q : Asked) (l : Layout) (m : Memory) (limit : ℕ) (f : FramesFront) (c : Chained) → frames_front f ≡ frames_shown q l m limit c → f.met ≡ c.met
@@ -37,6 +40,15 @@ pub thread_stands : (q : Asked) (l : Layout) (m : Memory) (limit left a : ℕ) (
     → frames ≡ frames_shown q l m limit chain → t.address ≡ a → t.thread_id ≡ u64_in thread l.thread.id → t.os_thread_id ≡ native_id l.thread.native_id thread → t.frames ≡ frames → t ≡ thread_by q l m limit left a thread
 thread_stands q l m limit left a thread chain frames most t is c f address id os same =
     thread_equal t (thread_by q l m limit left a thread) address id os (same ∙ f ∙ ap (frames_shown q l m limit) (c ∙ ap (λ n. chain_of_thread l m n thread) is))
+
+-- the reads of a thread behind its record, by its chain
+pub thread_cost : (q : Asked) (l : Layout) (m : Memory) (limit left a : ℕ) (thread : List ℕ) (most : ℕ)
+    → most ≡ min left thread_members_limit → thread_reads q (thread_by q l m limit left a thread)
+    ≡ 6 + 5 * (chain_of_thread l m most thread).met + ends_reads q limit (chain_of_thread l m most thread).kept
+unfolding frames_shown
+thread_cost q l m limit left a thread most is =
+    let kept = (chain_of_thread l m (min left thread_members_limit) thread).kept in
+    rw (is, length-map (shown_first limit kept) (standing_at q l m), length-map (shown_last limit kept) (standing_at q l m)) refl
 
 left_append : (before : ℕ) (ts : List ThreadShown) (t : ThreadShown) → left_after before (ts ++ t ∷ []) ≡ left_after before ts - t.frames.met
 unfolding left_after
@@ -74,20 +86,47 @@ shown_ends : (q : Asked) (l : Layout) (limit i head before : ℕ) (threads : Lis
     → ◌≡◌ {A = ThreadsShown} (record { threads = map thread_front threads; ending = ending }) (front_shown q l m limit before (threads_front l i m head))
 shown_ends q l limit i head before threads m ending members front shows = rw (front, shows) refl
 
+cost_more : (q : Asked) (ts : List ThreadShown) (t : ThreadShown)
+    → sum_by (λ (t : ThreadShown). 1 + thread_reads q t) (ts ++ t ∷ [])
+    ≡ sum_by (λ (t : ThreadShown). 1 + thread_reads q t) ts + (1 + thread_reads q t)
+cost_more q ts t = sum_by_push (λ (t : ThreadShown). 1 + thread_reads q t) ts t
+
+-- the threads at the first of some addresses cost no more than those at all of them
+shown_part : (q : Asked) (l : Layout) (m : Memory) (limit before : ℕ) (xs ys : List ℕ)
+    → sum_by (λ (t : ThreadShown). 1 + thread_reads q t) (threads_shown q l m limit before xs)
+    ≤ sum_by (λ (t : ThreadShown). 1 + thread_reads q t) (threads_shown q l m limit before (xs ++ ys))
+unfolding threads_shown
+shown_part q l m limit before [] ys = omega arith
+shown_part q l m limit before (x ∷ xs) ys =
+    let one = thread_shown q l m limit before x in
+    let next = before - one.frames.met in
+    omega (
+      arith,
+      sum_by-cons (λ (t : ThreadShown). 1 + thread_reads q t) one (threads_shown q l m limit next xs),
+      sum_by-cons (λ (t : ThreadShown). 1 + thread_reads q t) one (threads_shown q l m limit next (xs ++ ys)),
+      shown_part q l m limit next xs ys,
+    )
+
 module _ {q : Asked} {l : Layout} {limit i head before : ℕ} {s0 s1 : Seen} {threads : List ThreadFront} {left at : ℕ} where
   pub threading_more : {s2 s3 : Seen} (t : ThreadFront) (bytes : List ℕ) (next rest : ℕ) → Threading q l limit i head before s0 s1 threads left at → at ≢ 0 → length threads < thread_limit
       → Reading 1 s1 s2 (λ m. (record_at m at l.thread.size ≡ Ok bytes) × (after_record l i (record_at m at l.thread.size) ≡ Ok next))
-      → Reading (6 + 5 * t.frames.met + ends_reads q limit) s2 s3 (λ m. thread_front t ≡ thread_by q l m limit left at bytes) → t.frames.met ≤ left → rest ≡ left - t.frames.met
+      → Reading (thread_reads q (thread_by q l (byte_at s2.pieces) limit left at bytes)) s2 s3 (λ m. thread_front t ≡ thread_by q l m limit left at bytes) → t.frames.met ≤ left → rest ≡ left - t.frames.met
       → Threading q l limit i head before s0 s3 (threads ++ t ∷ []) rest next
-  threading_more t bytes next rest w some below r f few is =
+  threading_more {s2 = s2} t bytes next rest w some below r f few is =
       let room : thread_limit - length threads ≡ suc (thread_limit - (length threads + 1)) = omega arith in
       let more : length (threads ++ t ∷ []) ≡ length threads + 1 = length-append threads (t ∷ []) in
       record {
         members = w.members ++ at ∷ [];
-        spent = w.spent + 1 + (6 + 5 * t.frames.met + ends_reads q limit);
+        spent = w.spent + 1 + thread_reads q (thread_by q l (byte_at s2.pieces) limit left at bytes);
         within = omega (arith, more);
         fewer = omega (arith, w.fewer);
-        cost = rw more (omega (arith, w.cost, w.fewer, few, is));
+        cost = omega (
+          arith,
+          w.cost,
+          cost_more q (map thread_front threads) (thread_front t),
+          ap (thread_reads q) (reading_here f),
+          ap (sum_by (λ (t : ThreadShown). 1 + thread_reads q t)) (map-append thread_front threads (t ∷ [])),
+        );
         reading = reading_then (λ m. (threads_front l i m head ≡ behind (w.members ++ at ∷ []) (front_at (thread_of l i m) (thread_limit - length (threads ++ t ∷ [])) next))
             × (map thread_front (threads ++ t ∷ []) ≡ threads_shown q l m limit before (w.members ++ at ∷ [])))
             (reading_then (λ m. (threads_front l i m head ≡ behind (w.members ++ at ∷ []) (front_at (thread_of l i m) (thread_limit - length (threads ++ t ∷ [])) next))
@@ -107,36 +146,76 @@ module _ {q : Asked} {l : Layout} {limit i head before : ℕ} {s0 s1 : Seen} {th
 
   -- the chain is whole
   pub threading_done : Threading q l limit i head before s0 s1 threads left at → at ≡ 0
-      → Reading (1 + 5 * (before - left) + (7 + ends_reads q limit) * length threads) s0 s1 (λ m. ◌≡◌ {A = ThreadsShown} (record { threads = map thread_front threads; ending = Whole }) (front_shown q l m limit before (threads_front l i m head)))
-  threading_done w null = reading_gives _ _ w.reading (omega (arith, w.cost))
-      (λ m p. shown_ends q l limit i head before threads m Whole w.members (behind_ends (thread_of l i m) (thread_limit - length threads) w.members (threads_front l i m head) at Whole (front_end (thread_of l i m) (thread_limit - length threads) at null) p.0) p.1)
+      → ReadingThreads q l limit before i head s0 s1 (λ m. ◌≡◌ {A = ThreadsShown} (record { threads = map thread_front threads; ending = Whole }) (front_shown q l m limit before (threads_front l i m head)))
+  threading_done w null =
+      let all = reading_gives w.spent (λ m. ◌≡◌ {A = ThreadsShown} (record { threads = map thread_front threads; ending = Whole }) (front_shown q l m limit before (threads_front l i m head))) w.reading (le_refl _)
+      (λ m p. shown_ends q l limit i head before threads m Whole w.members (behind_ends (thread_of l i m) (thread_limit - length threads) w.members (threads_front l i m head) at Whole (front_end (thread_of l i m) (thread_limit - length threads) at null) p.0) p.1) in
+      reading_gives _ _ all (omega (arith, w.cost, ap (threads_reads q) (reading_here all))) (λ m h. h)
 
   -- a further thread is there, and no more may be met
   pub threading_full : Threading q l limit i head before s0 s1 threads left at → at ≢ 0 → length threads ≡ thread_limit
-      → Reading (1 + 5 * (before - left) + (7 + ends_reads q limit) * length threads) s0 s1 (λ m. ◌≡◌ {A = ThreadsShown} (record { threads = map thread_front threads; ending = Cut }) (front_shown q l m limit before (threads_front l i m head)))
+      → ReadingThreads q l limit before i head s0 s1 (λ m. ◌≡◌ {A = ThreadsShown} (record { threads = map thread_front threads; ending = Cut }) (front_shown q l m limit before (threads_front l i m head)))
   threading_full w some full =
       let none : thread_limit - length threads ≡ 0 = omega arith in
-      reading_gives _ _ w.reading (omega (arith, w.cost))
-      (λ m p. shown_ends q l limit i head before threads m Cut w.members (behind_ends (thread_of l i m) 0 w.members (threads_front l i m head) at Cut (front_full (thread_of l i m) at some) (rw none at p.0)) p.1)
+      let all = reading_gives w.spent (λ m. ◌≡◌ {A = ThreadsShown} (record { threads = map thread_front threads; ending = Cut }) (front_shown q l m limit before (threads_front l i m head))) w.reading (le_refl _)
+      (λ m p. shown_ends q l limit i head before threads m Cut w.members (behind_ends (thread_of l i m) 0 w.members (threads_front l i m head) at Cut (front_full (thread_of l i m) at some) (rw none at p.0)) p.1) in
+      reading_gives _ _ all (omega (arith, w.cost, ap (threads_reads q) (reading_here all))) (λ m h. h)
 
   -- what is there is none
   pub threading_broken : {s2 : Seen} (end : ChainEnd) → Threading q l limit i head before s0 s1 threads left at → at ≢ 0 → length threads < thread_limit
       → Reading 1 s1 s2 (λ m. ThreadIs l i (record_at m at l.thread.size) (Ok (Broken end)))
-      → Reading (1 + 5 * (before - left) + (7 + ends_reads q limit) * length threads) s0 s2 (λ m. ◌≡◌ {A = ThreadsShown} (record { threads = map thread_front threads; ending = ending_of end }) (front_shown q l m limit before (threads_front l i m head)))
+      → ReadingThreads q l limit before i head s0 s2 (λ m. ◌≡◌ {A = ThreadsShown} (record { threads = map thread_front threads; ending = ending_of end }) (front_shown q l m limit before (threads_front l i m head)))
   threading_broken end w some below r =
       let room : thread_limit - length threads ≡ suc (thread_limit - (length threads + 1)) = omega arith in
-      reading_gives _ _ (reading_then (λ m. ◌≡◌ {A = ThreadsShown} (record { threads = map thread_front threads; ending = ending_of end }) (front_shown q l m limit before (threads_front l i m head))) w.reading r
+      let all = reading_then (λ m. ◌≡◌ {A = ThreadsShown} (record { threads = map thread_front threads; ending = ending_of end }) (front_shown q l m limit before (threads_front l i m head))) w.reading r
       (λ m p d.
       let stops = front_stop (thread_of l i m) (thread_limit - (length threads + 1)) at d.0 some (next_is l i m at (Err d.0) d.1) in
       let is : front_at (thread_of l i m) (suc (thread_limit - (length threads + 1))) at ≡ record { members = []; ending = ending_of end } = stops ∙ ap (λ (e : Ending). record { members = []; ending = e }) (sym d.2) in
-      shown_ends q l limit i head before threads m (ending_of end) w.members (behind_ends (thread_of l i m) (suc (thread_limit - (length threads + 1))) w.members (threads_front l i m head) at (ending_of end) is (rw room at p.0)) p.1))
-      (omega (arith, w.cost)) (λ m h. h)
+      shown_ends q l limit i head before threads m (ending_of end) w.members (behind_ends (thread_of l i m) (suc (thread_limit - (length threads + 1))) w.members (threads_front l i m head) at (ending_of end) is (rw room at p.0)) p.1) in
+      reading_gives _ _ all (omega (arith, w.cost, ap (threads_reads q) (reading_here all))) (λ m h. h)
 
-  -- memory was wanting
-  pub threading_lost : {n : ℕ} {s2 : Seen} {P : Memory → Type 0} (e : StackError) → Threading q l limit i head before s0 s1 threads left at → length threads < thread_limit
-      → Reading n s1 s2 P → n ≤ 7 + 5 * left + ends_reads q limit → ((m : Memory) → P m → e ≡ stack.OutOfMemory)
-      → Reading (1 + 5 * before + (7 + ends_reads q limit) * 4096) s0 s2 (λ m. e ≡ stack.OutOfMemory)
-  threading_lost e w below r few lost =
-      let more : length threads + 1 ≤ 4096 = omega arith in
-      let most = mul-le-mul_left (7 + ends_reads q limit) more in
-      reading_gives _ _ (reading_then (λ m. e ≡ stack.OutOfMemory) w.reading r (λ m p h. lost m h)) (omega (arith, w.cost, w.fewer, most, few)) (λ m h. h)
+  -- memory was wanting at the next record
+  pub threading_stops : {n : ℕ} {s2 : Seen} {P : Memory → Type 0} (e : StackError) → Threading q l limit i head before s0 s1 threads left at
+      → Reading n s1 s2 P → n ≤ 1 → ((m : Memory) → P m → e ≡ stack.OutOfMemory) → ReadingThreads q l limit before i head s0 s2 (λ m. e ≡ stack.OutOfMemory)
+  threading_stops e w r few lost =
+      let here = byte_at s0.pieces in
+      let p = reading_here w.reading in
+      let rest = front_at (thread_of l i here) (thread_limit - length threads) at in
+      reading_gives _ _ (reading_then (λ m. e ≡ stack.OutOfMemory) w.reading r (λ m p h. lost m h))
+      (omega (
+        arith,
+        few,
+        w.cost,
+        ap (sum_by (λ (t : ThreadShown). 1 + thread_reads q t)) p.1,
+        shown_part q l here limit before w.members rest.members,
+        ap (λ (f : Front). sum_by (λ (t : ThreadShown). 1 + thread_reads q t) (threads_shown q l here limit before f.members)) p.0,
+      )) (λ m h. h)
+
+  -- and behind it
+  pub threading_lost : {s2 s3 : Seen} {P : Memory → Type 0} (bytes : List ℕ) (next : ℕ) (e : StackError) → Threading q l limit i head before s0 s1 threads left at → at ≢ 0 → length threads < thread_limit
+      → Reading 1 s1 s2 (λ m. (record_at m at l.thread.size ≡ Ok bytes) × (after_record l i (record_at m at l.thread.size) ≡ Ok next))
+      → Reading (thread_reads q (thread_by q l (byte_at s2.pieces) limit left at bytes)) s2 s3 P → ((m : Memory) → P m → e ≡ stack.OutOfMemory)
+      → ReadingThreads q l limit before i head s0 s3 (λ m. e ≡ stack.OutOfMemory)
+  threading_lost bytes next e w some below r f lost =
+      let here = byte_at s0.pieces in
+      let both = reading_both w.reading r in
+      let p = reading_here both in
+      let room : thread_limit - length threads ≡ suc (thread_limit - (length threads + 1)) = omega arith in
+      let rest = front_at (thread_of l i here) (thread_limit - (length threads + 1)) next in
+      let front : threads_front l i here head ≡ behind (w.members ++ at ∷ []) rest =
+      behind_more (thread_of l i here) (thread_limit - (length threads + 1)) w.members (threads_front l i here head) at next some (next_is l i here at (Ok next) p.1.1) (rw room at p.0.0) in
+      let same : left ≡ left_after before (threads_shown q l here limit before w.members) = w.after ∙ ap (left_after before) p.0.1 in
+      let one : thread_by q l here limit left at bytes ≡ thread_shown q l here limit (left_after before (threads_shown q l here limit before w.members)) at =
+      thread_is q l here limit left at bytes (thread_by q l here limit left at bytes) p.1.0 refl ∙ ap (λ n. thread_shown q l here limit n at) same in
+      reading_gives _ _ (reading_then (λ m. e ≡ stack.OutOfMemory) both f (λ m p h. lost m h))
+      (omega (
+        arith,
+        w.cost,
+        ap (λ ps. thread_reads q (thread_by q l (byte_at ps) limit left at bytes)) both.pieces,
+        ap (thread_reads q) one,
+        ap (sum_by (λ (t : ThreadShown). 1 + thread_reads q t)) p.0.1,
+        ap (sum_by (λ (t : ThreadShown). 1 + thread_reads q t)) (shown_append q l here limit before w.members at),
+        cost_more q (threads_shown q l here limit before w.members) (thread_shown q l here limit (left_after before (threads_shown q l here limit before w.members)) at),
+        shown_part q l here limit before (w.members ++ at ∷ []) rest.members,
+        ap (λ (f : Front). sum_by (λ (t : ThreadShown). 1 + thread_reads q t) (threads_shown q l here limit before f.members)) front,
+      )) (λ m h. h)

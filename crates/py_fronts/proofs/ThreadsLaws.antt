@@ -1,6 +1,5 @@
 -- What follows of the front of an interpreter's threads that was read.
-use Rattle.std.proofs.Common.{ℕ, ◌+◌, ◌*◌, ◌≤◌, length, sym, ◌∙◌, arith}
-use Rattle.std.proofs.Math.Nat.{mul-le-mul_left}
+use Rattle.std.proofs.Common.{ℕ, sym, ◌∙◌}
 use Rattle.std.specs.Prelude.{Ok, Err, Result, IfOk}
 use Rattle.process_memory.specs.Memory.{Memory}
 use Rattle.py_fields.specs.declared.layout.Layout.{Layout}
@@ -9,8 +8,7 @@ use Rattle.py_stacks.specs.declared.error.StackError.{StackError}
 use Rattle.py_fronts.specs.declared.thread_front.ThreadsFront.{ThreadsFront}
 use Rattle.py_fronts.specs.Answers.{IsOrNoMemory}
 use Rattle.py_fronts.specs.FirstThreads.{AreFirstThreads}
-use Rattle.py_fronts.specs.FrameFronts.{ends_reads}
-use Rattle.py_fronts.specs.ThreadFronts.{ThreadsShown, front_shown, threads_front, threads_of, threads_reads}
+use Rattle.py_fronts.specs.ThreadFronts.{ThreadsShown, front_shown, threads_front, threads_of}
 use Rattle.py_fronts.specs.ThreadFronts.{threads_result}
 use Rattle.py_fronts.proofs.FirstThreadLaws.{first_threads_found, first_threads_only}
 
@@ -23,8 +21,3 @@ pub threads_only : (q : Asked) (l : Layout) (m : Memory) (limit left i head : �
     → AreFirstThreads q l m limit left i head shown → IsOrNoMemory shown (threads_result r)
 threads_only q l m limit left i head shown (Ok front) a h = a ∙ sym (first_threads_only q l m limit left i head shown h)
 threads_only q l m limit left i head shown (Err e) a h = a
-
-pub threads_most : (q : Asked) (limit before after : ℕ) (r : Result ThreadsFront StackError) (old new : ℕ) → new ≤ old + threads_reads q limit before after r → IfOk r (λ front. length front.threads.items ≤ 4096)
-    → new ≤ old + (1 + 5 * before + (7 + ends_reads q limit) * 4096)
-threads_most q limit before after (Ok front) old new le few = let most = mul-le-mul_left (7 + ends_reads q limit) few in omega (arith, le, most)
-threads_most q limit before after (Err e) old new le few = le

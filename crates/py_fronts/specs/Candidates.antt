@@ -2,11 +2,12 @@
 -- chains its interpreters by `next`, which stands in front of the head of their threads; from 3.13 on one that runs
 -- nothing has no thread. The section `.PyRuntime` has the runtime's record and nothing else.
 use Rattle.std.specs.Prelude.{◌≡◌, ℕ, zero, suc, ◌+◌, ◌*◌, ◌-◌, ◌/◌, ◌≤◌, min, nat_eq, if◌then◌else◌, List, [], ◌∷◌}
-use Rattle.std.specs.Prelude.{◌++◌, flat_map}
+use Rattle.std.specs.Prelude.{◌++◌, flat_map, not}
 use Rattle.std.specs.Prelude.{length, Option, Some, None, Result, Ok, Err, Vec}
+use Rattle.std.specs.List.{filter}
 use Rattle.std.specs.Global.{Global}
 use Rattle.process_memory.specs.Memory.{Found, Memory, word_at}
-use Rattle.process_memory.specs.Seen.{Reading, Seen}
+use Rattle.process_memory.specs.Seen.{Reading, ReadingBy, Seen}
 use Rattle.py_version.specs.declared.version.Version.{Version}
 use Rattle.py_fields.specs.declared.layout.Layout.{Layout}
 use Rattle.py_stacks.specs.Interpreter.{threads_head}
@@ -70,6 +71,15 @@ record_words l m a = section_words m a (8 * min (l.interpreter.threads / 8) reco
 unfoldable pub record_candidates : Layout → Memory → ℕ → List ℕ
 record_candidates l m a = led_to l m 0 (record_words l m a)
 
+-- those of some addresses that are not this one
+abbrev pub other_than : ℕ → List ℕ → List ℕ
+other_than a xs = filter (λ x. not (nat_eq x a)) xs
+
+-- those that the record of an interpreter leads to, but for itself: a record that holds its own address, as the head of
+-- an empty list does, doesn't name it
+unfoldable pub others_led_to : Layout → Memory → ℕ → List ℕ
+others_led_to l m a = other_than a (record_candidates l m a)
+
 -- an address, if there is one, and behind it those that its record leads to
 abbrev pub with_records : Layout → Memory → List ℕ → List ℕ
 with_records l m head = head ++ flat_map (record_candidates l m) head
@@ -112,14 +122,23 @@ abbrev pub words_result : {E : Type 0} → Result (Vec ℕ Global) E → Result 
 words_result (Ok words) = Ok words.items
 words_result (Err e) = Err e
 
+-- the reads of a record and of those that follow by each of its words: one, and two for each that it leads to
+abbrev pub record_words_reads : Layout → Memory → ℕ → ℕ
+record_words_reads l m a = 1 + 2 * length (record_candidates l m a)
+
+-- how many it leads to at most: 65 for each of its words that are looked at
+abbrev pub record_most : Layout → ℕ
+record_most l = 65 * min (l.interpreter.threads / 8) record_words_limit
+
 -- the addresses that were followed so far; it stands at `at`
 pub record Following (l : Layout) (place first : ℕ) (old new : Seen) (start words : List ℕ)
     (passed at : ℕ) : Type 0 where
   pub within : passed ≤ idle_limit
+  pub count : length words ≡ length start + passed
   pub reading : Reading (2 * passed) old new (λ m. start ++ behind_idle l m place idle_limit first
       ≡ words ++ behind_idle l m place (idle_limit - passed) at)
 
 -- the words of a record that were taken so far, each with those that follow by its place
 pub record Leading (l : Layout) (old new : Seen) (start taken candidates : List ℕ) (place : ℕ) : Type 0 where
   pub stands : place ≡ 8 * length taken
-  pub reading : Reading (128 * length taken) old new (λ m. candidates ≡ start ++ led_to l m 0 taken)
+  pub reading : ReadingBy (λ m. 2 * length (led_to l m 0 taken)) old new (λ m. candidates ≡ start ++ led_to l m 0 taken)

@@ -1,6 +1,6 @@
 -- The front of a thread's frames: the first of the kept members and the last before the end, with the number between.
-use Rattle.std.specs.Prelude.{◌≡◌, ℕ, ◌*◌, ◌-◌, nat_le, if◌then◌else◌, List, [], length, map, take, drop, Result, Ok}
-use Rattle.std.specs.Prelude.{Err}
+use Rattle.std.specs.Prelude.{◌≡◌, ℕ, ◌+◌, ◌*◌, ◌-◌, nat_le, if◌then◌else◌, List, [], length, map, take, drop, Result}
+use Rattle.std.specs.Prelude.{Ok, Err}
 use Rattle.process_memory.specs.Memory.{Found, Memory}
 use Rattle.py_fields.specs.declared.layout.Layout.{Layout}
 use Rattle.py_stacks.specs.declared.asked.Asked.{Asked}
@@ -85,6 +85,10 @@ HasNoChain (stack.Unreadable addr len) (Err e) = e ≡ stack.OutOfMemory
 HasNoChain _ (Ok c) = ⊥
 HasNoChain _ (Err e) = e ≡ stack.OutOfMemory
 
--- the reads of both ends
-abbrev pub ends_reads : Asked → ℕ → ℕ
-ends_reads q limit = standing_reads q * (2 * limit)
+-- the reads of both ends: those of each member that is shown
+abbrev pub ends_reads : Asked → ℕ → List ℕ → ℕ
+ends_reads q limit kept = standing_reads q * (length (shown_first limit kept) + length (shown_last limit kept))
+
+-- how many frames are shown
+abbrev pub shown_of : FramesShown → ℕ
+shown_of f = length f.first + length f.last

@@ -1,18 +1,23 @@
 -- The fronts of all interpreters of a process.
-use Rattle.std.specs.Prelude.{◌≡◌, ℕ, ◌+◌, ◌*◌, ◌-◌, ◌^◌, ◌≤◌, Bool, List, [], ◌∷◌, length, map, Result, Ok, Err, Vec}
+use Rattle.std.specs.Prelude.{◌≡◌, ℕ, ◌+◌, ◌*◌, ◌^◌, ◌≤◌, Bool, List, [], ◌∷◌, length, map, min, sum_by, Result}
+use Rattle.std.specs.Prelude.{Ok, Err, Vec}
 use Rattle.std.specs.Global.{Global}
 use Rattle.process_memory.specs.Memory.{Memory, byte_at}
-use Rattle.process_memory.specs.Seen.{Reading, ReadingBelow, Seen}
+use Rattle.process_memory.specs.Seen.{Reading, ReadingOf, Seen}
 use Rattle.py_version.specs.declared.version.Version.{Version}
 use Rattle.py_fields.specs.declared.layout.Layout.{Layout}
 use Rattle.py_stacks.specs.declared.asked.Asked.{Asked}
 use Rattle.py_process.specs.Facts.{Known}
+use Rattle.py_process.specs.Sections.{IsSearched}
 use Rattle.py_fronts.specs.declared.fronts.Fronts.{Fronts}
 use Rattle.py_fronts.specs.declared.fronts.InterpreterFront.{InterpreterFront}
 use Rattle.py_fronts.specs.declared.interpreters.FoundInterpreter.{FoundInterpreter}
-use Rattle.py_fronts.specs.FrameFronts.{all_members_limit, ends_reads}
+use Rattle.py_fronts.specs.FrameFronts.{all_members_limit}
 use Rattle.py_fronts.specs.Interpreters.{interpreters_at, interpreters_reads}
+use Rattle.py_fronts.specs.Standings.{standing_reads}
 use Rattle.py_fronts.specs.ThreadFronts.{ThreadsShown, front_shown, left_after, threads_front, threads_of}
+use Rattle.py_fronts.specs.ThreadFronts.{threads_reads}
+use Rattle.py_stacks.specs.Threads.{thread_limit}
 
 -- an interpreter, how it was found, and its threads
 pub record InterpreterShown : Type 0 where
@@ -64,24 +69,34 @@ abbrev pub fronts_result : {E : Type 0} → Result Fronts E → Result FrontsSho
 fronts_result (Ok f) = Ok (record { interpreters = map interpreter_of_front f.interpreters.items; more = f.more })
 fronts_result (Err e) = Err e
 
--- the reads of the threads of one interpreter but for their members, and of all that are shown
-abbrev pub interpreter_most : Asked → ℕ → ℕ
-interpreter_most q limit = 1 + (7 + ends_reads q limit) * 4096
+-- the reads of all interpreters: those of the threads of each
+abbrev pub fronts_reads : Asked → List InterpreterShown → ℕ
+fronts_reads q is = sum_by (λ (i : InterpreterShown). threads_reads q i.threads) is
 
-abbrev pub interpreters_most : Asked → ℕ → ℕ
-interpreters_most q limit = 5 * 4194304 + interpreter_most q limit * 16
+-- how many these are at most for so many interpreters, whatever the memory holds: no more members are shown than are
+-- met, over all threads together. Without locals it is 84,344,848 for 16 interpreters at the limits 100 and 4096
+abbrev pub fronts_most : Asked → (limit count : ℕ) → ℕ
+fronts_most q limit count =
+    count + 7 * (thread_limit * count) + 5 * all_members_limit
+    + standing_reads q * min all_members_limit (2 * limit * (thread_limit * count))
 
--- what the reader of all fronts owes
-abbrev pub Fronting : Known → Version → Layout → Asked → ℕ → Seen → Seen → (Memory → Type 0) → Type 0
-Fronting k v l q limit old new Q =
-    ReadingBelow (2 ^ 64) (interpreters_reads k v l (byte_at old.pieces) + interpreters_most q limit) old new Q
+-- the same with those of the search for the interpreters
+abbrev pub all_most : (ℕ → Bool) → Known → Version → Layout → Memory → Asked → ℕ → ℕ
+all_most contains k v l m q limit = interpreters_reads contains k v l m
+    + fronts_most q limit (length (interpreters_at contains k v l m).found)
+
+-- what the reader of all fronts owes: each read is one of fewer than 65536 bytes, or of exactly a section
+abbrev pub Fronting : (ℕ → Bool) → Known → Version → Layout → Asked → ℕ → Seen → Seen → (Memory → Type 0) → Type 0
+Fronting contains k v l q limit old new Q = ReadingOf (IsSearched k)
+    (interpreters_reads contains k v l (byte_at old.pieces)
+    + fronts_reads q (fronts_at contains k v l (byte_at old.pieces) q limit).interpreters) old new Q
 
 -- the interpreters that were read so far, and how many members may be met yet
 pub record Passing (q : Asked) (l : Layout) (limit before : ℕ) (old new : Seen) (found : List FoundInterpreter)
     (shown : List InterpreterFront) (left : ℕ) : Type 0 where
   pub fewer : left ≤ before
   pub spent : ℕ
-  pub cost : spent ≤ 5 * (before - left) + interpreter_most q limit * length found
+  pub cost : spent ≤ fronts_reads q (map interpreter_of_front shown)
   pub reading : Reading spent old new (λ m.
       (map interpreter_of_front shown ≡ interpreters_fronts q l m limit before found)
       × (left ≡ found_left q l m limit before found))

@@ -1,22 +1,24 @@
 -- The interpreters of a process that are shown, and how each was found.
-use Rattle.std.specs.Prelude.{◌≡◌, ℕ, zero, suc, ◌+◌, ◌*◌, ◌-◌, ◌^◌, ◌≤◌, nat_eq, nat_lt, Bool, true, false}
-use Rattle.std.specs.Prelude.{if◌then◌else◌, List, [], ◌∷◌, ◌++◌, length, slice_get, option_map, Option, Some, None}
+use Rattle.std.specs.Prelude.{◌≡◌, ℕ, zero, suc, ◌+◌, ◌*◌, ◌-◌, ◌^◌, ◌≤◌, nat_eq, nat_lt, Bool, true, false, not, ◌&&◌}
+use Rattle.std.specs.Prelude.{if◌then◌else◌, List, [], ◌∷◌, ◌++◌, length, map, slice_get, sum_by, take, option_map}
+use Rattle.std.specs.Prelude.{Option, Some, None}
 use Rattle.std.specs.Prelude.{Result, Ok, Err}
 use Rattle.std.specs.List.{list_any}
 use Rattle.process_memory.specs.Memory.{Found, Memory, byte_at}
-use Rattle.process_memory.specs.Seen.{ReadingBelow, Seen}
+use Rattle.process_memory.specs.Seen.{Reading, ReadingOf, Seen}
 use Rattle.py_version.specs.declared.version.Version.{Version}
 use Rattle.py_fields.specs.declared.layout.Layout.{Layout}
 use Rattle.py_stacks.specs.Interpreter.{interpreter_named_by, threads_head}
 use Rattle.py_stacks.specs.declared.error.StackError.{StackError}
 use Rattle.py_stacks.specs.declared.error.StackError.TheVariants.{OutOfMemory}
 use Rattle.py_process.specs.Facts.{Known}
+use Rattle.py_process.specs.Sections.{IsSearched}
 use Rattle.py_fronts.specs.declared.chain_end.ChainEnd.{ChainEnd}
 use Rattle.py_fronts.specs.declared.interpreters.FoundInterpreter.{FoundInterpreter}
 use Rattle.py_fronts.specs.declared.interpreters.FoundInterpreters.{FoundInterpreters}
 use Rattle.py_fronts.specs.declared.thread_front.Thread.{Thread}
 use Rattle.py_fronts.specs.declared.thread_front.Thread.TheVariants.{At, Broken as Outside}
-use Rattle.py_fronts.specs.Candidates.{named_candidates, record_candidates, searched_candidates}
+use Rattle.py_fronts.specs.Candidates.{named_candidates, others_led_to, record_candidates, searched_candidates}
 use Rattle.py_fronts.specs.ChainEnds.{ending_of}
 use Rattle.py_fronts.specs.Front.{Ending, behind, front_at}
 use Rattle.py_fronts.specs.Front.Ending.{Whole, Cut, Broken}
@@ -79,10 +81,19 @@ abbrev pub with_head : Finds → Bool → ℕ → Option ℕ → Finds
 with_head r searched a None = r
 with_head r searched a (Some head) = with_one r (record { address = a; head = head; searched = searched })
 
+-- what stands at an address that is named was not found by search alone
+abbrev pub named_if : ℕ → FoundInterpreter → FoundInterpreter
+named_if a one = record one { searched = one.searched && not (nat_eq one.address a) }
+
+-- where an address that was found comes once more: by its name, if it is no longer the search that it comes by
+abbrev pub with_name : Finds → Bool → ℕ → Finds
+with_name r false a = record { found = map (named_if a) r.found; more = r.more }
+with_name r true a = r
+
 -- after one candidate: each address is taken once
 abbrev pub after_candidate : Bool → (ℕ → Bool) → Layout → Memory → Finds → ℕ → Finds
 after_candidate searched contains l m r a =
-    if is_found r.found a then r else with_head r searched a (shown_head searched contains l m a)
+    if is_found r.found a then with_name r searched a else with_head r searched a (shown_head searched contains l m a)
 
 -- after some
 unfoldable pub after_candidates : Bool → (ℕ → Bool) → Layout → Memory → Finds → List ℕ → Finds
@@ -96,7 +107,7 @@ address_at found index = option_map (λ (one : FoundInterpreter). one.address) (
 
 abbrev pub after_record_of : (ℕ → Bool) → Layout → Memory → Finds → Option ℕ → Finds
 after_record_of contains l m r None = r
-after_record_of contains l m r (Some a) = after_candidates false contains l m r (record_candidates l m a)
+after_record_of contains l m r (Some a) = after_candidates false contains l m r (others_led_to l m a)
 
 -- after the records of those that were found and will be, from the one at an index on
 unfoldable pub after_records : (ℕ → Bool) → Layout → Memory → (turns index : ℕ) → Finds → Finds
@@ -104,16 +115,18 @@ after_records contains l m zero index r = r
 after_records contains l m (suc turns) index r =
     after_records contains l m turns (index + 1) (after_record_of contains l m r (address_at r.found index))
 
+-- after some candidates, and the records of all that are found then
+abbrev pub with_their_records : Bool → (ℕ → Bool) → Layout → Memory → Finds → List ℕ → Finds
+with_their_records searched contains l m r xs =
+    after_records contains l m interpreter_limit 0 (after_candidates searched contains l m r xs)
+
 abbrev pub none_found : Finds
 none_found = record { found = []; more = false }
 
 -- those that are found by name, with those that their records lead to; and then those that are found by search
 unfoldable pub interpreters_at : (ℕ → Bool) → Known → Version → Layout → Memory → Finds
-interpreters_at contains k v l m = after_records contains l m interpreter_limit 0
-    (after_candidates true contains l m
-    (after_records contains l m interpreter_limit 0
-    (after_candidates false contains l m none_found (named_candidates k v l m)))
-    (searched_candidates k m))
+interpreters_at contains k v l m = with_their_records true contains l m
+    (with_their_records false contains l m none_found (named_candidates k v l m)) (searched_candidates k m)
 
 -- ---- as they are read
 
@@ -143,36 +156,55 @@ abbrev pub candidate_reads : Bool → ℕ
 candidate_reads false = 2
 candidate_reads true = 4098
 
--- those of a record with what it leads to, and two for each of these: each of 1024 words, and 64 behind it
-abbrev pub record_reads : ℕ
-record_reads = 131073 + 2 * 66560
+-- those of a record: one for its words, and for each that it leads to two to find it and two to try it
+abbrev pub record_reads : Layout → Memory → ℕ → ℕ
+record_reads l m a = 1 + 4 * length (record_candidates l m a)
+
+abbrev pub reads_of_record : Layout → Memory → Option ℕ → ℕ
+reads_of_record l m None = 0
+reads_of_record l m (Some a) = record_reads l m a
+
+-- those of the records of all that are found
+abbrev pub records_reads : Layout → Memory → List FoundInterpreter → ℕ
+records_reads l m found = sum_by (λ (one : FoundInterpreter). record_reads l m one.address) found
+
+-- those of some candidates, and of the records of all that are found then
+abbrev pub taking_reads : Bool → (ℕ → Bool) → Layout → Memory → Finds → List ℕ → ℕ
+taking_reads searched contains l m r xs = candidate_reads searched * length xs
+    + records_reads l m (with_their_records searched contains l m r xs).found
 
 -- a chain of threads that has met so many of them, and stands at `at`
 pub record Chaining (l : Layout) (interpreter head : ℕ) (old new : Seen) (count at : ℕ) : Type 0 where
   pub members : List ℕ
   pub within : count ≤ thread_limit
-  pub reading : ReadingBelow (2 ^ 16) count old new (λ m. (threads_front l interpreter m head
+  pub reading : Reading count old new (λ m. (threads_front l interpreter m head
       ≡ behind members (front_at (thread_of l interpreter m) (thread_limit - count) at)))
 
 -- the candidates that were taken so far
 pub record Taking (searched : Bool) (contains : ℕ → Bool) (l : Layout) (start : Finds) (old new : Seen) (taken : List ℕ)
     (finds : FoundInterpreters) : Type 0 where
-  pub reading : ReadingBelow (2 ^ 16) (candidate_reads searched * length taken) old new
+  pub reading : Reading (candidate_reads searched * length taken) old new
       (λ m. finds_of finds ≡ after_candidates searched contains l m start taken)
 
 -- the records that were looked at so far
 pub record Turning (contains : ℕ → Bool) (l : Layout) (start : Finds) (old new : Seen) (index : ℕ)
     (finds : FoundInterpreters) : Type 0 where
   pub within : index ≤ interpreter_limit
-  pub reading : ReadingBelow (2 ^ 64) (record_reads * index) old new
+  pub spent : ℕ
+  pub cost : spent ≤ records_reads l (byte_at old.pieces) (take index
+      (after_records contains l (byte_at old.pieces) interpreter_limit 0 start).found)
+  pub reading : Reading spent old new
       (λ m. after_records contains l m interpreter_limit 0 start
       ≡ after_records contains l m (interpreter_limit - index) index (finds_of finds))
 
--- how many reads it takes to find them all at most
-abbrev pub interpreters_reads : Known → Version → Layout → Memory → ℕ
-interpreters_reads k v l m =
-    131083 + 2 * length (named_candidates k v l m) + 4098 * length (searched_candidates k m) + 32 * record_reads
+-- how many reads it takes to find them all at most: four for each that is named, and 4098 for each that is found by
+-- search; and twice those of the records of all that are shown
+abbrev pub interpreters_reads : (ℕ → Bool) → Known → Version → Layout → Memory → ℕ
+interpreters_reads contains k v l m =
+    11 + 4 * length (named_candidates k v l m) + 4098 * length (searched_candidates k m)
+    + 2 * records_reads l m (interpreters_at contains k v l m).found
 
--- what the search for interpreters owes
-abbrev pub Looking : Known → Version → Layout → Seen → Seen → (Memory → Type 0) → Type 0
-Looking k v l old new Q = ReadingBelow (2 ^ 64) (interpreters_reads k v l (byte_at old.pieces)) old new Q
+-- what the search for interpreters owes: each read is one of fewer than 65536 bytes, or of exactly a section
+abbrev pub Looking : (ℕ → Bool) → Known → Version → Layout → Seen → Seen → (Memory → Type 0) → Type 0
+Looking contains k v l old new Q =
+    ReadingOf (IsSearched k) (interpreters_reads contains k v l (byte_at old.pieces)) old new Q

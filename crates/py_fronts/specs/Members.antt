@@ -67,10 +67,9 @@ abbrev pub chained_of_result : {E : Type 0} → Result Chain E → Result Chaine
 chained_of_result (Ok c) = Ok (chained c)
 chained_of_result (Err e) = Err e
 
--- the reads of a walk: at most five for each member that was met, and five more
-abbrev pub chain_reads : ℕ → Result Chain StackError → ℕ
-chain_reads limit (Ok c) = 5 + 5 * c.met
-chain_reads limit (Err e) = 5 + 5 * limit
+-- the reads of a walk: at most five for each member that it meets, and five more
+abbrev pub chain_reads : Layout → Memory → (limit first : ℕ) → ℕ
+chain_reads l m limit first = 5 + 5 * length (members_front l m limit first).members
 
 -- one step is where a member leads to, and whether it is kept; or why what is there is none
 abbrev pub StepIs : Result ℕ Break → Bool → Result Step StackError → Type 0

@@ -1,5 +1,5 @@
 -- Which interpreters are shown, in the subject's own words.
-use Rattle.std.specs.Prelude.{◌≡◌, ◌≢◌, ℕ, ◌≤◌, Bool, true, false, All, List, [], ◌∷◌, length, Ok, ⊤}
+use Rattle.std.specs.Prelude.{◌≡◌, ◌≢◌, ℕ, ◌≤◌, ◌⊎◌, Bool, true, false, All, Contains, List, [], ◌∷◌, length, Ok, ⊤}
 use Rattle.process_memory.specs.Memory.{Memory}
 use Rattle.py_version.specs.declared.version.Version.{Version}
 use Rattle.py_fields.specs.declared.layout.Layout.{Layout}
@@ -49,3 +49,19 @@ pub record AreAll (contains : ℕ → Bool) (k : Known) (v : Version) (l : Layou
   pub recorded : All (λ (one : FoundInterpreter). All (IsTaken contains l m r) (record_candidates l m one.address))
       r.found
   pub searched : All (IsTakenWhole contains l m r) (searched_candidates k m)
+
+-- named is the head that symbols give, or else the runtime section; what its record leads to; and what the record of
+-- another interpreter that is shown leads to
+abbrev pub IsNamed : Known → Version → Layout → Memory → List FoundInterpreter → ℕ → Type 0
+IsNamed k v l m found a = Contains (named_candidates k v l m) a
+    ⊎ ((one : FoundInterpreter) × Contains found one × (one.address ≢ a)
+    × Contains (record_candidates l m one.address) a)
+
+-- one that is shown was found by search alone where nothing names it, and nowhere else
+pub record IsMarked (k : Known) (v : Version) (l : Layout) (m : Memory) (found : List FoundInterpreter)
+    (one : FoundInterpreter) : Type 0 where
+  pub found_by_name : one.searched ≡ false → IsNamed k v l m found one.address
+  pub named : IsNamed k v l m found one.address → one.searched ≡ false
+
+abbrev pub AreMarked : Known → Version → Layout → Memory → Finds → Type 0
+AreMarked k v l m r = All (IsMarked k v l m r.found) r.found

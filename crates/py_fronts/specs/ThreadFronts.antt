@@ -1,9 +1,9 @@
 -- The front of an interpreter's threads, each with the front of its frames.
 use Rattle.std.specs.Prelude.{◌≡◌, ℕ, ◌+◌, ◌*◌, ◌-◌, ◌≤◌, min, nat_eq, if◌then◌else◌, Option, List, [], ◌∷◌, length}
-use Rattle.std.specs.Prelude.{map, Result, Ok, Err, ⊤}
+use Rattle.std.specs.Prelude.{map, sum_by, Result, Ok, Err, ⊤}
 use Rattle.elf64_core.specs.Fields.{u64_in}
 use Rattle.process_memory.specs.Memory.{Found, Memory, record_at}
-use Rattle.process_memory.specs.Seen.{Reading, Seen}
+use Rattle.process_memory.specs.Seen.{Reading, ReadingBy, Seen}
 use Rattle.py_fields.specs.declared.layout.Layout.{Layout}
 use Rattle.py_stacks.specs.declared.asked.Asked.{Asked}
 use Rattle.py_stacks.specs.declared.error.StackError.{StackError}
@@ -14,8 +14,9 @@ use Rattle.py_fronts.specs.declared.thread_front.ThreadsFront.{ThreadsFront}
 use Rattle.py_fronts.specs.declared.thread_front.Thread.{Thread}
 use Rattle.py_fronts.specs.declared.thread_front.Thread.TheVariants.{At, Broken}
 use Rattle.py_fronts.specs.ChainEnds.{ending_of}
-use Rattle.py_fronts.specs.FrameFronts.{FramesShown, chain_of_thread, ends_reads, frames_front, frames_shown}
+use Rattle.py_fronts.specs.FrameFronts.{FramesShown, chain_of_thread, frames_front, frames_shown, shown_of}
 use Rattle.py_fronts.specs.FrameFronts.{thread_members_limit}
+use Rattle.py_fronts.specs.Standings.{standing_reads}
 use Rattle.py_fronts.specs.Front.{Break, Ending, Front, behind, front_at}
 use Rattle.py_fronts.specs.Front.Break.{Lost, Stray}
 use Rattle.py_fronts.specs.Front.Ending.{Broken as IsBroken}
@@ -118,15 +119,25 @@ abbrev pub IsWholeThread : Layout → Thread → Type 0
 IsWholeThread l (At thread) = length thread.items ≡ l.thread.size
 IsWholeThread l (Broken end) = ⊤
 
--- the reads of one thread behind its record: those of its chain, and of both ends
-abbrev pub thread_reads : Asked → (limit left : ℕ) → Result ThreadFront StackError → ℕ
-thread_reads q limit left (Ok t) = 6 + 5 * t.frames.met + ends_reads q limit
-thread_reads q limit left (Err e) = 6 + 5 * left + ends_reads q limit
+-- the reads of one thread behind its record: six, five for each member that is met, and those of each that is shown
+abbrev pub thread_reads : Asked → ThreadShown → ℕ
+thread_reads q t = 6 + 5 * t.frames.met + standing_reads q * shown_of t.frames
 
--- those of all: one for each record and one more, six for each chain and five for each member, and of both ends
-abbrev pub threads_reads : Asked → (limit before after : ℕ) → Result ThreadsFront StackError → ℕ
-threads_reads q limit before after (Ok r) = 1 + 5 * (before - after) + (7 + ends_reads q limit) * length r.threads.items
-threads_reads q limit before after (Err e) = 1 + 5 * before + (7 + ends_reads q limit) * 4096
+-- those of an interpreter's threads: one for each record and one more
+abbrev pub threads_reads : Asked → ThreadsShown → ℕ
+threads_reads q shown = 1 + sum_by (λ (t : ThreadShown). 1 + thread_reads q t) shown.threads
+
+-- how many these are at most, whatever the memory holds: no more members are shown than are met, and of each of 4096
+-- threads twice as many as are asked for
+abbrev pub threads_most : Asked → (limit left : ℕ) → ℕ
+threads_most q limit left =
+    1 + 7 * thread_limit + 5 * left + standing_reads q * min left (2 * limit * thread_limit)
+
+-- what the reader of an interpreter's threads owes
+abbrev pub ReadingThreads : Asked → Layout → (limit left interpreter head : ℕ) → Seen → Seen → (Memory → Type 0)
+    → Type 0
+ReadingThreads q l limit left interpreter head old new Q =
+    ReadingBy (λ m. threads_reads q (front_shown q l m limit left (threads_front l interpreter m head))) old new Q
 
 -- the threads that were met so far, and how many members may be met yet; it stands at `at`
 pub record Threading (q : Asked) (l : Layout) (limit interpreter head before : ℕ) (old new : Seen)
@@ -135,7 +146,7 @@ pub record Threading (q : Asked) (l : Layout) (limit interpreter head before : �
   pub spent : ℕ
   pub within : length threads ≤ thread_limit
   pub fewer : left ≤ before
-  pub cost : spent ≤ 5 * (before - left) + (7 + ends_reads q limit) * length threads
+  pub cost : spent ≤ sum_by (λ (t : ThreadShown). 1 + thread_reads q t) (map thread_front threads)
   pub reading : Reading spent old new (λ m. (threads_front l interpreter m head
       ≡ behind members (front_at (thread_of l interpreter m) (thread_limit - length threads) at))
       × (map thread_front threads ≡ threads_shown q l m limit before members))

@@ -1,15 +1,17 @@
 //! The addresses that may be an interpreter's.
 ghost use Rattle.std.specs.Prelude.{◌≡◌, ◌≤◌, ◌∷◌, ◌++◌, ◌+◌, ◌*◌, ◌^◌, Err, IfOk, MatchOption, None, Ok, OnOk};
 ghost use Rattle.std.specs.Prelude.{length, option_map};
-ghost use Rattle.process_memory.specs.Memory.{word_at};
-ghost use Rattle.process_memory.specs.Seen.{Reading, ReadingBelow};
+ghost use Rattle.process_memory.specs.Memory.{byte_at, word_at};
+ghost use Rattle.process_memory.specs.Seen.{IsRange, Reading, ReadingBy, ReadingOf};
 ghost use Rattle.py_fields.specs.Sound.{IsSound};
 ghost use Rattle.py_stacks.specs.StackError.{stack_fault};
 ghost use Rattle.py_process.specs.Candidates.{ListIs, section_words, words_of};
 ghost use Rattle.py_process.specs.Facts.{facts_of, known_of};
+ghost use Rattle.py_process.specs.Sections.{IsSection, IsSectionIn};
 ghost use Rattle.py_fronts.specs.Answers.{IsOrNoMemory};
 ghost use Rattle.py_fronts.specs.Candidates.{AddsWords, behind_idle, bss_of_image, found_or_none, head_given};
-ghost use Rattle.py_fronts.specs.Candidates.{head_in_sections, led_to, named_candidates, next_by, record_candidates};
+ghost use Rattle.py_fronts.specs.Candidates.{head_in_sections, led_to, named_candidates, next_by, other_than};
+ghost use Rattle.py_fronts.specs.Candidates.{others_led_to, record_candidates, record_most, record_words_reads};
 ghost use Rattle.py_fronts.specs.Candidates.{record_words, runtime_in, runtime_of_image, searched_candidates};
 ghost use Rattle.py_fronts.specs.Candidates.{words_result};
 
@@ -46,7 +48,7 @@ fn add_section<P: ProcessMemory>(
     addr: u64,
     size: u64,
 ) -> Result<(), StackError>
-    ensures { ReadingBelow (2 ^ 64) 1 (P.seen process.old) (P.seen process.new)
+    ensures { ReadingOf (IsRange addr size) 1 (P.seen process.old) (P.seen process.new)
         (λ m. AddsWords words.old.items (section_words m addr size) words.new.items result) }
 {
     let bytes = match process.copy(alloc, addr, size) {
@@ -65,7 +67,7 @@ fn add_runtime<P: ProcessMemory>(
     words: &mut Vec<u64>,
     binary: &Option<BinaryInfo>,
 ) -> Result<(), StackError>
-    ensures { ReadingBelow (2 ^ 64) 1 (P.seen process.old) (P.seen process.new)
+    ensures { ReadingOf (IsSectionIn (option_map facts_of binary.now)) 1 (P.seen process.old) (P.seen process.new)
         (λ m. AddsWords words.old.items (runtime_of_image m (option_map facts_of binary.now)) words.new.items result) }
 {
     let Some(binary) = binary else {
@@ -90,7 +92,7 @@ fn add_bss<P: ProcessMemory>(
     words: &mut Vec<u64>,
     binary: &Option<BinaryInfo>,
 ) -> Result<(), StackError>
-    ensures { ReadingBelow (2 ^ 64) 1 (P.seen process.old) (P.seen process.new)
+    ensures { ReadingOf (IsSectionIn (option_map facts_of binary.now)) 1 (P.seen process.old) (P.seen process.new)
         (λ m. AddsWords words.old.items (bss_of_image m (option_map facts_of binary.now)) words.new.items result) }
 {
     match binary {
@@ -146,7 +148,7 @@ fn next_by<P: ProcessMemory>(
 }
 
 /// Adds the addresses that follow one at the same place of each record, while those that they follow have no thread.
-/// At most 2 reads for each.
+/// At most 2 reads for each, and 2 more.
 fn add_behind_idle<P: ProcessMemory>(
     process: &mut P,
     words: &mut Vec<u64>,
@@ -154,7 +156,8 @@ fn add_behind_idle<P: ProcessMemory>(
     place: u64,
     first: u64,
 ) -> Result<(), StackError>
-    ensures { Reading 128 (P.seen process.old) (P.seen process.new)
+    ensures { ReadingBy (λ m. 2 + 2 * length (behind_idle layout.now m place 64 first)) (P.seen process.old)
+        (P.seen process.new)
         (λ m. AddsWords words.old.items (behind_idle layout.now m place 64 first) words.new.items result) }
 {
     let mut at = first;
@@ -171,7 +174,7 @@ fn add_behind_idle<P: ProcessMemory>(
     Ok(())
 }
 
-/// Adds each word of a record, and behind it those that follow by its place. At most 128 reads for each.
+/// Adds each word of a record, and behind it those that follow by its place. At most 2 reads for each of all these.
 fn add_led_to<P: ProcessMemory>(
     process: &mut P,
     candidates: &mut Vec<u64>,
@@ -179,7 +182,7 @@ fn add_led_to<P: ProcessMemory>(
     words: &[u64],
 ) -> Result<(), StackError>
     requires few { length words.now ≤ 1024 }
-    ensures { Reading (128 * length words.now) (P.seen process.old) (P.seen process.new)
+    ensures { ReadingBy (λ m. 2 * length (led_to layout.now m 0 words.now)) (P.seen process.old) (P.seen process.new)
         (λ m. AddsWords candidates.old.items (led_to layout.now m 0 words.now) candidates.new.items result) }
 {
     let mut place = 0;
@@ -198,7 +201,7 @@ fn record_words<P: ProcessMemory>(
     layout: &Layout,
     interpreter: u64,
 ) -> Result<Vec<u64>, StackError>
-    ensures answer { ReadingBelow (2 ^ 64) 1 (P.seen process.old) (P.seen process.new)
+    ensures answer { Reading 1 (P.seen process.old) (P.seen process.new)
         (λ m. IsOrNoMemory (record_words layout.now m interpreter) (words_result result)) }
     ensures few { IfOk result (λ words. length words.items ≤ 1024) }
 {
@@ -214,7 +217,7 @@ fn record_words<P: ProcessMemory>(
     Ok(words)
 }
 
-/// Adds those that the record of an interpreter leads to. At most 131,073 reads.
+/// Adds those that the record of an interpreter leads to. At most one read, and 2 for each of these.
 fn add_record<P: ProcessMemory>(
     alloc: Global,
     process: &mut P,
@@ -222,21 +225,23 @@ fn add_record<P: ProcessMemory>(
     layout: &Layout,
     interpreter: u64,
 ) -> Result<(), StackError>
-    ensures { ReadingBelow (2 ^ 64) 131073 (P.seen process.old) (P.seen process.new) (λ m.
+    ensures { Reading (record_words_reads layout.now (byte_at (P.seen process.old).pieces) interpreter)
+        (P.seen process.old) (P.seen process.new) (λ m.
         AddsWords candidates.old.items (record_candidates layout.now m interpreter) candidates.new.items result) }
 {
     let words = record_words(alloc, process, layout, interpreter)?;
     add_led_to(process, candidates, layout, &words)
 }
 
-/// The head, and behind it the candidates that its record leads to. At most 131,073 reads.
+/// The head, and behind it the candidates that its record leads to. At most one read, and 2 for each of these.
 fn head_candidates<P: ProcessMemory>(
     alloc: Global,
     process: &mut P,
     layout: &Layout,
     head: u64,
 ) -> Result<Vec<u64>, StackError>
-    ensures { ReadingBelow (2 ^ 64) 131073 (P.seen process.old) (P.seen process.new)
+    ensures { Reading (record_words_reads layout.now (byte_at (P.seen process.old).pieces) head)
+        (P.seen process.old) (P.seen process.new)
         (λ m. IsOrNoMemory (head ∷ record_candidates layout.now m head) (words_result result)) }
 {
     let mut words = vec![in alloc; head]?;
@@ -266,7 +271,7 @@ fn read_in_sections<M: ContainsAddr, P: ProcessMemory>(
     layout: &Layout,
 ) -> Result<Option<u64>, SearchError>
     requires sound { IsSound layout.now }
-    ensures { ReadingBelow (2 ^ 64) 4 (P.seen process.old) (P.seen process.new)
+    ensures { Reading 4 (P.seen process.old) (P.seen process.new)
         (λ m. ListIs (head_in_sections (known_of info.now) version.now layout.now m) result) }
 {
     let program = runtime_in(&info.python_binary);
@@ -286,7 +291,7 @@ fn read_given<M: ContainsAddr, P: ProcessMemory>(
     layout: &Layout,
 ) -> Result<Option<u64>, SearchError>
     requires sound { IsSound layout.now }
-    ensures { ReadingBelow (2 ^ 64) 6 (P.seen process.old) (P.seen process.new)
+    ensures { Reading 6 (P.seen process.old) (P.seen process.new)
         (λ m. ListIs (head_given (known_of info.now) version.now layout.now m) result) }
 {
     match read_head(alloc, info, process, version, layout)? {
@@ -297,7 +302,7 @@ fn read_given<M: ContainsAddr, P: ProcessMemory>(
 
 /// The candidates that are named, in order: the head that symbols give, as `py_process::read_head` says, or else the
 /// runtime section of the program or of the library; and those that its record leads to, since the newest interpreter
-/// may have no thread. The one error is want of memory. At most 131,079 reads.
+/// may have no thread. The one error is want of memory. At most 7 reads, and 2 for each of these.
 pub fn named_candidates<M: ContainsAddr, P: ProcessMemory>(
     alloc: Global,
     info: &PythonProcessInfo<M>,
@@ -306,7 +311,8 @@ pub fn named_candidates<M: ContainsAddr, P: ProcessMemory>(
     layout: &Layout,
 ) -> Result<Vec<u64>, StackError>
     requires sound { IsSound layout.now }
-    ensures { ReadingBelow (2 ^ 64) 131079 (P.seen process.old) (P.seen process.new) (λ m. IsOrNoMemory
+    ensures { Reading (7 + 2 * length (named_candidates (known_of info.now) version.now layout.now
+        (byte_at (P.seen process.old).pieces))) (P.seen process.old) (P.seen process.new) (λ m. IsOrNoMemory
         (named_candidates (known_of info.now) version.now layout.now m) (words_result result)) }
 {
     match read_given(alloc, info, process, version, layout) {
@@ -324,7 +330,7 @@ pub fn searched_candidates<M: ContainsAddr, P: ProcessMemory>(
     info: &PythonProcessInfo<M>,
     process: &mut P,
 ) -> Result<Vec<u64>, StackError>
-    ensures { ReadingBelow (2 ^ 64) 4 (P.seen process.old) (P.seen process.new)
+    ensures { ReadingOf (IsSection (known_of info.now)) 4 (P.seen process.old) (P.seen process.new)
         (λ m. IsOrNoMemory (searched_candidates (known_of info.now) m) (words_result result)) }
 {
     let mut words = Vec::new(alloc);
@@ -335,18 +341,30 @@ pub fn searched_candidates<M: ContainsAddr, P: ProcessMemory>(
     Ok(words)
 }
 
-/// The candidates that the record of an interpreter leads to. At most 131,073 reads.
-pub(crate) fn record_candidates<P: ProcessMemory>(
+/// Drops an address wherever it stands.
+fn drop_address(words: &mut Vec<u64>, addr: u64)
+    ensures { words.new.items ≡ other_than addr words.old.items }
+{
+    words.retain(|word| *word != addr);
+}
+
+/// The candidates that the record of an interpreter leads to, but for itself. At most one read, and 2 for each that it
+/// leads to; these are at most 65 for each of its words in front of the head of its threads, of which 1024 are looked
+/// at.
+pub(crate) fn others_led_to<P: ProcessMemory>(
     alloc: Global,
     process: &mut P,
     layout: &Layout,
     interpreter: u64,
 ) -> Result<Vec<u64>, StackError>
-    ensures answer { ReadingBelow (2 ^ 64) 131073 (P.seen process.old) (P.seen process.new)
-        (λ m. IsOrNoMemory (record_candidates layout.now m interpreter) (words_result result)) }
-    ensures few { IfOk result (λ words. length words.items ≤ 66560) }
+    ensures answer { Reading
+        (record_words_reads layout.now (byte_at (P.seen process.old).pieces) interpreter)
+        (P.seen process.old) (P.seen process.new)
+        (λ m. IsOrNoMemory (others_led_to layout.now m interpreter) (words_result result)) }
+    ensures few { IfOk result (λ words. length words.items ≤ record_most layout.now) }
 {
     let mut words = Vec::new(alloc);
     add_record(alloc, process, &mut words, layout, interpreter)?;
+    drop_address(&mut words, interpreter);
     Ok(words)
 }

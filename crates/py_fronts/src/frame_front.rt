@@ -1,11 +1,11 @@
 //! The front of a thread's frames.
 ghost use Rattle.std.specs.Prelude.{◌≡◌, ◌≤◌, ◌+◌, ◌*◌, IfOk, length};
-ghost use Rattle.process_memory.specs.Seen.{Reading};
+ghost use Rattle.process_memory.specs.Seen.{Reading, ReadingBy};
 ghost use Rattle.py_fields.specs.Sound.{IsSound};
 ghost use Rattle.py_fronts.specs.Answers.{IsOrNoMemory};
 ghost use Rattle.py_fronts.specs.FrameFronts.{HasNoChain, chain_of_thread, ends_reads, frames_front_result};
 ghost use Rattle.py_fronts.specs.FrameFronts.{frames_shown, number_between, shown_first, shown_last};
-ghost use Rattle.py_fronts.specs.Members.{chain_reads, chained, chained_of_result};
+ghost use Rattle.py_fronts.specs.Members.{chained, chained_of_result};
 
 use crate::members::{Chain, walk_members};
 use crate::standing::read_standings;
@@ -60,7 +60,7 @@ fn ends_of(kept: &[u64], limit: usize) -> Ends<'_>
     }
 }
 
-/// Shows the first and the last of the kept members of a chain.
+/// Shows the first and the last of the kept members of a chain. The reads are those of each that is shown.
 pub(crate) fn show_ends<P: ProcessMemory>(
     alloc: Global,
     process: &mut P,
@@ -72,7 +72,7 @@ pub(crate) fn show_ends<P: ProcessMemory>(
 ) -> Result<FramesFront, StackError>
     requires sound { IsSound layout.now }
     requires few { limit ≤ 4096 }
-    ensures { Reading (ends_reads asked limit) (P.seen process.old) (P.seen process.new) (λ m.
+    ensures { Reading (ends_reads asked limit chain.now.kept.items) (P.seen process.old) (P.seen process.new) (λ m.
         IsOrNoMemory (frames_shown asked layout.now m limit (chained chain.now)) (frames_front_result result)) }
 {
     let ends = ends_of(&chain.kept, limit);
@@ -113,8 +113,9 @@ pub(crate) fn read_chain<P: ProcessMemory>(
 ) -> Result<Chain, StackError>
     requires sound { IsSound layout.now }
     requires whole { length thread.now ≡ layout.now.thread.size }
-    ensures answer { Reading (1 + chain_reads limit result) (P.seen process.old) (P.seen process.new) (λ m.
-        IsOrNoMemory (chain_of_thread layout.now m limit thread.now) (chained_of_result result)) }
+    ensures answer { ReadingBy (λ m. 6 + 5 * (chain_of_thread layout.now m limit thread.now).met) (P.seen process.old)
+        (P.seen process.new) (λ m. IsOrNoMemory (chain_of_thread layout.now m limit thread.now)
+        (chained_of_result result)) }
     ensures few { IfOk result (λ chain. chain.met ≤ limit) }
 {
     match first_frame(process, layout, thread) {

@@ -1,12 +1,13 @@
 //! The fronts of all interpreters of a process.
 ghost use Rattle.std.specs.Prelude.{◌≡◌, ◌≤◌, ◌+◌, ◌*◌, ◌^◌, IfOk, length};
-ghost use Rattle.process_memory.specs.Seen.{Reading};
+ghost use Rattle.process_memory.specs.Memory.{byte_at};
+ghost use Rattle.process_memory.specs.Seen.{ReadingBy};
 ghost use Rattle.py_fields.specs.Sound.{IsSound};
 ghost use Rattle.py_process.specs.Facts.{known_of};
 ghost use Rattle.py_fronts.specs.Answers.{IsOrNoMemory};
 ghost use Rattle.py_fronts.specs.BesideReports.{AgreeWithReport};
-ghost use Rattle.py_fronts.specs.Fronts.{Fronting, fronts_at, fronts_result, interpreters_fronts, interpreters_most};
-ghost use Rattle.py_fronts.specs.Fronts.{interpreters_result};
+ghost use Rattle.py_fronts.specs.Fronts.{Fronting, all_most, fronts_at, fronts_reads, fronts_result};
+ghost use Rattle.py_fronts.specs.Fronts.{interpreters_fronts, interpreters_result};
 
 use crate::interpreters::find_interpreters;
 use crate::threads::get_threads_front;
@@ -53,8 +54,8 @@ fn read_interpreters<P: ProcessMemory>(
 ) -> Result<Vec<InterpreterFront>, StackError>
     requires sound { IsSound layout.now }
     requires few { limit ≤ 4096 }
-    requires shown { length found.now ≤ 16 }
-    ensures { Reading (interpreters_most asked limit) (P.seen process.old) (P.seen process.new) (λ m. IsOrNoMemory
+    ensures { ReadingBy (λ m. fronts_reads asked (interpreters_fronts asked layout.now m limit 4194304 found.now))
+        (P.seen process.old) (P.seen process.new) (λ m. IsOrNoMemory
         (interpreters_fronts asked layout.now m limit 4194304 found.now) (interpreters_result result)) }
 {
     let mut interpreters = Vec::new(alloc);
@@ -91,8 +92,8 @@ fn all_fronts<M: ContainsAddr, P: ProcessMemory>(
 ) -> Result<Fronts, StackError>
     requires sound { IsSound layout.now }
     requires few { limit ≤ 4096 }
-    ensures { Fronting (known_of info.now) version.now layout.now asked limit (P.seen process.old) (P.seen process.new)
-        (λ m. IsOrNoMemory
+    ensures { Fronting (M.contains info.now.maps) (known_of info.now) version.now layout.now asked limit
+        (P.seen process.old) (P.seen process.new) (λ m. IsOrNoMemory
         (fronts_at (M.contains info.now.maps) (known_of info.now) version.now layout.now m asked limit)
         (fronts_result result)) }
 {
@@ -108,10 +109,18 @@ fn all_fronts<M: ContainsAddr, P: ProcessMemory>(
 /// far as theirs goes: what `find_interpreters` finds and `get_threads_front` says of each, where 4,194,304 members may
 /// be met in all.
 ///
-/// Where there is a report of the same memory, its interpreter is among them, if each of its threads names it and there
-/// are no more than are shown; and its threads and frames are those of the report.
+/// Where the same memory has a report of an interpreter, and each thread of the report names that interpreter, then:
 ///
-/// The one error is want of memory.
+/// - it is among these, if there are no more than are shown and no map holds address 0;
+/// - if it is shown and no text stands at address 0, its chain of threads is whole, and they are the report's by their
+///   ids, in order. The frames of each, by their names and marks, are the report's but for some that stand hidden
+///   between the first and the last, no more than are counted there; or its chain of frames is cut, of fewer than 16384
+///   members, because no more could be met in all.
+///
+/// The one error is want of memory. The reads are those of `find_interpreters`, and for each interpreter one, for each
+/// of its threads 7, for each member that is met 5, and for each that is shown 15, or 262,155 where locals are asked
+/// for. No more are shown than are met, over all threads together: for 16 interpreters these are at most 84,344,848
+/// without locals, and 1,099,579,195,408 with them, for a `limit` of 100 as for one of 4096 (`fronts_most`).
 pub fn get_fronts<M: ContainsAddr, P: ProcessMemory>(
     alloc: Global,
     info: &PythonProcessInfo<M>,
@@ -123,13 +132,16 @@ pub fn get_fronts<M: ContainsAddr, P: ProcessMemory>(
 ) -> Result<Fronts, StackError>
     requires sound { IsSound layout.now }
     requires few { limit ≤ 4096 }
-    ensures answer { Fronting (known_of info.now) version.now layout.now asked limit (P.seen process.old)
-        (P.seen process.new) (λ m. IsOrNoMemory
+    ensures answer { Fronting (M.contains info.now.maps) (known_of info.now) version.now layout.now asked limit
+        (P.seen process.old) (P.seen process.new) (λ m. IsOrNoMemory
         (fronts_at (M.contains info.now.maps) (known_of info.now) version.now layout.now m asked limit)
         (fronts_result result)) }
-    ensures report { Fronting (known_of info.now) version.now layout.now asked limit (P.seen process.old)
-        (P.seen process.new) (λ m. IfOk (fronts_result result) (λ fronts.
+    ensures report { Fronting (M.contains info.now.maps) (known_of info.now) version.now layout.now asked limit
+        (P.seen process.old) (P.seen process.new) (λ m. IfOk (fronts_result result) (λ fronts.
         AgreeWithReport (M.contains info.now.maps) (known_of info.now) version.now layout.now m fronts)) }
+    // whatever the memory holds, as cyclic chains
+    ensures most { (P.seen process.new).reads ≤ (P.seen process.old).reads + all_most (M.contains info.now.maps)
+        (known_of info.now) version.now layout.now (byte_at (P.seen process.old).pieces) asked limit }
 {
     all_fronts(alloc, info, process, version, layout, asked, limit)
 }

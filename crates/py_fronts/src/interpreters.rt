@@ -1,23 +1,25 @@
 //! Which interpreters of a process are shown.
-ghost use Rattle.std.specs.Prelude.{◌≡◌, ◌+◌, ◌*◌, ◌≤◌, ◌^◌, false, IfOk, OnOk, length};
+ghost use Rattle.std.specs.Prelude.{◌≡◌, ℕ, ◌+◌, ◌*◌, ◌≤◌, ◌^◌, false, IfOk, OnOk, length, map};
 ghost use Rattle.process_memory.specs.Memory.{byte_at};
-ghost use Rattle.process_memory.specs.Seen.{Reading, ReadingBelow};
+ghost use Rattle.process_memory.specs.Seen.{Reading};
 ghost use Rattle.py_fields.specs.Sound.{IsSound};
 ghost use Rattle.py_process.specs.Facts.{known_of};
 ghost use Rattle.py_fronts.specs.Answers.{IsOrNoMemory};
 ghost use Rattle.py_fronts.specs.BesideReports.{FindsReported};
-ghost use Rattle.py_fronts.specs.Candidates.{named_candidates, searched_candidates};
+ghost use Rattle.py_fronts.specs.Candidates.{named_candidates, record_candidates, record_most, searched_candidates};
 ghost use Rattle.py_stacks.specs.Interpreter.{interpreter_named_by, threads_head};
 ghost use Rattle.py_fronts.specs.Interpreters.{HeadIs, Looking, Takes, address_at, after_candidate, after_candidates};
 ghost use Rattle.py_fronts.specs.Interpreters.{after_record_of, after_records, candidate_reads, ending_result};
 ghost use Rattle.py_fronts.specs.Interpreters.{finds_of, finds_result, headed_at, headed_by, interpreters_at, is_found};
-ghost use Rattle.py_fronts.specs.Interpreters.{names_it, record_reads, shown_head, whole_head, with_one};
+ghost use Rattle.py_fronts.specs.Interpreters.{named_if, with_name};
+ghost use Rattle.py_fronts.specs.Interpreters.{names_it, reads_of_record, records_reads, shown_head, taking_reads};
+ghost use Rattle.py_fronts.specs.Interpreters.{whole_head, with_one, with_their_records};
 ghost use Rattle.py_fronts.specs.ChainEnds.{ending_of};
-ghost use Rattle.py_fronts.specs.ShownInterpreters.{AreAll, AreShown};
+ghost use Rattle.py_fronts.specs.ShownInterpreters.{AreAll, AreMarked, AreShown};
 ghost use Rattle.py_fronts.specs.ThreadFronts.{threads_front};
 
 use crate::ChainEnd;
-use crate::candidates::{named_candidates, nothing_read, record_candidates, searched_candidates};
+use crate::candidates::{named_candidates, nothing_read, others_led_to, searched_candidates};
 use crate::thread_front::{THREAD_LIMIT, Thread, read_thread};
 use elf64_core::u64_in;
 use image_memory::ContainsAddr;
@@ -38,8 +40,8 @@ pub struct FoundInterpreter {
     pub address: u64,
     /// The address of its first thread.
     pub head: u64,
-    /// Whether it was found by search alone: it is neither the head that symbols give nor named by that one's record,
-    /// nor by the record of an interpreter that was found before.
+    /// Whether it was found by search alone, and nothing names it. Named is the head that symbols give, or else the
+    /// runtime section; what its record leads to; and what the record of another interpreter that is shown leads to.
     pub searched: bool,
 }
 
@@ -193,6 +195,24 @@ fn is_found(found: &[FoundInterpreter], addr: u64) -> bool
     found.iter().any(|one| one.address == addr)
 }
 
+/// Marks what was found at an address as named.
+fn mark_named(found: &mut Vec<FoundInterpreter>, addr: u64)
+    ensures { found.new.items ≡ map (named_if addr) found.old.items }
+{
+    for one in found.iter_mut() {
+        one.searched = one.searched && one.address != addr;
+    }
+}
+
+/// Notes of an address that was found that it is named, unless it comes by search again.
+fn note_name(finds: &mut FoundInterpreters, searched: bool, addr: u64)
+    ensures { finds_of finds.new ≡ with_name (finds_of finds.old) searched addr }
+{
+    if !searched {
+        mark_named(&mut finds.found, addr);
+    }
+}
+
 /// Takes an interpreter, where no more than 16 are then; else there are more.
 fn take(
     finds: &mut FoundInterpreters,
@@ -207,7 +227,7 @@ fn take(
     Ok(())
 }
 
-/// Takes a candidate, where it is shown and was not found before.
+/// Takes a candidate, where it is shown and was not found before; else only its name is noted.
 fn take_candidate<M: ContainsAddr, P: ProcessMemory>(
     alloc: Global,
     maps: &M,
@@ -222,6 +242,7 @@ fn take_candidate<M: ContainsAddr, P: ProcessMemory>(
         (after_candidate searched (M.contains maps.now) layout.now m (finds_of finds.old) addr) finds.new result) }
 {
     if is_found(&finds.found, addr) {
+        note_name(finds, searched, addr);
         return Ok(());
     }
     let head = match shown_head(alloc, maps, process, layout, searched, addr)? {
@@ -268,7 +289,8 @@ fn address_at(found: &[FoundInterpreter], index: usize) -> Option<u64>
     }
 }
 
-/// Takes those that the record of an interpreter leads to. At most 264,193 reads.
+/// Takes the others that the record of an interpreter leads to. At most one read, and 4 for each that it leads to;
+/// none where no interpreter stands at the index.
 fn take_record<M: ContainsAddr, P: ProcessMemory>(
     alloc: Global,
     maps: &M,
@@ -278,7 +300,8 @@ fn take_record<M: ContainsAddr, P: ProcessMemory>(
     finds: &mut FoundInterpreters,
 ) -> Result<(), StackError>
     requires sound { IsSound layout.now }
-    ensures { ReadingBelow (2 ^ 64) record_reads (P.seen process.old) (P.seen process.new) (λ m. Takes
+    ensures { Reading (reads_of_record layout.now (byte_at (P.seen process.old).pieces)
+        (address_at (finds_of finds.old).found index)) (P.seen process.old) (P.seen process.new) (λ m. Takes
         (after_record_of (M.contains maps.now) layout.now m (finds_of finds.old)
         (address_at (finds_of finds.old).found index)) finds.new result) }
 {
@@ -286,7 +309,7 @@ fn take_record<M: ContainsAddr, P: ProcessMemory>(
         Some(interpreter) => interpreter,
         None => return Ok(()),
     };
-    let candidates = record_candidates(alloc, process, layout, interpreter)?;
+    let candidates = others_led_to(alloc, process, layout, interpreter)?;
     take_candidates(alloc, maps, process, layout, false, &candidates, finds)
 }
 
@@ -299,7 +322,9 @@ fn take_records<M: ContainsAddr, P: ProcessMemory>(
     finds: &mut FoundInterpreters,
 ) -> Result<(), StackError>
     requires sound { IsSound layout.now }
-    ensures { ReadingBelow (2 ^ 64) (16 * record_reads) (P.seen process.old) (P.seen process.new) (λ m. Takes
+    ensures { Reading (records_reads layout.now (byte_at (P.seen process.old).pieces)
+        (after_records (M.contains maps.now) layout.now (byte_at (P.seen process.old).pieces) 16 0
+        (finds_of finds.old)).found) (P.seen process.old) (P.seen process.new) (λ m. Takes
         (after_records (M.contains maps.now) layout.now m 16 0 (finds_of finds.old)) finds.new result) }
 {
     for index in 0..INTERPRETER_LIMIT {
@@ -319,10 +344,10 @@ fn take_with_records<M: ContainsAddr, P: ProcessMemory>(
     finds: &mut FoundInterpreters,
 ) -> Result<(), StackError>
     requires sound { IsSound layout.now }
-    ensures { ReadingBelow (2 ^ 64) (candidate_reads searched * length candidates.now + 16 * record_reads)
-        (P.seen process.old) (P.seen process.new) (λ m. Takes
-        (after_records (M.contains maps.now) layout.now m 16 0 (after_candidates searched (M.contains maps.now)
-        layout.now m (finds_of finds.old) candidates.now)) finds.new result) }
+    ensures { Reading (taking_reads searched (M.contains maps.now) layout.now
+        (byte_at (P.seen process.old).pieces) (finds_of finds.old) candidates.now) (P.seen process.old)
+        (P.seen process.new) (λ m. Takes (with_their_records searched (M.contains maps.now) layout.now m
+        (finds_of finds.old) candidates.now) finds.new result) }
 {
     take_candidates(alloc, maps, process, layout, searched, candidates, finds)?;
     take_records(alloc, maps, process, layout, finds)
@@ -337,8 +362,9 @@ fn find_all<M: ContainsAddr, P: ProcessMemory>(
     layout: &Layout,
 ) -> Result<FoundInterpreters, StackError>
     requires sound { IsSound layout.now }
-    ensures { Looking (known_of info.now) version.now layout.now (P.seen process.old) (P.seen process.new) (λ m.
-        IsOrNoMemory (interpreters_at (M.contains info.now.maps) (known_of info.now) version.now layout.now m)
+    ensures { Looking (M.contains info.now.maps) (known_of info.now) version.now layout.now (P.seen process.old)
+        (P.seen process.new) (λ m. IsOrNoMemory
+        (interpreters_at (M.contains info.now.maps) (known_of info.now) version.now layout.now m)
         (finds_result result)) }
 {
     let mut finds = FoundInterpreters {
@@ -364,14 +390,16 @@ fn find_all<M: ContainsAddr, P: ProcessMemory>(
 /// at, in turn; and where the address that it holds has no thread, by the word at the same place there, past at most
 /// 64 such in a row. Then those that are found by search alone: the words of the program's runtime section and of the
 /// library's, and those of their bss, and again those that the records of these lead to. Each address is taken once,
-/// and 16 at most; `more` says whether there is another.
+/// and 16 at most; `more` says whether there is another. One that was found by search counts as named
+/// (`FoundInterpreter::searched`) where the record of another one, found before it or after, leads to it.
 ///
 /// An address is an interpreter's where a map holds it, the word of its first thread is in memory, is not 0 and lies in
 /// a map, and the record of that thread names the address. One that is found by search alone is taken only where its
 /// chain of threads is whole.
 ///
-/// The one error is want of memory. At most 131,083 reads for the candidates, 2 for each that is named, 4098 for each
-/// that is found by search, and 8,454,176 for the records.
+/// The one error is want of memory. At most 11 reads, 4 for each candidate that is named, and 4098 for each that is
+/// found by search; and twice for each interpreter that is shown one for its record, and 4 for each that it leads to. A
+/// record leads to at most 65 for each of its words that are looked at.
 pub fn find_interpreters<M: ContainsAddr, P: ProcessMemory>(
     alloc: Global,
     info: &PythonProcessInfo<M>,
@@ -380,18 +408,26 @@ pub fn find_interpreters<M: ContainsAddr, P: ProcessMemory>(
     layout: &Layout,
 ) -> Result<FoundInterpreters, StackError>
     requires sound { IsSound layout.now }
-    ensures answer { Looking (known_of info.now) version.now layout.now (P.seen process.old) (P.seen process.new) (λ m.
-        IsOrNoMemory (interpreters_at (M.contains info.now.maps) (known_of info.now) version.now layout.now m)
+    ensures answer { Looking (M.contains info.now.maps) (known_of info.now) version.now layout.now (P.seen process.old)
+        (P.seen process.new) (λ m. IsOrNoMemory
+        (interpreters_at (M.contains info.now.maps) (known_of info.now) version.now layout.now m)
         (finds_result result)) }
-    ensures right { Looking (known_of info.now) version.now layout.now (P.seen process.old) (P.seen process.new)
+    ensures right { Looking (M.contains info.now.maps) (known_of info.now) version.now layout.now (P.seen process.old)
+        (P.seen process.new)
         (λ m. IfOk result (λ finds. AreShown (M.contains info.now.maps) layout.now m (finds_of finds))) }
+    // one was found by search alone where nothing names it, and nowhere else
+    ensures marked { Looking (M.contains info.now.maps) (known_of info.now) version.now layout.now (P.seen process.old)
+        (P.seen process.new) (λ m. IfOk result
+        (λ finds. AreMarked (known_of info.now) version.now layout.now m (finds_of finds))) }
     // none is left out
-    ensures all { Looking (known_of info.now) version.now layout.now (P.seen process.old) (P.seen process.new) (λ m.
-        IfOk result (λ finds. finds.more ≡ false
+    ensures all { Looking (M.contains info.now.maps) (known_of info.now) version.now layout.now (P.seen process.old)
+        (P.seen process.new) (λ m. IfOk result (λ finds. finds.more ≡ false
         → AreAll (M.contains info.now.maps) (known_of info.now) version.now layout.now m (finds_of finds))) }
-    ensures report { Looking (known_of info.now) version.now layout.now (P.seen process.old) (P.seen process.new) (λ m.
-        IfOk result (λ finds.
+    ensures report { Looking (M.contains info.now.maps) (known_of info.now) version.now layout.now (P.seen process.old)
+        (P.seen process.new) (λ m. IfOk result (λ finds.
         FindsReported (M.contains info.now.maps) (known_of info.now) version.now layout.now m (finds_of finds))) }
+    ensures few { (a : ℕ) → length (record_candidates layout.now (byte_at (P.seen process.old).pieces) a)
+        ≤ record_most layout.now }
 {
     find_all(alloc, info, process, version, layout)
 }

@@ -1,6 +1,6 @@
 //! The members of a thread's chain of frames, as far as it goes.
 ghost use Rattle.std.specs.Prelude.{◌≡◌, ◌≤◌, ◌++◌, IfOk, OnOk};
-ghost use Rattle.process_memory.specs.Seen.{Reading};
+ghost use Rattle.process_memory.specs.Seen.{Reading, ReadingBy};
 ghost use Rattle.py_fields.specs.Sound.{IsSound};
 ghost use Rattle.py_builtins.specs.Texts.{text_at};
 ghost use Rattle.py_stacks.specs.Records.{AreWhole, member_of};
@@ -151,8 +151,9 @@ pub(crate) fn walk_members<P: ProcessMemory>(
     records: &mut Records,
 ) -> Result<Chain, StackError>
     requires sound { IsSound layout.now }
-    ensures answer { Reading (chain_reads limit result) (P.seen process.old) (P.seen process.new) (λ m.
-        IsOrNoMemory (kept_of layout.now m (members_front layout.now m limit first)) (chained_of_result result)) }
+    ensures answer { ReadingBy (λ m. chain_reads layout.now m limit first) (P.seen process.old) (P.seen process.new)
+        (λ m. IsOrNoMemory (kept_of layout.now m (members_front layout.now m limit first))
+        (chained_of_result result)) }
     ensures few { IfOk result (λ chain. chain.met ≤ limit) }
 {
     let mut kept = Vec::new(alloc);

@@ -1,13 +1,13 @@
 //! The front of an interpreter's threads.
 ghost use Rattle.std.specs.Prelude.{◌≡◌, ◌≤◌, ◌+◌, ◌*◌, IfOk, OnOk, length, map, min};
 ghost use Rattle.process_memory.specs.Memory.{record_at};
-ghost use Rattle.process_memory.specs.Seen.{Reading};
+ghost use Rattle.process_memory.specs.Seen.{Reading, ReadingBy};
 ghost use Rattle.py_fields.specs.Sound.{IsSound};
 ghost use Rattle.py_fronts.specs.Answers.{IsOrNoMemory};
 ghost use Rattle.py_fronts.specs.FrameFronts.{thread_members_limit};
 ghost use Rattle.py_fronts.specs.ThreadFronts.{IsWholeThread, RecordIs, ThreadIs, front_shown, left_after, thread_by};
 ghost use Rattle.py_fronts.specs.ThreadFronts.{thread_front_result, thread_reads, threads_front, threads_of};
-ghost use Rattle.py_fronts.specs.ThreadFronts.{threads_reads, threads_result};
+ghost use Rattle.py_fronts.specs.ThreadFronts.{ReadingThreads, threads_result};
 
 use crate::frame_front::{read_chain, show_ends};
 use crate::{ChainEnd, FramesFront};
@@ -104,7 +104,8 @@ fn read_thread_front<P: ProcessMemory>(
     requires sound { IsSound layout.now }
     requires few { limit ≤ 4096 }
     requires whole { length thread.now ≡ layout.now.thread.size }
-    ensures answer { Reading (thread_reads asked limit left result) (P.seen process.old) (P.seen process.new) (λ m.
+    ensures answer { ReadingBy (λ m. thread_reads asked (thread_by asked layout.now m limit left at thread.now))
+        (P.seen process.old) (P.seen process.new) (λ m.
         IsOrNoMemory (thread_by asked layout.now m limit left at thread.now) (thread_front_result result)) }
     ensures few { IfOk result (λ front. front.frames.met ≤ left) }
 {
@@ -145,7 +146,7 @@ pub(crate) fn walk_threads<P: ProcessMemory>(
 ) -> Result<ThreadsFront, StackError>
     requires sound { IsSound layout.now }
     requires few { limit ≤ 4096 }
-    ensures answer { Reading (threads_reads asked limit left.old left.new result) (P.seen process.old)
+    ensures answer { ReadingThreads asked layout.now limit left.old interpreter head (P.seen process.old)
         (P.seen process.new) (λ m. IsOrNoMemory
         (front_shown asked layout.now m limit left.old (threads_front layout.now interpreter m head))
         (threads_result result)) }

@@ -1,14 +1,12 @@
 //! The front of an interpreter's threads, as it is asked for.
 ghost use Rattle.std.specs.Prelude.{◌≡◌, ◌≤◌, ◌+◌, ◌*◌, IfOk, Ok, length};
-ghost use Rattle.process_memory.specs.Seen.{Reading};
 ghost use Rattle.py_fields.specs.Sound.{IsSound};
 ghost use Rattle.py_stacks.specs.Interpreter.{threads_head};
 ghost use Rattle.py_fronts.specs.Answers.{IsOrNoMemory};
 ghost use Rattle.py_fronts.specs.BesideReports.{AgreesWithReport};
 ghost use Rattle.py_fronts.specs.FirstThreads.{AreFirstThreads};
-ghost use Rattle.py_fronts.specs.FrameFronts.{ends_reads};
 ghost use Rattle.py_fronts.specs.ThreadFronts.{ThreadsShown, front_shown, left_after, threads_front, threads_of};
-ghost use Rattle.py_fronts.specs.ThreadFronts.{threads_reads, threads_result};
+ghost use Rattle.py_fronts.specs.ThreadFronts.{ReadingThreads, threads_most, threads_result};
 
 use crate::ThreadsFront;
 use crate::thread_front::walk_threads;
@@ -33,8 +31,9 @@ use std::alloc::Global;
 /// but one that stands before its first instruction has the first line of its code, and a fault of its locals is its
 /// own and ends nothing.
 ///
-/// The one error is want of memory. At most one read, 7 for each thread, 5 for each member that is met; and 15 for each
-/// that is shown, with 4 for each of its variables where they are asked for.
+/// The one error is want of memory. At most one read, 7 for each thread, and 5 for each member that is met; and for
+/// each that is shown 15, or 262,155 where locals are asked for, 4 for each of 65,535 variables. No more are shown than
+/// are met.
 pub fn get_threads_front<P: ProcessMemory>(
     alloc: Global,
     process: &mut P,
@@ -47,28 +46,27 @@ pub fn get_threads_front<P: ProcessMemory>(
 ) -> Result<ThreadsFront, StackError>
     requires sound { IsSound layout.now }
     requires few { limit ≤ 4096 }
-    ensures answer { Reading (threads_reads asked limit left.old left.new result) (P.seen process.old)
+    ensures answer { ReadingThreads asked layout.now limit left.old interpreter head (P.seen process.old)
         (P.seen process.new) (λ m. IsOrNoMemory
         (front_shown asked layout.now m limit left.old (threads_front layout.now interpreter m head))
         (threads_result result)) }
-    ensures right { Reading (threads_reads asked limit left.old left.new result) (P.seen process.old)
+    ensures right { ReadingThreads asked layout.now limit left.old interpreter head (P.seen process.old)
         (P.seen process.new) (λ m. IfOk result (λ front.
         AreFirstThreads asked layout.now m limit left.old interpreter head (threads_of front))) }
     // what is right is the answer, want of memory aside
-    ensures only { Reading (threads_reads asked limit left.old left.new result) (P.seen process.old)
+    ensures only { ReadingThreads asked layout.now limit left.old interpreter head (P.seen process.old)
         (P.seen process.new) (λ m. (shown : ThreadsShown)
         → AreFirstThreads asked layout.now m limit left.old interpreter head shown
         → IsOrNoMemory shown (threads_result result)) }
     // its threads are those of a report, where there is one
-    ensures report { Reading (threads_reads asked limit left.old left.new result) (P.seen process.old)
+    ensures report { ReadingThreads asked layout.now limit left.old interpreter head (P.seen process.old)
         (P.seen process.new) (λ m. IfOk result (λ front. threads_head layout.now m interpreter ≡ Ok head
         → AgreesWithReport layout.now m interpreter (threads_of front))) }
     ensures left { IfOk result (λ front. left.new ≡ left_after left.old (threads_of front).threads) }
     ensures fewer { left.new ≤ left.old }
     ensures few { IfOk result (λ front. length front.threads.items ≤ 4096) }
     // whatever the memory holds, as cyclic chains
-    ensures most { (P.seen process.new).reads ≤ (P.seen process.old).reads
-        + (1 + 5 * left.old + (7 + ends_reads asked limit) * 4096) }
+    ensures most { (P.seen process.new).reads ≤ (P.seen process.old).reads + threads_most asked limit left.old }
 {
     walk_threads(
         alloc,

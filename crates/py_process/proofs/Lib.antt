@@ -17,10 +17,10 @@ pub mod Marks
 pub mod Parts
 pub mod ReportLaws
 pub mod Searches
+pub mod Sections
 pub mod Stable
 pub mod StackCauses
 pub mod SymbolMaps
 pub mod Telling
 pub mod Tests
-pub mod Wider
 pub mod Words

@@ -8,7 +8,8 @@ use Rattle.std.proofs.lemmas.List.Folds.{find-append}
 use Rattle.elf64_core.specs.Fields.{u64_in}
 use Rattle.process_memory.specs.Memory.{Memory, byte_at, record_at}
 use Rattle.process_memory.specs.Memory.Fault.{Missing}
-use Rattle.process_memory.specs.Seen.{Answers, FaultIs, ReadingBelow, Seen, read_fault}
+use Rattle.process_memory.specs.Seen.{Answers, FaultIs, IsShort, Reading, ReadingOf, Seen, read_fault}
+use Rattle.process_memory.specs.declared.memory.Span.{Span}
 use Rattle.process_memory.specs.declared.memory.ReadFault.{ReadFault}
 use Rattle.process_memory.specs.declared.memory.ReadFault.TheVariants as read
 use Rattle.process_memory.proofs.Reading.{reading_gives, reading_here, reading_none, reading_then, reads_within}
@@ -21,6 +22,7 @@ use Rattle.py_process.specs.Candidates.{words_in, words_of}
 use Rattle.py_stacks.specs.Interpreter.{threads_head}
 use Rattle.py_stacks.proofs.Candidates.{test_most}
 use Rattle.py_process.specs.Facts.{Known}
+use Rattle.py_process.specs.Sections.{IsSearched}
 use Rattle.py_process.specs.declared.search_error.SearchError.{SearchError}
 use Rattle.py_process.specs.declared.search_error.SearchError.TheVariants.{NotFound, OutOfMemory}
 use Rattle.py_process.proofs.Tests.{is_one, not_one}
@@ -85,16 +87,16 @@ found_behind p xs ys r none s =
 found_front : (p : ℕ → Bool) (xs ys : List ℕ) (a : ℕ) → find p xs ≡ Some a → find p (xs ++ ys) ≡ Some a
 found_front p xs ys a is = find-append p xs ys ∙ ap (λ o. option_or o (find p ys)) is
 
-pub seek_then : {s0 s1 s2 : Seen} (c : ℕ → Bool) (l : Layout) (n k : ℕ) (xs ys : Memory → List ℕ) (o : Option ℕ) (r : Result (Option ℕ) SearchError) → o ≡ None
-    → Seeking c l n xs s0 s1 (Ok o) → Seeking c l k ys s1 s2 r → Seeking c l (n + k) (λ m. xs m ++ ys m) s0 s2 r
+pub seek_then : {allowed : Memory → Span → Type 0} {s0 s1 s2 : Seen} (c : ℕ → Bool) (l : Layout) (n k : ℕ) (xs ys : Memory → List ℕ) (o : Option ℕ) (r : Result (Option ℕ) SearchError) → o ≡ None
+    → Seeking allowed c l n xs s0 s1 (Ok o) → Seeking allowed c l k ys s1 s2 r → Seeking allowed c l (n + k) (λ m. xs m ++ ys m) s0 s2 r
 seek_then {s0 = s0} {s1 = s1} c l n k xs ys o r none p q =
     let costs = cost_none c l (byte_at s0.pieces) (xs (byte_at s0.pieces)) (ys (byte_at s0.pieces)) (reading_here p ∙ none) in
     let same : search_cost c l (byte_at s1.pieces) (ys (byte_at s1.pieces)) ≡ search_cost c l (byte_at s0.pieces) (ys (byte_at s0.pieces)) =
     ap (λ ps. search_cost c l (byte_at ps) (ys (byte_at ps))) p.pieces in
     reads_within _ (reading_then (λ m. SearchIs (find (passes_in c l m) (xs m ++ ys m)) r) p q (λ m a b. found_behind (passes_in c l m) (xs m) (ys m) r (a ∙ none) b)) (omega (arith, costs, same))
 
-pub seek_found : {s0 s1 : Seen} (c : ℕ → Bool) (l : Layout) (n most : ℕ) (xs ys : Memory → List ℕ) (o : Option ℕ) (a : ℕ) → o ≡ Some a → n ≤ most
-    → Seeking c l n xs s0 s1 (Ok o) → Seeking c l most (λ m. xs m ++ ys m) s0 s1 (Ok (Some a))
+pub seek_found : {allowed : Memory → Span → Type 0} {s0 s1 : Seen} (c : ℕ → Bool) (l : Layout) (n most : ℕ) (xs ys : Memory → List ℕ) (o : Option ℕ) (a : ℕ) → o ≡ Some a → n ≤ most
+    → Seeking allowed c l n xs s0 s1 (Ok o) → Seeking allowed c l most (λ m. xs m ++ ys m) s0 s1 (Ok (Some a))
 seek_found {s0 = s0} c l n most xs ys o a is le p =
     let front = cost_front c l (byte_at s0.pieces) (xs (byte_at s0.pieces)) (ys (byte_at s0.pieces)) in
     reading_gives _ _ p (omega (arith, front, le)) (λ m h. found_front (passes_in c l m) (xs m) (ys m) a (h ∙ is))
@@ -103,8 +105,8 @@ pub lost : {T U : Type 0} (x : T) (y : U) (e : SearchError) → SearchIs x (Err 
 lost x y NotFound s = s
 lost x y OutOfMemory s = tt
 
-pub seek_lost : {s0 s1 : Seen} (c : ℕ → Bool) (l : Layout) (n most : ℕ) (xs ys : Memory → List ℕ) (e d : SearchError) → d ≡ e → n ≤ most
-    → Seeking c l n xs s0 s1 (Err e) → Seeking c l most (λ m. xs m ++ ys m) s0 s1 (Err d)
+pub seek_lost : {allowed : Memory → Span → Type 0} {s0 s1 : Seen} (c : ℕ → Bool) (l : Layout) (n most : ℕ) (xs ys : Memory → List ℕ) (e d : SearchError) → d ≡ e → n ≤ most
+    → Seeking allowed c l n xs s0 s1 (Err e) → Seeking allowed c l most (λ m. xs m ++ ys m) s0 s1 (Err d)
 seek_lost {s0 = s0} c l n most xs ys e d same le p =
     let front = cost_front c l (byte_at s0.pieces) (xs (byte_at s0.pieces)) (ys (byte_at s0.pieces)) in
     reading_gives _ _ p (omega (arith, front, le)) (λ m h. rw same (lost (find (passes_in c l m) (xs m)) (find (passes_in c l m) (xs m ++ ys m)) e h))
@@ -114,7 +116,7 @@ seek_lost {s0 = s0} c l n most xs ys e d same le p =
 -- a search in a list that goes on with the rest of it
 pub record Going (c : ℕ → Bool) (l : Layout) (all rest : List ℕ) (old new : Seen) : Type 0 where
   pub spent : ℕ
-  pub reading : ReadingBelow (2 ^ 64) spent old new (λ m. find (passes_in c l m) all ≡ find (passes_in c l m) rest)
+  pub reading : Reading spent old new (λ m. find (passes_in c l m) all ≡ find (passes_in c l m) rest)
   pub budget : spent + search_cost c l (byte_at old.pieces) rest ≤ search_cost c l (byte_at old.pieces) all
 
 going_first : (c : ℕ → Bool) (l : Layout) (all : List ℕ) (s : Seen) → Going c l all all s s
@@ -138,7 +140,7 @@ unfolding search_cost
 cost_one c l m a rest = omega arith
 
 pub going_on : {s0 s1 s2 : Seen} (c : ℕ → Bool) (l : Layout) (all : List ℕ) (a : ℕ) (rest : List ℕ) → Going c l all (a ∷ rest) s0 s1
-    → ReadingBelow (2 ^ 64) (candidate_cost c l (byte_at s1.pieces) a) s1 s2 (λ m. passes_in c l m a ≡ false) → Going c l all rest s0 s2
+    → Reading (candidate_cost c l (byte_at s1.pieces) a) s1 s2 (λ m. passes_in c l m a ≡ false) → Going c l all rest s0 s2
 going_on {s0 = s0} {s1 = s1} c l all a rest g r =
     let same = ap (λ ps. candidate_cost c l (byte_at ps) a) g.reading.pieces in
     let fails : passes_in c l (byte_at s0.pieces) a ≡ false = subst (λ ps. passes_in c l (byte_at ps) a ≡ false) g.reading.pieces (reading_here r) in
@@ -151,7 +153,7 @@ going_on {s0 = s0} {s1 = s1} c l all a rest g r =
     }
 
 pub going_found : {s0 s1 s2 : Seen} (c : ℕ → Bool) (l : Layout) (all : List ℕ) (a : ℕ) (rest : List ℕ) → Going c l all (a ∷ rest) s0 s1
-    → ReadingBelow (2 ^ 64) (candidate_cost c l (byte_at s1.pieces) a) s1 s2 (λ m. passes_in c l m a ≡ true) → Seeking c l 0 (λ m. all) s0 s2 (Ok (Some a))
+    → Reading (candidate_cost c l (byte_at s1.pieces) a) s1 s2 (λ m. passes_in c l m a ≡ true) → Seeking IsShort c l 0 (λ m. all) s0 s2 (Ok (Some a))
 going_found {s0 = s0} {s1 = s1} c l all a rest g r =
     let same = ap (λ ps. candidate_cost c l (byte_at ps) a) g.reading.pieces in
     let costs = cost_one c l (byte_at s0.pieces) a rest in
@@ -159,14 +161,14 @@ going_found {s0 = s0} {s1 = s1} c l all a rest g r =
     reads_within _ (reading_then (λ m. find (passes_in c l m) all ≡ Some a) g.reading r (λ m x y. x ∙ ap (λ t. cond t (Some a) (find (passes_in c l m) rest)) y)) (omega (arith, same, costs, before))
 
 pub going_lost : {s0 s1 s2 : Seen} (c : ℕ → Bool) (l : Layout) (all : List ℕ) (a : ℕ) (rest : List ℕ) (e d : SearchError) → d ≡ e → Going c l all (a ∷ rest) s0 s1
-    → ReadingBelow (2 ^ 64) (candidate_cost c l (byte_at s1.pieces) a) s1 s2 (λ m. SearchIs (passes_in c l m a) (Err e)) → Seeking c l 0 (λ m. all) s0 s2 (Err d)
+    → Reading (candidate_cost c l (byte_at s1.pieces) a) s1 s2 (λ m. SearchIs (passes_in c l m a) (Err e)) → Seeking IsShort c l 0 (λ m. all) s0 s2 (Err d)
 going_lost {s0 = s0} {s1 = s1} c l all a rest e d equal g r =
     let same = ap (λ ps. candidate_cost c l (byte_at ps) a) g.reading.pieces in
     let costs = cost_one c l (byte_at s0.pieces) a rest in
     let before = g.budget in
     reads_within _ (reading_then (λ m. SearchIs (find (passes_in c l m) all) (Err d)) g.reading r (λ m x y. rw equal (lost (passes_in c l m a) (find (passes_in c l m) all) e y))) (omega (arith, same, costs, before))
 
-pub going_done : {s0 s1 : Seen} (c : ℕ → Bool) (l : Layout) (all rest : List ℕ) → rest ≡ [] → Going c l all rest s0 s1 → Seeking c l 0 (λ m. all) s0 s1 (Ok None)
+pub going_done : {s0 s1 : Seen} (c : ℕ → Bool) (l : Layout) (all rest : List ℕ) → rest ≡ [] → Going c l all rest s0 s1 → Seeking IsShort c l 0 (λ m. all) s0 s1 (Ok None)
 going_done {s0 = s0} c l all rest none g =
     let before = g.budget in
     reading_gives _ _ g.reading (omega (arith, before)) (λ m x. x ∙ ap (find (passes_in c l m)) none)
@@ -176,8 +178,8 @@ going_done {s0 = s0} c l all rest none g =
 one_list : (c : ℕ → Bool) (l : Layout) (m : Memory) (xs : List ℕ) (o : Option ℕ) (a : ℕ) → o ≡ Some a → xs ≡ option_to_list o → xs ≡ a ∷ []
 one_list c l m xs o a is e = e ∙ ap option_to_list is
 
-one_budget : {s0 s1 : Seen} (c : ℕ → Bool) (l : Layout) (n : ℕ) (xs : Memory → List ℕ) (o : Option ℕ) (a : ℕ) → o ≡ Some a
-    → ReadingBelow (2 ^ 64) n s0 s1 (λ m. ListIs (xs m) (Ok o)) → candidate_cost c l (byte_at s1.pieces) a ≤ search_cost c l (byte_at s0.pieces) (xs (byte_at s0.pieces))
+one_budget : {allowed : Memory → Span → Type 0} {s0 s1 : Seen} (c : ℕ → Bool) (l : Layout) (n : ℕ) (xs : Memory → List ℕ) (o : Option ℕ) (a : ℕ) → o ≡ Some a
+    → ReadingOf allowed n s0 s1 (λ m. ListIs (xs m) (Ok o)) → candidate_cost c l (byte_at s1.pieces) a ≤ search_cost c l (byte_at s0.pieces) (xs (byte_at s0.pieces))
 one_budget {s0 = s0} c l n xs o a is p =
     let list = one_list c l (byte_at s0.pieces) (xs (byte_at s0.pieces)) o a is (reading_here p) in
     let whole = ap (search_cost c l (byte_at s0.pieces)) list in
@@ -185,25 +187,25 @@ one_budget {s0 = s0} c l n xs o a is p =
     let same = ap (λ ps. candidate_cost c l (byte_at ps) a) p.pieces in
     omega (arith, whole, costs, same)
 
-pub one_found : {s0 s1 s2 : Seen} (c : ℕ → Bool) (l : Layout) (n : ℕ) (xs : Memory → List ℕ) (o : Option ℕ) (a : ℕ) → o ≡ Some a
-    → ReadingBelow (2 ^ 64) n s0 s1 (λ m. ListIs (xs m) (Ok o)) → ReadingBelow (2 ^ 64) (candidate_cost c l (byte_at s1.pieces) a) s1 s2 (λ m. passes_in c l m a ≡ true)
-    → Seeking c l n xs s0 s2 (Ok (Some a))
+pub one_found : {allowed : Memory → Span → Type 0} {s0 s1 s2 : Seen} (c : ℕ → Bool) (l : Layout) (n : ℕ) (xs : Memory → List ℕ) (o : Option ℕ) (a : ℕ) → o ≡ Some a
+    → ReadingOf allowed n s0 s1 (λ m. ListIs (xs m) (Ok o)) → ReadingOf allowed (candidate_cost c l (byte_at s1.pieces) a) s1 s2 (λ m. passes_in c l m a ≡ true)
+    → Seeking allowed c l n xs s0 s2 (Ok (Some a))
 one_found c l n xs o a is p q =
     let budget = one_budget c l n xs o a is p in
     reads_within _ (reading_then (λ m. find (passes_in c l m) (xs m) ≡ Some a) p q
     (λ m x y. ap (find (passes_in c l m)) (one_list c l m (xs m) o a is x) ∙ ap (λ t. cond t (Some a) None) y)) (omega (arith, budget))
 
-pub one_failed : {s0 s1 s2 : Seen} (c : ℕ → Bool) (l : Layout) (n : ℕ) (xs : Memory → List ℕ) (o : Option ℕ) (a : ℕ) → o ≡ Some a
-    → ReadingBelow (2 ^ 64) n s0 s1 (λ m. ListIs (xs m) (Ok o)) → ReadingBelow (2 ^ 64) (candidate_cost c l (byte_at s1.pieces) a) s1 s2 (λ m. passes_in c l m a ≡ false)
-    → Seeking c l n xs s0 s2 (Ok None)
+pub one_failed : {allowed : Memory → Span → Type 0} {s0 s1 s2 : Seen} (c : ℕ → Bool) (l : Layout) (n : ℕ) (xs : Memory → List ℕ) (o : Option ℕ) (a : ℕ) → o ≡ Some a
+    → ReadingOf allowed n s0 s1 (λ m. ListIs (xs m) (Ok o)) → ReadingOf allowed (candidate_cost c l (byte_at s1.pieces) a) s1 s2 (λ m. passes_in c l m a ≡ false)
+    → Seeking allowed c l n xs s0 s2 (Ok None)
 one_failed c l n xs o a is p q =
     let budget = one_budget c l n xs o a is p in
     reads_within _ (reading_then (λ m. find (passes_in c l m) (xs m) ≡ None) p q
     (λ m x y. ap (find (passes_in c l m)) (one_list c l m (xs m) o a is x) ∙ ap (λ t. cond t (Some a) None) y)) (omega (arith, budget))
 
-pub one_lost : {s0 s1 s2 : Seen} (c : ℕ → Bool) (l : Layout) (n : ℕ) (xs : Memory → List ℕ) (o : Option ℕ) (a : ℕ) (e d : SearchError) → d ≡ e → o ≡ Some a
-    → ReadingBelow (2 ^ 64) n s0 s1 (λ m. ListIs (xs m) (Ok o)) → ReadingBelow (2 ^ 64) (candidate_cost c l (byte_at s1.pieces) a) s1 s2 (λ m. SearchIs (passes_in c l m a) (Err e))
-    → Seeking c l n xs s0 s2 (Err d)
+pub one_lost : {allowed : Memory → Span → Type 0} {s0 s1 s2 : Seen} (c : ℕ → Bool) (l : Layout) (n : ℕ) (xs : Memory → List ℕ) (o : Option ℕ) (a : ℕ) (e d : SearchError) → d ≡ e → o ≡ Some a
+    → ReadingOf allowed n s0 s1 (λ m. ListIs (xs m) (Ok o)) → ReadingOf allowed (candidate_cost c l (byte_at s1.pieces) a) s1 s2 (λ m. SearchIs (passes_in c l m a) (Err e))
+    → Seeking allowed c l n xs s0 s2 (Err d)
 one_lost c l n xs o a e d same is p q =
     let budget = one_budget c l n xs o a is p in
     reads_within _ (reading_then (λ m. SearchIs (find (passes_in c l m) (xs m)) (Err d)) p q (λ m x y. rw same (lost (passes_in c l m a) (find (passes_in c l m) (xs m)) e y))) (omega (arith, budget))
@@ -215,9 +217,9 @@ section_missing m addr size e a n is h =
     let lost : record_at m addr size ≡ Err (Missing a n) = subst (λ x. FaultIs (record_at m addr size) (read_fault x)) is h.is in
     ap words_in lost
 
-pub section_then : {s0 s1 s2 : Seen} (c : ℕ → Bool) (l : Layout) (addr size : ℕ) (bytes read : List ℕ) (r : Result (Option ℕ) SearchError) → read ≡ bytes
-    → ReadingBelow (2 ^ 64) 1 s0 s1 (λ m. Answers {E = ReadFault} read_fault (record_at m addr size) (Ok bytes)) → Seeking c l 0 (λ m. words_of read) s1 s2 r
-    → Seeking c l 1 (λ m. section_words m addr size) s0 s2 r
+pub section_then : {allowed : Memory → Span → Type 0} {s0 s1 s2 : Seen} (c : ℕ → Bool) (l : Layout) (addr size : ℕ) (bytes read : List ℕ) (r : Result (Option ℕ) SearchError) → read ≡ bytes
+    → ReadingOf allowed 1 s0 s1 (λ m. Answers {E = ReadFault} read_fault (record_at m addr size) (Ok bytes)) → Seeking allowed c l 0 (λ m. words_of read) s1 s2 r
+    → Seeking allowed c l 1 (λ m. section_words m addr size) s0 s2 r
 section_then {s0 = s0} {s1 = s1} c l addr size bytes read r whole p q =
     let words : section_words (byte_at s0.pieces) addr size ≡ words_of read = ap words_in (reading_here p).is ∙ ap words_of (sym whole) in
     let costs = ap (search_cost c l (byte_at s0.pieces)) words in
@@ -227,12 +229,12 @@ section_then {s0 = s0} {s1 = s1} c l addr size bytes read r whole p q =
 
 -- ---- the answer
 
-pub search_found : {s0 s1 : Seen} (c : ℕ → Bool) (k : Known) (v : Version) (l : Layout) (o : Option ℕ) (a : ℕ) → o ≡ Some a → Seeking c l 6 (candidates_of k v l) s0 s1 (Ok o)
+pub search_found : {s0 s1 : Seen} (c : ℕ → Bool) (k : Known) (v : Version) (l : Layout) (o : Option ℕ) (a : ℕ) → o ≡ Some a → Seeking (IsSearched k) c l 6 (candidates_of k v l) s0 s1 (Ok o)
     → Searching c k v l s0 s1 (λ m. FirstIs (interpreter_of c k v l m) (Ok a))
 unfolding search_bound interpreter_of
 search_found c k v l o a is p = reading_gives _ _ p (omega arith) (λ m e. e ∙ is)
 
-pub search_failed : {s0 s1 : Seen} (c : ℕ → Bool) (k : Known) (v : Version) (l : Layout) (o : Option ℕ) → o ≡ None → Seeking c l 6 (candidates_of k v l) s0 s1 (Ok o)
+pub search_failed : {s0 s1 : Seen} (c : ℕ → Bool) (k : Known) (v : Version) (l : Layout) (o : Option ℕ) → o ≡ None → Seeking (IsSearched k) c l 6 (candidates_of k v l) s0 s1 (Ok o)
     → Searching c k v l s0 s1 (λ m. FirstIs (interpreter_of c k v l m) (Err NotFound))
 unfolding search_bound interpreter_of
 search_failed c k v l o is p = reading_gives _ _ p (omega arith) (λ m e. e ∙ is)
@@ -241,7 +243,7 @@ first_lost : (o first : Option ℕ) (e : SearchError) → SearchIs o (Err e) →
 first_lost o first NotFound s = absurd s
 first_lost o first OutOfMemory s = tt
 
-pub search_lost : {s0 s1 : Seen} (c : ℕ → Bool) (k : Known) (v : Version) (l : Layout) (e d : SearchError) → d ≡ e → Seeking c l 6 (candidates_of k v l) s0 s1 (Err e)
+pub search_lost : {s0 s1 : Seen} (c : ℕ → Bool) (k : Known) (v : Version) (l : Layout) (e d : SearchError) → d ≡ e → Seeking (IsSearched k) c l 6 (candidates_of k v l) s0 s1 (Err e)
     → Searching c k v l s0 s1 (λ m. FirstIs (interpreter_of c k v l m) (Err d))
 unfolding search_bound interpreter_of
 search_lost c k v l e d same p =

@@ -5,7 +5,8 @@ use Rattle.std.specs.Int.{w32, from_le_bytes}
 use Rattle.std.proofs.lemmas.Bool.{cases_lt}
 use Rattle.process_memory.specs.Memory.{Memory, Found, Fault, record_at}
 use Rattle.process_memory.specs.Memory.Fault.{Missing}
-use Rattle.process_memory.specs.Seen.{Answers, ReadingBelow, Seen, read_fault}
+use Rattle.process_memory.specs.Seen.{Answers, ReadingOf, Seen, read_fault}
+use Rattle.process_memory.specs.declared.memory.Span.{Span}
 use Rattle.process_memory.specs.declared.memory.ReadFault.{ReadFault}
 use Rattle.process_memory.specs.declared.memory.ReadFault.TheVariants as read
 use Rattle.process_memory.proofs.Reading.{reading_gives, reading_then, reads_within}
@@ -100,25 +101,25 @@ told_then m xs ys (Err (Unreadable a n)) none t = none_then m xs ys (Err (Missin
 told_then m xs ys (Err NotFound) none t = t
 told_then m xs ys (Err OutOfMemory) none t = tt
 
-pub reads_on : {limit n k : ℕ} {s0 s1 s2 : Seen} (most : ℕ) (xs ys : List VersionSource) (o : Option Version) (r : Result (Option Version) VersionError) → o ≡ None
-    → ReadingBelow limit n s0 s1 (λ m. ToldBy (FirstTells m xs) (Ok o)) → ReadingBelow limit k s1 s2 (λ m. ToldBy (FirstTells m ys) r) → n + k ≤ most
-    → ReadingBelow limit most s0 s2 (λ m. ToldBy (FirstTells m (xs ++ ys)) r)
+pub reads_on : {allowed : Memory → Span → Type 0} {n k : ℕ} {s0 s1 s2 : Seen} (most : ℕ) (xs ys : List VersionSource) (o : Option Version) (r : Result (Option Version) VersionError) → o ≡ None
+    → ReadingOf allowed n s0 s1 (λ m. ToldBy (FirstTells m xs) (Ok o)) → ReadingOf allowed k s1 s2 (λ m. ToldBy (FirstTells m ys) r) → n + k ≤ most
+    → ReadingOf allowed most s0 s2 (λ m. ToldBy (FirstTells m (xs ++ ys)) r)
 reads_on most xs ys o r none p q le =
     reads_within most (reading_then (λ m. ToldBy (FirstTells m (xs ++ ys)) r) p q (λ m a b. told_then m xs ys r (subst (λ x. FirstTells m xs (Ok x)) none a) b)) le
 
-pub reads_version : {limit n : ℕ} {s0 s1 : Seen} (most : ℕ) (xs ys : List VersionSource) (o : Option Version) (v : Version) → o ≡ Some v
-    → ReadingBelow limit n s0 s1 (λ m. ToldBy (FirstTells m xs) (Ok o)) → n ≤ most
-    → ReadingBelow limit most s0 s1 (λ m. ToldBy (FirstTells m (xs ++ ys)) (Ok (Some v)))
+pub reads_version : {allowed : Memory → Span → Type 0} {n : ℕ} {s0 s1 : Seen} (most : ℕ) (xs ys : List VersionSource) (o : Option Version) (v : Version) → o ≡ Some v
+    → ReadingOf allowed n s0 s1 (λ m. ToldBy (FirstTells m xs) (Ok o)) → n ≤ most
+    → ReadingOf allowed most s0 s1 (λ m. ToldBy (FirstTells m (xs ++ ys)) (Ok (Some v)))
 reads_version most xs ys o v is p le = reading_gives most _ p le (λ m t. some_then m xs ys v (subst (λ x. FirstTells m xs (Ok x)) is t))
 
-pub reads_error : {limit n : ℕ} {s0 s1 : Seen} (most : ℕ) (xs ys : List VersionSource) (e d : VersionError) → d ≡ e
-    → ReadingBelow limit n s0 s1 (λ m. ToldBy (FirstTells m xs) (Err e)) → n ≤ most
-    → ReadingBelow limit most s0 s1 (λ m. ToldBy (FirstTells m (xs ++ ys)) (Err d))
+pub reads_error : {allowed : Memory → Span → Type 0} {n : ℕ} {s0 s1 : Seen} (most : ℕ) (xs ys : List VersionSource) (e d : VersionError) → d ≡ e
+    → ReadingOf allowed n s0 s1 (λ m. ToldBy (FirstTells m xs) (Err e)) → n ≤ most
+    → ReadingOf allowed most s0 s1 (λ m. ToldBy (FirstTells m (xs ++ ys)) (Err d))
 reads_error most xs ys e d same p le = reading_gives most _ p le (λ m t. rw same (error_then m xs ys e t))
 
 -- the same of an equal symbol
-pub reads_along : {limit n : ℕ} {s0 s1 : Seen} (a b : Option ℕ) (r : Result (Option Version) VersionError) → a ≡ b
-    → ReadingBelow limit n s0 s1 (λ m. ToldBy (FirstTells m (text_source_at a)) r) → ReadingBelow limit n s0 s1 (λ m. ToldBy (FirstTells m (text_source_at b)) r)
+pub reads_along : {allowed : Memory → Span → Type 0} {n : ℕ} {s0 s1 : Seen} (a b : Option ℕ) (r : Result (Option Version) VersionError) → a ≡ b
+    → ReadingOf allowed n s0 s1 (λ m. ToldBy (FirstTells m (text_source_at a)) r) → ReadingOf allowed n s0 s1 (λ m. ToldBy (FirstTells m (text_source_at b)) r)
 reads_along {n = n} a b r e p = reading_gives n _ p (omega arith) (λ m t. subst (λ s. ToldBy (FirstTells m (text_source_at s)) r) e t)
 
 -- ---- one thing alone

@@ -3,7 +3,7 @@ use Rattle.std.proofs.Common.{◌≡◌, ℕ, ◌+◌, ◌≤◌, ◌^◌, Bool,
 use Rattle.std.specs.Prelude.{◌&&◌, Option, Some, None, Result, Ok, Err, MatchOption, option_to_list}
 use Rattle.std.proofs.lemmas.Bool.{and_parts}
 use Rattle.process_memory.specs.Memory.{Memory, Found, Fault, byte_at}
-use Rattle.process_memory.specs.Seen.{Answers, FaultIs, ReadingBelow, Reading, Seen}
+use Rattle.process_memory.specs.Seen.{Answers, FaultIs, Reading, Seen}
 use Rattle.process_memory.proofs.Founds.{ok_same}
 use Rattle.process_memory.proofs.Reading.{reading_here, reading_then, reads_within}
 use Rattle.py_fields.specs.declared.layout.Layout.{Layout}
@@ -15,7 +15,6 @@ use Rattle.py_process.specs.Candidates.{IsInterpreterIn, ListIs, SearchIs, candi
 use Rattle.py_process.specs.Candidates.{passes_in}
 use Rattle.py_process.specs.declared.search_error.SearchError.{SearchError}
 use Rattle.py_process.specs.declared.search_error.SearchError.TheVariants.{NotFound, OutOfMemory}
-use Rattle.py_process.proofs.Wider.{reading_wider}
 
 pub outside_maps : (contains : ℕ → Bool) (l : Layout) (m : Memory) (a : ℕ) → contains a ≡ false → passes_in contains l m a ≡ false
 unfolding passes_in
@@ -83,15 +82,15 @@ cost_whole contains l m a head one two is =
 -- the head was read and lies in a map, and the rest of the test was made
 pub tested : {s0 s1 s2 : Seen} {Q : Memory → Type 0} (contains : ℕ → Bool) (l : Layout) (a head : ℕ) (o : Option ℕ) (R : Memory → Type 0)
     → contains a ≡ true → contains head ≡ true → o ≡ Some head
-    → ReadingBelow (2 ^ 64) 1 s0 s1 (λ m. candidate_of (threads_head l m a) ≡ option_to_list o)
+    → Reading 1 s0 s1 (λ m. candidate_of (threads_head l m a) ≡ option_to_list o)
     → Reading (bound_from l (byte_at s1.pieces) a head) s1 s2 Q
     → ((m : Memory) → passes_in contains l m a ≡ passes_from l m a head → Q m → R m)
-    → ReadingBelow (2 ^ 64) (candidate_cost contains l (byte_at s0.pieces) a) s0 s2 R
+    → Reading (candidate_cost contains l (byte_at s0.pieces) a) s0 s2 R
 tested {s0 = s0} contains l a head o R one two some h r f =
     let known = λ (m : Memory) (x : candidate_of (threads_head l m a) ≡ option_to_list o). known_head (threads_head l m a) head (x ∙ ap option_to_list some) in
     let budget = cost_whole contains l (byte_at s0.pieces) a head one two (known (byte_at s0.pieces) (reading_here h)) in
     let same = ap (λ ps. bound_from l (byte_at ps) a head) h.pieces in
-    reads_within _ (reading_then R h (reading_wider (2 ^ 64) r (omega arith)) (λ m x y. f m (passes_whole contains l m a head one two (known m x)) y)) (omega (arith, budget, same))
+    reads_within _ (reading_then R h r (λ m x y. f m (passes_whole contains l m a head one two (known m x)) y)) (omega (arith, budget, same))
 
 pub answer_is : (l : Layout) (m : Memory) (a head : ℕ) (b : Bool) (t : Bool) → Answers {E = StackError} stack_fault (Ok (passes_from l m a head)) (Ok b) → t ≡ passes_from l m a head → t ≡ b
 answer_is l m a head b t r e = e ∙ ok_same (passes_from l m a head) b r.is

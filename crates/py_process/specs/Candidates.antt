@@ -6,7 +6,7 @@ use Rattle.std.specs.Prelude.{◌∷◌, ◌++◌, length, Option, Some, None, R
 use Rattle.std.specs.Int.{w64, from_le_bytes}
 use Rattle.elf64_core.specs.Fields.{u64_in}
 use Rattle.process_memory.specs.Memory.{Found, Memory, ◌>>=◌, byte_at, record_at, word_at}
-use Rattle.process_memory.specs.Seen.{ReadingBelow, Seen}
+use Rattle.process_memory.specs.Seen.{ReadingOf, Seen}
 use Rattle.process_memory.specs.declared.memory.ReadFault.{ReadFault}
 use Rattle.process_memory.specs.declared.memory.ReadFault.TheVariants as read
 use Rattle.py_version.specs.Offsets.{interp_head_offset}
@@ -16,7 +16,9 @@ use Rattle.py_fields.specs.declared.layout.Head.TheVariants.{Symbol, Runtime, Of
 use Rattle.py_fields.specs.declared.layout.Layout.{Layout}
 use Rattle.py_fields.specs.declared.layout.OffsetsAt.{OffsetsAt}
 use Rattle.py_stacks.specs.Interpreter.{IsInterpreter, members_tested, passes, threads_head, threads_tested}
+use Rattle.process_memory.specs.declared.memory.Span.{Span}
 use Rattle.py_process.specs.Facts.{Facts, Known, symbol_known}
+use Rattle.py_process.specs.Sections.{IsSearched}
 use Rattle.py_process.specs.declared.search_error.SearchError.{SearchError}
 use Rattle.py_process.specs.declared.search_error.SearchError.TheVariants.{NotFound, OutOfMemory}
 
@@ -167,10 +169,11 @@ search_bound contains k v l m = 6 + search_cost contains l m (candidates_of k v 
 abbrev pub search_most : Known → Version → Layout → Memory → ℕ
 search_most k v l m = 6 + (3 + 4096 * (2 + 6 * 16384)) * length (candidates_of k v l m)
 
--- what the search owes: it makes at most so many reads, of which a section's is one, and a fact holds over every memory
--- that covers them
+-- what the search owes: it makes at most so many reads, each of fewer than 65536 bytes or of exactly a section, and a
+-- fact holds over every memory that covers them
 abbrev pub Searching : (ℕ → Bool) → Known → Version → Layout → Seen → Seen → (Memory → Type 0) → Type 0
-Searching contains k v l old new Q = ReadingBelow (2 ^ 64) (search_bound contains k v l (byte_at old.pieces)) old new Q
+Searching contains k v l old new Q =
+    ReadingOf (IsSearched k) (search_bound contains k v l (byte_at old.pieces)) old new Q
 
 -- ---- what the readers on the way answer
 
@@ -192,8 +195,10 @@ or_nothing (Ok addr) = Ok (Some addr)
 or_nothing (Err (read.Unreadable addr len)) = Ok None
 or_nothing (Err read.OutOfMemory) = Err OutOfMemory
 
--- what a search in a list owes: it makes at most so many reads beside those of the candidates
-abbrev pub Seeking : (ℕ → Bool) → Layout → ℕ → (Memory → List ℕ) → Seen → Seen → Result (Option ℕ) SearchError → Type 0
-Seeking contains l n candidates old new result =
-    ReadingBelow (2 ^ 64) (n + search_cost contains l (byte_at old.pieces) (candidates (byte_at old.pieces))) old new
+-- what a search in a list owes: it makes at most so many reads beside those of the candidates, each of a range that is
+-- allowed
+abbrev pub Seeking : (Memory → Span → Type 0) → (ℕ → Bool) → Layout → ℕ → (Memory → List ℕ) → Seen → Seen
+    → Result (Option ℕ) SearchError → Type 0
+Seeking allowed contains l n candidates old new result =
+    ReadingOf allowed (n + search_cost contains l (byte_at old.pieces) (candidates (byte_at old.pieces))) old new
     (λ m. SearchIs (find (passes_in contains l m) (candidates m)) result)

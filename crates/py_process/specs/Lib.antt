@@ -11,6 +11,7 @@ pub mod Programs
 pub mod Ranges
 pub mod Refusals
 pub mod Reports
+pub mod Sections
 pub mod Sources
 pub mod Steps
 pub mod SymbolMap

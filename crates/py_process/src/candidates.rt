@@ -1,13 +1,14 @@
 //! The candidates of the interpreter's address, each tested as it is met.
 ghost use Rattle.std.specs.Prelude.{◌≡◌, ◌<◌, ◌^◌, None, Ok, Err, MatchOption, option_map};
 ghost use Rattle.process_memory.specs.Memory.{byte_at};
-ghost use Rattle.process_memory.specs.Seen.{ReadingBelow};
+ghost use Rattle.process_memory.specs.Seen.{IsRange, IsShort, IsShortOr, Reading};
 ghost use Rattle.py_fields.specs.Sound.{IsSound};
 ghost use Rattle.py_stacks.specs.Interpreter.{threads_head};
 ghost use Rattle.py_stacks.specs.StackError.{stack_fault};
 ghost use Rattle.py_process.specs.Candidates.{ListIs, Seeking, SearchIs, candidate_cost, candidate_of, passes_in};
 ghost use Rattle.py_process.specs.Candidates.{runtime_words, section_words, words_of, words_of_facts, words_of_image};
 ghost use Rattle.py_process.specs.Facts.{facts_of};
+ghost use Rattle.py_process.specs.Sections.{IsSectionIn, IsSectionOf};
 
 use crate::{BinaryInfo, SearchError};
 use elf64_core::u64_in;
@@ -33,7 +34,7 @@ fn first_thread<P: ProcessMemory>(
     layout: &Layout,
     addr: u64,
 ) -> Result<Option<u64>, SearchError>
-    ensures { ReadingBelow (2 ^ 64) 1 (P.seen process.old) (P.seen process.new)
+    ensures { Reading 1 (P.seen process.old) (P.seen process.new)
         (λ m. ListIs (candidate_of (threads_head layout.now m addr)) result) }
 {
     match get_first_thread(process, layout, addr) {
@@ -52,8 +53,7 @@ pub(crate) fn is_interpreter_in<M: ContainsAddr, P: ProcessMemory>(
     addr: u64,
 ) -> Result<bool, SearchError>
     requires sound { IsSound layout.now }
-    ensures { ReadingBelow (2 ^ 64)
-        (candidate_cost (M.contains maps.now) layout.now (byte_at (P.seen process.old).pieces) addr)
+    ensures { Reading (candidate_cost (M.contains maps.now) layout.now (byte_at (P.seen process.old).pieces) addr)
         (P.seen process.old) (P.seen process.new)
         (λ m. SearchIs (passes_in (M.contains maps.now) layout.now m addr) result) }
 {
@@ -81,7 +81,7 @@ fn first_of_words<M: ContainsAddr, P: ProcessMemory>(
     bytes: &[u8],
 ) -> Result<Option<u64>, SearchError>
     requires sound { IsSound layout.now }
-    ensures { Seeking (M.contains maps.now) layout.now 0 (λ m. words_of bytes.now)
+    ensures { Seeking IsShort (M.contains maps.now) layout.now 0 (λ m. words_of bytes.now)
         (P.seen process.old) (P.seen process.new) result }
 {
     for word in bytes.chunks_exact(8) {
@@ -103,8 +103,8 @@ fn first_in_section<M: ContainsAddr, P: ProcessMemory>(
     size: u64,
 ) -> Result<Option<u64>, SearchError>
     requires sound { IsSound layout.now }
-    ensures { Seeking (M.contains maps.now) layout.now 1 (λ m. section_words m addr size)
-        (P.seen process.old) (P.seen process.new) result }
+    ensures { Seeking (IsShortOr (IsRange addr size)) (M.contains maps.now) layout.now 1
+        (λ m. section_words m addr size) (P.seen process.old) (P.seen process.new) result }
 {
     let bytes = match process.copy(alloc, addr, size) {
         Ok(bytes) => bytes,
@@ -125,8 +125,8 @@ fn first_in_runtime<M: ContainsAddr, P: ProcessMemory>(
     size: u64,
 ) -> Result<Option<u64>, SearchError>
     requires sound { IsSound layout.now }
-    ensures { Seeking (M.contains maps.now) layout.now 1 (λ m. runtime_words m addr size)
-        (P.seen process.old) (P.seen process.new) result }
+    ensures { Seeking (IsShortOr (IsRange addr size)) (M.contains maps.now) layout.now 1
+        (λ m. runtime_words m addr size) (P.seen process.old) (P.seen process.new) result }
 {
     if addr == 0 {
         return Ok(None);
@@ -143,8 +143,8 @@ fn first_in_binary<M: ContainsAddr, P: ProcessMemory>(
     binary: &BinaryInfo,
 ) -> Result<Option<u64>, SearchError>
     requires sound { IsSound layout.now }
-    ensures { Seeking (M.contains maps.now) layout.now 2 (λ m. words_of_facts m (facts_of binary.now))
-        (P.seen process.old) (P.seen process.new) result }
+    ensures { Seeking (IsShortOr (IsSectionOf (facts_of binary.now))) (M.contains maps.now) layout.now 2
+        (λ m. words_of_facts m (facts_of binary.now)) (P.seen process.old) (P.seen process.new) result }
 {
     let (addr, size) = (binary.pyruntime_addr, binary.pyruntime_size);
     if let Some(found) = first_in_runtime(alloc, maps, process, layout, addr, size)? {
@@ -169,8 +169,8 @@ pub(crate) fn first_in_image<M: ContainsAddr, P: ProcessMemory>(
     binary: &Option<BinaryInfo>,
 ) -> Result<Option<u64>, SearchError>
     requires sound { IsSound layout.now }
-    ensures { Seeking (M.contains maps.now) layout.now 2 (λ m. words_of_image m (option_map facts_of binary.now))
-        (P.seen process.old) (P.seen process.new) result }
+    ensures { Seeking (IsShortOr (IsSectionIn (option_map facts_of binary.now))) (M.contains maps.now) layout.now 2
+        (λ m. words_of_image m (option_map facts_of binary.now)) (P.seen process.old) (P.seen process.new) result }
 {
     match binary {
         Some(binary) => first_in_binary(alloc, maps, process, layout, binary),

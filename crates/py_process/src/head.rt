@@ -1,6 +1,6 @@
 //! The head that symbols give: the first candidate of the interpreter's address.
 ghost use Rattle.std.specs.Prelude.{◌≡◌, ◌+◌, ◌<◌, ◌≤◌, ◌^◌};
-ghost use Rattle.process_memory.specs.Seen.{Reads, ReadingBelow, read_fault};
+ghost use Rattle.process_memory.specs.Seen.{IsShort, Reading, Reads, read_fault};
 ghost use Rattle.py_fields.specs.Sound.{IsSound};
 ghost use Rattle.py_process.specs.Candidates.{ListIs, Seeking, head_by, head_by_offsets, head_from, or_nothing};
 ghost use Rattle.py_process.specs.Facts.{known_of};
@@ -53,7 +53,7 @@ pub fn read_head_from<P: ProcessMemory>(
     runtime: Option<u64>,
 ) -> Result<Option<u64>, SearchError>
     requires sound { IsSound layout.now }
-    ensures { ReadingBelow (2 ^ 64) 2 (P.seen process.old) (P.seen process.new)
+    ensures { Reading 2 (P.seen process.old) (P.seen process.new)
         (λ m. ListIs (head_from layout.now.head version.now layout.now m runtime) result) }
 {
     let Some(runtime) = runtime else {
@@ -81,7 +81,7 @@ pub fn read_head<M: ContainsAddr, P: ProcessMemory>(
     layout: &Layout,
 ) -> Result<Option<u64>, SearchError>
     requires sound { IsSound layout.now }
-    ensures { ReadingBelow (2 ^ 64) 2 (P.seen process.old) (P.seen process.new)
+    ensures { Reading 2 (P.seen process.old) (P.seen process.new)
         (λ m. ListIs (head_by layout.now.head (known_of info.now) version.now layout.now m) result) }
 {
     match layout.head {
@@ -107,7 +107,7 @@ pub(crate) fn first_of_head<M: ContainsAddr, P: ProcessMemory>(
     layout: &Layout,
 ) -> Result<Option<u64>, SearchError>
     requires sound { IsSound layout.now }
-    ensures { Seeking (M.contains info.now.maps) layout.now 2
+    ensures { Seeking IsShort (M.contains info.now.maps) layout.now 2
         (λ m. head_by layout.now.head (known_of info.now) version.now layout.now m)
         (P.seen process.old) (P.seen process.new) result }
 {

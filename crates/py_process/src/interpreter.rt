@@ -5,6 +5,7 @@ ghost use Rattle.py_fields.specs.Sound.{IsSound};
 ghost use Rattle.py_process.specs.Candidates.{FirstIs, IsFirstOf, IsNoneOf, NotFoundWhere, Searching, Seeking};
 ghost use Rattle.py_process.specs.Candidates.{candidates_of, interpreter_of, search_most, words_of_images};
 ghost use Rattle.py_process.specs.Facts.{known_of};
+ghost use Rattle.py_process.specs.Sections.{IsSearched};
 
 use crate::candidates::first_in_image;
 use crate::head::first_of_head;
@@ -23,8 +24,8 @@ fn first_in_images<M: ContainsAddr, P: ProcessMemory>(
     layout: &Layout,
 ) -> Result<Option<u64>, SearchError>
     requires sound { IsSound layout.now }
-    ensures { Seeking (M.contains info.now.maps) layout.now 4 (λ m. words_of_images m (known_of info.now))
-        (P.seen process.old) (P.seen process.new) result }
+    ensures { Seeking (IsSearched (known_of info.now)) (M.contains info.now.maps) layout.now 4
+        (λ m. words_of_images m (known_of info.now)) (P.seen process.old) (P.seen process.new) result }
 {
     let maps = &info.maps;
     if let Some(found) = first_in_image(alloc, maps, process, layout, &info.python_binary)? {
@@ -42,7 +43,7 @@ fn first_candidate<M: ContainsAddr, P: ProcessMemory>(
     layout: &Layout,
 ) -> Result<Option<u64>, SearchError>
     requires sound { IsSound layout.now }
-    ensures { Seeking (M.contains info.now.maps) layout.now 6
+    ensures { Seeking (IsSearched (known_of info.now)) (M.contains info.now.maps) layout.now 6
         (λ m. candidates_of (known_of info.now) version.now layout.now m)
         (P.seen process.old) (P.seen process.new) result }
 {

@@ -1,9 +1,10 @@
 //! Which version of Python runs in a process.
 ghost use Rattle.std.specs.Prelude.{◌<◌, ◌^◌, ◌≡◌, Option, Ok, IfOk, option_map};
 ghost use Rattle.process_memory.specs.Memory.{Found};
-ghost use Rattle.process_memory.specs.Seen.{ReadingBelow};
+ghost use Rattle.process_memory.specs.Seen.{IsRange, Reading, ReadingOf};
 ghost use Rattle.py_version.specs.declared.version.Version.{Version as Told};
 ghost use Rattle.py_process.specs.Facts.{facts_of, known_of};
+ghost use Rattle.py_process.specs.Sections.{IsSearched, IsSection, IsSectionIn};
 ghost use Rattle.py_process.specs.Sources.{FirstTells, IsVersionTold, SectionTells, TellsVersion, ToldBy, VersionIs};
 ghost use Rattle.py_process.specs.Sources.{bss_of, flags_of, library_sources, other_sources, section_sources};
 ghost use Rattle.py_process.specs.Sources.{sources_of, text_source_at, text_symbol, version_of_number};
@@ -52,7 +53,7 @@ fn read_number<P: ProcessMemory>(
     process: &mut P,
     addr: u64,
 ) -> Result<Option<Version>, VersionError>
-    ensures { ReadingBelow (2 ^ 64) 1 (P.seen process.old) (P.seen process.new)
+    ensures { Reading 1 (P.seen process.old) (P.seen process.new)
         (λ m. ToldBy (TellsVersion m (Number addr)) result) }
 {
     let mut number = [0; 4];
@@ -78,7 +79,7 @@ fn read_version_text<P: ProcessMemory>(
     process: &mut P,
     addr: u64,
 ) -> Result<Option<Version>, VersionError>
-    ensures { ReadingBelow (2 ^ 64) 1 (P.seen process.old) (P.seen process.new)
+    ensures { Reading 1 (P.seen process.old) (P.seen process.new)
         (λ m. ToldBy (TellsVersion m (TextSource addr)) result) }
 {
     let mut text = [0; 128];
@@ -96,7 +97,7 @@ fn read_section<P: ProcessMemory>(
     addr: u64,
     size: u64,
 ) -> Result<Option<Version>, VersionError>
-    ensures { ReadingBelow (2 ^ 64) 1 (P.seen process.old) (P.seen process.new)
+    ensures { ReadingOf (IsRange addr size) 1 (P.seen process.old) (P.seen process.new)
         (λ m. ToldBy (TellsVersion m (Section addr size)) result) }
 {
     let bytes = process.copy(alloc, addr, size)?;
@@ -109,7 +110,7 @@ fn read_symbol<P: ProcessMemory>(
     process: &mut P,
     addr: Option<u64>,
 ) -> Result<Option<Version>, VersionError>
-    ensures { ReadingBelow (2 ^ 64) 1 (P.seen process.old) (P.seen process.new)
+    ensures { Reading 1 (P.seen process.old) (P.seen process.new)
         (λ m. ToldBy (FirstTells m (text_source_at addr)) result) }
 {
     match addr {
@@ -124,7 +125,7 @@ fn read_bss<P: ProcessMemory>(
     process: &mut P,
     binary: &Option<BinaryInfo>,
 ) -> Result<Option<Version>, VersionError>
-    ensures { ReadingBelow (2 ^ 64) 1 (P.seen process.old) (P.seen process.new)
+    ensures { ReadingOf (IsSectionIn (option_map facts_of binary.now)) 1 (P.seen process.old) (P.seen process.new)
         (λ m. ToldBy (FirstTells m (bss_of (option_map facts_of binary.now))) result) }
 {
     match binary {
@@ -139,7 +140,7 @@ fn read_library<M: ContainsAddr, P: ProcessMemory>(
     info: &PythonProcessInfo<M>,
     process: &mut P,
 ) -> Result<Option<Version>, VersionError>
-    ensures { ReadingBelow (2 ^ 64) 1 (P.seen process.old) (P.seen process.new)
+    ensures { ReadingOf (IsSection (known_of info.now)) 1 (P.seen process.old) (P.seen process.new)
         (λ m. ToldBy (FirstTells m (library_sources (known_of info.now))) result) }
 {
     if let Some(version) = read_bss(alloc, process, &info.libpython_binary)? {
@@ -155,7 +156,7 @@ fn read_sections<M: ContainsAddr, P: ProcessMemory>(
     info: &PythonProcessInfo<M>,
     process: &mut P,
 ) -> Result<Option<Version>, VersionError>
-    ensures { ReadingBelow (2 ^ 64) 2 (P.seen process.old) (P.seen process.new)
+    ensures { ReadingOf (IsSection (known_of info.now)) 2 (P.seen process.old) (P.seen process.new)
         (λ m. ToldBy (FirstTells m (section_sources (known_of info.now))) result) }
 {
     if let Some(version) = read_bss(alloc, process, &info.python_binary)? {
@@ -180,7 +181,7 @@ fn read_others<M: ContainsAddr, P: ProcessMemory>(
     info: &PythonProcessInfo<M>,
     process: &mut P,
 ) -> Result<Option<Version>, VersionError>
-    ensures { ReadingBelow (2 ^ 64) 3 (P.seen process.old) (P.seen process.new)
+    ensures { ReadingOf (IsSearched (known_of info.now)) 3 (P.seen process.old) (P.seen process.new)
         (λ m. ToldBy (FirstTells m (other_sources (known_of info.now))) result) }
 {
     if let Some(version) = read_symbol(alloc, process, text_symbol(info))? {
@@ -195,7 +196,7 @@ fn read_sources<M: ContainsAddr, P: ProcessMemory>(
     info: &PythonProcessInfo<M>,
     process: &mut P,
 ) -> Result<Option<Version>, VersionError>
-    ensures { ReadingBelow (2 ^ 64) 3 (P.seen process.old) (P.seen process.new)
+    ensures { ReadingOf (IsSearched (known_of info.now)) 3 (P.seen process.old) (P.seen process.new)
         (λ m. ToldBy (FirstTells m (sources_of (known_of info.now))) result) }
 {
     match info.symbol(b"Py_Version") {
@@ -224,9 +225,9 @@ pub fn get_python_version<M: ContainsAddr, P: ProcessMemory>(
     info: &PythonProcessInfo<M>,
     process: &mut P,
 ) -> Result<Version, VersionError>
-    ensures right { ReadingBelow (2 ^ 64) 3 (P.seen process.old) (P.seen process.new)
+    ensures right { ReadingOf (IsSearched (known_of info.now)) 3 (P.seen process.old) (P.seen process.new)
         (λ m. VersionIs m (sources_of (known_of info.now)) result) }
-    ensures only { ReadingBelow (2 ^ 64) 3 (P.seen process.old) (P.seen process.new) (λ m.
+    ensures only { ReadingOf (IsSearched (known_of info.now)) 3 (P.seen process.old) (P.seen process.new) (λ m.
         (told : Found (Option Told)) → FirstTells m (sources_of (known_of info.now)) told → IsVersionTold told result) }
 {
     match read_sources(alloc, info, process) {

@@ -60,6 +60,16 @@ abbrev pub locals_most : Bool → ℕ
 locals_most false = 0
 locals_most true = 4 * 65535
 
+-- how many reads the trace of a thread takes at most, whatever the memory holds: two for the thread, six for each
+-- member that can be met; and for each that can be kept two for its line, one for its tuple of names, and those of its
+-- variables
+abbrev pub trace_most : Bool → ℕ
+trace_most locals = 2 + 6 * member_limit + frame_limit * (3 + locals_most locals)
+
+-- and those of an interpreter: three for the holder of its lock and its first thread, and those of each thread
+abbrev pub traces_most : Bool → ℕ
+traces_most locals = 3 + thread_limit * trace_most locals
+
 -- what is counted of the walk behind the holder of a lock, which ends where the holder can't be read
 abbrev pub where_held : Layout → Memory → ℕ → ℕ → ℕ
 where_held l m lock n = cost_after (holder_id_at l m lock) (λ holder_id. n)

@@ -7,8 +7,9 @@ ghost use Rattle.process_memory.specs.Faults.{FaultsAre};
 ghost use Rattle.py_fields.specs.Sound.{IsSound};
 ghost use Rattle.py_stacks.specs.StackError.{stack_fault};
 ghost use Rattle.py_stacks.specs.Asking.{asked_by, asks};
-ghost use Rattle.py_stacks.specs.Met.{details_walked, locals_most, locals_walked, members_walked, stacks_bound};
-ghost use Rattle.py_stacks.specs.Met.{thread_bound, thread_details, thread_locals, thread_members};
+ghost use Rattle.py_stacks.specs.Met.{details_walked, locals_walked, members_walked, stacks_bound};
+ghost use Rattle.py_stacks.specs.Met.{thread_bound, thread_details, thread_locals, thread_members, trace_most};
+ghost use Rattle.py_stacks.specs.Met.{traces_most};
 ghost use Rattle.py_stacks.specs.Threads.{IsTraceOf, Trace, thread_cost, thread_faults, trace_at};
 ghost use Rattle.py_stacks.specs.Threads.{trace_of, trace_of_result, traces_of_result};
 ghost use Rattle.py_stacks.specs.Stacks.{AreStacks, by_holder, stacks_at, stacks_cost, stacks_faults};
@@ -85,7 +86,8 @@ fn walk_stack_traces<P: ProcessMemory>(
 ///
 /// At most 3 reads, 2 for each thread that is met, 6 for each member, 2 for the line of each member that is kept
 /// and 1 for its tuple of names, and 4 for each variable. Of a member that is not kept neither a table nor a
-/// variable is read, nor of any member what is not asked for. Where the holder is not known no thread is met.
+/// variable is read, nor of any member what is not asked for. Where the holder is not known no thread is met. So it
+/// is at most 452,993,027 without locals, and with them 4,398,432,395,267 (`traces_most`), whatever the memory holds.
 pub fn get_stack_traces<P: ProcessMemory>(
     alloc: Global,
     interpreter: u64,
@@ -119,7 +121,7 @@ pub fn get_stack_traces<P: ProcessMemory>(
         + 4 * locals_walked (asked_by config.entry) layout.now (byte_at (P.seen process.old).pieces) lock interpreter }
     // whatever the memory holds, as cyclic chains
     ensures most { (P.seen process.new).reads ≤ (P.seen process.old).reads
-        + (3 + 4096 * (2 + 16384 * (9 + locals_most (asked_by config.entry).locals))) }
+        + traces_most (asked_by config.entry).locals }
 {
     let asked = asked_by(config);
     walk_stack_traces(alloc, process, layout, asked, lock, interpreter)
@@ -150,7 +152,7 @@ fn walk_stack_trace<P: ProcessMemory>(
 /// The error is the first of these, in order: `Unreadable` with the thread's record, then with the C frame's
 /// word, and then those of its frames as `get_stack_traces` has them. Else it is want of memory. At most 2
 /// reads, 6 for each member that is met, 3 for the line and the tuple of names of each one that is kept, and 4
-/// for each variable.
+/// for each variable: at most 110,594 without locals, and with them 1,073,836,034 (`trace_most`).
 pub fn get_stack_trace<P: ProcessMemory>(
     alloc: Global,
     thread: u64,
@@ -182,7 +184,7 @@ pub fn get_stack_trace<P: ProcessMemory>(
         + 4 * thread_locals (asks lineno copy_locals) layout.now (byte_at (P.seen process.old).pieces) thread }
     // whatever the memory holds, as a cyclic chain
     ensures most { (P.seen process.new).reads
-        ≤ (P.seen process.old).reads + (2 + 16384 * (9 + locals_most copy_locals)) }
+        ≤ (P.seen process.old).reads + trace_most copy_locals }
 {
     let asked = Asked {
         lineno,

@@ -6,7 +6,7 @@ ghost use Rattle.process_memory.specs.Walk.{first_fault};
 ghost use Rattle.process_memory.specs.Faults.{FaultsAre};
 ghost use Rattle.py_fields.specs.Sound.{IsSound};
 ghost use Rattle.py_stacks.specs.Asking.{asked_of};
-ghost use Rattle.py_stacks.specs.Met.{details_walked, locals_most, locals_walked, members_walked, stacks_bound};
+ghost use Rattle.py_stacks.specs.Met.{details_walked, locals_walked, members_walked, stacks_bound, traces_most};
 ghost use Rattle.py_stacks.specs.NamedStacks.{slots_named};
 ghost use Rattle.py_stacks.specs.StackError.{stack_fault};
 ghost use Rattle.py_stacks.specs.Stacks.{stacks_faults};
@@ -104,7 +104,7 @@ pub fn get_stack_over<P: ProcessMemory>(
         addresses.now.interpreter ≤ 4096 * (4096 * (4096 * variables_most (asked_of config.now).locals)) }
     // whatever the memory holds, as cyclic chains
     ensures most { (P.seen process.new).reads ≤ (P.seen process.old).reads
-        + (3 + 4096 * (2 + 16384 * (9 + locals_most (asked_of config.now).locals)) + (10 + 12 * 65536)
+        + (traces_most (asked_of config.now).locals + (10 + 12 * 65536)
         + 8 * (4096 * (4096 * (4096 * variables_most (asked_of config.now).locals)))) }
 {
     read_stacks(alloc, process, layout, addresses, config)

@@ -101,7 +101,7 @@ shown (Some ls) = items local_tree local ls.items
 shown None = refl
 
 frame : (f : Frame) (e : Option StackError) → has_float (frame_tree f e) ≡ false
-frame f e = λ i. integer f.line i || (shown f.locals i || (fault_or e i || (false || false)))
+frame f e = λ i. false || (shown f.locals i || (fault_or e i || (false || false)))
 
 member : (s : Standing) → has_float (standing_tree s) ≡ false
 member (standing.Frame f e) = frame f e

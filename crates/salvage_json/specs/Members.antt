@@ -1,14 +1,14 @@
 -- The JSON of members: frames with their locals, and those that have no names.
 use Rattle.std.specs.Prelude.{ℕ, List, map, Option, Some, None, Vec, codes, encode_utf8_all}
 use Rattle.std.specs.Global.{Global}
-use Rattle.serde_json.specs.Data.{Data, array, boolean, member, no_members, null, number, object, string}
-use Rattle.serde_json.specs.Find.{of_integer}
+use Rattle.serde_json.specs.Data.{Data, array, boolean, member, no_members, null, number, object, string, unsigned}
 use Rattle.serde_json.specs.View.{items_of}
 use Rattle.py_stacks.specs.declared.error.StackError.{StackError}
 use Rattle.py_stacks.specs.declared.trace.Frame.{Frame}
 use Rattle.py_stacks.specs.declared.trace.LocalVariable.{LocalVariable}
 use Rattle.py_fronts.specs.declared.standing.Standing.{Standing}
 use Rattle.py_fronts.specs.declared.standing.Standing.TheVariants as standing
+use Rattle.salvage_texts.specs.Lines.{shown_line}
 use Rattle.salvage_json.specs.Kinds.{address_tree, fault_or_null, why_tree}
 
 -- a text in UTF-8, or null
@@ -34,7 +34,7 @@ shown_tree None = null
 abbrev pub frame_tree : Frame → Option StackError → Data
 frame_tree f fault = object (
     member (codes "filename") (string (encode_utf8_all f.filename)) (
-    member (codes "line") (number (of_integer f.line)) (
+    member (codes "line") (number (unsigned (shown_line f.line))) (
     member (codes "locals") (shown_tree f.locals) (
     member (codes "locals_fault") (fault_or_null fault) (
     member (codes "name") (string (encode_utf8_all f.name)) no_members)))))

@@ -8,6 +8,7 @@ use crate::kind::{address_value, fault_or_null, why_value};
 use elf64_core::Text;
 use py_fronts::Standing;
 use py_stacks::{Frame, LocalVariable, StackError};
+use salvage_texts::shown_line;
 use serde_json::{Value, json};
 use std::alloc::{AllocError, Global};
 
@@ -61,11 +62,12 @@ fn frame_value(
 ) -> Result<Value, AllocError>
     ensures { IfOk result (λ value. view value ≡ frame_tree frame.now fault.now) }
 {
+    let line = shown_line(frame.line);
     let locals = shown_value(alloc, &frame.locals)?;
     let locals_fault = fault_or_null(alloc, fault)?;
     json!(in alloc; {
         "filename": frame.filename.as_str(),
-        "line": frame.line,
+        "line": line,
         "locals": locals,
         "locals_fault": locals_fault,
         "name": frame.name.as_str()

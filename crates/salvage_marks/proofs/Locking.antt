@@ -1,5 +1,5 @@
 -- Interpreters with their locks, one after another.
-use Rattle.std.proofs.Common.{◌≡◌, ℕ, suc, Bool, ◌*◌, ◌≤◌, List, [], ◌∷◌, ◌++◌, length, map, refl, sym, ◌∙◌, ap, arith}
+use Rattle.std.proofs.Common.{◌≡◌, ℕ, Bool, ◌*◌, List, [], ◌∷◌, ◌++◌, length, map, refl, sym, ◌∙◌, ap, arith}
 use Rattle.std.proofs.Common.{append-nil, append_assoc, length-append}
 use Rattle.std.proofs.lemmas.List.{map-append, length-map}
 use Rattle.std.specs.Prelude.{Option}
@@ -14,12 +14,7 @@ use Rattle.py_stacks.specs.declared.error.StackError.{StackError}
 use Rattle.py_stacks.specs.declared.error.StackError.TheVariants as stack
 use Rattle.py_process.specs.Facts.{Known}
 use Rattle.py_fronts.specs.declared.fronts.InterpreterFront.{InterpreterFront}
-use Rattle.py_fronts.specs.declared.interpreters.FoundInterpreter.{FoundInterpreter}
-use Rattle.py_fronts.specs.Fronts.{FrontsShown, fronts_at, interpreter_of_front, interpreters_fronts, threads_from}
-use Rattle.py_fronts.specs.FrameFronts.{all_members_limit}
-use Rattle.py_fronts.specs.Interpreters.{interpreters_at}
-use Rattle.py_fronts.specs.ThreadFronts.{left_after}
-use Rattle.py_fronts.proofs.FindLaws.{interpreters_shown}
+use Rattle.py_fronts.specs.Fronts.{FrontsShown, fronts_at, interpreter_of_front}
 use Rattle.salvage_marks.specs.declared.crash.Crash.{Crash}
 use Rattle.salvage_marks.specs.declared.lock.LockState.{LockState}
 use Rattle.salvage_marks.specs.declared.salvaged.SalvagedInterpreter.{SalvagedInterpreter}
@@ -72,35 +67,13 @@ module _ {machine : Machine} {k : Known} {v : Version} {l : Layout} where
 
 -- ---- all of them
 
-fronts_few : (q : Asked) (l : Layout) (m : Memory) (limit left : ℕ) (found : List FoundInterpreter)
-    → length (interpreters_fronts q l m limit left found) ≡ length found
-unfolding interpreters_fronts
-fronts_few q l m limit left [] = refl
-fronts_few q l m limit left (one ∷ rest) = ap (λ n. suc n)
-    (fronts_few q l m limit (left_after left (threads_from q l m limit left one).threads) rest)
-
-few_at : (c : ℕ → Bool) (k : Known) (v : Version) (l : Layout) (m : Memory) (q : Asked) (limit : ℕ)
-    → length (fronts_at c k v l m q limit).interpreters ≤ 16
-unfolding fronts_at
-few_at c k v l m q limit = omega (
-  arith,
-  fronts_few q l m limit all_members_limit (interpreters_at c k v l m).found,
-  (interpreters_shown c k v l m).few,
-)
-
--- at most 16 are read
+-- as many are read as there are
 pub read_few : (c : ℕ → Bool) (k : Known) (v : Version) (l : Layout) (m : Memory) (q : Asked) (limit : ℕ)
     (fronts : List InterpreterFront) (more : Bool) → ◌≡◌ {A = FrontsShown}
-    (record { interpreters = map interpreter_of_front fronts; more = more }) (fronts_at c k v l m q limit) → length
-    fronts ≤ 16
+    (record { interpreters = map interpreter_of_front fronts; more = more }) (fronts_at c k v l m q limit)
+    → length fronts ≡ length (fronts_at c k v l m q limit).interpreters
 read_few c k v l m q limit fronts more e =
-    omega (
-      arith,
-      few_at c k v l m q limit,
-      ap (λ (f : FrontsShown). length f.interpreters) e,
-      length-map fronts
-          interpreter_of_front,
-    )
+    omega (arith, ap (λ (f : FrontsShown). length f.interpreters) e, length-map fronts interpreter_of_front)
 
 pub salvaged_is : (c : ℕ → Bool) (machine : Machine) (k : Known) (v : Version) (l : Layout) (m : Memory) (q : Asked)
     (limit : ℕ) (crash : Option Crash) (fronts read : List InterpreterFront) (more : Bool)

@@ -6,6 +6,7 @@ use Rattle.elf64_core.specs.declared.header.Machine.{Machine}
 use Rattle.elf64_core.specs.declared.header.Machine.TheVariants.{X86_64}
 use Rattle.py_fronts.specs.declared.thread_front.ThreadFront.{ThreadFront}
 use Rattle.salvage_marks.specs.declared.crash.Crash.{Crash}
+use Rattle.salvage_marks.specs.Ids.{names_thread}
 
 -- where the signal, the thread's id and, on x86-64, the thread pointer stand in a status record (Linux's elf_prstatus
 -- of 64-bit processes, in which the registers of x86-64 begin at 112)
@@ -35,10 +36,10 @@ abbrev pub crash_of : Machine → List ℕ → Option Crash
 crash_of machine status =
     if nat_eq (u16_in status signal_place) 0 then None else Some (status_thread machine status)
 
--- an id that is told is this one
+-- an id is told, and names the thread of this id
 abbrev pub is_id : Option ℕ → ℕ → Bool
 is_id None id = false
-is_id (Some told) id = nat_eq told id
+is_id (Some told) id = names_thread told id
 
 abbrev pub is_native : Option ℕ → Option ℕ → Bool
 is_native told None = false

@@ -1,3 +1,4 @@
+pub mod Ids
 pub mod Crashes
 pub mod Locks
 pub mod Salvaged

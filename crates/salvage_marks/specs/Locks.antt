@@ -1,5 +1,5 @@
 -- The locks of interpreters, each by its own.
-use Rattle.std.specs.Prelude.{◌≡◌, ℕ, nat_eq, Bool, false, Result, Ok, Err}
+use Rattle.std.specs.Prelude.{◌≡◌, ℕ, Bool, false, Result, Ok, Err}
 use Rattle.elf64_core.specs.declared.header.Machine.{Machine}
 use Rattle.process_memory.specs.Memory.{Found, Memory, ◌>>=◌}
 use Rattle.process_memory.specs.Memory.Fault.{Missing}
@@ -15,6 +15,7 @@ use Rattle.py_process.specs.Lock.{lock_address_of}
 use Rattle.py_fronts.specs.declared.thread_front.ThreadFront.{ThreadFront}
 use Rattle.salvage_marks.specs.declared.lock.LockState.{LockState}
 use Rattle.salvage_marks.specs.declared.lock.LockState.TheVariants.{Holder, Unreadable}
+use Rattle.salvage_marks.specs.Ids.{names_thread}
 
 -- the holder of a lock, or what is missing on the way to it; no other fault is met there
 abbrev pub holder_told : Found ℕ → LockState
@@ -26,9 +27,9 @@ holder_told (Err _) = Holder 0
 unfoldable pub lock_told : Machine → Known → Version → Layout → Memory → ℕ → LockState
 lock_told machine k v l m a = holder_told (lock_address_of machine k v l m a >>= holder_id_at l m)
 
--- a thread holds the lock of its interpreter exactly where its id is the holder's
+-- a thread holds the lock of its interpreter exactly where its id is the holder's, and there is a holder
 abbrev pub holds_lock : LockState → ThreadFront → Bool
-holds_lock (Holder holder) t = nat_eq t.thread_id holder
+holds_lock (Holder holder) t = names_thread holder t.thread_id
 holds_lock (Unreadable addr len) t = false
 
 -- ---- as they are read

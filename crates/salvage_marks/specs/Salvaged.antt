@@ -4,14 +4,15 @@ use Rattle.std.specs.Prelude.{Ok, Err, Vec}
 use Rattle.std.specs.Global.{Global}
 use Rattle.elf64_core.specs.declared.header.Machine.{Machine}
 use Rattle.process_memory.specs.Memory.{Memory, byte_at}
-use Rattle.process_memory.specs.Seen.{Reading, ReadingBelow, Seen}
+use Rattle.process_memory.specs.Seen.{Reading, ReadingOf, Seen}
 use Rattle.py_version.specs.declared.version.Version.{Version}
 use Rattle.py_fields.specs.declared.layout.Layout.{Layout}
 use Rattle.py_stacks.specs.declared.asked.Asked.{Asked}
 use Rattle.py_process.specs.Facts.{Known}
+use Rattle.py_process.specs.Sections.{IsSearched}
 use Rattle.py_fronts.specs.declared.fronts.InterpreterFront.{InterpreterFront}
-use Rattle.py_fronts.specs.Fronts.{InterpreterShown, fronts_at, interpreter_of_front, interpreters_most}
-use Rattle.py_fronts.specs.Interpreters.{interpreters_reads}
+use Rattle.py_fronts.specs.Fronts.{InterpreterShown, all_most, fronts_at, fronts_reads, interpreter_of_front}
+use Rattle.py_fronts.specs.Interpreters.{interpreters_at, interpreters_reads}
 use Rattle.salvage_marks.specs.declared.crash.Crash.{Crash}
 use Rattle.salvage_marks.specs.declared.lock.LockState.{LockState}
 use Rattle.salvage_marks.specs.declared.salvaged.Salvaged.{Salvaged}
@@ -65,10 +66,22 @@ abbrev pub salvaged_result : {E : Type 0} → Result Salvaged E → Result Salva
 salvaged_result (Ok s) = Ok (record { interpreters = map locked s.interpreters.items; more = s.more; crash = s.crash })
 salvaged_result (Err e) = Err e
 
--- what the reader of all owes: the reads of the fronts, and three for each lock
-abbrev pub Salvaging : Known → Version → Layout → Asked → ℕ → Seen → Seen → (Memory → Type 0) → Type 0
-Salvaging k v l q limit old new Q =
-    ReadingBelow (2 ^ 64) (interpreters_reads k v l (byte_at old.pieces) + interpreters_most q limit + 3 * 16) old new Q
+-- the reads of all: those of the search and of the fronts, and three for each lock
+abbrev pub salvage_reads : (ℕ → Bool) → Known → Version → Layout → Memory → Asked → ℕ → ℕ
+salvage_reads contains k v l m q limit = interpreters_reads contains k v l m
+    + fronts_reads q (fronts_at contains k v l m q limit).interpreters
+    + 3 * length (fronts_at contains k v l m q limit).interpreters
+
+-- how many these are at most, whatever the memory holds: beside the search 84,344,896 without locals, for 16
+-- interpreters at the limits 100 and 4096
+abbrev pub salvage_most : (ℕ → Bool) → Known → Version → Layout → Memory → Asked → ℕ → ℕ
+salvage_most contains k v l m q limit =
+    all_most contains k v l m q limit + 3 * length (interpreters_at contains k v l m).found
+
+-- what the reader of all owes
+abbrev pub Salvaging : (ℕ → Bool) → Known → Version → Layout → Asked → ℕ → Seen → Seen → (Memory → Type 0) → Type 0
+Salvaging contains k v l q limit old new Q =
+    ReadingOf (IsSearched k) (salvage_reads contains k v l (byte_at old.pieces) q limit) old new Q
 
 -- the interpreters whose locks were read so far, and those that are left
 pub record Locking (machine : Machine) (k : Known) (v : Version) (l : Layout) (old new : Seen)

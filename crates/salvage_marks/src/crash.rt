@@ -2,6 +2,7 @@
 ghost use Rattle.std.specs.Prelude.{◌≡◌, ◌≤◌, length, position};
 ghost use Rattle.salvage_marks.specs.Crashes.{crash_of, is_crashed, is_id, thread_pointer};
 
+use crate::id::names_thread;
 use elf64_core::{Machine, u16_in, u32_in, u64_in};
 use py_fronts::ThreadFront;
 
@@ -55,18 +56,18 @@ pub fn crash_of(machine: Machine, status: &[u8]) -> Option<Crash>
     })
 }
 
-/// Whether an id is told, and is this one.
+/// Whether an id is told, and names the thread of this id.
 fn is_id(told: Option<u64>, id: u64) -> bool
     ensures { result ≡ is_id told id }
 {
     match told {
-        Some(told) => told == id,
+        Some(told) => names_thread(told, id),
         None => false,
     }
 }
 
 /// Whether a thread is the one that got the signal, by the system's id or by the interpreter's. None is, where no
-/// signal is known.
+/// signal is known; and an id of 0 is no thread's.
 pub fn is_crashed(crash: Option<Crash>, thread: &ThreadFront) -> bool
     ensures { result ≡ is_crashed crash thread.now }
 {

@@ -3,6 +3,7 @@
 #![tactic(auto)]
 
 mod crash;
+mod id;
 mod lock;
 mod salvaged;
 

@@ -7,6 +7,7 @@ ghost use Rattle.py_process.specs.Facts.{known_of};
 ghost use Rattle.py_fronts.specs.Answers.{IsOrNoMemory};
 ghost use Rattle.salvage_marks.specs.Locks.{IsGone, holder_told, holds_lock, lock_told};
 
+use crate::id::names_thread;
 use elf64_core::Machine;
 use image_memory::ContainsAddr;
 use process_memory::ProcessMemory;
@@ -25,12 +26,13 @@ pub enum LockState {
     Unreadable { addr: u64, len: u64 },
 }
 
-/// Whether a thread holds the lock of its interpreter: its id is the holder's, as in a report.
+/// Whether a thread holds the lock of its interpreter: its id is the holder's. None does where the holder is 0, though a
+/// report marks threads of that id then.
 pub fn holds_lock(lock: LockState, thread: &ThreadFront) -> bool
     ensures { result ≡ holds_lock lock thread.now }
 {
     match lock {
-        LockState::Holder(holder) => thread.thread_id == holder,
+        LockState::Holder(holder) => names_thread(holder, thread.thread_id),
         LockState::Unreadable { .. } => false,
     }
 }

@@ -1,12 +1,12 @@
 //! What is left of a process's stacks.
 ghost use Rattle.std.specs.Prelude.{◌≡◌, ◌≤◌, ◌*◌, ◌+◌, ◌^◌, is_some, length, map, position};
-ghost use Rattle.process_memory.specs.Seen.{Reading, ReadingBelow};
+ghost use Rattle.process_memory.specs.Seen.{Reading};
 ghost use Rattle.process_memory.specs.Memory.{byte_at};
 ghost use Rattle.py_fields.specs.Sound.{IsSound};
 ghost use Rattle.py_process.specs.Facts.{known_of};
 ghost use Rattle.py_fronts.specs.Answers.{IsOrNoMemory};
 ghost use Rattle.salvage_marks.specs.Salvaged.{Salvaging, first_crashed, has_crashed, locked_result, salvaged_at};
-ghost use Rattle.salvage_marks.specs.Salvaged.{salvaged_result, with_locks};
+ghost use Rattle.salvage_marks.specs.Salvaged.{salvage_most, salvaged_result, with_locks};
 
 use crate::crash::{Crash, crashed_at};
 use crate::lock::{LockState, lock_state};
@@ -81,7 +81,7 @@ fn with_locks<M: ContainsAddr, P: ProcessMemory>(
 
 /// What is left of a process's stacks: its interpreters, as `py_fronts::get_fronts` has them, each with its own lock.
 ///
-/// `crash` is handed on. The one error is want of memory.
+/// `crash` is handed on. The one error is want of memory. The reads are those of `get_fronts`, and 3 for each lock.
 pub fn salvage<M: ContainsAddr, P: ProcessMemory>(
     alloc: Global,
     info: &PythonProcessInfo<M>,
@@ -95,9 +95,13 @@ pub fn salvage<M: ContainsAddr, P: ProcessMemory>(
 ) -> Result<Salvaged, StackError>
     requires sound { IsSound layout.now }
     requires few { limit ≤ 4096 }
-    ensures { Salvaging (known_of info.now) version.now layout.now asked limit (P.seen process.old)
-        (P.seen process.new) (λ m. IsOrNoMemory (salvaged_at (M.contains info.now.maps) machine (known_of info.now)
+    ensures answer { Salvaging (M.contains info.now.maps) (known_of info.now) version.now layout.now asked limit
+        (P.seen process.old) (P.seen process.new) (λ m. IsOrNoMemory
+        (salvaged_at (M.contains info.now.maps) machine (known_of info.now)
         version.now layout.now m asked limit crash) (salvaged_result result)) }
+    // whatever the memory holds, as cyclic chains
+    ensures most { (P.seen process.new).reads ≤ (P.seen process.old).reads + salvage_most (M.contains info.now.maps)
+        (known_of info.now) version.now layout.now (byte_at (P.seen process.old).pieces) asked limit }
 {
     let fronts = get_fronts(alloc, info, process, version, layout, asked, limit)?;
     let more = fronts.more;

@@ -1,6 +1,7 @@
 -- The text of what is left of a process, with its head lines; the help; the program's version.
 use Rattle.std.specs.Prelude.{ℕ, ℤ, ◌++◌, false, List, [], Option, Some, None, if◌then◌else◌, codes}
 use Rattle.std.specs.Fmt.{signed_decimal}
+use Rattle.bstr.specs.Utf8.{lossy_chars}
 use Rattle.py_version.specs.Version.{version_text}
 use Rattle.py_version.specs.declared.version.Version.{Version}
 use Rattle.core_texts.specs.Text.{signal_text}
@@ -16,12 +17,16 @@ process_text None = []
 process_text (Some process) = codes "Process " ++ (signed_decimal process.0 ++ (codes ": "
     ++ (escaped false process.1 ++ codes "\n")))
 
+-- the core's name, in which what could end the line is escaped; where it isn't text U+FFFD stands in it
+abbrev pub core_name : List ℕ → List ℕ
+core_name core = escaped false (lossy_chars core)
+
 abbrev pub version_line : Version → List ℕ
 version_line version = codes "Python v" ++ (version_text version ++ codes "\n\n")
 
 -- the signal, beside the core's name, the process, the version, and what is left
 abbrev pub left_text : List ℕ → Left → List ℕ
-left_text core left = signal_text core left.signal ++ (process_text left.process
+left_text core left = signal_text (core_name core) left.signal ++ (process_text left.process
     ++ (version_line left.version ++ salvaged_text left.salvaged))
 
 -- that, or JSON where it is asked for

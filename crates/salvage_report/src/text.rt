@@ -2,27 +2,33 @@
 ghost use Rattle.std.specs.Prelude.{◌≡◌, ◌++◌, IfOk, OnOk, string_bytes};
 ghost use Rattle.core_texts.specs.Text.{signal_text};
 ghost use Rattle.salvage_words.specs.Seen.{asked_salvage};
-ghost use Rattle.salvage_report.specs.Texts.{left_text, process_text, shown_left, version_line};
+ghost use Rattle.salvage_report.specs.Texts.{core_name, left_text, process_text, shown_left, version_line};
 
 use crate::left::Left;
-use elf64_core::Text;
+use elf64_core::{Name, Text};
 use py_layout::Version;
 use salvage_json::salvaged_json;
 use salvage_texts::{push_escaped, salvaged_text};
 use salvage_words::SalvageWords;
 use std::alloc::{AllocError, Global};
 
-/// The line of the signal, beside the core's name, where there is one. The name stands as the words have it.
-fn signal_line(alloc: Global, core: &[u8], signal: Option<i16>) -> Result<Vec<u8>, AllocError>
-    ensures { IfOk result (λ line. line.items ≡ signal_text core.now signal) }
+/// The line of the signal, beside the core's name, where there is one; what could end the line is escaped.
+fn push_signal(
+    alloc: Global,
+    text: &mut String,
+    core: &Name,
+    signal: Option<i16>,
+) -> Result<(), AllocError>
+    ensures { OnOk result (string_bytes text.new
+        ≡ string_bytes text.old ++ signal_text (core_name core.now) signal) }
 {
     let Some(signal) = signal else {
-        return Ok(Vec::new(alloc));
+        return Ok(());
     };
-    let mut line = format!(in alloc; "Signal {signal}: ")?.into_bytes();
-    line.extend_from_slice(core)?;
-    line.extend_from_slice(b"\n")?;
-    Ok(line)
+    let name = core.lossy(alloc)?;
+    write!(text, "Signal {signal}: ")?;
+    push_escaped(alloc, text, false, &name)?;
+    text.push_str("\n")
 }
 
 /// The line of the process, where there is one; what could end the line is escaped.
@@ -50,17 +56,16 @@ fn push_version(text: &mut String, version: &Version) -> Result<(), AllocError>
 }
 
 /// The head lines, and what is left.
-fn left_text(alloc: Global, core: &[u8], left: &Left) -> Result<Vec<u8>, AllocError>
+fn left_text(alloc: Global, core: &Name, left: &Left) -> Result<Vec<u8>, AllocError>
     ensures { IfOk result (λ text. text.items ≡ left_text core.now left.now) }
 {
-    let mut bytes = signal_line(alloc, core, left.signal)?;
     let mut text = String::new(alloc);
+    push_signal(alloc, &mut text, core, left.signal)?;
     push_process(alloc, &mut text, &left.process)?;
     push_version(&mut text, &left.version)?;
     let salvaged = salvaged_text(alloc, &left.salvaged)?;
-    bytes.extend_from_slice(text.as_bytes())?;
-    bytes.extend_from_slice(salvaged.as_bytes())?;
-    Ok(bytes)
+    text.push_str(salvaged.as_str())?;
+    Ok(text.into_bytes())
 }
 
 /// What is left, as the words ask for it.
@@ -77,5 +82,5 @@ pub(crate) fn shown(alloc: Global, words: &SalvageWords, left: &Left) -> Result<
         )?;
         return Ok(json.into_bytes());
     }
-    left_text(alloc, words.core.as_bytes(), left)
+    left_text(alloc, &words.core, left)
 }

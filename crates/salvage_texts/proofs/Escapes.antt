@@ -21,20 +21,23 @@ glyph_from d =
     elim (ltb d 10) as (λ t. 48 ≤ (if t then 48 + d else (if false then 55 + d else 87 + d)))
     [ true ↦ omega arith | false ↦ omega arith ]
 
-onto_plain : (is_name : Bool) (k n : ℕ) (acc : List ℕ) → All (Plain is_name) acc
-    → All (Plain is_name) (digits_onto k 16 false n acc)
-onto_plain is_name zero n acc h = h
-onto_plain is_name (suc k) n acc h =
+onto_from : (k n : ℕ) (acc : List ℕ) → All (λ b. 48 ≤ b) acc → All (λ b. 48 ≤ b) (digits_onto k 16 false n acc)
+onto_from zero n acc h = h
+onto_from (suc k) n acc h =
     let glyph = digit_glyph false (n % 16) in
-    let here : All (Plain is_name) (glyph ∷ acc) = All-cons (Plain is_name) glyph acc
-    (from_48 is_name glyph (glyph_from (n % 16))) h in
+    let here : All (λ b. 48 ≤ b) (glyph ∷ acc) = All-cons (λ b. 48 ≤ b) glyph acc (glyph_from (n % 16)) h in
     elim (n / 16 == 0) as
-    (λ t. All (Plain is_name) (if t then glyph ∷ acc else digits_onto k 16 false (n / 16) (glyph ∷ acc)))
-    [ true ↦ here | false ↦ onto_plain is_name k (n / 16) (glyph ∷ acc) here ]
+    (λ t. All (λ b. 48 ≤ b) (if t then glyph ∷ acc else digits_onto k 16 false (n / 16) (glyph ∷ acc)))
+    [ true ↦ here | false ↦ onto_from k (n / 16) (glyph ∷ acc) here ]
+
+-- hexadecimal digits
+pub digits_from : (n : ℕ) → All (λ b. 48 ≤ b) (digits 16 false n)
+unfolding digits
+digits_from n = onto_from 64 n [] (All-nil (λ b. 48 ≤ b))
 
 digits_plain : (is_name : Bool) (n : ℕ) → All (Plain is_name) (digits 16 false n)
-unfolding digits
-digits_plain is_name n = onto_plain is_name 64 n [] (All-nil (Plain is_name))
+digits_plain is_name n =
+    All-weaker (λ b. 48 ≤ b) (Plain is_name) (from_48 is_name) (digits 16 false n) (digits_from n)
 
 code_plain : (is_name : Bool) (c : ℕ) → All (Plain is_name) (codes "\\u{" ++ (digits 16 false c ++ codes "}"))
 code_plain is_name c =

@@ -1,7 +1,5 @@
 -- The lines of frames, and of members that have none.
-use Rattle.std.specs.Prelude.{ℕ, ℤ, pos, negsuc, ◌++◌, ◌==◌, true, false, if◌then◌else◌, List, [], map, Option, Some}
-use Rattle.std.specs.Prelude.{None, Vec, codes, decimal}
-use Rattle.std.specs.Fmt.{signed_decimal}
+use Rattle.std.specs.Prelude.{ℕ, ◌++◌, true, false, List, [], map, Option, Some, None, Vec, codes}
 use Rattle.std.specs.Global.{Global}
 use Rattle.std.specs.List.{concat}
 use Rattle.py_builtins.specs.declared.error.ObjectError.{ObjectError}
@@ -14,16 +12,12 @@ use Rattle.py_fronts.specs.declared.standing.Standing.{Standing}
 use Rattle.py_fronts.specs.declared.standing.Standing.TheVariants as standing
 use Rattle.salvage_texts.specs.Ends.{missing_text}
 use Rattle.salvage_texts.specs.Escape.{escaped}
-
--- a line's number, where it is known
-abbrev pub line_text : ℤ → List ℕ
-line_text (pos n) = if n == 0 then [] else codes ":" ++ decimal n
-line_text (negsuc n) = codes ":" ++ signed_decimal (negsuc n)
+use Rattle.salvage_texts.specs.Lines.{line_text, shown_line}
 
 -- a frame's function, file and line
 abbrev pub frame_line : Frame → List ℕ
 frame_line f = codes "    " ++ (escaped true f.name ++ (codes " (" ++ (escaped true f.filename
-    ++ (line_text f.line ++ codes ")\n"))))
+    ++ (line_text (shown_line f.line) ++ codes ")\n"))))
 
 -- a value, or a question mark where it isn't shown
 abbrev pub value_text : Option (List ℕ) → List ℕ
@@ -57,10 +51,14 @@ why_text (object.Unreadable addr len) = missing_text addr len
 why_text (object.TooLong len) = codes "a name that is too long"
 why_text _ = codes "a name that is no text"
 
+-- the line of a member without names. It doesn't end in a parenthesis, as each frame's line does
+abbrev pub member_line : ObjectError → List ℕ
+member_line why = codes "    ? " ++ (why_text why ++ codes "\n")
+
 -- the lines of what stands for a member
 abbrev pub standing_text : Standing → List ℕ
 standing_text (standing.Frame frame fault) = frame_line frame ++ (shown_locals frame.locals ++ locals_fault fault)
-standing_text (standing.Member address why) = codes "    ? (" ++ (why_text why ++ codes ")\n")
+standing_text (standing.Member address why) = member_line why
 
 abbrev pub standings_text : List Standing → List ℕ
 standings_text standings = concat (map (λ s. standing_text s) standings)

@@ -2,15 +2,17 @@
 //! of these ends.
 //!
 //! Names come out of a broken memory: what they hold of control characters and quotes is escaped, so that none forges a
-//! line.
+//! line; and a frame's line ends in a parenthesis, as no line does that says what is missing.
 #![tactic(auto)]
 
 mod ends;
 mod escape;
 mod interpreter;
+mod line;
 mod salvaged;
 mod standing;
 mod thread;
 
 pub use escape::push_escaped;
+pub use line::shown_line;
 pub use salvaged::salvaged_text;

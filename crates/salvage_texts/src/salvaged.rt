@@ -1,6 +1,9 @@
 //! The text of what is left of a process's stacks.
 ghost use Rattle.std.specs.Prelude.{◌≡◌, ◌++◌, IfOk, OnOk, string_bytes};
+ghost use Rattle.py_stacks.specs.declared.trace.Frame.{Frame};
+ghost use Rattle.salvage_texts.specs.Marks.{IsNoMark};
 ghost use Rattle.salvage_texts.specs.Salvaged.{ordered_text, salvaged_text};
+ghost use Rattle.salvage_texts.specs.Standings.{frame_line};
 
 use crate::interpreter::push_interpreters;
 use salvage_marks::{Crash, Salvaged, SalvagedInterpreter, first_crashed};
@@ -25,6 +28,17 @@ fn push_ordered(
     push_interpreters(alloc, text, is_several, crash, &interpreters[index + 1..])
 }
 
+/// The lines of what is left.
+fn push_salvaged(alloc: Global, text: &mut String, salvaged: &Salvaged) -> Result<(), AllocError>
+    ensures { OnOk result (string_bytes text.new ≡ string_bytes text.old ++ salvaged_text salvaged.now) }
+{
+    push_ordered(alloc, text, salvaged.crash, &salvaged.interpreters)?;
+    if salvaged.more {
+        return text.push_str("... more than 16 interpreters\n");
+    }
+    Ok(())
+}
+
 /// The text of what is left: each interpreter with the line of its address, where there are several, the lines of what
 /// is missing of its lock and of its threads, and its threads, each with its frames and how these end; and last, where
 /// there are more than 16 interpreters, a line that says so.
@@ -33,12 +47,11 @@ fn push_ordered(
 /// with such a thread stands first, and in it that thread; else interpreters stand in order, and the threads of each
 /// from the last to the first. The one error is want of memory.
 pub fn salvaged_text(alloc: Global, salvaged: &Salvaged) -> Result<String, AllocError>
-    ensures { IfOk result (λ text. string_bytes text ≡ salvaged_text salvaged.now) }
+    ensures shows { IfOk result (λ text. string_bytes text ≡ salvaged_text salvaged.now) }
+    // whatever the names of a frame are, its line is none of those that say what is missing among frames
+    ensures unforged { (frame : Frame) → IsNoMark (frame_line frame) }
 {
     let mut text = String::new(alloc);
-    push_ordered(alloc, &mut text, salvaged.crash, &salvaged.interpreters)?;
-    if salvaged.more {
-        text.push_str("... more than 16 interpreters\n")?;
-    }
+    push_salvaged(alloc, &mut text, salvaged)?;
     Ok(text)
 }

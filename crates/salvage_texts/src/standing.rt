@@ -1,27 +1,18 @@
 //! The lines of frames, and of members that have none.
 ghost use Rattle.std.specs.Prelude.{◌≡◌, ◌++◌, OnOk, map, string_bytes};
 ghost use Rattle.std.specs.List.{concat};
-ghost use Rattle.salvage_texts.specs.Standings.{fault_text, frame_line, line_text, local_text, locals_fault};
-ghost use Rattle.salvage_texts.specs.Standings.{locals_text, shown_locals, standing_text, standings_text, value_text};
-ghost use Rattle.salvage_texts.specs.Standings.{why_text};
+ghost use Rattle.salvage_texts.specs.Standings.{fault_text, frame_line, local_text, locals_fault};
+ghost use Rattle.salvage_texts.specs.Standings.{locals_text, member_line, shown_locals, standing_text};
+ghost use Rattle.salvage_texts.specs.Standings.{standings_text, value_text, why_text};
 
 use crate::ends::push_missing;
 use crate::escape::push_escaped;
+use crate::line::{push_line, shown_line};
 use elf64_core::Text;
 use py_builtins::ObjectError;
 use py_fronts::Standing;
 use py_stacks::{Frame, LocalVariable, StackError};
 use std::alloc::{AllocError, Global};
-
-/// A line's number, where it is known.
-fn push_line(text: &mut String, line: i32) -> Result<(), AllocError>
-    ensures { OnOk result (string_bytes text.new ≡ string_bytes text.old ++ line_text line) }
-{
-    if line == 0 {
-        return Ok(());
-    }
-    write!(text, ":{line}")
-}
 
 /// A frame's function, file and line.
 fn push_frame_line(alloc: Global, text: &mut String, frame: &Frame) -> Result<(), AllocError>
@@ -31,7 +22,7 @@ fn push_frame_line(alloc: Global, text: &mut String, frame: &Frame) -> Result<()
     push_escaped(alloc, text, true, &frame.name)?;
     text.push_str(" (")?;
     push_escaped(alloc, text, true, &frame.filename)?;
-    push_line(text, frame.line)?;
+    push_line(text, shown_line(frame.line))?;
     text.push_str(")\n")
 }
 
@@ -114,6 +105,15 @@ fn push_why(text: &mut String, why: &ObjectError) -> Result<(), AllocError>
     }
 }
 
+/// The line of a member without names. No frame's line is one, whatever its names are.
+fn push_member(text: &mut String, why: &ObjectError) -> Result<(), AllocError>
+    ensures { OnOk result (string_bytes text.new ≡ string_bytes text.old ++ member_line why.now) }
+{
+    text.push_str("    ? ")?;
+    push_why(text, why)?;
+    text.push_str("\n")
+}
+
 /// The lines of what stands for a member.
 fn push_standing(alloc: Global, text: &mut String, standing: &Standing) -> Result<(), AllocError>
     ensures { OnOk result (string_bytes text.new ≡ string_bytes text.old ++ standing_text standing.now) }
@@ -124,11 +124,7 @@ fn push_standing(alloc: Global, text: &mut String, standing: &Standing) -> Resul
             push_shown_locals(alloc, text, &frame.locals)?;
             push_locals_fault(text, fault)
         }
-        Standing::Member { why, .. } => {
-            text.push_str("    ? (")?;
-            push_why(text, why)?;
-            text.push_str(")\n")
-        }
+        Standing::Member { why, .. } => push_member(text, why),
     }
 }
 

@@ -4,7 +4,7 @@ use Rattle.program_run.proofs.Ends.{run_all_read, run_asked, run_nothing_out, ru
 use Rattle.program_run.proofs.Ends.{run_unread}
 use Rattle.core_report.specs.Run.{pystacks}
 use Rattle.core_report.proofs.Commands.{cause_own}
-use Rattle.core_report.proofs.Ends.{run_complete, run_only, run_pieces, run_status}
+use Rattle.core_report.proofs.Ends.{run_complete, run_few, run_only, run_pieces, run_status}
 use Rattle.core_report.proofs.Headline.{reported_of_run}
 use Rattle.core_report.proofs.command.run.Goals as goal
 
@@ -51,6 +51,9 @@ returns-clause-only g c = run_only (returns-clause-right g c)
 
 pub returns-clause-pieces : goal.returns-clause-pieces
 returns-clause-pieces g c = run_pieces (returns-clause-right g c)
+
+pub returns-clause-few : goal.returns-clause-few
+returns-clause-few g c = run_few (returns-clause-right g c)
 
 pub returns-clause-complete : goal.returns-clause-complete
 returns-clause-complete g c = run_complete (returns-clause-right g c)

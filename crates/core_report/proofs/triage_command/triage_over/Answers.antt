@@ -34,4 +34,4 @@ returns-clause-comes g c read count =
     let has = c.in_ok-judged.ensures.judged (c.args.read.layouts.items ∷ contents c.args.read.images.items) read asks in
     let are = c.in_ok-images.ensures ∙ ap (λ w. images_read w (contents c.args.read.images.items)) c.deref.ensures.value in
     grouped _ _ t c.args.read.layouts.items c.args.read.images.items c.in_ok-layouts.layouts c.in_ok-images.images c.in_ok-judged.judged c.in_ok-text.field-0
-    count c.in_ok-layouts.ensures are has (grouped_text _ _ t _ _ _ c.in_ok-judged.judged c.in_ok-text.field-0.items has c.in_ok-text.ensures)
+    count c.in_ok-layouts.ensures are has (grouped_text _ _ t _ _ _ c.in_ok-judged.judged c.in_ok-text.field-0.items has c.in_ok-text.ensures.text_is c.in_ok-text.ensures.grouped)

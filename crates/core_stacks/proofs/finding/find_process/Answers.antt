@@ -4,6 +4,8 @@ use Rattle.std.proofs.lemmas.List.Elements.{All-contains}
 use Rattle.std.proofs.lemmas.Result.{err_from_is_err_and}
 use Rattle.process_memory.proofs.Reading.{reading_gives, reading_then}
 use Rattle.py_fields.specs.Sound.{Covers}
+use Rattle.py_process.specs.Facts.{known_of}
+use Rattle.py_process.proofs.Sections.{searching}
 use Rattle.core_stacks.specs.Seen.{finding_in}
 use Rattle.core_stacks.proofs.Searching.{layout_tries, untried, version_ends, version_tries}
 use Rattle.core_stacks.proofs.Steps.{layout_lacks, lock_fails, lock_hits, search_fails, search_hits}
@@ -39,7 +41,7 @@ returns-in_err-lock-clause-settles g c =
     (layout_tries _ _ _ _ _ c.in-Some.layout.now _
     (record { listed = c.in-Some.ensures.member; covers = c.in-Some.ensures.covers })
     (λ other x. c.in-Some.ensures.only other x.listed x.covers)
-    (reading_then _ c.in_ok-interpreter.ensures.first c.in_err-lock.ensures
+    (reading_then _ c.in_ok-interpreter.ensures.first (searching (known_of c.args.info.now) c.in_err-lock.ensures)
     (λ m a b. search_hits m m _ _ _ _ _ c.in_ok-interpreter.interpreter _ a refl
     (lock_fails m _ _ _ _ _ c.in_err-lock.field-0.0 _ b (ap finding_in p.1 ∙ ap (λ e. Err e) p.2)))))
 
@@ -49,6 +51,6 @@ returns-clause-settles g c =
     (layout_tries _ _ _ _ _ c.in-Some.layout.now _
     (record { listed = c.in-Some.ensures.member; covers = c.in-Some.ensures.covers })
     (λ other x. c.in-Some.ensures.only other x.listed x.covers)
-    (reading_then _ c.in_ok-interpreter.ensures.first c.in_ok-lock.ensures
+    (reading_then _ c.in_ok-interpreter.ensures.first (searching (known_of c.args.info.now) c.in_ok-lock.ensures)
     (λ m a b. search_hits m m _ _ _ _ _ c.in_ok-interpreter.interpreter _ a refl
     (lock_hits m _ _ _ _ _ c.in_ok-lock.lock _ b refl))))

@@ -1,15 +1,16 @@
 use Rattle.std.proofs.Common.{Vec, Global, Bor, BTreeMap, Option, ◌≡◌, ◌<◌, ◌+◌, ℕ, List, [], ◌∷◌, ◌++◌, length}
-use Rattle.std.proofs.Common.{take, get_or, set, Some, None, sym, ◌∙◌, ap, subst, arith}
+use Rattle.std.proofs.Common.{take, get_or, set, Some, None, sym, ◌∙◌, ap, subst, arith, map, true}
 use Rattle.std.specs.Prelude.{if◌then◌else◌}
 use Rattle.std.specs.BTreeMap.{is_at, Updates}
 use Rattle.std.specs.Map.{lookup}
 use Rattle.std.proofs.lemmas.List.{length-map, take_more, length-take, map-append, map-set, get_or-map, take_all}
 use Rattle.core_triage.specs.contracts.key.StackKeyOrd.TheImpl.{ghosts}
 use Rattle.core_triage.specs.declared.key.StackKey.{StackKey}
-use Rattle.core_triage.specs.Groups.{groups_of}
-use Rattle.core_triage.specs.Keys.{same_key}
+use Rattle.core_triage.specs.Groups.{IsGrouping, groups_of}
+use Rattle.core_triage.specs.Keys.{compared_in, same_key}
 use Rattle.core_triage.proofs.Growing.{IsAt, at_start, known, fresh, below}
-use Rattle.core_triage.proofs.Keys.{same_laws, by_order}
+use Rattle.core_triage.proofs.Groupings.{are_grouping, by_view}
+use Rattle.core_triage.proofs.Keys.{same_keys, same_laws, by_order}
 use Rattle.core_triage.proofs.groups.group.Invariants.{items_of, number_of}
 use Rattle.core_triage.proofs.groups.group.Goals.{in-Some+in_ok-push-in-Some}
 use Rattle.core_triage.proofs.groups.group.Goals.{in-None+in_ok-insert-in-None+in_ok-vec-in-None+in_ok-push-in-None}
@@ -85,4 +86,25 @@ loop-place-preserved c =
     ]
 
 pub returns : goal.returns
-returns c = record { right = c.loop-place.invariant.are ∙ ap (groups_of same_key) (take_all c.loop-place.place c.args.keys.now c.loop-place-test.false) }
+returns c =
+    let whole : IsAt same_key c.args.keys.now (items_of c.loop-place.groups.items) (number_of c.loop-place.numbers) =
+    subst (λ keys. Holds keys (items_of c.loop-place.groups.items) (number_of c.loop-place.numbers)) (take_all c.loop-place.place c.args.keys.now c.loop-place-test.false) c.loop-place.invariant in
+    let by_key : IsGrouping (λ a b. same_key a b ≡ true) c.args.keys.now (groups_of same_key c.args.keys.now) = are_grouping same_laws c.args.keys.now whole.apart in
+    record {
+      right = whole.are;
+      grouping = subst (IsGrouping (λ a b. a ≡ b) (map compared_in c.args.keys.now)) (sym whole.are)
+          (by_view (λ a b. same_key a b ≡ true) compared_in same_keys c.args.keys.now (groups_of same_key c.args.keys.now) by_key);
+      equal = same_keys;
+    }
+
+pub returns-in_err-push-in-Some-clause-equal : goal.returns-in_err-push-in-Some-clause-equal
+returns-in_err-push-in-Some-clause-equal c = same_keys
+
+pub returns-in_err-insert-in-None-clause-equal : goal.returns-in_err-insert-in-None-clause-equal
+returns-in_err-insert-in-None-clause-equal c = same_keys
+
+pub returns-in_err-vec-in-None-clause-equal : goal.returns-in_err-vec-in-None-clause-equal
+returns-in_err-vec-in-None-clause-equal c = same_keys
+
+pub returns-in_err-push-in-None-clause-equal : goal.returns-in_err-push-in-None-clause-equal
+returns-in_err-push-in-None-clause-equal c = same_keys

@@ -11,7 +11,7 @@ use Rattle.memory_builder.specs.Sizes.{program_size}
 use Rattle.image_builder.specs.Built.{built_core, built_image, built_lock, built_objects, built_words}
 use Rattle.image_builder.specs.CoreFacts.{built_maps, built_memory, built_process, built_programs, built_status}
 use Rattle.image_builder.specs.CoreFiles.{core_file, image_path as path_of_image}
-use Rattle.image_builder.specs.Covered.{number_of}
+use Rattle.image_builder.specs.Covered.{number_of, told_version}
 use Rattle.image_builder.specs.ImageFiles.{image_file}
 use Rattle.image_builder.specs.RuntimeWords.{interpreter_at, runtime_words}
 use Rattle.image_builder.proofs.CoreBack.{core_is, core_machine, core_memory_is, core_notes_are, maps_are, process_is}
@@ -38,6 +38,7 @@ use Rattle.py_process.specs.Programs.{IsKnown}
 use Rattle.image_builder.proofs.MemoryBack.{image_there, in_each, no_holder, none_alone, none_at_zero, number_there}
 use Rattle.image_builder.proofs.MemoryBack.{objects_there, words_there}
 use Rattle.image_builder.proofs.Numbers.{number_fits, number_is, version_told}
+use Rattle.image_builder.proofs.ToldVersions.{told_covers, told_lock, told_room, told_words}
 use Rattle.image_builder.proofs.WordsBack.{head_back, lock_back, version_back}
 use Rattle.image_builder.proofs.Lengths.{length-core, length-image, length-words}
 use Rattle.image_builder.specs.RuntimeWords.{HasWordRoom}
@@ -148,6 +149,12 @@ module _ (c : goal.After-drop-objects-2) (images : Pushed) (regions : List Regio
   words_stand : Stands (byte_at regions) 0x50_0000 (words c)
   words_stand = in_regions 0x50_0000 (words c) (words_there (image c) (words c) (objects c) (image_len c) (words_len c))
 
+  -- they are those of the version that is told
+  told_stand : Stands (byte_at regions) 0x50_0000 (runtime_words c.args.layout.now c.args.machine
+      (told_version c.args.version.now) (owner_place c.args.layout.now interpreter_at (program_in c.args.program.now)))
+  told_stand = subst (Stands (byte_at regions) 0x50_0000) (told_words c.args.layout.now c.args.machine c.args.version.now
+      (owner_place c.args.layout.now interpreter_at (program_in c.args.program.now))) words_stand
+
   none_zero : byte_at regions 0 ≡ None
   none_zero = none_at_zero c.args.machine (image c) (words c) (objects c) (image_len c) (words_len c)
       (core_short c) images regions backed
@@ -172,9 +179,9 @@ returns-clause-told c = λ images regions is.
 
 pub returns-clause-head : goal.returns-clause-head
 returns-clause-head c = λ room images regions is.
-    head_back c.args.layout.now c.requires (byte_at regions) c.args.version.now c.args.machine
-    (owner_place c.args.layout.now interpreter_at (program_in c.args.program.now)) room
-    (words_stand c images regions is)
+    head_back c.args.layout.now c.requires (byte_at regions) (told_version c.args.version.now) c.args.machine
+    (owner_place c.args.layout.now interpreter_at (program_in c.args.program.now))
+    (told_room c.args.layout.now c.args.machine c.args.version.now room) (told_stand c images regions is)
 
 pub returns-clause-objects : goal.returns-clause-objects
 returns-clause-objects c = λ images regions is. objects_stand c images regions is
@@ -185,29 +192,29 @@ place_is = record { some = omega arith; even = refl }
 pub returns-clause-found : goal.returns-clause-found
 returns-clause-found c = λ room word_room images regions is.
     let l = c.args.layout.now in
-    let v = c.args.version.now in
+    let v = told_version c.args.version.now in
     let p = program_in c.args.program.now in
     let there = objects_stand c images regions is in
     let size : length (objects c) ≡ program_size l p
     = ap length (sym c.in_ok-objects.ensures.laid) ∙ c.in_ok-objects.ensures.size in
     let tells = subst (TellsInterpreter l interpreter_at) c.in_ok-objects.ensures.laid
     (c.in_ok-objects.ensures.interpreter room place_is) in
-    let head = head_back l c.requires (byte_at regions) v c.args.machine (owner_place l interpreter_at p) word_room
-    (words_stand c images regions is) in
+    let head = head_back l c.requires (byte_at regions) v c.args.machine (owner_place l interpreter_at p)
+    (told_room l c.args.machine c.args.version.now word_room) (told_stand c images regions is) in
     is_first l c.requires room (byte_at regions) p c.in_ok-admit.ensures.valid (length (objects c)) size there
     (tells.passes (byte_at regions) there) v head
 
 pub returns-clause-named : goal.returns-clause-named
 returns-clause-named c = λ room word_room images regions is.
     let l = c.args.layout.now in
-    let v = c.args.version.now in
+    let v = told_version c.args.version.now in
     let tells = subst (TellsInterpreter l interpreter_at) c.in_ok-objects.ensures.laid
     (c.in_ok-objects.ensures.interpreter room place_is) in
     let named = lock_back l c.requires (byte_at regions) v c.args.machine
-    (owner_place l interpreter_at (program_in c.args.program.now)) word_room
-    (words_stand c images regions is) (λ at e. tells.lock (byte_at regions) (objects_stand c images regions is) at e) in
+    (owner_place l interpreter_at (program_in c.args.program.now)) (told_room l c.args.machine c.args.version.now word_room)
+    (told_stand c images regions is) (λ at e. tells.lock (byte_at regions) (objects_stand c images regions is) at e) in
     subst (λ lock. lock_address_of c.args.machine image_known v l (byte_at regions) interpreter_at ≡ Ok lock)
-    (sym c.lock_address.ensures) named
+    (told_lock l c.args.version.now c.args.machine ∙ sym c.lock_address.ensures) named
 
 pub returns-clause-stacks : goal.returns-clause-stacks
 returns-clause-stacks c = λ room word_room images regions is config traces.
@@ -268,11 +275,11 @@ module _ (c : goal.After-drop-objects-2) (images : Pushed) (known : IsKnown imag
     is_backed : IsBackedMemory c.in_ok-core.core.items images pieces
     is_backed = backed_with c images
 
-    written : IsWritten c.in_ok-core.core.items images c.args.layout.now c.args.version.now
+    written : IsWritten c.in_ok-core.core.items images c.args.layout.now (told_version c.args.version.now)
         (program_in c.args.program.now) the_lock
     written =
         let l = c.args.layout.now in
-        let v = c.args.version.now in
+        let v = told_version c.args.version.now in
         let p = program_in c.args.program.now in
         let m = byte_at pieces in
         record {
@@ -281,7 +288,7 @@ module _ (c : goal.After-drop-objects-2) (images : Pushed) (known : IsKnown imag
           is_dumped = record { are_maps = returns-clause-maps c; memory = is_backed };
           programs = programs_are (length (objects c));
           known = known;
-          covers = c.in_ok-admit.ensures.covered.covers;
+          covers = told_covers l c.args.version.now c.in_ok-admit.ensures.covered.covers;
           told = returns-clause-told c images pieces is_backed;
           first = returns-clause-found c room word_room images pieces is_backed;
           named = subst (λ machine. lock_address_of machine image_known v l m interpreter_at ≡ Ok the_lock)
@@ -299,29 +306,29 @@ module _ (c : goal.After-drop-objects-2) (images : Pushed) (known : IsKnown imag
 pub returns-clause-finds : goal.returns-clause-finds
 returns-clause-finds c = λ room word_room.
     let l = c.args.layout.now in
-    let v = c.args.version.now in
-    finds_by c.in_ok-core.core.items _ l v (program_in c.args.program.now) _ (built_lock l v c.args.machine)
+    let v = told_version c.args.version.now in
+    finds_by c.in_ok-core.core.items _ l v (program_in c.args.program.now) _ (built_lock l c.args.version.now c.args.machine)
     c.lock_address.ensures (written c _ (returns-clause-known c) room word_room)
 
 pub returns-clause-readable : goal.returns-clause-readable
 returns-clause-readable c = λ room word_room.
     let l = c.args.layout.now in
-    let v = c.args.version.now in
-    is_readable c.in_ok-core.core.items _ l v (program_in c.args.program.now) (built_lock l v c.args.machine)
+    let v = told_version c.args.version.now in
+    is_readable c.in_ok-core.core.items _ l v (program_in c.args.program.now) (built_lock l c.args.version.now c.args.machine)
     (written c _ (returns-clause-known c) room word_room)
 
 pub returns-clause-frames : goal.returns-clause-frames
 returns-clause-frames c = λ room word_room.
     let l = c.args.layout.now in
-    let v = c.args.version.now in
-    has_frames c.in_ok-core.core.items _ l v (program_in c.args.program.now) (built_lock l v c.args.machine)
+    let v = told_version c.args.version.now in
+    has_frames c.in_ok-core.core.items _ l v (program_in c.args.program.now) (built_lock l c.args.version.now c.args.machine)
     (written c _ (returns-clause-known c) room word_room)
 
 pub returns-clause-report : goal.returns-clause-report
 returns-clause-report c = λ room word_room.
     let l = c.args.layout.now in
-    let v = c.args.version.now in
-    is_report c.in_ok-core.core.items _ l v (program_in c.args.program.now) (built_lock l v c.args.machine)
+    let v = told_version c.args.version.now in
+    is_report c.in_ok-core.core.items _ l v (program_in c.args.program.now) (built_lock l c.args.version.now c.args.machine)
     (written c _ (returns-clause-known c) room word_room)
 
 pub returns-clause-alone : goal.returns-clause-alone

@@ -1,4 +1,5 @@
 use Rattle.native_merge.specs.Merges.{is_python}
+use Rattle.native_merge.proofs.Asked.{asked_last, asked_so_far}
 use Rattle.native_merge.proofs.MergeSteps.{merging_none, merging_more, merging_done}
 use Rattle.native_merge.proofs.merge.merge.Goals as goal
 
@@ -15,3 +16,11 @@ loop-addr-preserved g c = merging_more c.args.native_stack.now c.loop-addr.addr-
 pub returns-clause-merges : goal.returns-clause-merges
 returns-clause-merges g c = merging_done c.args.native_stack.now c.loop-addr.addr-index c.finish.result c.loop-addr-test.false
     c.loop-addr.invariant c.finish.ensures
+
+pub returns-in_err-cursor-clause-asked : goal.returns-in_err-cursor-clause-asked
+returns-in_err-cursor-clause-asked g c = asked_last c.args.native_stack.now c.loop-addr.addr-index c.is_python-inside.result c.ask-answer.result
+    c.loop-addr-test.true c.is_python-inside.ensures c.loop-addr.invariant c.ask-answer.ensures.held c.ask-answer.ensures.given
+    c.ask-answer.ensures.after
+
+pub returns-clause-asked : goal.returns-clause-asked
+returns-clause-asked g c = asked_so_far c.args.native_stack.now c.loop-addr.addr-index c.loop-addr.invariant

@@ -1,4 +1,5 @@
 use Rattle.native_merge.specs.TranslatedStacks.AreTranslated.{NoMore}
+use Rattle.native_merge.proofs.MapsKept.{maps_stopped, maps_translated}
 use Rattle.native_merge.proofs.Stays.{stay_same, stay_then}
 use Rattle.native_merge.proofs.Translating.{translating_more, translating_left}
 use Rattle.std.proofs.Common.{refl, arith}
@@ -16,3 +17,10 @@ loop-frame-preserved g c = record {
   rest = translating_left c.args.frames.now c.loop-frame.frames c.loop-frame.frame-index c.frame-item.result c.translate.new.frame
       c.loop-frame.invariant.rest;
 }
+
+pub returns-in_err-translate-clause-maps : goal.returns-in_err-translate-clause-maps
+returns-in_err-translate-clause-maps g c = maps_stopped c.loop-frame.invariant.stay c.loop-frame.invariant.done
+    c.in_err-translate.ensures.same_maps c.in_err-translate.ensures.err_maps
+
+pub returns-clause-maps : goal.returns-clause-maps
+returns-clause-maps g c = maps_translated c.loop-frame.invariant.done

@@ -1,4 +1,4 @@
-use Rattle.process_memory.proofs.Reading.{reading_one, reading_here}
+use Rattle.process_memory.proofs.Reading.{reading_one}
 use Rattle.process_memory.proofs.Records.{answer_length}
 use Rattle.process_memory.proofs.readers.record.Goals as goal
 
@@ -7,4 +7,4 @@ returns-clause-answer g c = reading_one c.requires c.copy.ensures.law
 
 pub returns-clause-whole : goal.returns-clause-whole
 returns-clause-whole g c =
-    answer_length _ c.args.addr c.args.len c.copy.result (reading_here (reading_one c.requires c.copy.ensures.law))
+    answer_length _ c.args.addr c.args.len c.copy.result c.copy.ensures.law.answer

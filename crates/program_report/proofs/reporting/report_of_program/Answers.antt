@@ -3,6 +3,7 @@ use Rattle.py_process.specs.Reports.{AsksNoOther, IsRight, ReportIs, reported}
 use Rattle.image_builder.specs.Built.{built_image}
 use Rattle.image_builder.specs.CoreFiles.{image_path}
 use Rattle.image_builder.specs.Inverse.{image_alone}
+use Rattle.image_builder.specs.Covered.{told_version}
 use Rattle.image_builder.specs.Shown.{shown_report}
 use Rattle.memory_builder.specs.Mirror.{program_in}
 use Rattle.program_report.proofs.Answering.{AnswersRight, answer_lost, answer_shows}
@@ -24,14 +25,14 @@ pub returns-clause-shown : goal.returns-clause-shown
 returns-clause-shown c = λ room word_room asks.
     answer_shows c.in_ok-built.built.core.items
     (image_alone c.in_ok-built.built.image_path c.in_ok-built.built.image.items) (c.args.layout ∷ [])
-    c.args.config.now (shown_report c.args.config.now c.args.layout c.args.version.now (program_in c.args.program.now))
+    c.args.config.now (shown_report c.args.config.now c.args.layout (told_version c.args.version.now) (program_in c.args.program.now))
     (c.in_ok-built.ensures.report room word_room c.args.config.now asks) c.report.result (answers c asks)
 
 pub returns-clause-memory : goal.returns-clause-memory
 returns-clause-memory c = λ room word_room asks.
     answer_lost c.in_ok-built.built.core.items
     (image_alone c.in_ok-built.built.image_path c.in_ok-built.built.image.items) (c.args.layout ∷ [])
-    c.args.config.now (shown_report c.args.config.now c.args.layout c.args.version.now (program_in c.args.program.now))
+    c.args.config.now (shown_report c.args.config.now c.args.layout (told_version c.args.version.now) (program_in c.args.program.now))
     (c.in_ok-built.ensures.report room word_room c.args.config.now asks) c.report.result (answers c asks)
 
 pub returns-clause-right : goal.returns-clause-right

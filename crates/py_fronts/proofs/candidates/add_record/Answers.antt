@@ -1,8 +1,9 @@
-use Rattle.std.proofs.Common.{arith, ap, length, ◌^◌}
+use Rattle.std.proofs.Common.{arith, ap, length}
 use Rattle.std.proofs.lemmas.Result.{err_from_is_err_and}
-use Rattle.process_memory.proofs.Reading.{reading_gives, reading_then}
-use Rattle.py_process.proofs.Wider.{reading_wider}
-use Rattle.py_fronts.proofs.CandidateSteps.{record_added}
+use Rattle.process_memory.specs.Memory.{byte_at}
+use Rattle.py_fronts.specs.Candidates.{led_to}
+use Rattle.process_memory.proofs.Reading.{reading_gives, reading_here, reading_then}
+use Rattle.py_fronts.proofs.CandidateSteps.{record_added, record_cost}
 use Rattle.py_fronts.proofs.Steps.{lost_first}
 use Rattle.py_fronts.proofs.candidates.add_record.Goals as goal
 
@@ -13,7 +14,14 @@ returns-in_err-words g c =
 
 pub returns : goal.returns
 returns g c =
-    reading_gives _ _ (reading_then _ c.in_ok-words.ensures.answer (reading_wider (2 ^ 64) c.add_led_to.ensures (omega arith))
+    reading_gives _ _ (reading_then _ c.in_ok-words.ensures.answer c.add_led_to.ensures
     (λ m a b. record_added c.args.layout.now m c.args.interpreter c.in_ok-words.words.items _
     c.args.candidates.now.items _ _ a c.deref.ensures.value b))
-    (omega (arith, c.in_ok-words.ensures.few, ap length c.deref.ensures.value)) (λ m h. h)
+    (omega (
+      arith,
+      ap (λ ps. length (led_to c.args.layout.now (byte_at ps) 0 c.deref.result.now))
+          c.in_ok-words.ensures.answer.pieces,
+      record_cost c.args.layout.now
+          (byte_at (g.P.ProcessMemory.seen c.args.process.now).pieces) c.args.interpreter _ c.deref.result.now
+          (reading_here c.in_ok-words.ensures.answer) c.deref.ensures.value,
+    )) (λ m h. h)

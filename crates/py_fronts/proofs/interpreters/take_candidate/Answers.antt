@@ -8,7 +8,7 @@ use Rattle.py_fronts.proofs.interpreters.take_candidate.Goals as goal
 pub returns-then-is_found : goal.returns-then-is_found
 returns-then-is_found g c =
     let known = rw c.deref.ensures.value at c.is_found.ensures in
-    reading_none _ _ _ (λ m. taken_before c.args.searched (g.M.ContainsAddr.contains c.args.maps.now) c.args.layout.now m (finds_of c.args.finds.now) c.args.addr c.is_found.result known c.if-is_found.true)
+    reading_none _ _ _ (λ m. taken_before c.args.searched (g.M.ContainsAddr.contains c.args.maps.now) c.args.layout.now m (finds_of c.args.finds.now) (finds_of c.note_name.new.finds) c.args.addr c.is_found.result known c.if-is_found.true c.note_name.ensures)
 
 pub returns-in-None : goal.returns-in-None
 returns-in-None g c =

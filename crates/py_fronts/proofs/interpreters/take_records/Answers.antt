@@ -9,7 +9,7 @@ loop-index-init g c = turning_init (g.M.ContainsAddr.contains c.args.maps.now) c
 pub returns-in_err-take_record : goal.returns-in_err-take_record
 returns-in_err-take_record g c =
     let p = err_from_is_err_and c.from_residual.result c.from_residual.ensures.1 in
-    rw p.1 (turning_lost p.0 c.in_err-take_record.field-0.0 c.loop-index.invariant (omega arith) c.in_err-take_record.ensures p.2)
+    rw p.1 (turning_lost p.0 c.in_err-take_record.field-0.0 c.loop-index.invariant c.in_err-take_record.ensures p.2)
 
 pub loop-index-preserved : goal.loop-index-preserved
 loop-index-preserved g c = turning_more c.take_record.new.finds c.loop-index.invariant (omega arith) c.in_ok-take_record.ensures

@@ -2,9 +2,8 @@ use Rattle.std.proofs.Common.{arith, refl, ap, length, ◌<◌, ◌∙◌}
 use Rattle.std.proofs.lemmas.Result.{err_from_is_err_and}
 use Rattle.py_fields.proofs.Fields.{thread_fits}
 use Rattle.py_stacks.specs.Threads.{thread_limit}
-use Rattle.py_fronts.proofs.Steps.{reading_both}
 use Rattle.py_fronts.proofs.ThreadSteps.{threading_broken, threading_done, threading_full, threading_init}
-use Rattle.py_fronts.proofs.ThreadSteps.{threading_lost, threading_more}
+use Rattle.py_fronts.proofs.ThreadSteps.{threading_lost, threading_more, threading_stops}
 use Rattle.py_fronts.proofs.thread_front.walk_threads.Goals as goal
 
 pub loop-at-init : goal.loop-at-init
@@ -16,8 +15,7 @@ returns-then-len-eq-THREAD_LIMIT-clause-answer g c = threading_full c.loop-at.in
 pub returns-in_err-next-clause-answer : goal.returns-in_err-next-clause-answer
 returns-in_err-next-clause-answer g c =
     let p = err_from_is_err_and c.from_residual.result c.from_residual.ensures.1 in
-    let below : length c.loop-at.threads.items < thread_limit = omega (arith, c.loop-at.threads.ok.0, c.loop-at.invariant.within) in
-    rw p.1 (threading_lost p.0 c.loop-at.invariant below c.in_err-next.ensures.answer (omega arith) (λ m h. p.2 ∙ h))
+    rw p.1 (threading_stops p.0 c.loop-at.invariant c.in_err-next.ensures.answer (omega arith) (λ m h. p.2 ∙ h))
 
 pub returns-in-Broken-clause-answer : goal.returns-in-Broken-clause-answer
 returns-in-Broken-clause-answer g c =
@@ -29,7 +27,9 @@ pub returns-in_err-front-clause-answer : goal.returns-in_err-front-clause-answer
 returns-in_err-front-clause-answer g c =
     let p = err_from_is_err_and c.from_residual-in_err-front.result c.from_residual-in_err-front.ensures.1 in
     let below : length c.loop-at.threads.items < thread_limit = omega (arith, c.loop-at.threads.ok.0, c.loop-at.invariant.within) in
-    rw p.1 (threading_lost p.0 c.loop-at.invariant below (reading_both c.in_ok-next.ensures.answer c.in_err-front.ensures.answer) (omega arith) (λ m h. p.2 ∙ h.1))
+    let thread = rw c.in-At.is at c.in_ok-next.ensures.answer in
+    let front = rw c.deref.ensures.value at c.in_err-front.ensures.answer in
+    rw p.1 (threading_lost c.in-At.thread.items _ p.0 c.loop-at.invariant (omega arith) below thread front (λ m h. p.2 ∙ h))
 
 pub u64_in-at-requires : goal.u64_in-at-requires
 u64_in-at-requires g c =
@@ -40,7 +40,9 @@ pub returns-in_err-push-clause-answer : goal.returns-in_err-push-clause-answer
 returns-in_err-push-clause-answer g c =
     let p = err_from_is_err_and c.from_residual-in_err-push.result c.from_residual-in_err-push.ensures.1 in
     let below : length c.loop-at.threads.items < thread_limit = omega (arith, c.loop-at.threads.ok.0, c.loop-at.invariant.within) in
-    rw p.1 (threading_lost p.0 c.loop-at.invariant below (reading_both c.in_ok-next.ensures.answer c.in_ok-front.ensures.answer) (omega (arith, c.in_ok-front.ensures.few)) (λ m h. p.2))
+    let thread = rw c.in-At.is at c.in_ok-next.ensures.answer in
+    let front = rw c.deref.ensures.value at c.in_ok-front.ensures.answer in
+    rw p.1 (threading_lost c.in-At.thread.items _ p.0 c.loop-at.invariant (omega arith) below thread front (λ m h. p.2))
 
 pub loop-at-preserved : goal.loop-at-preserved
 loop-at-preserved g c =

@@ -6,5 +6,5 @@ use Rattle.salvage_report.proofs.left.salvaged_of.Goals as goal
 
 pub returns : goal.returns
 returns c =
-    let here = over_this (regions_of c.args.process.now.dump) (ap (λ (s : Seen). s.pieces) c.view-view.ensures) c.salvage.ensures in
+    let here = over_this (regions_of c.args.process.now.dump) (ap (λ (s : Seen). s.pieces) c.view-view.ensures) c.salvage.ensures.answer in
     rw (c.machine.ensures, c.core.ensures.same) at here
