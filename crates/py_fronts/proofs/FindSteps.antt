@@ -1,14 +1,13 @@
 -- Interpreters that are found, one after another.
 use Rattle.std.proofs.Common.{◌≡◌, ℕ, suc, ◌+◌, ◌*◌, ◌-◌, ◌<◌, ◌≤◌, ◌^◌, Bool, true, false, List, [], ◌∷◌, ◌++◌, length}
-use Rattle.std.proofs.Common.{refl, sym, ◌∙◌, ap, arith, length-append}
+use Rattle.std.proofs.Common.{refl, sym, ◌∙◌, ap, arith}
 use Rattle.std.proofs.Common.{ltb, subst, take}
-use Rattle.std.proofs.Math.Nat.{mul-le-mul_left}
 use Rattle.std.proofs.lemmas.Bool.Decides.{nat_tests}
 use Rattle.std.proofs.lemmas.List.{take_all}
-use Rattle.std.proofs.lemmas.List.Sums.{sum_by-append, sum_by-take-le, sum_by_more}
+use Rattle.std.proofs.lemmas.List.Sums.{sum_by-append, sum_by-cons, sum_by-take-le, sum_by_more, sum_by_push}
 use Rattle.std.specs.Prelude.{Option, Some, None, Result, sum_by}
 use Rattle.process_memory.specs.Memory.{Memory, byte_at}
-use Rattle.process_memory.specs.Seen.{Reading, Seen}
+use Rattle.process_memory.specs.Seen.{Reading, ReadingBy, Seen}
 use Rattle.process_memory.proofs.Reading.{reading_gives, reading_here, reading_none, reading_then}
 use Rattle.py_fields.specs.declared.layout.Layout.{Layout}
 use Rattle.py_stacks.specs.declared.error.StackError.{StackError}
@@ -21,7 +20,7 @@ use Rattle.py_fronts.specs.Candidates.{named_candidates, others_led_to, searched
 use Rattle.py_fronts.specs.ChainEnds.{ending_of}
 use Rattle.py_fronts.specs.Front.{Ending}
 use Rattle.py_fronts.specs.Interpreters.{Finds, Takes, Taking, Turning, address_at, after_candidate, after_candidates}
-use Rattle.py_fronts.specs.Interpreters.{after_record_of, after_records, candidate_reads, finds_of, headed_at}
+use Rattle.py_fronts.specs.Interpreters.{after_record_of, after_records, candidate_reads, candidates_reads, finds_of, headed_at}
 use Rattle.py_fronts.specs.Interpreters.{interpreter_limit, interpreters_at, is_found, none_found, reads_of_record, record_reads}
 use Rattle.py_fronts.specs.Interpreters.{records_reads, taking_reads, with_their_records}
 use Rattle.py_fronts.specs.declared.interpreters.FoundInterpreter.{FoundInterpreter}
@@ -32,12 +31,16 @@ use Rattle.py_fronts.proofs.Growing.{Grows, at_still, candidates_grow, grows_on,
 
 -- ---- one candidate
 
-pub reads_two : (searched : Bool) → 2 ≤ candidate_reads searched
-reads_two false = omega arith
-reads_two true = omega arith
+pub reads_two : (searched : Bool) (c : ℕ → Bool) (l : Layout) (m : Memory) (a : ℕ) → 2 ≤ candidate_reads searched c l m a
+reads_two false c l m a = omega arith
+reads_two true c l m a = omega arith
 
-pub reads_all : (searched : Bool) → searched ≡ true → 2 + 4096 ≤ candidate_reads searched
-reads_all searched e = rw e (omega arith)
+pub reads_all : (searched : Bool) (c : ℕ → Bool) (l : Layout) (m : Memory) (a head : ℕ) (found : Option ℕ) → searched ≡ true
+    → found ≡ Some head → found ≡ headed_at c l m a
+    → candidate_reads searched c l m a ≡ 2 + (1 + length (threads_front l a m head).members)
+reads_all searched c l m a head found by_search e is =
+    let there : headed_at c l m a ≡ Some head = sym is ∙ e in
+    rw (by_search, there) refl
 
 none_shown : (searched : Bool) (c : ℕ → Bool) (l : Layout) (m : Memory) (a : ℕ) → headed_at c l m a ≡ None → None ≡ shown_head searched c l m a
 unfolding shown_head
@@ -90,17 +93,34 @@ unfolding after_candidates
 taking_init searched c l finds s = record { reading = reading_none _ s _ (λ m. refl) }
 
 pub taking_more : {searched : Bool} {c : ℕ → Bool} {l : Layout} {start : Finds} {s0 s1 s2 : Seen} {taken : List ℕ} {finds : FoundInterpreters} (new : FoundInterpreters) (a : ℕ) → Taking searched c l start s0 s1 taken finds
-    → Reading (candidate_reads searched) s1 s2 (λ m. finds_of new ≡ after_candidate searched c l m (finds_of finds) a) → Taking searched c l start s0 s2 (taken ++ a ∷ []) new
-taking_more {searched = searched} {c = c} {l = l} {start = start} {taken = taken} new a w r = record {
+    → ReadingBy (λ m. candidate_reads searched c l m a) s1 s2 (λ m. finds_of new ≡ after_candidate searched c l m (finds_of finds) a) → Taking searched c l start s0 s2 (taken ++ a ∷ []) new
+taking_more {searched = searched} {c = c} {l = l} {start = start} {s0 = s0} {taken = taken} new a w r = record {
   reading = reading_gives _ _ (reading_then (λ m. finds_of new ≡ after_candidates searched c l m start (taken ++ a ∷ [])) w.reading r
       (λ m p e. e ∙ ap (λ x. after_candidate searched c l m x a) p ∙ sym (candidates_append searched c l m start taken a)))
-      (rw (length-append taken (a ∷ [])) (omega arith)) (λ m h. h);
+      (omega (
+        arith,
+        ap (λ ps. candidate_reads searched c l (byte_at ps) a) w.reading.pieces,
+        sum_by_push (candidate_reads searched c l (byte_at s0.pieces)) taken a,
+      )) (λ m h. h);
 }
 
-pub taking_lost : {searched : Bool} {c : ℕ → Bool} {l : Layout} {start : Finds} {s0 s1 s2 : Seen} {taken : List ℕ} {finds : FoundInterpreters} (e f : StackError) (count : ℕ) → Taking searched c l start s0 s1 taken finds → length taken + 1 ≤ count
-    → Reading (candidate_reads searched) s1 s2 (λ m. f ≡ stack.OutOfMemory) → e ≡ f → Reading (candidate_reads searched * count) s0 s2 (λ m. e ≡ stack.OutOfMemory)
-taking_lost {searched = searched} e f count w below r same =
-    reading_gives _ _ (reading_then (λ m. e ≡ stack.OutOfMemory) w.reading r (λ m p h. same ∙ h)) (omega (arith, mul-le-mul_left (candidate_reads searched) below)) (λ m h. h)
+pub taking_lost : {searched : Bool} {c : ℕ → Bool} {l : Layout} {start : Finds} {s0 s1 s2 : Seen} {taken : List ℕ} {finds : FoundInterpreters} (e f : StackError) (a : ℕ) (rest all : List ℕ) → Taking searched c l start s0 s1 taken finds → all ≡ (taken ++ a ∷ []) ++ rest
+    → ReadingBy (λ m. candidate_reads searched c l m a) s1 s2 (λ m. f ≡ stack.OutOfMemory) → e ≡ f → ReadingBy (λ m. candidates_reads searched c l m all) s0 s2 (λ m. e ≡ stack.OutOfMemory)
+taking_lost {searched = searched} {c = c} {l = l} {s0 = s0} {taken = taken} e f a rest all w parts r same =
+    let cost = candidate_reads searched c l (byte_at s0.pieces) in
+    reading_gives _ _ (reading_then (λ m. e ≡ stack.OutOfMemory) w.reading r (λ m p h. same ∙ h))
+    (omega (
+      arith,
+      ap (λ ps. candidate_reads searched c l (byte_at ps) a) w.reading.pieces,
+      sum_by_push cost taken a,
+      sum_by-append cost (taken ++ a ∷ []) rest,
+      ap (sum_by cost) parts,
+    )) (λ m h. h)
+
+pub taking_done : {searched : Bool} {c : ℕ → Bool} {l : Layout} {start : Finds} {s0 s1 : Seen} {taken : List ℕ} {finds : FoundInterpreters} (all : List ℕ) → Taking searched c l start s0 s1 taken finds → taken ≡ all
+    → ReadingBy (λ m. candidates_reads searched c l m all) s0 s1 (λ m. finds_of finds ≡ after_candidates searched c l m start all)
+taking_done {searched = searched} {c = c} {l = l} {start = start} {s0 = s0} {s1 = s1} {finds = finds} all w e =
+    subst (λ xs. ReadingBy (λ m. candidates_reads searched c l m xs) s0 s1 (λ m. finds_of finds ≡ after_candidates searched c l m start xs)) e w.reading
 
 -- ---- records, in turn
 
@@ -238,20 +258,27 @@ none_is : (start : FoundInterpreters) → start.found.items ≡ [] → start.mor
 none_is start none no_more = ap (λ xs. record { found = xs; more = start.more }) none
     ∙ ap (λ b. record { found = []; more = b }) no_more
 
+pub two_each : (c : ℕ → Bool) (l : Layout) (m : Memory) (xs : List ℕ) → candidates_reads false c l m xs ≡ 2 * length xs
+two_each c l m [] = refl
+two_each c l m (x ∷ xs) = omega (arith, sum_by-cons (candidate_reads false c l m) x xs, two_each c l m xs)
+
 -- what the first pass costs, and the second
 pub named_cost : (c : ℕ → Bool) (k : Known) (v : Version) (l : Layout) (m : Memory) (start : FoundInterpreters)
     (read : List ℕ) → start.found.items ≡ [] → start.more ≡ false → read ≡ named_candidates k v l m
     → taking_reads false c l m (finds_of start) read
-    ≡ taking_reads false c l m none_found (named_candidates k v l m)
+    ≡ 2 * length (named_candidates k v l m)
+    + records_reads l m (with_their_records false c l m none_found (named_candidates k v l m)).found
 named_cost c k v l m start read none no_more e =
     ap (λ r. taking_reads false c l m r read) (none_is start none no_more)
     ∙ ap (taking_reads false c l m none_found) e
+    ∙ ap (λ n. n + records_reads l m (with_their_records false c l m none_found (named_candidates k v l m)).found)
+    (two_each c l m (named_candidates k v l m))
 
 pub searched_cost : (c : ℕ → Bool) (k : Known) (v : Version) (l : Layout) (m : Memory) (start one : FoundInterpreters)
     (read read' : List ℕ) → start.found.items ≡ [] → start.more ≡ false → read ≡ named_candidates k v l m
     → finds_of one ≡ with_their_records false c l m (finds_of start) read → read' ≡ searched_candidates k m
     → taking_reads true c l m (finds_of one) read'
-    ≡ 4098 * length (searched_candidates k m) + records_reads l m (interpreters_at c k v l m).found
+    ≡ candidates_reads true c l m (searched_candidates k m) + records_reads l m (interpreters_at c k v l m).found
 unfolding interpreters_at
 searched_cost c k v l m start one read read' none no_more e first e' =
     ap (λ r. taking_reads true c l m r read')

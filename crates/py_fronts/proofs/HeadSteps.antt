@@ -1,13 +1,13 @@
 -- Interpreters by their first threads, and whether a chain of threads is whole.
-use Rattle.std.proofs.Common.{◌≡◌, ◌≢◌, ℕ, zero, suc, ◌+◌, ◌-◌, ◌<◌, Bool, true, false, List, [], ◌∷◌, ◌++◌, refl, sym}
-use Rattle.std.proofs.Common.{◌∙◌, ap, arith}
+use Rattle.std.proofs.Common.{◌≡◌, ◌≢◌, ℕ, zero, suc, ◌+◌, ◌-◌, ◌<◌, ◌≤◌, Bool, true, false, List, [], ◌∷◌, ◌++◌, refl}
+use Rattle.std.proofs.Common.{sym, ◌∙◌, ap, arith, length, length-append}
 use Rattle.std.proofs.Math.Nat.{sub-zero}
 use Rattle.std.specs.Prelude.{Ok, Err, Option, None, Result, nat_eq, if◌then◌else◌, Vec}
 use Rattle.std.specs.Global.{Global}
 use Rattle.elf64_core.specs.Fields.{u64_in}
-use Rattle.process_memory.specs.Memory.{Found, Memory, ◌>>=◌, record_at}
-use Rattle.process_memory.specs.Seen.{Reading, Seen}
-use Rattle.process_memory.proofs.Reading.{reading_gives, reading_none, reading_then}
+use Rattle.process_memory.specs.Memory.{Found, Memory, ◌>>=◌, byte_at, record_at}
+use Rattle.process_memory.specs.Seen.{Reading, ReadingBy, Seen}
+use Rattle.process_memory.proofs.Reading.{reading_gives, reading_here, reading_none, reading_then}
 use Rattle.py_fields.specs.declared.layout.Layout.{Layout}
 use Rattle.py_stacks.specs.Interpreter.{interpreter_named_by, threads_head}
 use Rattle.py_stacks.specs.Threads.{thread_limit}
@@ -67,7 +67,7 @@ unfolding thread_of
 next_at l i m a r e = e
 
 pub chaining_init : (l : Layout) (i head : ℕ) (s : Seen) → Chaining l i head s s 0 head
-chaining_init l i head s = record { members = []; within = omega arith; reading = reading_none _ s _ (λ m. rw sub-zero refl) }
+chaining_init l i head s = record { members = []; within = omega arith; long = refl; reading = reading_none _ s _ (λ m. rw sub-zero refl) }
 
 ends_there : (l : Layout) (i head : ℕ) (m : Memory) (members : List ℕ) (ending : Ending) → threads_front l i m head ≡ record { members = members; ending = ending } → ending ≡ (threads_front l i m head).ending
 ends_there l i head m members ending e = sym (ap (λ (f : Front). f.ending) e)
@@ -80,21 +80,28 @@ module _ {l : Layout} {i head : ℕ} {s0 s1 : Seen} {count at : ℕ} where
       record {
         members = w.members ++ at ∷ [];
         within = omega arith;
+        long = omega (arith, length-append w.members (at ∷ []), w.long);
         reading = reading_then _ w.reading r (λ m p d. behind_more (thread_of l i m) (thread_limit - (count + 1)) w.members (threads_front l i m head) at next some (next_at l i m at (Ok next) (d.1 ∙ ap Ok (sym is))) (rw room at p));
       }
 
-  pub chaining_done : Chaining l i head s0 s1 count at → at ≡ 0 → Reading 4096 s0 s1 (λ m. Whole ≡ (threads_front l i m head).ending)
-  chaining_done w null = reading_gives _ _ w.reading w.within
+  -- those that were met are threads of the chain
+  chain_within : Chaining l i head s0 s1 count at → count ≤ length (threads_front l i (byte_at s0.pieces) head).members
+  chain_within w =
+      let rest = front_at (thread_of l i (byte_at s0.pieces)) (thread_limit - count) at in
+      omega (arith, w.long, ap (λ (f : Front). length f.members) (reading_here w.reading), length-append w.members rest.members)
+
+  pub chaining_done : Chaining l i head s0 s1 count at → at ≡ 0 → ReadingBy (λ m. 1 + length (threads_front l i m head).members) s0 s1 (λ m. Whole ≡ (threads_front l i m head).ending)
+  chaining_done w null = reading_gives _ _ w.reading (omega (arith, chain_within w))
       (λ m p. ends_there l i head m w.members Whole (behind_ends (thread_of l i m) (thread_limit - count) w.members (threads_front l i m head) at Whole (front_end (thread_of l i m) (thread_limit - count) at null) p))
 
-  pub chaining_full : Chaining l i head s0 s1 count at → at ≢ 0 → count ≡ thread_limit → Reading 4096 s0 s1 (λ m. Cut ≡ (threads_front l i m head).ending)
+  pub chaining_full : Chaining l i head s0 s1 count at → at ≢ 0 → count ≡ thread_limit → ReadingBy (λ m. 1 + length (threads_front l i m head).members) s0 s1 (λ m. Cut ≡ (threads_front l i m head).ending)
   chaining_full w some full =
       let none : thread_limit - count ≡ 0 = omega arith in
-      reading_gives _ _ w.reading w.within
+      reading_gives _ _ w.reading (omega (arith, chain_within w))
       (λ m p. ends_there l i head m w.members Cut (behind_ends (thread_of l i m) 0 w.members (threads_front l i m head) at Cut (front_full (thread_of l i m) at some) (rw none at p)))
 
   pub chaining_broken : {s2 : Seen} (end : ChainEnd) → Chaining l i head s0 s1 count at → at ≢ 0 → count < thread_limit → Reading 1 s1 s2 (λ m. ThreadIs l i (record_at m at l.thread.size) (Ok (Broken end)))
-      → Reading 4096 s0 s2 (λ m. ending_of end ≡ (threads_front l i m head).ending)
+      → ReadingBy (λ m. 1 + length (threads_front l i m head).members) s0 s2 (λ m. ending_of end ≡ (threads_front l i m head).ending)
   chaining_broken end w some below r =
       let room : thread_limit - count ≡ suc (thread_limit - (count + 1)) = omega arith in
       reading_gives _ _ (reading_then (λ m. ending_of end ≡ (threads_front l i m head).ending) w.reading r
@@ -102,7 +109,7 @@ module _ {l : Layout} {i head : ℕ} {s0 s1 : Seen} {count at : ℕ} where
       let stops = front_stop (thread_of l i m) (thread_limit - (count + 1)) at d.0 some (next_at l i m at (Err d.0) d.1) in
       let is : front_at (thread_of l i m) (suc (thread_limit - (count + 1))) at ≡ record { members = []; ending = ending_of end } = stops ∙ ap (λ (e : Ending). record { members = []; ending = e }) (sym d.2) in
       ends_there l i head m w.members (ending_of end) (behind_ends (thread_of l i m) (suc (thread_limit - (count + 1))) w.members (threads_front l i m head) at (ending_of end) is (rw room at p))))
-      (omega arith) (λ m h. h)
+      (omega (arith, chain_within w)) (λ m h. h)
 
-  pub chaining_lost : {s2 : Seen} (e f : StackError) → Chaining l i head s0 s1 count at → count < thread_limit → Reading 1 s1 s2 (λ m. f ≡ stack.OutOfMemory) → e ≡ f → Reading 4096 s0 s2 (λ m. e ≡ stack.OutOfMemory)
-  chaining_lost e f w below r same = reading_gives _ _ (reading_then (λ m. e ≡ stack.OutOfMemory) w.reading r (λ m p h. same ∙ h)) (omega arith) (λ m h. h)
+  pub chaining_lost : {s2 : Seen} (e f : StackError) → Chaining l i head s0 s1 count at → count < thread_limit → Reading 1 s1 s2 (λ m. f ≡ stack.OutOfMemory) → e ≡ f → ReadingBy (λ m. 1 + length (threads_front l i m head).members) s0 s2 (λ m. e ≡ stack.OutOfMemory)
+  chaining_lost e f w below r same = reading_gives _ _ (reading_then (λ m. e ≡ stack.OutOfMemory) w.reading r (λ m p h. same ∙ h)) (omega (arith, chain_within w)) (λ m h. h)

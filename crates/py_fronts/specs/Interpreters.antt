@@ -151,10 +151,19 @@ abbrev pub Takes : Finds → FoundInterpreters → Result (Unit {0}) StackError 
 Takes wanted new (Ok u) = finds_of new ≡ wanted
 Takes wanted new (Err e) = e ≡ OutOfMemory
 
+-- the reads that tell whether the chain of threads of an interpreter is whole: one for each of them, and one more
+abbrev pub whole_reads : Layout → Memory → ℕ → Option ℕ → ℕ
+whole_reads l m a None = 0
+whole_reads l m a (Some head) = 1 + length (threads_front l a m head).members
+
 -- the reads of one candidate: two, and those of its chain of threads where it is found by search alone
-abbrev pub candidate_reads : Bool → ℕ
-candidate_reads false = 2
-candidate_reads true = 4098
+abbrev pub candidate_reads : Bool → (ℕ → Bool) → Layout → Memory → ℕ → ℕ
+candidate_reads false contains l m a = 2
+candidate_reads true contains l m a = 2 + whole_reads l m a (headed_at contains l m a)
+
+-- and those of some
+abbrev pub candidates_reads : Bool → (ℕ → Bool) → Layout → Memory → List ℕ → ℕ
+candidates_reads searched contains l m xs = sum_by (candidate_reads searched contains l m) xs
 
 -- those of a record: one for its words, and for each that it leads to two to find it and two to try it
 abbrev pub record_reads : Layout → Memory → ℕ → ℕ
@@ -170,20 +179,21 @@ records_reads l m found = sum_by (λ (one : FoundInterpreter). record_reads l m 
 
 -- those of some candidates, and of the records of all that are found then
 abbrev pub taking_reads : Bool → (ℕ → Bool) → Layout → Memory → Finds → List ℕ → ℕ
-taking_reads searched contains l m r xs = candidate_reads searched * length xs
+taking_reads searched contains l m r xs = candidates_reads searched contains l m xs
     + records_reads l m (with_their_records searched contains l m r xs).found
 
 -- a chain of threads that has met so many of them, and stands at `at`
 pub record Chaining (l : Layout) (interpreter head : ℕ) (old new : Seen) (count at : ℕ) : Type 0 where
   pub members : List ℕ
   pub within : count ≤ thread_limit
+  pub long : length members ≡ count
   pub reading : Reading count old new (λ m. (threads_front l interpreter m head
       ≡ behind members (front_at (thread_of l interpreter m) (thread_limit - count) at)))
 
 -- the candidates that were taken so far
 pub record Taking (searched : Bool) (contains : ℕ → Bool) (l : Layout) (start : Finds) (old new : Seen) (taken : List ℕ)
     (finds : FoundInterpreters) : Type 0 where
-  pub reading : Reading (candidate_reads searched * length taken) old new
+  pub reading : Reading (candidates_reads searched contains l (byte_at old.pieces) taken) old new
       (λ m. finds_of finds ≡ after_candidates searched contains l m start taken)
 
 -- the records that were looked at so far
@@ -197,11 +207,11 @@ pub record Turning (contains : ℕ → Bool) (l : Layout) (start : Finds) (old n
       (λ m. after_records contains l m interpreter_limit 0 start
       ≡ after_records contains l m (interpreter_limit - index) index (finds_of finds))
 
--- how many reads it takes to find them all at most: four for each that is named, and 4098 for each that is found by
--- search; and twice those of the records of all that are shown
+-- how many reads it takes to find them all at most: four for each that is named; for each word that is searched two,
+-- and those of its threads; and twice those of the records of all that are shown
 abbrev pub interpreters_reads : (ℕ → Bool) → Known → Version → Layout → Memory → ℕ
 interpreters_reads contains k v l m =
-    11 + 4 * length (named_candidates k v l m) + 4098 * length (searched_candidates k m)
+    11 + 4 * length (named_candidates k v l m) + candidates_reads true contains l m (searched_candidates k m)
     + 2 * records_reads l m (interpreters_at contains k v l m).found
 
 -- what the search for interpreters owes: each read is one of fewer than 65536 bytes, or of exactly a section

@@ -1,7 +1,7 @@
 //! Which interpreters of a process are shown.
 ghost use Rattle.std.specs.Prelude.{◌≡◌, ℕ, ◌+◌, ◌*◌, ◌≤◌, ◌^◌, false, IfOk, OnOk, length, map};
 ghost use Rattle.process_memory.specs.Memory.{byte_at};
-ghost use Rattle.process_memory.specs.Seen.{Reading};
+ghost use Rattle.process_memory.specs.Seen.{Reading, ReadingBy};
 ghost use Rattle.py_fields.specs.Sound.{IsSound};
 ghost use Rattle.py_process.specs.Facts.{known_of};
 ghost use Rattle.py_fronts.specs.Answers.{IsOrNoMemory};
@@ -9,7 +9,8 @@ ghost use Rattle.py_fronts.specs.BesideReports.{FindsReported};
 ghost use Rattle.py_fronts.specs.Candidates.{named_candidates, record_candidates, record_most, searched_candidates};
 ghost use Rattle.py_stacks.specs.Interpreter.{interpreter_named_by, threads_head};
 ghost use Rattle.py_fronts.specs.Interpreters.{HeadIs, Looking, Takes, address_at, after_candidate, after_candidates};
-ghost use Rattle.py_fronts.specs.Interpreters.{after_record_of, after_records, candidate_reads, ending_result};
+ghost use Rattle.py_fronts.specs.Interpreters.{after_record_of, after_records, candidate_reads, candidates_reads};
+ghost use Rattle.py_fronts.specs.Interpreters.{ending_result};
 ghost use Rattle.py_fronts.specs.Interpreters.{finds_of, finds_result, headed_at, headed_by, interpreters_at, is_found};
 ghost use Rattle.py_fronts.specs.Interpreters.{named_if, with_name};
 ghost use Rattle.py_fronts.specs.Interpreters.{names_it, reads_of_record, records_reads, shown_head, taking_reads};
@@ -124,7 +125,7 @@ fn headed_at<M: ContainsAddr, P: ProcessMemory>(
     first_thread(alloc, maps, process, layout, addr)
 }
 
-/// How the front of an interpreter's threads ends. At most 4096 reads.
+/// How the front of an interpreter's threads ends. At most one read for each of them, and one more.
 fn threads_end<P: ProcessMemory>(
     alloc: Global,
     process: &mut P,
@@ -133,7 +134,8 @@ fn threads_end<P: ProcessMemory>(
     head: u64,
 ) -> Result<ChainEnd, StackError>
     requires sound { IsSound layout.now }
-    ensures { Reading 4096 (P.seen process.old) (P.seen process.new)
+    ensures { ReadingBy (λ m. 1 + length (threads_front layout.now interpreter m head).members) (P.seen process.old)
+        (P.seen process.new)
         (λ m. IsOrNoMemory (threads_front layout.now interpreter m head).ending (ending_result result)) }
 {
     let mut count = 0;
@@ -163,8 +165,8 @@ fn whole_head(end: ChainEnd, head: u64) -> Option<u64>
     }
 }
 
-/// The first thread of an address that is shown as an interpreter. At most 2 reads, and 4096 for one that is found by
-/// search alone.
+/// The first thread of an address that is shown as an interpreter. At most 2 reads, and for one that is found by search
+/// alone those of its threads.
 fn shown_head<M: ContainsAddr, P: ProcessMemory>(
     alloc: Global,
     maps: &M,
@@ -174,8 +176,8 @@ fn shown_head<M: ContainsAddr, P: ProcessMemory>(
     addr: u64,
 ) -> Result<Option<u64>, StackError>
     requires sound { IsSound layout.now }
-    ensures { Reading (candidate_reads searched) (P.seen process.old) (P.seen process.new)
-        (λ m. IsOrNoMemory (shown_head searched (M.contains maps.now) layout.now m addr) result) }
+    ensures { ReadingBy (λ m. candidate_reads searched (M.contains maps.now) layout.now m addr) (P.seen process.old)
+        (P.seen process.new) (λ m. IsOrNoMemory (shown_head searched (M.contains maps.now) layout.now m addr) result) }
 {
     let head = match headed_at(alloc, maps, process, layout, addr)? {
         Some(head) => head,
@@ -238,7 +240,8 @@ fn take_candidate<M: ContainsAddr, P: ProcessMemory>(
     finds: &mut FoundInterpreters,
 ) -> Result<(), StackError>
     requires sound { IsSound layout.now }
-    ensures { Reading (candidate_reads searched) (P.seen process.old) (P.seen process.new) (λ m. Takes
+    ensures { ReadingBy (λ m. candidate_reads searched (M.contains maps.now) layout.now m addr) (P.seen process.old)
+        (P.seen process.new) (λ m. Takes
         (after_candidate searched (M.contains maps.now) layout.now m (finds_of finds.old) addr) finds.new result) }
 {
     if is_found(&finds.found, addr) {
@@ -269,8 +272,9 @@ fn take_candidates<M: ContainsAddr, P: ProcessMemory>(
     finds: &mut FoundInterpreters,
 ) -> Result<(), StackError>
     requires sound { IsSound layout.now }
-    ensures { Reading (candidate_reads searched * length candidates.now) (P.seen process.old) (P.seen process.new)
-        (λ m. Takes (after_candidates searched (M.contains maps.now) layout.now m (finds_of finds.old) candidates.now)
+    ensures { ReadingBy (λ m. candidates_reads searched (M.contains maps.now) layout.now m candidates.now)
+        (P.seen process.old) (P.seen process.new) (λ m. Takes
+        (after_candidates searched (M.contains maps.now) layout.now m (finds_of finds.old) candidates.now)
         finds.new result) }
 {
     for addr in candidates {
@@ -397,9 +401,10 @@ fn find_all<M: ContainsAddr, P: ProcessMemory>(
 /// a map, and the record of that thread names the address. One that is found by search alone is taken only where its
 /// chain of threads is whole.
 ///
-/// The one error is want of memory. At most 11 reads, 4 for each candidate that is named, and 4098 for each that is
-/// found by search; and twice for each interpreter that is shown one for its record, and 4 for each that it leads to. A
-/// record leads to at most 65 for each of its words that are looked at.
+/// The one error is want of memory. At most 11 reads, and 4 for each candidate that is named; for each that is found by
+/// search 2, and where it is an interpreter's one more and one for each of its threads, of which 4096 are met at most;
+/// and twice for each interpreter that is shown one for its record, and 4 for each that it leads to. A record leads to
+/// at most 65 for each of its words that are looked at.
 pub fn find_interpreters<M: ContainsAddr, P: ProcessMemory>(
     alloc: Global,
     info: &PythonProcessInfo<M>,
