@@ -46,7 +46,7 @@ LOCKS = {"3.9.0": 0x500238, "3.10.0": 0x500238, "3.12.0": 0x600020}
 
 def rows(listing: str) -> List[Row]:
     """All that need a program built."""
-    return [it for part in (edges, counts, many_locals, holders, versions, zeros, walks, many) for it in part(listing)]
+    return [it for part in (edges, counts, many_locals, holders, versions, zeros, walks, many, wide) for it in part(listing)]
 
 
 def walk(version: str) -> str:
@@ -150,6 +150,16 @@ def many(listing: str) -> Iterator[Row]:
             yield row(f"built: walk: {what} of {version}", walk(version), files, program.walked(text, version))
 
 
+WIDE = edited(EXAMPLE, frame="{size=65535, code=16, back=24, instr=32, locals=56, code_tag_bits=0}")
+"""A layout whose frames have 65,535 bytes."""
+
+
+def wide(listing: str) -> Iterator[Row]:
+    """A core of some 270 MB, of 4096 such frames."""
+    program = Program(frames=4096)
+    yield row("built: 4096 frames of 65535 bytes", GOOD, built(listing, WIDE, program.words(), "3.9.0"), program.text(WIDE, "3.9.0"))
+
+
 def listing_rows(listing: str) -> List[Row]:
     """Those of `listing` itself: which programs it refuses to write."""
     found = []
@@ -187,9 +197,8 @@ def versions_of_listing() -> Iterator[Row]:
 
 
 def no_room() -> Row:
-    """Frames of 65,535 bytes, of which five threads of 4096 have no room."""
-    text = edited(EXAMPLE, frame="{size=65535, code=16, back=24, instr=32, locals=56, code_tag_bits=0}")
+    """Such frames, of which five threads of 4096 have no room."""
     frame = 65536 + 64 + 48 + 32 + 80 + 80
     needed = (1 << 18) + 32 + 3 * (48 + 128) + 5 * (64 + 4096 * frame)
     words = ["built", "layouts", "3.9.0", "x86-64", "core", *Program(threads=5, frames=4096).words()]
-    return row("listing: built: no room", words, {"layouts": text.encode()}, f"no room {needed}\n")
+    return row("listing: built: no room", words, {"layouts": WIDE.encode()}, f"no room {needed}\n")
