@@ -1,5 +1,5 @@
 -- The report over a memory, by the search and the stacks; and over the memory of a core and its images.
-use Rattle.std.proofs.Common.{◌≡◌, ℕ, ◌+◌, ◌^◌, List, refl, sym, ap, subst, ◌∙◌, arith, ⊎_elim, inl, inr}
+use Rattle.std.proofs.Common.{◌≡◌, ℕ, ◌+◌, List, refl, sym, ap, subst, ◌∙◌, arith, ⊎_elim, inl, inr}
 use Rattle.std.specs.Prelude.{Bool, Some, None, Result, Ok, Err}
 use Rattle.std.proofs.lemmas.Option.{IfSome_then}
 use Rattle.elf64_core.specs.Header.{machine_of}
@@ -8,7 +8,9 @@ use Rattle.image_memory.specs.Images.{Pushed}
 use Rattle.image_memory.specs.Maps.{in_maps}
 use Rattle.process_memory.specs.Layers.{plain}
 use Rattle.process_memory.specs.Memory.{Memory, Region, byte_at}
-use Rattle.process_memory.specs.Seen.{Reading, Seen}
+use Rattle.process_memory.specs.Seen.{Seen}
+use Rattle.py_builtins.specs.Consulted.{Consulting}
+use Rattle.py_builtins.proofs.Consulted.{consulting_short}
 use Rattle.process_memory.proofs.Reading.{reading_gives, reading_here, reading_then, reads_within}
 use Rattle.py_fields.specs.declared.layout.Layout.{Layout}
 use Rattle.py_stacks.specs.declared.config.Config.{Config}
@@ -71,7 +73,7 @@ module _ (s0 s1 : Seen) (bytes : List ℕ) (contains : ℕ → Bool) (layouts : 
   module _ (s2 : Seen) (f : Finding)
       (t : Trying k (IsTrialBy (byte_at s0.pieces) layouts k) contains 10 s0 s1 (λ m. Settles (AfterImages m (machine_of bytes) contains layouts k) (Ok f)))
       (x : Result (List Trace) CoreError)
-      (stacks : Reading (13 + finding_cost config (byte_at s1.pieces) f) s1 s2 (λ m. StacksSay m f config x)) where
+      (stacks : Consulting f.layout (13 + finding_cost config (byte_at s1.pieces) f) s1 s2 (λ m. StacksSay m f config x)) where
     -- what is found, and what comes of it over each memory
     pub stacks_report : (r : Result Reported CoreError) → ((m : Memory) → StacksSay m f config x → Settles (Then (StacksSay m f config) (IsTold bytes f)) r)
         → Reporting k (IsTrialBy (byte_at s0.pieces) layouts k) (λ f. AfterImages (byte_at s0.pieces) (machine_of bytes) contains layouts k (Ok f)) contains config s0 s2
@@ -83,7 +85,7 @@ module _ (s0 s1 : Seen) (bytes : List ℕ) (contains : ℕ → Bool) (layouts : 
           is_tried = t.is;
           found = Some f;
           is_found = (reading_here t.reading).right;
-          reading = reads_within _ (reading_then _ t.reading (searching k stacks)
+          reading = reads_within _ (reading_then _ t.reading (searching k (consulting_short stacks))
               (λ m a b. settles_by_ok (sought m) (rest m) f r a (f_rest m b))) (omega (arith, same));
         }
 

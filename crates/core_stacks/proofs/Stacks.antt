@@ -5,7 +5,8 @@ use Rattle.process_memory.specs.Layers.{plain}
 use Rattle.process_memory.specs.Memory.{Memory, Region, byte_at}
 use Rattle.process_memory.proofs.Reading.{reading_here}
 use Rattle.process_memory.specs.declared.memory.Span.{Span}
-use Rattle.process_memory.specs.Seen.{Reading, ReadingOf, Seen}
+use Rattle.process_memory.specs.Seen.{ReadingOf, Seen}
+use Rattle.py_builtins.specs.Consulted.{Consulting}
 use Rattle.process_memory.specs.Faults.{IsFirst}
 use Rattle.py_stacks.specs.StackError.{stack_fault}
 use Rattle.py_stacks.specs.StacksOver.{AreStacksOver}
@@ -33,15 +34,15 @@ reading_both R p q cost f = record {
 }
 
 module _ {n j : ℕ} {s0 s1 : Seen} (f : Finding) (config : Config) (asks : AsksNoOther config) where
-  pub stacks_found : {k : ℕ} (traces : List Trace) → Reading n s0 s1 (λ m. fault_on m f config ≡ None)
-      → Reading k s0 s1 (λ m. AreStacksOver config f.layout m f.addresses.lock f.addresses.interpreter traces) → s1.reads ≤ s0.reads + j
-      → Reading j s0 s1 (λ m. StacksSay m f config (Ok traces))
+  pub stacks_found : {k : ℕ} (traces : List Trace) → Consulting f.layout n s0 s1 (λ m. fault_on m f config ≡ None)
+      → Consulting f.layout k s0 s1 (λ m. AreStacksOver config f.layout m f.addresses.lock f.addresses.interpreter traces) → s1.reads ≤ s0.reads + j
+      → Consulting f.layout j s0 s1 (λ m. StacksSay m f config (Ok traces))
   stacks_found traces faults are cost =
       reading_both _ faults are cost (λ m none is. record { asks = asks; faultless = none; are = is })
 
   pub stacks_lost : (e : StackError) (error : CoreError) (r : Result (List Trace) CoreError) → error ≡ cause_of_stacks e
-      → Reading n s0 s1 (λ m. IsFirst (fault_on m f config) (stack_fault e)) → r ≡ Err error → s1.reads ≤ s0.reads + j
-      → Reading j s0 s1 (λ m. StacksSay m f config r)
+      → Consulting f.layout n s0 s1 (λ m. IsFirst (fault_on m f config) (stack_fault e)) → r ≡ Err error → s1.reads ≤ s0.reads + j
+      → Consulting f.layout j s0 s1 (λ m. StacksSay m f config r)
   stacks_lost e error r cause faults is cost =
       reading_both _ faults faults cost (λ m first again. stack_fails m m f config e error r asks refl cause first is)
 

@@ -1,8 +1,8 @@
 //! The stacks of what was found, over a memory.
 ghost use Rattle.std.specs.Prelude.{◌+◌};
 ghost use Rattle.process_memory.specs.Memory.{byte_at};
-ghost use Rattle.process_memory.specs.Seen.{Reading};
 ghost use Rattle.py_fields.specs.Sound.{IsSound};
+ghost use Rattle.py_builtins.specs.Consulted.{Consulting};
 ghost use Rattle.py_process.specs.Reports.{StacksSay, traces_in};
 ghost use Rattle.core_stacks.specs.Reached.{finding_cost};
 ghost use Rattle.core_stacks.specs.Seen.{finding_of};
@@ -25,7 +25,8 @@ pub(crate) fn stacks_in<P: ProcessMemory>(
     config: &Config,
 ) -> Result<Vec<StackTrace>, CoreError>
     requires sound { IsSound found.now.layout }
-    ensures { Reading (13 + finding_cost config.now (byte_at (P.seen process.old).pieces) (finding_of found.now))
+    ensures { Consulting found.now.layout
+        (13 + finding_cost config.now (byte_at (P.seen process.old).pieces) (finding_of found.now))
         (P.seen process.old) (P.seen process.new)
         (λ m. StacksSay m (finding_of found.now) config.now (traces_in result)) }
 {

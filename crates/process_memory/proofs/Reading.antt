@@ -1,6 +1,6 @@
 -- How the clauses of readers are put together.
 use Rattle.std.proofs.Common.{◌≡◌, ℕ, ◌-◌, ◌+◌, ◌<◌, ◌≤◌, ◌^◌, ltb, false, List, [], ◌∷◌, ◌++◌, length, refl, sym, ◌∙◌}
-use Rattle.std.proofs.Common.{ap, arith, length-append}
+use Rattle.std.proofs.Common.{ap, arith, length-append, subst}
 use Rattle.std.specs.Prelude.{Option, Some, None, IsSome, Result, Ok, Err}
 use Rattle.std.proofs.lemmas.Bool.Decides.{nat_tests}
 use Rattle.std.proofs.lemmas.Option.{slice_get_within}
@@ -10,7 +10,7 @@ use Rattle.process_memory.specs.declared.memory.ReadFault.{ReadFault}
 use Rattle.process_memory.specs.declared.memory.ReadFault.TheVariants.{Unreadable, OutOfMemory}
 use Rattle.process_memory.specs.Memory.Fault.{Missing}
 use Rattle.process_memory.specs.Memory.{Memory, byte_at, record_at, Found, Fault, ◌>>=◌, word_at}
-use Rattle.process_memory.specs.Seen.{Seen, Extends, HoldsRead, ReadingOf, OneRead, Answers, FaultIs, read_fault}
+use Rattle.process_memory.specs.Seen.{IsRead, IsShort, Reading, ReadsOf, Seen, Extends, HoldsRead, ReadingOf, OneRead, Answers, FaultIs, read_fault}
 use Rattle.process_memory.specs.Seen.{ranges_after, with_range, IsPartWith, AddsOnly, with_bytes}
 use Rattle.process_memory.proofs.Ranges.{slice_get-end, holds-before, holds-after, extends-trans, extends-self}
 use Rattle.process_memory.proofs.Ranges.{holds-both, holds-self, only-both, only-self, only-wider}
@@ -159,15 +159,26 @@ reading_part {s0 = s0} {s1 = s1} ranges m r from to part =
     let h : HoldsRead (Some []) (Some ranges) (byte_at s0.pieces) m = λ k s above at. part.holds k s at in
     r.holds m (record { agrees = part.agrees; holds = rw (from, to) h })
 
--- the same reads, among more ranges
-pub reading_wider : {allowed : Memory → Span → Type 0} {n : ℕ} {s0 s1 : Seen} {Q : Memory → Type 0} (more : Memory → Span → Type 0) → ReadingOf allowed n s0 s1 Q → ((m : Memory) (s : Span) → allowed m s → more m s) → ReadingOf more n s0 s1 Q
-reading_wider {allowed} {s0 = s0} {s1 = s1} more p f = record {
+-- the same reads, among more ranges, where this memory or any says so
+pub reading_wider_here : {allowed : Memory → Span → Type 0} {n : ℕ} {s0 s1 : Seen} {Q : Memory → Type 0} (more : Memory → Span → Type 0) → ReadingOf allowed n s0 s1 Q → ((s : Span) → allowed (byte_at s0.pieces) s → more (byte_at s0.pieces) s) → ReadingOf more n s0 s1 Q
+reading_wider_here {allowed} {s0 = s0} {s1 = s1} more p f = record {
   pieces = p.pieces;
   counter = p.counter;
   memory = p.memory;
   ranges = p.ranges;
   here = p.here;
-  only = only-wider (allowed (byte_at s0.pieces)) (more (byte_at s0.pieces)) s0.ranges s1.ranges (f (byte_at s0.pieces)) p.only;
+  only = only-wider (allowed (byte_at s0.pieces)) (more (byte_at s0.pieces)) s0.ranges s1.ranges f p.only;
   cost = p.cost;
   holds = p.holds;
 }
+
+pub reading_wider : {allowed : Memory → Span → Type 0} {n : ℕ} {s0 s1 : Seen} {Q : Memory → Type 0} (more : Memory → Span → Type 0) → ReadingOf allowed n s0 s1 Q → ((m : Memory) (s : Span) → allowed m s → more m s) → ReadingOf more n s0 s1 Q
+reading_wider {s0 = s0} more p f = reading_wider_here more p (f (byte_at s0.pieces))
+
+-- a reader of one range reads a short one
+pub reading_short : {addr len n : ℕ} {s0 s1 : Seen} {Q : Memory → Type 0} → ReadingOf (IsRead addr len) n s0 s1 Q → Reading n s0 s1 Q
+reading_short p = reading_wider IsShort p (λ m s h. let Short : Span → Type 0 = λ t. t.len < 2 ^ 16 in subst Short (sym h.is) h.short)
+
+-- what was read is there behind it
+pub read_kept : {allowed : Memory → Span → Type 0} {T E : Type 0} {fault : E → Option Fault} {n : ℕ} {s0 s1 : Seen} {x : T} (d : Memory → Found T) → ReadsOf allowed fault n s0 s1 d (Ok x) → d (byte_at s1.pieces) ≡ Ok x
+read_kept d p = rw p.pieces (reading_here p).is

@@ -4,7 +4,8 @@ use Rattle.std.proofs.Common.{◌∙◌, ap, subst, arith, append-nil, append_as
 use Rattle.std.proofs.Math.Nat.{sub-zero}
 use Rattle.std.specs.Prelude.{Option, Some, None, Result, Ok, Err}
 use Rattle.process_memory.specs.Memory.{Memory, Found, Fault, ◌>>=◌, byte_at}
-use Rattle.process_memory.specs.Seen.{Seen, Reading, Reads, Answers, FaultIs}
+use Rattle.process_memory.specs.Seen.{Seen, ReadingOf, ReadsOf, Answers, FaultIs}
+use Rattle.process_memory.specs.declared.memory.Span.{Span}
 use Rattle.process_memory.specs.Walk.{IsChain, Step, walk_at, walk_cost, after_all, Walking, walk_faults, goes_on}
 use Rattle.process_memory.specs.Walk.{or_else, first_fault, fault_in}
 use Rattle.process_memory.specs.Faults.{faults_then, FaultsAre, IsFirst}
@@ -50,7 +51,7 @@ after_all_none (Ok zs) = refl
 after_all_none (Err f) = refl
 
 -- a walk begins
-pub walking_init : {S T : Type 0} (over : Fault) (step : Memory → S → ℕ → Found (Step S T)) (cost : Memory → S → ℕ → ℕ) (limit : ℕ) (start : S) (head : ℕ) (seen : Seen) → Walking over step cost limit start head seen seen [] 0 start head
+pub walking_init : {S T : Type 0} {allowed : Memory → Span → Type 0} (over : Fault) (step : Memory → S → ℕ → Found (Step S T)) (cost : Memory → S → ℕ → ℕ) (limit : ℕ) (start : S) (head : ℕ) (seen : Seen) → Walking allowed over step cost limit start head seen seen [] 0 start head
 walking_init over step cost limit start head seen = record {
   spent = 0;
   within = omega arith;
@@ -58,12 +59,12 @@ walking_init over step cost limit start head seen = record {
   budget = rw sub-zero (zero-add _);
 }
 
-module _ {S T : Type 0} {over : Fault} {step : Memory → S → ℕ → Found (Step S T)} {cost : Memory → S → ℕ → ℕ} {limit : ℕ} {start : S} {head : ℕ} {s0 s1 : Seen} {xs : List T} {n : ℕ} {s : S} {at : ℕ} where
+module _ {S T : Type 0} {allowed : Memory → Span → Type 0} {over : Fault} {step : Memory → S → ℕ → Found (Step S T)} {cost : Memory → S → ℕ → ℕ} {limit : ℕ} {start : S} {head : ℕ} {s0 s1 : Seen} {xs : List T} {n : ℕ} {s : S} {at : ℕ} where
   -- it goes on by one member
-  pub walking_more : {E : Type 0} {fault : E → Option Fault} {s2 : Seen} {x : Step S T} → Walking over step cost limit start head s0 s1 xs n s at → at ≢ 0 → n < limit → Reads fault (cost (byte_at s1.pieces) s at) s1 s2 (λ m. step m s at) (Ok x) → Walking over step cost limit start head s0 s2 (xs ++ x.part ∷ []) (n + 1) x.state x.next
+  pub walking_more : {E : Type 0} {fault : E → Option Fault} {s2 : Seen} {x : Step S T} → Walking allowed over step cost limit start head s0 s1 xs n s at → at ≢ 0 → n < limit → ReadsOf allowed fault (cost (byte_at s1.pieces) s at) s1 s2 (λ m. step m s at) (Ok x) → Walking allowed over step cost limit start head s0 s2 (xs ++ x.part ∷ []) (n + 1) x.state x.next
   walking_more {fault = fault} {s2 = s2} {x = x} w some below r =
       let left : limit - n ≡ suc (limit - (n + 1)) = omega arith in
-      let q : Reading (cost (byte_at s0.pieces) s at) s1 s2 (λ m. Answers fault (step m s at) (Ok x)) = rw (← w.reading.pieces) r in
+      let q : ReadingOf allowed (cost (byte_at s0.pieces) s at) s1 s2 (λ m. Answers fault (step m s at) (Ok x)) = rw (← w.reading.pieces) r in
       let now : step (byte_at s0.pieces) s at ≡ Ok x = rw w.reading.pieces at (reading_here r).is in
       record {
         spent = w.spent + cost (byte_at s0.pieces) s at;
@@ -76,26 +77,26 @@ module _ {S T : Type 0} {over : Fault} {step : Memory → S → ℕ → Found (S
       }
 
   -- it is at the end
-  pub walking_done : {E : Type 0} {fault : E → Option Fault} → Walking over step cost limit start head s0 s1 xs n s at → at ≡ 0 → Reads fault (walk_cost (step (byte_at s0.pieces)) (cost (byte_at s0.pieces)) limit start head) s0 s1 (λ m. walk_at over (step m) limit start head) (Ok xs)
+  pub walking_done : {E : Type 0} {fault : E → Option Fault} → Walking allowed over step cost limit start head s0 s1 xs n s at → at ≡ 0 → ReadsOf allowed fault (walk_cost (step (byte_at s0.pieces)) (cost (byte_at s0.pieces)) limit start head) s0 s1 (λ m. walk_at over (step m) limit start head) (Ok xs)
   walking_done w zero_at = reading_gives _ _ w.reading (omega (arith, w.budget))
       (λ m e. record { is = e ∙ rw zero_at (ap (after_all xs) (walk_end over (step m) (limit - n) s)) ∙ ap Ok (append-nil xs) })
 
   -- it has met as many members as it may
-  pub walking_full : {E : Type 0} {fault : E → Option Fault} (e : E) → Walking over step cost limit start head s0 s1 xs n s at → at ≢ 0 → n ≡ limit → fault e ≡ Some over → Reads fault (walk_cost (step (byte_at s0.pieces)) (cost (byte_at s0.pieces)) limit start head) s0 s1 (λ m. walk_at over (step m) limit start head) (Err e)
+  pub walking_full : {E : Type 0} {fault : E → Option Fault} (e : E) → Walking allowed over step cost limit start head s0 s1 xs n s at → at ≢ 0 → n ≡ limit → fault e ≡ Some over → ReadsOf allowed fault (walk_cost (step (byte_at s0.pieces)) (cost (byte_at s0.pieces)) limit start head) s0 s1 (λ m. walk_at over (step m) limit start head) (Err e)
   walking_full {fault = fault} e w some full is =
       let none : limit - n ≡ 0 = omega arith in
       reading_gives _ _ w.reading (omega (arith, w.budget))
       (λ m d. record { is = rw is (d ∙ rw none (ap (after_all xs) (walk_full over (step m) s at some))) })
 
   -- memory for a member is wanting
-  pub walking_lost : {E : Type 0} {fault : E → Option Fault} (e : E) → Walking over step cost limit start head s0 s1 xs n s at → fault e ≡ None → Reads fault (walk_cost (step (byte_at s0.pieces)) (cost (byte_at s0.pieces)) limit start head) s0 s1 (λ m. walk_at over (step m) limit start head) (Err e)
+  pub walking_lost : {E : Type 0} {fault : E → Option Fault} (e : E) → Walking allowed over step cost limit start head s0 s1 xs n s at → fault e ≡ None → ReadsOf allowed fault (walk_cost (step (byte_at s0.pieces)) (cost (byte_at s0.pieces)) limit start head) s0 s1 (λ m. walk_at over (step m) limit start head) (Err e)
   walking_lost e w is = reading_gives _ _ w.reading (omega (arith, w.budget)) (λ m d. record { is = rw is tt })
 
   -- a member can't be read
-  pub walking_stop : {E E' : Type 0} {fault : E → Option Fault} {fault' : E' → Option Fault} {s2 : Seen} {e : E} (e' : E') → Walking over step cost limit start head s0 s1 xs n s at → at ≢ 0 → n < limit → Reads {T = Step S T} fault (cost (byte_at s1.pieces) s at) s1 s2 (λ m. step m s at) (Err e) → fault' e' ≡ fault e → Reads fault' (walk_cost (step (byte_at s0.pieces)) (cost (byte_at s0.pieces)) limit start head) s0 s2 (λ m. walk_at over (step m) limit start head) (Err e')
+  pub walking_stop : {E E' : Type 0} {fault : E → Option Fault} {fault' : E' → Option Fault} {s2 : Seen} {e : E} (e' : E') → Walking allowed over step cost limit start head s0 s1 xs n s at → at ≢ 0 → n < limit → ReadsOf {T = Step S T} allowed fault (cost (byte_at s1.pieces) s at) s1 s2 (λ m. step m s at) (Err e) → fault' e' ≡ fault e → ReadsOf allowed fault' (walk_cost (step (byte_at s0.pieces)) (cost (byte_at s0.pieces)) limit start head) s0 s2 (λ m. walk_at over (step m) limit start head) (Err e')
   walking_stop {fault = fault} {fault' = fault'} {s2 = s2} {e = e} e' w some below r same =
       let left : limit - n ≡ suc (limit - (n + 1)) = omega arith in
-      let q : Reading (cost (byte_at s0.pieces) s at) s1 s2 (λ m. Answers fault (step m s at) (Err e)) = rw (← w.reading.pieces) r in
+      let q : ReadingOf allowed (cost (byte_at s0.pieces) s at) s1 s2 (λ m. Answers fault (step m s at) (Err e)) = rw (← w.reading.pieces) r in
       let b = rw left at w.budget in
       let c = cost_least over (step (byte_at s0.pieces)) (cost (byte_at s0.pieces)) (limit - (n + 1)) s at some in
       reading_gives _ _

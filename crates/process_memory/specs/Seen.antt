@@ -1,6 +1,6 @@
 -- What an object that reads a process's memory means, and what each reader of it owes.
-use Rattle.std.specs.Prelude.{◌≡◌, ℕ, ◌+◌, ◌<◌, ◌≤◌, ◌^◌, ◌⊎◌, Bool, Option, Some, None, IsSome, List, [], ◌∷◌, ◌++◌, length}
-use Rattle.std.specs.Prelude.{slice_get, Result, Ok, Err, ⊤}
+use Rattle.std.specs.Prelude.{◌≡◌, ℕ, ◌+◌, ◌<◌, ◌≤◌, ◌^◌, ◌⊎◌, Bool, Option, Some, None, IsSome, List, [], ◌∷◌, ◌++◌}
+use Rattle.std.specs.Prelude.{length, slice_get, Result, Ok, Err, ⊤}
 use Rattle.std.specs.Borrow.{GName}
 use Rattle.std.specs.Global.{Vec}
 use Rattle.process_memory.specs.declared.memory.Span.{Span}
@@ -104,6 +104,11 @@ IsShort m s = s.len < 2 ^ 16
 abbrev pub IsRange : (addr len : ℕ) → Memory → Span → Type 0
 IsRange addr len m s = s ≡ record { start = addr; len = len }
 
+-- exactly the `len` bytes from `addr` on, which are fewer than 65536
+pub record IsRead (addr len : ℕ) (m : Memory) (s : Span) : Type 0 where
+  pub is : IsRange addr len m s
+  pub short : len < 2 ^ 16
+
 -- a range shorter than 65536 bytes, or one of some others
 abbrev pub IsShortOr : (Memory → Span → Type 0) → Memory → Span → Type 0
 IsShortOr others m s = IsShort m s ⊎ others m s
@@ -120,22 +125,25 @@ pub record ReadingOf (allowed : Memory → Span → Type 0) (n : ℕ) (old new :
   pub cost : new.reads ≤ old.reads + n
   pub holds : (m : Memory) → Suffices old new m → Q m
 
--- what readers of objects and stacks owe: each range that they read is shorter than 65536 bytes
+-- the same, where each range is shorter than 65536 bytes: what readers of fronts and of what is reached owe
 abbrev pub Reading : ℕ → Seen → Seen → (Memory → Type 0) → Type 0
 Reading n old new Q = ReadingOf IsShort n old new Q
 
--- `new` comes of `old` by at most `n` reads, and the result is what the definition says over every memory
--- that covers them
+-- `new` comes of `old` by at most `n` reads, each of a range that this memory allows, and the result is what the
+-- definition says over every memory that covers them
+abbrev pub ReadsOf : {T E : Type 0} → (Memory → Span → Type 0) → (E → Option Fault) → ℕ → Seen → Seen
+    → (Memory → Found T) → Result T E → Type 0
+ReadsOf allowed fault n old new definition result =
+    ReadingOf allowed n old new (λ m. Answers fault (definition m) result)
+
+-- the same, where each range is shorter than 65536 bytes
 abbrev pub Reads : {T E : Type 0} → (E → Option Fault) → ℕ → Seen → Seen → (Memory → Found T) → Result T E → Type 0
-Reads fault n old new definition result = Reading n old new (λ m. Answers fault (definition m) result)
+Reads fault n old new definition result = ReadsOf IsShort fault n old new definition result
 
--- the same two, where the memory itself says how many reads there are at most
-abbrev pub ReadingBy : (Memory → ℕ) → Seen → Seen → (Memory → Type 0) → Type 0
-ReadingBy cost old new Q = Reading (cost (byte_at old.pieces)) old new Q
-
-abbrev pub ReadsBy : {T E : Type 0} → (E → Option Fault) → (Memory → ℕ) → Seen → Seen → (Memory → Found T)
+-- the same of a reader that looks at one range alone: at most one read, of exactly these bytes
+abbrev pub ReadsRange : {T E : Type 0} → (E → Option Fault) → (addr len : ℕ) → Seen → Seen → (Memory → Found T)
     → Result T E → Type 0
-ReadsBy fault cost old new definition result = Reads fault (cost (byte_at old.pieces)) old new definition result
+ReadsRange fault addr len old new definition result = ReadsOf (IsRead addr len) fault 1 old new definition result
 
 -- a part of a memory that holds all of some ranges
 pub record IsPartWith (whole : Memory) (ranges : List Span) (m : Memory) : Type 0 where

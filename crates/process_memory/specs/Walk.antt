@@ -2,7 +2,8 @@
 use Rattle.std.specs.Prelude.{◌≡◌, ◌≢◌, ℕ, zero, suc, ◌+◌, ◌-◌, ◌≤◌, Option, Some, None, List, [], ◌∷◌, ◌++◌, Ok, Err}
 use Rattle.std.specs.Prelude.{IsOkAnd}
 use Rattle.process_memory.specs.Memory.{Memory, Found, Fault, ◌>>=◌, byte_at}
-use Rattle.process_memory.specs.Seen.{Seen, Reading}
+use Rattle.process_memory.specs.Seen.{Seen, ReadingOf}
+use Rattle.process_memory.specs.declared.memory.Span.{Span}
 
 -- a chain to null: from `head` on each member of the list leads to the one after it, and the last leads to 0.
 -- There is neither a counter nor a limit in it
@@ -40,13 +41,14 @@ abbrev pub after_all : {T : Type 0} → List T → Found (List T) → Found (Lis
 after_all xs (Ok ys) = Ok (xs ++ ys)
 after_all xs (Err f) = Err f
 
--- a walk that has read `parts` at `met` members, and stands at `at` in a state
-pub record Walking {S T : Type 0} (over : Fault) (step : Memory → S → ℕ → Found (Step S T))
-    (cost : Memory → S → ℕ → ℕ) (limit : ℕ) (start : S) (head : ℕ) (old new : Seen) (parts : List T) (met : ℕ)
+-- a walk that has read `parts` at `met` members by ranges that are allowed, and stands at `at` in a state
+pub record Walking {S T : Type 0} (allowed : Memory → Span → Type 0) (over : Fault)
+    (step : Memory → S → ℕ → Found (Step S T)) (cost : Memory → S → ℕ → ℕ) (limit : ℕ) (start : S) (head : ℕ)
+    (old new : Seen) (parts : List T) (met : ℕ)
     (state : S) (at : ℕ) : Type 0 where
   pub spent : ℕ
   pub within : met ≤ limit
-  pub reading : Reading spent old new (λ m. walk_at over (step m) limit start head
+  pub reading : ReadingOf allowed spent old new (λ m. walk_at over (step m) limit start head
       ≡ after_all parts (walk_at over (step m) (limit - met) state at))
   pub budget : spent + walk_cost (step (byte_at old.pieces)) (cost (byte_at old.pieces)) (limit - met) state at
       ≡ walk_cost (step (byte_at old.pieces)) (cost (byte_at old.pieces)) limit start head

@@ -1,7 +1,7 @@
 //! Readers of one record or one word.
 ghost use Rattle.std.specs.Prelude.{◌≡◌, ◌+◌, ◌<◌, ◌^◌, length, OnErr, IfOk, IsErrOf, IsTrue, vec_len};
 ghost use Rattle.process_memory.specs.Memory.{record_at, word_at};
-ghost use Rattle.process_memory.specs.Seen.{with_bytes, items_of, HoldsRange, Reads, read_fault};
+ghost use Rattle.process_memory.specs.Seen.{with_bytes, items_of, HoldsRange, ReadsRange, read_fault};
 
 use crate::{ProcessMemory, ReadFault};
 use std::alloc::Global;
@@ -16,7 +16,7 @@ pub fn record_in<P: ProcessMemory>(
     buf: &mut [u8],
 ) -> Result<(), ReadFault>
     requires { length buf.old < 2 ^ 16 }
-    ensures answer { Reads read_fault 1 (P.seen process.old) (P.seen process.new)
+    ensures answer { ReadsRange read_fault addr (length buf.old) (P.seen process.old) (P.seen process.new)
         (λ m. record_at m addr (length buf.old)) (with_bytes buf.new result) }
     ensures left { OnErr result (buf.new ≡ buf.old) }
     ensures memory { IsErrOf result ReadFault.OutOfMemory → IsTrue (P.seen process.old).may_want_memory }
@@ -33,8 +33,8 @@ pub fn record<P: ProcessMemory>(
     len: u64,
 ) -> Result<Vec<u8>, ReadFault>
     requires { len < 2 ^ 16 }
-    ensures answer { Reads read_fault 1 (P.seen process.old) (P.seen process.new) (λ m. record_at m addr len)
-        (items_of result) }
+    ensures answer { ReadsRange read_fault addr len (P.seen process.old) (P.seen process.new)
+        (λ m. record_at m addr len) (items_of result) }
     ensures whole { IfOk result (λ v. vec_len v ≡ len) }
     ensures held { IsErrOf result ReadFault.OutOfMemory → HoldsRange (P.seen process.old) addr len }
 {
@@ -50,8 +50,8 @@ pub fn record_wide<P: ProcessMemory>(
     len: u64,
 ) -> Result<Vec<u8>, ReadFault>
     requires { len < 2 ^ 16 }
-    ensures answer { Reads read_fault 1 (P.seen process.old) (P.seen process.new) (λ m. record_at m addr len)
-        (items_of result) }
+    ensures answer { ReadsRange read_fault addr len (P.seen process.old) (P.seen process.new)
+        (λ m. record_at m addr len) (items_of result) }
     ensures whole { IfOk result (λ v. vec_len v ≡ len) }
     ensures held { IsErrOf result ReadFault.OutOfMemory → HoldsRange (P.seen process.old) addr len }
 {
@@ -69,7 +69,8 @@ pub fn record_wide<P: ProcessMemory>(
 
 /// The number of the 8 bytes at an address, the lowest byte first. One read.
 pub fn word<P: ProcessMemory>(process: &mut P, addr: u64) -> Result<u64, ReadFault>
-    ensures answer { Reads read_fault 1 (P.seen process.old) (P.seen process.new) (λ m. word_at m addr) result }
+    ensures answer { ReadsRange read_fault addr 8 (P.seen process.old) (P.seen process.new)
+        (λ m. word_at m addr) result }
     ensures memory { IsErrOf result ReadFault.OutOfMemory → IsTrue (P.seen process.old).may_want_memory }
 {
     let mut buf = [0; 8];
@@ -84,7 +85,7 @@ pub fn word_past<P: ProcessMemory>(
     base: u64,
     offset: u64,
 ) -> Result<u64, ReadFault>
-    ensures answer { Reads read_fault 1 (P.seen process.old) (P.seen process.new)
+    ensures answer { ReadsRange read_fault (base + offset) 8 (P.seen process.old) (P.seen process.new)
         (λ m. word_at m (base + offset)) result }
     ensures memory { IsErrOf result ReadFault.OutOfMemory → IsTrue (P.seen process.old).may_want_memory }
 {
@@ -99,7 +100,8 @@ pub fn word_past<P: ProcessMemory>(
 
 /// The number of the 8 bytes at an address that may be past the last one. At most one read.
 pub fn word_wide<P: ProcessMemory>(process: &mut P, addr: u128) -> Result<u64, ReadFault>
-    ensures answer { Reads read_fault 1 (P.seen process.old) (P.seen process.new) (λ m. word_at m addr) result }
+    ensures answer { ReadsRange read_fault addr 8 (P.seen process.old) (P.seen process.new)
+        (λ m. word_at m addr) result }
     ensures memory { IsErrOf result ReadFault.OutOfMemory → IsTrue (P.seen process.old).may_want_memory }
 {
     if addr < ADDRESSES {

@@ -1,6 +1,7 @@
 pub mod Buffers
 pub mod BytesRead
 pub mod Codings
+pub mod Consulted
 pub mod DictSteps
 pub mod Nexts
 pub mod Numbers

@@ -1,4 +1,5 @@
 pub mod Bytes
+pub mod Consulted
 pub mod Dicts
 pub mod Entries
 pub mod Integers

@@ -1,6 +1,7 @@
 //! Bytes objects.
 ghost use Rattle.py_fields.specs.Sound.{IsSound};
-ghost use Rattle.process_memory.specs.Seen.{Reads, items_of};
+ghost use Rattle.process_memory.specs.Seen.{items_of};
+ghost use Rattle.py_builtins.specs.Consulted.{Consults};
 ghost use Rattle.py_builtins.specs.Bytes.{bytes_object_at};
 ghost use Rattle.py_builtins.specs.ObjectError.{object_fault};
 ghost use Rattle.py_builtins.specs.Refusals.{RefusesEarly};
@@ -26,7 +27,7 @@ pub fn copy_bytes<P: ProcessMemory>(
     addr: u64,
 ) -> Result<Vec<u8>, ObjectError>
     requires sound { IsSound layout.now }
-    ensures answer { Reads object_fault 2 (P.seen process.old) (P.seen process.new)
+    ensures answer { Consults layout.now object_fault 2 (P.seen process.old) (P.seen process.new)
         (λ m. bytes_object_at layout.now m addr) (items_of result) }
     ensures early { RefusesEarly (P.seen process.old) (P.seen process.new) (λ m. bytes_object_at layout.now m addr)
         result }

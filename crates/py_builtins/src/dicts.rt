@@ -2,8 +2,9 @@
 ghost use Rattle.std.specs.Prelude.{◌≡◌, ◌+◌, ◌-◌, ◌*◌, ◌<◌, ◌≤◌, ◌^◌, IfOk, IfSome, IsErrOf, IsTrue, MatchOption};
 ghost use Rattle.std.specs.Prelude.{length};
 ghost use Rattle.process_memory.specs.Memory.{record_at};
-ghost use Rattle.process_memory.specs.Seen.{Reading, Reads, Answers, with_bytes, read_fault};
+ghost use Rattle.process_memory.specs.Seen.{Answers, ReadsRange, read_fault, with_bytes};
 ghost use Rattle.py_fields.specs.Sound.{IsSound};
+ghost use Rattle.py_builtins.specs.Consulted.{Consults, ReadingFields, ReadsFields};
 ghost use Rattle.py_builtins.specs.Dicts.{AreNear, Cursor, dict_slots, entry_width, managed_slots, slot_at, slot_by};
 ghost use Rattle.py_builtins.specs.Dicts.{slots_of};
 ghost use Rattle.py_builtins.specs.ObjectError.{object_fault};
@@ -65,7 +66,7 @@ impl DictCursor {
         addr: u64,
     ) -> Result<DictCursor, ObjectError>
         requires sound { IsSound layout.now }
-        ensures answer { Reads object_fault 2 (P.seen process.old) (P.seen process.new)
+        ensures answer { Consults layout.now object_fault 2 (P.seen process.old) (P.seen process.new)
             (λ m. dict_slots layout.now m addr) (slots_of result) }
         ensures start { IfOk result (λ cursor. cursor.passed ≡ 0) }
         ensures memory { IsErrOf result ObjectError.OutOfMemory → IsTrue (P.seen process.old).may_want_memory }
@@ -92,7 +93,7 @@ impl DictCursor {
         flags: u64,
     ) -> Result<DictCursor, ObjectError>
         requires sound { IsSound layout.now }
-        ensures answer { Reads object_fault 4 (P.seen process.old) (P.seen process.new)
+        ensures answer { Consults layout.now object_fault 4 (P.seen process.old) (P.seen process.new)
             (λ m. managed_slots layout.now m addr tp_addr flags) (slots_of result) }
         ensures start { IfOk result (λ cursor. cursor.passed ≡ 0) }
         ensures memory { IsErrOf result ObjectError.OutOfMemory → IsTrue (P.seen process.old).may_want_memory }
@@ -111,7 +112,7 @@ impl DictCursor {
         ensures passes { MatchOption result
             ((self.new.passed ≡ self.old.passed) × (self.old.slots.count ≤ self.old.passed))
             (λ slot. (self.new.passed ≡ self.old.passed + 1) × (self.old.passed < self.old.slots.count)) }
-        ensures slot { Reading (2 * (self.new.passed - self.old.passed)) (P.seen process.old) (P.seen process.new)
+        ensures slot { ReadingFields (2 * (self.new.passed - self.old.passed)) (P.seen process.old) (P.seen process.new)
             (λ m. IfSome result (Answers object_fault (slot_at m self.old.slots self.old.passed))) }
         ensures memory { IfSome result (λ slot. IsErrOf slot ObjectError.OutOfMemory
             → IsTrue (P.seen process.old).may_want_memory) }
@@ -129,7 +130,7 @@ impl DictCursor {
     /// A slot that is not in memory is `Unreadable`, with the range of its entry, or else of its value where
     /// that stands apart. At most 2 reads; it takes no memory, as in `from`.
     pub fn slot<P: ProcessMemory>(&self, process: &mut P, number: u64) -> Result<Slot, ObjectError>
-        ensures answer { Reads object_fault 2 (P.seen process.old) (P.seen process.new)
+        ensures answer { ReadsFields object_fault 2 (P.seen process.old) (P.seen process.new)
             (λ m. slot_at m self.now.slots number) result }
         ensures memory { IsErrOf result ObjectError.OutOfMemory → IsTrue (P.seen process.old).may_want_memory }
     {
@@ -151,8 +152,8 @@ fn read_slot<P: ProcessMemory>(
     number: u64,
 ) -> Result<Slot, ObjectError>
     requires { AreNear slots.now }
-    ensures answer { Reads object_fault 2 (P.seen process.old) (P.seen process.new) (λ m. slot_at m slots.now number)
-        result }
+    ensures answer { ReadsFields object_fault 2 (P.seen process.old) (P.seen process.new)
+        (λ m. slot_at m slots.now number) result }
     ensures memory { IsErrOf result ObjectError.OutOfMemory → IsTrue (P.seen process.old).may_want_memory }
 {
     let mut entry = [0; ENTRY_LIMIT];
@@ -181,8 +182,8 @@ fn read_entry<P: ProcessMemory>(
 ) -> Result<Slot, ObjectError>
     requires near { AreNear slots.now }
     requires entry { length entry.old ≡ entry_width slots.now.has_hash }
-    ensures answer { Reads object_fault 2 (P.seen process.old) (P.seen process.new) (λ m. slot_at m slots.now number)
-        result }
+    ensures answer { ReadsFields object_fault 2 (P.seen process.old) (P.seen process.new)
+        (λ m. slot_at m slots.now number) result }
     ensures memory { IsErrOf result ObjectError.OutOfMemory → IsTrue (P.seen process.old).may_want_memory }
 {
     let width = entry.len();
@@ -200,7 +201,7 @@ fn record_in_wide<P: ProcessMemory>(
     buf: &mut [u8],
 ) -> Result<(), ReadFault>
     requires { (0 < length buf.old) × (length buf.old < 2 ^ 16) }
-    ensures answer { Reads read_fault 1 (P.seen process.old) (P.seen process.new)
+    ensures answer { ReadsRange read_fault addr (length buf.old) (P.seen process.old) (P.seen process.new)
         (λ m. record_at m addr (length buf.old)) (with_bytes buf.new result) }
     ensures memory { IsErrOf result ReadFault.OutOfMemory → IsTrue (P.seen process.old).may_want_memory }
 {
@@ -222,7 +223,7 @@ fn read_value<P: ProcessMemory>(
     value: u64,
 ) -> Result<Slot, ObjectError>
     requires { values < 2 ^ 68 }
-    ensures answer { Reads object_fault 1 (P.seen process.old) (P.seen process.new)
+    ensures answer { ReadsRange object_fault (values + 8 * number) 8 (P.seen process.old) (P.seen process.new)
         (λ m. slot_by m values number key value) result }
     ensures memory { IsErrOf result ObjectError.OutOfMemory → IsTrue (P.seen process.old).may_want_memory }
 {

@@ -1,8 +1,8 @@
 //! Integer objects.
 ghost use Rattle.std.specs.Prelude.{◌≡◌, ◌⊎◌, ◌<◌, ◌^◌, length, FitsSigned, IfOk, IsErrOf, IsTrue};
 ghost use Rattle.std.specs.Int.{w64};
-ghost use Rattle.process_memory.specs.Seen.{Reads};
 ghost use Rattle.py_fields.specs.Sound.{IsSound};
+ghost use Rattle.py_builtins.specs.Consulted.{Consults};
 ghost use Rattle.py_builtins.specs.Integers.{digits_of, long_at, magnitude_at, signed, small_at};
 ghost use Rattle.py_builtins.specs.ObjectError.{object_fault};
 
@@ -24,8 +24,8 @@ pub fn copy_int<P: ProcessMemory>(
     addr: u64,
 ) -> Result<i64, ObjectError>
     requires sound { IsSound layout.now }
-    ensures answer { Reads object_fault 1 (P.seen process.old) (P.seen process.new) (λ m. small_at layout.now m addr)
-        result }
+    ensures answer { Consults layout.now object_fault 1 (P.seen process.old) (P.seen process.new)
+        (λ m. small_at layout.now m addr) result }
     ensures memory { IsErrOf result ObjectError.OutOfMemory → IsTrue (P.seen process.old).may_want_memory }
 {
     let mut record = [0; RECORD_LIMIT];
@@ -60,8 +60,8 @@ pub fn copy_long<P: ProcessMemory>(
     addr: u64,
 ) -> Result<(i64, bool), ObjectError>
     requires sound { IsSound layout.now }
-    ensures answer { Reads object_fault 2 (P.seen process.old) (P.seen process.new) (λ m. long_at layout.now m addr)
-        result }
+    ensures answer { Consults layout.now object_fault 2 (P.seen process.old) (P.seen process.new)
+        (λ m. long_at layout.now m addr) result }
     ensures memory { IsErrOf result ObjectError.OutOfMemory → IsTrue (P.seen process.old).may_want_memory }
 {
     let mut record = [0; RECORD_LIMIT];
@@ -82,7 +82,7 @@ fn read_magnitude<P: ProcessMemory>(
 ) -> Result<u64, ObjectError>
     requires sound { IsSound layout.now }
     requires object { length object.now ≡ layout.now.long.size }
-    ensures answer { Reads object_fault 1 (P.seen process.old) (P.seen process.new)
+    ensures answer { Consults layout.now object_fault 1 (P.seen process.old) (P.seen process.new)
         (λ m. magnitude_at layout.now m addr object.now count) result }
     ensures memory { IsErrOf result ObjectError.OutOfMemory → IsTrue (P.seen process.old).may_want_memory }
     ensures small { IfOk result (λ n. (n < 2 ^ 63) ⊎ (n ≡ count)) }

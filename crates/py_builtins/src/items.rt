@@ -1,7 +1,8 @@
 //! The items of lists and tuples.
 ghost use Rattle.std.specs.Prelude.{◌≡◌, ◌+◌, ◌≤◌, ◌<◌, ◌^◌, IsErrOf, IsTrue, length};
-ghost use Rattle.process_memory.specs.Seen.{Answers, Reads, read_fault};
+ghost use Rattle.process_memory.specs.Seen.{Answers, read_fault};
 ghost use Rattle.py_fields.specs.Sound.{IsSound};
+ghost use Rattle.py_builtins.specs.Consulted.{Consults, ReadsFields};
 ghost use Rattle.py_builtins.specs.Items.{count_at, item_at, item_count, items_at, items_by};
 ghost use Rattle.py_builtins.specs.ObjectError.{object_fault};
 
@@ -53,7 +54,7 @@ pub fn read_items<P: ProcessMemory>(
     addr: u64,
 ) -> Result<Items, ObjectError>
     requires sound { IsSound layout.now }
-    ensures { Reads object_fault 1 (P.seen process.old) (P.seen process.new)
+    ensures { Consults layout.now object_fault 1 (P.seen process.old) (P.seen process.new)
         (λ m. items_at layout.now m sequence addr) result }
 {
     let place = count_at(layout, sequence);
@@ -122,8 +123,8 @@ pub fn read_item<P: ProcessMemory>(
     items: &Items,
     number: u64,
 ) -> Result<u64, ReadFault>
-    ensures answer { Reads read_fault 1 (P.seen process.old) (P.seen process.new) (λ m. item_at m items.now number)
-        result }
+    ensures answer { ReadsFields read_fault 1 (P.seen process.old) (P.seen process.new)
+        (λ m. item_at m items.now number) result }
     ensures memory { IsErrOf result ReadFault.OutOfMemory → IsTrue (P.seen process.old).may_want_memory }
 {
     let place = items.base as u128 + items.offset as u128 + 8 * number as u128;

@@ -1,7 +1,8 @@
 //! Where the slots of a dict are.
 ghost use Rattle.std.specs.Prelude.{◌≡◌, ◌+◌, ◌<◌, ◌≤◌, ◌^◌, Some, IfOk, IfSome, IsErrOf, IsTrue, length};
-ghost use Rattle.process_memory.specs.Seen.{Answers, Reads};
+ghost use Rattle.process_memory.specs.Seen.{Answers};
 ghost use Rattle.py_fields.specs.Sound.{IsSound};
+ghost use Rattle.py_builtins.specs.Consulted.{Consults};
 ghost use Rattle.py_builtins.specs.Dicts.{AreNear, dict_by, dict_slots, index_bytes, index_in, index_of_log2, keys_by};
 ghost use Rattle.py_builtins.specs.Dicts.{keys_slots, sized_index, slot_count, slots_in, stated_index};
 ghost use Rattle.py_builtins.specs.ObjectError.{object_fault};
@@ -44,8 +45,8 @@ pub fn read_dict<P: ProcessMemory>(
     addr: u64,
 ) -> Result<Slots, ObjectError>
     requires sound { IsSound layout.now }
-    ensures answer { Reads object_fault 2 (P.seen process.old) (P.seen process.new) (λ m. dict_slots layout.now m addr)
-        result }
+    ensures answer { Consults layout.now object_fault 2 (P.seen process.old) (P.seen process.new)
+        (λ m. dict_slots layout.now m addr) result }
     ensures memory { IsErrOf result ObjectError.OutOfMemory → IsTrue (P.seen process.old).may_want_memory }
     ensures near { IfOk result AreNear }
 {
@@ -70,7 +71,7 @@ fn read_dict_record<P: ProcessMemory>(
     requires sound { IsSound layout.now }
     requires dict { layout.now.dict ≡ Some dict.now }
     requires object { length object.old ≡ dict.now.size }
-    ensures answer { Reads object_fault 2 (P.seen process.old) (P.seen process.new)
+    ensures answer { Consults layout.now object_fault 2 (P.seen process.old) (P.seen process.new)
         (λ m. dict_by layout.now m addr (Some dict.now)) result }
     ensures memory { IsErrOf result ObjectError.OutOfMemory → IsTrue (P.seen process.old).may_want_memory }
     ensures near { IfOk result AreNear }
@@ -90,7 +91,7 @@ pub fn read_keys<P: ProcessMemory>(
 ) -> Result<Slots, ObjectError>
     requires sound { IsSound layout.now }
     requires values { values < 2 ^ 68 }
-    ensures answer { Reads object_fault 1 (P.seen process.old) (P.seen process.new)
+    ensures answer { Consults layout.now object_fault 1 (P.seen process.old) (P.seen process.new)
         (λ m. keys_slots layout.now m addr values) result }
     ensures memory { IsErrOf result ObjectError.OutOfMemory → IsTrue (P.seen process.old).may_want_memory }
     ensures near { IfOk result AreNear }
@@ -118,7 +119,7 @@ fn read_keys_record<P: ProcessMemory>(
     requires keys { layout.now.keys ≡ Some keys.now }
     requires values { values < 2 ^ 68 }
     requires object { length object.old ≡ keys.now.size }
-    ensures answer { Reads object_fault 1 (P.seen process.old) (P.seen process.new)
+    ensures answer { Consults layout.now object_fault 1 (P.seen process.old) (P.seen process.new)
         (λ m. keys_by layout.now.dicts m addr values (Some keys.now)) result }
     ensures memory { IsErrOf result ObjectError.OutOfMemory → IsTrue (P.seen process.old).may_want_memory }
     ensures near { IfOk result AreNear }

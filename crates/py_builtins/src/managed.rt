@@ -1,8 +1,9 @@
 //! Managed dicts: what stands before an object names its values or its dict.
 ghost use Rattle.std.specs.Prelude.{◌≡◌, ◌<◌, ◌≤◌, ◌^◌, Some, IfOk, IsErrOf, IsTrue, length};
 ghost use Rattle.process_memory.specs.Memory.{address_before, word_at};
-ghost use Rattle.process_memory.specs.Seen.{Reads, read_fault};
+ghost use Rattle.process_memory.specs.Seen.{ReadsRange, read_fault};
 ghost use Rattle.py_fields.specs.Sound.{IsSound};
+ghost use Rattle.py_builtins.specs.Consulted.{Consults};
 ghost use Rattle.py_builtins.specs.Dicts.{AreNear, held_by, held_slots, managed_slots, shared_slots, values_of};
 ghost use Rattle.py_builtins.specs.ObjectError.{object_fault};
 
@@ -34,7 +35,7 @@ pub fn read_managed<P: ProcessMemory>(
     flags: u64,
 ) -> Result<Slots, ObjectError>
     requires sound { IsSound layout.now }
-    ensures answer { Reads object_fault 4 (P.seen process.old) (P.seen process.new)
+    ensures answer { Consults layout.now object_fault 4 (P.seen process.old) (P.seen process.new)
         (λ m. managed_slots layout.now m addr tp_addr flags) result }
     ensures memory { IsErrOf result ObjectError.OutOfMemory → IsTrue (P.seen process.old).may_want_memory }
     ensures near { IfOk result AreNear }
@@ -56,7 +57,7 @@ fn word_before<P: ProcessMemory>(
     addr: u64,
     distance: u64,
 ) -> Result<u64, ReadFault>
-    ensures answer { Reads read_fault 1 (P.seen process.old) (P.seen process.new)
+    ensures answer { ReadsRange read_fault (address_before addr distance) 8 (P.seen process.old) (P.seen process.new)
         (λ m. word_at m (address_before addr distance)) result }
     ensures memory { IsErrOf result ReadFault.OutOfMemory → IsTrue (P.seen process.old).may_want_memory }
 {
@@ -101,7 +102,7 @@ fn read_held<P: ProcessMemory>(
     requires sound { IsSound layout.now }
     requires heap { layout.now.heap ≡ Some heap.now }
     requires near { held.values ≤ 2 ^ 64 }
-    ensures answer { Reads object_fault 2 (P.seen process.old) (P.seen process.new)
+    ensures answer { Consults layout.now object_fault 2 (P.seen process.old) (P.seen process.new)
         (λ m. held_slots layout.now m heap.now addr tp_addr flags held.values held.dict) result }
     ensures memory { IsErrOf result ObjectError.OutOfMemory → IsTrue (P.seen process.old).may_want_memory }
     ensures near { IfOk result AreNear }
@@ -145,7 +146,7 @@ fn read_shared<P: ProcessMemory>(
     requires heap { layout.now.heap ≡ Some heap.now }
     requires values { values < 2 ^ 68 }
     requires object { length object.old ≡ heap.now.size }
-    ensures answer { Reads object_fault 2 (P.seen process.old) (P.seen process.new)
+    ensures answer { Consults layout.now object_fault 2 (P.seen process.old) (P.seen process.new)
         (λ m. shared_slots layout.now m heap.now tp_addr values) result }
     ensures memory { IsErrOf result ObjectError.OutOfMemory → IsTrue (P.seen process.old).may_want_memory }
     ensures near { IfOk result AreNear }

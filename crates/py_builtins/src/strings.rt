@@ -1,9 +1,11 @@
 //! Text objects.
-ghost use Rattle.std.specs.Prelude.{◌≡◌, ℕ, ◌+◌, ◌<◌, ◌≤◌, ◌^◌, List, length, IfOk, MatchResult};
+ghost use Rattle.std.specs.Prelude.{◌≡◌, ℕ, ◌+◌, ◌*◌, ◌<◌, ◌≤◌, ◌^◌, List, length, IfOk, MatchResult};
 ghost use Rattle.py_fields.specs.Sound.{IsSound};
-ghost use Rattle.process_memory.specs.Seen.{Reads, Reading};
+ghost use Rattle.process_memory.specs.Seen.{ReadsRange};
+ghost use Rattle.py_builtins.specs.Consulted.{Consulting, Consults};
 ghost use Rattle.py_builtins.specs.ObjectError.{object_fault};
 ghost use Rattle.py_builtins.specs.Refusals.{RefusesEarly};
+ghost use Rattle.py_builtins.specs.TextKind.{width};
 ghost use Rattle.py_builtins.specs.Texts.{text_at, characters_at, IsText, characters_of, characters_by, state_at};
 ghost use Rattle.py_builtins.specs.Texts.{kind_in, place_in, bit_is_set};
 
@@ -61,11 +63,12 @@ pub fn copy_string<P: ProcessMemory>(
     addr: u64,
 ) -> Result<Text, ObjectError>
     requires sound { IsSound layout.now }
-    ensures answer { Reads object_fault 2 (P.seen process.old) (P.seen process.new) (λ m. text_at layout.now m addr)
-        result }
+    ensures answer { Consults layout.now object_fault 2 (P.seen process.old) (P.seen process.new)
+        (λ m. text_at layout.now m addr) result }
     ensures early { RefusesEarly (P.seen process.old) (P.seen process.new) (λ m. text_at layout.now m addr) result }
-    ensures text { Reading 2 (P.seen process.old) (P.seen process.new) (λ m. IfOk result (IsText layout.now m addr)) }
-    ensures found { Reading 2 (P.seen process.old) (P.seen process.new) (λ m. (cs : List ℕ)
+    ensures text { Consulting layout.now 2 (P.seen process.old) (P.seen process.new)
+        (λ m. IfOk result (IsText layout.now m addr)) }
+    ensures found { Consulting layout.now 2 (P.seen process.old) (P.seen process.new) (λ m. (cs : List ℕ)
         → IsText layout.now m addr cs
         → MatchResult result (λ text. text ≡ cs) (λ error. error ≡ ObjectError.OutOfMemory)) }
 {
@@ -79,8 +82,8 @@ fn read_text<P: ProcessMemory>(
     addr: u64,
 ) -> Result<Text, ObjectError>
     requires sound { IsSound layout.now }
-    ensures answer { Reads object_fault 2 (P.seen process.old) (P.seen process.new) (λ m. text_at layout.now m addr)
-        result }
+    ensures answer { Consults layout.now object_fault 2 (P.seen process.old) (P.seen process.new)
+        (λ m. text_at layout.now m addr) result }
     ensures early { RefusesEarly (P.seen process.old) (P.seen process.new) (λ m. text_at layout.now m addr) result }
 {
     let object = record(alloc, process, addr, layout.string.size as u64)?;
@@ -107,8 +110,8 @@ fn read_characters<P: ProcessMemory>(
     characters: &Characters,
 ) -> Result<Text, ObjectError>
     requires { length < 4096 }
-    ensures { Reads object_fault 1 (P.seen process.old) (P.seen process.new)
-        (λ m. characters_at m length (Some characters.now)) result }
+    ensures { ReadsRange object_fault characters.now.at (length * width characters.now.kind)
+        (P.seen process.old) (P.seen process.new) (λ m. characters_at m length (Some characters.now)) result }
 {
     let len = length * characters.kind.width();
     let bytes = record_wide(alloc, process, characters.at, len)?;

@@ -1,7 +1,7 @@
 //! The types of objects.
 ghost use Rattle.std.specs.Prelude.{◌≡◌, length};
-ghost use Rattle.process_memory.specs.Seen.{Reads};
 ghost use Rattle.py_fields.specs.Sound.{IsSound};
+ghost use Rattle.py_builtins.specs.Consulted.{Consults};
 ghost use Rattle.py_builtins.specs.ObjectError.{object_fault};
 ghost use Rattle.py_builtins.specs.Types.{type_at, type_by};
 
@@ -35,7 +35,8 @@ pub fn read_type<P: ProcessMemory>(
     addr: u64,
 ) -> Result<ObjectType, ObjectError>
     requires sound { IsSound layout.now }
-    ensures { Reads object_fault 2 (P.seen process.old) (P.seen process.new) (λ m. type_at layout.now m addr) result }
+    ensures { Consults layout.now object_fault 2 (P.seen process.old) (P.seen process.new)
+        (λ m. type_at layout.now m addr) result }
 {
     let object = record(alloc, process, addr, layout.object.size as u64)?;
     let at = u64_in(&object, layout.object.klass as usize);

@@ -2,14 +2,15 @@
 use Rattle.std.proofs.Common.{◌≡◌, ◌≢◌, ℕ, zero, suc, ◌+◌, ◌-◌, ◌<◌, ◌≤◌, Bool, true, false, List, [], ◌∷◌, ◌++◌, refl}
 use Rattle.std.proofs.Common.{sym, ◌∙◌, ap, arith, length, length-append}
 use Rattle.std.proofs.Math.Nat.{sub-zero}
-use Rattle.std.specs.Prelude.{Ok, Err, Option, None, Result, nat_eq, if◌then◌else◌, Vec}
+use Rattle.std.specs.Prelude.{MatchOption, Ok, Err, Option, Some, None, Result, nat_eq, if◌then◌else◌, Vec}
 use Rattle.std.specs.Global.{Global}
 use Rattle.elf64_core.specs.Fields.{u64_in}
-use Rattle.process_memory.specs.Memory.{Found, Memory, ◌>>=◌, byte_at, record_at}
-use Rattle.process_memory.specs.Seen.{Reading, ReadingBy, Seen}
+use Rattle.process_memory.specs.Memory.{Found, Memory, ◌>>=◌, byte_at, record_at, Fault}
+use Rattle.process_memory.specs.Seen.{Reading, ReadingBy, Seen, Answers, FaultIs}
 use Rattle.process_memory.proofs.Reading.{reading_gives, reading_here, reading_none, reading_then}
 use Rattle.py_fields.specs.declared.layout.Layout.{Layout}
 use Rattle.py_stacks.specs.Interpreter.{interpreter_named_by, threads_head}
+use Rattle.py_stacks.specs.StackError.{stack_fault}
 use Rattle.py_stacks.specs.Threads.{thread_limit}
 use Rattle.py_stacks.specs.declared.error.StackError.{StackError}
 use Rattle.py_stacks.specs.declared.error.StackError.TheVariants as stack
@@ -51,6 +52,23 @@ pub thread_headed : (contains : ℕ → Bool) (l : Layout) (m : Memory) (a head 
     → IsOrNoMemory (names_it a head (interpreter_named_by l m head)) r → IsOrNoMemory (headed_by contains l m a (threads_head l m a)) r
 thread_headed contains l m a zero r e some lies h = absurd (some refl)
 thread_headed contains l m a (suc head) r e some lies h = rw (e, lies) h
+
+-- where the first thread can't be read, or there is none, or no map holds it
+pub head_unread : (contains : ℕ → Bool) (l : Layout) (m : Memory) (a : ℕ) (e : StackError) (r : Result (Option ℕ) StackError)
+    → Answers {T = ℕ} stack_fault (threads_head l m a) (Err e)
+    → MatchOption (stack_fault e) (r ≡ Err stack.OutOfMemory) (λ f. r ≡ Ok None) → IsOrNoMemory (headed_by contains l m a (threads_head l m a)) r
+head_unread contains l m a e r h is = by (threads_head l m a) (stack_fault e) h.is is
+  where
+    by : (d : Found ℕ) (o : Option Fault) → FaultIs d o → MatchOption o (r ≡ Err stack.OutOfMemory) (λ f. r ≡ Ok None) → IsOrNoMemory (headed_by contains l m a d) r
+    by d None f same = rw same refl
+    by d (Some x) f same = rw (same, f) refl
+
+pub headless : (contains : ℕ → Bool) (l : Layout) (m : Memory) (a head : ℕ) → threads_head l m a ≡ Ok head → head ≡ 0 → None ≡ headed_by contains l m a (threads_head l m a)
+headless contains l m a head e null = rw (e, null) refl
+
+pub head_unmapped : (contains : ℕ → Bool) (l : Layout) (m : Memory) (a head : ℕ) → threads_head l m a ≡ Ok head → head ≢ 0 → contains head ≡ false → None ≡ headed_by contains l m a (threads_head l m a)
+head_unmapped contains l m a zero e some out = absurd (some refl)
+head_unmapped contains l m a (suc head) e some out = rw (e, out) refl
 
 pub outside_headed : (contains : ℕ → Bool) (l : Layout) (m : Memory) (a : ℕ) → contains a ≡ false → None ≡ headed_at contains l m a
 unfolding headed_at

@@ -7,6 +7,7 @@ use Rattle.std.proofs.lemmas.Slice.Eq.{bytes_eq-Decides}
 use Rattle.std.proofs.lemmas.Str.{encodes_same, encodes-IsAscii}
 use Rattle.elf64_core.specs.Fields.{u64_in}
 use Rattle.process_memory.specs.Memory.{Fault, Found, Memory, Region, byte_at, record_at, word_at}
+use Rattle.process_memory.specs.Seen.{Answers}
 use Rattle.process_memory.proofs.Founds.{ok_same}
 use Rattle.process_memory.proofs.Records.{Within, record_length}
 use Rattle.py_fields.specs.Sound.{IsSound}
@@ -14,6 +15,10 @@ use Rattle.py_fields.specs.declared.layout.Layout.{Layout}
 use Rattle.py_fields.proofs.Fields.{string_fits}
 use Rattle.py_builtins.specs.declared.coding.TextKind.{TextKind}
 use Rattle.py_builtins.specs.declared.coding.TextKind.TheVariants.{Utf8, Latin1, Utf16, Utf32}
+use Rattle.py_builtins.specs.declared.error.ObjectError.{ObjectError}
+use Rattle.py_builtins.specs.declared.error.ObjectError.TheVariants.{TooLong, Unreadable, NoText, BadDict, BadType}
+use Rattle.py_builtins.specs.declared.error.ObjectError.TheVariants.{Visits, Depth, BadCount, BadBool, OutOfMemory}
+use Rattle.py_builtins.specs.ObjectError.{object_fault}
 use Rattle.py_builtins.specs.TextKind.{coded, width}
 use Rattle.py_builtins.specs.Texts.{HasCharacters, text_at}
 use Rattle.py_builtins.proofs.Texts.{text_read}
@@ -85,6 +90,19 @@ hidden_units l m a file e hidden =
       t.there,
       units_of l m a t.object (u64_in t.object l.string.length) file t.characters (hidden_is file hidden),
     )
+
+-- a text that can't be read hides nothing
+pub not_hidden : (d : Found (List ℕ)) (e : ObjectError) → e ≢ OutOfMemory → Answers {T = List ℕ} object_fault d (Err e) → false ≡ hides d
+not_hidden d (Unreadable a n) some h = rw h.is refl
+not_hidden d NoText some h = rw h.is refl
+not_hidden d (TooLong n) some h = rw h.is refl
+not_hidden d BadDict some h = rw h.is refl
+not_hidden d BadType some h = rw h.is refl
+not_hidden d Visits some h = rw h.is refl
+not_hidden d Depth some h = rw h.is refl
+not_hidden d (BadCount n) some h = rw h.is refl
+not_hidden d (BadBool b) some h = rw h.is refl
+not_hidden d OutOfMemory some h = absurd (some refl)
 
 -- the word that holds a text's length, where no frame is shown under the text
 module _ {l : Layout} {m : Memory} (ps : List Region) (a : ℕ) (sound : IsSound l) (within : Within m (byte_at ps)) where

@@ -1,12 +1,13 @@
 -- What the record of an interpreter leads to, one word after another.
 use Rattle.std.proofs.Common.{◌≡◌, ◌≢◌, ℕ, zero, suc, ◌+◌, ◌*◌, ◌-◌, ◌<◌, ◌≤◌, List, [], ◌∷◌, ◌++◌, length}
 use Rattle.std.proofs.Common.{refl, sym, subst, ◌∙◌, ap, arith, append-nil, append_assoc, length-append}
-use Rattle.std.specs.Prelude.{Option, Some, None, Result, Ok}
-use Rattle.process_memory.specs.Memory.{Found, Memory, byte_at, word_at}
-use Rattle.process_memory.specs.Seen.{Reading, ReadingBy, Seen}
+use Rattle.std.specs.Prelude.{Option, Some, None, Result, Ok, MatchOption, Err}
+use Rattle.process_memory.specs.Memory.{Found, Memory, byte_at, word_at, Fault}
+use Rattle.process_memory.specs.Seen.{Reading, ReadingBy, Seen, Answers, FaultIs}
 use Rattle.process_memory.proofs.Reading.{reading_gives, reading_here, reading_none, reading_then}
 use Rattle.py_fields.specs.declared.layout.Layout.{Layout}
 use Rattle.py_stacks.specs.Interpreter.{threads_head}
+use Rattle.py_stacks.specs.StackError.{stack_fault}
 use Rattle.py_stacks.specs.declared.error.StackError.{StackError}
 use Rattle.py_stacks.specs.declared.error.StackError.TheVariants as stack
 use Rattle.py_fronts.specs.Answers.{IsOrNoMemory}
@@ -29,6 +30,18 @@ pub next_word : (l : Layout) (m : Memory) (place a head : ℕ) (result : Result 
 next_word l m place a head result e null h =
     let none : threads_head l m a ≡ Ok 0 = rw null at e in
     rw none h
+
+-- where its first thread can't be read
+pub next_lost : (l : Layout) (m : Memory) (place a : ℕ) (e : StackError) (result : Result (Option ℕ) StackError)
+    → Answers {T = ℕ} stack_fault (threads_head l m a) (Err e)
+    → MatchOption (stack_fault e) (result ≡ Err stack.OutOfMemory) (λ f. result ≡ Ok None)
+    → IsOrNoMemory (next_by l m place a) result
+next_lost l m place a e result h is = by (threads_head l m a) (stack_fault e) h.is is
+  where
+    by : (d : Found ℕ) (o : Option Fault) → FaultIs d o → MatchOption o (result ≡ Err stack.OutOfMemory) (λ f. result ≡ Ok None)
+        → IsOrNoMemory (passed_by d (found_or_none (word_at m (a + place)))) result
+    by d None f same = rw same refl
+    by d (Some x) f same = rw (same, f) refl
 
 behind_next : (l : Layout) (m : Memory) (place turns a next : ℕ) → next_by l m place a ≡ Some next
     → behind_idle l m place (suc turns) a ≡ next ∷ behind_idle l m place turns next

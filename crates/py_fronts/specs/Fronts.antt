@@ -1,6 +1,6 @@
 -- The fronts of all interpreters of a process.
-use Rattle.std.specs.Prelude.{◌≡◌, ℕ, ◌+◌, ◌*◌, ◌^◌, ◌≤◌, Bool, List, [], ◌∷◌, length, map, min, sum_by, Result}
-use Rattle.std.specs.Prelude.{Ok, Err, Vec}
+use Rattle.std.specs.Prelude.{◌≡◌, ℕ, ◌+◌, ◌*◌, ◌^◌, ◌≤◌, Bool, List, [], ◌∷◌, length, map, min, sum_by, Result, Ok}
+use Rattle.std.specs.Prelude.{Err, Vec, ◌-◌}
 use Rattle.std.specs.Global.{Global}
 use Rattle.process_memory.specs.Memory.{Memory, byte_at}
 use Rattle.process_memory.specs.Seen.{Reading, ReadingOf, Seen}

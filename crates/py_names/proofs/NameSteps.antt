@@ -7,7 +7,8 @@ use Rattle.std.specs.List.{find}
 use Rattle.std.proofs.lemmas.List.{reverse-append}
 use Rattle.process_memory.specs.Memory.{Memory, Found, Fault, byte_at, ◌>>=◌}
 use Rattle.process_memory.specs.Memory.Fault.{Entries}
-use Rattle.process_memory.specs.Seen.{Seen, Reading, ReadsBy, FaultIs, Answers}
+use Rattle.process_memory.specs.Seen.{Seen, FaultIs, Answers}
+use Rattle.py_builtins.specs.Consulted.{Consulting, ConsultsBy}
 use Rattle.process_memory.specs.Walk.{after_all}
 use Rattle.process_memory.proofs.Reading.{reading_here, reading_then, reading_gives, reading_none}
 use Rattle.py_fields.specs.declared.layout.Layout.{Layout}
@@ -58,7 +59,7 @@ module _ (l : Layout) (m : Memory) (s : Slots) (number n left : ℕ) where
 pub record Naming (l : Layout) (s : Slots) (s0 s1 : Seen) (limit number left : ℕ) (names : List Named) : Type 0 where
   pub spent : ℕ
   pub counted : each_looked l (byte_at s0.pieces) s s.count 0 limit ≡ spent + each_looked l (byte_at s0.pieces) s (s.count - number) number left
-  pub reading : Reading (12 * spent) s0 s1
+  pub reading : Consulting l (12 * spent) s0 s1
       (λ m. names_from l m s s.count 0 limit ≡ after_all names (names_from l m s (s.count - number) number left))
 
 pub naming_init : (l : Layout) (s : Slots) (seen : Seen) (limit : ℕ) → Naming l s seen seen limit 0 limit []
@@ -74,7 +75,7 @@ module _ {l : Layout} {s : Slots} {s0 s1 : Seen} {limit number left : ℕ} {name
 
   pub naming_more : {E : Type 0} {fault : E → Option Fault} {s2 : Seen} (g : Given) → Naming l s s0 s1 limit number left names
       → number < s.count → 0 < left
-      → ReadsBy {E = E} fault (λ m. 12 + 4 * thread_looked l m s number (left - 1)) s1 s2 (λ m. thread_at l m s number (left - 1)) (Ok g)
+      → ConsultsBy {E = E} l fault (λ m. 12 + 4 * thread_looked l m s number (left - 1)) s1 s2 (λ m. thread_at l m s number (left - 1)) (Ok g)
       → Naming l s s0 s2 limit (number + 1) g.left (names ++ kept_name g.named)
   naming_more g t some room a =
       let n_is : s.count - number ≡ suc (s.count - (number + 1)) = omega arith in
@@ -91,20 +92,20 @@ module _ {l : Layout} {s : Slots} {s0 s1 : Seen} {limit number left : ℕ} {name
       }
 
   pub naming_done : {E : Type 0} {fault : E → Option Fault} → Naming l s s0 s1 limit number left names → s.count ≤ number
-      → ReadsBy {E = E} fault (λ m. 12 * each_looked l m s s.count 0 limit) s0 s1 (λ m. names_from l m s s.count 0 limit) (Ok names)
+      → ConsultsBy {E = E} l fault (λ m. 12 * each_looked l m s s.count 0 limit) s0 s1 (λ m. names_from l m s s.count 0 limit) (Ok names)
   naming_done t all = reading_gives _ _ t.reading (omega (arith, t.counted))
       (λ m e. record { is = e ∙ ap (after_all names) (names_end l m s number (s.count - number) left (omega arith)) ∙ ap Ok (append-nil names) })
 
   pub naming_over : {E : Type 0} {fault : E → Option Fault} (e : E) → Naming l s s0 s1 limit number left names
       → number < s.count → left ≡ 0 → fault e ≡ Some Entries
-      → ReadsBy {T = List Named} fault (λ m. 12 * each_looked l m s s.count 0 limit) s0 s1 (λ m. names_from l m s s.count 0 limit) (Err e)
+      → ConsultsBy {T = List Named} l fault (λ m. 12 * each_looked l m s s.count 0 limit) s0 s1 (λ m. names_from l m s s.count 0 limit) (Err e)
   naming_over e t some none is = reading_gives _ _ t.reading (omega (arith, t.counted))
       (λ m d. record { is = rw is (d ∙ ap (after_all names) (names_over l m s number (s.count - number) left (s.count - (number + 1)) (omega arith) none)) })
 
   pub naming_stop : {E E' : Type 0} {fault : E → Option Fault} {fault' : E' → Option Fault} {s2 : Seen} {e : E} (e' : E')
       → Naming l s s0 s1 limit number left names → number < s.count → 0 < left
-      → ReadsBy {T = Given} fault (λ m. 12 + 4 * thread_looked l m s number (left - 1)) s1 s2 (λ m. thread_at l m s number (left - 1)) (Err e) → fault' e' ≡ fault e
-      → ReadsBy {T = List Named} fault' (λ m. 12 * each_looked l m s s.count 0 limit) s0 s2 (λ m. names_from l m s s.count 0 limit) (Err e')
+      → ConsultsBy {T = Given} l fault (λ m. 12 + 4 * thread_looked l m s number (left - 1)) s1 s2 (λ m. thread_at l m s number (left - 1)) (Err e) → fault' e' ≡ fault e
+      → ConsultsBy {T = List Named} l fault' (λ m. 12 * each_looked l m s s.count 0 limit) s0 s2 (λ m. names_from l m s s.count 0 limit) (Err e')
   naming_stop {fault = fault} {fault' = fault'} {e = e} e' t some room a same =
       let n_is : s.count - number ≡ suc (s.count - (number + 1)) = omega arith in
       let left_is : left ≡ suc (left - 1) = omega arith in
@@ -117,8 +118,8 @@ module _ {l : Layout} {s : Slots} {s0 s1 : Seen} {limit number left : ℕ} {name
 
   pub naming_lost : {E E' : Type 0} {fault : E → Option Fault} {fault' : E' → Option Fault} {s2 : Seen} {g : Given} (e' : E')
       → Naming l s s0 s1 limit number left names → number < s.count → 0 < left
-      → ReadsBy {E = E} fault (λ m. 12 + 4 * thread_looked l m s number (left - 1)) s1 s2 (λ m. thread_at l m s number (left - 1)) (Ok g) → fault' e' ≡ None
-      → ReadsBy {T = List Named} fault' (λ m. 12 * each_looked l m s s.count 0 limit) s0 s2 (λ m. names_from l m s s.count 0 limit) (Err e')
+      → ConsultsBy {E = E} l fault (λ m. 12 + 4 * thread_looked l m s number (left - 1)) s1 s2 (λ m. thread_at l m s number (left - 1)) (Ok g) → fault' e' ≡ None
+      → ConsultsBy {T = List Named} l fault' (λ m. 12 * each_looked l m s s.count 0 limit) s0 s2 (λ m. names_from l m s s.count 0 limit) (Err e')
   naming_lost e' t some room a same = reading_gives _ _ (reading_then (λ m. ⊤) t.reading a (λ m d x. tt)) (omega (arith, one_more t some room)) (λ m h. record { is = rw same tt })
 
 -- one name more

@@ -4,7 +4,8 @@ use Rattle.std.proofs.Math.Nat.{sub-zero}
 use Rattle.std.specs.Prelude.{Option, Some, None, Ok, Err}
 use Rattle.process_memory.specs.Memory.{Memory, Fault, byte_at, ◌>>=◌}
 use Rattle.process_memory.specs.Memory.Fault.{Entries}
-use Rattle.process_memory.specs.Seen.{Seen, Reading, Reads, ReadsBy, FaultIs}
+use Rattle.process_memory.specs.Seen.{Seen, FaultIs}
+use Rattle.py_builtins.specs.Consulted.{Consulting, Consults, ConsultsBy}
 use Rattle.process_memory.proofs.Reading.{reading_here, reading_then, reading_gives, reading_none}
 use Rattle.py_fields.specs.declared.layout.Layout.{Layout}
 use Rattle.py_builtins.specs.declared.keys.Slots.{Slots}
@@ -42,7 +43,7 @@ module _ (l : Layout) (m : Memory) (name : List ℕ) (s : Slots) (number n left 
 pub record Searching (l : Layout) (name : List ℕ) (s : Slots) (s0 s1 : Seen) (limit number left : ℕ) : Type 0 where
   pub spent : ℕ
   pub counted : find_looked l (byte_at s0.pieces) name s s.count 0 limit ≡ spent + find_looked l (byte_at s0.pieces) name s (s.count - number) number left
-  pub reading : Reading (4 * spent) s0 s1
+  pub reading : Consulting l (4 * spent) s0 s1
       (λ m. find_from l m name s s.count 0 limit ≡ find_from l m name s (s.count - number) number left)
 
 pub searching_init : (l : Layout) (name : List ℕ) (s : Slots) (seen : Seen) (limit : ℕ) → Searching l name s seen seen limit 0 limit
@@ -50,7 +51,7 @@ searching_init l name s seen limit = record { spent = 0; counted = rw sub-zero (
 
 module _ {l : Layout} {name : List ℕ} {s : Slots} {s0 s1 : Seen} {limit number left : ℕ} where
   pub searching_more : {E : Type 0} {fault : E → Option Fault} {s2 : Seen} → Searching l name s s0 s1 limit number left
-      → number < s.count → 0 < left → Reads {E = E} fault 4 s1 s2 (λ m. named_value_at l m name s number) (Ok None)
+      → number < s.count → 0 < left → Consults {E = E} l fault 4 s1 s2 (λ m. named_value_at l m name s number) (Ok None)
       → Searching l name s s0 s2 limit (number + 1) (left - 1)
   searching_more t some room a =
       let n_is : s.count - number ≡ suc (s.count - (number + 1)) = omega arith in
@@ -72,8 +73,8 @@ module _ {l : Layout} {name : List ℕ} {s : Slots} {s0 s1 : Seen} {limit number
       omega (arith, t.counted, looked_one l (byte_at s0.pieces) name s number (s.count - number) left (s.count - (number + 1)) (left - 1) (omega arith) (omega arith))
 
   pub searching_found : {E : Type 0} {fault : E → Option Fault} {s2 : Seen} (value : ℕ) → Searching l name s s0 s1 limit number left
-      → number < s.count → 0 < left → Reads {E = E} fault 4 s1 s2 (λ m. named_value_at l m name s number) (Ok (Some value))
-      → ReadsBy {E = E} fault (λ m. 4 * find_looked l m name s s.count 0 limit) s0 s2 (λ m. find_from l m name s s.count 0 limit) (Ok (looked (Some value) (left - 1)))
+      → number < s.count → 0 < left → Consults {E = E} l fault 4 s1 s2 (λ m. named_value_at l m name s number) (Ok (Some value))
+      → ConsultsBy {E = E} l fault (λ m. 4 * find_looked l m name s s.count 0 limit) s0 s2 (λ m. find_from l m name s s.count 0 limit) (Ok (looked (Some value) (left - 1)))
   searching_found value t some room a =
       let n_is : s.count - number ≡ suc (s.count - (number + 1)) = omega arith in
       let left_is : left ≡ suc (left - 1) = omega arith in
@@ -83,20 +84,20 @@ module _ {l : Layout} {name : List ℕ} {s : Slots} {s0 s1 : Seen} {limit number
       (omega (arith, one_more t some room)) (λ m e. record { is = e })
 
   pub searching_done : {E : Type 0} {fault : E → Option Fault} → Searching l name s s0 s1 limit number left → s.count ≤ number
-      → ReadsBy {E = E} fault (λ m. 4 * find_looked l m name s s.count 0 limit) s0 s1 (λ m. find_from l m name s s.count 0 limit) (Ok (looked None left))
+      → ConsultsBy {E = E} l fault (λ m. 4 * find_looked l m name s s.count 0 limit) s0 s1 (λ m. find_from l m name s s.count 0 limit) (Ok (looked None left))
   searching_done t all = reading_gives _ _ t.reading (omega (arith, t.counted))
       (λ m e. record { is = e ∙ find_end l m name s number (s.count - number) left (omega arith) })
 
   pub searching_over : {E : Type 0} {fault : E → Option Fault} (e : E) → Searching l name s s0 s1 limit number left
       → number < s.count → left ≡ 0 → fault e ≡ Some Entries
-      → ReadsBy {T = Looked} fault (λ m. 4 * find_looked l m name s s.count 0 limit) s0 s1 (λ m. find_from l m name s s.count 0 limit) (Err e)
+      → ConsultsBy {T = Looked} l fault (λ m. 4 * find_looked l m name s s.count 0 limit) s0 s1 (λ m. find_from l m name s s.count 0 limit) (Err e)
   searching_over e t some none is = reading_gives _ _ t.reading (omega (arith, t.counted))
       (λ m d. record { is = rw is (d ∙ find_over l m name s number (s.count - number) left (s.count - (number + 1)) (omega arith) none) })
 
   pub searching_stop : {E E' : Type 0} {fault : E → Option Fault} {fault' : E' → Option Fault} {s2 : Seen} {e : E} (e' : E')
       → Searching l name s s0 s1 limit number left → number < s.count → 0 < left
-      → Reads {T = Option ℕ} fault 4 s1 s2 (λ m. named_value_at l m name s number) (Err e) → fault' e' ≡ fault e
-      → ReadsBy {T = Looked} fault' (λ m. 4 * find_looked l m name s s.count 0 limit) s0 s2 (λ m. find_from l m name s s.count 0 limit) (Err e')
+      → Consults {T = Option ℕ} l fault 4 s1 s2 (λ m. named_value_at l m name s number) (Err e) → fault' e' ≡ fault e
+      → ConsultsBy {T = Looked} l fault' (λ m. 4 * find_looked l m name s s.count 0 limit) s0 s2 (λ m. find_from l m name s s.count 0 limit) (Err e')
   searching_stop {fault = fault} {fault' = fault'} {e = e} e' t some room a same =
       let n_is : s.count - number ≡ suc (s.count - (number + 1)) = omega arith in
       let left_is : left ≡ suc (left - 1) = omega arith in

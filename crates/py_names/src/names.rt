@@ -1,8 +1,9 @@
 //! The names of an interpreter's threads.
 ghost use Rattle.std.specs.Prelude.{◌≡◌, ◌≢◌, ◌+◌, ◌*◌, ◌≤◌, ◌++◌, ℕ, IfOk, OnOk};
 ghost use Rattle.process_memory.specs.Memory.{byte_at};
-ghost use Rattle.process_memory.specs.Seen.{Reads, ReadsBy, ReadingBy, items_of};
+ghost use Rattle.process_memory.specs.Seen.{items_of};
 ghost use Rattle.py_fields.specs.Sound.{IsSound};
+ghost use Rattle.py_builtins.specs.Consulted.{ConsultingBy, Consults, ConsultsBy};
 ghost use Rattle.py_names.specs.NamesError.{names_fault};
 ghost use Rattle.py_names.specs.Names.{AnswersNames, HasNames, each_looked, entry_in, entry_looked};
 ghost use Rattle.py_names.specs.Names.{interpreter_names_at, kept_name, module_looked, module_names_at, given_name_at};
@@ -46,7 +47,7 @@ fn read_name<P: ProcessMemory>(
     found: Option<u64>,
 ) -> Result<Option<Named>, NamesError>
     requires sound { IsSound layout.now }
-    ensures answer { Reads names_fault 2 (P.seen process.old) (P.seen process.new)
+    ensures answer { Consults layout.now names_fault 2 (P.seen process.old) (P.seen process.new)
         (λ m. given_name_at layout.now m id found) result }
     ensures memory { result ≢ Err (NamesError.Object ObjectError.OutOfMemory) }
 {
@@ -70,7 +71,7 @@ fn read_entry<P: ProcessMemory>(
     left: u64,
 ) -> Result<Given, NamesError>
     requires sound { IsSound layout.now }
-    ensures answer { ReadsBy names_fault (λ m. 10 + 4 * entry_looked layout.now m key value left)
+    ensures answer { ConsultsBy layout.now names_fault (λ m. 10 + 4 * entry_looked layout.now m key value left)
         (P.seen process.old) (P.seen process.new) (λ m. entry_in layout.now m key value left) result }
     ensures memory { result ≢ Err (NamesError.Object ObjectError.OutOfMemory) }
 {
@@ -94,7 +95,7 @@ fn read_given<P: ProcessMemory>(
     left: u64,
 ) -> Result<Given, NamesError>
     requires sound { IsSound layout.now }
-    ensures answer { ReadsBy names_fault (λ m. 10 + 4 * slot_looked layout.now m left slot)
+    ensures answer { ConsultsBy layout.now names_fault (λ m. 10 + 4 * slot_looked layout.now m left slot)
         (P.seen process.old) (P.seen process.new) (λ m. thread_in layout.now m left slot) result }
     ensures memory { result ≢ Err (NamesError.Object ObjectError.OutOfMemory) }
 {
@@ -114,8 +115,8 @@ fn read_thread<P: ProcessMemory>(
     left: u64,
 ) -> Result<Given, NamesError>
     requires sound { IsSound layout.now }
-    ensures answer { ReadsBy names_fault (λ m. 12 + 4 * thread_looked layout.now m dict.now.slots number left)
-        (P.seen process.old) (P.seen process.new)
+    ensures answer { ConsultsBy layout.now names_fault
+        (λ m. 12 + 4 * thread_looked layout.now m dict.now.slots number left) (P.seen process.old) (P.seen process.new)
         (λ m. thread_at layout.now m dict.now.slots number left) result }
     ensures memory { result ≢ Err (NamesError.Object ObjectError.OutOfMemory) }
 {
@@ -143,7 +144,7 @@ fn read_each<P: ProcessMemory>(
 ) -> Result<Vec<Named>, NamesError>
     requires sound { IsSound layout.now }
     requires start { dict.now.passed ≡ 0 }
-    ensures answer { ReadsBy names_fault
+    ensures answer { ConsultsBy layout.now names_fault
         (λ m. 12 * each_looked layout.now m dict.now.slots dict.now.slots.count 0 limit)
         (P.seen process.old) (P.seen process.new)
         (λ m. names_from layout.now m dict.now.slots dict.now.slots.count 0 limit) (items_of result) }
@@ -173,7 +174,7 @@ fn read_threads<P: ProcessMemory>(
     left: u64,
 ) -> Result<Vec<Named>, NamesError>
     requires sound { IsSound layout.now }
-    ensures answer { ReadsBy names_fault (λ m. 2 + 12 * threads_looked layout.now m found left)
+    ensures answer { ConsultsBy layout.now names_fault (λ m. 2 + 12 * threads_looked layout.now m found left)
         (P.seen process.old) (P.seen process.new) (λ m. named_threads_at layout.now m found left) (items_of result) }
     ensures memory { result ≢ Err (NamesError.Object ObjectError.OutOfMemory) }
 {
@@ -196,7 +197,7 @@ fn read_module<P: ProcessMemory>(
     left: u64,
 ) -> Result<Vec<Named>, NamesError>
     requires sound { IsSound layout.now }
-    ensures answer { ReadsBy names_fault (λ m. 7 + 12 * module_looked layout.now m found left)
+    ensures answer { ConsultsBy layout.now names_fault (λ m. 7 + 12 * module_looked layout.now m found left)
         (P.seen process.old) (P.seen process.new)
         (λ m. module_names_at layout.now m found left) (items_of result) }
     ensures memory { result ≢ Err (NamesError.Object ObjectError.OutOfMemory) }
@@ -222,7 +223,7 @@ fn read_interpreter<P: ProcessMemory>(
     interpreter: u64,
 ) -> Result<Vec<Named>, NamesError>
     requires sound { IsSound layout.now }
-    ensures answer { ReadsBy names_fault (λ m. names_cost layout.now m interpreter)
+    ensures answer { ConsultsBy layout.now names_fault (λ m. names_cost layout.now m interpreter)
         (P.seen process.old) (P.seen process.new)
         (λ m. interpreter_names_at layout.now m interpreter) (items_of result) }
     ensures memory { result ≢ Err (NamesError.Object ObjectError.OutOfMemory) }
@@ -242,7 +243,7 @@ pub(crate) fn read_names<P: ProcessMemory>(
     interpreter: u64,
 ) -> Result<Vec<Named>, NamesError>
     requires sound { IsSound layout.now }
-    ensures answer { ReadsBy names_fault (λ m. names_cost layout.now m interpreter)
+    ensures answer { ConsultsBy layout.now names_fault (λ m. names_cost layout.now m interpreter)
         (P.seen process.old) (P.seen process.new) (λ m. names_at layout.now m interpreter) (items_of result) }
     ensures memory { result ≢ Err (NamesError.Object ObjectError.OutOfMemory) }
 {
@@ -286,7 +287,7 @@ pub fn thread_names_from_interpreter<P: ProcessMemory>(
     layout: &Layout,
 ) -> Result<BTreeMap<u64, Text>, NamesError>
     requires sound { IsSound layout.now }
-    ensures names { ReadingBy (λ m. 10 + 12 * slots_looked_at layout.now m interpreter)
+    ensures names { ConsultingBy layout.now (λ m. 10 + 12 * slots_looked_at layout.now m interpreter)
         (P.seen process.old) (P.seen process.new)
         (λ m. AnswersNames (names_at layout.now m interpreter) result) }
     ensures most { slots_looked_at layout.now (byte_at (P.seen process.old).pieces) interpreter ≤ 65536 }

@@ -1,7 +1,7 @@
 //! The first entry of a dict under a name.
 ghost use Rattle.std.specs.Prelude.{◌≡◌, ◌≢◌, ◌*◌};
-ghost use Rattle.process_memory.specs.Seen.{Reads, ReadsBy};
 ghost use Rattle.py_fields.specs.Sound.{IsSound};
+ghost use Rattle.py_builtins.specs.Consulted.{Consults, ConsultsBy};
 ghost use Rattle.py_names.specs.NamesError.{names_fault};
 ghost use Rattle.py_names.specs.Search.{find_from, find_looked, named_value_at, value_named};
 
@@ -28,7 +28,7 @@ fn value_named<P: ProcessMemory>(
     slot: Slot,
 ) -> Result<Option<u64>, NamesError>
     requires sound { IsSound layout.now }
-    ensures answer { Reads names_fault 2 (P.seen process.old) (P.seen process.new)
+    ensures answer { Consults layout.now names_fault 2 (P.seen process.old) (P.seen process.new)
         (λ m. value_named layout.now m name.now slot) result }
     ensures memory { result ≢ Err (NamesError.Object ObjectError.OutOfMemory) }
 {
@@ -54,7 +54,7 @@ fn read_value<P: ProcessMemory>(
     number: u64,
 ) -> Result<Option<u64>, NamesError>
     requires sound { IsSound layout.now }
-    ensures answer { Reads names_fault 4 (P.seen process.old) (P.seen process.new)
+    ensures answer { Consults layout.now names_fault 4 (P.seen process.old) (P.seen process.new)
         (λ m. named_value_at layout.now m name.now dict.now.slots number) result }
     ensures memory { result ≢ Err (NamesError.Object ObjectError.OutOfMemory) }
 {
@@ -74,7 +74,7 @@ pub(crate) fn find_in<P: ProcessMemory>(
 ) -> Result<Looked, NamesError>
     requires sound { IsSound layout.now }
     requires start { dict.now.passed ≡ 0 }
-    ensures answer { ReadsBy names_fault
+    ensures answer { ConsultsBy layout.now names_fault
         (λ m. 4 * find_looked layout.now m name.now dict.now.slots dict.now.slots.count 0 limit)
         (P.seen process.old) (P.seen process.new)
         (λ m. find_from layout.now m name.now dict.now.slots dict.now.slots.count 0 limit) result }

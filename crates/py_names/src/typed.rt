@@ -1,8 +1,9 @@
 //! The dict that an object's type says the object has.
 ghost use Rattle.std.specs.Prelude.{◌≡◌, ◌≢◌, IfOk};
 ghost use Rattle.process_memory.specs.Memory.{word_at};
-ghost use Rattle.process_memory.specs.Seen.{Reads, read_fault};
+ghost use Rattle.process_memory.specs.Seen.{ReadsRange, read_fault};
 ghost use Rattle.py_fields.specs.Sound.{IsSound};
+ghost use Rattle.py_builtins.specs.Consulted.{Consults};
 ghost use Rattle.py_builtins.specs.Dicts.{slots_of};
 ghost use Rattle.py_names.specs.NamesError.{names_fault};
 ghost use Rattle.py_names.specs.Typed.{beside, typed_slots};
@@ -18,7 +19,7 @@ pub(crate) fn word_beside<P: ProcessMemory>(
     addr: u64,
     distance: u64,
 ) -> Result<u64, ReadFault>
-    ensures { Reads read_fault 1 (P.seen process.old) (P.seen process.new)
+    ensures { ReadsRange read_fault (beside addr distance) 8 (P.seen process.old) (P.seen process.new)
         (λ m. word_at m (beside addr distance)) result }
 {
     if distance < 1 << 63 {
@@ -43,7 +44,7 @@ pub(crate) fn read_typed_dict<P: ProcessMemory>(
     class: ObjectType,
 ) -> Result<DictCursor, NamesError>
     requires sound { IsSound layout.now }
-    ensures answer { Reads names_fault 4 (P.seen process.old) (P.seen process.new)
+    ensures answer { Consults layout.now names_fault 4 (P.seen process.old) (P.seen process.new)
         (λ m. typed_slots layout.now m addr class) (slots_of result) }
     ensures start { IfOk result (λ cursor. cursor.passed ≡ 0) }
     ensures memory { result ≢ Err (NamesError.Object ObjectError.OutOfMemory) }

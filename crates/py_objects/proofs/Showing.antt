@@ -5,7 +5,8 @@ use Rattle.std.proofs.Math.Nat.{sub-zero, le_refl}
 use Rattle.std.specs.Prelude.{Option, Some, None, Ok, Err, nat_le, codes}
 use Rattle.std.proofs.lemmas.Bool.Decides.{nat_tests}
 use Rattle.process_memory.specs.Memory.{Memory, Found, Fault}
-use Rattle.process_memory.specs.Seen.{Seen, Reading}
+use Rattle.process_memory.specs.declared.memory.Span.{Span}
+use Rattle.process_memory.specs.Seen.{Seen, ReadingOf}
 use Rattle.process_memory.proofs.Reading.{reading_then, reading_gives, reading_none}
 use Rattle.py_objects.specs.Shown.{Shown, goes_on_shown, ◌>>=◌, give, TellsShown}
 use Rattle.py_objects.specs.ShownTexts.{dots}
@@ -65,12 +66,12 @@ joined_push [] t = append-nil t
 joined_push (u ∷ us) t = rw (joined_more us t) (sym (append_assoc u (joined_after us) (codes ", " ++ t)))
 
 -- parts that are under way: those before the k-th have texts, and stand in the text so far
-pub record Showing (part : Memory → ℕ → ℕ → Shown (Option (List ℕ))) (b : Brackets) (n w0 v0 : ℕ) (s0 s1 : Seen) (text : List ℕ) (is_first : Bool) (k w v : ℕ) : Type 0 where
+pub record Showing (allowed : Memory → Span → Type 0) (part : Memory → ℕ → ℕ → Shown (Option (List ℕ))) (b : Brackets) (n w0 v0 : ℕ) (s0 s1 : Seen) (text : List ℕ) (is_first : Bool) (k w v : ℕ) : Type 0 where
   pub texts : List (List ℕ)
   pub written : text ≡ opening b ++ joined texts
   pub first : is_first ≡ is_empty texts
   pub rises : v0 ≤ v
-  pub reading : Reading (8 * (v - v0)) s0 s1 (λ m. parts_at (part m) n 0 w0 v0 ≡ before texts (parts_at (part m) (n - k) k w v))
+  pub reading : ReadingOf allowed (8 * (v - v0)) s0 s1 (λ m. parts_at (part m) n 0 w0 v0 ≡ before texts (parts_at (part m) (n - k) k w v))
 
 -- the parts in brackets
 abbrev pub whole : (ℕ → ℕ → Shown (Option (List ℕ))) → Brackets → ℕ → ℕ → ℕ → Found (List ℕ) × ℕ
@@ -127,7 +128,7 @@ module _ (part : ℕ → ℕ → Shown (Option (List ℕ))) (b : Brackets) (n w0
       whole_is part b n w0 v0 v texts (e2 ∙ ap (λ u. (Ok u, v)) (append-nil texts))
 
 -- nothing is shown yet
-pub showing_init : (part : Memory → ℕ → ℕ → Shown (Option (List ℕ))) (b : Brackets) (n w0 v0 : ℕ) (s : Seen) (text : List ℕ) → text ≡ opening b → Showing part b n w0 v0 s s text true 0 w0 v0
+pub showing_init : {allowed : Memory → Span → Type 0} (part : Memory → ℕ → ℕ → Shown (Option (List ℕ))) (b : Brackets) (n w0 v0 : ℕ) (s : Seen) (text : List ℕ) → text ≡ opening b → Showing allowed part b n w0 v0 s s text true 0 w0 v0
 unfolding joined
 showing_init part b n w0 v0 s text e = record {
   texts = [];
@@ -137,9 +138,9 @@ showing_init part b n w0 v0 s text e = record {
   reading = reading_none _ s _ (λ m. rw sub-zero (before_none (parts_at (part m) n 0 w0 v0)));
 }
 
-module _ {part : Memory → ℕ → ℕ → Shown (Option (List ℕ))} {b : Brackets} {n w0 v0 : ℕ} {s0 s1 : Seen} {text : List ℕ} {is_first : Bool} {k w v : ℕ} where
+module _ {allowed : Memory → Span → Type 0} {part : Memory → ℕ → ℕ → Shown (Option (List ℕ))} {b : Brackets} {n w0 v0 : ℕ} {s0 s1 : Seen} {text : List ℕ} {is_first : Bool} {k w v : ℕ} where
   -- an empty slot
-  pub showing_skip : {E : Type 0} {fault : E → Option Fault} {s2 : Seen} {v2 : ℕ} → Showing part b n w0 v0 s0 s1 text is_first k w v → k < n → v < v2 → Reading (max 1 (8 * (v2 - v))) s1 s2 (λ m. TellsShown {E = E} fault (part m k w v) (Ok None) v2) → Showing part b n w0 v0 s0 s2 text is_first (k + 1) w v2
+  pub showing_skip : {E : Type 0} {fault : E → Option Fault} {s2 : Seen} {v2 : ℕ} → Showing allowed part b n w0 v0 s0 s1 text is_first k w v → k < n → v < v2 → ReadingOf allowed (max 1 (8 * (v2 - v))) s1 s2 (λ m. TellsShown {E = E} fault (part m k w v) (Ok None) v2) → Showing allowed part b n w0 v0 s0 s2 text is_first (k + 1) w v2
   showing_skip {v2 = v2} s below more r =
       let j : n - k ≡ suc (n - (k + 1)) = omega arith in
       record {
@@ -152,7 +153,7 @@ module _ {part : Memory → ℕ → ℕ → Shown (Option (List ℕ))} {b : Brac
       }
 
   -- a part that leaves room for more
-  pub showing_more : {E : Type 0} {fault : E → Option Fault} {s2 : Seen} {v2 : ℕ} (t text2 : List ℕ) (left : ℕ) → Showing part b n w0 v0 s0 s1 text is_first k w v → k < n → v < v2 → Reading (max 1 (8 * (v2 - v))) s1 s2 (λ m. TellsShown {E = E} fault (part m k w v) (Ok (Some t)) v2) → left ≡ w - (length t + 2) → 5 < left → text2 ≡ text ++ (separator is_first ++ t) → Showing part b n w0 v0 s0 s2 text2 false (k + 1) left v2
+  pub showing_more : {E : Type 0} {fault : E → Option Fault} {s2 : Seen} {v2 : ℕ} (t text2 : List ℕ) (left : ℕ) → Showing allowed part b n w0 v0 s0 s1 text is_first k w v → k < n → v < v2 → ReadingOf allowed (max 1 (8 * (v2 - v))) s1 s2 (λ m. TellsShown {E = E} fault (part m k w v) (Ok (Some t)) v2) → left ≡ w - (length t + 2) → 5 < left → text2 ≡ text ++ (separator is_first ++ t) → Showing allowed part b n w0 v0 s0 s2 text2 false (k + 1) left v2
   showing_more {v2 = v2} t text2 left s below more r is room written =
       let j : n - k ≡ suc (n - (k + 1)) = omega arith in
       record {
@@ -165,19 +166,19 @@ module _ {part : Memory → ℕ → ℕ → Shown (Option (List ℕ))} {b : Brac
       }
 
   -- a part that can't be shown
-  pub showing_stop : {E E' : Type 0} {fault : E → Option Fault} {fault' : E' → Option Fault} {s2 : Seen} {v2 : ℕ} {x : E} (x' : E') → Showing part b n w0 v0 s0 s1 text is_first k w v → k < n → v ≤ v2 → ((m : Memory) (k w : ℕ) → Rises (part m k w)) → Reading (max 1 (8 * (v2 - v))) s1 s2 (λ m. TellsShown {T = Option (List ℕ)} fault (part m k w v) (Err x) v2) → fault' x' ≡ fault x → Reading (8 * (v2 - v0) + 1) s0 s2 (λ m. TellsShown fault' (whole (part m) b n w0 v0) (Err x') v2)
+  pub showing_stop : {E E' : Type 0} {fault : E → Option Fault} {fault' : E' → Option Fault} {s2 : Seen} {v2 : ℕ} {x : E} (x' : E') → Showing allowed part b n w0 v0 s0 s1 text is_first k w v → k < n → v ≤ v2 → ((m : Memory) (k w : ℕ) → Rises (part m k w)) → ReadingOf allowed (max 1 (8 * (v2 - v))) s1 s2 (λ m. TellsShown {T = Option (List ℕ)} fault (part m k w v) (Err x) v2) → fault' x' ≡ fault x → ReadingOf allowed (8 * (v2 - v0) + 1) s0 s2 (λ m. TellsShown fault' (whole (part m) b n w0 v0) (Err x') v2)
   showing_stop {fault' = fault'} {v2 = v2} {x = x} x' s below more rises r same =
       reading_gives (8 * (v2 - v0) + 1) _ (reading_then _ s.reading r
       (λ m e t. part_stops (part m) b n w0 v0 s.texts k w v e fault' x x' v2 below t same (rises m))) (omega (arith, s.rises)) (λ m e. e)
 
   -- memory is wanting after a part
-  pub showing_lost : {E E' : Type 0} {fault : E → Option Fault} {fault' : E' → Option Fault} {s2 : Seen} {v2 : ℕ} {o : Option (List ℕ)} (x' : E') → Showing part b n w0 v0 s0 s1 text is_first k w v → k < n → v ≤ v2 → ((m : Memory) (k w : ℕ) → Rises (part m k w)) → Reading (max 1 (8 * (v2 - v))) s1 s2 (λ m. TellsShown {E = E} fault (part m k w v) (Ok o) v2) → fault' x' ≡ None → Reading (8 * (v2 - v0) + 1) s0 s2 (λ m. TellsShown fault' (whole (part m) b n w0 v0) (Err x') v2)
+  pub showing_lost : {E E' : Type 0} {fault : E → Option Fault} {fault' : E' → Option Fault} {s2 : Seen} {v2 : ℕ} {o : Option (List ℕ)} (x' : E') → Showing allowed part b n w0 v0 s0 s1 text is_first k w v → k < n → v ≤ v2 → ((m : Memory) (k w : ℕ) → Rises (part m k w)) → ReadingOf allowed (max 1 (8 * (v2 - v))) s1 s2 (λ m. TellsShown {E = E} fault (part m k w v) (Ok o) v2) → fault' x' ≡ None → ReadingOf allowed (8 * (v2 - v0) + 1) s0 s2 (λ m. TellsShown fault' (whole (part m) b n w0 v0) (Err x') v2)
   showing_lost {fault' = fault'} {v2 = v2} {o = o} x' s below more rises r none =
       reading_gives (8 * (v2 - v0) + 1) _ (reading_then _ s.reading r
       (λ m e t. part_lost (part m) b n w0 v0 s.texts k w v e fault' x' o v2 below t none (rises m))) (omega (arith, s.rises)) (λ m e. e)
 
   -- a part that leaves no room for more
-  pub showing_cut : {E E' : Type 0} {fault : E → Option Fault} {fault' : E' → Option Fault} {s2 : Seen} {v2 : ℕ} (t out : List ℕ) → Showing part b n w0 v0 s0 s1 text is_first k w v → k < n → v ≤ v2 → Reading (max 1 (8 * (v2 - v))) s1 s2 (λ m. TellsShown {E = E} fault (part m k w v) (Ok (Some t)) v2) → w - (length t + 2) ≤ 5 → out ≡ (text ++ (separator is_first ++ dots)) ++ closing b → Reading (8 * (v2 - v0) + 1) s0 s2 (λ m. TellsShown {E = E'} fault' (whole (part m) b n w0 v0) (Ok out) v2)
+  pub showing_cut : {E E' : Type 0} {fault : E → Option Fault} {fault' : E' → Option Fault} {s2 : Seen} {v2 : ℕ} (t out : List ℕ) → Showing allowed part b n w0 v0 s0 s1 text is_first k w v → k < n → v ≤ v2 → ReadingOf allowed (max 1 (8 * (v2 - v))) s1 s2 (λ m. TellsShown {E = E} fault (part m k w v) (Ok (Some t)) v2) → w - (length t + 2) ≤ 5 → out ≡ (text ++ (separator is_first ++ dots)) ++ closing b → ReadingOf allowed (8 * (v2 - v0) + 1) s0 s2 (λ m. TellsShown {E = E'} fault' (whole (part m) b n w0 v0) (Ok out) v2)
   unfolding enclosed
   showing_cut {v2 = v2} t out s below more r few is =
       let out_is : out ≡ enclosed b (s.texts ++ dots ∷ []) = is ∙ rw s.first (ap (λ u. u ++ closing b) (sym (enclosed_push b s.texts dots text s.written))) in
@@ -185,12 +186,12 @@ module _ {part : Memory → ℕ → ℕ → Shown (Option (List ℕ))} {b : Brac
       (λ m e a. tells_is (rw out_is (part_cuts (part m) b n w0 v0 s.texts k w v e t v2 below a few)))) (omega (arith, s.rises)) (λ m e. e)
 
   -- no part is left
-  pub showing_done : {E' : Type 0} {fault' : E' → Option Fault} (out : List ℕ) → Showing part b n w0 v0 s0 s1 text is_first k w v → n ≤ k → out ≡ text ++ closing b → Reading (8 * (v - v0) + 1) s0 s1 (λ m. TellsShown {E = E'} fault' (whole (part m) b n w0 v0) (Ok out) v)
+  pub showing_done : {E' : Type 0} {fault' : E' → Option Fault} (out : List ℕ) → Showing allowed part b n w0 v0 s0 s1 text is_first k w v → n ≤ k → out ≡ text ++ closing b → ReadingOf allowed (8 * (v - v0) + 1) s0 s1 (λ m. TellsShown {E = E'} fault' (whole (part m) b n w0 v0) (Ok out) v)
   unfolding enclosed
   showing_done out s over is =
       let out_is : out ≡ enclosed b s.texts = is ∙ ap (λ u. u ++ closing b) s.written in
       reading_gives (8 * (v - v0) + 1) _ s.reading (omega arith) (λ m e. tells_is (rw out_is (parts_done (part m) b n w0 v0 s.texts k w v e over)))
 
-  pub showing_unclosed : {E' : Type 0} {fault' : E' → Option Fault} (x' : E') → Showing part b n w0 v0 s0 s1 text is_first k w v → n ≤ k → fault' x' ≡ None → Reading (8 * (v - v0) + 1) s0 s1 (λ m. TellsShown fault' (whole (part m) b n w0 v0) (Err x') v)
+  pub showing_unclosed : {E' : Type 0} {fault' : E' → Option Fault} (x' : E') → Showing allowed part b n w0 v0 s0 s1 text is_first k w v → n ≤ k → fault' x' ≡ None → ReadingOf allowed (8 * (v - v0) + 1) s0 s1 (λ m. TellsShown fault' (whole (part m) b n w0 v0) (Err x') v)
   showing_unclosed x' s over none =
       reading_gives (8 * (v - v0) + 1) _ s.reading (omega arith) (λ m e. tells_lost x' none (rw (parts_done (part m) b n w0 v0 s.texts k w v e over) (le_refl v)))

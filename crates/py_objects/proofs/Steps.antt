@@ -3,10 +3,16 @@ use Rattle.std.proofs.Common.{List, ◌≡◌, ℕ, ◌+◌, ◌≤◌, refl, sy
 use Rattle.std.proofs.Math.Nat.{le_refl}
 use Rattle.std.specs.Prelude.{Option, Some, None, Result, Ok, Err}
 use Rattle.process_memory.specs.Memory.{Memory, Found, Fault}
-use Rattle.process_memory.specs.Seen.{Seen, Reading, Answers}
+use Rattle.process_memory.specs.declared.memory.Span.{Span}
+use Rattle.process_memory.specs.Seen.{Seen, ReadingOf, Answers}
 use Rattle.process_memory.proofs.Reading.{reading_then, reading_gives, reading_none}
 use Rattle.py_objects.specs.Shown.{Shown, goes_on_shown, ◌>>=◌, consult, TellsShown, CountOf}
 use Rattle.py_objects.specs.Shows.{Source, show_at, FaultShows, AnswerShows}
+use Rattle.py_builtins.specs.Consulted.{IsWidth}
+use Rattle.py_builtins.specs.Consulted.IsWidth.{One, Two, Four, Word}
+use Rattle.py_objects.specs.Kinds.{scalar_width}
+use Rattle.py_objects.specs.declared.kinds.Scalar.{Scalar}
+use Rattle.py_objects.specs.declared.kinds.Scalar.TheVariants.{Truth, U8, U16, U32, U64, I8, I16, I32, I64, F32, F64}
 
 -- visits only rise
 abbrev pub Rises : {T : Type 0} → Shown T → Type 0
@@ -64,21 +70,21 @@ tells_found v (Ok x) a = record { answer = a.is; count = refl }
 tells_found {fault = fault} v (Err e) a = record { answer = a.is; count = elim (fault e) as (λ o. CountOf o v v) [ None ↦ le_refl v | Some f ↦ refl ] }
 
 -- the same of readers
-pub shown_next : {T U E E' : Type 0} {fault : E → Option Fault} {fault' : E' → Option Fault} {n k : ℕ} (t : ℕ) {s0 s1 s2 : Seen} (c : Memory → Shown T) (v : ℕ) (f : Memory → T → Shown U) {v1 v2 : ℕ} {x : T} {r : Result U E'} → Reading n s0 s1 (λ m. TellsShown fault (c m v) (Ok x) v1) → Reading k s1 s2 (λ m. TellsShown fault' (f m x v1) r v2) → n + k ≤ t → Reading t s0 s2 (λ m. TellsShown fault' ((c m >>= f m) v) r v2)
+pub shown_next : {allowed : Memory → Span → Type 0} {T U E E' : Type 0} {fault : E → Option Fault} {fault' : E' → Option Fault} {n k : ℕ} (t : ℕ) {s0 s1 s2 : Seen} (c : Memory → Shown T) (v : ℕ) (f : Memory → T → Shown U) {v1 v2 : ℕ} {x : T} {r : Result U E'} → ReadingOf allowed n s0 s1 (λ m. TellsShown fault (c m v) (Ok x) v1) → ReadingOf allowed k s1 s2 (λ m. TellsShown fault' (f m x v1) r v2) → n + k ≤ t → ReadingOf allowed t s0 s2 (λ m. TellsShown fault' ((c m >>= f m) v) r v2)
 shown_next t c v f p q le = reading_gives t _ (reading_then _ p q (λ m a b. tells_then (c m) v (f m) a b)) le (λ m a. a)
 
-pub shown_halt : {T U E E' : Type 0} {fault : E → Option Fault} {fault' : E' → Option Fault} {n : ℕ} (t : ℕ) {s0 s1 : Seen} (c : Memory → Shown T) (v : ℕ) (f : Memory → T → Shown U) {v1 : ℕ} {e : E} (e' : E') → Reading n s0 s1 (λ m. TellsShown {T = T} fault (c m v) (Err e) v1) → fault' e' ≡ fault e → ((m : Memory) (x : T) → Rises (f m x)) → n ≤ t → Reading t s0 s1 (λ m. TellsShown fault' ((c m >>= f m) v) (Err e') v1)
+pub shown_halt : {allowed : Memory → Span → Type 0} {T U E E' : Type 0} {fault : E → Option Fault} {fault' : E' → Option Fault} {n : ℕ} (t : ℕ) {s0 s1 : Seen} (c : Memory → Shown T) (v : ℕ) (f : Memory → T → Shown U) {v1 : ℕ} {e : E} (e' : E') → ReadingOf allowed n s0 s1 (λ m. TellsShown {T = T} fault (c m v) (Err e) v1) → fault' e' ≡ fault e → ((m : Memory) (x : T) → Rises (f m x)) → n ≤ t → ReadingOf allowed t s0 s1 (λ m. TellsShown fault' ((c m >>= f m) v) (Err e') v1)
 shown_halt {fault' = fault'} t c v f e' p same rises le = reading_gives t _ p le (λ m a. tells_stop fault' (c m) v (f m) e' a same (rises m))
 
-pub shown_found : {T E : Type 0} {fault : E → Option Fault} {n : ℕ} {s0 s1 : Seen} {d : Memory → Found T} (v : ℕ) (r : Result T E) → Reading n s0 s1 (λ m. Answers fault (d m) r) → Reading n s0 s1 (λ m. TellsShown fault (consult (d m) v) r v)
+pub shown_found : {allowed : Memory → Span → Type 0} {T E : Type 0} {fault : E → Option Fault} {n : ℕ} {s0 s1 : Seen} {d : Memory → Found T} (v : ℕ) (r : Result T E) → ReadingOf allowed n s0 s1 (λ m. Answers fault (d m) r) → ReadingOf allowed n s0 s1 (λ m. TellsShown fault (consult (d m) v) r v)
 shown_found {n = n} v r p = reading_gives n _ p (le_refl n) (λ m a. tells_found v r a)
 
 -- nothing is read
-pub shown_pure : {T E : Type 0} {fault : E → Option Fault} (k : ℕ) {s : Seen} (d : Memory → Found T × ℕ) (r : Result T E) (v : ℕ) → ((m : Memory) → TellsShown fault (d m) r v) → Reading k s s (λ m. TellsShown fault (d m) r v)
+pub shown_pure : {allowed : Memory → Span → Type 0} {T E : Type 0} {fault : E → Option Fault} (k : ℕ) {s : Seen} (d : Memory → Found T × ℕ) (r : Result T E) (v : ℕ) → ((m : Memory) → TellsShown fault (d m) r v) → ReadingOf allowed k s s (λ m. TellsShown fault (d m) r v)
 shown_pure k d r v f = reading_none k _ _ f
 
 -- memory is wanting after what was read
-pub shown_lost : {T U E E' : Type 0} {fault : E → Option Fault} {fault' : E' → Option Fault} {n : ℕ} (t : ℕ) {s0 s1 : Seen} (c : Memory → Shown T) (v : ℕ) (f : Memory → T → Shown U) {v1 : ℕ} {x : T} (e' : E') → Reading n s0 s1 (λ m. TellsShown {E = E} fault (c m v) (Ok x) v1) → fault' e' ≡ None → ((m : Memory) (x : T) → Rises (f m x)) → n ≤ t → Reading t s0 s1 (λ m. TellsShown fault' ((c m >>= f m) v) (Err e') v1)
+pub shown_lost : {allowed : Memory → Span → Type 0} {T U E E' : Type 0} {fault : E → Option Fault} {fault' : E' → Option Fault} {n : ℕ} (t : ℕ) {s0 s1 : Seen} (c : Memory → Shown T) (v : ℕ) (f : Memory → T → Shown U) {v1 : ℕ} {x : T} (e' : E') → ReadingOf allowed n s0 s1 (λ m. TellsShown {E = E} fault (c m v) (Ok x) v1) → fault' e' ≡ None → ((m : Memory) (x : T) → Rises (f m x)) → n ≤ t → ReadingOf allowed t s0 s1 (λ m. TellsShown fault' ((c m >>= f m) v) (Err e') v1)
 shown_lost t c v f {v1 = v1} {x = x} e' p none rises le = reading_gives t _ p le (λ m a. let q = rises m x v1 in tells_then (c m) v (f m) a (tells_lost e' none q))
 
 -- the count is at most what the definition says
@@ -87,11 +93,11 @@ tells_least p (Ok x) t = rw t.count (le_refl p.1)
 tells_least {fault = fault} p (Err e) {n} t = elim (fault e) as (λ o. CountOf o p.1 n → n ≤ p.1) [ None ↦ λ h. h | Some f ↦ λ h. rw h (le_refl p.1) ] t.count
 
 -- two readers, with the bound as a side condition
-pub reading_both : {n k : ℕ} {s0 s1 s2 : Seen} {P Q : Memory → Type 0} (t : ℕ) (R : Memory → Type 0) → Reading n s0 s1 P → Reading k s1 s2 Q → ((m : Memory) → P m → Q m → R m) → n + k ≤ t → Reading t s0 s2 R
+pub reading_both : {allowed : Memory → Span → Type 0} {n k : ℕ} {s0 s1 s2 : Seen} {P Q : Memory → Type 0} (t : ℕ) (R : Memory → Type 0) → ReadingOf allowed n s0 s1 P → ReadingOf allowed k s1 s2 Q → ((m : Memory) → P m → Q m → R m) → n + k ≤ t → ReadingOf allowed t s0 s2 R
 reading_both t R p q f le = reading_gives t R (reading_then R p q f) le (λ m a. a)
 
 -- memory is wanting
-pub reads_lost : {T E : Type 0} {fault : E → Option Fault} {n : ℕ} (k : ℕ) {s0 s1 : Seen} {Q : Memory → Type 0} (d : Memory → Found T) (e : E) → Reading n s0 s1 Q → n ≤ k → fault e ≡ None → Reading k s0 s1 (λ m. Answers fault (d m) (Err e))
+pub reads_lost : {allowed : Memory → Span → Type 0} {T E : Type 0} {fault : E → Option Fault} {n : ℕ} (k : ℕ) {s0 s1 : Seen} {Q : Memory → Type 0} (d : Memory → Found T) (e : E) → ReadingOf allowed n s0 s1 Q → n ≤ k → fault e ≡ None → ReadingOf allowed k s0 s1 (λ m. Answers fault (d m) (Err e))
 reads_lost k d e p le none = reading_gives k _ p le (λ m a. record { is = rw none tt })
 
 -- what is told, in the words of the public clause
@@ -105,3 +111,17 @@ module _ {V P E : Type 0} (fault : E → Option Fault) (s : Source V P) (a : V) 
         | None ↦ λ is. let le : n ≤ (show_at s 256 w a v).1 = rw is at t.count in ((show_at s 256 w a v).0, (show_at s 256 w a v).1, refl, le)
         | Some f ↦ λ is. let x : (show_at s 256 w a v).0 ≡ Err f = rw is at t.answer in let y : n ≡ (show_at s 256 w a v).1 = rw is at t.count in pair_is x (sym y)
       ] refl
+
+-- how wide one of numpy's numbers is
+pub scalar_wide : (s : Scalar) → IsWidth (scalar_width s)
+scalar_wide Truth = One
+scalar_wide U8 = One
+scalar_wide U16 = Two
+scalar_wide U32 = Four
+scalar_wide U64 = Word
+scalar_wide I8 = One
+scalar_wide I16 = Two
+scalar_wide I32 = Four
+scalar_wide I64 = Word
+scalar_wide F32 = Four
+scalar_wide F64 = Word

@@ -1,7 +1,7 @@
 //! What the values of a process are, and their parts.
 ghost use Rattle.std.specs.Prelude.{◌+◌, ◌≤◌, ◌<◌, IfOk};
-ghost use Rattle.process_memory.specs.Seen.{Reads};
 ghost use Rattle.py_fields.specs.Sound.{IsSound};
+ghost use Rattle.py_builtins.specs.Consulted.{Consults, ReadsFields};
 ghost use Rattle.py_builtins.specs.ObjectError.{object_fault};
 ghost use Rattle.py_objects.specs.Nodes.{child_at, class_at, class_of, dict_node, float_node, items_node, kind_node};
 ghost use Rattle.py_objects.specs.Nodes.{long_node, node_at, nodes_of, part_read, parts_read, parts_place_of};
@@ -61,8 +61,8 @@ pub fn read_node<P: ProcessMemory>(
     addr: u64,
 ) -> Result<Node, ObjectError>
     requires sound { IsSound layout.now }
-    ensures { Reads object_fault 6 (P.seen process.old) (P.seen process.new) (λ m. node_at layout.now m addr)
-        (nodes_of result) }
+    ensures { Consults layout.now object_fault 6 (P.seen process.old) (P.seen process.new)
+        (λ m. node_at layout.now m addr) (nodes_of result) }
 {
     let (flags, name) = read_class(alloc, process, layout, addr)?;
     let kind = kind_of(layout.bytes_text, flags, &name);
@@ -77,8 +77,8 @@ fn read_class<P: ProcessMemory>(
     addr: u64,
 ) -> Result<(u64, String), ObjectError>
     requires sound { IsSound layout.now }
-    ensures { Reads object_fault 3 (P.seen process.old) (P.seen process.new) (λ m. class_at layout.now m addr)
-        (class_of result) }
+    ensures { Consults layout.now object_fault 3 (P.seen process.old) (P.seen process.new)
+        (λ m. class_at layout.now m addr) (class_of result) }
 {
     let class = read_type(alloc, process, layout, addr)?;
     let chars = record(alloc, process, class.name, NAME_LIMIT)?;
@@ -96,7 +96,7 @@ fn read_kind<P: ProcessMemory>(
     kind: Kind,
 ) -> Result<Node, ObjectError>
     requires sound { IsSound layout.now }
-    ensures { Reads object_fault 3 (P.seen process.old) (P.seen process.new)
+    ensures { Consults layout.now object_fault 3 (P.seen process.old) (P.seen process.new)
         (λ m. kind_node layout.now m addr name.now kind) (nodes_of result) }
 {
     match kind {
@@ -121,7 +121,7 @@ fn read_small<P: ProcessMemory>(
     name: &str,
 ) -> Result<Node, ObjectError>
     requires sound { IsSound layout.now }
-    ensures { Reads object_fault 1 (P.seen process.old) (P.seen process.new)
+    ensures { Consults layout.now object_fault 1 (P.seen process.old) (P.seen process.new)
         (λ m. small_node layout.now m addr name.now) (nodes_of result) }
 {
     let value = copy_int(process, layout, addr)?;
@@ -136,7 +136,7 @@ fn read_long<P: ProcessMemory>(
     name: &str,
 ) -> Result<Node, ObjectError>
     requires sound { IsSound layout.now }
-    ensures { Reads object_fault 2 (P.seen process.old) (P.seen process.new)
+    ensures { Consults layout.now object_fault 2 (P.seen process.old) (P.seen process.new)
         (λ m. long_node layout.now m addr name.now) (nodes_of result) }
 {
     let (value, is_big) = copy_long(process, layout, addr)?;
@@ -150,8 +150,8 @@ fn read_text<P: ProcessMemory>(
     addr: u64,
 ) -> Result<Node, ObjectError>
     requires sound { IsSound layout.now }
-    ensures { Reads object_fault 2 (P.seen process.old) (P.seen process.new) (λ m. text_node layout.now m addr)
-        (nodes_of result) }
+    ensures { Consults layout.now object_fault 2 (P.seen process.old) (P.seen process.new)
+        (λ m. text_node layout.now m addr) (nodes_of result) }
 {
     Ok(Node::Quoted(copy_string(alloc, process, layout, addr)?))
 }
@@ -163,7 +163,7 @@ fn read_dict<P: ProcessMemory>(
     addr: u64,
 ) -> Result<Node, ObjectError>
     requires sound { IsSound layout.now }
-    ensures { Reads object_fault 2 (P.seen process.old) (P.seen process.new)
+    ensures { Consults layout.now object_fault 2 (P.seen process.old) (P.seen process.new)
         (λ m. dict_node layout.now.dicts layout.now m addr) (nodes_of result) }
 {
     match layout.dicts {
@@ -178,8 +178,8 @@ fn read_slots<P: ProcessMemory>(
     addr: u64,
 ) -> Result<Node, ObjectError>
     requires sound { IsSound layout.now }
-    ensures { Reads object_fault 2 (P.seen process.old) (P.seen process.new) (λ m. slots_node layout.now m addr)
-        (nodes_of result) }
+    ensures { Consults layout.now object_fault 2 (P.seen process.old) (P.seen process.new)
+        (λ m. slots_node layout.now m addr) (nodes_of result) }
 {
     let cursor = DictCursor::from(process, layout, addr)?;
     Ok(Node::Many {
@@ -196,7 +196,7 @@ fn read_sequence<P: ProcessMemory>(
     addr: u64,
 ) -> Result<Node, ObjectError>
     requires sound { IsSound layout.now }
-    ensures { Reads object_fault 1 (P.seen process.old) (P.seen process.new)
+    ensures { Consults layout.now object_fault 1 (P.seen process.old) (P.seen process.new)
         (λ m. items_node layout.now m sequence addr) (nodes_of result) }
 {
     let items = read_items(alloc, process, layout, sequence, addr)?;
@@ -213,8 +213,8 @@ fn read_float<P: ProcessMemory>(
     addr: u64,
 ) -> Result<Node, ObjectError>
     requires sound { IsSound layout.now }
-    ensures { Reads object_fault 1 (P.seen process.old) (P.seen process.new) (λ m. float_node layout.now m addr)
-        (nodes_of result) }
+    ensures { Consults layout.now object_fault 1 (P.seen process.old) (P.seen process.new)
+        (λ m. float_node layout.now m addr) (nodes_of result) }
 {
     let float = record(alloc, process, addr, layout.float.size as u64)?;
     let bits = u64_in(&float, layout.float.value as usize);
@@ -229,7 +229,7 @@ fn read_scalar<P: ProcessMemory>(
     scalar: Scalar,
 ) -> Result<Node, ObjectError>
     requires sound { IsSound layout.now }
-    ensures { Reads object_fault 1 (P.seen process.old) (P.seen process.new)
+    ensures { Consults layout.now object_fault 1 (P.seen process.old) (P.seen process.new)
         (λ m. scalar_node layout.now m addr scalar) (nodes_of result) }
 {
     let place = addr as u128 + layout.object.size as u128;
@@ -243,7 +243,7 @@ pub fn read_child<P: ProcessMemory>(
     parts: &Parts,
     number: u64,
 ) -> Result<Child, ObjectError>
-    ensures answer { Reads object_fault (1 + slot_visits parts.now) (P.seen process.old) (P.seen process.new)
+    ensures answer { ReadsFields object_fault (1 + slot_visits parts.now) (P.seen process.old) (P.seen process.new)
         (λ m. child_at m (parts_place_of parts.now) number) (parts_read result) }
     ensures texts { IfOk result (λ child. 1 ≤ texts_of (part_read child) + slot_visits parts.now) }
 {

@@ -2,8 +2,8 @@
 ghost use Rattle.std.specs.Prelude.{◌≡◌, ◌+◌, ◌-◌, ◌*◌, ◌<◌, ◌≤◌, ◌++◌, OnOk, IfOk, max, string_bytes, encode_utf8_all};
 ghost use Rattle.std.specs.Prelude.{codes, length, None};
 ghost use Rattle.std.specs.Str.{chars};
-ghost use Rattle.process_memory.specs.Seen.{Reading};
 ghost use Rattle.py_fields.specs.Sound.{IsSound};
+ghost use Rattle.py_builtins.specs.Consulted.{Consulting};
 ghost use Rattle.py_builtins.specs.ObjectError.{object_fault};
 ghost use Rattle.py_objects.specs.Nodes.{brackets_of, node_of, part_read, parts_place_of, slot_visits, texts_of};
 ghost use Rattle.py_objects.specs.Nodes.{values_in};
@@ -64,7 +64,7 @@ pub fn format_variable<P: ProcessMemory>(
     ensures rises { visits.old ≤ visits.new }
     ensures few { visits.new ≤ max visits.old 4096 }
     ensures characters { IfOk result (λ text. text ≡ chars (encode_utf8_all text)) }
-    ensures shown { Reading (8 * (visits.new - visits.old)) (P.seen process.old) (P.seen process.new)
+    ensures shown { Consulting layout.now (8 * (visits.new - visits.old)) (P.seen process.old) (P.seen process.new)
         (λ m. AnswerShows object_fault (values_in layout.now m) addr (width_of max_length) visits.old
         (bytes_shown result) visits.new) }
 {
@@ -94,7 +94,7 @@ fn show_value<P: ProcessMemory>(
     requires sound { IsSound layout.now }
     ensures rises { visits.old ≤ visits.new }
     ensures begins { 5 < width → OnOk result (visits.old < visits.new) }
-    ensures shown { Reading (8 * (visits.new - visits.old) - 1) (P.seen process.old) (P.seen process.new)
+    ensures shown { Consulting layout.now (8 * (visits.new - visits.old) - 1) (P.seen process.old) (P.seen process.new)
         (λ m. TellsShown object_fault (show_at (values_in layout.now m) levels width addr visits.old) (text_of result)
         visits.new) }
 {
@@ -138,7 +138,7 @@ fn show_node<P: ProcessMemory>(
     requires sound { IsSound layout.now }
     requires wide { 5 < width }
     ensures rises { visits.old ≤ visits.new }
-    ensures shown { Reading (8 * (visits.new - visits.old) + 1) (P.seen process.old) (P.seen process.new)
+    ensures shown { Consulting layout.now (8 * (visits.new - visits.old) + 1) (P.seen process.old) (P.seen process.new)
         (λ m. TellsShown object_fault
         (node_shown (values_in layout.now m) (λ w a. show_at (values_in layout.now m) levels w a)
         width (node_of node) visits.old) (text_of result) visits.new) }
@@ -173,7 +173,7 @@ fn show_parts<P: ProcessMemory>(
 ) -> Result<String, ObjectError>
     requires sound { IsSound layout.now }
     ensures rises { visits.old ≤ visits.new }
-    ensures shown { Reading (8 * (visits.new - visits.old) + 1) (P.seen process.old) (P.seen process.new)
+    ensures shown { Consulting layout.now (8 * (visits.new - visits.old) + 1) (P.seen process.old) (P.seen process.new)
         (λ m. TellsShown object_fault
         (parts_shown (values_in layout.now m) (λ w a. show_at (values_in layout.now m) levels w a)
         (brackets_of parts.now) count (parts_place_of parts.now) width visits.old)
@@ -259,8 +259,8 @@ fn show_part<P: ProcessMemory>(
     ensures rises { visits.old ≤ visits.new }
     ensures begins { 5 < width → OnOk result (visits.old < visits.new) }
     ensures skips { IfOk result (λ o. o ≡ None → visits.old < visits.new) }
-    ensures shown { Reading (max 1 (8 * (visits.new - visits.old))) (P.seen process.old) (P.seen process.new)
-        (λ m. TellsShown object_fault
+    ensures shown { Consulting layout.now (max 1 (8 * (visits.new - visits.old)))
+        (P.seen process.old) (P.seen process.new) (λ m. TellsShown object_fault
         (part_at (values_in layout.now m) (λ w a. show_at (values_in layout.now m) levels w a)
         (brackets_of parts.now) (parts_place_of parts.now) number width visits.old)
         (part_of result) visits.new) }
@@ -298,7 +298,7 @@ fn show_child<P: ProcessMemory>(
     ensures rises { visits.old ≤ visits.new }
     ensures begins { 5 < width → OnOk result (visits.old + texts_of (part_read child) ≤ visits.new) }
     ensures skips { IfOk result (λ o. o ≡ None → texts_of (part_read child) ≡ 0) }
-    ensures shown { Reading (8 * (visits.new - visits.old) - 1) (P.seen process.old) (P.seen process.new)
+    ensures shown { Consulting layout.now (8 * (visits.new - visits.old) - 1) (P.seen process.old) (P.seen process.new)
         (λ m. TellsShown object_fault
         (child_shown (λ w a. show_at (values_in layout.now m) levels w a) width (part_read child) visits.old)
         (part_of result) visits.new) }

@@ -1,6 +1,6 @@
 -- What reads some sections of an image reads those of a process.
 use Rattle.std.proofs.Common.{◌≡◌, ℕ, inl, inr}
-use Rattle.std.specs.Prelude.{◌⊎◌, Option, Some, None, option_map}
+use Rattle.std.specs.Prelude.{Option, Some, option_map}
 use Rattle.process_memory.specs.Memory.{Memory}
 use Rattle.process_memory.specs.Seen.{IsRange, IsShortOr, Reading, ReadingOf, Seen}
 use Rattle.process_memory.specs.declared.memory.Span.{Span}
@@ -18,12 +18,10 @@ pub bss_in : (image : Option BinaryInfo) (b : BinaryInfo) → image ≡ Some b �
 bss_in image b is m s h = rw is (inr h)
 
 pub program_searched : (k : Known) (m : Memory) (s : Span) → IsShortOr (IsSectionIn k.program) m s → IsSearched k m s
-program_searched k m s (inl short) = inl short
-program_searched k m s (inr section) = inr (inl section)
+program_searched k = others_wider (IsSectionIn k.program) (IsSection k) (λ m s section. inl section)
 
 pub library_searched : (k : Known) (m : Memory) (s : Span) → IsShortOr (IsSectionIn k.library) m s → IsSearched k m s
-library_searched k m s (inl short) = inl short
-library_searched k m s (inr section) = inr (inr section)
+library_searched k = others_wider (IsSectionIn k.library) (IsSection k) (λ m s section. inr section)
 
 -- the same of readers
 pub searching : {n : ℕ} {s0 s1 : Seen} {Q : Memory → Type 0} (k : Known) → Reading n s0 s1 Q → ReadingOf (IsSearched k) n s0 s1 Q

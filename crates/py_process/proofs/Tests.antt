@@ -1,5 +1,5 @@
 -- The test of one candidate, and what it costs.
-use Rattle.std.proofs.Common.{◌≡◌, ℕ, ◌+◌, ◌≤◌, ◌^◌, Bool, true, false, List, [], ◌∷◌, refl, ap, ◌∙◌, arith}
+use Rattle.std.proofs.Common.{◌≡◌, ℕ, ◌+◌, ◌≤◌, Bool, true, false, List, [], ◌∷◌, refl, ap, ◌∙◌, arith}
 use Rattle.std.specs.Prelude.{◌&&◌, Option, Some, None, Result, Ok, Err, MatchOption, option_to_list}
 use Rattle.std.proofs.lemmas.Bool.{and_parts}
 use Rattle.process_memory.specs.Memory.{Memory, Found, Fault, byte_at}

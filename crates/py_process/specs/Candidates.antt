@@ -1,7 +1,7 @@
 -- The addresses that may be the interpreter's, in order, and the first that is one. Where the symbols stand is
 -- CPython's (`interp_head` up to 3.6, `_PyRuntime` from 3.7 on); that words of sections are tried is this
 -- project's own rule, after py-spy.
-use Rattle.std.specs.Prelude.{◌≡◌, ℕ, ◌+◌, ◌*◌, ◌^◌, nat_eq, ◌&&◌, Bool, false, if◌then◌else◌, IsTrue, All, List, []}
+use Rattle.std.specs.Prelude.{◌≡◌, ℕ, ◌+◌, ◌*◌, nat_eq, ◌&&◌, Bool, false, if◌then◌else◌, IsTrue, All, List, []}
 use Rattle.std.specs.Prelude.{◌∷◌, ◌++◌, length, Option, Some, None, Result, Ok, Err, ⊤, codes, find, option_to_list}
 use Rattle.std.specs.Int.{w64, from_le_bytes}
 use Rattle.elf64_core.specs.Fields.{u64_in}

@@ -1,7 +1,7 @@
 -- The sections of the images of a process that a search reads whole, however long they are.
 use Rattle.std.specs.Prelude.{◌⊎◌, Option, Some, None}
 use Rattle.process_memory.specs.Memory.{Memory}
-use Rattle.process_memory.specs.Seen.{IsRange, IsShort}
+use Rattle.process_memory.specs.Seen.{IsRange, IsShortOr}
 use Rattle.process_memory.specs.declared.memory.Span.{Span}
 use Rattle.py_process.specs.Facts.{Facts, Known}
 
@@ -21,4 +21,4 @@ IsSection k m s = IsSectionIn k.program m s ⊎ IsSectionIn k.library m s
 
 -- what a search may read: a range shorter than 65536 bytes, or exactly one of those sections
 abbrev pub IsSearched : Known → Memory → Span → Type 0
-IsSearched k m s = IsShort m s ⊎ IsSection k m s
+IsSearched k m s = IsShortOr (IsSection k) m s

@@ -3,7 +3,9 @@ use Rattle.std.proofs.Common.{◌≡◌, ◌≢◌, ℕ, ◌+◌, ◌*◌, ◌�
 use Rattle.std.proofs.lemmas.Bool.Decides.{nat_tests}
 use Rattle.std.specs.Prelude.{Some, None, MatchOption, Result, Ok, Err, IfOk, IsTrue, ◌↔◌}
 use Rattle.process_memory.specs.Memory.{Memory, Found, Fault, ◌>>=◌, byte_at}
-use Rattle.process_memory.specs.Seen.{Seen, Reads, Answers, FaultIs}
+use Rattle.process_memory.specs.Seen.{Seen, Answers, FaultIs, ReadsOf}
+use Rattle.py_builtins.specs.Consulted.{Consults}
+use Rattle.process_memory.specs.declared.memory.Span.{Span}
 use Rattle.process_memory.proofs.Reading.{reading_gives, reading_here, reading_then, reads_within}
 use Rattle.py_fields.specs.declared.layout.Layout.{Layout}
 use Rattle.py_stacks.specs.declared.error.StackError.{StackError}
@@ -23,9 +25,9 @@ use Rattle.py_stacks.proofs.Wholes.{traces_whole}
 use Rattle.process_memory.proofs.Founds.{ok_same}
 
 -- a fault of what is tested refuses
-pub reads_refused : {T : Type 0} {n : ℕ} {s0 s1 : Seen} {e : StackError} {result : Result Bool StackError} (d : Memory → Found T) (g : Memory → Found T → Bool)
-    → ((m : Memory) (f : Fault) → g m (Err f) ≡ false) → Reads {T = T} stack_fault n s0 s1 d (Err e) → RefusesAddress e result
-    → Reads stack_fault n s0 s1 (λ m. Ok (g m (d m))) result
+pub reads_refused : {allowed : Memory → Span → Type 0} {T : Type 0} {n : ℕ} {s0 s1 : Seen} {e : StackError} {result : Result Bool StackError} (d : Memory → Found T) (g : Memory → Found T → Bool)
+    → ((m : Memory) (f : Fault) → g m (Err f) ≡ false) → ReadsOf {T = T} allowed stack_fault n s0 s1 d (Err e) → RefusesAddress e result
+    → ReadsOf allowed stack_fault n s0 s1 (λ m. Ok (g m (d m))) result
 reads_refused {T = T} {n = n} {e = e} {result = result} d g refuse r is = reading_gives n _ r (omega arith) (λ m a.
     elim (stack_fault e) as (λ o. FaultIs (d m) o → MatchOption o (result ≡ Err OutOfMemory) (λ f. result ≡ Ok false) → Answers stack_fault (Ok (g m (d m))) result)
     [ None ↦ λ h same. rw same (record { is = tt }) | Some f ↦ λ h same. rw (same, h) (record { is = ap Ok (refuse m f) }) ] a.is is)
@@ -51,9 +53,9 @@ from_budget l m a head named same e = let is : eqb named a ≡ true = grind (ari
 
 -- the thread names the address, and the walk is made
 pub from_then : {s0 s1 s2 : Seen} {result : Result Bool StackError} (l : Layout) (a head named : ℕ) → named ≡ a
-    → Reads {E = StackError} stack_fault 1 s0 s1 (λ m. interpreter_named_by l m head) (Ok named)
-    → Reads stack_fault (traces_cost nothing l (byte_at s1.pieces) a) s1 s2 (λ m. Ok (was_found (traces_at nothing l m a))) result
-    → Reads stack_fault (cost_from l (byte_at s0.pieces) a head) s0 s2 (λ m. Ok (passes_from l m a head)) result
+    → Consults {E = StackError} l stack_fault 1 s0 s1 (λ m. interpreter_named_by l m head) (Ok named)
+    → Consults l stack_fault (traces_cost nothing l (byte_at s1.pieces) a) s1 s2 (λ m. Ok (was_found (traces_at nothing l m a))) result
+    → Consults l stack_fault (cost_from l (byte_at s0.pieces) a head) s0 s2 (λ m. Ok (passes_from l m a head)) result
 from_then {s0 = s0} {result = result} l a head named same r w =
     let budget = from_budget l (byte_at s0.pieces) a head named same (reading_here r).is in
     reads_within _ (reading_then (λ m. Answers stack_fault (Ok (passes_from l m a head)) result) r w (λ m x y. rw (from_this l m a head named same x.is) y)) (rw r.pieces budget)
@@ -81,8 +83,8 @@ unfolding passes named_at
 passes_headless l m a f e = rw e refl
 
 pub reads_headless : {s0 s1 : Seen} {e : StackError} {result : Result Bool StackError} (l : Layout) (a : ℕ)
-    → Reads {T = ℕ} stack_fault 1 s0 s1 (λ m. threads_head l m a) (Err e) → RefusesAddress e result
-    → Reads stack_fault 1 s0 s1 (λ m. Ok (passes l m a)) result
+    → Consults {T = ℕ} l stack_fault 1 s0 s1 (λ m. threads_head l m a) (Err e) → RefusesAddress e result
+    → Consults l stack_fault 1 s0 s1 (λ m. Ok (passes l m a)) result
 unfolding passes named_at
 reads_headless l a r is = reads_refused (λ m. threads_head l m a) (λ m d. passes_named l m a (d >>= interpreter_named_by l m)) (λ m f. refl) r is
 
@@ -96,9 +98,9 @@ cost_split l m a head e = let same = ap (where_named (traces_cost nothing l m a)
 
 -- the head was read, and then the rest of the test
 pub test_then : {s0 s1 s2 : Seen} {result : Result Bool StackError} (l : Layout) (a head : ℕ)
-    → Reads {E = StackError} stack_fault 1 s0 s1 (λ m. threads_head l m a) (Ok head)
-    → Reads stack_fault (cost_from l (byte_at s1.pieces) a head) s1 s2 (λ m. Ok (passes_from l m a head)) result
-    → Reads stack_fault (test_cost l (byte_at s0.pieces) a) s0 s2 (λ m. Ok (passes l m a)) result
+    → Consults {E = StackError} l stack_fault 1 s0 s1 (λ m. threads_head l m a) (Ok head)
+    → Consults l stack_fault (cost_from l (byte_at s1.pieces) a head) s1 s2 (λ m. Ok (passes_from l m a head)) result
+    → Consults l stack_fault (test_cost l (byte_at s0.pieces) a) s0 s2 (λ m. Ok (passes l m a)) result
 test_then {s0 = s0} {result = result} l a head r w =
     let budget = cost_split l (byte_at s0.pieces) a head (reading_here r).is in
     reads_within _ (reading_then (λ m. Answers stack_fault (Ok (passes l m a)) result) r w (λ m x y. rw (passes_split l m a head x.is) y)) (rw r.pieces budget)

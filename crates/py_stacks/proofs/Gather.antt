@@ -6,7 +6,8 @@ use Rattle.std.proofs.lemmas.List.{map-append}
 use Rattle.std.proofs.lemmas.Option.{same_Some}
 use Rattle.process_memory.specs.Memory.{Memory, Fault, ◌>>=◌, byte_at}
 use Rattle.process_memory.specs.Memory.Fault.{ChainLimit, FrameLimit}
-use Rattle.process_memory.specs.Seen.{Seen, Reads}
+use Rattle.process_memory.specs.Seen.{Seen}
+use Rattle.py_builtins.specs.Consulted.{Consults}
 use Rattle.process_memory.specs.Walk.{Step, walk_at}
 use Rattle.process_memory.proofs.Founds.{bound, ok_same}
 use Rattle.process_memory.proofs.Reading.{reading_gives, reading_here, answers_then, answers_stop}
@@ -95,7 +96,7 @@ module _ {q : Asked} {l : Layout} {first : ℕ} {s0 s1 : Seen} {frames : List Fr
   -- one member more
   pub gather_more : {s2 : Seen} {back : ℕ} {new : List Frame} (part : Option Frame)
       → Gathering q l first s0 s1 frames met at → at ≢ 0 → met < member_limit
-      → Reads stack_fault (member_cost q l (byte_at s1.pieces) (length frames) at) s1 s2 (λ m. frame_step q l m (length frames) at) (step_of_result (length frames) (Ok (back, part)))
+      → Consults l stack_fault (member_cost q l (byte_at s1.pieces) (length frames) at) s1 s2 (λ m. frame_step q l m (length frames) at) (step_of_result (length frames) (Ok (back, part)))
       → Adds frames part new → Gathering q l first s0 s2 new (met + 1) back
   gather_more {s2} {back} {new} None g some below r adds =
       let walking = walking_more g.walking some below r in
@@ -116,21 +117,21 @@ module _ {q : Asked} {l : Layout} {first : ℕ} {s0 s1 : Seen} {frames : List Fr
       }
 
 frames_end : {E : Type 0} {fault : E → Option Fault} (q : Asked) (l : Layout) (first : ℕ) {n : ℕ} {s0 s1 : Seen} (members : List (Option Call))
-    → Reads {T = List (Option Call)} {E = E} fault n s0 s1 (λ m. walk_at ChainLimit (frame_step q l m) member_limit 0 first) (Ok members)
-    → Reads fault n s0 s1 (λ m. frames_at q l m first) (Ok (shown members))
+    → Consults {T = List (Option Call)} {E = E} l fault n s0 s1 (λ m. walk_at ChainLimit (frame_step q l m) member_limit 0 first) (Ok members)
+    → Consults l fault n s0 s1 (λ m. frames_at q l m first) (Ok (shown members))
 unfolding frames_at members_at
 frames_end q l first {n = n} members r = reading_gives n _ r (omega arith) (λ m a. answers_then (λ ms. Ok (shown ms)) a (record { is = refl }))
 
 frames_stop : {E : Type 0} {fault : E → Option Fault} (q : Asked) (l : Layout) (first : ℕ) {n : ℕ} {s0 s1 : Seen} (e : E)
-    → Reads {T = List (Option Call)} {E = E} fault n s0 s1 (λ m. walk_at ChainLimit (frame_step q l m) member_limit 0 first) (Err e)
-    → Reads fault n s0 s1 (λ m. frames_at q l m first) (Err e)
+    → Consults {T = List (Option Call)} {E = E} l fault n s0 s1 (λ m. walk_at ChainLimit (frame_step q l m) member_limit 0 first) (Err e)
+    → Consults l fault n s0 s1 (λ m. frames_at q l m first) (Err e)
 unfolding frames_at members_at
 frames_stop {fault = fault} q l first {n = n} e r = reading_gives n _ r (omega arith) (λ m a. answers_stop fault e (λ ms. Ok (shown ms)) a refl)
 
 module _ {q : Asked} {l : Layout} {first : ℕ} {s0 s1 : Seen} {frames : List Frame} {met at : ℕ} where
   -- the chain is at its end
   pub gather_done : {new : List Frame} → Gathering q l first s0 s1 frames met at → at ≡ 0 → new ≡ mark_last frames
-      → Reads stack_fault (frames_cost q l (byte_at s0.pieces) first) s0 s1 (λ m. frames_at q l m first) (Ok (map call_of new))
+      → Consults l stack_fault (frames_cost q l (byte_at s0.pieces) first) s0 s1 (λ m. frames_at q l m first) (Ok (map call_of new))
   unfolding frames_cost
   gather_done {new = new} g zero_at adds =
       let is : map call_of new ≡ shown g.members = ap (map call_of) adds ∙ map-mark_last frames ∙ ap mark_call g.held ∙ sym (shown-last g.members) in
@@ -138,24 +139,24 @@ module _ {q : Asked} {l : Layout} {first : ℕ} {s0 s1 : Seen} {frames : List Fr
 
   -- it goes on past the limit of members
   pub gather_full : Gathering q l first s0 s1 frames met at → at ≢ 0 → met ≡ member_limit
-      → Reads stack_fault (frames_cost q l (byte_at s0.pieces) first) s0 s1 (λ m. frames_at q l m first) (Err stack.ChainLimit)
+      → Consults l stack_fault (frames_cost q l (byte_at s0.pieces) first) s0 s1 (λ m. frames_at q l m first) (Err stack.ChainLimit)
   unfolding frames_cost
   gather_full g some full = frames_stop q l first stack.ChainLimit (walking_full stack.ChainLimit g.walking some full refl)
 
   -- a member can't be read, or no more may be kept, or memory is wanting
   pub gather_stop : {s2 : Seen} {e : StackError} (e' : StackError) → Gathering q l first s0 s1 frames met at → at ≢ 0
       → met < member_limit
-      → Reads {T = Step ℕ (Option Call)} stack_fault (member_cost q l (byte_at s1.pieces) (length frames) at) s1 s2 (λ m. frame_step q l m (length frames) at) (Err e)
+      → Consults {T = Step ℕ (Option Call)} l stack_fault (member_cost q l (byte_at s1.pieces) (length frames) at) s1 s2 (λ m. frame_step q l m (length frames) at) (Err e)
       → stack_fault e' ≡ stack_fault e
-      → Reads stack_fault (frames_cost q l (byte_at s0.pieces) first) s0 s2 (λ m. frames_at q l m first) (Err e')
+      → Consults l stack_fault (frames_cost q l (byte_at s0.pieces) first) s0 s2 (λ m. frames_at q l m first) (Err e')
   unfolding frames_cost
   gather_stop e' g some below r same = frames_stop q l first e' (walking_stop e' g.walking some below r same)
 
   -- memory for a frame is wanting
   pub gather_lost : {s2 : Seen} {x : Step ℕ (Option Call)} (e' : StackError) → Gathering q l first s0 s1 frames met at
       → at ≢ 0 → met < member_limit
-      → Reads {E = StackError} stack_fault (member_cost q l (byte_at s1.pieces) (length frames) at) s1 s2 (λ m. frame_step q l m (length frames) at) (Ok x)
+      → Consults {E = StackError} l stack_fault (member_cost q l (byte_at s1.pieces) (length frames) at) s1 s2 (λ m. frame_step q l m (length frames) at) (Ok x)
       → stack_fault e' ≡ None
-      → Reads stack_fault (frames_cost q l (byte_at s0.pieces) first) s0 s2 (λ m. frames_at q l m first) (Err e')
+      → Consults l stack_fault (frames_cost q l (byte_at s0.pieces) first) s0 s2 (λ m. frames_at q l m first) (Err e')
   unfolding frames_cost
   gather_lost e' g some below r same = frames_stop q l first e' (walking_lost {step = frame_step q l} e' (walking_more g.walking some below r) same)

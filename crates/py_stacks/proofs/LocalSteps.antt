@@ -3,7 +3,8 @@ use Rattle.std.proofs.Common.{◌≡◌, ℕ, suc, ◌+◌, ◌*◌, ◌-◌, �
 use Rattle.std.proofs.Math.Nat.{sub-zero}
 use Rattle.std.specs.Prelude.{true, Option, Some, None, Ok, Err, ⊤}
 use Rattle.process_memory.specs.Memory.{Memory, Fault, ◌>>=◌}
-use Rattle.process_memory.specs.Seen.{Seen, Reading, Reads, FaultIs}
+use Rattle.process_memory.specs.Seen.{Seen, FaultIs}
+use Rattle.py_builtins.specs.Consulted.{Consulting, Consults}
 use Rattle.process_memory.specs.Walk.{after_all}
 use Rattle.process_memory.proofs.Reading.{reading_then, reading_gives, reading_none}
 use Rattle.py_fields.specs.declared.layout.Layout.{Layout}
@@ -29,7 +30,7 @@ locals_end l m r index left is = rw is refl
 -- these locals were read of the variables before an index
 pub record Taking (l : Layout) (r : MemberAt) (s0 s1 : Seen) (count index : ℕ) (locals : List LocalVariable) : Type 0 where
   pub within : index ≤ count
-  pub reading : Reading (4 * index) s0 s1
+  pub reading : Consulting l (4 * index) s0 s1
       (λ m. locals_from l m r 0 count ≡ after_all locals (locals_from l m r index (count - index)))
 
 pub taking_init : (l : Layout) (r : MemberAt) (s : Seen) (count : ℕ) → Taking l r s s count 0 []
@@ -38,7 +39,7 @@ taking_init l r s count = record { within = omega arith; reading = reading_none 
 module _ {l : Layout} {r : MemberAt} {s0 s1 : Seen} {count index : ℕ} {locals : List LocalVariable} where
   pub taking_more : {E : Type 0} {fault : E → Option Fault} {s2 : Seen} (local : Option LocalVariable)
       → Taking l r s0 s1 count index locals → index < count
-      → Reads {E = E} fault 4 s1 s2 (λ m. local_at l m r index) (Ok local)
+      → Consults {E = E} l fault 4 s1 s2 (λ m. local_at l m r index) (Ok local)
       → Taking l r s0 s2 count (index + 1) (locals ++ kept_local local)
   taking_more local t some a =
       let is : count - index ≡ suc (count - (index + 1)) = omega arith in
@@ -51,14 +52,14 @@ module _ {l : Layout} {r : MemberAt} {s0 s1 : Seen} {count index : ℕ} {locals 
       }
 
   pub taking_done : {E : Type 0} {fault : E → Option Fault} → Taking l r s0 s1 count index locals → count ≤ index
-      → Reads {E = E} fault (4 * count) s0 s1 (λ m. locals_from l m r 0 count) (Ok locals)
+      → Consults {E = E} l fault (4 * count) s0 s1 (λ m. locals_from l m r 0 count) (Ok locals)
   taking_done t all = reading_gives _ _ t.reading (omega (arith, t.within))
       (λ m e. record { is = e ∙ ap (after_all locals) (locals_end l m r index (count - index) (omega arith)) ∙ ap Ok (append-nil locals) })
 
   pub taking_stop : {E E' : Type 0} {fault : E → Option Fault} {fault' : E' → Option Fault} {s2 : Seen} {e : E} (e' : E')
       → Taking l r s0 s1 count index locals → index < count
-      → Reads {T = Option LocalVariable} fault 4 s1 s2 (λ m. local_at l m r index) (Err e) → fault' e' ≡ fault e
-      → Reads {T = List LocalVariable} fault' (4 * count) s0 s2 (λ m. locals_from l m r 0 count) (Err e')
+      → Consults {T = Option LocalVariable} l fault 4 s1 s2 (λ m. local_at l m r index) (Err e) → fault' e' ≡ fault e
+      → Consults {T = List LocalVariable} l fault' (4 * count) s0 s2 (λ m. locals_from l m r 0 count) (Err e')
   taking_stop {fault = fault} {fault' = fault'} {e = e} e' t some a same =
       let is : count - index ≡ suc (count - (index + 1)) = omega arith in
       reading_gives _ _
@@ -70,8 +71,8 @@ module _ {l : Layout} {r : MemberAt} {s0 s1 : Seen} {count index : ℕ} {locals 
 
   pub taking_lost : {E E' : Type 0} {fault : E → Option Fault} {fault' : E' → Option Fault} {s2 : Seen} {local : Option LocalVariable} (e' : E')
       → Taking l r s0 s1 count index locals → index < count
-      → Reads {E = E} fault 4 s1 s2 (λ m. local_at l m r index) (Ok local) → fault' e' ≡ None
-      → Reads {T = List LocalVariable} fault' (4 * count) s0 s2 (λ m. locals_from l m r 0 count) (Err e')
+      → Consults {E = E} l fault 4 s1 s2 (λ m. local_at l m r index) (Ok local) → fault' e' ≡ None
+      → Consults {T = List LocalVariable} l fault' (4 * count) s0 s2 (λ m. locals_from l m r 0 count) (Err e')
   taking_lost e' t some a same = reading_gives _ _ (reading_then (λ m. ⊤) t.reading a (λ m d x. tt)) (omega arith) (λ m h. record { is = rw same tt })
 
 pub locals_costs : (l : Layout) (r : MemberAt) → 1 ≤ locals_cost true l r

@@ -5,7 +5,8 @@ use Rattle.std.specs.Global.{Vec}
 use Rattle.std.specs.List.{sum_by}
 use Rattle.std.proofs.lemmas.List.Sums.{sum_by-cons}
 use Rattle.process_memory.specs.Memory.{Memory, Found, Fault, byte_at}
-use Rattle.process_memory.specs.Seen.{Seen, Reads, Answers}
+use Rattle.process_memory.specs.Seen.{Seen, Answers, ReadsOf}
+use Rattle.process_memory.specs.declared.memory.Span.{Span}
 use Rattle.process_memory.specs.Walk.{first_fault, fault_in}
 use Rattle.process_memory.specs.Faults.{FaultsAre}
 use Rattle.process_memory.proofs.Reading.{reading_here}
@@ -96,9 +97,9 @@ met_found c l m lock interpreter named e =
     let visits = value_visits l m (value_width c.dump_locals) in
     rw plain.1 (sym (visits_kept visits (by_name (name_by (names_at l m interpreter))) (λ t. refl) plain.0) ∙ ap (traces_visits visits) (ok_same _ named plain.2))
 
-pub over_budget : {E : Type 0} {fault : E → Option Fault} {s0 s1 : Seen} {n : ℕ} (c : Config) (l : Layout) (lock interpreter : ℕ) (width : ℕ) (named : List Trace)
+pub over_budget : {allowed : Memory → Span → Type 0} {E : Type 0} {fault : E → Option Fault} {s0 s1 : Seen} {n : ℕ} (c : Config) (l : Layout) (lock interpreter : ℕ) (width : ℕ) (named : List Trace)
     → width ≡ value_width c.dump_locals
-    → Reads {E = E} fault n s0 s1 (λ m. named_stacks_at (asked_of c) l m lock interpreter) (Ok named)
+    → ReadsOf {E = E} allowed fault n s0 s1 (λ m. named_stacks_at (asked_of c) l m lock interpreter) (Ok named)
     → traces_visits (value_visits l (byte_at s1.pieces) width) named ≡ values_met c l (byte_at s0.pieces) lock interpreter
 over_budget {s0 = s0} c l lock interpreter width named wide r =
     let met = met_found c l (byte_at s0.pieces) lock interpreter named (reading_here r).is in

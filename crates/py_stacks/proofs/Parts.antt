@@ -4,7 +4,8 @@ use Rattle.std.specs.Prelude.{Option, Some, Ok, Err}
 use Rattle.std.proofs.lemmas.Bool.Decides.{nat_tests}
 use Rattle.process_memory.specs.Memory.{Memory, Fault, ◌>>=◌, byte_at}
 use Rattle.process_memory.specs.Memory.Fault.{FrameLimit}
-use Rattle.process_memory.specs.Seen.{Seen, Reads}
+use Rattle.process_memory.specs.Seen.{Seen, ReadsOf}
+use Rattle.process_memory.specs.declared.memory.Span.{Span}
 use Rattle.process_memory.proofs.Reading.{reading_here}
 use Rattle.process_memory.proofs.Founds.{ok_same}
 use Rattle.py_fields.specs.declared.layout.Layout.{Layout}
@@ -38,11 +39,11 @@ module _ (q : Asked) (l : Layout) (m : Memory) (kept : ℕ) (r : MemberAt) (c : 
   pub part_costs : kept < frame_limit → part_cost q l m kept r (Some c) ≡ detail_cost q l m r
   part_costs lt = let below : ltb kept 4096 ≡ true = grind (arith, nat_tests) in rw below refl
 
-module _ {E E' : Type 0} {fault : E → Option Fault} {fault' : E' → Option Fault} {s0 s1 s2 : Seen} where
+module _ {a1 a2 : Memory → Span → Type 0} {E E' : Type 0} {fault : E → Option Fault} {fault' : E' → Option Fault} {s0 s1 s2 : Seen} where
   -- the reads of the detail are counted in the member's
   pub member_budget : (q : Asked) (l : Layout) (kept a : ℕ) (r : MemberAt) (p : Option Call)
-      → Reads {E = E} fault 2 s0 s1 (λ m. records_at l m a) (Ok r)
-      → Reads {E = E'} fault' 4 s1 s2 (λ m. plain_at l m r) (Ok p)
+      → ReadsOf {E = E} a1 fault 2 s0 s1 (λ m. records_at l m a) (Ok r)
+      → ReadsOf {E = E'} a2 fault' 4 s1 s2 (λ m. plain_at l m r) (Ok p)
       → 2 + (4 + part_cost q l (byte_at s2.pieces) kept r p) ≤ member_cost q l (byte_at s0.pieces) kept a
   unfolding member_cost extra_cost
   member_budget q l kept a r p one two =

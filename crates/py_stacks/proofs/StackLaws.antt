@@ -4,7 +4,8 @@ use Rattle.std.proofs.Common.{◌≡◌, ℕ, ◌+◌, ◌≤◌, List, map, sym
 use Rattle.std.specs.Prelude.{Option, Result, Ok, Err, IfOk}
 use Rattle.std.specs.Global.{Vec}
 use Rattle.process_memory.specs.Memory.{Memory, Found, Fault, ◌>>=◌, byte_at}
-use Rattle.process_memory.specs.Seen.{Seen, Reads, Answers}
+use Rattle.process_memory.specs.Seen.{Seen, Answers, ReadsOf}
+use Rattle.process_memory.specs.declared.memory.Span.{Span}
 use Rattle.process_memory.specs.Walk.{first_fault, fault_in}
 use Rattle.process_memory.specs.Faults.{FaultsAre}
 use Rattle.process_memory.proofs.Reading.{reading_here}
@@ -25,8 +26,8 @@ unfolding stacks_cost
 stacks_costs q l m lock interpreter = omega arith
 
 -- the threads' reads are counted in the interpreter's
-pub stacks_budget : {E : Type 0} {fault : E → Option Fault} {s0 s1 : Seen} (q : Asked) (l : Layout) (lock interpreter holder_id : ℕ)
-    → Reads {E = E} fault 2 s0 s1 (λ m. holder_id_at l m lock) (Ok holder_id)
+pub stacks_budget : {allowed : Memory → Span → Type 0} {E : Type 0} {fault : E → Option Fault} {s0 s1 : Seen} (q : Asked) (l : Layout) (lock interpreter holder_id : ℕ)
+    → ReadsOf {E = E} allowed fault 2 s0 s1 (λ m. holder_id_at l m lock) (Ok holder_id)
     → 2 + traces_cost q l (byte_at s1.pieces) interpreter ≤ stacks_cost q l (byte_at s0.pieces) lock interpreter
 unfolding stacks_cost
 stacks_budget q l lock interpreter holder_id r =

@@ -3,7 +3,8 @@ use Rattle.std.proofs.Common.{◌≡◌, ℕ, ◌*◌, ◌≤◌, List, sym, ◌
 use Rattle.std.specs.Prelude.{Some, None, IsSome, Result, Ok, Err, IfOk, encode_utf8_all}
 use Rattle.std.specs.Str.{chars}
 use Rattle.process_memory.specs.Memory.{Memory, Found, byte_at}
-use Rattle.process_memory.specs.Seen.{Seen, Reading, ReadingBy}
+use Rattle.process_memory.specs.Seen.{Seen}
+use Rattle.py_builtins.specs.Consulted.{Consulting, ConsultingBy}
 use Rattle.process_memory.proofs.Reading.{reading_gives, reading_here}
 use Rattle.py_fields.specs.declared.layout.Layout.{Layout}
 use Rattle.py_builtins.specs.declared.error.ObjectError.{ObjectError}
@@ -41,8 +42,8 @@ module _ (l : Layout) (m : Memory) (width a visits : ℕ) where
 
 pub value_told : {s0 s1 : Seen} {n : ℕ} (l : Layout) (width a visits : ℕ) (shown : Result (List ℕ) ObjectError) (result : Result (List ℕ) StackError)
     → IfOk shown (λ text. text ≡ chars (encode_utf8_all text)) → MarkedAs shown result → n ≤ 8 * visits
-    → Reading n s0 s1 (λ m. AnswerShows object_fault (values_in l m) a width 0 (bytes_shown shown) visits)
-    → ReadingBy (λ m. 8 * value_visits l m width a) s0 s1 (λ m. IsOrLost (value_text l m width a) result)
+    → Consulting l n s0 s1 (λ m. AnswerShows object_fault (values_in l m) a width 0 (bytes_shown shown) visits)
+    → ConsultingBy l (λ m. 8 * value_visits l m width a) s0 s1 (λ m. IsOrLost (value_text l m width a) result)
 value_told {s0 = s0} l width a visits shown result whole marked few r =
     let within = visits_told l (byte_at s0.pieces) width a visits shown (reading_here r) in
     reading_gives _ _ r (omega (arith, within, few)) (λ m s. text_told l m width a visits shown result whole s marked)

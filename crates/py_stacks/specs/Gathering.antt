@@ -3,6 +3,7 @@ use Rattle.std.specs.Prelude.{◌≡◌, ℕ, true, false, Option, Some, None, L
 use Rattle.process_memory.specs.Memory.Fault.{ChainLimit}
 use Rattle.process_memory.specs.Seen.{Seen}
 use Rattle.process_memory.specs.Walk.{Walking}
+use Rattle.py_builtins.specs.Consulted.{IsConsulted}
 use Rattle.py_fields.specs.declared.layout.Layout.{Layout}
 use Rattle.py_stacks.specs.declared.asked.Asked.{Asked}
 use Rattle.py_stacks.specs.declared.trace.Frame.{Frame}
@@ -32,6 +33,6 @@ mark_call (c ∷ d ∷ cs) = c ∷ mark_call (d ∷ cs)
 pub record Gathering (q : Asked) (l : Layout) (first : ℕ) (old new : Seen)
     (frames : List Frame) (met at : ℕ) : Type 0 where
   pub members : List (Option Call)
-  pub walking : Walking ChainLimit (frame_step q l) (member_cost q l) member_limit 0 first
+  pub walking : Walking (IsConsulted l) ChainLimit (frame_step q l) (member_cost q l) member_limit 0 first
       old new members met (length frames) at
   pub held : map call_of frames ≡ shown_by false members

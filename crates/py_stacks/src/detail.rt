@@ -1,6 +1,6 @@
 //! The detail of a kept member: its line and its locals.
-ghost use Rattle.process_memory.specs.Seen.{ReadsBy};
 ghost use Rattle.py_fields.specs.Sound.{IsSound};
+ghost use Rattle.py_builtins.specs.Consulted.{ConsultsBy};
 ghost use Rattle.py_stacks.specs.StackError.{stack_fault};
 ghost use Rattle.py_stacks.specs.Detail.{detail_at, detail_cost, detail_of_result};
 ghost use Rattle.py_stacks.specs.Records.{AreWhole, member_of};
@@ -33,7 +33,7 @@ pub(crate) fn read_detail<P: ProcessMemory>(
 ) -> Result<Detail, StackError>
     requires sound { IsSound layout.now }
     requires whole { AreWhole layout.now records.now }
-    ensures { ReadsBy stack_fault (λ m. detail_cost asked layout.now m (member_of records.now))
+    ensures { ConsultsBy layout.now stack_fault (λ m. detail_cost asked layout.now m (member_of records.now))
         (P.seen process.old) (P.seen process.new)
         (λ m. detail_at asked layout.now m (member_of records.now)) (detail_of_result result) }
 {

@@ -1,7 +1,7 @@
 //! The frames of a thread: its whole chain of callers, less the members that are skipped.
 ghost use Rattle.std.specs.Prelude.{◌≡◌, OnOk};
-ghost use Rattle.process_memory.specs.Seen.{ReadsBy};
 ghost use Rattle.py_fields.specs.Sound.{IsSound};
+ghost use Rattle.py_builtins.specs.Consulted.{ConsultsBy};
 ghost use Rattle.py_stacks.specs.StackError.{stack_fault};
 ghost use Rattle.py_stacks.specs.Frames.{calls_of_result, frames_at, frames_cost};
 ghost use Rattle.py_stacks.specs.Gathering.{Adds, mark_last};
@@ -55,7 +55,8 @@ pub(crate) fn read_frames<P: ProcessMemory>(
     records: &mut Records,
 ) -> Result<Vec<Frame>, StackError>
     requires sound { IsSound layout.now }
-    ensures { ReadsBy stack_fault (λ m. frames_cost asked layout.now m first) (P.seen process.old) (P.seen process.new)
+    ensures { ConsultsBy layout.now stack_fault
+        (λ m. frames_cost asked layout.now m first) (P.seen process.old) (P.seen process.new)
         (λ m. frames_at asked layout.now m first) (calls_of_result result) }
 {
     let mut frames = Vec::new(alloc);

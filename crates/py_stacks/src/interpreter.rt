@@ -1,7 +1,7 @@
 //! The test of an address that may be an interpreter's, whole and in two steps.
 ghost use Rattle.std.specs.Prelude.{◌+◌, ◌*◌, ◌↔◌, IfOk, IsErrOf, IsTrue, Ok};
-ghost use Rattle.process_memory.specs.Seen.{Reads, ReadsBy, ReadingBy};
 ghost use Rattle.py_fields.specs.Sound.{IsSound};
+ghost use Rattle.py_builtins.specs.Consulted.{ConsultingBy, Consults, ConsultsBy};
 ghost use Rattle.py_stacks.specs.StackError.{stack_fault};
 ghost use Rattle.py_stacks.specs.Interpreter.{IsInterpreter, IsInterpreterFrom, RefusesAddress, bound_from, cost_from};
 ghost use Rattle.py_stacks.specs.Interpreter.{interpreter_named_by, passes, passes_from, test_bound, test_cost};
@@ -35,7 +35,7 @@ fn read_named<P: ProcessMemory>(
     head: u64,
 ) -> Result<u64, StackError>
     requires sound { IsSound layout.now }
-    ensures { Reads stack_fault 1 (P.seen process.old) (P.seen process.new)
+    ensures { Consults layout.now stack_fault 1 (P.seen process.old) (P.seen process.new)
         (λ m. interpreter_named_by layout.now m head) result }
 {
     let mut thread = Vec::new(alloc);
@@ -52,7 +52,7 @@ fn walk_from<P: ProcessMemory>(
     head: u64,
 ) -> Result<bool, StackError>
     requires sound { IsSound layout.now }
-    ensures { ReadsBy stack_fault (λ m. cost_from layout.now m interpreter head)
+    ensures { ConsultsBy layout.now stack_fault (λ m. cost_from layout.now m interpreter head)
         (P.seen process.old) (P.seen process.new)
         (λ m. Ok (passes_from layout.now m interpreter head)) result }
 {
@@ -82,7 +82,8 @@ fn walk_interpreter<P: ProcessMemory>(
     interpreter: u64,
 ) -> Result<bool, StackError>
     requires sound { IsSound layout.now }
-    ensures { ReadsBy stack_fault (λ m. test_cost layout.now m interpreter) (P.seen process.old) (P.seen process.new)
+    ensures { ConsultsBy layout.now stack_fault
+        (λ m. test_cost layout.now m interpreter) (P.seen process.old) (P.seen process.new)
         (λ m. Ok (passes layout.now m interpreter)) result }
 {
     let head = match get_first_thread(process, layout, interpreter) {
@@ -101,7 +102,7 @@ pub fn get_first_thread<P: ProcessMemory>(
     layout: &Layout,
     interpreter: u64,
 ) -> Result<u64, StackError>
-    ensures answer { Reads stack_fault 1 (P.seen process.old) (P.seen process.new)
+    ensures answer { Consults layout.now stack_fault 1 (P.seen process.old) (P.seen process.new)
         (λ m. threads_head layout.now m interpreter) result }
     ensures memory { IsErrOf result StackError.OutOfMemory → IsTrue (P.seen process.old).may_want_memory }
 {
@@ -123,13 +124,13 @@ pub fn is_interpreter_from<P: ProcessMemory>(
     head: u64,
 ) -> Result<bool, StackError>
     requires sound { IsSound layout.now }
-    ensures answer { ReadsBy stack_fault (λ m. bound_from layout.now m interpreter head)
+    ensures answer { ConsultsBy layout.now stack_fault (λ m. bound_from layout.now m interpreter head)
         (P.seen process.old) (P.seen process.new) (λ m. Ok (passes_from layout.now m interpreter head)) result }
-    ensures exact { ReadingBy (λ m. bound_from layout.now m interpreter head)
+    ensures exact { ConsultingBy layout.now (λ m. bound_from layout.now m interpreter head)
         (P.seen process.old) (P.seen process.new)
         (λ m. IfOk result (λ is. IsTrue is ↔ IsInterpreterFrom layout.now m interpreter head)) }
-    ensures most { Reads stack_fault (2 + 4096 * (2 + 6 * 16384)) (P.seen process.old) (P.seen process.new)
-        (λ m. Ok (passes_from layout.now m interpreter head)) result }
+    ensures most { Consults layout.now stack_fault (2 + 4096 * (2 + 6 * 16384))
+        (P.seen process.old) (P.seen process.new) (λ m. Ok (passes_from layout.now m interpreter head)) result }
 {
     walk_from(alloc, process, layout, interpreter, head)
 }
@@ -149,13 +150,13 @@ pub fn is_interpreter<P: ProcessMemory>(
     interpreter: u64,
 ) -> Result<bool, StackError>
     requires sound { IsSound layout.now }
-    ensures answer { ReadsBy stack_fault (λ m. test_bound layout.now m interpreter)
+    ensures answer { ConsultsBy layout.now stack_fault (λ m. test_bound layout.now m interpreter)
         (P.seen process.old) (P.seen process.new) (λ m. Ok (passes layout.now m interpreter)) result }
-    ensures exact { ReadingBy (λ m. test_bound layout.now m interpreter)
+    ensures exact { ConsultingBy layout.now (λ m. test_bound layout.now m interpreter)
         (P.seen process.old) (P.seen process.new)
         (λ m. IfOk result (λ is. IsTrue is ↔ IsInterpreter layout.now m interpreter)) }
-    ensures most { Reads stack_fault (3 + 4096 * (2 + 6 * 16384)) (P.seen process.old) (P.seen process.new)
-        (λ m. Ok (passes layout.now m interpreter)) result }
+    ensures most { Consults layout.now stack_fault (3 + 4096 * (2 + 6 * 16384))
+        (P.seen process.old) (P.seen process.new) (λ m. Ok (passes layout.now m interpreter)) result }
 {
     walk_interpreter(alloc, process, layout, interpreter)
 }

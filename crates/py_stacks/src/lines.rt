@@ -1,7 +1,7 @@
 //! The line of a frame.
 ghost use Rattle.std.specs.Prelude.{◌≡◌, ◌<◌, IfOk, IfSome, length};
-ghost use Rattle.process_memory.specs.Seen.{Reads};
 ghost use Rattle.py_fields.specs.Sound.{IsSound};
+ghost use Rattle.py_builtins.specs.Consulted.{Consults};
 ghost use Rattle.py_stacks.specs.Lines.{family_of, first_line, line_at, line_cost, line_in, offset_by, offset_of};
 ghost use Rattle.py_stacks.specs.Lines.{table_at, table_of, table_of_result};
 ghost use Rattle.py_stacks.specs.Records.{AreWhole, member_of};
@@ -93,8 +93,8 @@ fn read_table<P: ProcessMemory>(
     addr: u64,
 ) -> Result<Option<Vec<u8>>, StackError>
     requires sound { IsSound layout.now }
-    ensures answer { Reads stack_fault 2 (P.seen process.old) (P.seen process.new) (λ m. table_at layout.now m addr)
-        (table_of_result result) }
+    ensures answer { Consults layout.now stack_fault 2 (P.seen process.old) (P.seen process.new)
+        (λ m. table_at layout.now m addr) (table_of_result result) }
     ensures short { IfOk result (λ table. IfSome table (λ table. length table.items < 65536)) }
 {
     match copy_bytes(alloc, process, layout, addr) {
@@ -116,7 +116,7 @@ pub fn read_line<P: ProcessMemory>(
 ) -> Result<i32, StackError>
     requires sound { IsSound layout.now }
     requires whole { AreWhole layout.now records.now }
-    ensures { Reads stack_fault (line_cost lineno) (P.seen process.old) (P.seen process.new)
+    ensures { Consults layout.now stack_fault (line_cost lineno) (P.seen process.old) (P.seen process.new)
         (λ m. line_at lineno layout.now m (member_of records.now)) result }
 {
     match lineno {

@@ -1,7 +1,8 @@
 //! The locals of a frame.
 ghost use Rattle.std.specs.Prelude.{◌≡◌, ◌≤◌, ◌<◌, ◌+◌, ◌*◌, ◌++◌, IfOk, OnOk, true};
-ghost use Rattle.process_memory.specs.Seen.{Answers, Reads, items_of};
+ghost use Rattle.process_memory.specs.Seen.{Answers, items_of};
 ghost use Rattle.py_fields.specs.Sound.{IsSound};
+ghost use Rattle.py_builtins.specs.Consulted.{Consults};
 ghost use Rattle.py_stacks.specs.Locals.{asked_locals, count_of, is_argument, kept_local, local_at, local_by};
 ghost use Rattle.py_stacks.specs.Locals.{locals_at, locals_cost, locals_from, locals_of_result, variable_name_at};
 ghost use Rattle.py_stacks.specs.Records.{AreWhole, member_of};
@@ -83,7 +84,7 @@ fn read_variable_name<P: ProcessMemory>(
     addr: u64,
 ) -> Result<Text, StackError>
     requires sound { IsSound layout.now }
-    ensures { Reads stack_fault 2 (P.seen process.old) (P.seen process.new)
+    ensures { Consults layout.now stack_fault 2 (P.seen process.old) (P.seen process.new)
         (λ m. variable_name_at layout.now m frame addr) result }
 {
     match copy_string(alloc, process, layout, addr) {
@@ -104,7 +105,7 @@ fn read_local<P: ProcessMemory>(
 ) -> Result<Option<LocalVariable>, StackError>
     requires sound { IsSound layout.now }
     requires whole { AreWhole layout.now records.now }
-    ensures { Reads stack_fault 4 (P.seen process.old) (P.seen process.new)
+    ensures { Consults layout.now stack_fault 4 (P.seen process.old) (P.seen process.new)
         (λ m. local_at layout.now m (member_of records.now) index) result }
 {
     let offset = 8 * index as u128;
@@ -139,7 +140,7 @@ fn read_locals_each<P: ProcessMemory>(
 ) -> Result<Vec<LocalVariable>, StackError>
     requires sound { IsSound layout.now }
     requires whole { AreWhole layout.now records.now }
-    ensures { Reads stack_fault (4 * count) (P.seen process.old) (P.seen process.new)
+    ensures { Consults layout.now stack_fault (4 * count) (P.seen process.old) (P.seen process.new)
         (λ m. locals_from layout.now m (member_of records.now) 0 count) (items_of result) }
 {
     let mut locals = Vec::new(alloc);
@@ -159,7 +160,7 @@ fn read_known<P: ProcessMemory>(
 ) -> Result<Vec<LocalVariable>, StackError>
     requires sound { IsSound layout.now }
     requires whole { AreWhole layout.now records.now }
-    ensures { Reads stack_fault (locals_cost true layout.now (member_of records.now))
+    ensures { Consults layout.now stack_fault (locals_cost true layout.now (member_of records.now))
         (P.seen process.old) (P.seen process.new)
         (λ m. locals_at layout.now m (member_of records.now)) (items_of result) }
 {
@@ -185,7 +186,7 @@ pub fn read_locals<P: ProcessMemory>(
 ) -> Result<Option<Vec<LocalVariable>>, StackError>
     requires sound { IsSound layout.now }
     requires whole { AreWhole layout.now records.now }
-    ensures { Reads stack_fault (locals_cost asked layout.now (member_of records.now))
+    ensures { Consults layout.now stack_fault (locals_cost asked layout.now (member_of records.now))
         (P.seen process.old) (P.seen process.new)
         (λ m. asked_locals asked layout.now m (member_of records.now)) (locals_of_result result) }
 {

@@ -1,7 +1,7 @@
 //! The members of a thread's chain of frames, one by one.
 ghost use Rattle.std.specs.Prelude.{◌≡◌, ◌+◌, ◌*◌, ◌/◌, ◌≤◌, length, ℕ, Some};
-ghost use Rattle.process_memory.specs.Seen.{Reads, ReadsBy};
 ghost use Rattle.py_fields.specs.Sound.{IsSound};
+ghost use Rattle.py_builtins.specs.Consulted.{Consults, ConsultsBy};
 ghost use Rattle.py_stacks.specs.StackError.{stack_fault};
 ghost use Rattle.py_stacks.specs.Frames.{call_of_option, code_of, frame_step, is_entered, is_hidden, member_cost};
 ghost use Rattle.py_stacks.specs.Frames.{name_at, part_by, part_cost, part_of_result, plain_at, step_of_result};
@@ -92,7 +92,8 @@ fn read_member_text<P: ProcessMemory>(
     addr: u64,
 ) -> Result<Option<Text>, StackError>
     requires sound { IsSound layout.now }
-    ensures { Reads stack_fault 2 (P.seen process.old) (P.seen process.new) (λ m. name_at layout.now m addr) result }
+    ensures { Consults layout.now stack_fault 2 (P.seen process.old) (P.seen process.new)
+        (λ m. name_at layout.now m addr) result }
 {
     match copy_string(alloc, process, layout, addr) {
         Ok(text) => Ok(Some(text)),
@@ -111,7 +112,7 @@ fn read_plain<P: ProcessMemory>(
 ) -> Result<Option<Frame>, StackError>
     requires sound { IsSound layout.now }
     requires whole { AreWhole layout.now records.now }
-    ensures { Reads stack_fault 4 (P.seen process.old) (P.seen process.new)
+    ensures { Consults layout.now stack_fault 4 (P.seen process.old) (P.seen process.new)
         (λ m. plain_at layout.now m (member_of records.now)) (part_of_result result) }
 {
     let file_at = u64_in(&records.code, layout.code.filename as usize);
@@ -135,7 +136,7 @@ fn read_part<P: ProcessMemory>(
 ) -> Result<Option<Frame>, StackError>
     requires sound { IsSound layout.now }
     requires whole { AreWhole layout.now records.now }
-    ensures { ReadsBy stack_fault
+    ensures { ConsultsBy layout.now stack_fault
         (λ m. part_cost asked layout.now m kept (member_of records.now) (call_of_option plain))
         (P.seen process.old) (P.seen process.new)
         (λ m. part_by asked layout.now m kept (member_of records.now) (call_of_option plain)) (part_of_result result) }
@@ -171,7 +172,7 @@ pub(crate) fn read_member<P: ProcessMemory>(
     records: &mut Records,
 ) -> Result<(u64, Option<Frame>), StackError>
     requires sound { IsSound layout.now }
-    ensures { ReadsBy stack_fault (λ m. member_cost asked layout.now m kept at)
+    ensures { ConsultsBy layout.now stack_fault (λ m. member_cost asked layout.now m kept at)
         (P.seen process.old) (P.seen process.new)
         (λ m. frame_step asked layout.now m kept at) (step_of_result kept result) }
 {

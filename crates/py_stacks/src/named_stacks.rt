@@ -1,7 +1,7 @@
 //! The stacks of an interpreter, with the names of its threads.
 ghost use Rattle.std.specs.Prelude.{◌≡◌, IfOk, OnOk, map};
-ghost use Rattle.process_memory.specs.Seen.{ReadingBy, ReadsBy};
 ghost use Rattle.py_fields.specs.Sound.{IsSound};
+ghost use Rattle.py_builtins.specs.Consulted.{ConsultingBy, ConsultsBy};
 ghost use Rattle.py_stacks.specs.Asking.{asked_of};
 ghost use Rattle.py_names.specs.Names.{names_at, names_cost};
 ghost use Rattle.py_stacks.specs.NamedStacks.{GivesNames, by_name, name_in, named_cost, named_stacks_at};
@@ -27,7 +27,8 @@ fn read_name_map<P: ProcessMemory>(
     interpreter: u64,
 ) -> Result<Option<BTreeMap<u64, Text>>, StackError>
     requires sound { IsSound layout.now }
-    ensures { ReadingBy (λ m. names_cost layout.now m interpreter) (P.seen process.old) (P.seen process.new)
+    ensures { ConsultingBy layout.now
+        (λ m. names_cost layout.now m interpreter) (P.seen process.old) (P.seen process.new)
         (λ m. GivesNames (names_at layout.now m interpreter) result) }
 {
     match thread_names_from_interpreter(alloc, interpreter, process, layout) {
@@ -79,7 +80,7 @@ pub(crate) fn read_named<P: ProcessMemory>(
     config: &Config,
 ) -> Result<Vec<StackTrace>, StackError>
     requires sound { IsSound layout.now }
-    ensures { ReadsBy stack_fault
+    ensures { ConsultsBy layout.now stack_fault
         (λ m. named_cost (asked_of config.now) layout.now m addresses.now.lock addresses.now.interpreter)
         (P.seen process.old) (P.seen process.new)
         (λ m. named_stacks_at (asked_of config.now) layout.now m addresses.now.lock addresses.now.interpreter)

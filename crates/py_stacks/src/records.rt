@@ -1,8 +1,9 @@
 //! Buffers for the records of a walk: room that is used again, sized at each use.
 ghost use Rattle.std.specs.Prelude.{◌≡◌, ◌<◌, ◌^◌, OnOk, length};
 ghost use Rattle.process_memory.specs.Memory.{record_at};
-ghost use Rattle.process_memory.specs.Seen.{Reads, with_bytes};
+ghost use Rattle.process_memory.specs.Seen.{ReadsRange, with_bytes};
 ghost use Rattle.py_fields.specs.Sound.{IsSound};
+ghost use Rattle.py_builtins.specs.Consulted.{Consults};
 ghost use Rattle.py_stacks.specs.StackError.{stack_fault};
 ghost use Rattle.py_stacks.specs.Frames.{records_at};
 ghost use Rattle.py_stacks.specs.Records.{AreWhole, with_member};
@@ -58,7 +59,7 @@ pub(crate) fn read_bytes<P: ProcessMemory>(
     buf: &mut Vec<u8>,
 ) -> Result<(), StackError>
     requires { len < 2 ^ 16 }
-    ensures answer { Reads stack_fault 1 (P.seen process.old) (P.seen process.new)
+    ensures answer { ReadsRange stack_fault at len (P.seen process.old) (P.seen process.new)
         (λ m. record_at m at len) (with_bytes buf.new.items result) }
     ensures whole { OnOk result (length buf.new.items ≡ len) }
 {
@@ -77,7 +78,7 @@ pub fn read_records<P: ProcessMemory>(
     records: &mut Records,
 ) -> Result<(), StackError>
     requires sound { IsSound layout.now }
-    ensures answer { Reads stack_fault 2 (P.seen process.old) (P.seen process.new)
+    ensures answer { Consults layout.now stack_fault 2 (P.seen process.old) (P.seen process.new)
         (λ m. records_at layout.now m at) (with_member records.new result) }
     ensures whole { OnOk result (AreWhole layout.now records.new) }
 {

@@ -1,10 +1,11 @@
 //! The stacks of an interpreter, with the holder of its lock, and those of one thread.
 ghost use Rattle.std.specs.Prelude.{◌≡◌, ◌≤◌, ◌+◌, ◌*◌, IfOk, List, Ok, map};
 ghost use Rattle.process_memory.specs.Memory.{byte_at};
-ghost use Rattle.process_memory.specs.Seen.{Answers, ReadsBy, ReadingBy};
+ghost use Rattle.process_memory.specs.Seen.{Answers};
 ghost use Rattle.process_memory.specs.Walk.{first_fault};
 ghost use Rattle.process_memory.specs.Faults.{FaultsAre};
 ghost use Rattle.py_fields.specs.Sound.{IsSound};
+ghost use Rattle.py_builtins.specs.Consulted.{ConsultingBy, ConsultsBy};
 ghost use Rattle.py_stacks.specs.StackError.{stack_fault};
 ghost use Rattle.py_stacks.specs.Asking.{asked_by, asks};
 ghost use Rattle.py_stacks.specs.Met.{details_walked, locals_walked, members_walked, stacks_bound};
@@ -43,7 +44,7 @@ fn walk_stack_traces<P: ProcessMemory>(
     interpreter: u64,
 ) -> Result<Vec<StackTrace>, StackError>
     requires sound { IsSound layout.now }
-    ensures { ReadsBy stack_fault (λ m. stacks_cost asked layout.now m lock interpreter)
+    ensures { ConsultsBy layout.now stack_fault (λ m. stacks_cost asked layout.now m lock interpreter)
         (P.seen process.old) (P.seen process.new)
         (λ m. stacks_at asked layout.now m lock interpreter) (traces_of_result result) }
 {
@@ -97,19 +98,20 @@ pub fn get_stack_traces<P: ProcessMemory>(
     config: Option<&Config>,
 ) -> Result<Vec<StackTrace>, StackError>
     requires sound { IsSound layout.now }
-    ensures answer { ReadsBy stack_fault (λ m. stacks_cost (asked_by config.entry) layout.now m lock interpreter)
+    ensures answer { ConsultsBy layout.now stack_fault
+        (λ m. stacks_cost (asked_by config.entry) layout.now m lock interpreter)
         (P.seen process.old) (P.seen process.new)
         (λ m. stacks_at (asked_by config.entry) layout.now m lock interpreter) (traces_of_result result) }
-    ensures traces { ReadingBy (λ m. stacks_cost (asked_by config.entry) layout.now m lock interpreter)
+    ensures traces { ConsultingBy layout.now (λ m. stacks_cost (asked_by config.entry) layout.now m lock interpreter)
         (P.seen process.old) (P.seen process.new)
         (λ m. IfOk result (λ traces.
         AreStacks (asked_by config.entry) layout.now m lock interpreter (map trace_of traces.items))) }
     // what is right is the answer, want of memory aside
-    ensures only { ReadingBy (λ m. stacks_cost (asked_by config.entry) layout.now m lock interpreter)
+    ensures only { ConsultingBy layout.now (λ m. stacks_cost (asked_by config.entry) layout.now m lock interpreter)
         (P.seen process.old) (P.seen process.new)
         (λ m. (traces : List Trace) → AreStacks (asked_by config.entry) layout.now m lock interpreter traces
         → Answers stack_fault (Ok traces) (traces_of_result result)) }
-    ensures faults { ReadingBy (λ m. stacks_cost (asked_by config.entry) layout.now m lock interpreter)
+    ensures faults { ConsultingBy layout.now (λ m. stacks_cost (asked_by config.entry) layout.now m lock interpreter)
         (P.seen process.old) (P.seen process.new)
         (λ m. FaultsAre stack_fault
         (first_fault (stacks_faults (asked_by config.entry) layout.now m lock interpreter)) result) }
@@ -136,7 +138,7 @@ fn walk_stack_trace<P: ProcessMemory>(
     thread: u64,
 ) -> Result<StackTrace, StackError>
     requires sound { IsSound layout.now }
-    ensures { ReadsBy stack_fault (λ m. thread_cost asked layout.now m tt thread)
+    ensures { ConsultsBy layout.now stack_fault (λ m. thread_cost asked layout.now m tt thread)
         (P.seen process.old) (P.seen process.new)
         (λ m. trace_at asked layout.now m thread) (trace_of_result result) }
 {
@@ -162,18 +164,18 @@ pub fn get_stack_trace<P: ProcessMemory>(
     lineno: LineNo,
 ) -> Result<StackTrace, StackError>
     requires sound { IsSound layout.now }
-    ensures answer { ReadsBy stack_fault (λ m. thread_cost (asks lineno copy_locals) layout.now m tt thread)
-        (P.seen process.old) (P.seen process.new)
+    ensures answer { ConsultsBy layout.now stack_fault
+        (λ m. thread_cost (asks lineno copy_locals) layout.now m tt thread) (P.seen process.old) (P.seen process.new)
         (λ m. trace_at (asks lineno copy_locals) layout.now m thread) (trace_of_result result) }
-    ensures trace { ReadingBy (λ m. thread_cost (asks lineno copy_locals) layout.now m tt thread)
+    ensures trace { ConsultingBy layout.now (λ m. thread_cost (asks lineno copy_locals) layout.now m tt thread)
         (P.seen process.old) (P.seen process.new)
         (λ m. IfOk result (λ trace. IsTraceOf (asks lineno copy_locals) layout.now m thread (trace_of trace))) }
     // what is right is the answer, want of memory aside
-    ensures only { ReadingBy (λ m. thread_cost (asks lineno copy_locals) layout.now m tt thread)
+    ensures only { ConsultingBy layout.now (λ m. thread_cost (asks lineno copy_locals) layout.now m tt thread)
         (P.seen process.old) (P.seen process.new)
         (λ m. (trace : Trace) → IsTraceOf (asks lineno copy_locals) layout.now m thread trace
         → Answers stack_fault (Ok trace) (trace_of_result result)) }
-    ensures faults { ReadingBy (λ m. thread_cost (asks lineno copy_locals) layout.now m tt thread)
+    ensures faults { ConsultingBy layout.now (λ m. thread_cost (asks lineno copy_locals) layout.now m tt thread)
         (P.seen process.old) (P.seen process.new)
         (λ m. FaultsAre stack_fault
         (first_fault (thread_faults (asks lineno copy_locals) layout.now m tt thread)) result) }

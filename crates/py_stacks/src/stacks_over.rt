@@ -1,10 +1,11 @@
 //! The stacks of an interpreter, with the names of its threads and the values of locals.
 ghost use Rattle.std.specs.Prelude.{◌≤◌, ◌+◌, ◌*◌, IfOk, List, Ok, map};
 ghost use Rattle.process_memory.specs.Memory.{byte_at};
-ghost use Rattle.process_memory.specs.Seen.{Answers, ReadsBy, ReadingBy};
+ghost use Rattle.process_memory.specs.Seen.{Answers};
 ghost use Rattle.process_memory.specs.Walk.{first_fault};
 ghost use Rattle.process_memory.specs.Faults.{FaultsAre};
 ghost use Rattle.py_fields.specs.Sound.{IsSound};
+ghost use Rattle.py_builtins.specs.Consulted.{ConsultingBy, ConsultsBy};
 ghost use Rattle.py_stacks.specs.Asking.{asked_of};
 ghost use Rattle.py_stacks.specs.Met.{details_walked, locals_walked, members_walked, stacks_bound, traces_most};
 ghost use Rattle.py_stacks.specs.NamedStacks.{slots_named};
@@ -31,7 +32,7 @@ fn read_stacks<P: ProcessMemory>(
     config: &Config,
 ) -> Result<Vec<StackTrace>, StackError>
     requires sound { IsSound layout.now }
-    ensures { ReadsBy stack_fault
+    ensures { ConsultsBy layout.now stack_fault
         (λ m. stacks_over_cost config.now layout.now m addresses.now.lock addresses.now.interpreter)
         (P.seen process.old) (P.seen process.new)
         (λ m. stacks_over_at config.now layout.now m addresses.now.lock addresses.now.interpreter)
@@ -63,25 +64,25 @@ pub fn get_stack_over<P: ProcessMemory>(
     config: &Config,
 ) -> Result<Vec<StackTrace>, StackError>
     requires sound { IsSound layout.now }
-    ensures answer { ReadsBy stack_fault
+    ensures answer { ConsultsBy layout.now stack_fault
         (λ m. stacks_over_cost config.now layout.now m addresses.now.lock addresses.now.interpreter)
         (P.seen process.old) (P.seen process.new)
         (λ m. stacks_over_at config.now layout.now m addresses.now.lock addresses.now.interpreter)
         (traces_of_result result) }
-    ensures traces { ReadingBy
+    ensures traces { ConsultingBy layout.now
         (λ m. stacks_over_cost config.now layout.now m addresses.now.lock addresses.now.interpreter)
         (P.seen process.old) (P.seen process.new)
         (λ m. IfOk result (λ traces.
         AreStacksOver config.now layout.now m addresses.now.lock addresses.now.interpreter
         (map trace_of traces.items))) }
     // what is right is the answer, want of memory aside
-    ensures only { ReadingBy
+    ensures only { ConsultingBy layout.now
         (λ m. stacks_over_cost config.now layout.now m addresses.now.lock addresses.now.interpreter)
         (P.seen process.old) (P.seen process.new)
         (λ m. (traces : List Trace)
         → AreStacksOver config.now layout.now m addresses.now.lock addresses.now.interpreter traces
         → Answers stack_fault (Ok traces) (traces_of_result result)) }
-    ensures faults { ReadingBy
+    ensures faults { ConsultingBy layout.now
         (λ m. stacks_over_cost config.now layout.now m addresses.now.lock addresses.now.interpreter)
         (P.seen process.old) (P.seen process.new)
         (λ m. FaultsAre stack_fault (first_fault

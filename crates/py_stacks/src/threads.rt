@@ -1,7 +1,7 @@
 //! The threads of an interpreter, each with its frames.
 ghost use Rattle.std.specs.Prelude.{◌≡◌, ◌≤◌, ◌+◌, ℕ, Some, length, IsErrOf, IsTrue};
-ghost use Rattle.process_memory.specs.Seen.{Reads, ReadsBy};
 ghost use Rattle.py_fields.specs.Sound.{IsSound};
+ghost use Rattle.py_builtins.specs.Consulted.{Consults, ConsultsBy};
 ghost use Rattle.py_stacks.specs.StackError.{stack_fault};
 ghost use Rattle.py_stacks.specs.Threads.{first_frame_at, native_id, thread_cost, thread_of_result, thread_step};
 ghost use Rattle.py_stacks.specs.Threads.{threads_at, threads_cost, traces_at, traces_cost, traces_of_result};
@@ -39,7 +39,7 @@ pub fn first_frame<P: ProcessMemory>(
     thread: &[u8],
 ) -> Result<u64, StackError>
     requires { layout.now.thread.frame + 8 ≤ length thread.now }
-    ensures answer { Reads stack_fault 1 (P.seen process.old) (P.seen process.new)
+    ensures answer { Consults layout.now stack_fault 1 (P.seen process.old) (P.seen process.new)
         (λ m. first_frame_at layout.now m thread.now) result }
     ensures memory { IsErrOf result StackError.OutOfMemory → IsTrue (P.seen process.old).may_want_memory }
 {
@@ -64,7 +64,8 @@ pub(crate) fn read_trace<P: ProcessMemory>(
     scratch: &mut Scratch,
 ) -> Result<(u64, StackTrace), StackError>
     requires sound { IsSound layout.now }
-    ensures { ReadsBy stack_fault (λ m. thread_cost asked layout.now m tt at) (P.seen process.old) (P.seen process.new)
+    ensures { ConsultsBy layout.now stack_fault
+        (λ m. thread_cost asked layout.now m tt at) (P.seen process.old) (P.seen process.new)
         (λ m. thread_step asked layout.now m tt at) (thread_of_result result) }
 {
     read_bytes(process, at, layout.thread.size, &mut scratch.thread)?;
@@ -94,7 +95,8 @@ fn walk_threads<P: ProcessMemory>(
     head: u64,
 ) -> Result<Vec<StackTrace>, StackError>
     requires sound { IsSound layout.now }
-    ensures { ReadsBy stack_fault (λ m. threads_cost asked layout.now m head) (P.seen process.old) (P.seen process.new)
+    ensures { ConsultsBy layout.now stack_fault
+        (λ m. threads_cost asked layout.now m head) (P.seen process.old) (P.seen process.new)
         (λ m. threads_at asked layout.now m head) (traces_of_result result) }
 {
     let mut scratch = Scratch::new(alloc);
@@ -121,7 +123,7 @@ pub(crate) fn read_traces<P: ProcessMemory>(
     interpreter: u64,
 ) -> Result<Vec<StackTrace>, StackError>
     requires sound { IsSound layout.now }
-    ensures { ReadsBy stack_fault (λ m. traces_cost asked layout.now m interpreter)
+    ensures { ConsultsBy layout.now stack_fault (λ m. traces_cost asked layout.now m interpreter)
         (P.seen process.old) (P.seen process.new)
         (λ m. traces_at asked layout.now m interpreter) (traces_of_result result) }
 {

@@ -1,7 +1,7 @@
 //! The values of locals, as text.
 ghost use Rattle.std.specs.Prelude.{◌≡◌, ◌<◌, ◌*◌, ◌^◌, IfErr, OnOk, map};
-ghost use Rattle.process_memory.specs.Seen.{ReadingBy};
 ghost use Rattle.py_fields.specs.Sound.{IsSound};
+ghost use Rattle.py_builtins.specs.Consulted.{ConsultingBy};
 ghost use Rattle.py_stacks.specs.Frames.{call_of};
 ghost use Rattle.py_stacks.specs.Threads.{trace_of};
 ghost use Rattle.py_stacks.specs.Values.{IsOrLost, MarkedAs, StandsFor, by_value, call_visits, locals_visits};
@@ -63,7 +63,7 @@ fn value_text<P: ProcessMemory>(
 ) -> Result<Text, StackError>
     requires sound { IsSound layout.now }
     requires narrow { width < 2 ^ 63 }
-    ensures { ReadingBy (λ m. 8 * value_visits layout.now m width addr)
+    ensures { ConsultingBy layout.now (λ m. 8 * value_visits layout.now m width addr)
         (P.seen process.old) (P.seen process.new)
         (λ m. IsOrLost (value_text layout.now m width addr) result) }
 {
@@ -82,7 +82,7 @@ fn show_local<P: ProcessMemory>(
 ) -> Result<(), StackError>
     requires sound { IsSound layout.now }
     requires narrow { width < 2 ^ 63 }
-    ensures shown { ReadingBy (λ m. 8 * value_visits layout.now m width local.old.addr)
+    ensures shown { ConsultingBy layout.now (λ m. 8 * value_visits layout.now m width local.old.addr)
         (P.seen process.old) (P.seen process.new)
         (λ m. OnOk result (local.new ≡ with_value (value_text layout.now m width) local.old)) }
     ensures lost { IfErr result (λ error. error ≡ StackError.OutOfMemory) }
@@ -102,7 +102,7 @@ fn show_locals<P: ProcessMemory>(
 ) -> Result<(), StackError>
     requires sound { IsSound layout.now }
     requires narrow { width < 2 ^ 63 }
-    ensures shown { ReadingBy
+    ensures shown { ConsultingBy layout.now
         (λ m. 8 * locals_visits (value_visits layout.now m width) locals.old.items)
         (P.seen process.old) (P.seen process.new)
         (λ m. OnOk result (locals.new.items
@@ -125,7 +125,7 @@ fn show_frame<P: ProcessMemory>(
 ) -> Result<(), StackError>
     requires sound { IsSound layout.now }
     requires narrow { width < 2 ^ 63 }
-    ensures shown { ReadingBy
+    ensures shown { ConsultingBy layout.now
         (λ m. 8 * call_visits (value_visits layout.now m width) (call_of frame.old))
         (P.seen process.old) (P.seen process.new)
         (λ m. OnOk result (call_of frame.new
@@ -148,7 +148,7 @@ fn show_trace<P: ProcessMemory>(
 ) -> Result<(), StackError>
     requires sound { IsSound layout.now }
     requires narrow { width < 2 ^ 63 }
-    ensures shown { ReadingBy
+    ensures shown { ConsultingBy layout.now
         (λ m. 8 * trace_visits (value_visits layout.now m width) (trace_of trace.old))
         (P.seen process.old) (P.seen process.new)
         (λ m. OnOk result (trace_of trace.new
@@ -171,7 +171,7 @@ pub(crate) fn show_traces<P: ProcessMemory>(
 ) -> Result<(), StackError>
     requires sound { IsSound layout.now }
     requires narrow { width < 2 ^ 63 }
-    ensures shown { ReadingBy
+    ensures shown { ConsultingBy layout.now
         (λ m. 8 * traces_visits (value_visits layout.now m width) (map trace_of traces.old.items))
         (P.seen process.old) (P.seen process.new)
         (λ m. OnOk result (map trace_of traces.new.items

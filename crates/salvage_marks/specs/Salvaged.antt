@@ -1,5 +1,5 @@
 -- What is left of a process's stacks, with its marks.
-use Rattle.std.specs.Prelude.{◌≡◌, ℕ, ◌+◌, ◌*◌, ◌^◌, Bool, is_some, List, ◌++◌, length, map, position, Option, Result}
+use Rattle.std.specs.Prelude.{◌≡◌, ℕ, ◌+◌, ◌*◌, Bool, is_some, List, ◌++◌, length, map, position, Option, Result}
 use Rattle.std.specs.Prelude.{Ok, Err, Vec}
 use Rattle.std.specs.Global.{Global}
 use Rattle.elf64_core.specs.declared.header.Machine.{Machine}

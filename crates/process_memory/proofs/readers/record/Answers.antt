@@ -1,9 +1,10 @@
+use Rattle.std.proofs.Common.{refl}
 use Rattle.process_memory.proofs.Reading.{reading_one}
 use Rattle.process_memory.proofs.Records.{answer_length}
 use Rattle.process_memory.proofs.readers.record.Goals as goal
 
 pub returns-clause-answer : goal.returns-clause-answer
-returns-clause-answer g c = reading_one c.requires c.copy.ensures.law
+returns-clause-answer g c = reading_one (record { is = refl; short = c.requires }) c.copy.ensures.law
 
 pub returns-clause-whole : goal.returns-clause-whole
 returns-clause-whole g c =

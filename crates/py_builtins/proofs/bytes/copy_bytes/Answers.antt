@@ -4,7 +4,7 @@ use Rattle.std.proofs.lemmas.Result.{err_from_is_err_and}
 use Rattle.elf64_core.specs.Fields.{u64_in}
 use Rattle.process_memory.specs.Memory.{Memory, Found, record_at}
 use Rattle.process_memory.specs.Memory.Fault.{TooLong}
-use Rattle.process_memory.proofs.Reading.{reading_gives, reads_halt, reads_next}
+use Rattle.process_memory.proofs.Reading.{read_kept, reading_gives, reading_short, reads_halt, reads_next}
 use Rattle.py_fields.proofs.ObjectFields.{bytes_fits}
 use Rattle.py_builtins.specs.Bytes.{bytes_object_at, bytes_of_length}
 use Rattle.process_memory.specs.declared.memory.ReadFault.{ReadFault}
@@ -12,6 +12,8 @@ use Rattle.process_memory.specs.Seen.{Answers, read_fault}
 use Rattle.py_builtins.specs.declared.error.ObjectError.{ObjectError}
 use Rattle.py_builtins.specs.ObjectError.{object_fault}
 use Rattle.py_builtins.proofs.BytesRead.{bytes_long, bytes_fine}
+use Rattle.py_builtins.specs.Consulted.IsRecordSize.{Bytes}
+use Rattle.py_builtins.proofs.Consulted.{consults_bytes, consults_record}
 use Rattle.py_builtins.proofs.bytes.copy_bytes.Goals as goal
 
 -- an error that names the same fault
@@ -25,17 +27,22 @@ pub returns-in_err-object-clause-answer : goal.returns-in_err-object-clause-answ
 unfolding bytes_object_at
 returns-in_err-object-clause-answer g c =
     let p = err_from_is_err_and c.from_residual.result c.from_residual.ensures.1 in
-    rw p.1 (reads_halt 2 p.0 _ c.in_err-object.ensures.answer p.2 (omega arith))
+    rw p.1 (reads_halt 2 p.0 _ (consults_record c.args.layout.now Bytes c.in_err-object.ensures.answer) p.2 (omega arith))
 
 pub returns-then-length-ge-LENGTH_LIMIT-clause-early : goal.returns-then-length-ge-LENGTH_LIMIT-clause-early
 unfolding bytes_object_at
 returns-then-length-ge-LENGTH_LIMIT-clause-early g c =
     let length_is : c.u64_in-length.result ≡ u64_in c.in_ok-object.object.items c.args.layout.now.bytes.length = c.u64_in-length.ensures ∙ ap (λ b. u64_in b c.args.layout.now.bytes.length) c.deref.ensures.value in
     let long : 65536 ≤ u64_in c.in_ok-object.object.items c.args.layout.now.bytes.length = omega arith in
-    reading_gives 1 _ c.in_ok-object.ensures.answer (omega arith) (λ m h. rw h.is (bytes_long c.args.layout.now m c.args.addr _ long ∙ ap (λ z. Err (TooLong z)) (search rules)))
+    reading_gives 1 _ (reading_short c.in_ok-object.ensures.answer) (omega arith) (λ m h. rw h.is (bytes_long c.args.layout.now m c.args.addr _ long ∙ ap (λ z. Err (TooLong z)) (search rules)))
 
 pub returns-then-length-ge-LENGTH_LIMIT-clause-answer : goal.returns-then-length-ge-LENGTH_LIMIT-clause-answer
-returns-then-length-ge-LENGTH_LIMIT-clause-answer g c = reading_gives 2 _ (returns-then-length-ge-LENGTH_LIMIT-clause-early g c) (omega arith) (λ m h. record { is = h })
+unfolding bytes_object_at
+returns-then-length-ge-LENGTH_LIMIT-clause-answer g c =
+    let length_is : c.u64_in-length.result ≡ u64_in c.in_ok-object.object.items c.args.layout.now.bytes.length = c.u64_in-length.ensures ∙ ap (λ b. u64_in b c.args.layout.now.bytes.length) c.deref.ensures.value in
+    let long : 65536 ≤ u64_in c.in_ok-object.object.items c.args.layout.now.bytes.length = omega arith in
+    reading_gives 2 _ (consults_record c.args.layout.now Bytes c.in_ok-object.ensures.answer) (omega arith)
+    (λ m h. record { is = rw h.is (bytes_long c.args.layout.now m c.args.addr _ long ∙ ap (λ z. Err (TooLong z)) (search rules)) })
 
 pub returns-in_err-record_wide-clause-answer : goal.returns-in_err-record_wide-clause-answer
 unfolding bytes_object_at
@@ -46,8 +53,13 @@ returns-in_err-record_wide-clause-answer g c =
     let same : (m : Memory) → bytes_of_length layout m c.args.addr (u64_in c.in_ok-object.object.items layout.bytes.length) ≡ record_at m (c.args.addr + layout.bytes.at) n = λ m. ap (bytes_of_length layout m c.args.addr) (sym length_is) ∙ bytes_fine layout m c.args.addr n (omega arith) in
     let p = err_from_is_err_and c.from_residual-in_err-record_wide.result c.from_residual-in_err-record_wide.ensures.1 in
     rw p.1
-    (reads_next 2 _ c.in_ok-object.ensures.answer
-    (reading_gives 1 _ c.in_err-record_wide.ensures.answer (omega arith) (λ m h. fails _ _ _ p.2 (same m) h))
+    (reads_next 2 _ (consults_record layout Bytes c.in_ok-object.ensures.answer)
+    (reading_gives 1 _ (consults_bytes layout (λ s is. record {
+      bytes = c.args.addr;
+      object = c.in_ok-object.object.items;
+      there = read_kept (λ m. record_at m c.args.addr layout.bytes.size) c.in_ok-object.ensures.answer;
+      is = is ∙ ap (λ k. record { start = c.args.addr + layout.bytes.at; len = k }) length_is;
+    }) c.in_err-record_wide.ensures.answer) (omega arith) (λ m h. fails _ _ _ p.2 (same m) h))
     (omega arith))
 
 pub returns-clause-answer : goal.returns-clause-answer
@@ -57,6 +69,11 @@ returns-clause-answer g c =
     let layout = c.args.layout.now in
     let n = c.u64_in-length.result in
     let same : (m : Memory) → bytes_of_length layout m c.args.addr (u64_in c.in_ok-object.object.items layout.bytes.length) ≡ record_at m (c.args.addr + layout.bytes.at) n = λ m. ap (bytes_of_length layout m c.args.addr) (sym length_is) ∙ bytes_fine layout m c.args.addr n (omega arith) in
-    reads_next 2 _ c.in_ok-object.ensures.answer
-    (reading_gives 1 _ c.in_ok-record_wide.ensures.answer (omega arith) (λ m h. record { is = same m ∙ h.is }))
+    reads_next 2 _ (consults_record layout Bytes c.in_ok-object.ensures.answer)
+    (reading_gives 1 _ (consults_bytes layout (λ s is. record {
+      bytes = c.args.addr;
+      object = c.in_ok-object.object.items;
+      there = read_kept (λ m. record_at m c.args.addr layout.bytes.size) c.in_ok-object.ensures.answer;
+      is = is ∙ ap (λ k. record { start = c.args.addr + layout.bytes.at; len = k }) length_is;
+    }) c.in_ok-record_wide.ensures.answer) (omega arith) (λ m h. record { is = same m ∙ h.is }))
     (omega arith)

@@ -10,6 +10,8 @@ use Rattle.py_fields.proofs.ObjectFields.{long_fits}
 use Rattle.py_builtins.specs.ObjectError.{object_fault}
 use Rattle.py_builtins.specs.Integers.{digits_of, long_at, long_by, signed}
 use Rattle.py_builtins.proofs.Buffers.{front_read, front_short}
+use Rattle.py_builtins.specs.Consulted.IsRecordSize.{Long}
+use Rattle.py_builtins.proofs.Consulted.{consults_record}
 use Rattle.py_builtins.proofs.integers.copy_long.Goals as goal
 
 pub record_in-requires : goal.record_in-requires
@@ -26,7 +28,7 @@ unfolding long_at
 returns-in_err-record_in-clause-answer g c =
     let p = err_from_is_err_and c.from_residual.result c.from_residual.ensures.1 in
     let short = (long_fits c.requires.sound).short in
-    let one = front_read c.args.addr c.args.layout.now.long.size _ c.in_err-record_in.ensures.answer (omega arith) in
+    let one = consults_record c.args.layout.now Long (front_read c.args.addr c.args.layout.now.long.size _ c.in_err-record_in.ensures.answer (omega arith)) in
     rw p.1 (reads_halt 2 p.0 _ one p.2 (omega arith))
 
 pub returns-in_err-magnitude-clause-answer : goal.returns-in_err-magnitude-clause-answer
@@ -37,7 +39,7 @@ returns-in_err-magnitude-clause-answer g c =
     let digits = c.digits_of-digits.result in
     let digits_is : digits_of l.integers (u64_in object l.long.count) ≡ digits = sym (c.digits_of-digits.ensures.digits ∙ ap (digits_of l.integers) c.u64_in.ensures) in
     let short = (long_fits c.requires.sound).short in
-    let one = front_read c.args.addr c.args.layout.now.long.size _ c.in_ok-record_in.ensures.answer (omega arith) in
+    let one = consults_record c.args.layout.now Long (front_read c.args.addr c.args.layout.now.long.size _ c.in_ok-record_in.ensures.answer (omega arith)) in
     let p = err_from_is_err_and c.from_residual-in_err-magnitude.result c.from_residual-in_err-magnitude.ensures.1 in
     rw p.1
     (reads_next 2 _ one
@@ -53,7 +55,7 @@ returns-clause-answer g c =
     let digits = c.digits_of-digits.result in
     let digits_is : digits_of l.integers (u64_in object l.long.count) ≡ digits = sym (c.digits_of-digits.ensures.digits ∙ ap (digits_of l.integers) c.u64_in.ensures) in
     let short = (long_fits c.requires.sound).short in
-    let one = front_read c.args.addr c.args.layout.now.long.size _ c.in_ok-record_in.ensures.answer (omega arith) in
+    let one = consults_record c.args.layout.now Long (front_read c.args.addr c.args.layout.now.long.size _ c.in_ok-record_in.ensures.answer (omega arith)) in
     let number : signed digits.negative c.in_ok-magnitude.magnitude ≡ to_z w64 (of_z w64 c.signed.result) = sym (to_z-of_z w64 c.signed.result (search rules) ∙ c.signed.ensures) in
     reads_next 2 _ one
     (reads_same _ (λ m. long_by l m c.args.addr object digits) (λ m. ap (long_by l m c.args.addr object) digits_is)

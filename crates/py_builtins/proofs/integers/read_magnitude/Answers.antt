@@ -5,6 +5,8 @@ use Rattle.process_memory.proofs.Reading.{reading_gives, reads_end, reads_halt, 
 use Rattle.py_fields.proofs.ObjectFields.{long_fits}
 use Rattle.py_builtins.specs.Integers.{two_big_digits}
 use Rattle.py_builtins.proofs.Numbers.{magnitude_none, magnitude_one, magnitude_two, magnitude_more}
+use Rattle.py_builtins.specs.Consulted.IsWidth.{Word}
+use Rattle.py_builtins.proofs.Consulted.{consults_field}
 use Rattle.py_builtins.proofs.integers.read_magnitude.Goals as goal
 
 pub u32_in-requires : goal.u32_in-requires
@@ -24,12 +26,12 @@ pub returns-in_err-digits-in-2-clause-answer : goal.returns-in_err-digits-in-2-c
 returns-in_err-digits-in-2-clause-answer g c =
     let is : c.args.count ≡ 2 = omega arith in
     let p = err_from_is_err_and c.from_residual.result c.from_residual.ensures.1 in
-    rw p.1 (reading_gives 1 _ (reads_halt 1 p.0 (λ m word. Ok (two_big_digits word)) c.in_err-digits-in-2.ensures.answer p.2 (omega arith)) (omega arith) (λ m h. rw (magnitude_two c.args.layout.now m c.args.addr c.args.object.now c.args.count is) h))
+    rw p.1 (reading_gives 1 _ (reads_halt 1 p.0 (λ m word. Ok (two_big_digits word)) (consults_field c.args.layout.now Word c.in_err-digits-in-2.ensures.answer) p.2 (omega arith)) (omega arith) (λ m h. rw (magnitude_two c.args.layout.now m c.args.addr c.args.object.now c.args.count is) h))
 
 pub returns-in_ok-digits-in-2-clause-answer : goal.returns-in_ok-digits-in-2-clause-answer
 returns-in_ok-digits-in-2-clause-answer g c =
     let is : c.args.count ≡ 2 = omega arith in
-    reading_gives 1 _ (reads_next 1 (λ m word. Ok (two_big_digits word)) c.in_ok-digits-in-2.ensures.answer (reads_end 0 refl) (omega arith)) (omega arith) (λ m h. rw (magnitude_two c.args.layout.now m c.args.addr c.args.object.now c.args.count is) h)
+    reading_gives 1 _ (reads_next 1 (λ m word. Ok (two_big_digits word)) (consults_field c.args.layout.now Word c.in_ok-digits-in-2.ensures.answer) (reads_end 0 refl) (omega arith)) (omega arith) (λ m h. rw (magnitude_two c.args.layout.now m c.args.addr c.args.object.now c.args.count is) h)
 
 pub returns-in_default-clause-answer : goal.returns-in_default-clause-answer
 returns-in_default-clause-answer g c =

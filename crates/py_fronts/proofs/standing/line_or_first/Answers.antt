@@ -4,6 +4,7 @@ use Rattle.std.specs.Int.{w32}
 use Rattle.process_memory.proofs.Reading.{reading_gives, reading_none}
 use Rattle.py_stacks.specs.Records.{member_of}
 use Rattle.py_fronts.proofs.Shown.{line_after, line_before, line_few}
+use Rattle.py_builtins.proofs.Consulted.{consulting_short}
 use Rattle.py_fronts.proofs.standing.line_or_first.Goals as goal
 
 pub returns-then-is_before_start : goal.returns-then-is_before_start
@@ -12,5 +13,5 @@ returns-then-is_before_start g c =
 
 pub returns : goal.returns
 returns g c =
-    reading_gives _ _ c.read_line.ensures (line_few c.args.lineno)
+    reading_gives _ _ (consulting_short c.read_line.ensures) (line_few c.args.lineno)
     (λ m a. line_after c.args.lineno c.args.layout.now m (member_of c.args.records.now) c.offset_of.result c.is_before_start.result c.read_line.result c.offset_of.ensures c.is_before_start.ensures c.if-is_before_start.false a)

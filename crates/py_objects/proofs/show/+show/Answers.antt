@@ -15,6 +15,7 @@ use Rattle.py_objects.proofs.Levels.{item_fails, item_goes, key_fails, value_fai
 use Rattle.py_objects.proofs.Levels.{look_refused, child_stops, child_goes}
 use Rattle.py_objects.proofs.show.+show.Goals.{show_parts-in-None}
 use Rattle.py_objects.proofs.show.+show.Goals.{show_parts-in-Some+else-left-le-NARROW+in_ok-add-in-Some-2}
+use Rattle.py_builtins.proofs.Consulted.{consults_fields}
 use Rattle.py_objects.proofs.show.+show.Goals as goal
 
 pub show_value-returns-in_err-dots-clause-shown : goal.show_value-returns-in_err-dots-clause-shown
@@ -74,11 +75,11 @@ show_part-returns-in_err-look-clause-shown g t c =
 pub show_part-returns-in_err-child-clause-shown : goal.show_part-returns-in_err-child-clause-shown
 show_part-returns-in_err-child-clause-shown g t c =
     let p = err_from_is_err_and c.from_residual-in_err-child.result c.from_residual-in_err-child.ensures.1 in
-    rw p.1 (reading_gives _ _ c.in_err-child.ensures.answer (omega (arith, c.in_ok-look.ensures.counts)) (λ m a. child_stops (values_in c.args.layout.now m) (λ w a. show_at (values_in c.args.layout.now m) c.args.levels w a) (λ w a. show_rises (values_in c.args.layout.now m) c.args.levels w a) (brackets_of c.args.parts.now) (parts_place_of c.args.parts.now) c.args.number c.args.width c.args.visits.now c.in_ok-look.ensures.told _ p.0 a (ap object_fault p.2)))
+    rw p.1 (reading_gives _ _ (consults_fields c.args.layout.now c.in_err-child.ensures.answer) (omega (arith, c.in_ok-look.ensures.counts)) (λ m a. child_stops (values_in c.args.layout.now m) (λ w a. show_at (values_in c.args.layout.now m) c.args.levels w a) (λ w a. show_rises (values_in c.args.layout.now m) c.args.levels w a) (brackets_of c.args.parts.now) (parts_place_of c.args.parts.now) c.args.number c.args.width c.args.visits.now c.in_ok-look.ensures.told _ p.0 a (ap object_fault p.2)))
 
 pub show_part-returns-clause-shown : goal.show_part-returns-clause-shown
 show_part-returns-clause-shown g t c =
-    reading_both _ _ c.in_ok-child.ensures.answer c.show_child.ensures.shown (λ m a b. child_goes (values_in c.args.layout.now m) (λ w a. show_at (values_in c.args.layout.now m) c.args.levels w a) (λ w a. show_rises (values_in c.args.layout.now m) c.args.levels w a) (brackets_of c.args.parts.now) (parts_place_of c.args.parts.now) c.args.number c.args.width c.args.visits.now c.in_ok-look.ensures.told _ a b) (omega (arith, c.in_ok-look.ensures.counts, c.show_child.ensures.rises))
+    reading_both _ _ (consults_fields c.args.layout.now c.in_ok-child.ensures.answer) c.show_child.ensures.shown (λ m a b. child_goes (values_in c.args.layout.now m) (λ w a. show_at (values_in c.args.layout.now m) c.args.levels w a) (λ w a. show_rises (values_in c.args.layout.now m) c.args.levels w a) (brackets_of c.args.parts.now) (parts_place_of c.args.parts.now) c.args.number c.args.width c.args.visits.now c.in_ok-look.ensures.told _ a b) (omega (arith, c.in_ok-look.ensures.counts, c.show_child.ensures.rises))
 
 pub show_parts-returns-in_err-text-clause-shown : goal.show_parts-returns-in_err-text-clause-shown
 show_parts-returns-in_err-text-clause-shown g t c =

@@ -1,6 +1,7 @@
 use Rattle.std.proofs.Common.{◌+◌, ◌*◌, string_bytes}
 use Rattle.py_objects.specs.Nodes.{brackets_of, parts_place_of, values_in}
 use Rattle.py_objects.specs.Shows.{show_at, part_at}
+use Rattle.py_builtins.specs.Consulted.{IsConsulted}
 use Rattle.py_objects.proofs.Showing.{Showing}
 use Rattle.py_objects.proofs.show.+show.Given as goal
 
@@ -21,5 +22,5 @@ decreases-show_node g l = 5 * l.levels + 4
 
 abbrev pub invariant-show_parts-loop-number : goal.invariant-show_parts-loop-number
 invariant-show_parts-loop-number g l =
-    Showing (λ m k w. part_at (values_in l.layout m) (λ w2 a. show_at (values_in l.layout m) l.levels w2 a) (brackets_of l.parts) (parts_place_of l.parts) k w) (brackets_of l.parts) l.count l.width l.initial.visits
+    Showing (IsConsulted l.layout) (λ m k w. part_at (values_in l.layout m) (λ w2 a. show_at (values_in l.layout m) l.levels w2 a) (brackets_of l.parts) (parts_place_of l.parts) k w) (brackets_of l.parts) l.count l.width l.initial.visits
     (g.P.ProcessMemory.seen l.initial.process) (g.P.ProcessMemory.seen l.process) (string_bytes l.text) l.is_first l.number l.rest l.visits

@@ -4,6 +4,7 @@ use Rattle.process_memory.proofs.Reading.{reading_gives, reading_none}
 use Rattle.py_stacks.specs.Interpreter.{threads_head}
 use Rattle.py_process.specs.Candidates.{candidate_of, passes_in}
 use Rattle.py_process.proofs.Tests.{answer_is, cost_inside, head_lost, head_outside, list_lost, outside_maps, tested}
+use Rattle.py_builtins.proofs.Consulted.{consulting_short}
 use Rattle.py_process.proofs.candidates.is_interpreter_in.Goals as goal
 
 pub returns-then-not-contains_addr : goal.returns-then-not-contains_addr
@@ -31,11 +32,11 @@ returns-then-not-contains_addr-2 g c =
 pub returns-in-Ok : goal.returns-in-Ok
 returns-in-Ok g c =
     tested (g.M.ContainsAddr.contains c.args.maps.now) c.args.layout.now c.args.addr c.in-Some.head c.in_ok-head.field-0 _
-    (sym c.contains_addr.ensures ∙ c.if-not-contains_addr.false) (sym c.contains_addr-2.ensures ∙ c.if-not-contains_addr-2.false) c.in-Some.is c.in_ok-head.ensures c.in-Ok.ensures.answer
+    (sym c.contains_addr.ensures ∙ c.if-not-contains_addr.false) (sym c.contains_addr-2.ensures ∙ c.if-not-contains_addr-2.false) c.in-Some.is c.in_ok-head.ensures (consulting_short c.in-Ok.ensures.answer)
     (λ m same a. answer_is c.args.layout.now m c.args.addr c.in-Some.head c.in-Ok.is' (passes_in (g.M.ContainsAddr.contains c.args.maps.now) c.args.layout.now m c.args.addr) a same)
 
 pub returns-in-Err : goal.returns-in-Err
 returns-in-Err g c =
     tested (g.M.ContainsAddr.contains c.args.maps.now) c.args.layout.now c.args.addr c.in-Some.head c.in_ok-head.field-0 _
-    (sym c.contains_addr.ensures ∙ c.if-not-contains_addr.false) (sym c.contains_addr-2.ensures ∙ c.if-not-contains_addr-2.false) c.in-Some.is c.in_ok-head.ensures c.in-Err.ensures.answer
+    (sym c.contains_addr.ensures ∙ c.if-not-contains_addr.false) (sym c.contains_addr-2.ensures ∙ c.if-not-contains_addr-2.false) c.in-Some.is c.in_ok-head.ensures (consulting_short c.in-Err.ensures.answer)
     (λ m same a. tt)
