@@ -129,6 +129,10 @@ pub record ReadingOf (allowed : Memory → Span → Type 0) (n : ℕ) (old new :
 abbrev pub Reading : ℕ → Seen → Seen → (Memory → Type 0) → Type 0
 Reading n old new Q = ReadingOf IsShort n old new Q
 
+-- the same, where the memory itself says how many reads there are at most
+abbrev pub ReadingBy : (Memory → ℕ) → Seen → Seen → (Memory → Type 0) → Type 0
+ReadingBy cost old new Q = Reading (cost (byte_at old.pieces)) old new Q
+
 -- `new` comes of `old` by at most `n` reads, each of a range that this memory allows, and the result is what the
 -- definition says over every memory that covers them
 abbrev pub ReadsOf : {T E : Type 0} → (Memory → Span → Type 0) → (E → Option Fault) → ℕ → Seen → Seen
