@@ -17,14 +17,14 @@ from typing import List, Optional
 
 sys.dont_write_bytecode = True
 
-from core_faults import BAD_WORDS, CANNOT_WRITE, Fault, shown
-from core_places import LAYOUTS, MACHINES, PROGRAM, ROOT, SALVAGE, commit, program_at, salvage_at
+from pystacks_tool.faults import BAD_WORDS, CANNOT_WRITE, Fault, shown
+from pystacks_tool.places import LAYOUTS, MACHINES, PROGRAM, ROOT, SALVAGE, commit, program_at, salvage_at
 
 PAGES = ("CORES", "DIFFERENCES", "DUMP", "HOSTILE", "LAYOUTS", "MERGE", "MESSAGES", "REACH", "SALVAGE", "SAMPLE", "SLIM", "SPEED", "TOOL",
          "TRIAGE", "WALK")
 """The pages of docs for users."""
 
-TOOLS = ("dump_core.py", "slim_core.py", "native_addresses.py", "core_*.py")
+TOOLS = ("dump_core.py", "slim_core.py", "native_addresses.py", "pystacks_tool/**/*.py")
 
 MARK = "COMMIT"
 """The file by which an installed folder is known. It has the commit, where that is known."""
@@ -79,7 +79,7 @@ def put(folder: Path, program: Path, salvage: Optional[Path]) -> List[str]:
         copied(salvage, folder / "bin" / "pysalvage")
     for pattern in TOOLS:
         for source in sorted((ROOT / "tools").glob(pattern)):
-            copied(source, folder / "tools" / source.name)
+            copied(source, folder / source.relative_to(ROOT))
     for machine in MACHINES.values():
         source = LAYOUTS.with_name(f"cpython-{machine}.toml")
         copied(source, folder / "layouts" / source.name)

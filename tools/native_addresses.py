@@ -15,7 +15,7 @@ import sys
 from pathlib import Path
 from typing import List, Optional
 
-from core_maps import EXECUTABLE, maps_of
+from pystacks_tool.cores.maps import EXECUTABLE, maps_of
 
 STACK = """
 import gdb

@@ -25,9 +25,9 @@ from rooms import ROOT, TOOLS  # (first: it makes the other rooms known)
 
 from carry_layouts import numbers_by_key
 from child_cores import Case, Core, Failure, Skip, leave_core
-from core_gaps import entries_in
-from core_maps import Use, machine_of, wanted_files
-from core_places import machine_name
+from pystacks_tool.cores.gaps import entries_in
+from pystacks_tool.cores.maps import Use, machine_of, wanted_files
+from pystacks_tool.places import machine_name
 from derive_layout import Build, Derived, DeriveError, build_of
 from file_tables import TableError, add_file_table
 from made import AARCH64, X86_64, layout_of
@@ -125,7 +125,7 @@ def by_tool(*words: object) -> Walk:
 
 def check_tool(program: Path, core: Core, derived: Derived) -> None:
     """Fails where the tool, which finds layouts and images by itself, doesn't show the same."""
-    wanted = report_of(core.told, str(core.path), derived.with_dicts, with_holder=True)
+    wanted = report_of(core.told, str(core.path), derived.with_dicts)
     check_report(by_tool(core.path, "--program", program), wanted)
 
 

@@ -10,9 +10,9 @@ import struct
 from pathlib import Path
 from typing import Sequence
 
-from core_gaps import table_note
-from core_maps import NOTE, header_of
-from core_tables import Entry
+from pystacks_tool.cores.gaps import table_note
+from pystacks_tool.cores.maps import NOTE, header_of
+from pystacks_tool.cores.tables import Entry
 
 MOST_HEADERS = 0xFFFE
 """The most program headers that a header can count by itself."""

@@ -8,7 +8,7 @@ from typing import List, Sequence, Tuple
 
 import rooms  # (first: it makes the other rooms known)
 from child_cores import SECONDS, Failure
-from core_maps import segments_of
+from pystacks_tool.cores.maps import segments_of
 
 LOAD = 1
 BLOT = 0xAA

@@ -25,10 +25,10 @@ from rooms import ROOT, TOOLS  # (first: it makes the other rooms known)
 
 from browser import Browser, BrowserFault, browser_path
 from child_cores import Skip, core_names, find_core, raise_core_limit
-from core_group import groups_of
-from core_model import Frame, Interpreter, Local, Report, Thread
-from core_page import group_page, report_page
-from core_text import Style
+from pystacks_tool.groups.triage import groups_of
+from pystacks_tool.model import Frame, Interpreter, Local, Report, Thread
+from pystacks_tool.show.page import group_page, report_page
+from pystacks_tool.show.text import Style
 from test_page import HOSTILE
 
 PICTURES = ROOT / "docs" / "pictures"

@@ -25,9 +25,9 @@ from typing import Dict, Iterator, List, Sequence, Tuple
 from rooms import ROOT, TOOLS  # (first: it makes the other rooms known)
 
 from child_cores import SECONDS, Failure, Skip, core_names, find_core, raise_core_limit
-from core_images import image_words, read_core
-from core_maps import Use
-from core_places import LAYOUTS
+from pystacks_tool.cores.images import image_words, read_core
+from pystacks_tool.cores.maps import Use
+from pystacks_tool.places import LAYOUTS
 from each_python import each_python
 from find_pythons import pythons
 

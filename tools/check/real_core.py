@@ -37,10 +37,10 @@ from rooms import ROOT  # (first: it makes the other rooms known)
 
 import child_cores
 from child_cores import CASES, GATE_CASES, Case, Core, Failure, Skip, Thread, Told, core_names, leave_core
-from core_maps import Use, machine_of, wanted_files
-from core_prepare import Wishes, prepared
+from pystacks_tool.cores.maps import Use, machine_of, wanted_files
+from pystacks_tool.cores.prepare import Wishes, prepared
 from derive_layout import Build, Derived, DeriveError, How, build_of, derive, same_version, told_of
-from core_images import image_words
+from pystacks_tool.cores.images import image_words
 from find_pythons import pythons
 from footprints import Footprint, blotted, footprint_of
 from each_python import each_python
@@ -50,18 +50,6 @@ from real_groups import check_objects, groups_text, kept
 from real_slim import slim_walks
 from real_tool import check_tool
 
-
-HOLDER_IN_DUMP = True
-"""Whether a report marks the thread that holds the interpreter's lock."""
-
-JSON_IN_DUMP = True
-"""Whether the program can report as JSON."""
-
-LOCALS_IN_DUMP = True
-"""Whether the program can report locals."""
-
-SLIM_CORES = True
-"""Whether the program makes slim cores."""
 
 HELD = """\
     hold (hält.py:10)
@@ -146,7 +134,7 @@ def dump(program: Path, core: Core, layouts: Path, *options: str) -> Walk:
     return ran([program, "dump", "-c", core.path, "--layouts", layouts, *options, *images])
 
 
-def report_of(told: Told, core: str, with_names: bool, with_holder: bool) -> str:
+def report_of(told: Told, core: str, with_names: bool, with_holder: bool = True) -> str:
     """The text of the report that the child's words give."""
     text = f"Signal {int(signal.SIGABRT)}: {core}\n{told.head}"
     for thread in told.threads:
@@ -181,7 +169,7 @@ def tree_of(thread: Thread, with_names: bool) -> Dict[str, object]:
         "thread_name": thread.name if with_names else None,
         "os_thread_id": thread.native,
         "active": True,
-        "owns_gil": HOLDER_IN_DUMP and thread.has_lock,
+        "owns_gil": thread.has_lock,
         "process_info": None,
         "frames": [{**it, "module": None, "short_filename": None, "locals": None} for it in frames],
     }
@@ -268,15 +256,18 @@ def check_holder(program: Path, core: Core, layouts: Path, build: Build) -> None
     compare(core.told.threads, printed(run.out, build), with_lock=True)
 
 
-def check_dump(program: Path, core: Core, layouts: Path, derived: Derived) -> None:
+def check_text(program: Path, core: Core, layouts: Path, derived: Derived) -> None:
     """Reports a core, and compares the whole text."""
-    wanted = report_of(core.told, str(core.path), derived.with_dicts, HOLDER_IN_DUMP)
+    wanted = report_of(core.told, str(core.path), derived.with_dicts)
     check_report(dump(program, core, layouts), wanted)
-    if LOCALS_IN_DUMP and core.told.held:
+    if core.told.held:
         check_locals(dump(program, core, layouts, "-l"), wanted, core.told.held, derived)
-    if JSON_IN_DUMP:
-        run = dump(program, core, layouts, "-j")
-        check_report(run, json_of(core.told, derived, run.out))
+
+
+def check_json(program: Path, core: Core, layouts: Path, derived: Derived) -> None:
+    """Reports a core as JSON, and compares all of it."""
+    run = dump(program, core, layouts, "-j")
+    check_report(run, json_of(core.told, derived, run.out))
 
 
 def check_prepared(program: Path, core: Core, layouts: Path) -> None:
@@ -409,8 +400,8 @@ def as_stored(derived: Derived, layouts: Path) -> str:
     return f"not {told}, which is of {head[0]}"
 
 
-def over_core(program: Path, derived: Derived, core: Core, room: Path) -> Walk:
-    """Walks and reports a core of the child. Usual cores are reported alone, since a walk is given no images."""
+def texts_over_core(program: Path, derived: Derived, core: Core, room: Path) -> Walk:
+    """Walks and reports a core of the child as text. Usual cores are reported alone, since a walk is given no images."""
     layouts = room / "layout.toml"
     run = Walk(0, "", "", 0.0, 0)
     if not core.case.is_usual:
@@ -418,12 +409,18 @@ def over_core(program: Path, derived: Derived, core: Core, room: Path) -> Walk:
         if core.told.lock:
             check_holder(program, core, layouts, derived.build)
         notice_wrong(program, core, room, derived)
-    check_dump(program, core, layouts, derived)
+    check_text(program, core, layouts, derived)
     check_prepared(program, core, layouts)
-    if SLIM_CORES:
-        check_slim_core(program, core, layouts, derived.build)
-    if JSON_IN_DUMP:
-        check_tool(program, core.path, layouts, images_of(core.path, False))
+    return run
+
+
+def over_core(program: Path, derived: Derived, core: Core, room: Path) -> Walk:
+    """Tries all that the program and the tool make of a core of the child."""
+    layouts = room / "layout.toml"
+    run = texts_over_core(program, derived, core, room)
+    check_json(program, core, layouts, derived)
+    check_slim_core(program, core, layouts, derived.build)
+    check_tool(program, core.path, layouts, images_of(core.path, False))
     if core.told.led and derived.with_dicts:
         check_reach(program, core, layouts)
     return run
@@ -478,10 +475,8 @@ def is_noticed(program: Path, derived: Derived, cores: Sequence[Core], wrong: Pa
     """Whether one of the comparisons that the gate makes fails by this layout."""
     try:
         for core in cores:
-            check_dump(program, core, wrong, derived)
-        for core in cores:
-            if not HOLDER_IN_DUMP:
-                check_holder(program, core, wrong, derived.build)
+            check_text(program, core, wrong, derived)
+            check_json(program, core, wrong, derived)
     except Failure:
         return True
     return False

@@ -24,7 +24,7 @@ from typing import Dict, List, Sequence, Tuple
 
 import rooms  # (first: it makes the other rooms known)
 from child_cores import Failure, Skip, core_names, find_core, raise_core_limit
-from core_maps import EXECUTABLE, maps_of
+from pystacks_tool.cores.maps import EXECUTABLE, maps_of
 from each_python import each_python
 from find_pythons import pythons
 from native_addresses import Fault, addresses_of

@@ -24,7 +24,7 @@ from rooms import ROOT  # (first: it makes the other rooms known)
 
 from broken_words import LOW, check_words, with_word
 from child_cores import Case, Failure, Skip, core_names, find_core, leave_core, raise_core_limit
-from core_prepare import Unprepared, Wishes, prepared
+from pystacks_tool.cores.prepare import Unprepared, Wishes, prepared
 from derive_layout import DeriveError, build_of
 from each_python import each_python
 from find_pythons import pythons

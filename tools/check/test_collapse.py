@@ -10,10 +10,10 @@ from pathlib import Path
 from rooms import TOOLS  # (first: it makes the other rooms known)
 
 import stand_ins
-from core_collapse import collapsed, label
-from core_model import Frame, Thread
-from core_next import NEXT
-from core_places import PROGRAM
+from pystacks_tool.ask.advice import NEXT
+from pystacks_tool.model import Frame, Thread
+from pystacks_tool.places import PROGRAM
+from pystacks_tool.show.collapse import collapsed, label
 from made import EXAMPLE, core_file
 from row import heap
 from rows_dump import PROGRAM as IMAGE, bss, mapped

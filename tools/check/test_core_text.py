@@ -8,10 +8,10 @@ from pathlib import Path
 
 import rooms  # (first: it makes the other rooms known)
 
-from core_escape import as_name, in_line, signal_name, with_decimals
-from core_model import Frame, Interpreter, Local, Report, Thread
-from core_sources import Sources
-from core_text import Style, report_lines, stack_lines
+from pystacks_tool.model import Frame, Interpreter, Local, Report, Thread
+from pystacks_tool.show.escape import as_name, in_line, signal_name, with_decimals
+from pystacks_tool.show.sources import Sources
+from pystacks_tool.show.text import Style, report_lines, stack_lines
 
 HEAD = "Signal 11 (SIGSEGV): core\nProcess 7: python3 a.py\nPython v3.11.7\n"
 

@@ -17,9 +17,9 @@ from typing import List, Optional, Tuple
 from rooms import TOOLS  # (first: it makes the other rooms known)
 
 from carry_layouts import FIRST
-from core_gaps import entries_in
-from core_maps import is_library, maps_of, segments_of
-from core_places import LAYOUTS, PROGRAM
+from pystacks_tool.cores.gaps import entries_in
+from pystacks_tool.cores.maps import is_library, maps_of, segments_of
+from pystacks_tool.places import LAYOUTS, PROGRAM
 from file_tables import TableError, add_file_table
 from join_layouts import joined, single_files
 from layout_plan import VERSIONS

@@ -17,7 +17,7 @@ from pathlib import Path
 from rooms import TOOLS  # (first: it makes the other rooms known)
 
 import stand_ins
-from core_places import PROGRAM, SALVAGE
+from pystacks_tool.places import PROGRAM, SALVAGE
 from made import EXAMPLE, core_file
 from row import TEXT
 from stand_ins import frame, interpreter, salvage, thread
@@ -94,9 +94,9 @@ class Installed(Case):
 
     def test_again(self):
         self.install()
-        (self.folder / "to/tools/core_old.py").write_text("")
+        (self.folder / "to/tools/pystacks_tool/old.py").write_text("")
         self.install()
-        self.assertFalse((self.folder / "to/tools/core_old.py").exists())
+        self.assertFalse((self.folder / "to/tools/pystacks_tool/old.py").exists())
 
     def test_refused(self):
         (self.folder / "other").mkdir()

@@ -13,13 +13,13 @@ from pathlib import Path
 
 import rooms  # (first: it makes the other rooms known)
 
-from core_collapse import places
-from core_flame import WIDTH, fitted, flame_of
-from core_group import groups_of
-from core_model import Frame, Interpreter, Local, Report, Thread
-from core_page import LARGEST, group_page, report_page
-from core_sources import Sources
-from core_text import Style
+from pystacks_tool.groups.triage import groups_of
+from pystacks_tool.model import Frame, Interpreter, Local, Report, Thread
+from pystacks_tool.show.collapse import places
+from pystacks_tool.show.flame import WIDTH, fitted, flame_of
+from pystacks_tool.show.page import LARGEST, group_page, report_page
+from pystacks_tool.show.sources import Sources
+from pystacks_tool.show.text import Style
 
 HOSTILE = "</title><script>alert(1)</script>\"'&<img src=x onerror=alert(2)>\n\x00\u202e]]><!--"
 """A name that would be markup, if it weren't escaped."""

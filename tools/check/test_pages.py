@@ -10,9 +10,9 @@ from unittest import mock
 
 import rooms  # (first: it makes the other rooms known)
 
-import core_page
+from pystacks_tool.show import page as page_module
 from browser import Browser, browser_path
-from core_text import Style
+from pystacks_tool.show.text import Style
 from pages import Failure, check_page, wide
 
 SCRIPTS = (
@@ -62,30 +62,30 @@ class Noticed(unittest.TestCase):
         return ""
 
     def test_right(self):
-        self.assertEqual(self.tried(core_page.report_page(wide(), Style())), "")
+        self.assertEqual(self.tried(page_module.report_page(wide(), Style())), "")
 
     def test_scripts(self):
         for old, new, line in SCRIPTS:
-            self.assertEqual(core_page.SCRIPT.count(old), 1, old)
-            with mock.patch.object(core_page, "SCRIPT", core_page.SCRIPT.replace(old, new)):
-                said = self.tried(core_page.report_page(wide(), Style()))
+            self.assertEqual(page_module.SCRIPT.count(old), 1, old)
+            with mock.patch.object(page_module, "SCRIPT", page_module.SCRIPT.replace(old, new)):
+                said = self.tried(page_module.report_page(wide(), Style()))
             self.assertIn(line, said or "nothing", old)
 
     def test_markup(self):
-        page = core_page.report_page(wide(), Style())
+        page = page_module.report_page(wide(), Style())
         for old, new, line in MARKUP:
             self.assertTrue(old in page, old)
             self.assertIn(line, self.tried(page.replace(old, new, 1)) or "nothing", old)
 
     @unittest.skipUnless(shutil.which("tidy"), "there is no tidy")
     def test_tidy(self):
-        page = core_page.report_page(wide(), Style())
+        page = page_module.report_page(wide(), Style())
         self.assertIn("tidy says", self.tried(page.replace("</main>", "</i></main>", 1)))
 
     def test_dark(self):
-        style = core_page.STYLE.replace("prefers-color-scheme: dark", "max-width: 1px").replace("light dark", "light")
-        with mock.patch.object(core_page, "STYLE", style):
-            self.assertIn("light and dark are the same", self.tried(core_page.report_page(wide(), Style())))
+        style = page_module.STYLE.replace("prefers-color-scheme: dark", "max-width: 1px").replace("light dark", "light")
+        with mock.patch.object(page_module, "STYLE", style):
+            self.assertIn("light and dark are the same", self.tried(page_module.report_page(wide(), Style())))
 
 
 if __name__ == "__main__":

@@ -25,13 +25,13 @@ from typing import Callable, List, Optional, Tuple
 
 from rooms import TOOLS  # (first: it makes the other rooms known)
 
-import core_sparse
-from core_gaps import entries_in
-from core_prepare import Prepared, Unprepared, Wishes, available, prepared
+from pystacks_tool.cores import sparse
+from pystacks_tool.cores.gaps import entries_in
+from pystacks_tool.cores.prepare import Prepared, Unprepared, Wishes, available, prepared
 from core_reader import Reader, reader
-from core_asked import free_memory
-from core_images import LONGEST
-from core_places import PROGRAM as BUILT
+from pystacks_tool.cores.images import LONGEST
+from pystacks_tool.cores.opened import free_memory
+from pystacks_tool.places import PROGRAM as BUILT
 from find_pythons import pythons
 from made import EXAMPLE, NOTE, Segment, core_file, elf_file, file_table, note
 from row import TEXT, heap
@@ -146,8 +146,8 @@ class Sparse(Case):
     def test_shares(self):
         # (a long run has several headers, none of which begins at a named address)
         for name, value in (("ZEROS", 4 * PAGE), ("MOST_SHARES", 8)):
-            self.addCleanup(setattr, core_sparse, name, getattr(core_sparse, name))
-            setattr(core_sparse, name, value)
+            self.addCleanup(setattr, sparse, name, getattr(sparse, name))
+            setattr(sparse, name, value)
         data = pages(1) + bytes(30 * PAGE) + pages(2)
         shadow = mapped(0x10000 + 5 * PAGE, b"/other", 4, b"", size=1)
         old = core_file([shadow, mapped(0x10000, None, 6, data)])
@@ -156,8 +156,8 @@ class Sparse(Case):
         self.assertLess(len(new), 8 * PAGE)
 
     def test_most(self):
-        self.addCleanup(setattr, core_sparse, "MOST_HEADERS", core_sparse.MOST_HEADERS)
-        core_sparse.MOST_HEADERS = core_sparse.MOST_SHARES + 2 + 2 * 2
+        self.addCleanup(setattr, sparse, "MOST_HEADERS", sparse.MOST_HEADERS)
+        sparse.MOST_HEADERS = sparse.MOST_SHARES + 2 + 2 * 2
         runs = [4, 9, 5, 8, 6]
         old = core_file([mapped(0x10000, None, 6, b"".join(pages(1) + bytes(it * PAGE) for it in runs))])
         found = self.same(old, self.new(old)[0])

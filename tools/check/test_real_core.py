@@ -24,8 +24,8 @@ from layout_plan import VERSIONS, Field, Group, Plan, plan_of
 from layout_sources import Answers, Place, faults_of
 from layout_swaps import numbers_in, swaps
 from made import Segment, core_file, status_record
-from real_core import Walk, as_stored, check_report, compare, derived_for, directions, over_core, printed, ran
-from real_core import report_of, try_all
+from real_core import Walk, as_stored, check_report, compare, derived_for, directions, printed, ran
+from real_core import report_of, texts_over_core, try_all
 
 BUILD = Build("/python", (3, 9, 1), "3.9.1 (main)", "/python", "x86_64", (), (), ())
 WANTED = [
@@ -138,16 +138,13 @@ Thread 0x7E00: "Thread-1 (run)"
             check_report(Walk(1, self.TEXT, "", 0.0, 0), self.TEXT)
 
     def test_holder(self):
-        marked = report_of(self.TOLD, "core.7", with_names=True, with_holder=True)
+        marked = report_of(self.TOLD, "core.7", with_names=True)
         self.assertEqual(marked, self.TEXT.replace('0x7F00: "', '0x7F00 (gil): "'))
         free = replace(self.TOLD, threads=[replace(it, has_lock=False) for it in self.TOLD.threads])
-        self.assertEqual(report_of(free, "core.7", with_names=True, with_holder=True), self.TEXT)
+        self.assertEqual(report_of(free, "core.7", with_names=True), self.TEXT)
 
     def test_json(self):
         derived = Derived(BUILD, "", {}, "runtime", True)
-        holder = patch("real_core.HOLDER_IN_DUMP", True)
-        holder.start()
-        self.addCleanup(holder.stop)
         right = real_core.json_of(self.TOLD, derived, "[]")
         tree = json.loads(right)
         self.assertEqual([it["owns_gil"] for it in tree], [False, True])
@@ -202,7 +199,7 @@ Thread 0x7E00: "Thread-1 (run)"
 
 FAKE = """#!{python} -IS
 import json, sys, time
-HOW, MARKS = {how!r}, {marks}
+HOW = {how!r}
 core = sys.argv[2] if sys.argv[1] == "walk" else sys.argv[3]
 with open(core) as file:
     told = json.load(file)
@@ -210,7 +207,7 @@ with open(sys.argv[3] if sys.argv[1] == "walk" else sys.argv[5]) as file:
     layout = file.read() if HOW != "ignores layouts" else ""
 is_wrong = "filename=16" in layout
 is_walk = sys.argv[1] == "walk"
-has_lock = sys.argv[6] != "0" if is_walk else MARKS
+has_lock = not is_walk or sys.argv[6] != "0"
 is_always_held = HOW == "looks at no lock" or "locked=0" in layout and HOW != "asks nobody"
 if HOW == "never ends" or HOW == "never ends in dump" and not is_walk:
     time.sleep(60)
@@ -264,10 +261,10 @@ class Programs(unittest.TestCase):
         path.write_text(json.dumps({"head": told.head, "threads": rows}), encoding="utf-8")
         return Core(path, case, told)
 
-    def tried(self, how, marks=False):
-        """Tries a program on four cores, one that marks the holder in reports or not."""
+    def tried(self, how):
+        """Tries a program on four cores, of which it writes texts alone."""
         program = self.folder / "program"
-        program.write_text(FAKE.format(python=sys.executable, how=how, marks=marks), encoding="utf-8")
+        program.write_text(FAKE.format(python=sys.executable, how=how), encoding="utf-8")
         program.chmod(0o700)
         derived = Derived(BUILD, self.TEXT, {}, "runtime", True)
         cores = [
@@ -276,14 +273,11 @@ class Programs(unittest.TestCase):
             self.core(Case("free"), False, False),
             self.core(Case("main", USUAL), True, False),
         ]
-        # (these programs write text alone, and no core)
-        with patch("real_core.HOLDER_IN_DUMP", marks), patch("real_core.JSON_IN_DUMP", False), patch("real_core.SLIM_CORES", False):
-            for core in cores:
-                over_core(program, derived, core, self.folder)
+        for core in cores:
+            texts_over_core(program, derived, core, self.folder)
 
     def test_right(self):
         self.tried("right")
-        self.tried("right", marks=True)
 
     def test_wrong(self):
         for how, said in (
@@ -300,8 +294,6 @@ class Programs(unittest.TestCase):
             with self.assertRaises(Failure, msg=how) as caught:
                 self.tried(how)
             self.assertIn(said, str(caught.exception), how)
-            with self.assertRaises(Failure, msg=how):
-                self.tried(how, marks=True)
 
     def test_endless(self):
         for how in ("never ends", "never ends in dump"):

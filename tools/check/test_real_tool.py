@@ -15,7 +15,7 @@ from rooms import TOOLS  # (first: it makes the other rooms known)
 import real_tool
 import stand_ins
 from child_cores import Failure
-from core_places import LAYOUTS
+from pystacks_tool.places import LAYOUTS
 from made import core_file
 from real_tool import Shown, check_tool, stacks_in
 from stand_ins import frame, local, thread

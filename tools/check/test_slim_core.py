@@ -14,7 +14,7 @@ from pathlib import Path
 
 from rooms import TOOLS  # (first: it makes the other rooms known)
 
-from core_places import PROGRAM
+from pystacks_tool.places import PROGRAM
 from made import EXAMPLE
 from row import TEXT
 from rows_dump import PROGRAM as IMAGE, of_locals, small

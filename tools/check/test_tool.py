@@ -14,9 +14,9 @@ from pathlib import Path
 
 from rooms import TOOLS  # (first: it makes the other rooms known)
 
-import core_progress
 import stand_ins
-from core_next import NEXT, next_of
+from pystacks_tool.ask.advice import NEXT, next_of
+from pystacks_tool.cores.progress import Progress
 from made import AARCH64, Segment, core_file, elf_file
 from stand_ins import frame, interpreter, local, salvage, thread
 
@@ -378,6 +378,12 @@ class Words(Case):
             status, out, said = self.tool(option, self.folder / "none")
             self.assertEqual((status, out, said.splitlines()[0]), (2, "", f"dump_core: there is no folder {self.folder / 'none'}"))
 
+    def test_by_package(self):
+        self.programs(salvage(interpreter([CRASHED])))
+        command = [sys.executable, "-B", "-m", "pystacks_tool", "--program", self.folder / "pystacks", self.core]
+        ran = subprocess.run(command, cwd=TOOLS, stdin=subprocess.DEVNULL, stdout=subprocess.PIPE, stderr=subprocess.PIPE, text=True)
+        self.assertEqual((ran.returncode, ran.stdout, ran.stderr), self.tool())
+
     def test_alone(self):
         # (the tool without a module says which one is missing)
         alone = self.folder / "alone" / "dump_core.py"
@@ -386,12 +392,10 @@ class Words(Case):
         ran = subprocess.run([sys.executable, "-B", alone, "core"], stdin=subprocess.DEVNULL, stdout=subprocess.PIPE, stderr=subprocess.PIPE, text=True)
         lines = ran.stderr.splitlines()
         self.assertEqual((ran.returncode, ran.stdout, len(lines)), (127, "", 2), ran.stderr)
-        self.assertEqual(lines[0], "dump_core: core_command.py isn't beside dump_core.py: it needs the other files of its folder")
-        for name in TOOLS.glob("core_*.py"):
-            if name.name != "core_maps.py":
-                shutil.copy(name, alone.parent)
+        self.assertEqual(lines[0], "dump_core: pystacks_tool isn't beside dump_core.py: it needs the other files of its folder")
+        shutil.copytree(TOOLS / "pystacks_tool", alone.parent / "pystacks_tool", ignore=shutil.ignore_patterns("maps.py", "__pycache__"))
         ran = subprocess.run([sys.executable, "-B", alone, "core"], stdin=subprocess.DEVNULL, stdout=subprocess.PIPE, stderr=subprocess.PIPE, text=True)
-        self.assertIn("core_maps.py isn't beside", ran.stderr)
+        self.assertIn("pystacks_tool/cores/maps.py isn't beside", ran.stderr)
         self.assertNotIn("Traceback", ran.stderr)
 
 
@@ -436,7 +440,7 @@ class Terminal(Case):
             (1_000_000, (499_000_000, 1_000_000, 1), ["preparing: 500 MB read"]),
         ):
             said = []
-            shown = core_progress.Progress(size)
+            shown = Progress(size)
             shown.write, shown.last = said.append, 0.0
             for part in parts:
                 shown.add(part)

@@ -12,7 +12,7 @@ from pathlib import Path
 
 from rooms import TOOLS  # (first: it makes the other rooms known)
 
-from core_places import PROGRAM
+from pystacks_tool.places import PROGRAM
 from made import EXAMPLE, core_file
 from row import CODE, FILE, HEAP, MODULE_CODE, heap
 from rows_dump import PROGRAM as IMAGE, bss, mapped

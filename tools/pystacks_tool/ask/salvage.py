@@ -5,12 +5,13 @@ It tells neither names of threads nor values of locals: those of `pystacks dump`
 
 import json
 from dataclasses import dataclass, field
-from typing import Any, Dict, Iterable, Optional, Tuple
+from typing import Callable, Dict, Iterable, Optional, Tuple
 
-from core_dump import Unexpected, local_of
-from core_model import Frame, Interpreter, Report, Thread
+from pystacks_tool.ask.dump import Tree, Unexpected, local_of
+from pystacks_tool.model import Frame, Interpreter, Report, Thread
 
-Tree = Dict[str, Any]
+Words = Dict[str, Callable[[], str]]
+"""What is said, by the kind of a fault or an end."""
 
 
 def unreadable(tree: Tree) -> str:
@@ -20,22 +21,22 @@ def unreadable(tree: Tree) -> str:
 
 def frames_end(tree: Tree, met: int) -> str:
     """How a chain of frames ends; nothing of a whole one."""
-    words = {"whole": lambda: "", "cut": lambda: f"cut after {met} members", "unreadable": lambda: unreadable(tree),
-             "stray": lambda: f"of the interpreter at {tree['interpreter']}"}
+    words: Words = {"whole": lambda: "", "cut": lambda: f"cut after {met} members", "unreadable": lambda: unreadable(tree),
+                    "stray": lambda: f"of the interpreter at {tree['interpreter']}"}
     return words[tree["kind"]]()
 
 
 def threads_end(tree: Tree) -> str:
     """How a chain of threads ends; nothing of a whole one."""
-    words = {"whole": lambda: "", "cut": lambda: "more than 4096 threads", "unreadable": lambda: f"threads {unreadable(tree)}",
-             "stray": lambda: f"threads of the interpreter at {tree['interpreter']}"}
+    words: Words = {"whole": lambda: "", "cut": lambda: "more than 4096 threads", "unreadable": lambda: f"threads {unreadable(tree)}",
+                    "stray": lambda: f"threads of the interpreter at {tree['interpreter']}"}
     return words[tree["kind"]]()
 
 
 def why_of(tree: Tree) -> str:
     """Why a member has no names."""
-    words = {"no text": lambda: "a name that is no text", "too long": lambda: "a name that is too long",
-             "unreadable": lambda: unreadable(tree)}
+    words: Words = {"no text": lambda: "a name that is no text", "too long": lambda: "a name that is too long",
+                    "unreadable": lambda: unreadable(tree)}
     return words[tree["kind"]]()
 
 
@@ -43,9 +44,10 @@ def locals_fault(tree: Optional[Tree]) -> str:
     """Why the locals of a frame can't be read, if they can't."""
     if tree is None:
         return ""
-    words = {"bad": lambda: "locals with a bad name or count", "too many": lambda: "locals more than 65535",
-             "unreadable": lambda: f"locals {unreadable(tree)}"}
-    return words[tree["kind"]]()
+    found = tree
+    words: Words = {"bad": lambda: "locals with a bad name or count", "too many": lambda: "locals more than 65535",
+                    "unreadable": lambda: f"locals {unreadable(found)}"}
+    return words[found["kind"]]()
 
 
 def member_of(tree: Tree) -> Frame:
@@ -75,7 +77,7 @@ def interpreter_of(tree: Tree) -> Interpreter:
 
 
 @dataclass
-class Added:
+class NamesAndValues:
     """What `pystacks dump` told that `pysalvage` doesn't."""
 
     names: Dict[int, Optional[str]] = field(default_factory=dict)
@@ -84,9 +86,9 @@ class Added:
     """The values that are shown, by the local's name and the value's address."""
 
 
-def added_by(threads: Iterable[Tree]) -> Added:
+def names_and_values(threads: Iterable[Tree]) -> NamesAndValues:
     """What is added, by the threads of `dump -j`."""
-    found = Added()
+    found = NamesAndValues()
     for thread in threads:
         found.names[thread["thread_id"]] = thread["thread_name"]
         for frame in thread["frames"]:
@@ -96,7 +98,7 @@ def added_by(threads: Iterable[Tree]) -> Added:
     return found
 
 
-def add(tree: Tree, added: Added) -> None:
+def add(tree: Tree, added: NamesAndValues) -> None:
     """Adds names and values to the JSON of a core. A value that it has itself stays."""
     for thread in (thread for it in tree["interpreters"] for thread in it["threads"]):
         thread["thread_name"] = added.names.get(thread["thread_id"])
@@ -106,7 +108,7 @@ def add(tree: Tree, added: Added) -> None:
                     row["repr"] = added.values.get((row["name"], row["address"]))
 
 
-def told_of(text: str, core: str, added: Added) -> Tuple[Tree, Report]:
+def report_by_salvage(text: str, core: str, added: NamesAndValues) -> Tuple[Tree, Report]:
     """The JSON of one core with what is added, and the report that it gives."""
     try:
         tree = json.loads(text)

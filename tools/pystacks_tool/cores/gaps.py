@@ -11,10 +11,10 @@ from bisect import bisect_right
 from dataclasses import dataclass, replace
 from typing import AbstractSet, Callable, Dict, Iterator, List, Optional, Sequence
 
-from core_headers import LAST, PAGE, Header, headers_of
-from core_maps import EXECUTABLE, FILE_TABLE, LOAD, WRITABLE
-from core_sparse import MOST_HEADERS
-from core_tables import Entry
+from pystacks_tool.cores.headers import LAST, PAGE, Header, headers_of
+from pystacks_tool.cores.maps import EXECUTABLE, FILE_TABLE, LOAD, WRITABLE
+from pystacks_tool.cores.sparse import MOST_HEADERS
+from pystacks_tool.cores.tables import Entry
 
 READABLE = 4
 

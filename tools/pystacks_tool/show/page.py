@@ -9,13 +9,13 @@ from dataclasses import replace
 from html import escape
 from typing import Dict, Iterator, List, Mapping, Optional, Sequence
 
-from core_collapse import places
-from core_escape import as_name, in_page, signal_name, with_decimals
-from core_flame import Flame, counted, flame_of
-from core_group import Group
-from core_model import Frame, Interpreter, Local, Report, Stack, Thread, stacks_of
-from core_page_parts import SCRIPT, STYLE
-from core_text import Style, crash_line, newest_of, place_of, titles_of
+from pystacks_tool.groups.triage import Group
+from pystacks_tool.model import Frame, Interpreter, Local, Report, Stack, Thread, stacks_of
+from pystacks_tool.show.collapse import places
+from pystacks_tool.show.escape import as_name, in_page, signal_name, with_decimals
+from pystacks_tool.show.flame import Flame, counted, flame_of
+from pystacks_tool.show.page_parts import SCRIPT, STYLE
+from pystacks_tool.show.text import Style, crash_line, newest_of, place_of, titles_of
 
 LARGEST = 1_000_000
 """How many bytes a page should have at most. Where it would have more, source lines and the upper levels of the graph are

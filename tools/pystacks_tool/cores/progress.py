@@ -45,7 +45,7 @@ SHOWN: Optional[Progress] = None
 """What is shown at the moment, if anything is."""
 
 
-def read(size: int) -> None:
+def count_read(size: int) -> None:
     """Tells that so many bytes were read."""
     if SHOWN is not None:
         SHOWN.add(size)

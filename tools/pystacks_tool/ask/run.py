@@ -9,9 +9,9 @@ import signal
 import subprocess
 import tempfile
 from dataclasses import dataclass
-from typing import BinaryIO, List, Sequence
+from typing import IO, List, Sequence
 
-from core_faults import CANNOT_WRITE, NO_ROOM, Fault
+from pystacks_tool.faults import CANNOT_WRITE, NO_ROOM, Fault
 
 CHUNK = 1 << 16
 
@@ -31,7 +31,7 @@ def first_line(line: bytes, own: bytes, name: bytes) -> bytes:
     return line[: -len(end)] + b": " + name + b"\n" if line.startswith(b"Signal ") and line.endswith(end) else line
 
 
-def pass_on(stream: BinaryIO, own: bytes, name: bytes) -> None:
+def pass_on(stream: IO[bytes], own: bytes, name: bytes) -> None:
     """Passes the program's text on."""
     data = first_line(stream.readline(CHUNK), own, name)
     while data:

@@ -6,9 +6,9 @@ It has what the program told, in its order: no frame is added, dropped or moved.
 from dataclasses import dataclass
 from typing import Iterator, List, Optional
 
-from core_escape import as_name, in_line, signal_name, with_decimals
-from core_model import Frame, Interpreter, Local, Report, Stack, Thread, stacks_of
-from core_sources import Sources
+from pystacks_tool.model import Frame, Interpreter, Local, Report, Stack, Thread, stacks_of
+from pystacks_tool.show.escape import as_name, in_line, signal_name, with_decimals
+from pystacks_tool.show.sources import Sources
 
 MANY = 8
 """Above so many threads there is an overview, and equal stacks stand once."""

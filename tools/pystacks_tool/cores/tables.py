@@ -2,10 +2,10 @@
 
 import struct
 from dataclasses import dataclass
-from typing import BinaryIO, Iterator, List, Sequence
+from typing import IO, Iterator, List, Sequence
 
-from core_headers import Header
-from core_maps import FILE_TABLE, NOTE, notes_of, read_at
+from pystacks_tool.cores.headers import Header
+from pystacks_tool.cores.maps import FILE_TABLE, NOTE, notes_of, read_at
 
 
 @dataclass(frozen=True)
@@ -32,7 +32,7 @@ def table_rows(table: bytes) -> Iterator[Entry]:
         yield Entry(start, end, pages * page, name)
 
 
-def entries_of(file: BinaryIO, headers: Sequence[Header]) -> List[Entry]:
+def entries_of(file: IO[bytes], headers: Sequence[Header]) -> List[Entry]:
     """The entries of all file tables of a core, in order."""
     found: List[Entry] = []
     for it in headers:

@@ -6,13 +6,13 @@ out; each under the path that the core has for it, and none of another build or 
 
 import os
 from pathlib import Path
-from typing import BinaryIO, Callable, Dict, List, Optional, Tuple
+from typing import IO, Callable, Dict, List, Optional, Tuple
 
-from core_faults import BAD_WORDS, Fault, say, shown
-from core_gaps import entries_in
-from core_maps import Use, Wanted, build_id, builds_in, is_text, machine_of, maps_of, wanted_files
-from core_places import machine_name
-from core_tables import Entry
+from pystacks_tool.cores.gaps import entries_in
+from pystacks_tool.cores.maps import Use, Wanted, build_id, builds_in, is_text, machine_of, maps_of, wanted_files
+from pystacks_tool.cores.tables import Entry
+from pystacks_tool.faults import BAD_WORDS, Fault, say, shown
+from pystacks_tool.places import machine_name
 
 DELETED = b" (deleted)"
 """How the kernel ends the name of a file that had been deleted, or replaced, while it was mapped."""
@@ -106,7 +106,7 @@ def image_words(files: List[Wanted], root: bytes, machine: Optional[int]) -> Lis
     return words
 
 
-def read_core(file: Optional[BinaryIO]) -> Tuple[Optional[int], List[Wanted]]:
+def read_core(file: Optional[IO[bytes]]) -> Tuple[Optional[int], List[Wanted]]:
     """The machine and the files of a core. Where it can't be read there are none; the program has a line for it."""
     if file is None:
         return None, []
@@ -116,7 +116,7 @@ def read_core(file: Optional[BinaryIO]) -> Tuple[Optional[int], List[Wanted]]:
         return None, []
 
 
-def opened(path: str) -> Optional[BinaryIO]:
+def opened(path: str) -> Optional[IO[bytes]]:
     """The core's file, where it can be read; the program has a line for another."""
     try:
         return open(path, "rb")
@@ -124,10 +124,10 @@ def opened(path: str) -> Optional[BinaryIO]:
         return None
 
 
-def finder_below(root: bytes) -> Callable[[BinaryIO], Callable[[bytes], Optional[bytes]]]:
+def finder_below(root: bytes) -> Callable[[IO[bytes]], Callable[[bytes], Optional[bytes]]]:
     """What finds the files of a core that are there, and of its machine and build."""
 
-    def finder(file: BinaryIO) -> Callable[[bytes], Optional[bytes]]:
+    def finder(file: IO[bytes]) -> Callable[[bytes], Optional[bytes]]:
         machine, builds = machine_of(file), builds_in(file, maps_of(file))
 
         def find(name: bytes) -> Optional[bytes]:

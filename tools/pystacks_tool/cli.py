@@ -1,4 +1,4 @@
-"""The words of the tool: its options, its help, and its version."""
+"""The command: its words, its help and its version, and how a run ends."""
 
 import argparse
 import os
@@ -6,7 +6,11 @@ import re
 from pathlib import Path
 from typing import List, Sequence
 
-from core_places import LAYOUTS, MACHINES, PROGRAM, SALVAGE, commit
+from pystacks_tool.command import run
+from pystacks_tool.faults import NO_ROOM, Fault, say
+from pystacks_tool.options import Options
+from pystacks_tool.output import written
+from pystacks_tool.places import LAYOUTS, MACHINES, PROGRAM, SALVAGE, commit
 
 PROJECT = "pystacks 0.1"
 
@@ -57,31 +61,40 @@ def parser_for(name: str) -> argparse.ArgumentParser:
     return parser
 
 
-def clash(words: argparse.Namespace) -> str:
+def options_of(words: argparse.Namespace) -> Options:
+    """The words, each with its type."""
+    return Options(
+        cores=tuple(words.core), locals=words.locals, shows_all=words.all, source=words.source, json=words.json,
+        collapsed=words.collapsed, html=words.html, group=words.group, plain=words.plain, root=words.root, maps=words.maps,
+        keep=words.keep, anyway=words.anyway, layouts=words.layouts, program=words.program, salvage=words.salvage,
+        version=words.version)
+
+
+def clash(options: Options) -> str:
     """What is wrong with the words, if anything is."""
-    forms = [it for it in ("json", "collapsed", "html", "plain") if getattr(words, it)]
-    if words.group and (words.locals or words.json or words.collapsed or words.keep or words.maps):
+    forms = [it for it in ("json", "collapsed", "html", "plain") if getattr(options, it)]
+    if options.group and (options.locals or options.json or options.collapsed or options.keep or options.maps):
         return "--group takes no -l, -j, --collapsed, --keep and --maps"
-    if words.collapsed and words.locals:
+    if options.collapsed and options.locals:
         return "--collapsed takes no -l"
     if len(forms) > 1 and forms != ["json", "plain"]:
         return "of --json, --collapsed, --html and --plain one is taken, or --json with --plain"
-    if not words.core:
-        hint = f": --source took {words.source} for its folder, so name it behind the core" if words.source else ""
+    if not options.cores:
+        hint = f": --source took {options.source} for its folder, so name it behind the core" if options.source else ""
         return f"no core is named{hint}"
-    if len(words.core) > 1 and not (words.group or words.collapsed and not words.keep):
+    if len(options.cores) > 1 and not (options.group or options.collapsed and not options.keep):
         return "several cores are taken with --group and --collapsed alone"
     return ""
 
 
-def words_of(name: str, given: Sequence[str]) -> argparse.Namespace:
-    """The tool's words. Wrong ones end it, with their line and status 2."""
+def read_options(name: str, given: Sequence[str]) -> Options:
+    """What is asked for. Wrong words end the tool, with their line and status 2."""
     parser = parser_for(name)
-    words = parser.parse_args(given)
-    fault = "" if words.version else clash(words)
+    options = options_of(parser.parse_args(given))
+    fault = "" if options.version else clash(options)
     if fault:
         parser.error(fault)
-    return words
+    return options
 
 
 def versions_in(path: Path) -> str:
@@ -102,3 +115,18 @@ def version_lines() -> List[str]:
         path = LAYOUTS.with_name(f"cpython-{machine}.toml")
         lines.append(f"layouts for {machine}: CPython {versions_in(path)}" if path.is_file() else f"layouts for {machine}: none")
     return lines
+
+
+def main(name: str, given: Sequence[str]) -> int:
+    """The command by its name and words. Returns the status."""
+    options = read_options(name, given)
+    try:
+        return written(version_lines()) if options.version else run(options)
+    except Fault as fault:
+        say(str(fault), fault.then)
+        return fault.status
+    except MemoryError:
+        say("out of memory", "--plain passes the program's text on, and reads none of it")
+        return NO_ROOM
+    except KeyboardInterrupt:
+        return 130

@@ -4,7 +4,7 @@ import json
 import re
 from typing import Any, Dict, List, Optional
 
-from core_model import Frame, Interpreter, Local, Report, Thread
+from pystacks_tool.model import Frame, Interpreter, Local, Report, Thread
 
 HEAD = re.compile(
     r"(?:Signal (?P<signal>-?[0-9]+): [^\n]*\n)?(?:Process (?P<pid>-?[0-9]+): (?P<arguments>.*)\n)?Python v(?P<version>[^\n]*)\n\n",
@@ -12,34 +12,38 @@ HEAD = re.compile(
 """The lines before the threads, of which the last is that of the version: the arguments may have any."""
 
 
+Tree = Dict[str, Any]
+"""JSON as a program wrote it."""
+
+
 class Unexpected(Exception):
     """Why what a program wrote isn't taken."""
 
 
-def local_of(tree: Dict[str, Any]) -> Local:
+def local_of(tree: Tree) -> Local:
     """A local."""
     return Local(tree["name"], tree["repr"], tree["arg"])
 
 
-def frame_of(tree: Dict[str, Any]) -> Frame:
+def frame_of(tree: Tree) -> Frame:
     """A frame."""
     rows = tree["locals"]
     shown = None if rows is None else tuple(local_of(it) for it in rows)
     return Frame(tree["name"], tree["filename"], tree["line"], shown)
 
 
-def is_holder(tree: Dict[str, Any]) -> bool:
+def is_holder(tree: Tree) -> bool:
     """Whether a thread held the lock. One of the id 0, which no thread has, is marked by `dump` where nobody held it."""
-    return tree["owns_gil"] and tree["thread_id"] != 0
+    return bool(tree["owns_gil"]) and tree["thread_id"] != 0
 
 
-def thread_of(tree: Dict[str, Any]) -> Thread:
+def thread_of(tree: Tree) -> Thread:
     """A thread."""
     frames = tuple(frame_of(it) for it in tree["frames"])
     return Thread(tree["thread_id"], frames, tree["os_thread_id"], tree["thread_name"], is_holder(tree))
 
 
-def text_of(tree: Dict[str, Any]) -> str:
+def text_of(tree: Tree) -> str:
     """A thread in the program's text without locals, which has names as they are."""
     native, name = tree["os_thread_id"], tree["thread_name"]
     label = f"0x{tree['thread_id']:X}" if native is None else native
@@ -55,7 +59,7 @@ def number_of(text: Optional[str]) -> Optional[int]:
     return None if text is None else int(text)
 
 
-def report_of(tree: str, text: str, word: str, core: str) -> Report:
+def report_by_dump(tree: str, text: str, word: str, core: str) -> Report:
     """The report by the JSON and the text of one core, for which the program had this word. The text's threads stand in
     the reverse of the JSON's order, and so they do here; its head is what stands before them."""
     try:
@@ -75,19 +79,19 @@ def report_of(tree: str, text: str, word: str, core: str) -> Report:
 # ---- as `pysalvage` has it
 
 
-def local_tree(tree: Dict[str, Any]) -> Dict[str, Any]:
+def local_tree(tree: Tree) -> Tree:
     """A local."""
     return {"address": hex(tree["addr"]), "arg": tree["arg"], "name": tree["name"], "repr": tree["repr"]}
 
 
-def member_tree(tree: Dict[str, Any]) -> Dict[str, Any]:
+def member_tree(tree: Tree) -> Tree:
     """A frame."""
     rows = tree["locals"]
     shown = None if rows is None else [local_tree(it) for it in rows]
     return {"filename": tree["filename"], "line": tree["line"], "locals": shown, "locals_fault": None, "name": tree["name"]}
 
 
-def thread_tree(tree: Dict[str, Any]) -> Dict[str, Any]:
+def thread_tree(tree: Tree) -> Tree:
     """A thread. Which one got the signal isn't told."""
     members = [member_tree(it) for it in tree["frames"]]
     frames = {"between": 0, "end": {"kind": "whole"}, "first": members, "last": [], "met": None}
@@ -97,7 +101,7 @@ def thread_tree(tree: Dict[str, Any]) -> Dict[str, Any]:
     }
 
 
-def tree_of(report: Report, threads: List[Dict[str, Any]]) -> Dict[str, Any]:
+def tree_of(report: Report, threads: List[Tree]) -> Tree:
     """A report in the form of `pysalvage`'s JSON. What `dump` doesn't tell is null."""
     rows = [thread_tree(it) for it in reversed(threads)]
     interpreter = {"address": None, "lock": None, "searched": None, "threads": rows, "threads_end": {"kind": "whole"}}

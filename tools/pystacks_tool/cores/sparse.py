@@ -9,8 +9,8 @@ stands where it stood.
 from dataclasses import dataclass, replace
 from typing import AbstractSet, Dict, Iterator, List, Sequence, Tuple
 
-from core_headers import BLOCK, PAGE, Header, Piece, blocks, stretches
-from core_maps import EXECUTABLE, LOAD, WRITABLE
+from pystacks_tool.cores.headers import BLOCK, PAGE, Header, Piece, blocks, stretches
+from pystacks_tool.cores.maps import EXECUTABLE, LOAD, WRITABLE
 
 SHORTEST = 4 * PAGE
 """The shortest run at which a segment is cut."""

@@ -7,10 +7,10 @@ own, or from the one block of zero bytes to which all runs of zero pages point.
 import os
 import struct
 from dataclasses import dataclass, replace
-from typing import BinaryIO, Iterator, List, Optional, Sequence, Tuple
+from typing import IO, Iterator, List, Optional, Sequence, Tuple
 
-import core_progress
-from core_maps import EXTENDED, LOAD, NOTE, header_of, read_at
+from pystacks_tool.cores.maps import EXTENDED, LOAD, NOTE, header_of, read_at
+from pystacks_tool.cores.progress import count_read
 
 PAGE = 4096
 BLOCK = 1 << 20
@@ -57,7 +57,7 @@ class Piece:
     is_zero: bool = False
 
 
-def headers_of(file: BinaryIO) -> Optional[List[Header]]:
+def headers_of(file: IO[bytes]) -> Optional[List[Header]]:
     """The program headers, where they are such as the program reads: all of them there, and no memory past the last
     address."""
     header = header_of(file)
@@ -93,7 +93,7 @@ def blocks(fd: int, start: int, end: int) -> Iterator[Tuple[int, bytes]]:
         data = os.pread(fd, min(BLOCK, end - at), at)
         if not data:
             return
-        core_progress.read(len(data))
+        count_read(len(data))
         yield at, data
         at += len(data)
 

@@ -7,11 +7,11 @@ or were written on different machines, they can't be handed over together.
 
 import os
 from dataclasses import dataclass, field
-from typing import BinaryIO, Collection, Dict, List, Optional, Sequence
+from typing import IO, Collection, Dict, List, Optional, Sequence
 
-from core_escape import in_line
-from core_maps import Use, Wanted, machine_of, wanted_files
-from core_run import Answer, answer_of
+from pystacks_tool.ask.run import Answer, answer_of
+from pystacks_tool.cores.maps import Use, Wanted, machine_of, wanted_files
+from pystacks_tool.show.escape import in_line
 
 
 class Apart(Exception):
@@ -28,7 +28,7 @@ class Core:
     """The machine that it was written on, if it is a core."""
     wanted: List[Wanted]
     """The files into which the program looks."""
-    prepared: Optional[BinaryIO]
+    prepared: Optional[IO[bytes]]
     """The file that was prepared of it, if one was. The core's own is closed, so that there may be more cores than files
     may be open."""
 
@@ -38,7 +38,7 @@ class Core:
         return b"/proc/self/fd/%d" % self.prepared.fileno() if self.prepared else self.name
 
 
-def told(name: bytes, file: Optional[BinaryIO], prepared: Optional[BinaryIO]) -> Core:
+def read_core_of_group(name: bytes, file: Optional[IO[bytes]], prepared: Optional[IO[bytes]]) -> Core:
     """A core by what its file tells, or the one that was prepared of it; nothing where it can't be read."""
     read = prepared or file
     try:

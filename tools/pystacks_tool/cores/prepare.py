@@ -8,14 +8,14 @@ import os
 import re
 import tempfile
 from dataclasses import dataclass, field, replace
-from typing import BinaryIO, Callable, List, Optional, Tuple
+from typing import IO, Callable, List, Optional, Tuple
 
-from core_gaps import READABLE, Find, at_maps, table_note, with_gaps
-from core_headers import Header, Piece, copy, headers_of, written
-from core_maps import LOAD, NOTE, WRITABLE, notes_of, read_at
-from core_sparse import Cuts, cut_pieces, cuts_of
-from core_tables import Entry, entries_of
-from core_unpack import NoSpace, NoUnpacker, unpacked
+from pystacks_tool.cores.gaps import READABLE, Find, at_maps, table_note, with_gaps
+from pystacks_tool.cores.headers import Header, Piece, copy, headers_of, written
+from pystacks_tool.cores.maps import LOAD, NOTE, WRITABLE, notes_of, read_at
+from pystacks_tool.cores.sparse import Cuts, cut_pieces, cuts_of
+from pystacks_tool.cores.tables import Entry, entries_of
+from pystacks_tool.cores.unpack import NoSpace, NoUnpacker, unpacked
 
 LEAST = 64 << 20
 """How many zero bytes make it worth writing a core anew, if they are half of it."""
@@ -48,7 +48,7 @@ class Wishes:
     """Whether it is cut at all its runs of zero pages, however few."""
     maps: Tuple[Entry, ...] = ()
     """The mappings of files by a copy of /proc/PID/maps, for a core that has no file table."""
-    finder: Callable[[BinaryIO], Find] = lambda file: lambda name: None
+    finder: Callable[[IO[bytes]], Find] = lambda file: lambda name: None
     """What finds the files that a core names."""
 
 
@@ -56,7 +56,7 @@ class Wishes:
 class Work:
     """A core at work."""
 
-    file: BinaryIO
+    file: IO[bytes]
     headers: List[Header]
     maps: Tuple[Entry, ...] = ()
     """The mappings of a file table that is written beside those of the core."""
@@ -88,7 +88,7 @@ class Work:
 class Prepared:
     """A core that was prepared, and what was done."""
 
-    file: BinaryIO
+    file: IO[bytes]
     said: Tuple[str, ...]
 
 
@@ -108,7 +108,7 @@ def available(text: str) -> Optional[int]:
     return int(found.group(1)) * 1024 if found else None
 
 
-def new_file(keep: str) -> BinaryIO:
+def new_file(keep: str) -> IO[bytes]:
     """The file that is written. One that is there is never written over; one without a name is gone with the tool."""
     try:
         return open(keep, "x+b") if keep else tempfile.TemporaryFile(prefix="dump-core-")
@@ -196,7 +196,7 @@ def cut_zeros(work: Work, wishes: Wishes) -> None:
 # ---- the whole
 
 
-def prepared(file: BinaryIO, wishes: Wishes) -> Optional[Prepared]:
+def prepared(file: IO[bytes], wishes: Wishes) -> Optional[Prepared]:
     """What a core comes to, or nothing where it is read as it is. What is no core is the program's to refuse."""
     try:
         plain, said = unpacked(file)
@@ -214,7 +214,7 @@ def prepared(file: BinaryIO, wishes: Wishes) -> Optional[Prepared]:
     return kept(Prepared(plain, tuple(said)), wishes) if said else None
 
 
-def mended(file: BinaryIO, wishes: Wishes) -> Optional[Work]:
+def mended(file: IO[bytes], wishes: Wishes) -> Optional[Work]:
     """A core that has to be written anew, with its pieces."""
     headers = headers_of(file)
     if headers is None or not any(it.kind == LOAD for it in headers):

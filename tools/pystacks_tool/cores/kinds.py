@@ -2,11 +2,11 @@
 
 import struct
 from dataclasses import dataclass
-from typing import BinaryIO, Optional
+from typing import IO, Optional
 
-from core_faults import NO_STACKS, Fault, shown
-from core_maps import read_at
-from core_places import machine_name
+from pystacks_tool.cores.maps import read_at
+from pystacks_tool.faults import NO_STACKS, Fault, shown
+from pystacks_tool.places import machine_name
 
 ELF = b"\x7fELF"
 NARROW, BIG = 1, 2
@@ -49,7 +49,7 @@ def no_core(head: bytes) -> Optional[NoCore]:
     return None
 
 
-def check_kind(file: Optional[BinaryIO], name: bytes) -> None:
+def check_kind(file: Optional[IO[bytes]], name: bytes) -> None:
     """Refuses a file that isn't read, and says what it is. One that can't be read is the program's to refuse."""
     if file is None:
         return

@@ -9,7 +9,7 @@ import re
 import struct
 from dataclasses import dataclass
 from enum import Enum
-from typing import BinaryIO, Dict, FrozenSet, Iterator, List, Optional, Tuple
+from typing import IO, Dict, FrozenSet, Iterator, List, Optional, Tuple
 
 LOAD, NOTE = 1, 4
 EXECUTABLE, WRITABLE = 1, 2
@@ -68,7 +68,7 @@ class Wanted:
     use: Use
 
 
-def read_at(file: BinaryIO, offset: int, size: int) -> bytes:
+def read_at(file: IO[bytes], offset: int, size: int) -> bytes:
     """The bytes of a range, as many as are there."""
     length = file.seek(0, 2)
     if offset >= length:
@@ -77,19 +77,19 @@ def read_at(file: BinaryIO, offset: int, size: int) -> bytes:
     return file.read(min(size, length - offset))
 
 
-def header_of(file: BinaryIO) -> bytes:
+def header_of(file: IO[bytes]) -> bytes:
     """The header of a 64-bit little-endian ELF file, and of another nothing."""
     header = read_at(file, 0, 64)
     return header if len(header) == 64 and header.startswith(b"\x7fELF\2\1") else b""
 
 
-def machine_of(file: BinaryIO) -> Optional[int]:
+def machine_of(file: IO[bytes]) -> Optional[int]:
     """The number of the machine that such a file is for."""
     header = header_of(file)
     return struct.unpack_from("<H", header, 18)[0] if header else None
 
 
-def segments_of(file: BinaryIO) -> List[Segment]:
+def segments_of(file: IO[bytes]) -> List[Segment]:
     """The program headers of such a file, and of another none."""
     header = header_of(file)
     if not header:
@@ -129,7 +129,7 @@ def table_entries(table: bytes) -> Dict[int, Tuple[int, bytes]]:
     return {start: (pages, name) for (start, _, pages), name in zip(numbers, names)}
 
 
-def maps_of(file: BinaryIO) -> List[Map]:
+def maps_of(file: IO[bytes]) -> List[Map]:
     """The maps of a core that have a name, in the order of its program headers."""
     segments = segments_of(file)
     named: Dict[int, Tuple[int, bytes]] = {}
@@ -154,7 +154,7 @@ def is_library(name: bytes) -> bool:
     return is_text(name) and bool(LIBRARY.search(name.decode("utf-8")))
 
 
-def build_id(file: BinaryIO) -> Optional[bytes]:
+def build_id(file: IO[bytes]) -> Optional[bytes]:
     """The build id of an ELF file, or of its first bytes, where these have it."""
     for it in segments_of(file):
         if it.kind == NOTE:
@@ -164,7 +164,7 @@ def build_id(file: BinaryIO) -> Optional[bytes]:
     return None
 
 
-def builds_in(file: BinaryIO, maps: List[Map]) -> Dict[bytes, List[bytes]]:
+def builds_in(file: IO[bytes], maps: List[Map]) -> Dict[bytes, List[bytes]]:
     """The build ids that a core has of its files, by name: in the maps that show a file from its start."""
     found: Dict[bytes, List[bytes]] = {}
     for it in maps:
@@ -187,7 +187,7 @@ def uses_of(maps: List[Map]) -> Dict[bytes, Use]:
     return {name: looked_into.get(name, Use.MEMORY) for name in shown}
 
 
-def wanted_files(file: BinaryIO) -> List[Wanted]:
+def wanted_files(file: IO[bytes]) -> List[Wanted]:
     """The files of a core that the program makes use of, each once, in the order of the maps."""
     maps = maps_of(file)
     builds = builds_in(file, maps)

@@ -5,9 +5,9 @@ import subprocess
 from pathlib import Path
 from typing import Dict, Optional
 
-from core_faults import BAD_WORDS, NO_PROGRAM, Fault, shown
+from pystacks_tool.faults import BAD_WORDS, NO_PROGRAM, Fault, shown
 
-ROOT = Path(__file__).resolve().parent.parent
+ROOT = Path(__file__).resolve().parent.parent.parent
 INSTALLED = ROOT / "bin"
 """Where an installed folder has the programs."""
 

@@ -6,7 +6,7 @@ from dataclasses import dataclass, field
 from html import escape
 from typing import Dict, List, Sequence, Tuple
 
-from core_escape import in_page
+from pystacks_tool.show.escape import in_page
 
 WIDTH, BAR = 1200, 17
 """The width of the whole, and the height of a place, in units of the picture."""
@@ -127,7 +127,8 @@ def flame_of(stacks: Sequence[Tuple[str, ...]], largest: int = LARGEST) -> Flame
     order = order_of(stacks, top)
     if not top.count:
         return Flame("", order, True)
-    height, size, parts = BAR * len(levels), 0, []
+    parts: List[List[str]] = []
+    height, size = BAR * len(levels), 0
     for depth, level in enumerate(levels):
         rows = [bar_svg(bar, top.count, height - BAR * depth) for bar in level]
         size += sum(len(it.encode("utf-8", "replace")) for it in rows)

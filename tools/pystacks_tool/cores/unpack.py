@@ -14,11 +14,11 @@ import subprocess
 import tempfile
 import zlib
 from contextlib import contextmanager
-from typing import BinaryIO, Callable, ContextManager, Dict, Iterator, List, Optional, Tuple
+from typing import IO, Callable, ContextManager, Dict, Iterator, List, Optional, Protocol, Tuple
 
-import core_progress
-from core_headers import BLOCK, write_at
-from core_sparse import used_in
+from pystacks_tool.cores.headers import BLOCK, write_at
+from pystacks_tool.cores.progress import count_read
+from pystacks_tool.cores.sparse import used_in
 
 MOST = 1 << 40
 """How many bytes are unpacked: more than any core has."""
@@ -33,6 +33,17 @@ REPORT, FIELD = b"ProblemType:", b"CoreDump: base64"
 """How a report of apport begins, and the line behind which it has the core."""
 
 
+class Readable(Protocol):
+    """What unpacked bytes are read from."""
+
+    def read(self, size: int) -> bytes:
+        """At most so many of the next bytes; none where there are no more."""
+
+
+Opener = Callable[[IO[bytes]], ContextManager[Readable]]
+"""What unpacks a file."""
+
+
 class NoUnpacker(Exception):
     """Which program is missing."""
 
@@ -45,11 +56,11 @@ class NoSpace(Exception):
     """Why the file can't be written."""
 
 
-def by_program(name: str) -> Callable[[BinaryIO], ContextManager[BinaryIO]]:
+def by_program(name: str) -> Opener:
     """A reader of what a program unpacks."""
 
     @contextmanager
-    def stream(file: BinaryIO) -> Iterator[BinaryIO]:
+    def stream(file: IO[bytes]) -> Iterator[IO[bytes]]:
         if not shutil.which(name):
             raise NoUnpacker(f"the core is packed by {name}: install the program {name}, or unpack it by hand")
         os.lseek(file.fileno(), 0, os.SEEK_SET)
@@ -66,11 +77,11 @@ def by_program(name: str) -> Callable[[BinaryIO], ContextManager[BinaryIO]]:
     return stream
 
 
-def by_library(opener: Callable) -> Callable[[BinaryIO], ContextManager[BinaryIO]]:
+def by_library(opener: Opener) -> Opener:
     """A reader of what a library of Python unpacks."""
 
     @contextmanager
-    def stream(file: BinaryIO) -> Iterator[BinaryIO]:
+    def stream(file: IO[bytes]) -> Iterator[Readable]:
         file.seek(0)
         with opener(file) as unpacked:
             yield unpacked
@@ -81,12 +92,12 @@ def by_library(opener: Callable) -> Callable[[BinaryIO], ContextManager[BinaryIO
 class Report:
     """A reader of the packed core in a report of apport, line by line."""
 
-    def __init__(self, file: BinaryIO) -> None:
+    def __init__(self, file: IO[bytes]) -> None:
         self.lines = self.lines_of(file)
         self.rest = b""
 
     @staticmethod
-    def lines_of(file: BinaryIO) -> Iterator[bytes]:
+    def lines_of(file: IO[bytes]) -> Iterator[bytes]:
         """The lines of the field, unpacked from base64."""
         is_inside = False
         for line in file:
@@ -111,19 +122,19 @@ class Report:
 
 
 @contextmanager
-def by_report(file: BinaryIO) -> Iterator[Report]:
+def by_report(file: IO[bytes]) -> Iterator[Report]:
     """The core of a report as it is packed there."""
     file.seek(0)
     yield Report(file)
 
 
 @contextmanager
-def as_it_is(file: BinaryIO) -> Iterator[BinaryIO]:
+def as_it_is(file: IO[bytes]) -> Iterator[IO[bytes]]:
     """The bytes of a pipe."""
     yield file
 
 
-PACKED: Dict[bytes, Tuple[str, Callable]] = {
+PACKED: Dict[bytes, Tuple[str, Opener]] = {
     b"\x1f\x8b": ("gzip", by_library(lambda file: gzip.GzipFile(fileobj=file))),
     b"\xfd7zXZ\0": ("xz", by_library(lzma.LZMAFile)),
     b"BZh": ("bzip2", by_library(bz2.BZ2File)),
@@ -147,7 +158,7 @@ def used_parts(data: bytes) -> Iterator[Tuple[int, int]]:
         yield first, last
 
 
-def fill(stream: BinaryIO, target: BinaryIO) -> None:
+def fill(stream: Readable, target: IO[bytes]) -> None:
     """Writes all that a stream has, with holes for zero pages."""
     at, data = 0, b""
     try:
@@ -162,17 +173,17 @@ def fill(stream: BinaryIO, target: BinaryIO) -> None:
         target.truncate(at)
 
 
-def next_block(stream: BinaryIO) -> bytes:
+def next_block(stream: Readable) -> bytes:
     """The next block of a stream."""
     try:
         data = stream.read(BLOCK)
     except ENDINGS as error:
         raise BrokeOff from error
-    core_progress.read(len(data))
+    count_read(len(data))
     return data
 
 
-def put(target: BinaryIO, data: bytes, at: int) -> None:
+def put(target: IO[bytes], data: bytes, at: int) -> None:
     """Writes some bytes at their place."""
     try:
         write_at(target.fileno(), data, at)
@@ -181,7 +192,7 @@ def put(target: BinaryIO, data: bytes, at: int) -> None:
         raise NoSpace(f"cannot write a file in {where} (TMPDIR names another folder): {error.strerror}") from None
 
 
-def filled(file: BinaryIO, opener: Callable) -> Tuple[BinaryIO, bool]:
+def filled(file: IO[bytes], opener: Opener) -> Tuple[IO[bytes], bool]:
     """A new file of what a file unpacks to, and whether that is whole."""
     target = tempfile.TemporaryFile(prefix="dump-core-")
     try:
@@ -195,16 +206,16 @@ def filled(file: BinaryIO, opener: Callable) -> Tuple[BinaryIO, bool]:
     return target, True
 
 
-def kind_of(file: BinaryIO) -> Optional[Tuple[str, Callable]]:
+def kind_of(file: IO[bytes]) -> Optional[Tuple[str, Opener]]:
     """How a file is packed, if it is."""
     head = os.pread(file.fileno(), 16, 0)
     return next((PACKED[it] for it in PACKED if head.startswith(it)), None)
 
 
-def unpacked(file: BinaryIO) -> Tuple[BinaryIO, List[str]]:
+def unpacked(file: IO[bytes]) -> Tuple[IO[bytes], List[str]]:
     """The file of a core that is neither packed nor a pipe, and what was done."""
     said: List[str] = []
-    kind: Optional[Tuple[str, Callable]] = None
+    kind: Optional[Tuple[str, Opener]] = None
     given, mode = file, os.fstat(file.fileno()).st_mode
     if stat.S_ISFIFO(mode) or stat.S_ISSOCK(mode):
         kind = ("a pipe", as_it_is)

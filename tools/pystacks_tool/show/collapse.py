@@ -7,10 +7,9 @@ ends, and of one that is shown in parts a place between them how many frames are
 """
 
 import re
-from collections import Counter
-from typing import Iterator, List, Mapping, Sequence, Tuple
+from typing import Counter, Iterator, List, Mapping, Sequence, Tuple
 
-from core_model import Frame, Thread
+from pystacks_tool.model import Frame, Thread
 
 ESCAPED = re.compile("[;\\\\\x00-\x1f\x7f-\x9f\u2028\u2029\ud800-\udfff]")
 
@@ -38,7 +37,7 @@ def places(thread: Thread) -> Tuple[str, ...]:
     return tuple(reversed(rows))
 
 
-def counts_of(threads: Sequence[Thread]) -> "Counter[Tuple[str, ...]]":
+def counts_of(threads: Sequence[Thread]) -> Counter[Tuple[str, ...]]:
     """How many threads have each stack, in the order of the first thread of each."""
     return Counter(stack for stack in map(places, threads) if stack)
 
