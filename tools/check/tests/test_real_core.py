@@ -385,7 +385,7 @@ class Stored(unittest.TestCase):
             self.assertEqual(real_core.head_of(text, name), (version, "x86_64", "shared"))
             self.assertEqual(sum(line.startswith("# tried on cores of this build: ") for line in lines), 1)
             self.assertIn(f"first_minor = {minor}", lines)
-            heads = [re.sub("tools/(layouts|check)/|docs/", "", line) for line in lines if line.startswith("#")]
+            heads = [re.sub("tools/(layouts|check/real)/|docs/", "", line) for line in lines if line.startswith("#")]
             self.assertFalse([line for line in heads if "/" in line])
         self.assertEqual(len(self.BUILDS), len(VERSIONS))
 
