@@ -23,9 +23,9 @@ sys.dont_write_bytecode = True
 from pystacks_tool.ask.programs import ask, command_of
 from pystacks_tool.ask.run import Answer, write_all
 from pystacks_tool.cores.opened import OpenedCore, open_core
-from pystacks_tool.faults import BAD_WORDS, CANNOT_WRITE, NO_PROGRAM, Fault, shown
+from pystacks_tool.faults import BAD_WORDS, CANNOT_WRITE, NO_PROGRAM, Fault, say, shown
 from pystacks_tool.options import Options
-from pystacks_tool.places import PROGRAM, program_at
+from pystacks_tool.places import PROGRAM, program_at, version_line
 
 LOCATED = re.compile(r"Python v(\d+\.\d+\.\d+)\S*\nInterpreter (0x[0-9a-f]+)\nLock (0x[0-9a-f]+)\n")
 """What `pystacks locate` prints: of a version `walk` takes the numbers."""
@@ -113,7 +113,7 @@ def run(options: Options, name: str, out: str) -> int:
     command = command_of([program, core.word, core.layouts], [core.name])
     version, interpreter, lock = located(command, core)
     length = slimmed(command, core, options.locals, out)
-    print(f"slim_core: {shown(os.fsencode(out))} has {length} bytes", file=sys.stderr)
+    say(f"{shown(os.fsencode(out))} has {length} bytes", who="slim_core")
     put([program, "walk", out, core.layouts, version, interpreter, lock])
     return 0
 
@@ -129,6 +129,7 @@ def main() -> int:
     parser.add_argument("--layouts", metavar="FILE", help="the layout file (default: the core's machine's in layouts/)")
     parser.add_argument("--maps", metavar="FILE", default="", help="the process's maps, for a core without a file table")
     parser.add_argument("--anyway", action="store_true", help="read a core that is longer than half of the free memory")
+    parser.add_argument("--version", action="version", version=version_line(), help="the project's version, and its commit")
     words = parser.parse_args()
     if words.root and not os.path.isdir(words.root):
         parser.error(f"there is no folder {words.root}")
@@ -137,9 +138,7 @@ def main() -> int:
             (words.core,), words.locals, root=words.root, maps=words.maps, anyway=words.anyway, layouts=words.layouts, program=words.program)
         return run(options, words.core, words.out or f"{words.core}.slim")
     except Fault as fault:
-        print(f"slim_core: {fault}", file=sys.stderr)
-        if fault.then:
-            print(f"slim_core: next: {fault.then}", file=sys.stderr)
+        say(str(fault), fault.then, "slim_core")
         return fault.status
     except KeyboardInterrupt:
         return 130

@@ -18,8 +18,13 @@ from dataclasses import dataclass
 from pathlib import Path
 from typing import Dict, List, Optional, Sequence, Tuple
 
+# (the package of the tool stands beside this folder; nothing is left behind)
+sys.dont_write_bytecode = True
+sys.path.append(str(Path(__file__).resolve().parent.parent))
+
 from layout_plan import VERSIONS, Field, Group, Plan, Version, plan_of
 from layout_sources import Answers, from_debug_information, from_headers
+from pystacks_tool.places import version_line
 
 ASK = """
 import json, os, platform, re, struct, sys, sysconfig
@@ -320,6 +325,7 @@ def main() -> int:
     parser.add_argument("--tried", default="", help="what the head says was tried on cores (default: nothing)")
     parser.add_argument("--cc", default="cc", help="the C compiler, or '' to ask no headers (default: cc)")
     parser.add_argument("--gdb", default="gdb", help="the debugger, or '' to ask no debug information (default: gdb)")
+    parser.add_argument("--version", action="version", version=version_line(), help="the project's version, and its commit")
     words = parser.parse_args()
     try:
         how = How(words.cc, words.gdb, not words.without_dicts, words.tried)

@@ -10,9 +10,8 @@ from pystacks_tool.command import run
 from pystacks_tool.faults import NO_ROOM, Fault, say
 from pystacks_tool.options import Options
 from pystacks_tool.output import written
-from pystacks_tool.places import LAYOUTS, MACHINES, PROGRAM, SALVAGE, commit
-
-PROJECT = "pystacks 0.1"
+from pystacks_tool.pages import with_places
+from pystacks_tool.places import LAYOUTS, MACHINES, PROGRAM, SALVAGE, version_line
 
 WHAT = "Shows where a Python process stood when it died: the stacks of its threads, by its core."
 
@@ -53,7 +52,7 @@ def add_taken(parser: argparse.ArgumentParser) -> None:
 def parser_for(name: str) -> argparse.ArgumentParser:
     """The parser of the tool's words."""
     parser = argparse.ArgumentParser(
-        prog=name, description=WHAT, epilog=EXAMPLES.format(name), formatter_class=argparse.RawDescriptionHelpFormatter)
+        prog=name, description=WHAT, epilog=with_places(EXAMPLES.format(name)), formatter_class=argparse.RawDescriptionHelpFormatter)
     parser.add_argument("core", metavar="CORE", nargs="*", help="the core's file; several with --group and --collapsed")
     add_shown(parser)
     add_taken(parser)
@@ -106,9 +105,8 @@ def versions_in(path: Path) -> str:
 
 
 def version_lines() -> List[str]:
-    """The project's version, with the commit where it is known; the programs that are there; and the layouts."""
-    own = commit()
-    lines = [f"{PROJECT} ({own})" if own else PROJECT]
+    """The project's version, which is the layouts' too; the programs that are there; and what layouts there are."""
+    lines = [version_line()]
     for name, program in (("pystacks", PROGRAM), ("pysalvage", SALVAGE)):
         lines.append(f"{name}: {os.fspath(program)}" if program.is_file() else f"{name}: not built")
     for machine in MACHINES.values():

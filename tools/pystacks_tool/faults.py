@@ -2,6 +2,8 @@
 
 import sys
 
+from pystacks_tool.pages import with_places
+
 NO_STACKS = 1
 BAD_WORDS = 2
 CANNOT_WRITE = 4
@@ -18,16 +20,16 @@ class Fault(Exception):
         self.then = then
 
 
-def say(line: str, then: str = "") -> None:
-    """Says a line on the standard error, and what to do next."""
-    print(f"dump_core: {line}", file=sys.stderr, flush=True)
-    say_next(then)
+def say(line: str, then: str = "", who: str = "dump_core") -> None:
+    """Says a line on the standard error, and what to do next, by this name. Pages stand there with their places."""
+    print(f"{who}: {with_places(line)}", file=sys.stderr, flush=True)
+    say_next(then, who)
 
 
-def say_next(then: str) -> None:
+def say_next(then: str, who: str = "dump_core") -> None:
     """Says what to do next, if there is something, behind a line that was said."""
     if then:
-        print(f"dump_core: next: {then}", file=sys.stderr, flush=True)
+        print(f"{who}: next: {with_places(then)}", file=sys.stderr, flush=True)
 
 
 def shown(name: bytes) -> str:

@@ -6,8 +6,9 @@ from pathlib import Path
 from typing import Dict, Optional
 
 from pystacks_tool.faults import BAD_WORDS, NO_PROGRAM, Fault, shown
+from pystacks_tool.pages import ROOT
+from pystacks_tool.version import VERSION
 
-ROOT = Path(__file__).resolve().parent.parent.parent
 INSTALLED = ROOT / "bin"
 """Where an installed folder has the programs."""
 
@@ -91,3 +92,9 @@ def commit() -> str:
     except OSError:
         return ""
     return ran.stdout.decode("ascii", "replace").strip() if ran.returncode == 0 else ""
+
+
+def version_line() -> str:
+    """The project's version, with the commit where it is known."""
+    own = commit()
+    return f"pystacks {VERSION} ({own})" if own else f"pystacks {VERSION}"

@@ -3,6 +3,7 @@
 nothing but the C library and Python.
 """
 
+import gzip
 import json
 import os
 import re
@@ -18,6 +19,7 @@ from rooms import TOOLS  # (first: it makes the other rooms known)
 
 import stand_ins
 from pystacks_tool.places import PROGRAM, SALVAGE
+from pystacks_tool.version import VERSION
 from made import EXAMPLE, core_file
 from stand_ins import frame, interpreter, salvage, thread
 from small_core import PROGRAM as IMAGE, TEXT, small_of
@@ -49,6 +51,12 @@ class Case(unittest.TestCase):
         status, _, said = self.installed("--program", self.programs[0], "--salvage", self.programs[1])
         self.assertEqual((status, said), (0, ""))
 
+    def links(self, folder):
+        """Sees that what the texts of a folder link to is there."""
+        for page in ("README.md", "SECURITY.md"):
+            links = re.findall(r"\]\((?!https?:)([^)#]*)\)", (folder / page).read_text(encoding="utf-8"))
+            self.assertTrue(links and all((folder / it).is_file() for it in links), links)
+
     def ran(self, *words, **more):
         """Runs something in an empty environment, in the folder."""
         streams = {"stdin": subprocess.DEVNULL, "stdout": subprocess.PIPE, "stderr": subprocess.PIPE, "text": True}
@@ -62,7 +70,7 @@ class Installed(Case):
     def test_files(self):
         self.install()
         to = self.folder / "to"
-        self.assertEqual(sorted(it.name for it in (to / "bin").iterdir()), ["pysalvage", "pystacks", "pystacks-core"])
+        self.assertEqual(sorted(it.name for it in (to / "bin").iterdir()), ["pysalvage", "pystacks", "pystacks-core", "pystacks-layout", "pystacks-native", "pystacks-slim"])
         self.assertEqual(sorted(it.name for it in (to / "layouts").iterdir()), ["cpython-aarch64.toml", "cpython-x86_64.toml"])
         self.assertTrue({"dump_core.py", "slim_core.py"} <= {it.name for it in (to / "tools").iterdir()})
         self.assertTrue({"MESSAGES.md", "CORES.md", "DUMP.md", "SLIM.md"} <= {it.name for it in (to / "docs").iterdir()})
@@ -70,6 +78,8 @@ class Installed(Case):
         self.assertTrue(all((to / "docs" / it).is_file() for it in re.findall(r"\((pictures/[^)]*)\)", page)))
         self.assertFalse({"PROVED.md", "DECISIONS.md"} & {it.name for it in (to / "docs").iterdir()})
         self.assertTrue(all(os.access(it, os.X_OK) for it in (to / "bin").iterdir()))
+        self.assertTrue({"README.md", "LICENSE", "NOTICE", "SECURITY.md", "CHANGELOG.md"} <= {it.name for it in to.iterdir()})
+        self.links(to)
         self.assertFalse([it for it in to.rglob("*") if "check" in it.parts or it.suffix in (".antt", ".rt", ".pyc")])
 
     def test_moved(self):
@@ -84,6 +94,30 @@ class Installed(Case):
         self.assertTrue(re.match(r"pystacks [0-9.]+( \([0-9a-f]{12}\))?\n", out), out)
         self.assertIn(f"pysalvage: {self.folder}/elsewhere/bin/pysalvage\n", out)
         self.assertIn("usage: pystacks-core ", self.ran(sys.executable, door, "--help")[1])
+
+    def test_doors(self):
+        self.install()
+        for it in ("core", "slim", "layout", "native"):
+            door = self.folder / "to/bin" / f"pystacks-{it}"
+            status, out, said = self.ran(sys.executable, door, "--version")
+            self.assertEqual((status, out.split(" ")[:2], said), (0, ["pystacks", f"{VERSION}{'' if ' (' in out else chr(10)}"], ""), it)
+            self.assertIn(f"usage: pystacks-{it} ", self.ran(sys.executable, door, "--help")[1])
+        door = self.folder / "to/bin/pystacks-layout"
+        status, out, said = self.ran(sys.executable, door, self.folder / "none")
+        self.assertEqual((status, out, said.startswith("derive_layout: ")), (1, "", True), said)
+        door = self.folder / "to/bin/pystacks-native"
+        self.assertEqual(self.ran(sys.executable, door, "none", "1")[0], 2)
+        self.assertFalse(list((self.folder / "to").rglob("*.pyc")))
+
+    def test_places_of_pages(self):
+        self.install()
+        said = b"pystacks: no interpreter found\n"
+        stand_ins.program(self.folder / "to/bin/pystacks", status=1, said=said)
+        stand_ins.program(self.folder / "to/bin/pysalvage", status=1, said=said)
+        then = self.ran(sys.executable, self.folder / "to/bin/pystacks-core", "core")[2].splitlines()[1]
+        page = re.fullmatch(r"dump_core: next: (\S+) has the usual causes, and how to tell them, below `No interpreter found`", then).group(1)
+        self.assertEqual(page, str(self.folder / "to/docs/MESSAGES.md"))
+        self.assertTrue(Path(page).is_file())
 
     def test_in_path(self):
         self.install()
@@ -120,6 +154,16 @@ class Installed(Case):
         status, out, said = self.ran(sys.executable, self.folder / "to/bin/pystacks-core", "core")
         self.assertEqual((status, out, said.count("\n")), (127, "", 1))
         self.assertIn("pystacks-core: there is no dump_core.py in ", said)
+        status, out, said = self.ran(sys.executable, self.folder / "to/bin/pystacks-slim", "core")
+        self.assertEqual((status, out, said.count("\n")), (127, "", 1))
+        self.assertIn("pystacks-slim: there is no slim_core.py in ", said)
+
+    def test_door_without_a_module(self):
+        self.install()
+        (self.folder / "to/tools/pystacks_tool/faults.py").unlink()
+        status, out, said = self.ran(sys.executable, self.folder / "to/bin/pystacks-slim", "core")
+        self.assertEqual((status, out, said.count("\n")), (127, "", 1))
+        self.assertIn("pystacks-slim: there is no pystacks_tool/faults.py in ", said)
 
 
 def libraries_of(*files):
@@ -191,6 +235,63 @@ class Bare(Case):
         status, out, said = self.in_root(self.python, "/opt/pystacks/bin/pystacks-core", *words)
         self.assertEqual((status, out, said), (0, TEXT, ""))
         self.assertEqual(self.in_root(self.python, "/opt/pystacks/bin/pystacks-core", *words, "--plain"), (0, TEXT, ""))
+
+
+@unittest.skipUnless(PROGRAM.is_file(), "the program isn't built")
+@unittest.skipUnless(shutil.which("dpkg-deb") and shutil.which("help2man"), "there is no dpkg-deb, or no help2man")
+class Package(Case):
+    """The Debian package."""
+
+    PROGRAMS = ["pysalvage", "pystacks", "pystacks-core", "pystacks-layout", "pystacks-native", "pystacks-slim"]
+
+    def setUp(self):
+        super().setUp()
+        self.package = self.folder / "pystacks.deb"
+        salvage = [] if SALVAGE.is_file() else ["--salvage", self.programs[1]]
+        command = [sys.executable, "-B", TOOLS / "install.py", "--deb", self.package, *salvage]
+        status, out, said = self.ran(*command, env=dict(os.environ))
+        self.assertEqual((status, out.count("\n"), said), (0, 1, ""))
+
+    def test_contents(self):
+        root = self.folder / "x"
+        self.assertEqual(self.ran("dpkg-deb", "-x", self.package, root, env=dict(os.environ))[0], 0)
+        self.assertEqual(sorted(it.name for it in (root / "usr/bin").iterdir()), self.PROGRAMS)
+        self.assertTrue(all(it.resolve().is_file() for it in (root / "usr/bin").iterdir()))
+        self.assertEqual({it.name for it in (root / "usr/share/man/man1").iterdir()}, {f"{it}.1.gz" for it in self.PROGRAMS})
+        for it in (root / "usr/share/man/man1").iterdir():
+            page = gzip.decompress(it.read_bytes()).decode("utf-8")
+            self.assertIn(".SH SYNOPSIS\n", page)
+            self.assertNotIn(str(self.folder), page)
+        self.assertTrue((root / "usr/lib/pystacks/docs/MESSAGES.md").is_file())
+        self.links(root / "usr/share/doc/pystacks")
+        fields = self.ran("dpkg-deb", "-f", self.package, env=dict(os.environ))[1].splitlines()
+        self.assertIn(f"Version: {VERSION}", fields)
+
+    @unittest.skipUnless(shutil.which("lintian"), "there is no lintian")
+    def test_lintian(self):
+        status, out, said = self.ran("lintian", "--allow-root", "--fail-on", "error,warning", self.package, env=dict(os.environ))
+        self.assertEqual((status, out), (0, ""), said)
+
+    @unittest.skipUnless(os.geteuid() == 0, "a root folder needs root")
+    def test_installed(self):
+        root = self.folder / "root"
+        for it in ("info", "updates", "triggers"):
+            (root / "var/lib/dpkg" / it).mkdir(parents=True)
+        (root / "var/lib/dpkg/status").write_text("")
+        dpkg = ["dpkg", f"--root={root}", f"--log={self.folder}/log", "--force-depends", "--force-script-chrootless"]
+        status, _, said = self.ran(*dpkg, "-i", self.package, env=dict(os.environ))
+        self.assertEqual(status, 0, said)
+        (self.folder / "small").write_bytes(small_of(b"/usr/bin/python3.9"))
+        (self.folder / "container/usr/bin").mkdir(parents=True)
+        (self.folder / "container/usr/bin/python3.9").write_bytes(IMAGE)
+        (self.folder / "layout.toml").write_text(EXAMPLE)
+        words = ("small", "--root", "container", "--layouts", "layout.toml", "--plain")
+        self.assertEqual(self.ran(sys.executable, root / "usr/bin/pystacks-core", *words), (0, TEXT, ""))
+        self.assertEqual(self.ran(sys.executable, root / "usr/bin/pystacks-slim", *words[:-1])[0], 0)
+        status, _, said = self.ran(*dpkg, "--purge", "pystacks", env=dict(os.environ))
+        self.assertEqual(status, 0, said)
+        left = [it for it in root.rglob("*") if not str(it).startswith(f"{root}/var/lib/dpkg") and it != root / "var" and it != root / "var/lib"]
+        self.assertEqual(left, [])
 
 
 if __name__ == "__main__":
