@@ -48,6 +48,7 @@ CHECKS = (
     Check("quotes"),
     Check("definitions"),
     Check("typed"),
+    Check("versions"),
     Check("tests/test_gate"),
     Check("tests/test_typed"),
     Check("tests/test_real_core"),

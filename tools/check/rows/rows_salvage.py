@@ -84,7 +84,7 @@ def words() -> Iterator[Row]:
     """What the words ask for."""
     files = files_of(small())
     yield salvage("the help", "--help", {}, HELP)
-    yield salvage("the version", "--version", {}, "pysalvage 1.0\n")
+    yield salvage("the version", "--version", {}, "pysalvage 1.0.0\n")
     for what, text in (
         ("", GOOD), ("an equals sign", f"--layouts=layouts core {IMAGE}"), ("the first image of a path", f"{GOOD} /usr/bin/python3.9=core"),
         ("behind two dashes", f"--layouts layouts -- core {IMAGE}"), ("as many frames as may be", f"{GOOD} -n 4096"),
