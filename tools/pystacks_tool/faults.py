@@ -21,13 +21,14 @@ class Fault(Exception):
 
 
 def say(line: str, then: str = "", who: str = "dump_core") -> None:
-    """Says a line on the standard error, and what to do next, by this name. Pages stand there with their places."""
-    print(f"{who}: {with_places(line)}", file=sys.stderr, flush=True)
+    """Says a line on the standard error, and what to do next, by this name."""
+    print(f"{who}: {line}", file=sys.stderr, flush=True)
     say_next(then, who)
 
 
 def say_next(then: str, who: str = "dump_core") -> None:
-    """Says what to do next, if there is something, behind a line that was said."""
+    """Says what to do next, if there is something, behind a line that was said. (It has no name of the user's or a core's in it, and
+    so what looks like a page of docs is one; it stands there with its place.)"""
     if then:
         print(f"{who}: next: {with_places(then)}", file=sys.stderr, flush=True)
 

@@ -12,7 +12,7 @@ import tempfile
 import unittest
 from pathlib import Path
 
-from rooms import TOOLS  # (first: it makes the other rooms known)
+from rooms import ROOT, TOOLS  # (first: it makes the other rooms known)
 
 import stand_ins
 from pystacks_tool.ask.advice import NEXT, next_of
@@ -180,7 +180,7 @@ class Shown(Case):
         self.programs(salvage(), status=1, said=b"pysalvage: no interpreter found: 7 addresses looked at\n")
         status, out, said = self.tool()
         self.assertEqual((status, out, said.count("\n")), (1, "", 2))
-        wanted = "pysalvage: no interpreter found: 7 addresses looked at\ndump_core: next: docs/MESSAGES.md has"
+        wanted = f"pysalvage: no interpreter found: 7 addresses looked at\ndump_core: next: {ROOT}/docs/MESSAGES.md has"
         self.assertTrue(said.startswith(wanted), said)
         self.assertEqual(self.tool("--collapsed"), (status, out, said))
 
