@@ -3,10 +3,11 @@
 
     tools/check/typed.py
 
-mypy reads the package pystacks_tool, and the scripts beside it, under --strict, for the first Python that they run by; pyflakes
+mypy reads the package pystacks_tool, and the scripts beside it and of layouts/, under --strict, for the first Python that they run by; pyflakes
 reads all of tools/. Both are Debian's (packages mypy and python3-pyflakes); what isn't there is skipped.
 """
 
+import os
 import subprocess
 import sys
 from typing import List, Optional
@@ -16,7 +17,7 @@ from rooms import TOOLS
 FIRST = "3.8"
 """The first Python that the tool runs by."""
 
-SCRIPTS = ("dump_core", "slim_core", "native_addresses", "install", "debian_package")
+SCRIPTS = ("dump_core", "slim_core", "native_addresses", "install", "debian_package", "derive_layout", "join_layouts", "carry_layouts")
 
 FOR_WHAT_IT_DOES = "'rooms' imported but unused"
 """What pyflakes says of a module that is imported so that others are found."""
@@ -36,7 +37,9 @@ def python_with(module: str) -> Optional[str]:
 
 def lines_of(command: List[str]) -> List[str]:
     """What a program says, run in tools/: nothing where it finds nothing."""
-    ran = subprocess.run(command, cwd=TOOLS, stdin=subprocess.DEVNULL, stdout=subprocess.PIPE, stderr=subprocess.STDOUT, text=True, check=False)
+    ran = subprocess.run(
+        command, cwd=TOOLS, env={**os.environ, "MYPYPATH": "layouts"}, stdin=subprocess.DEVNULL, stdout=subprocess.PIPE,
+        stderr=subprocess.STDOUT, text=True, check=False)
     lines = ran.stdout.splitlines()
     return lines if ran.returncode == 0 or lines else [f"{command[2]} ended with status {ran.returncode}"]
 
