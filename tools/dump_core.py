@@ -7,7 +7,7 @@
     tools/dump_core.py CORE --root FOLDER    # where the core is that of a container, whose files are below FOLDER
     tools/dump_core.py --group CORE..        # cores grouped by their stacks: `pystacks triage`
 
-This file is the door: what it opens stands in the modules beside it, of which it says which one is missing.
+This file is the door: what it opens stands in the package pystacks_tool beside it, of which it says which file is missing.
 """
 
 import os
@@ -18,11 +18,16 @@ sys.dont_write_bytecode = True
 
 NO_PROGRAM = 127
 
+PACKAGE = "pystacks_tool"
+
 
 def without(module):
+    # type: (str) -> int
     """Says which module is missing. Returns the status."""
-    if module.startswith("core_"):
-        sys.stderr.write("dump_core: %s.py isn't beside dump_core.py: it needs the other files of its folder\n" % module)
+    if module.split(".")[0] == PACKAGE:
+        # (the package itself is a folder)
+        place = module.replace(".", "/") + (".py" if "." in module else "")
+        sys.stderr.write("dump_core: %s isn't beside dump_core.py: it needs the other files of its folder\n" % place)
         sys.stderr.write("dump_core: next: copy the whole folder, or let tools/install.py --to FOLDER do so\n")
     else:
         sys.stderr.write("dump_core: this Python lacks its own module %s\n" % (module or "of some name"))
@@ -31,12 +36,13 @@ def without(module):
 
 
 def main():
+    # type: () -> int
     """The command. Returns the status."""
     if sys.version_info < (3, 8):
         sys.stderr.write("dump_core: Python 3.8 or later is needed, and this is %d.%d\n" % sys.version_info[:2])
         return NO_PROGRAM
     try:
-        from core_command import main as run
+        from pystacks_tool.cli import main as run
     except ImportError as error:
         return without(error.name or "")
     name = os.path.basename(sys.argv[0])

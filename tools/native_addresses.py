@@ -15,7 +15,11 @@ import sys
 from pathlib import Path
 from typing import List, Optional
 
-from core_maps import EXECUTABLE, maps_of
+# (what only looks at a core leaves nothing behind)
+sys.dont_write_bytecode = True
+
+from pystacks_tool.cores.maps import EXECUTABLE, maps_of
+from pystacks_tool.places import version_line
 
 STACK = """
 import gdb
@@ -74,6 +78,7 @@ def main(words: Optional[List[str]] = None) -> int:
     parser.add_argument("thread", type=lambda text: int(text, 0), help="the thread's id, as `dump` prints it")
     parser.add_argument("--program", help="the program's file")
     parser.add_argument("--root", default="/", help="the folder below which the files of the process lie")
+    parser.add_argument("--version", action="version", version=version_line(), help="the project's version, and its commit")
     given = parser.parse_args(words)
     try:
         program = given.program or program_of(given.core, given.root)

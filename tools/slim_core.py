@@ -20,10 +20,12 @@ from typing import List, Tuple
 
 sys.dont_write_bytecode = True
 
-from core_asked import Asked, asked_of, checked
-from core_faults import BAD_WORDS, CANNOT_WRITE, NO_PROGRAM, Fault, shown
-from core_places import PROGRAM, program_at
-from core_run import Answer, write_all
+from pystacks_tool.ask.programs import ask, command_of
+from pystacks_tool.ask.run import Answer, write_all
+from pystacks_tool.cores.opened import OpenedCore, open_core
+from pystacks_tool.faults import BAD_WORDS, CANNOT_WRITE, NO_PROGRAM, Fault, say, shown
+from pystacks_tool.options import Options
+from pystacks_tool.places import PROGRAM, program_at, version_line
 
 LOCATED = re.compile(r"Python v(\d+\.\d+\.\d+)\S*\nInterpreter (0x[0-9a-f]+)\nLock (0x[0-9a-f]+)\n")
 """What `pystacks locate` prints: of a version `walk` takes the numbers."""
@@ -38,9 +40,9 @@ def fault_of(answer: Answer) -> Fault:
     return Fault(line, answer.status if answer.status > 0 else NO_PROGRAM)
 
 
-def located(command: List[bytes], it: Asked) -> Tuple[str, str, str]:
+def located(command: List[bytes], core: OpenedCore) -> Tuple[str, str, str]:
     """The version, the interpreter's address and the lock's."""
-    answer = it.answer([command[0], b"locate", *command[1:], *it.images])
+    answer = ask(core, [command[0], b"locate", *command[1:], *core.images])
     if answer.status:
         raise fault_of(answer)
     found = LOCATED.fullmatch(answer.out.decode("ascii", "replace"))
@@ -50,12 +52,12 @@ def located(command: List[bytes], it: Asked) -> Tuple[str, str, str]:
     return version, interpreter, lock
 
 
-def written(command: List[bytes], it: Asked, level: int, part: int) -> None:
+def written(command: List[bytes], core: OpenedCore, level: int, part: int) -> None:
     """Writes the small core into an open file."""
-    words = [command[0], b"slim", *command[1:], b"%d" % level, *it.images]
-    done = subprocess.run(words, stdin=subprocess.DEVNULL, stdout=part, stderr=subprocess.PIPE, pass_fds=it.fds, check=False)
+    words = [command[0], b"slim", *command[1:], b"%d" % level, *core.images]
+    done = subprocess.run(words, stdin=subprocess.DEVNULL, stdout=part, stderr=subprocess.PIPE, pass_fds=core.fds, check=False)
     if done.returncode:
-        raise fault_of(Answer(done.returncode, b"", done.stderr.replace(os.fsencode(it.word), os.fsencode(it.name))))
+        raise fault_of(Answer(done.returncode, b"", done.stderr.replace(os.fsencode(core.word), os.fsencode(core.name))))
 
 
 def check_free(out: str) -> None:
@@ -81,18 +83,18 @@ def put(words: List[str]) -> None:
         raise Fault(f"cannot write the words: {error.strerror}", CANNOT_WRITE) from None
 
 
-def slimmed(command: List[bytes], it: Asked, level: int, core: str, out: str) -> int:
+def slimmed(command: List[bytes], core: OpenedCore, level: int, out: str) -> int:
     """Writes the small core, under its name only once it is whole. Returns its length."""
     name = ""
     try:
         with tempfile.NamedTemporaryFile(dir=os.path.dirname(os.path.abspath(out)), prefix=".slim-", delete=False) as part:
             name = part.name
-            written(command, it, level, part.fileno())
+            written(command, core, level, part.fileno())
             length = os.fstat(part.fileno()).st_size
         # (as a file that this user makes has them, and for none who may not read the core)
         mask = os.umask(0)
         os.umask(mask)
-        os.chmod(name, os.stat(core).st_mode & 0o666 & ~mask)
+        os.chmod(name, os.stat(core.name).st_mode & 0o666 & ~mask)
         os.replace(name, out)
         name = ""
     except OSError as error:
@@ -103,17 +105,16 @@ def slimmed(command: List[bytes], it: Asked, level: int, core: str, out: str) ->
     return length
 
 
-def run(words: argparse.Namespace) -> int:
+def run(options: Options, name: str, out: str) -> int:
     """Makes the small core, and says how it is read."""
-    program = os.fspath(program_at(words.program, PROGRAM))
-    out = words.out or f"{words.core}.slim"
+    program = os.fspath(program_at(options.program, PROGRAM))
     check_free(out)
-    it = asked_of(words, words.core)
-    command = checked([program, it.word, it.layouts], [it.name])
-    version, interpreter, lock = located(command, it)
-    length = slimmed(command, it, words.locals, words.core, out)
-    print(f"slim_core: {shown(os.fsencode(out))} has {length} bytes", file=sys.stderr)
-    put([program, "walk", out, it.layouts, version, interpreter, lock])
+    core = open_core(options, name)
+    command = command_of([program, core.word, core.layouts], [core.name])
+    version, interpreter, lock = located(command, core)
+    length = slimmed(command, core, options.locals, out)
+    say(f"{shown(os.fsencode(out))} has {length} bytes", who="slim_core")
+    put([program, "walk", out, core.layouts, version, interpreter, lock])
     return 0
 
 
@@ -128,16 +129,16 @@ def main() -> int:
     parser.add_argument("--layouts", metavar="FILE", help="the layout file (default: the core's machine's in layouts/)")
     parser.add_argument("--maps", metavar="FILE", default="", help="the process's maps, for a core without a file table")
     parser.add_argument("--anyway", action="store_true", help="read a core that is longer than half of the free memory")
+    parser.add_argument("--version", action="version", version=version_line(), help="the project's version, and its commit")
     words = parser.parse_args()
-    words.keep, words.plain, words.group = "", False, False
     if words.root and not os.path.isdir(words.root):
         parser.error(f"there is no folder {words.root}")
     try:
-        return run(words)
+        options = Options(
+            (words.core,), words.locals, root=words.root, maps=words.maps, anyway=words.anyway, layouts=words.layouts, program=words.program)
+        return run(options, words.core, words.out or f"{words.core}.slim")
     except Fault as fault:
-        print(f"slim_core: {fault}", file=sys.stderr)
-        if fault.then:
-            print(f"slim_core: next: {fault.then}", file=sys.stderr)
+        say(str(fault), fault.then, "slim_core")
         return fault.status
     except KeyboardInterrupt:
         return 130

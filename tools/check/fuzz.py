@@ -26,6 +26,8 @@ from pathlib import Path
 from random import Random
 from typing import Callable, Dict, Iterator, List, Optional, Sequence, Tuple
 
+from rooms import BUILT_SALVAGE, ROOT  # (first: it makes the other rooms known)
+
 import changes
 import rows_dump
 import rows_merge
@@ -35,7 +37,6 @@ import rows_slim
 import rows_triage
 import rows_walk
 from child_cores import Failure
-from rooms import BUILT_SALVAGE, ROOT
 from row import Row, row
 from sample_cores import walk_text
 from salvage_text import text_of, tree_of

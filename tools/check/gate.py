@@ -3,7 +3,7 @@
 
     tools/check/gate.py [--only WORD] [--all] [--verdict FILE]
 
-Each check runs by itself, as `tools/check/NAME.py`, and what it prints is passed on. A line `NAME: skipped: ..` is what it could
+Each check runs by itself, as `tools/check/PLACE.py`, and what it prints is passed on. A line `NAME: skipped: ..` is what it could
 not try on this machine; it fails nothing. Behind all of them stands a summary: each check with its seconds, what was
 skipped, and, of the output of `rt ci` in FILE, the verdict. The last line has all that passed and failed, those of `rt ci` too.
 With --all each check tries all that it has, at any length, which is for a run by hand. The status is 0 exactly where no check failed.
@@ -18,9 +18,7 @@ from dataclasses import dataclass, field
 from pathlib import Path
 from typing import List, Sequence, Tuple
 
-from rooms import ROOT
-
-CHECK = Path(__file__).resolve().parent
+from rooms import CHECK, ROOT
 
 PROGRAM = str(ROOT / "crates" / "pystacks" / "out" / "pystacks")
 SALVAGE = str(ROOT / "crates" / "pysalvage" / "out" / "pysalvage")
@@ -33,45 +31,53 @@ OF_LISTING = ("--program", LISTING)
 
 @dataclass(frozen=True)
 class Check:
-    """A check: its name, its words in the gate, and those by which it tries all that it has, where that is more."""
+    """A check: its place in this folder, its words in the gate, and those by which it tries all that it has, where that is more."""
 
-    name: str
+    place: str
     words: Tuple[str, ...] = ()
     more: Tuple[str, ...] = ()
+
+    @property
+    def name(self) -> str:
+        """What it is called where it is told of."""
+        return Path(self.place).name
 
 
 CHECKS = (
     Check("messages"),
     Check("quotes"),
     Check("definitions"),
-    Check("test_gate"),
-    Check("test_real_core"),
-    Check("test_dump_core"),
-    Check("test_prepare"),
-    Check("test_collapse"),
-    Check("test_core_text"),
-    Check("test_tool"),
-    Check("test_real_tool"),
-    Check("test_wide"),
-    Check("test_page"),
-    Check("test_pages"),
-    Check("test_install"),
-    Check("test_slim_core"),
-    Check("test_fuzz"),
-    Check("test_slim_reader"),
-    Check("rows", OF_PROGRAM),
-    Check("slim_cores", OF_PROGRAM),
-    Check("sample_cores", OF_PROGRAM),
+    Check("typed"),
+    Check("versions"),
+    Check("tests/test_gate"),
+    Check("tests/test_typed"),
+    Check("tests/test_real_core"),
+    Check("tests/test_dump_core"),
+    Check("tests/test_prepare"),
+    Check("tests/test_collapse"),
+    Check("tests/test_core_text"),
+    Check("tests/test_tool"),
+    Check("tests/test_real_tool"),
+    Check("tests/test_wide"),
+    Check("tests/test_page"),
+    Check("tests/test_pages"),
+    Check("tests/test_install"),
+    Check("tests/test_slim_core"),
+    Check("tests/test_fuzz"),
+    Check("tests/test_slim_reader"),
+    Check("rows/rows", OF_PROGRAM),
+    Check("rows/slim_cores", OF_PROGRAM),
+    Check("rows/sample_cores", OF_PROGRAM),
     Check("fuzz", OF_BOTH, (*OF_BOTH, "--count", "5000")),
     Check("growths", (*OF_BOTH, "--step", "100", "--most", "6"), OF_BOTH),
-    Check("real_core", OF_PROGRAM, (*OF_PROGRAM, "--all")),
-    Check("real_broken", OF_PROGRAM),
-    Check("pages", OF_PROGRAM),
-    Check("real_merge", OF_PROGRAM),
-    Check("real_salvage", OF_BOTH),
-    Check("arm_core", OF_PROGRAM),
-    Check("compare_elf", OF_LISTING),
-    Check("compare_maps", OF_LISTING),
+    Check("real/real_core", OF_PROGRAM, (*OF_PROGRAM, "--all")),
+    Check("real/real_broken", OF_PROGRAM),
+    Check("real/pages", OF_PROGRAM),
+    Check("real/real_merge", OF_PROGRAM),
+    Check("real/real_salvage", OF_BOTH),
+    Check("real/arm_core", OF_PROGRAM),
+    Check("real/compare_elf", OF_LISTING),
+    Check("real/compare_maps", OF_LISTING),
 )
 """What is run, in order."""
 
@@ -92,7 +98,7 @@ class Ended:
 
 def ran(check: Check, has_all: bool) -> Ended:
     """Runs a check, and passes on what it prints."""
-    words = [sys.executable, "-B", str(CHECK / f"{check.name}.py"), *(check.more if has_all and check.more else check.words)]
+    words = [sys.executable, "-B", str(CHECK / f"{check.place}.py"), *(check.more if has_all and check.more else check.words)]
     begun = time.monotonic()
     skipped = []
     # (a check may write bytes that are no text, as names of files)
@@ -136,11 +142,11 @@ def summary(ended: Sequence[Ended], verdict: str) -> List[str]:
 
 def main() -> int:
     parser = argparse.ArgumentParser(description=__doc__, formatter_class=argparse.RawDescriptionHelpFormatter)
-    parser.add_argument("--only", default="", help="the checks in whose name this stands")
+    parser.add_argument("--only", default="", help="the checks in whose place this stands")
     parser.add_argument("--all", action="store_true", help="all that each check has, at any length")
     parser.add_argument("--verdict", help="a file with what `rt ci` wrote")
     words = parser.parse_args()
-    ended = [ran(it, words.all) for it in CHECKS if words.only in it.name]
+    ended = [ran(it, words.all) for it in CHECKS if words.only in it.place]
     verdict = Path(words.verdict).read_text(encoding="utf-8", errors="replace") or "nothing" if words.verdict else ""
     print("\n".join(["", *summary(ended, verdict)]), flush=True)
     return 1 if any(it.status for it in ended) else 0

@@ -23,6 +23,8 @@ from dataclasses import replace
 from pathlib import Path
 from typing import List, NamedTuple, Optional, Sequence, Tuple
 
+from rooms import BUILT_SALVAGE  # (first: it makes the other rooms known)
+
 import fuzz
 import rows_dump
 import rows_merge
@@ -33,7 +35,6 @@ import rows_slim
 import rows_triage
 import rows_walk
 from child_cores import Failure
-from rooms import BUILT_SALVAGE
 from row import Row, row
 
 CHOSEN = (
@@ -169,12 +170,12 @@ def main(arguments: Optional[Sequence[str]] = None) -> int:
     failed = 0
     with ThreadPoolExecutor(words.workers) as pool:
         step = Step(words.step, words.most)
-        for (_, _, row), (counts, wrong) in zip(chosen, pool.map(lambda it: tried(*it, step), chosen)):
+        for (_, _, one), (counts, wrong) in zip(chosen, pool.map(lambda it: tried(*it, step), chosen)):
             failed += len(wrong)
             for line in wrong:
                 print(line)
             shares = ", ".join(f"{call} {fault} {count}" for (call, fault), count in counts.items())
-            print(f"growths: {row.what}: {shares}", flush=True)
+            print(f"growths: {one.what}: {shares}", flush=True)
     return 1 if failed else 0
 
 

@@ -19,9 +19,9 @@ from pathlib import Path
 from random import Random
 from typing import List, Sequence, Tuple
 
+import rooms  # (first: it makes the other rooms known)
 from made import EXAMPLE, Objects, Segment, Symbol, core_file, image_file, layout_of
-from row import CALLER, CODE, FRAME, HEAP as INTERPRETER, heap as usual
-from rows_dump import PROGRAM as IMAGE, bss, files_of, mapped, small
+from small_core import CALLER, CODE, FRAME, HEAP as INTERPRETER, PROGRAM as IMAGE, bss, files_of, heap as usual, mapped, small
 from rows_salvage import named
 
 FILLER = 0x100000000

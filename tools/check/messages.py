@@ -85,7 +85,7 @@ def main() -> int:
     """The check."""
     page = PAGE.read_text(encoding="utf-8")
     lacks = 0
-    for path in SPECS + sorted((ROOT / "tools").glob("*.py")):
+    for path in SPECS + sorted([*(ROOT / "tools").glob("*.py"), *(ROOT / "tools/pystacks_tool").rglob("*.py")]):
         source = path.read_text(encoding="utf-8")
         texts = list(texts_of_specs(source) if path.suffix == ".antt" else texts_of_tool(source))
         for text in missing(page, texts):

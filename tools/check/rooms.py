@@ -1,14 +1,17 @@
-"""The other rooms of tools/, from which the checks import: importing this makes them known."""
+"""The rooms of tools/, from which the checks import: importing this first makes them known. (A check runs by itself, and so each of
+its folders has this file, by a link.)
+"""
 
 import sys
 from pathlib import Path
 
-TOOLS = Path(__file__).resolve().parent.parent
+CHECK = Path(__file__).resolve().parent
+TOOLS = CHECK.parent
 ROOT = TOOLS.parent
 BUILT_SALVAGE = ROOT / "crates" / "pysalvage" / "out" / "pysalvage"
 
 # (a check that ran leaves nothing behind)
 sys.dont_write_bytecode = True
-for room in (TOOLS, TOOLS / "layouts"):
+for room in (TOOLS, TOOLS / "layouts", CHECK, CHECK / "rows", CHECK / "real", CHECK / "tests"):
     if str(room) not in sys.path:
         sys.path.append(str(room))

@@ -7,7 +7,7 @@ from typing import Any, Dict, Iterable, List, Optional, Sequence
 
 import rooms  # noqa: F401
 from child_cores import Failure
-from core_salvage import frames_end, locals_fault, threads_end, unreadable, why_of
+from pystacks_tool.ask.salvage import frames_end, locals_fault, threads_end, unreadable, why_of
 
 Tree = Dict[str, Any]
 

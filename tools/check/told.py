@@ -7,8 +7,8 @@ from typing import Callable, Dict, Iterator, Optional, Tuple
 
 from changes import Files, changed_word
 from made import EXAMPLE, Objects, Segment, core_file, edited, image_file
-from row import CALLER, CODE, FRAME, HEAP, MODULE_CODE, TEXT, THREAD, heap
-from rows_dump import BSS, GOOD, PROGRAM, bss, files_of, line_row, mapped, small
+from rows_dump import line_row
+from small_core import BSS, CALLER, CODE, FRAME, GOOD, HEAP, MODULE_CODE, PROGRAM, TEXT, THREAD, bss, files_of, heap, mapped, small
 from rows_reach import GOOD as REACH
 from rows_slim import LOCATE, SLIM
 from sample_cores import LARGEST, counts_text

@@ -6,8 +6,7 @@ from typing import List, Optional, Sequence, Tuple
 
 from changes import Files
 from made import EXAMPLE, Objects, Section, Segment, Symbol, core_file, image_file, layout_of
-from row import CALLER, CODE, FILE, FRAME, FUNCTION, HEAP, MODULE_CODE, THREAD, heap
-from rows_dump import BSS, PROGRAM, bss, files_of, mapped
+from small_core import BSS, CALLER, CODE, FILE, FRAME, FUNCTION, HEAP, MODULE_CODE, PROGRAM, THREAD, bss, files_of, heap, mapped
 from rows_salvage import NAMED, RUNTIME, status_record
 from salvage_text import INTERPRETERS, MEMBERS, THREADS, Tree, json_of, text_of
 from told import WORDS, Told, Teller, cut, cut_image, large_bss, nowhere

@@ -17,11 +17,11 @@ from dataclasses import dataclass
 from pathlib import Path
 from typing import Callable, Dict, Iterator, Sequence, Tuple
 
+from rooms import BUILT_SALVAGE  # (first: it makes the other rooms known)
+
 from made import EXAMPLE, Objects, Segment, core_file, image_file, layout_of
 from measure import Shape, core, machine, row
-from rooms import BUILT_SALVAGE
-from row import FRAME, HEAP, THREAD, heap
-from rows_dump import BSS, GOOD, IMAGE, files_of, mapped, of_locals
+from small_core import BSS, FRAME, GOOD, HEAP, IMAGE, THREAD, files_of, heap, mapped, of_locals
 from rows_salvage import named
 
 SKIPPED = "<shim>"

@@ -16,10 +16,15 @@ import subprocess
 import sys
 from dataclasses import dataclass
 from pathlib import Path
-from typing import Dict, List, Optional, Sequence, Tuple
+from typing import Any, Dict, List, Optional, Sequence, Tuple
+
+# (the package of the tool stands beside this folder; nothing is left behind)
+sys.dont_write_bytecode = True
+sys.path.append(str(Path(__file__).resolve().parent.parent))
 
 from layout_plan import VERSIONS, Field, Group, Plan, Version, plan_of
 from layout_sources import Answers, from_debug_information, from_headers
+from pystacks_tool.places import version_line
 
 ASK = """
 import json, os, platform, re, struct, sys, sysconfig
@@ -119,19 +124,19 @@ class How:
     tried: str = ""
 
 
-def told_of(python: str) -> dict:
+def told_of(python: str) -> Dict[str, Any]:
     """What an interpreter tells of itself."""
     # (Python 2 has no -I, and ends with status 2)
     for words in (ALONE[3], ALONE[2]):
         try:
-            how = {"stdin": subprocess.DEVNULL, "capture_output": True, "text": True, "timeout": 60}
-            ran = subprocess.run([python, *words, "-c", ASK], **how)
+            ran = subprocess.run([python, *words, "-c", ASK], stdin=subprocess.DEVNULL, capture_output=True, text=True, timeout=60)
         except (OSError, subprocess.TimeoutExpired) as error:
             raise DeriveError(f"it can't be run ({error})") from error
         if ran.returncode == 0:
             break
     try:
-        return json.loads(ran.stdout)
+        told: Dict[str, Any] = json.loads(ran.stdout)
+        return told
     except ValueError as error:
         last = (ran.stderr.strip().splitlines() or ["it told nothing of itself"])[-1]
         raise DeriveError(f"it is no Python that runs ({last})") from error
@@ -140,7 +145,8 @@ def told_of(python: str) -> dict:
 def build_of(python: str) -> Build:
     """Asks an interpreter which build it is. An error says why no layout can describe it."""
     told = told_of(python)
-    version = tuple(told["version"])
+    major, minor, patch = told["version"]
+    version = (major, minor, patch)
     name = f"{told['implementation']} {told['build']}"
     if told["implementation"] != "CPython" or version[:2] not in VERSIONS or told["level"] != "final":
         raise DeriveError(f"it is {name}, and layouts are derived for CPython 2.7 and 3.6 to 3.13")
@@ -214,8 +220,8 @@ def fault_of(it: Field, answers: Sequence[Answers]) -> Optional[str]:
 
 def settled(plan: Plan, answers: Sequence[Answers]) -> Dict[str, int]:
     """The numbers that the sources tell. An error names each field that none does, or on which they differ."""
-    faults = {it.key: fault_of(it, answers) for it in plan.wanted}
-    faults = {key: why for key, why in faults.items() if why}
+    found = {it.key: fault_of(it, answers) for it in plan.wanted}
+    faults = {key: why for key, why in found.items() if why}
     if faults:
         raise DeriveError("\n".join(faults.values()), list(faults))
     extra = [it for it in plan.extra if fault_of(it, answers) is None]
@@ -320,6 +326,7 @@ def main() -> int:
     parser.add_argument("--tried", default="", help="what the head says was tried on cores (default: nothing)")
     parser.add_argument("--cc", default="cc", help="the C compiler, or '' to ask no headers (default: cc)")
     parser.add_argument("--gdb", default="gdb", help="the debugger, or '' to ask no debug information (default: gdb)")
+    parser.add_argument("--version", action="version", version=version_line(), help="the project's version, and its commit")
     words = parser.parse_args()
     try:
         how = How(words.cc, words.gdb, not words.without_dicts, words.tried)

@@ -5,7 +5,7 @@ families, such as `lasti = "units"`, are the version's, as the comments and name
 """
 
 from dataclasses import dataclass
-from typing import List, Optional, Tuple
+from typing import List, Optional, Sequence, Tuple
 
 Version = Tuple[int, int]
 """A version's major and minor."""
@@ -80,7 +80,10 @@ class Plan:
         return [field for group in self.groups for field in group.wanted]
 
 
-def group(name: str, struct: str, sized=(), plain=(), has_size=True, size=None, constants=()) -> Group:
+def group(
+    name: str, struct: str, sized: Sequence[Tuple[str, str, int]] = (), plain: Sequence[Tuple[str, str]] = (), has_size: bool = True,
+    size: Optional[Field] = None, constants: Sequence[Tuple[str, int]] = (),
+) -> Group:
     """A group of one struct: `sized` has (key, member, width), `plain` has (key, member)."""
     fields = [Field(f"{name}.{key}", struct, member, width) for key, member, width in sized]
     fields += [Field(f"{name}.{key}", struct, member) for key, member in plain]

@@ -88,7 +88,8 @@ def c_line(it: Field) -> str:
 
 def faults_of(said: str) -> Dict[int, str]:
     """The lines of probe.c at which a compiler's errors point, each with its first error."""
-    found, pending = {}, []
+    found: Dict[int, str] = {}
+    pending: List[int] = []
     for line in said.splitlines():
         pending += [int(number) for number in re.findall(r"from \S*probe\.c:(\d+)", line)]
         error = re.search(r"(?:fatal )?error: (.*)", line)
@@ -104,8 +105,8 @@ def compiled(folder: Path, compiler: Sequence[str], lines: Sequence[str]) -> Tup
     """Whether the compiler takes these lines of C, and what it says."""
     (folder / "probe.c").write_text("\n".join(lines) + "\n")
     command = [*compiler, "-w", "probe.c", "-o", "probe"]
-    how = {"stdin": subprocess.DEVNULL, "stdout": subprocess.PIPE, "stderr": subprocess.STDOUT}
-    ran = subprocess.run(command, cwd=folder, text=True, errors="replace", **how)
+    ran = subprocess.run(
+        command, cwd=folder, text=True, errors="replace", stdin=subprocess.DEVNULL, stdout=subprocess.PIPE, stderr=subprocess.STDOUT)
     return ran.returncode == 0, ran.stdout
 
 
@@ -168,8 +169,7 @@ def from_debug_information(fields: Sequence[Field], binary: str, gdb: str) -> An
         given = {**os.environ, "FIELDS": asked.name, "DEBUGINFOD_URLS": ""}
         command = [gdb, "-nx", "-batch", "-iex", "set auto-load off", "-x", str(script), binary]
         try:
-            how = {"stdin": subprocess.DEVNULL, "capture_output": True, "text": True, "errors": "replace"}
-            ran = subprocess.run(command, env=given, **how)
+            ran = subprocess.run(command, env=given, stdin=subprocess.DEVNULL, capture_output=True, text=True, errors="replace")
         except OSError as error:
             return answers.none(fields, f"no debugger {gdb} ({error.strerror})")
     keys = {it.key for it in fields}

@@ -48,4 +48,4 @@ help_text = codes "pysalvage CORE --layouts FILE [-n N] [-l].. [-j] [PATH=FILE].
     ++ codes "--version       the version of the program\n")))))))))
 
 abbrev pub program_version : List ℕ
-program_version = codes "pysalvage 1.0\n"
+program_version = codes "pysalvage 1.0.0\n"

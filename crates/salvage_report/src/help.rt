@@ -35,6 +35,6 @@ pub(crate) fn program_version(alloc: Global) -> Result<Vec<u8>, AllocError>
     ensures { IfOk result (λ text. text.items ≡ program_version) }
 {
     let mut text = Vec::new(alloc);
-    text.extend_from_slice(b"pysalvage 1.0\n")?;
+    text.extend_from_slice(b"pysalvage 1.0.0\n")?;
     Ok(text)
 }

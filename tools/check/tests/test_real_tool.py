@@ -1,0 +1,86 @@
+#!/usr/bin/env python3
+"""That real_tool.py notices a tool that shows other stacks than the program told: the right tool passes, and one that drops,
+adds or moves a frame, a thread or a stack doesn't.
+"""
+
+import os
+import tempfile
+import unittest
+from pathlib import Path
+from unittest import mock
+
+from rooms import TOOLS  # (first: it makes the other rooms known)
+
+import real_tool
+import stand_ins
+from child_cores import Failure
+from pystacks_tool.places import LAYOUTS
+from made import core_file
+from real_tool import Shown, check_tool, stacks_in
+from stand_ins import frame, local, thread
+
+ROWS = [local("n", "12", True), local("s", None)]
+
+THREADS = [
+    thread(1, [frame("f", "größer als \"das\".py", 5), frame("<lambda>"), frame("g", line=0, rows=ROWS),
+               frame("<module>", line=3)], gil=True),
+    *[thread(number, [frame("wait", "t.py", 12), frame("run", "t.py", 3)]) for number in range(2, 12)], thread(12)]
+
+TAMPERED = """\
+import re, subprocess, sys
+ran = subprocess.run([sys.executable, "-B", {tool!r}, *sys.argv[1:]], stdout=subprocess.PIPE, text=True)
+page = next((it[7:] for it in sys.argv if it.startswith("--html=")), None)
+text = ran.stdout
+if {form!r} == "page" and page:
+    text = open(page).read()
+if {form!r} in ("page" if page else "", "json" if "--json" in sys.argv else "", "collapsed" if "--collapsed" in sys.argv else "",
+        "values" if "-l" in sys.argv and "--json" in sys.argv else "",
+        "all" if "--all" in sys.argv else "", "text" if len([it for it in sys.argv if it.startswith("--")]) == 2 else ""):
+    new = re.sub({old!r}, {new!r}, text, count=1, flags=re.DOTALL)
+    assert new != text
+    text = new
+if {form!r} == "page" and page:
+    open(page, "w").write(text)
+    text = ""
+sys.stdout.write(text)
+sys.exit(ran.returncode)
+"""
+"""A tool of which one form is changed in one place."""
+
+
+class Compared(unittest.TestCase):
+    """The right tool and wrong ones."""
+
+    def setUp(self):
+        folder = tempfile.TemporaryDirectory(prefix="real-tool-")
+        self.addCleanup(folder.cleanup)
+        self.folder = Path(os.path.realpath(folder.name))
+        self.core = self.folder / "core"
+        self.core.write_bytes(core_file([]))
+        self.program = stand_ins.program(self.folder / "pystacks", stand_ins.dump_json(THREADS), stand_ins.text_of(THREADS))
+
+    def test_right(self):
+        check_tool(self.program, self.core, LAYOUTS, [])
+
+    def test_wrong(self):
+        tool = self.folder / "tool.py"
+        for form, old, new in (
+            ("all", r"    <lambda> \(a.py:1\)\n", ""), ("all", r"(    g \(a.py\)\n)", r"\1\1"), ("all", r"(    f [^\n]*\n)(    <lambda>[^\n]*\n)", r"\2\1"),
+            ("all", r"a.py:1\)", "a.py:2)"), ("all", r"Thread 0xC\n", ""), ("text", "10 threads", "9 threads"), ("text", r"    run \(t.py:3\)\n", ""),
+            ("json", '"name": "g"', '"name": "h"'), ("json", '"line": 12', '"line": 13'), ("collapsed", " 10\n", " 9\n"), ("collapsed", "<module> ", "module "),
+            ("values", '"12"', '"13"'), ("values", '"name": "s"', '"name": "t"'),
+            ("values", r'("name": "s",\s*"repr": )null', r'\1"0"'),
+            ("page", r"<li>wait[^\n]*\n", ""), ("page", r"(<li>f [^\n]*\n)(<li>[^\n]*\n)", r"\2\1"),
+        ):
+            tool.write_text(TAMPERED.format(tool=str(TOOLS / "dump_core.py"), form=form, old=old, new=new), encoding="utf-8")
+            with mock.patch.object(real_tool, "TOOL", tool), self.assertRaises(Failure, msg=(form, old)) as caught:
+                check_tool(self.program, self.core, LAYOUTS, [])
+            self.assertNotIn("ended with status", str(caught.exception))
+
+    def test_stacks_in(self):
+        text = "Python v3.9.0\n\nThread 1\n    a\\u{22} (b.py:1)\n        > x\n        Locals:\n            y: 1\n    ... 3 more frames\n    c (d.py)\n2 threads: x, y\n"
+        self.assertEqual(stacks_in(text), [Shown("Thread 1", 1, ['a" (b.py:1)', "c (d.py)"]), Shown("2 threads: x, y", 2)])
+
+
+if __name__ == "__main__":
+    unittest.main(verbosity=0)

@@ -1,0 +1,460 @@
+#!/usr/bin/env python3
+"""What dump_core.py shows and says, over cores made by hand and programs that stand in for the built ones."""
+
+import json
+import os
+import pty
+import re
+import shutil
+import subprocess
+import sys
+import tempfile
+import unittest
+from pathlib import Path
+
+from rooms import ROOT, TOOLS  # (first: it makes the other rooms known)
+
+import stand_ins
+from pystacks_tool.ask.advice import NEXT, next_of
+from pystacks_tool.cores.progress import Progress
+from made import AARCH64, Segment, core_file, elf_file
+from stand_ins import frame, interpreter, local, salvage, thread
+
+TOOL = TOOLS / "dump_core.py"
+
+POOL = [thread(number, [frame("wait", "pool.py", 12), frame("run", "pool.py", 3)], 100 + number) for number in range(10)]
+CRASHED = thread(0x7F00, [frame("boom", "a.py", 5), frame("<module>", "a.py", 9)], 99, True, True)
+
+SLOW = b"""\
+import os, time
+own = os.pread
+
+def pread(*words):
+    time.sleep(0.3)
+    return own(*words)
+
+os.pread = pread
+"""
+"""What makes the reading of files slow."""
+
+HEAD = "Signal 11 (SIGSEGV): {core}\nProcess 4711: python3 a.py\nPython v3.11.7\n\n"
+
+
+class Case(unittest.TestCase):
+    """A folder with a core and programs."""
+
+    def setUp(self):
+        folder = tempfile.TemporaryDirectory(prefix="tool-")
+        self.addCleanup(folder.cleanup)
+        self.folder = Path(os.path.realpath(folder.name))
+        self.core = self.put("core", core_file([]))
+        self.program = self.folder / "pystacks"
+
+    def put(self, name, data):
+        """Writes a file, and returns its path."""
+        path = self.folder / name
+        path.parent.mkdir(parents=True, exist_ok=True)
+        path.write_bytes(data)
+        return path
+
+    def programs(self, tree=None, threads=None, names=None, **more):
+        """Puts the programs: `pysalvage`, if a tree is handed in, and `pystacks`."""
+        if tree is not None:
+            stand_ins.program(self.folder / "pysalvage", json.dumps(tree), **more)
+            more = {}
+        threads = threads if threads is not None else [it for one in (tree or {"interpreters": []})["interpreters"] for it in one["threads"]]
+        stand_ins.program(self.program, stand_ins.dump_json(threads, names), stand_ins.text_of(threads, names=names), **more)
+
+    def tool(self, *words, core=None, environment=None):
+        """What the tool comes to."""
+        command = [sys.executable, "-B", str(TOOL), f"--program={self.program}", *([] if core == () else core or [self.core]), *words]
+        streams = {"stdin": subprocess.DEVNULL, "stdout": subprocess.PIPE, "stderr": subprocess.PIPE}
+        ran = subprocess.run([str(it) for it in command], timeout=60, env=environment, **streams)
+        return ran.returncode, ran.stdout.decode("utf-8"), ran.stderr.decode("utf-8")
+
+
+class Kinds(Case):
+    """What a file is that is no core."""
+
+    def test_lines(self):
+        whole = core_file([])
+        narrow = whole[:4] + b"\1" + whole[5:18] + b"\x03\0" + whole[20:]
+        big = whole[:5] + b"\2" + whole[6:16] + b"\0\4\0\x15" + whole[20:]
+        for data, line, then in (
+            (b"", "is empty", "ulimit -c"), (b"text", "is no ELF file, and so no core", "`file`"), (b"\x7fELF\2\1", "ends within its first 20 bytes", "anew"),
+            (narrow, "is a core of a 32-bit machine, i386: only 64-bit processes are read", "gdb PROGRAM CORE"),
+            (big, "is a core of a big-endian machine, ppc64: only little-endian ones are read", "gdb PROGRAM CORE"),
+            (elf_file(2, []), "is a program for x86_64, and no core", "core_pattern"),
+            (elf_file(3, [], AARCH64), "is a program or a library for aarch64, and no core", "core_pattern"),
+            (elf_file(1, []), "is an object file for x86_64, and no core", "core_pattern"),
+        ):
+            self.programs(threads=[])
+            path = self.put("odd", data)
+            status, out, said = self.tool(core=[path])
+            lines = said.splitlines()
+            self.assertEqual((status, out, lines[:1], len(lines)), (1, "", [f"dump_core: {path} {line}"], 2), said)
+            self.assertTrue(lines[1].startswith("dump_core: next: ") and then in lines[1], said)
+
+    def test_other_machine(self):
+        self.programs(threads=[])
+        path = self.put("odd", core_file([], machine=22))
+        status, _, said = self.tool(core=[path])
+        line = "dump_core: layouts/ has none of the core's machine, s390x: name a file by --layouts"
+        self.assertEqual((status, said.splitlines()[0]), (2, line))
+        self.assertEqual(self.tool("--layouts=my.toml", core=[path])[0], 0)
+
+    def test_slim(self):
+        # (a slim core has no type)
+        self.programs(threads=[])
+        whole = core_file([])
+        self.assertEqual(self.tool(core=[self.put("slim", whole[:16] + b"\0\0" + whole[18:])])[0], 0)
+
+    def test_program_own(self):
+        # (a file that can't be read, and one of --plain, are the program's to refuse)
+        self.programs(threads=[], status=3, said=b"pystacks: cannot read it\n")
+        line, then = "pystacks: cannot read it\n", "dump_core: next: see by `ls -l` who may read it\n"
+        for words, core, more in (((), [self.folder / "none"], then), (("--plain",), [self.put("odd", b"text")], "")):
+            self.assertEqual(self.tool(*words, core=core), (3, "", line + more))
+
+
+class Shown(Case):
+    """What is shown of a core."""
+
+    def test_salvaged(self):
+        broken = thread(1, [frame("g")], end={"kind": "unreadable", "address": "0x20008", "length": 8}, met=1)
+        self.programs(salvage(interpreter([CRASHED, broken]), interpreter([thread(2)], 0x20000, True)), names={1: "one"})
+        wanted = HEAD.format(core=self.core) + (
+            'Interpreter 0x10000\nThread 99 (gil) (crashed)\n    boom (a.py:5)\n    <module> (a.py:9)\nThread 0x1: "one"\n    g (a.py:1)\n'
+            "    ... unreadable at 0x20008, 8 bytes\nInterpreter 0x20000 (found by search)\nThread 0x2\n")
+        self.assertEqual(self.tool(), (0, wanted, ""))
+
+    def test_ends(self):
+        read = {"kind": "unreadable", "address": "0x10200", "length": 48}
+        members = [{"address": "0x1", "why": read}, {"address": "0x1", "why": {"kind": "no text"}},
+                   {"address": "0x1", "why": {"kind": "too long", "length": -3}}]
+        members += [frame("f", fault=it) for it in ({"kind": "bad"}, {"kind": "too many", "count": 70000}, read)]
+        cut = thread(1, members, last=[frame("h")], between=3, end={"kind": "cut"}, met=16384)
+        stray = thread(2, [], end={"kind": "stray", "interpreter": "0x30000"}, met=0)
+        lock, end = {**read, "length": 8}, {"kind": "stray", "interpreter": "0x30000"}
+        self.programs(salvage(interpreter([cut, stray], lock=lock, end=end), more=True, signal=None, arguments=None), threads=[])
+        self.assertEqual(self.tool()[1].splitlines(), [
+            "Python v3.11.7", "", "... lock unreadable at 0x10200, 8 bytes", "... threads of the interpreter at 0x30000", "Thread 0x1",
+            "    ? unreadable at 0x10200, 48 bytes", "    ? a name that is no text", "    ? a name that is too long",
+            "    f (a.py:1)", "        ... locals with a bad name or count", "    f (a.py:1)", "        ... locals more than 65535",
+            "    f (a.py:1)", "        ... locals unreadable at 0x10200, 48 bytes", "    ... 3 more frames", "    h (a.py:1)",
+            "    ... cut after 16384 members", "Thread 0x2", "    ... of the interpreter at 0x30000", "... more than 16 interpreters"])
+        for end, line in ((read, "... threads unreadable at 0x10200, 48 bytes"), ({"kind": "cut"}, "... more than 4096 threads")):
+            self.programs(salvage(interpreter([], end=end)), threads=[])
+            self.assertIn(line, self.tool()[1].splitlines())
+
+    def test_by_dump(self):
+        self.programs(threads=[CRASHED, *POOL[:2]], names={0x7F00: "Main"})
+        wanted = "".join(f"Thread {it['os_thread_id']}\n    wait (pool.py:12)\n    run (pool.py:3)\n" for it in POOL[:2])
+        head = "Signal 11 (SIGSEGV): core\nProcess 4711: python3 a.py\nPython v3.11.7\n\n"
+        status, out, said = self.tool()
+        self.assertEqual((status, said), (0, ""))
+        self.assertEqual(out.split("\n", 1)[1], head.split("\n", 1)[1] + 'Thread 99 (gil): "Main"\n    boom (a.py:5)\n    <module> (a.py:9)\n' + wanted)
+
+    def test_arguments_forge_no_version(self):
+        # (the text of `dump` has them as they are)
+        head = "Signal 11: core\nProcess 4711: x\nPython v9.9\n\nThread 0x1 (gil)\n"
+        threads = [thread(7, [frame("f\nPython v8.8\n\n")])]
+        stand_ins.program(self.program, stand_ins.dump_json(threads), stand_ins.text_of(threads, head))
+        wanted = ("Process 4711: x\\u{a}Python v9.9\\u{a}\\u{a}Thread 0x1 (gil)\nPython v3.11.7\n\n"
+                  "Thread 0x7\n    f\\u{a}Python v8.8\\u{a}\\u{a} (a.py:1)\n")
+        self.assertEqual(self.tool()[1].split("\n", 1)[1], wanted)
+
+    def test_nobody_holds_the_lock(self):
+        # (`dump` marks a thread of the id 0 then)
+        nobody, other = (thread(number, [frame("f")]) for number in (0, 7))
+        self.programs(threads=[{**nobody, "gil": True}, other])
+        self.assertEqual(self.tool()[1].split("\n\n")[1], "Thread 0x0\n    f (a.py:1)\nThread 0x7\n    f (a.py:1)\n")
+        self.assertEqual(self.tool("--json")[1].count('"gil": false'), 2)
+
+    def test_plain(self):
+        self.programs(salvage(interpreter([CRASHED])))
+        self.assertEqual(self.tool("--plain"), (0, stand_ins.text_of([CRASHED]), ""))
+        self.assertEqual(self.tool("--plain", "-j"), (0, stand_ins.dump_json([CRASHED]), ""))
+
+    def test_refused(self):
+        self.programs(salvage(), status=1, said=b"pysalvage: no interpreter found: 7 addresses looked at\n")
+        status, out, said = self.tool()
+        self.assertEqual((status, out, said.count("\n")), (1, "", 2))
+        wanted = f"pysalvage: no interpreter found: 7 addresses looked at\ndump_core: next: {ROOT}/docs/MESSAGES.md has"
+        self.assertTrue(said.startswith(wanted), said)
+        self.assertEqual(self.tool("--collapsed"), (status, out, said))
+
+    def test_next(self):
+        # (each step has a line of either program, and the rest of it, as a path, chooses none)
+        for front, then in NEXT.items():
+            for name in ("pystacks", "pysalvage"):
+                self.assertEqual(next_of(f"{name}: {front} of\n"), then)
+        for line in ("", "image not given: /a", "x: bad note", "pystacks: image not given: bad note", "pystacks: x"):
+            self.assertEqual(next_of(f"{line}\n"), "")
+
+    def test_a_path_forges_no_line(self):
+        self.programs(threads=[], status=1, said=b"pystacks: image not given: /a\nThread 1\x1b[2J\xff\n")
+        self.assertEqual(self.tool(), (1, "", "pystacks: image not given: /a\\u{a}Thread 1\\u{1b}[2J\\xff\n"))
+
+    def test_no_names(self):
+        # (where `dump` refuses a broken process there are no names)
+        stand_ins.program(self.folder / "pysalvage", json.dumps(salvage(interpreter([CRASHED]))))
+        stand_ins.program(self.program, status=1, said=b"pystacks: no interpreter found\n")
+        status, out, said = self.tool()
+        self.assertEqual((status, said, "Thread 99 (gil) (crashed)\n" in out), (0, "", True))
+
+    def test_other_json(self):
+        for tree in ({}, {"interpreters": [{}]}, [], salvage(interpreter([thread(1, end={"kind": "new"})]))):
+            self.programs(tree, threads=[])
+            status, out, said = self.tool()
+            self.assertEqual((status, out, said.count("\n")), (127, "", 2), said)
+            self.assertTrue(said.startswith("dump_core: the program wrote what isn't read here: "), said)
+
+    def test_locals(self):
+        rows = [local("n", "float 0x3ff8000000000000", True), local("s", '"a\u2028"')]
+        self.programs(salvage(interpreter([thread(1, [frame("f", rows=rows)])])))
+        wanted = '        Arguments:\n            n: 1.5 (float 0x3ff8000000000000)\n        Locals:\n            s: "a\\u{2028}"\n'
+        self.assertTrue(self.tool("-l")[1].endswith(wanted))
+
+    def test_values_of_dump(self):
+        # (`pysalvage` tells no values: they are those that `dump` has of the same names and addresses)
+        told = thread(1, [frame("f", rows=[local("n", "12", True), local("s", '"a"'), local("gone", None)])])
+        elsewhere = {**local("n", None), "address": "0x2000"}
+        rows = [local("n", None, True), local("s", '"own"'), local("gone", None), elsewhere]
+        bare = thread(1, [frame("f", rows=rows)])
+        stand_ins.program(self.folder / "pysalvage", json.dumps(salvage(interpreter([bare]))))
+        for status, value in ((0, "12"), (1, None)):
+            stand_ins.program(self.program, stand_ins.dump_json([told]), status=status)
+            lines = [f"    n: {value or '?'}", "Locals:", '    s: "own"', "    gone: ?", "    n: ?"]
+            self.assertEqual([it[8:] for it in self.tool("-l")[1].splitlines()[-5:]], lines)
+            tree = json.loads(self.tool("-l", "--json")[1])["interpreters"][0]["threads"][0]
+            rows = tree["frames"]["first"][0]["locals"]
+            self.assertEqual([it["repr"] for it in rows], [value, '"own"', None, None])
+
+    def test_sources(self):
+        path = self.put("srv/a.py", b"one\n  two\n")
+        os.utime(path, (0, 0))
+        self.programs(salvage(interpreter([thread(1, [frame("f", str(path), 2), frame("g", "/srv/a.py", 1)])])))
+        self.assertNotIn("two", self.tool()[1])
+        self.assertIn(f"    f ({path}:2)\n        > two\n    g (/srv/a.py:1)\n", self.tool("--source")[1])
+        self.assertIn("    g (/srv/a.py:1)\n        > one\n", self.tool("--source", "--root", self.folder)[1])
+        self.assertIn("    g (/srv/a.py:1)\n        > one\n", self.tool("--source", self.folder)[1])
+
+    def test_json(self):
+        self.programs(salvage(interpreter([CRASHED])), names={0x7F00: "ä\n\""})
+        tree = json.loads(self.tool("--json")[1])
+        self.assertEqual(tree["interpreters"][0]["threads"][0].pop("thread_name"), "ä\n\"")
+        self.assertEqual(tree, salvage(interpreter([CRASHED])))
+
+    def test_json_by_dump(self):
+        self.programs(threads=[CRASHED, POOL[0]], names={0x7F00: "Main"})
+        tree = json.loads(self.tool("--json")[1])
+        wanted = salvage(interpreter([CRASHED, POOL[0]]))
+        self.assertEqual(set(tree), set(wanted))
+        rows = tree["interpreters"][0]["threads"]
+        self.assertEqual([it["thread_name"] for it in rows], ["Main", None])
+        self.assertEqual([it["frames"]["first"] for it in rows], [it["frames"]["first"] for it in (CRASHED, POOL[0])])
+        self.assertEqual((tree["signal"], tree["process"], tree["version"]), (11, {"arguments": "python3 a.py", "pid": 4711}, "3.11.7"))
+
+    def test_many(self):
+        self.programs(salvage(interpreter([CRASHED, *POOL])), names={it["thread_id"]: f"pool-{it['thread_id']}" for it in POOL})
+        out = self.tool()[1]
+        self.assertIn("11 threads\n    99 (gil) (crashed): boom (a.py:5)\n    100 \"pool-0\": wait (pool.py:12)\n", out)
+        self.assertIn("10 threads: pool-0, pool-1 and 8 more\n    wait (pool.py:12)\n", out)
+        self.assertEqual(self.tool("--all")[1].count("Thread 10"), 10)
+
+    def test_collapsed(self):
+        self.programs(salvage(interpreter([CRASHED, *POOL])))
+        lines = "<module> (a.py:9);boom (a.py:5) 1\nrun (pool.py:3);wait (pool.py:12) 10\n"
+        self.assertEqual(self.tool("--collapsed"), (0, lines, ""))
+
+    def test_page(self):
+        self.programs(salvage(interpreter([CRASHED, *POOL])), names={0x7F00: "<script>"})
+        page = self.folder / "page.html"
+        for _ in range(2):
+            # (an earlier page is written over)
+            self.assertEqual(self.tool(f"--html={page}"), (0, "", f"dump_core: the page is in {page}\n"))
+        text = page.read_text(encoding="utf-8")
+        self.assertEqual((text.count("<script>"), text.count("&lt;script&gt;") > 1, text.count("10 threads: ")), (1, True, 1))
+        before = self.core.read_bytes()
+        status, out, said = self.tool(f"--html={self.core}")
+        self.assertEqual((status, out, said.splitlines()[0]), (2, "", f"dump_core: {self.core} is no page, and isn't written over"))
+        self.assertEqual(self.core.read_bytes(), before)
+        status, out, said = self.tool(f"--html={self.folder}/none/page.html")
+        self.assertEqual((status, out, said.splitlines()[0]), (4, "", f"dump_core: cannot write {self.folder}/none/page.html: No such file or directory"))
+
+    def test_closed_pipe(self):
+        self.programs(salvage(interpreter([thread(1, [frame("f" * 1000)] * 1000)])))
+        command = f"{sys.executable} -B {TOOL} --program={self.program} {self.core} | true; exit ${{PIPESTATUS[0]}}"
+        ran = subprocess.run(["bash", "-c", command], stdin=subprocess.DEVNULL, stdout=subprocess.PIPE, stderr=subprocess.PIPE)
+        lines = ran.stderr.decode().splitlines()
+        self.assertEqual((ran.returncode, lines[0], len(lines)), (4, "dump_core: cannot write the text: Broken pipe", 2))
+
+
+class Groups(Case):
+    """Several cores in groups."""
+
+    def test_stacks(self):
+        more = [self.put(f"core{number}", core_file([])) for number in range(2)]
+        text = f"Group 1: 2\n    {self.core}\n    {more[0]}\nRefused: 1\n    {more[1]}: bad note\n"
+        self.programs(salvage(interpreter([CRASHED, *POOL])), triage=text)
+        stand_ins.program(self.program, stand_ins.dump_json([CRASHED, *POOL]), stand_ins.text_of([CRASHED, *POOL]), text)
+        stacks = "Thread 99 (gil) (crashed)\n    boom (a.py:5)\n    <module> (a.py:9)\n10 threads: 100, 101 and 8 more\n    wait (pool.py:12)\n    run (pool.py:3)\n"
+        head, rest = text.split("Refused")
+        shown = head + "".join(f"        {line}\n" for line in stacks.splitlines()) + "Refused" + rest
+        self.assertEqual(self.tool("--group", core=[self.core, *more]), (0, shown, ""))
+        self.assertEqual(self.tool("--group", "--plain", core=[self.core, *more]), (0, text, ""))
+
+    def test_page(self):
+        text = f"Group 1: 1\n    {self.core}\nRefused: 1\n    {self.program}: <script>\n"
+        self.programs(salvage(interpreter([CRASHED, *POOL])))
+        stand_ins.program(self.program, stand_ins.dump_json([CRASHED, *POOL]), stand_ins.text_of([CRASHED, *POOL]), text)
+        page = self.folder / "page.html"
+        self.assertEqual(self.tool("--group", f"--html={page}", core=[self.core, self.program])[:2], (0, ""))
+        shown = page.read_text(encoding="utf-8")
+        self.assertEqual([shown.count(it) for it in ("<h2>Group 1: 1</h2>", "10 threads: ", "Refused: 1", "<script>")], [1, 1, 1, 1])
+
+    def test_refused(self):
+        self.programs(threads=[], status=5, said=b"pystacks: out of memory\n")
+        status, out, said = self.tool("--group")
+        self.assertEqual((status, out, said.count("\n")), (5, "", 2))
+        self.assertTrue(said.startswith("pystacks: out of memory\ndump_core: next: read it where"), said)
+        self.assertEqual(self.tool("--group", "--plain"), (5, "", "pystacks: out of memory\n"))
+
+    def test_a_cause_forges_no_group(self):
+        one, two = self.put("one", core_file([])), self.put("two", core_file([]))
+        causes = f"    {one}: bad image: /x\nGroup 2: 7\n    /none\x1b[2J\n    {two}: bad note\n"
+        self.programs(threads=[CRASHED])
+        for front in ("", f"Group 1: 1\n    {self.core}\n"):
+            text = f"{front}Refused: 2\n{causes}"
+            stand_ins.program(self.program, stand_ins.dump_json([CRASHED]), stand_ins.text_of([CRASHED]), text)
+            status, out, said = self.tool("--group", core=[self.core, one, two])
+            self.assertEqual((status, said), (0, ""))
+            wanted = ["Refused: 2", f"    {one}: bad image: /x\\u{{a}}Group 2: 7\\u{{a}}    /none\\u{{1b}}[2J", f"    {two}: bad note"]
+            self.assertEqual(out.splitlines()[-3:], wanted)
+            self.assertEqual(out.count("Group 1: 1\n"), bool(front))
+
+    def test_names(self):
+        self.programs(threads=[])
+        status, out, said = self.tool("--group", core=[self.put("a\nb", core_file([]))])
+        self.assertEqual((status, out, said.count("\n")), (2, "", 2))
+
+
+class Words(Case):
+    """The words, the help and the version."""
+
+    def test_help(self):
+        status, out, _ = self.tool("--help", core=())
+        self.assertEqual((status, out.count("tools/dump_core.py core")), (0, 3), out)
+        self.assertIn("pysalvage", out)
+
+    def test_version(self):
+        status, out, said = self.tool("--version", core=())
+        self.assertEqual((status, said), (0, ""))
+        lines = out.splitlines()
+        self.assertTrue(re.fullmatch(r"pystacks [0-9.]+( \([0-9a-f]{12}\))?", lines[0]), lines)
+        self.assertIn("layouts for x86_64: CPython 2.7, 3.6, 3.7, 3.8, 3.9, 3.10, 3.11, 3.12, 3.13", lines)
+        self.assertIn("layouts for aarch64: CPython 3.7, 3.8, 3.9, 3.10, 3.11, 3.12, 3.13", lines)
+        self.assertTrue(any(it.startswith("pystacks: ") for it in lines) and any(it.startswith("pysalvage: ") for it in lines))
+
+    def test_clashes(self):
+        self.programs(threads=[])
+        for words, core in (
+            (["--json", "--html=x"], None), (["--plain", "--collapsed"], None), (["-l", "--collapsed"], None), ([], [self.core, self.core]),
+            ([], ()), (["--group", "-l"], None), (["--group", "--maps=x"], None), (["--none"], None), (["--collapsed", "--keep=x"], [self.core, self.core]),
+        ):
+            status, out, said = self.tool(*words, core=core)
+            self.assertEqual((status, out, "Traceback" in said), (2, "", False), words)
+        self.assertIn("so name it behind the core", self.tool("--source", self.core, core=())[2])
+
+    def test_no_salvage(self):
+        self.programs(threads=[])
+        status, out, said = self.tool("--salvage", self.folder / "none")
+        self.assertEqual((status, out, said.splitlines()[0]), (127, "", f"dump_core: there is no program {self.folder / 'none'}"))
+
+    def test_folders(self):
+        self.programs(threads=[])
+        for option in ("--root", "--source"):
+            status, out, said = self.tool(option, self.folder / "none")
+            self.assertEqual((status, out, said.splitlines()[0]), (2, "", f"dump_core: there is no folder {self.folder / 'none'}"))
+
+    def test_by_package(self):
+        self.programs(salvage(interpreter([CRASHED])))
+        command = [sys.executable, "-B", "-m", "pystacks_tool", "--program", self.folder / "pystacks", self.core]
+        ran = subprocess.run(command, cwd=TOOLS, stdin=subprocess.DEVNULL, stdout=subprocess.PIPE, stderr=subprocess.PIPE, text=True)
+        self.assertEqual((ran.returncode, ran.stdout, ran.stderr), self.tool())
+
+    def test_alone(self):
+        # (the tool without a module says which one is missing)
+        alone = self.folder / "alone" / "dump_core.py"
+        alone.parent.mkdir()
+        shutil.copy(TOOL, alone)
+        ran = subprocess.run([sys.executable, "-B", alone, "core"], stdin=subprocess.DEVNULL, stdout=subprocess.PIPE, stderr=subprocess.PIPE, text=True)
+        lines = ran.stderr.splitlines()
+        self.assertEqual((ran.returncode, ran.stdout, len(lines)), (127, "", 2), ran.stderr)
+        self.assertEqual(lines[0], "dump_core: pystacks_tool isn't beside dump_core.py: it needs the other files of its folder")
+        shutil.copytree(TOOLS / "pystacks_tool", alone.parent / "pystacks_tool", ignore=shutil.ignore_patterns("maps.py", "__pycache__"))
+        ran = subprocess.run([sys.executable, "-B", alone, "core"], stdin=subprocess.DEVNULL, stdout=subprocess.PIPE, stderr=subprocess.PIPE, text=True)
+        self.assertIn("pystacks_tool/cores/maps.py isn't beside", ran.stderr)
+        self.assertNotIn("Traceback", ran.stderr)
+
+
+class Terminal(Case):
+    """What a terminal gets."""
+
+    def on_terminal(self, *words, environment=None, size=None):
+        """What the tool writes on a terminal."""
+        if size is not None:
+            os.truncate(self.core, size)
+        command = [sys.executable, "-B", str(TOOL), f"--program={self.program}", str(self.core), *words]
+        end, own = pty.openpty()
+        environment = {"PATH": os.environ["PATH"], "TERM": "xterm", **(environment or {})}
+        process = subprocess.Popen(command, stdin=subprocess.DEVNULL, stdout=own, stderr=own, env=environment)
+        os.close(own)
+        parts = []
+        while True:
+            try:
+                data = os.read(end, 1 << 16)
+            except OSError:
+                data = b""
+            if not data:
+                break
+            parts.append(data)
+        os.close(end)
+        process.wait()
+        return b"".join(parts).decode("utf-8").replace("\r\n", "\n")
+
+    def test_colours(self):
+        self.programs(salvage(interpreter([CRASHED])))
+        self.assertIn("\x1b[1;31m(crashed)\x1b[0m", self.on_terminal())
+        for environment in ({"NO_COLOR": "1"}, {"TERM": "dumb"}):
+            self.assertNotIn("\x1b", self.on_terminal(environment=environment))
+        self.assertIn("\x1b", self.on_terminal(environment={"NO_COLOR": ""}))
+        self.assertNotIn("\x1b", self.tool()[1])
+
+    def test_progress(self):
+        self.programs(salvage(interpreter([CRASHED])))
+        self.assertNotIn("preparing", self.on_terminal())
+        for size, parts, lines in (
+            (500_000_000, (1_500_000, 1), ["preparing: 2 MB read"]), (499_999_999, (1_500_000, 1), []),
+            (1_000_000, (499_000_000, 1_000_000, 1), ["preparing: 500 MB read"]),
+        ):
+            said = []
+            shown = Progress(size)
+            shown.write, shown.last = said.append, 0.0
+            for part in parts:
+                shown.add(part)
+            self.assertEqual(said, lines)
+
+    def test_progress_of_a_large_core(self):
+        # (a core of 600 MB, of which all but the front are holes, and a gzip of it on top would take long: the line is shown
+        # where bytes are read for longer than a moment)
+        self.programs(salvage(interpreter([CRASHED])))
+        data = core_file([Segment(0x100000, b"x" * (1 << 20), 6)])
+        self.core.write_bytes(data)
+        slow = self.put("slow/sitecustomize.py", SLOW).parent
+        self.assertIn("dump_core: preparing: ", self.on_terminal("--anyway", environment={"PYTHONPATH": str(slow)}, size=600_000_000))
+
+
+if __name__ == "__main__":
+    unittest.main(verbosity=0)

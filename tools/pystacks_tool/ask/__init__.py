@@ -1,0 +1,1 @@
+"""Running the programs over a core, and reading what they write into the model."""

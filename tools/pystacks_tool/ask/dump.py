@@ -1,0 +1,109 @@
+"""What `pystacks dump` told of a core: its threads by the JSON, and the head of its text."""
+
+import json
+import re
+from typing import Any, Dict, List, Optional
+
+from pystacks_tool.model import Frame, Interpreter, Local, Report, Thread
+
+HEAD = re.compile(
+    r"(?:Signal (?P<signal>-?[0-9]+): [^\n]*\n)?(?:Process (?P<pid>-?[0-9]+): (?P<arguments>.*)\n)?Python v(?P<version>[^\n]*)\n\n",
+    re.DOTALL)
+"""The lines before the threads, of which the last is that of the version: the arguments may have any."""
+
+
+Tree = Dict[str, Any]
+"""JSON as a program wrote it."""
+
+
+class Unexpected(Exception):
+    """Why what a program wrote isn't taken."""
+
+
+def local_of(tree: Tree) -> Local:
+    """A local."""
+    return Local(tree["name"], tree["repr"], tree["arg"])
+
+
+def frame_of(tree: Tree) -> Frame:
+    """A frame."""
+    rows = tree["locals"]
+    shown = None if rows is None else tuple(local_of(it) for it in rows)
+    return Frame(tree["name"], tree["filename"], tree["line"], shown)
+
+
+def is_holder(tree: Tree) -> bool:
+    """Whether a thread held the lock. One of the id 0, which no thread has, is marked by `dump` where nobody held it."""
+    return bool(tree["owns_gil"]) and tree["thread_id"] != 0
+
+
+def thread_of(tree: Tree) -> Thread:
+    """A thread."""
+    frames = tuple(frame_of(it) for it in tree["frames"])
+    return Thread(tree["thread_id"], frames, tree["os_thread_id"], tree["thread_name"], is_holder(tree))
+
+
+def text_of(tree: Tree) -> str:
+    """A thread in the program's text without locals, which has names as they are."""
+    native, name = tree["os_thread_id"], tree["thread_name"]
+    label = f"0x{tree['thread_id']:X}" if native is None else native
+    lines = [f"Thread {label}{' (gil)' * tree['owns_gil']}" + ("" if name is None else f': "{name}"')]
+    for it in tree["frames"]:
+        line = f":{it['line']}" if it["line"] else ""
+        lines.append(f"    {it['name']} ({it['filename']}{line})")
+    return "".join(f"{line}\n" for line in lines)
+
+
+def number_of(text: Optional[str]) -> Optional[int]:
+    """A number that may be missing."""
+    return None if text is None else int(text)
+
+
+def report_by_dump(tree: str, text: str, word: str, core: str) -> Report:
+    """The report by the JSON and the text of one core, for which the program had this word. The text's threads stand in
+    the reverse of the JSON's order, and so they do here; its head is what stands before them."""
+    try:
+        trees = list(reversed(json.loads(tree)))
+        threads, rest = tuple(thread_of(it) for it in trees), "".join(text_of(it) for it in trees)
+    except (ValueError, KeyError, TypeError) as error:
+        raise Unexpected(f"its JSON: {error!r}") from None
+    front = text[: len(text) - len(rest)].replace(f": {word}\n", ": \n", 1)
+    head = HEAD.fullmatch(front) if text.endswith(rest) else None
+    if not head:
+        raise Unexpected("the head of its text")
+    pid = number_of(head["pid"])
+    process = None if pid is None else (pid, head["arguments"])
+    return Report((Interpreter(threads),), head["version"], number_of(head["signal"]), process, core=core)
+
+
+# ---- as `pysalvage` has it
+
+
+def local_tree(tree: Tree) -> Tree:
+    """A local."""
+    return {"address": hex(tree["addr"]), "arg": tree["arg"], "name": tree["name"], "repr": tree["repr"]}
+
+
+def member_tree(tree: Tree) -> Tree:
+    """A frame."""
+    rows = tree["locals"]
+    shown = None if rows is None else [local_tree(it) for it in rows]
+    return {"filename": tree["filename"], "line": tree["line"], "locals": shown, "locals_fault": None, "name": tree["name"]}
+
+
+def thread_tree(tree: Tree) -> Tree:
+    """A thread. Which one got the signal isn't told."""
+    members = [member_tree(it) for it in tree["frames"]]
+    frames = {"between": 0, "end": {"kind": "whole"}, "first": members, "last": [], "met": None}
+    return {
+        "address": None, "crashed": None, "frames": frames, "gil": is_holder(tree), "os_thread_id": tree["os_thread_id"],
+        "thread_id": tree["thread_id"], "thread_name": tree["thread_name"],
+    }
+
+
+def tree_of(report: Report, threads: List[Tree]) -> Tree:
+    """A report in the form of `pysalvage`'s JSON. What `dump` doesn't tell is null."""
+    rows = [thread_tree(it) for it in reversed(threads)]
+    interpreter = {"address": None, "lock": None, "searched": None, "threads": rows, "threads_end": {"kind": "whole"}}
+    process = None if report.process is None else {"arguments": report.process[1], "pid": report.process[0]}
+    return {"interpreters": [interpreter], "more": None, "process": process, "signal": report.signal, "version": report.version}

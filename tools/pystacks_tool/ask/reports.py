@@ -1,0 +1,77 @@
+"""The report on a core, by what the programs tell of it.
+
+Where `pysalvage` is there it is asked, since it shows what is left of a broken process. It tells neither names of
+threads nor values of locals, so these are those of `pystacks dump`, where that gives a report. Where `pysalvage` isn't
+there `pystacks dump` is asked alone.
+"""
+
+import json
+from dataclasses import dataclass
+from pathlib import Path
+from typing import Optional
+
+from pystacks_tool.ask.dump import Tree, Unexpected, report_by_dump, tree_of
+from pystacks_tool.ask.programs import ask, dump_command, salvage_command, salvage_program
+from pystacks_tool.ask.run import Answer
+from pystacks_tool.ask.salvage import NamesAndValues, names_and_values, report_by_salvage
+from pystacks_tool.cores.opened import OpenedCore
+from pystacks_tool.faults import NO_PROGRAM, Fault
+from pystacks_tool.model import Report
+from pystacks_tool.options import Options
+from pystacks_tool.places import PROGRAM
+
+
+@dataclass(frozen=True)
+class Outcome:
+    """What came of a core: a report with its JSON, or the program's answer where there is none."""
+
+    answer: Answer
+    report: Optional[Report] = None
+    tree: Optional[Tree] = None
+
+
+def decoded(text: bytes) -> str:
+    """What a program wrote, as text."""
+    return text.decode("utf-8", "replace")
+
+
+def ask_for_names_and_values(options: Options, core: OpenedCore) -> NamesAndValues:
+    """The names of threads, and with -l the values of locals, where `pystacks dump` has a report."""
+    program = Path(options.program) if options.program else PROGRAM
+    if not program.is_file():
+        return NamesAndValues()
+    answer = ask(core, dump_command(options, core, "-j", *["-l"] * options.locals))
+    try:
+        return names_and_values(json.loads(decoded(answer.out) or "[]"))
+    except (ValueError, KeyError, TypeError):
+        return NamesAndValues()
+
+
+def ask_salvage(options: Options, core: OpenedCore, program: Path) -> Outcome:
+    """What `pysalvage` tells, with names and values."""
+    answer = ask(core, salvage_command(program, core, options.locals))
+    if answer.status != 0:
+        return Outcome(answer)
+    tree, report = report_by_salvage(decoded(answer.out), core.name, ask_for_names_and_values(options, core))
+    return Outcome(answer, report, tree)
+
+
+def ask_dump(options: Options, core: OpenedCore) -> Outcome:
+    """What `pystacks dump` tells: the threads by its JSON, and the head by its text."""
+    answer = ask(core, dump_command(options, core, "-j", *["-l"] * options.locals))
+    if answer.status != 0:
+        return Outcome(answer)
+    text = ask(core, dump_command(options, core))
+    if text.status != 0:
+        return Outcome(text)
+    report = report_by_dump(decoded(answer.out), decoded(text.out), core.word, core.name)
+    return Outcome(answer, report, tree_of(report, json.loads(decoded(answer.out))))
+
+
+def report_on(options: Options, core: OpenedCore) -> Outcome:
+    """What is told of a core, by `pysalvage` where it is there."""
+    program = salvage_program(options)
+    try:
+        return ask_salvage(options, core, program) if program else ask_dump(options, core)
+    except Unexpected as reason:
+        raise Fault(f"the program wrote what isn't read here: {reason}", NO_PROGRAM, "--plain passes its own text on") from None

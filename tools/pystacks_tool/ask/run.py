@@ -1,0 +1,100 @@
+"""Runs the program over a core that was prepared, with the user's name for the core in place of the file's own.
+
+The name stands at the end of the first line of a report, and in lines of faults. All other bytes are passed on.
+"""
+
+import os
+import resource
+import signal
+import subprocess
+import tempfile
+from dataclasses import dataclass
+from typing import IO, List, Sequence
+
+from pystacks_tool.faults import CANNOT_WRITE, NO_ROOM, Fault
+
+CHUNK = 1 << 16
+
+LONGEST_ANSWER = 1 << 28
+"""The most bytes of an answer that the tool reads whole: a hostile core can have gigabytes of names."""
+
+
+def write_all(fd: int, data: bytes) -> None:
+    """Writes all of some bytes."""
+    while data:
+        data = data[os.write(fd, data) :]
+
+
+def first_line(line: bytes, own: bytes, name: bytes) -> bytes:
+    """The first line of a report, with the user's name."""
+    end = b": " + own + b"\n"
+    return line[: -len(end)] + b": " + name + b"\n" if line.startswith(b"Signal ") and line.endswith(end) else line
+
+
+def pass_on(stream: IO[bytes], own: bytes, name: bytes) -> None:
+    """Passes the program's text on."""
+    data = first_line(stream.readline(CHUNK), own, name)
+    while data:
+        write_all(1, data)
+        data = stream.read(CHUNK)
+
+
+def end_as(status: int) -> int:
+    """The program's status; where a signal ended it, the same one ends this process."""
+    if status < 0:
+        # (the core of interest is there)
+        resource.setrlimit(resource.RLIMIT_CORE, (0, 0))
+        if -status not in (signal.SIGKILL, signal.SIGSTOP):
+            signal.signal(-status, signal.SIG_DFL)
+        os.kill(os.getpid(), -status)
+    return status
+
+
+def run_over(command: List[bytes], fd: int, name: bytes) -> int:
+    """Runs the program, which reads the core by this descriptor, and returns its status."""
+    own = b"/proc/self/fd/%d" % fd
+    # (the program ends by the same key)
+    signal.signal(signal.SIGINT, signal.SIG_DFL)
+    with tempfile.TemporaryFile() as lines:
+        process = subprocess.Popen(command, pass_fds=[fd], stdout=subprocess.PIPE, stderr=lines)
+        assert process.stdout is not None
+        is_written = True
+        try:
+            pass_on(process.stdout, own, name)
+        except OSError:
+            is_written = False
+        process.stdout.close()
+        status = process.wait()
+        lines.seek(0)
+        said = lines.read().replace(own, name)
+    if not is_written and status in (0, CANNOT_WRITE):
+        status, said = CANNOT_WRITE, b"pystacks: cannot write\n"
+    try:
+        write_all(2, said)
+    except OSError:
+        pass
+    return end_as(status)
+
+
+@dataclass(frozen=True)
+class Answer:
+    """What the program answered."""
+
+    status: int
+    out: bytes
+    said: bytes
+    """Its lines, with the user's name for the core."""
+
+
+def answer_of(command: Sequence[bytes], fds: Sequence[int], own: bytes, name: bytes) -> Answer:
+    """Runs the program over a core, of which it has the word `own` and the user another name, and keeps what it writes."""
+    with tempfile.TemporaryFile() as out, tempfile.TemporaryFile() as lines:
+        status = subprocess.call(list(command), pass_fds=list(fds), stdout=out, stderr=lines)
+        length = out.seek(0, 2)
+        if status == 0 and length > LONGEST_ANSWER:
+            line = f"the program wrote {length} bytes, more than {LONGEST_ANSWER}: --plain passes its text on"
+            raise Fault(line, NO_ROOM)
+        out.seek(0)
+        lines.seek(0)
+        said = lines.read()
+        return Answer(status, out.read() if status == 0 else b"", said.replace(own, name) if own != name else said)

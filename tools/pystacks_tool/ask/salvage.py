@@ -1,0 +1,121 @@
+"""What `pysalvage -j` told of a core. How chains end is worded as its own text has it.
+
+It tells neither names of threads nor values of locals: those of `pystacks dump` are added, where that has a report.
+"""
+
+import json
+from dataclasses import dataclass, field
+from typing import Callable, Dict, Iterable, Optional, Tuple
+
+from pystacks_tool.ask.dump import Tree, Unexpected, local_of
+from pystacks_tool.model import Frame, Interpreter, Report, Thread
+
+Words = Dict[str, Callable[[], str]]
+"""What is said, by the kind of a fault or an end."""
+
+
+def unreadable(tree: Tree) -> str:
+    """A range that isn't in memory."""
+    return f"unreadable at {tree['address']}, {tree['length']} bytes"
+
+
+def frames_end(tree: Tree, met: int) -> str:
+    """How a chain of frames ends; nothing of a whole one."""
+    words: Words = {"whole": lambda: "", "cut": lambda: f"cut after {met} members", "unreadable": lambda: unreadable(tree),
+                    "stray": lambda: f"of the interpreter at {tree['interpreter']}"}
+    return words[tree["kind"]]()
+
+
+def threads_end(tree: Tree) -> str:
+    """How a chain of threads ends; nothing of a whole one."""
+    words: Words = {"whole": lambda: "", "cut": lambda: "more than 4096 threads", "unreadable": lambda: f"threads {unreadable(tree)}",
+                    "stray": lambda: f"threads of the interpreter at {tree['interpreter']}"}
+    return words[tree["kind"]]()
+
+
+def why_of(tree: Tree) -> str:
+    """Why a member has no names."""
+    words: Words = {"no text": lambda: "a name that is no text", "too long": lambda: "a name that is too long",
+                    "unreadable": lambda: unreadable(tree)}
+    return words[tree["kind"]]()
+
+
+def locals_fault(tree: Optional[Tree]) -> str:
+    """Why the locals of a frame can't be read, if they can't."""
+    if tree is None:
+        return ""
+    found = tree
+    words: Words = {"bad": lambda: "locals with a bad name or count", "too many": lambda: "locals more than 65535",
+                    "unreadable": lambda: f"locals {unreadable(found)}"}
+    return words[found["kind"]]()
+
+
+def member_of(tree: Tree) -> Frame:
+    """A frame, or a member without names."""
+    if "why" in tree:
+        return Frame(why=why_of(tree["why"]))
+    rows = tree["locals"]
+    shown = None if rows is None else tuple(local_of(it) for it in rows)
+    return Frame(tree["name"], tree["filename"], tree["line"], shown, locals_fault(tree["locals_fault"]))
+
+
+def thread_of(tree: Tree) -> Thread:
+    """A thread."""
+    frames = tree["frames"]
+    first, last = ([member_of(it) for it in frames[part]] for part in ("first", "last"))
+    end = frames_end(frames["end"], frames["met"])
+    return Thread(tree["thread_id"], tuple(first + last), tree["os_thread_id"], tree["thread_name"], tree["gil"],
+                  tree["crashed"], len(first), frames["between"], end)
+
+
+def interpreter_of(tree: Tree) -> Interpreter:
+    """An interpreter."""
+    threads = tuple(thread_of(it) for it in tree["threads"])
+    lock = tree["lock"]
+    fault = f"lock {unreadable(lock)}" if lock["kind"] == "unreadable" else ""
+    return Interpreter(threads, int(tree["address"], 16), tree["searched"], fault, threads_end(tree["threads_end"]))
+
+
+@dataclass
+class NamesAndValues:
+    """What `pystacks dump` told that `pysalvage` doesn't."""
+
+    names: Dict[int, Optional[str]] = field(default_factory=dict)
+    """The names of threads, by the interpreters' ids of them."""
+    values: Dict[Tuple[str, str], str] = field(default_factory=dict)
+    """The values that are shown, by the local's name and the value's address."""
+
+
+def names_and_values(threads: Iterable[Tree]) -> NamesAndValues:
+    """What is added, by the threads of `dump -j`."""
+    found = NamesAndValues()
+    for thread in threads:
+        found.names[thread["thread_id"]] = thread["thread_name"]
+        for frame in thread["frames"]:
+            for row in frame["locals"] or ():
+                if row["repr"] is not None:
+                    found.values[row["name"], hex(row["addr"])] = row["repr"]
+    return found
+
+
+def add(tree: Tree, added: NamesAndValues) -> None:
+    """Adds names and values to the JSON of a core. A value that it has itself stays."""
+    for thread in (thread for it in tree["interpreters"] for thread in it["threads"]):
+        thread["thread_name"] = added.names.get(thread["thread_id"])
+        for member in thread["frames"]["first"] + thread["frames"]["last"]:
+            for row in member.get("locals") or ():
+                if row["repr"] is None:
+                    row["repr"] = added.values.get((row["name"], row["address"]))
+
+
+def report_by_salvage(text: str, core: str, added: NamesAndValues) -> Tuple[Tree, Report]:
+    """The JSON of one core with what is added, and the report that it gives."""
+    try:
+        tree = json.loads(text)
+        add(tree, added)
+        interpreters = tuple(interpreter_of(it) for it in tree["interpreters"])
+        process = tree["process"]
+        told: Optional[Tuple[int, str]] = None if process is None else (process["pid"], process["arguments"])
+        return tree, Report(interpreters, tree["version"], tree["signal"], told, tree["more"], True, core)
+    except (ValueError, KeyError, TypeError) as error:
+        raise Unexpected(f"its JSON: {error!r}") from None

@@ -1,0 +1,130 @@
+"""The command: its words, its help and its version, and how a run ends."""
+
+import argparse
+import os
+import re
+from pathlib import Path
+from typing import List, Sequence
+
+from pystacks_tool.command import run
+from pystacks_tool.faults import NO_ROOM, Fault, say
+from pystacks_tool.options import Options
+from pystacks_tool.output import written
+from pystacks_tool.pages import with_places
+from pystacks_tool.places import LAYOUTS, MACHINES, PROGRAM, SALVAGE, version_line
+
+WHAT = "Shows where a Python process stood when it died: the stacks of its threads, by its core."
+
+EXAMPLES = """\
+examples:
+  {0} core                          the stacks of a core; the thread that got the signal first
+  {0} core -l --source              with locals and source lines
+  {0} core --root /mnt/image        of a container, whose files are below that folder
+
+Where the program pysalvage is there, stacks of broken processes are shown as far as they go; else `pystacks dump` alone
+is run, which shows whole stacks or none. docs/MESSAGES.md has each line of the standard error, and what to do next."""
+
+
+def add_shown(parser: argparse.ArgumentParser) -> None:
+    """Adds what is shown of a core."""
+    parser.add_argument("-l", "--locals", action="count", default=0, help="show locals; twice, longer ones")
+    parser.add_argument("--all", action="store_true", help="each thread with its own stack, however many there are")
+    parser.add_argument("--source", metavar="FOLDER", nargs="?", const="", default=None,
+                        help="show source lines, where the files are there: as they are named, or below this folder")
+    parser.add_argument("-j", "--json", action="store_true", help="as JSON: one object")
+    parser.add_argument("--collapsed", action="store_true", help="as flame graph tools and speedscope read stacks; of several cores together")
+    parser.add_argument("--html", metavar="FILE", default="", help="write a page to share; with --group a page of the groups")
+    parser.add_argument("--group", action="store_true", help="group several cores by their stacks")
+    parser.add_argument("--plain", action="store_true", help="the text (with -j the JSON) and the status of `pystacks dump` (with --group `triage`) as they are")
+
+
+def add_taken(parser: argparse.ArgumentParser) -> None:
+    """Adds where files are found, and how a core is taken."""
+    parser.add_argument("--root", metavar="FOLDER", default="", help="look for the mapped files, and for sources, below this folder")
+    parser.add_argument("--maps", metavar="FILE", default="", help="the process's maps, for a core without a file table")
+    parser.add_argument("--keep", metavar="FILE", default="", help="keep the core that was prepared in this new file")
+    parser.add_argument("--anyway", action="store_true", help="read a core that is longer than half of the free memory")
+    parser.add_argument("--layouts", metavar="FILE", help="the layout file (default: the core's machine's in layouts/)")
+    parser.add_argument("--program", metavar="FILE", help="the program pystacks (default: the one that was built or installed)")
+    parser.add_argument("--salvage", metavar="FILE", help="the program pysalvage (default: the one beside it)")
+
+
+def parser_for(name: str) -> argparse.ArgumentParser:
+    """The parser of the tool's words."""
+    parser = argparse.ArgumentParser(
+        prog=name, description=WHAT, epilog=with_places(EXAMPLES.format(name)), formatter_class=argparse.RawDescriptionHelpFormatter)
+    parser.add_argument("core", metavar="CORE", nargs="*", help="the core's file; several with --group and --collapsed")
+    add_shown(parser)
+    add_taken(parser)
+    parser.add_argument("--version", action="store_true", help="the project's version, its commit, and those of its layouts")
+    return parser
+
+
+def options_of(words: argparse.Namespace) -> Options:
+    """The words, each with its type."""
+    return Options(
+        cores=tuple(words.core), locals=words.locals, shows_all=words.all, source=words.source, json=words.json,
+        collapsed=words.collapsed, html=words.html, group=words.group, plain=words.plain, root=words.root, maps=words.maps,
+        keep=words.keep, anyway=words.anyway, layouts=words.layouts, program=words.program, salvage=words.salvage,
+        version=words.version)
+
+
+def clash(options: Options) -> str:
+    """What is wrong with the words, if anything is."""
+    forms = [it for it in ("json", "collapsed", "html", "plain") if getattr(options, it)]
+    if options.group and (options.locals or options.json or options.collapsed or options.keep or options.maps):
+        return "--group takes no -l, -j, --collapsed, --keep and --maps"
+    if options.collapsed and options.locals:
+        return "--collapsed takes no -l"
+    if len(forms) > 1 and forms != ["json", "plain"]:
+        return "of --json, --collapsed, --html and --plain one is taken, or --json with --plain"
+    if not options.cores:
+        hint = f": --source took {options.source} for its folder, so name it behind the core" if options.source else ""
+        return f"no core is named{hint}"
+    if len(options.cores) > 1 and not (options.group or options.collapsed and not options.keep):
+        return "several cores are taken with --group and --collapsed alone"
+    return ""
+
+
+def read_options(name: str, given: Sequence[str]) -> Options:
+    """What is asked for. Wrong words end the tool, with their line and status 2."""
+    parser = parser_for(name)
+    options = options_of(parser.parse_args(given))
+    fault = "" if options.version else clash(options)
+    if fault:
+        parser.error(fault)
+    return options
+
+
+def versions_in(path: Path) -> str:
+    """The versions of Python that a layout file covers, from its own keys."""
+    text = path.read_text(encoding="utf-8", errors="replace")
+    numbers = [re.findall(rf"^{key} = (\d+)$", text, re.MULTILINE) for key in ("major", "first_minor", "last_minor")]
+    rows = [f"{major}.{first}" if first == last else f"{major}.{first} to {major}.{last}" for major, first, last in zip(*numbers)]
+    return ", ".join(rows)
+
+
+def version_lines() -> List[str]:
+    """The project's version, which is the layouts' too; the programs that are there; and what layouts there are."""
+    lines = [version_line()]
+    for name, program in (("pystacks", PROGRAM), ("pysalvage", SALVAGE)):
+        lines.append(f"{name}: {os.fspath(program)}" if program.is_file() else f"{name}: not built")
+    for machine in MACHINES.values():
+        path = LAYOUTS.with_name(f"cpython-{machine}.toml")
+        lines.append(f"layouts for {machine}: CPython {versions_in(path)}" if path.is_file() else f"layouts for {machine}: none")
+    return lines
+
+
+def main(name: str, given: Sequence[str]) -> int:
+    """The command by its name and words. Returns the status."""
+    options = read_options(name, given)
+    try:
+        return written(version_lines()) if options.version else run(options)
+    except Fault as fault:
+        say(str(fault), fault.then)
+        return fault.status
+    except MemoryError:
+        say("out of memory", "--plain passes the program's text on, and reads none of it")
+        return NO_ROOM
+    except KeyboardInterrupt:
+        return 130

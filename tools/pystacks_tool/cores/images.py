@@ -1,0 +1,158 @@
+"""The files that a core's process had mapped, where they are on the machine at hand, as the program's words for images.
+
+Handed over are those into which the program looks, and with locals those from which it reads bytes that the core leaves
+out; each under the path that the core has for it, and none of another build or machine.
+"""
+
+import os
+from pathlib import Path
+from typing import IO, Callable, Dict, List, Optional, Tuple
+
+from pystacks_tool.cores.gaps import entries_in
+from pystacks_tool.cores.maps import Use, Wanted, build_id, builds_in, is_text, machine_of, maps_of, wanted_files
+from pystacks_tool.cores.tables import Entry
+from pystacks_tool.faults import BAD_WORDS, Fault, say, shown
+from pystacks_tool.places import machine_name
+
+DELETED = b" (deleted)"
+"""How the kernel ends the name of a file that had been deleted, or replaced, while it was mapped."""
+
+LONGEST = 1 << 36
+"""The most bytes of a file that the program reads."""
+
+MOST = 1000
+"""The most images that are handed over beside the two that the program looks into."""
+
+OTHER_FILE = "of a container or another host: --root FOLDER, below which its files are; of an upgraded package: install the old one"
+"""What to do where a file isn't the one that was mapped."""
+
+
+class Missing(Exception):
+    """Why there is no image under a name, and what to do next."""
+
+    def __init__(self, line: str, then: str = OTHER_FILE) -> None:
+        super().__init__(line)
+        self.then = then
+
+
+def path_below(root: bytes, name: bytes) -> bytes:
+    """The file of a name that a core has: below this folder, if one is given."""
+    path = name[: -len(DELETED)] if name.endswith(DELETED) else name
+    if not path.startswith(b"/"):
+        raise Missing("that is no path")
+    path = os.path.join(root, path[1:]) if root else path
+    if not os.path.isfile(path):
+        if root:
+            raise Missing(f"there is no file {shown(path)}", "copy it there, or name by --root where the process's files are")
+        raise Missing(f"there is no file {shown(path)}; --root FOLDER looks below FOLDER", "")
+    size = os.path.getsize(path)
+    if not 0 < size <= LONGEST:
+        # (such are the files in which a system tells of itself; a hostile core can name any file)
+        raise Missing(f"{shown(path)} has {size} bytes")
+    # (a name or a link that leads out of the folder would be that of another system's file)
+    if root and not os.path.realpath(path).startswith(os.path.join(os.path.realpath(root), b"")):
+        raise Missing(f"{shown(path)} leads out of {shown(root)}", "copy the file itself below that folder")
+    return path
+
+
+def check_file(path: bytes, wanted: Wanted, machine: Optional[int]) -> None:
+    """Refuses an ELF file of another machine than the core's, and one whose build id isn't the one that the core has
+    of the mapped file, where both have one: the program takes what it is handed. Where only bytes of it are wanted,
+    it has to be an ELF file: nothing of Python stands in others, which may be large."""
+    try:
+        with open(path, "rb") as file:
+            own_machine, own = machine_of(file), build_id(file)
+    except OSError as error:
+        raise Missing(f"cannot read {shown(path)}: {error.strerror}") from None
+    if wanted.use is Use.MEMORY and own_machine is None:
+        raise Missing(f"{shown(path)} is no ELF file")
+    if own_machine is not None and own_machine != machine:
+        raise Missing(f"{shown(path)} is of another machine, {machine_name(own_machine)}")
+    if own and wanted.builds - {own}:
+        raise Missing(f"{shown(path)} is of another build")
+
+
+def image_word(wanted: Wanted, root: bytes, machine: Optional[int]) -> bytes:
+    """The program's word for an image."""
+    if b"=" in wanted.name:
+        raise Missing("a path with an equals sign can't be handed over")
+    path = path_below(root, wanted.name)
+    word = wanted.name + b"=" + path
+    if not is_text(word):
+        raise Missing("a path that is not UTF-8 can't be handed over")
+    check_file(path, wanted, machine)
+    return word
+
+
+def image_words(files: List[Wanted], root: bytes, machine: Optional[int]) -> List[bytes]:
+    """The words for the images that are there and of the core's machine, in the order of the maps, after the line that
+    names those that the program looks into and that are not."""
+    words, left = [], MOST
+    missing: Dict[Use, str] = {}
+    then = ""
+    for wanted in files:
+        left -= wanted.use is Use.MEMORY
+        if wanted.use is Use.MEMORY and left < 0:
+            continue
+        try:
+            words.append(image_word(wanted, root, machine))
+        except Missing as reason:
+            if wanted.use is not Use.MEMORY:
+                missing[wanted.use] = f"{shown(wanted.name)} ({wanted.use.value}; {reason})"
+                then = reason.then if wanted.use is Use.NEEDED else then
+    if missing:
+        lines = [missing[use] for use in Use if use in missing]
+        say(f"no image of {', '.join(lines)}", then)
+    return words
+
+
+def read_core(file: Optional[IO[bytes]]) -> Tuple[Optional[int], List[Wanted]]:
+    """The machine and the files of a core. Where it can't be read there are none; the program has a line for it."""
+    if file is None:
+        return None, []
+    try:
+        return machine_of(file), wanted_files(file)
+    except OSError:
+        return None, []
+
+
+def opened(path: str) -> Optional[IO[bytes]]:
+    """The core's file, where it can be read; the program has a line for another."""
+    try:
+        return open(path, "rb")
+    except OSError:
+        return None
+
+
+def finder_below(root: bytes) -> Callable[[IO[bytes]], Callable[[bytes], Optional[bytes]]]:
+    """What finds the files of a core that are there, and of its machine and build."""
+
+    def finder(file: IO[bytes]) -> Callable[[bytes], Optional[bytes]]:
+        machine, builds = machine_of(file), builds_in(file, maps_of(file))
+
+        def find(name: bytes) -> Optional[bytes]:
+            try:
+                path = path_below(root, name)
+                check_file(path, Wanted(name, frozenset(builds.get(name, ())), Use.LOOKED_INTO), machine)
+            except Missing:
+                return None
+            return path
+
+        return find
+
+    return finder
+
+
+def maps_in(path: str) -> Tuple[Entry, ...]:
+    """The mappings of files in a copy of /proc/PID/maps, if one is named."""
+    if not path:
+        return ()
+    try:
+        found = tuple(entries_in(Path(path).read_bytes()))
+    except OSError as error:
+        line = f"cannot read {shown(os.fsencode(path))}: {error.strerror}"
+        raise Fault(line, BAD_WORDS, "--maps names a copy of the process's /proc/PID/maps") from None
+    if not found:
+        line = f"{shown(os.fsencode(path))} has no line of a mapped file, as /proc/PID/maps has them"
+        raise Fault(line, BAD_WORDS, "--maps names a copy of the process's /proc/PID/maps")
+    return found

@@ -1,0 +1,74 @@
+"""Cores grouped by `pystacks triage`, with the stacks of each group's first core."""
+
+import os
+from typing import Dict, Iterable, List
+
+from pystacks_tool.ask.programs import command_of
+from pystacks_tool.ask.reports import report_on
+from pystacks_tool.ask.run import end_as, write_all
+from pystacks_tool.cores.images import image_words, opened
+from pystacks_tool.cores.opened import OpenedCore, prepare_core
+from pystacks_tool.faults import BAD_WORDS, Fault, shown
+from pystacks_tool.groups.triage import Apart, Core, Group, group_answer, groups_of, read_core_of_group, renamed_text, shared_files, shared_machine
+from pystacks_tool.options import Options
+from pystacks_tool.output import one_line, page_written, refused, style_of, written
+from pystacks_tool.places import PROGRAM, layouts_of, program_at
+from pystacks_tool.show.page import group_page
+from pystacks_tool.show.text import stacks_lines
+
+
+def cores_of(options: Options) -> List[Core]:
+    """The cores, each prepared where it has to be."""
+    cores = []
+    for name in options.cores:
+        if "=" in name or "\n" in name:
+            line = f"a core's path with an equals sign or a newline can't be grouped: {shown(os.fsencode(name))}"
+            raise Fault(line, BAD_WORDS, "rename it, or make a link of another name to it")
+        file = opened(name)
+        new = prepare_core(options, name, file)
+        cores.append(read_core_of_group(os.fsencode(name), file, new.file if new else None))
+    return cores
+
+
+def group(options: Options) -> int:
+    """Groups cores, names each group's stacks once, and returns the status."""
+    cores = cores_of(options)
+    try:
+        machine, files = shared_machine(cores), shared_files(cores)
+    except Apart as reason:
+        raise Fault(f"{reason}: group them apart", BAD_WORDS) from None
+    layouts = os.fspath(options.layouts or layouts_of(machine))
+    command = command_of([os.fspath(program_at(options.program, PROGRAM)), "triage", layouts], options.cores)
+    images = image_words(files, os.fsencode(options.root), machine)
+    answer = group_answer([*command, *(core.word for core in cores), *images], cores)
+    if answer.status != 0 and not options.plain:
+        return refused(answer)
+    write_all(2, answer.said if options.plain else one_line(answer.said))
+    if answer.status != 0:
+        return end_as(answer.status)
+    text = renamed_text(answer.out, cores)
+    if options.plain:
+        write_all(1, text)
+        return 0
+    by_name = {core.name: OpenedCore(os.fsdecode(core.name), core.prepared, layouts, images) for core in cores}
+    return show_groups(options, groups_of(text, list(by_name)), by_name)
+
+
+def show_groups(options: Options, groups: List[Group], by_name: Dict[bytes, OpenedCore]) -> int:
+    """Shows groups as the words ask for it, and returns the status."""
+    if options.html:
+        shown_groups = [it for it in groups if it.is_group and it.first in by_name]
+        reports = {it.first: report_on(options, by_name[it.first]).report for it in shown_groups}
+        return page_written(options.html, group_page(groups, reports, style_of(options)))
+    return written(group_lines(options, groups, by_name))
+
+
+def group_lines(options: Options, groups: List[Group], by_name: Dict[bytes, OpenedCore]) -> Iterable[str]:
+    """The program's text of groups, and behind each group the stacks of its first core."""
+    style = style_of(options)
+    for it in groups:
+        yield from it.lines
+        if it.is_group and it.first in by_name:
+            report = report_on(options, by_name[it.first]).report
+            for line in stacks_lines(report, style) if report else ():
+                yield f"        {line}"

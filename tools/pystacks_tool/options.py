@@ -1,0 +1,37 @@
+"""What the tool is asked for: its words, each with its type. They are made once, by `cli`."""
+
+from dataclasses import dataclass
+from typing import Optional, Tuple
+
+
+@dataclass(frozen=True)
+class Options:
+    """The words of a run."""
+
+    cores: Tuple[str, ...] = ()
+    """The cores' files, by the user's names for them."""
+    locals: int = 0
+    """How often locals are asked for."""
+    shows_all: bool = False
+    """Whether each thread has its own stack, however many there are."""
+    source: Optional[str] = None
+    """The folder of sources, which is empty where the frames' own names are meant; nothing where no source lines are shown."""
+    json: bool = False
+    collapsed: bool = False
+    html: str = ""
+    """The page's file, if one is written."""
+    group: bool = False
+    plain: bool = False
+    """Whether the program's own text and status are passed on."""
+    root: str = ""
+    """The folder below which the files of the process are looked for."""
+    maps: str = ""
+    """A copy of the process's /proc/PID/maps, if one is named."""
+    keep: str = ""
+    """The file that keeps the core that was prepared, if one is named."""
+    anyway: bool = False
+    """Whether a core is read that is longer than half of the free memory."""
+    layouts: Optional[str] = None
+    program: Optional[str] = None
+    salvage: Optional[str] = None
+    version: bool = False
