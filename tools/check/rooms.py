@@ -1,5 +1,5 @@
 """The rooms of tools/, from which the checks import: importing this first makes them known. (A check runs by itself, and so each of
-its folders has this file, by a link.)
+its folders has a file of this name, which runs this one.)
 """
 
 import sys
