@@ -31,15 +31,26 @@ fn frame(alloc: Global, name: &str, first: i32, line: i32, end: u64) -> Result<P
     })
 }
 
-/// One thread of two frames, which holds the lock if anybody does.
-fn small(alloc: Global, owner: Option<u32>) -> Result<Program, Fail> {
+/// One thread of two frames, which holds the lock if anybody does; its first frame's one argument is the first of `locals`.
+fn with_locals(
+    alloc: Global,
+    owner: Option<u32>,
+    locals: Vec<ProgramLocal>,
+) -> Result<Program, Fail> {
     let mut first = frame(alloc, "f", 3, 5, 8)?;
     first.offset = 2;
+    first.args = if locals.is_empty() { 0 } else { 1 };
+    first.locals = locals;
     let frames = vec![in alloc; first, frame(alloc, "<module>", 1, 1, 4)?]?;
     Ok(Program {
         threads: vec![in alloc; ProgramThread { id: 32512, frames }]?,
         owner,
     })
+}
+
+/// The same without locals.
+fn small(alloc: Global, owner: Option<u32>) -> Result<Program, Fail> {
+    with_locals(alloc, owner, Vec::new(alloc))
 }
 
 /// A version of 3.9, or of another minor.
@@ -140,12 +151,11 @@ pub(crate) fn built_by_3_12(alloc: Global, has_locals: bool) -> Result<Built, Fa
     if !is_sound(&layout) {
         return Err(Fail::from("the layout isn't sound"));
     }
-    let owner = if has_locals { Some(0) } else { None };
-    let mut program = small(alloc, owner)?;
-    if has_locals {
-        program.threads[0].frames[0].args = 1;
-        program.threads[0].frames[0].locals = locals(alloc)?;
-    }
+    let program = if has_locals {
+        with_locals(alloc, Some(0), locals(alloc)?)?
+    } else {
+        small(alloc, None)?
+    };
     let version = version(alloc, 12, 0, "")?;
     Ok(build(alloc, &program, &layout, &version, Machine::X86_64)?)
 }

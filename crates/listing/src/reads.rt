@@ -1,4 +1,6 @@
 //! How many reads of a process's memory a report takes.
+ghost use Rattle.py_process.specs.Reports.{NotesTell};
+
 use crate::footprint::images_of;
 use core_stacks::{Loaded, load, process_info, report_over};
 use image_memory::Images;
@@ -37,7 +39,9 @@ fn reported(
     loaded: Loaded,
     images: &Images,
     layouts: &Layouts,
-) -> Option<(bool, u64)> {
+) -> Option<(bool, u64)>
+    requires notes { NotesTell loaded.dump.core loaded.notes.signal loaded.notes.process }
+{
     let Loaded { dump, notes } = loaded;
     let Ok(info) = process_info(alloc, dump.core(), images) else {
         return None;
