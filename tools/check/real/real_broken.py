@@ -27,7 +27,7 @@ from child_cores import SECONDS, Failure, Skip, core_names, ended
 from pystacks_tool.cores.images import image_words, read_core
 from pystacks_tool.cores.maps import Use
 from pystacks_tool.places import LAYOUTS
-from each_python import each_python
+from each_python import tell_each
 from find_pythons import pythons
 
 CHILD = Path(__file__).resolve().with_name("real_broken_child.py")
@@ -182,18 +182,12 @@ def main() -> int:
     if not os.path.isfile(words.salvage):
         print("real_broken: skipped: pysalvage isn't built")
         return 0
-    failed = 0
     try:
         names = core_names()
     except Skip as reason:
         print(f"real_broken: skipped: {reason}")
         return 0
-    for python, told in each_python(lambda it: tried(it, words, names), words.python or usual(r"3\.(8|9|1[0-3])")):
-        try:
-            print(f"real_broken: {told()}", flush=True)
-        except Failure as reason:
-            failed += 1
-            print(f"real_broken: FAILED: {python}: {reason}", flush=True)
+    failed = tell_each("real_broken", lambda it: tried(it, words, names), words.python or usual(r"3\.(8|9|1[0-3])"))
     return 1 if failed else 0
 
 

@@ -43,7 +43,7 @@ from derive_layout import Build, Derived, DeriveError, How, build_of, derive, sa
 from pystacks_tool.cores.images import image_words
 from find_pythons import pythons
 from footprints import Footprint, blotted, footprint_of
-from each_python import each_python
+from each_python import tell_each
 from layout_plan import plan_of
 from layout_swaps import swaps
 from real_groups import check_objects, groups_text, kept
@@ -554,21 +554,13 @@ def try_all(words: argparse.Namespace) -> int:
     except DeriveError as error:
         raise Failure(f"the Python that runs this tells nothing: {error.brief}") from error
     listing = Path(words.listing or ROOT / "crates" / "listing" / "out" / "listing").resolve()
-    failed = 0
     if not words.swaps:
         print(row("Python", "core, MiB", "walk, s", "walk, MiB", "result"), flush=True)
     cases = CASES if words.all else GATE_CASES
     read = listing if listing.is_file() else None
-    for python, told in each_python(
-            lambda it: swapped(program, it, names) if words.swaps else tried(program, it, names, cases, read), found):
-        try:
-            print(told(), flush=True)
-        except (Skip, DeriveError) as reason:
-            print(f"real_core: skipped: {python}: {getattr(reason, 'brief', reason)}", flush=True)
-        except Failure as reason:
-            failed += 1
-            print(f"real_core: FAILED: {python}: {reason}", flush=True)
-    return failed
+    return tell_each("real_core",
+                     lambda it: swapped(program, it, names) if words.swaps else tried(program, it, names, cases, read),
+                     found, (Skip, DeriveError), "")
 
 
 def main() -> int:

@@ -24,7 +24,7 @@ from typing import Dict, List, Sequence, Tuple
 import rooms  # (first: it makes the other rooms known)
 from child_cores import Failure, Skip, core_names, ended
 from pystacks_tool.cores.maps import EXECUTABLE, maps_of
-from each_python import each_python
+from each_python import tell_each
 from find_pythons import pythons
 from native_addresses import Fault, addresses_of
 
@@ -130,7 +130,6 @@ def main() -> int:
     parser.add_argument("python", nargs="*", help="the interpreters (default: all that are found)")
     parser.add_argument("--program", required=True, help="the built program")
     words = parser.parse_args()
-    failed = 0
     try:
         if not shutil.which("gdb") or not shutil.which("readelf"):
             raise Skip("there is no gdb or no readelf")
@@ -139,14 +138,8 @@ def main() -> int:
         print(f"real_merge: skipped: {reason}")
         return 0
     program = Path(words.program).resolve()
-    for python, told in each_python(lambda it: tried(program, it, names), words.python or pythons()):
-        try:
-            print(f"real_merge: {python}: {told()}", flush=True)
-        except (Skip, Fault) as reason:
-            print(f"real_merge: skipped: {python}: {reason}", flush=True)
-        except Failure as reason:
-            failed += 1
-            print(f"real_merge: FAILED: {python}: {reason}", flush=True)
+    failed = tell_each("real_merge", lambda it: tried(program, it, names), words.python or pythons(), (Skip, Fault),
+                       "{name}: {python}: ")
     return 1 if failed else 0
 
 

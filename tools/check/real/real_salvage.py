@@ -24,7 +24,7 @@ from broken_words import LOW, check_words, with_word
 from child_cores import Case, Failure, Skip, core_names, ended, leave_core
 from pystacks_tool.cores.prepare import Unprepared, Wishes, prepared
 from derive_layout import DeriveError, build_of
-from each_python import each_python
+from each_python import tell_each
 from find_pythons import pythons
 from made import layout_of
 from real_core import derived_for, images_of, ran
@@ -274,16 +274,7 @@ def tried(program: Path, salvage: Path, python: str, names: str) -> str:
 def try_all(program: Path, salvage: Path, found: Sequence[str]) -> int:
     """Tries each Python, and returns how many failed."""
     names = core_names()
-    failed = 0
-    for python, told in each_python(lambda it: tried(program, salvage, it, names), found):
-        try:
-            print(f"real_salvage: {told()}", flush=True)
-        except (Skip, DeriveError) as reason:
-            print(f"real_salvage: skipped: {python}: {getattr(reason, 'brief', reason)}", flush=True)
-        except Failure as reason:
-            failed += 1
-            print(f"real_salvage: FAILED: {python}: {reason}", flush=True)
-    return failed
+    return tell_each("real_salvage", lambda it: tried(program, salvage, it, names), found, (Skip, DeriveError))
 
 
 def main() -> int:
