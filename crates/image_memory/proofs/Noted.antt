@@ -7,9 +7,10 @@ use Rattle.std.proofs.lemmas.List.{append-nil}
 use Rattle.elf64_core.specs.Notes.{Noted, AreNotes, AreNoNotes, bytes_of_range}
 use Rattle.elf64_core.specs.declared.segment.Segment.{Segment}
 use Rattle.elf64_core.proofs.Notes.{AreNotes-once}
+use Rattle.image_memory.specs.Cores.{IsCore}
 use Rattle.image_memory.specs.FileTables.{Entry}
 use Rattle.image_memory.specs.Maps.{AreMaps, ArePlaces, IsFilePlace, entry_for, is_named, map_by, file_place_by}
-use Rattle.image_memory.specs.Notes.{AreCoreNotes, AreStatuses, IsProcess, NotesOf, TablesSay, is_table, last_process}
+use Rattle.image_memory.specs.Notes.{AreCoreNotes, AreNotesOfCore, AreStatuses, IsProcess, NotesOf, TablesSay, is_table, last_process}
 use Rattle.image_memory.specs.Notes.{note_segments, status_noted}
 use Rattle.image_memory.specs.Pieces.{loads_of}
 use Rattle.image_memory.specs.declared.file_table.FilePlace.{FilePlace}
@@ -41,6 +42,13 @@ NotesOf-once bytes (s ∷ ss) one other h k =
     let own = AreNotes-once (range_of bytes s) h.0 k.0 h.2 k.2 in
     let others = NotesOf-once bytes ss h.1 k.1 h.3 k.3 in
     h.4 ∙ ap (λ ns. ns ++ h.1) own ∙ ap (λ ns. k.0 ++ ns) others ∙ sym k.4
+
+-- the notes of its segments are the notes of a core
+pub core_notes_are : (bytes : List ℕ) (notes : List Noted) → IsCore bytes → NotesOf bytes (note_segments bytes) notes
+    → AreNotesOfCore bytes notes
+core_notes_are bytes notes core own =
+    let same = NotesOf-once bytes (note_segments bytes) core.notes notes core.found.together own in
+    record { entries = core.entries; found = subst (λ ns. AreCoreNotes bytes ns core.entries) same core.found }
 
 pub notes_same : (bytes : List ℕ) (m n : List Noted) (a b : List Entry) → AreCoreNotes bytes m a → AreCoreNotes bytes n b
     → m ≡ n

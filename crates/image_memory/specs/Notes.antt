@@ -3,7 +3,8 @@
 -- `elf_prstatus` and `elf_prpsinfo`). Which sizes are too short is this project's own rule: a record has to have
 -- all that is read of it.
 use Rattle.std.specs.Prelude.{◌≡◌, ℕ, ◌≤◌, nat_eq, nat_le, ◌&&◌, Bool, List, [], ◌∷◌, ◌++◌, length, map, reverse, All}
-use Rattle.std.specs.Prelude.{filter, filter_map, find, slice_range, Option, Some, None, option_and_then, if◌then◌else◌}
+use Rattle.std.specs.Prelude.{filter, filter_map, find, slice_range, Option, Some, None, option_and_then, option_map}
+use Rattle.std.specs.Prelude.{if◌then◌else◌}
 use Rattle.std.specs.Prelude.{ℤ}
 use Rattle.std.specs.Int.{w32, w16, cast_signed}
 use Rattle.elf64_core.specs.Fields.{u32_in, u16_in}
@@ -68,6 +69,15 @@ pub record AreCoreNotes (bytes : List ℕ) (notes : List Noted) (entries : List 
   pub together : NotesOf bytes (note_segments bytes) notes
   pub whole : All IsWhole notes
   pub tables : TablesSay (filter is_table notes) entries
+
+-- these are the notes of a core, in order
+pub record AreNotesOfCore (bytes : List ℕ) (notes : List Noted) : Type 0 where
+  pub entries : List Entry
+  pub found : AreCoreNotes bytes notes entries
+
+-- the descriptor of the first note of a type
+abbrev pub desc_of : ℕ → List Noted → Option (List ℕ)
+desc_of kind notes = option_map (λ note. note.desc) (find (is_of_kind kind) notes)
 
 -- the signed numbers of 4 and of 2 bytes at an offset
 abbrev pub i32_in : List ℕ → ℕ → ℤ

@@ -1,6 +1,6 @@
 //! A core dump: the file of a dead process's memory.
 ghost use Rattle.std.specs.Prelude.{◌≡◌, ◌⊎◌, ◌↔◌, ◌<◌, ◌≤◌, ◌*◌, List, [], ◌∷◌, ℕ, IfOk, IfErr, IfSome, is_some, Err};
-ghost use Rattle.std.specs.Prelude.{None, Option, Some, ◌+◌, length, option_and_then, option_copied, slice_get};
+ghost use Rattle.std.specs.Prelude.{None, Option, Some, ◌+◌, length, option_and_then, option_copied, slice_get, map};
 ghost use Rattle.std.specs.Prelude.{slice_index, slice_range};
 ghost use Rattle.elf64_core.specs.Header.{machine_of};
 ghost use Rattle.image_memory.specs.Contents.{AreContents};
@@ -8,7 +8,8 @@ ghost use Rattle.image_memory.specs.Cores.{IsCore, IsEarly, RefusesCore};
 ghost use Rattle.elf64_core.specs.Header.{HasSegments, IsInside};
 ghost use Rattle.image_memory.specs.Maps.{AreMaps, ArePlaces, IsFilePlace, in_core, is_named};
 ghost use Rattle.image_memory.specs.declared.file_table.FilePlace.{FilePlace as Place};
-ghost use Rattle.image_memory.specs.Notes.{AreStatuses, IsProcess, note_bytes, segment_bytes};
+ghost use Rattle.image_memory.specs.Notes.{AreNotesOfCore, AreStatuses, IsProcess, note_bytes, segment_bytes};
+ghost use Rattle.elf64_core.specs.Notes.{Noted, noted};
 ghost use Rattle.image_memory.specs.Pieces.{core_ranges, loads_of, memory_of, ranges_of};
 ghost use Rattle.piece_table.specs.Lookups.{HalvesIn};
 ghost use Rattle.piece_table.specs.Overlays.{ArePieces};
@@ -23,11 +24,12 @@ ghost use Rattle.process_memory.specs.Memory.{byte_at};
 
 use crate::contents::{Contents, read_core};
 use crate::maps::holds_addr;
+use crate::notes::core_notes;
 use crate::{ContainsAddr, CoreMapRange, DumpError, FilePlace, View, elf_prpsinfo, elf_prstatus};
-use elf64_core::{Machine, Segment, Steps};
+use elf64_core::{Elf64, Machine, Note, Segment, Steps};
 use piece_table::{PieceTable, Stored, piece_of, rest_of, run_of};
 use process_memory::{Pieces, ProcessMemory};
-use std::alloc::Global;
+use std::alloc::{AllocError, Global};
 use std::marker::Model;
 use std::sync::ledger::Ledger;
 
@@ -143,6 +145,23 @@ impl CoreDump {
     {
         let segment = self.contents.notes.get(index as usize)?;
         Some(bytes_of_segment(&self.bytes, segment))
+    }
+
+    /// The notes of the note segments, in table order, each with its descriptor, which is a part of the file: status
+    /// records, process records, file tables, and what else a core has (`NT_SIGINFO`, `NT_AUXV`). A list of 24 bytes a
+    /// note is made each time, and the program headers are gone through. The one error is want of memory.
+    pub fn notes(&self, alloc: Global) -> Result<Vec<Note<'_>>, AllocError>
+        ensures are { IfOk result (λ notes. AreNotesOfCore self.now (map noted notes.items)) }
+        ensures only { IfOk result (λ notes. (others : List Noted) → AreNotesOfCore self.now others
+            → others ≡ map noted notes.items) }
+    {
+        let Ok(elf) = Elf64::parse(&self.bytes) else {
+            return Err(AllocError);
+        };
+        match core_notes(alloc, &elf) {
+            Ok(notes) => Ok(notes),
+            Err(_) => Err(AllocError),
+        }
     }
 
     /// The machine that the header names.

@@ -28,6 +28,7 @@ pub use images::Images;
 pub use map_table::MapTable;
 pub use maps::{ContainsAddr, CoreMapRange};
 pub use mmap::{Mmap, read_elf_build_id_from_mmap};
+pub use notes::first_desc;
 pub use outside::{
     FileFault, Files, MemoryFiles, MemorySink, RealFiles, RealSink, Sink, SinkFault,
 };
@@ -35,6 +36,8 @@ pub use process_memory::{
     Counted, Part, Piece, ProcessMemory, ReadFault, Recorder, Span, record, record_in, record_wide,
     word, word_past, word_wide,
 };
-pub use records::{elf_prpsinfo, elf_prstatus};
+pub use records::{
+    NT_AUXV, NT_FILE, NT_PRPSINFO, NT_PRSTATUS, NT_SIGINFO, elf_prpsinfo, elf_prstatus,
+};
 pub use subrange::is_subrange;
 pub use view::{BackedView, View, ViewOf};

@@ -1,20 +1,19 @@
 //! The notes of a core.
 ghost use Rattle.std.specs.Prelude.{◌≡◌, ◌⊎◌, ◌↔◌, List, IfOk, IfErr, IsErrOf, IsTrue, All, filter, filter_map, find};
-ghost use Rattle.std.specs.Prelude.{map, nat_eq, option_and_then, reverse};
+ghost use Rattle.std.specs.Prelude.{map, nat_eq, option_and_then, option_copied, reverse};
 ghost use Rattle.elf64_core.specs.Header.{IsAccepted};
 ghost use Rattle.elf64_core.specs.Notes.{Noted, noted};
 ghost use Rattle.image_memory.specs.FileTables.{Entry, file_entry_of};
-ghost use Rattle.image_memory.specs.Notes.{NotesOf, TablesSay, IsWhole, note_segments, is_table, process_kind};
+ghost use Rattle.image_memory.specs.Notes.{NotesOf, TablesSay, IsWhole, desc_of, is_table, note_segments, process_kind};
 ghost use Rattle.image_memory.specs.Notes.{process_of, status_noted};
 
 use crate::file_table::{FileEntry, table_entries};
-use crate::records::{PROCESS, PROCESS_SIZE, STATUS, STATUS_SIZE, process_of, status_noted};
+use crate::records::{
+    NT_FILE, NT_PRPSINFO, NT_PRSTATUS, PROCESS_SIZE, STATUS_SIZE, process_of, status_noted,
+};
 use crate::{DumpError, elf_prpsinfo, elf_prstatus};
 use elf64_core::{Elf64, NOTE, Note};
 use std::alloc::{AllocError, Global};
-
-/// The type of a file table.
-const FILE_TABLE: u32 = 0x46494c45;
 
 /// The notes of the note segments, in table order.
 ///
@@ -37,13 +36,30 @@ pub(crate) fn core_notes<'a>(alloc: Global, elf: &Elf64<'a>) -> Result<Vec<Note<
     Ok(all)
 }
 
+/// The first of some notes that has a type.
+fn first_of_kind<'m, 'a>(notes: &'m [Note<'a>], kind: u32) -> Option<&'m Note<'a>>
+    ensures { option_copied result ≡ find (λ note. nat_eq note.kind kind) notes.now }
+{
+    notes.iter().find(|note| note.kind == kind)
+}
+
+/// The descriptor of the first of some notes that has a type, if one has it.
+pub fn first_desc<'a>(notes: &[Note<'a>], kind: u32) -> Option<&'a [u8]>
+    ensures { option_copied result ≡ desc_of kind (map noted notes.now) }
+{
+    match first_of_kind(notes, kind) {
+        Some(note) => Some(note.desc),
+        None => None,
+    }
+}
+
 /// Whether a note, if it is a status or a process record, is long enough.
 fn is_whole(note: &Note) -> bool
     ensures { IsTrue result ↔ IsWhole (noted note.now) }
 {
     match note.kind {
-        STATUS => note.desc.len() >= STATUS_SIZE,
-        PROCESS => note.desc.len() >= PROCESS_SIZE,
+        NT_PRSTATUS => note.desc.len() >= STATUS_SIZE,
+        NT_PRPSINFO => note.desc.len() >= PROCESS_SIZE,
         _ => true,
     }
 }
@@ -72,7 +88,7 @@ pub(crate) fn last_process(notes: &[Note]) -> Option<elf_prpsinfo>
 {
     let mut last = None;
     for note in notes.iter().copied() {
-        if note.kind == PROCESS {
+        if note.kind == NT_PRPSINFO {
             last = process_of(&note);
         }
     }
@@ -94,7 +110,7 @@ pub(crate) fn file_entries<'a>(
 {
     let mut entries = Vec::new(alloc);
     for note in notes {
-        if note.kind == FILE_TABLE {
+        if note.kind == NT_FILE {
             let own = table_entries(alloc, note.desc)?;
             entries.extend_from_slice(&own)?;
         }

@@ -5,11 +5,20 @@ ghost use Rattle.image_memory.specs.Notes.{status_in, process_in, status_noted, 
 
 use elf64_core::{Note, u16_in, u32_in};
 
-/// The type of a status record.
-pub(crate) const STATUS: u32 = 1;
+/// The type of a status record: of a thread, with its registers (Linux's `elf.h`, as those below).
+pub const NT_PRSTATUS: u32 = 1;
 
 /// The type of a process record.
-pub(crate) const PROCESS: u32 = 3;
+pub const NT_PRPSINFO: u32 = 3;
+
+/// The type of the auxiliary vector.
+pub const NT_AUXV: u32 = 6;
+
+/// The type of a file table.
+pub const NT_FILE: u32 = 0x46494c45;
+
+/// The type of the record of the signal that the process got (`siginfo_t`).
+pub const NT_SIGINFO: u32 = 0x53494749;
 
 /// How many bytes a status record has at least.
 pub(crate) const STATUS_SIZE: usize = 112;
@@ -82,7 +91,7 @@ fn process_in(desc: &[u8]) -> elf_prpsinfo
 pub(crate) fn status_noted(note: &Note) -> Option<elf_prstatus>
     ensures { result ≡ status_noted (noted note.now) }
 {
-    if note.kind == STATUS && note.desc.len() >= STATUS_SIZE {
+    if note.kind == NT_PRSTATUS && note.desc.len() >= STATUS_SIZE {
         Some(status_in(note.desc))
     } else {
         None
@@ -93,7 +102,7 @@ pub(crate) fn status_noted(note: &Note) -> Option<elf_prstatus>
 pub(crate) fn process_of(note: &Note) -> Option<elf_prpsinfo>
     ensures { result ≡ process_of (noted note.now) }
 {
-    if note.kind == PROCESS && note.desc.len() >= PROCESS_SIZE {
+    if note.kind == NT_PRPSINFO && note.desc.len() >= PROCESS_SIZE {
         Some(process_in(note.desc))
     } else {
         None

@@ -1,11 +1,10 @@
 -- The thread that got the signal of a process, by its core. That the first status record is that thread's is Linux's
 -- order of notes.
-use Rattle.std.specs.Prelude.{◌≡◌, ℕ, nat_lt, if◌then◌else◌, List, length, find, Option, None, option_and_then}
+use Rattle.std.specs.Prelude.{◌≡◌, ℕ, nat_lt, if◌then◌else◌, List, length, Option, None, option_and_then}
 use Rattle.elf64_core.specs.Header.{machine_of}
 use Rattle.elf64_core.specs.Notes.{Noted}
 use Rattle.elf64_core.specs.declared.header.Machine.{Machine}
-use Rattle.image_memory.specs.FileTables.{Entry}
-use Rattle.image_memory.specs.Notes.{AreCoreNotes, is_of_kind, status_kind}
+use Rattle.image_memory.specs.Notes.{AreNotesOfCore, desc_of, status_kind}
 use Rattle.salvage_marks.specs.Crashes.{crash_of}
 use Rattle.salvage_marks.specs.declared.crash.Crash.{Crash}
 
@@ -15,12 +14,10 @@ told_by machine status = if nat_lt (length status) 112 then None else crash_of m
 
 -- the thread of the first status record among some notes
 abbrev pub crash_among : Machine → List Noted → Option Crash
-crash_among machine notes =
-    option_and_then (λ (note : Noted). told_by machine note.desc) (find (is_of_kind status_kind) notes)
+crash_among machine notes = option_and_then (told_by machine) (desc_of status_kind notes)
 
 -- the notes of a core tell this thread, or none
 pub record CrashTold (bytes : List ℕ) (crash : Option Crash) : Type 0 where
   pub notes : List Noted
-  pub entries : List Entry
-  pub found : AreCoreNotes bytes notes entries
+  pub are : AreNotesOfCore bytes notes
   pub says : crash ≡ crash_among (machine_of bytes) notes

@@ -116,8 +116,8 @@ fn salvage_core(
     requires few { words.now.limit ≤ 4096 }
     ensures { IsAnswer (IsSalvagedBy (asked_salvage words.now) core.items images.now layouts.now) result }
 {
-    let crash = first_crash(alloc, &core)?;
     let process = open(alloc, core, images, layouts)?;
+    let crash = first_crash(alloc, process.dump.core())?;
     shown_left(alloc, words, process, crash)
 }
 
