@@ -2,11 +2,12 @@
 """Runs the built programs on hostile input: valid files and words after changes of bytes, numbers, links and lengths.
 
     tools/check/fuzz.py --program crates/pystacks/out/pystacks [--salvage crates/pysalvage/out/pysalvage]
+                        [--listing crates/listing/out/listing]
                         [--seed S] [--first N] [--count N] [--command dump].. [--workers N] [--keep DIR]
 
 Each run must end within 10 seconds of the processor and 300 MB, with a status that its command has, and with either a
 text of that command or one line that docs/MESSAGES.md has for that status. The text of `dump` and of `pysalvage` must
-show what its JSON says. One run of eight has a change of which the rules tell the answer, and must give it; of `sample`
+show what its JSON says; `listing frames` must show entries and rows in order, or say why there are none. One run of eight has a change of which the rules tell the answer, and must give it; of `sample`
 one of two. A case is told by its command, its seed and its number: files of those that fail are kept in DIR. The status
 is 0 exactly where none fails.
 """
@@ -26,10 +27,11 @@ from pathlib import Path
 from random import Random
 from typing import Callable, Dict, Iterator, List, Optional, Sequence, Tuple
 
-from rooms import BUILT_SALVAGE, ROOT  # (first: it makes the other rooms known)
+from rooms import BUILT_LISTING, BUILT_SALVAGE, ROOT  # (first: it makes the other rooms known)
 
 import changes
 import rows_dump
+import rows_frames
 import rows_merge
 import rows_reach
 import rows_salvage
@@ -49,12 +51,12 @@ SECONDS, MEMORY = 10, 300 * 10 ** 6
 COMMANDS: Dict[str, Callable[[], List[Row]]] = {
     "dump": rows_dump.rows, "walk": rows_walk.rows, "triage": rows_triage.rows, "reach": rows_reach.rows,
     "merge": rows_merge.rows, "locate": rows_slim.rows, "slim": rows_slim.slim_rows, "sample": lambda: [],
-    "pysalvage": rows_salvage.rows}
-"""The commands, and whose rows the cases begin with. (`pysalvage` is a program of its own. Those of `sample` begin with
-cores that it writes.)"""
+    "pysalvage": rows_salvage.rows, "frames": rows_frames.rows}
+"""The commands, and whose rows the cases begin with. (`pysalvage` and `listing`, which has `frames`, are programs of their
+own. Those of `sample` begin with cores that it writes.)"""
 
 FURTHER = {"merge": {7}, "slim": {8}, "reach": {9}}
-STATUSES = {name: {0, 1, 2, 3, 5, 6} | FURTHER.get(name, set()) for name in COMMANDS}
+STATUSES = {**{name: {0, 1, 2, 3, 5, 6} | FURTHER.get(name, set()) for name in COMMANDS}, "frames": {0}}
 """The statuses that a command has, less 4: the output can always be written here."""
 
 TOLD = {**TELLERS, "pysalvage": SALVAGE_TELLERS}
@@ -256,9 +258,28 @@ def fault_of_sample(run: Run, out: bytes) -> Optional[str]:
     return None if is_right else f"a walk over it comes to status {walked.status}, {walked.said!r}"
 
 
+def fault_of_frames(run: Run, out: bytes) -> Optional[str]:
+    """Each entry has a line, and behind it its rows, by ascending addresses that it covers; or a line says why there are none."""
+    begin, size, last, is_refused = 0, 0, -1, False
+    for line in out.decode().splitlines():
+        entry, at, why = (re.fullmatch(it, line) for it in (r"entry (\d+) (\d+) \d+( signal)?", r"row (\d+) (.*)", r"(entry )?refused .*"))
+        if entry:
+            begin, size, last, is_refused = int(entry.group(1)), int(entry.group(2)), -1, False
+        elif at:
+            if is_refused or not last < int(at.group(1)) - begin < size or not FRAME_ROW.fullmatch(at.group(2)):
+                return f"the row {line!r}"
+            last, is_refused = int(at.group(1)) - begin, at.group(2).startswith("refused")
+        elif not why:
+            return f"the line {line!r}"
+    return None
+
+
+FRAME_ROW = re.compile(r"refused \d+ \w+(\(\d+\))?|(-|exp|\d+[+-]\d+)( \d+=(u|s|exp|vexp|r\d+|[cv][+-]\d+))*( signed)?")
+"""A row of `listing frames` behind its address."""
+
 FAULTS: Dict[str, Callable[[Run, bytes], Optional[str]]] = {
     "dump": fault_of_dump, "pysalvage": fault_of_salvage, "reach": fault_of_reach, "slim": fault_of_slim,
-    "sample": fault_of_sample}
+    "sample": fault_of_sample, "frames": fault_of_frames}
 
 
 def fault_of_text(run: Run, out: bytes) -> Optional[str]:
@@ -342,7 +363,8 @@ def case_of(part: Part, number: int, rows: Sequence[Row]) -> Case:
     begun = random.choice(rows)
     words, files = list(begun.words), dict(begun.files)
     name = random.choice(sorted(files))
-    if random.random() < 0.05 and len(words) > 1:
+    # (the words of `listing` are of no program that people run)
+    if random.random() < 0.05 and len(words) > 1 and part.command != "frames":
         at = random.randrange(1, len(words))
         words[at] = changes.changed_word(random, words[at])
     else:
@@ -428,6 +450,7 @@ def main() -> int:
     parser = argparse.ArgumentParser(description=__doc__, formatter_class=argparse.RawDescriptionHelpFormatter)
     parser.add_argument("--program", required=True, help="the built program")
     parser.add_argument("--salvage", default=str(BUILT_SALVAGE), help="the built `pysalvage`")
+    parser.add_argument("--listing", default=str(BUILT_LISTING), help="the built `listing`")
     parser.add_argument("--seed", type=int, default=1)
     parser.add_argument("--first", type=int, default=0, help="the number of the first case (default: 0)")
     parser.add_argument("--count", type=int, default=100, help="how many cases each command has (default: 100)")
@@ -438,7 +461,7 @@ def main() -> int:
     failed = 0
     with ProcessPoolExecutor(words.workers) as pool:
         for command in words.command or COMMANDS:
-            program = words.salvage if command == "pysalvage" else words.program
+            program = {"pysalvage": words.salvage, "frames": words.listing}.get(command, words.program)
             if os.path.isfile(program):
                 failed += failures(words, pool, program, command)
             else:

@@ -77,6 +77,7 @@ CHECKS = (
     Check("real/real_salvage", OF_BOTH),
     Check("real/arm_core", OF_PROGRAM),
     Check("real/compare_elf", OF_LISTING),
+    Check("real/compare_frames", OF_LISTING, (*OF_LISTING, "--all")),
     Check("real/compare_maps", OF_LISTING),
 )
 """What is run, in order."""

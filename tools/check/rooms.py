@@ -8,6 +8,7 @@ from pathlib import Path
 CHECK = Path(__file__).resolve().parent
 TOOLS = CHECK.parent
 ROOT = TOOLS.parent
+BUILT_LISTING = ROOT / "crates" / "listing" / "out" / "listing"
 BUILT_SALVAGE = ROOT / "crates" / "pysalvage" / "out" / "pysalvage"
 
 # (a check that ran leaves nothing behind)

@@ -1,0 +1,9 @@
+pub mod Augmentations
+pub mod Commons
+pub mod Fields
+pub mod Headers
+pub mod Pairs
+pub mod Parts
+pub mod Records
+pub mod Rows
+pub mod Tables
