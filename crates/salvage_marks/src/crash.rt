@@ -1,6 +1,6 @@
 //! The thread that got the signal of a process.
 ghost use Rattle.std.specs.Prelude.{◌≡◌, ◌≤◌, length, position};
-ghost use Rattle.salvage_marks.specs.Crashes.{crash_of, is_crashed, is_id, thread_pointer};
+ghost use Rattle.salvage_marks.specs.Crashes.{crash_of, is_crashed, is_id, status_thread, thread_pointer};
 
 use crate::id::names_thread;
 use elf64_core::{Machine, u16_in, u32_in, u64_in};
@@ -40,7 +40,18 @@ fn thread_pointer(machine: Machine, status: &[u8]) -> Option<u64>
     }
 }
 
-/// The thread that a status record is of, by the bytes of its descriptor, 112 at least: none where its signal is 0.
+/// The thread that a status record is of, by the bytes of its descriptor, 112 at least.
+pub fn status_thread(machine: Machine, status: &[u8]) -> Crash
+    requires whole { 112 ≤ length status.now }
+    ensures { result ≡ status_thread machine status.now }
+{
+    Crash {
+        native_id: Some(u64::from(u32_in(status, PR_PID))),
+        thread_pointer: thread_pointer(machine, status),
+    }
+}
+
+/// The same, where its signal isn't 0; else none.
 ///
 /// That is the thread that got the signal, where it is the first record of a core: Linux writes that one first.
 pub fn crash_of(machine: Machine, status: &[u8]) -> Option<Crash>
@@ -50,14 +61,11 @@ pub fn crash_of(machine: Machine, status: &[u8]) -> Option<Crash>
     if u16_in(status, PR_CURSIG) == 0 {
         return None;
     }
-    Some(Crash {
-        native_id: Some(u64::from(u32_in(status, PR_PID))),
-        thread_pointer: thread_pointer(machine, status),
-    })
+    Some(status_thread(machine, status))
 }
 
-/// Whether an id is told, and names the thread of this id.
-fn is_id(told: Option<u64>, id: u64) -> bool
+/// Whether an id is told, and names the thread of this id; 0 names none.
+pub fn is_id(told: Option<u64>, id: u64) -> bool
     ensures { result ≡ is_id told id }
 {
     match told {

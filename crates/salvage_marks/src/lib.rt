@@ -7,6 +7,6 @@ mod id;
 mod lock;
 mod salvaged;
 
-pub use crash::{Crash, crash_of, crashed_at, is_crashed};
+pub use crash::{Crash, crash_of, crashed_at, is_crashed, is_id, status_thread};
 pub use lock::{LockState, holds_lock, lock_state};
 pub use salvaged::{Salvaged, SalvagedInterpreter, first_crashed, salvage};

@@ -1,0 +1,4 @@
+pub mod Tables
+pub mod Signals
+pub mod Text
+pub mod Trees

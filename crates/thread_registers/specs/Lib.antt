@@ -1,0 +1,4 @@
+pub mod Names
+pub mod Threads
+pub mod Text
+pub mod Trees
