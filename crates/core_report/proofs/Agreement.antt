@@ -41,6 +41,9 @@ use Rattle.object_reach.specs.declared.reached.ReachError.{ReachError}
 use Rattle.object_reach.specs.declared.reached.ReachError.TheVariants as reaching
 use Rattle.std.proofs.lemmas.Option.{same_Some, none-some}
 use Rattle.py_process.proofs.Agreement.{err_is, ok_is, ok_kept, ok_not_err}
+use Rattle.program_run.specs.Outcomes.{OutcomeThen}
+use Rattle.program_run.proofs.Outcomes.{AgreeBy, Excludes, NoCauseBut, Unique, core_exclude, flaw_apart}
+use Rattle.program_run.proofs.Outcomes.{layouts_exclude, ok_unique, steps_agree, steps_sound}
 use Rattle.program_run.proofs.Statuses.{core_one, flaw_status}
 use Rattle.core_report.specs.Reading.{HasFlaw}
 use Rattle.core_report.specs.Stacked.{LeadsTo, Stacked, StackedIs, locals_asked, reach_text}
@@ -50,7 +53,7 @@ use Rattle.core_report.specs.Outcome.{IsDumpOutcome, IsDumpedBy, IsFaultlessDump
 use Rattle.core_report.specs.Outcome.{IsFaultlessTriage, IsFaultlessWalk, IsMergeOutcome, IsMergedBy, IsMergedFrom}
 use Rattle.core_report.specs.Outcome.{IsMergedIn, IsMergedText, IsOwnCause, IsReachOutcome, IsReachedBy, IsReachedFrom}
 use Rattle.core_report.specs.Outcome.{IsReachedIn, IsReported, IsTriageOutcome, IsTriagedBy, reach_status, IsShown}
-use Rattle.core_report.specs.Outcome.{IsWalkOutcome, IsWalkedBy, Outcome, ReportAnswers, SourceSays, OutcomeThen}
+use Rattle.core_report.specs.Outcome.{IsWalkOutcome, IsWalkedBy, Outcome, ReportAnswers, SourceSays}
 use Rattle.core_report.specs.Outcome.{WalkAnswers, cause_status, images_read, merge_status}
 use Rattle.core_report.specs.Outcome.{outcome_status, shown_report}
 
@@ -74,89 +77,25 @@ outcome_class outcome = settled (outcome_status outcome)
 
 -- two outcomes count as one, unless memory ran out
 abbrev pub Agree : (Outcome → Type 0) → Type 0
-Agree Right = (a b : Outcome) → Right a → Right b → outcome_status a ≢ 5 → outcome_status b ≢ 5
-    → outcome_class a ≡ outcome_class b
+Agree Right = AgreeBy cause_status settled Right
 
 -- no cause is right but want of memory, and those that a command has of its own
 abbrev pub NoCause : (Outcome → Type 0) → Type 0
-NoCause Right = (cause : Cause) → cause_status cause ≢ 5 → Right (Err cause) → IsOwnCause cause
-
--- ---- two steps
-
--- the first of two steps tells values from causes, and its causes have one status
-pub record Excludes {T E : Type 0} (as_cause : E → Cause) (First : Result T E → Type 0) : Type 0 where
-  pub apart : (x : T) (e : E) → First (Ok x) → First (Err e) → cause_status (as_cause e) ≢ 5 → ⊥
-  pub alike : (e f : E) → First (Err e) → First (Err f) → cause_status (as_cause e) ≢ 5
-      → cause_status (as_cause f) ≢ 5 → cause_status (as_cause e) ≡ cause_status (as_cause f)
-
--- what follows either of two values of the first step agrees
-abbrev AgreeAfter : {T E : Type 0} → (Result T E → Type 0) → (T → Outcome → Type 0) → Type 0
-AgreeAfter {T} {E} First Rest = (x y : T) → First (Ok x) → First (Ok y) → (a b : Outcome) → Rest x a → Rest y b
-    → outcome_status a ≢ 5 → outcome_status b ≢ 5 → outcome_class a ≡ outcome_class b
-
-pub then_agree : {T E : Type 0} (as_cause : E → Cause) (First : Result T E → Type 0) (Rest : T → Outcome → Type 0)
-    → Excludes as_cause First → AgreeAfter First Rest → Agree (OutcomeThen as_cause First Rest)
-then_agree {T} {E} as_cause First Rest excludes agree a b one other na nb = ⊎_elim
-    (λ p. ⊎_elim
-    (λ q. ap outcome_class p.1 ∙ ap settled (excludes.alike p.0 q.0 p.2 q.2 (own a p.0 p.1 na) (own b q.0 q.1 nb))
-    ∙ sym (ap outcome_class q.1))
-    (λ q. absurd (excludes.apart q.0 p.0 q.1 p.2 (own a p.0 p.1 na))) other)
-    (λ p. ⊎_elim (λ q. absurd (excludes.apart p.0 q.0 p.1 q.2 (own b q.0 q.1 nb)))
-    (λ q. agree p.0 q.0 p.1 q.1 a b p.2 q.2 na nb) other) one
-  where
-    own : (o : Outcome) (e : E) → o ≡ Err (as_cause e) → outcome_status o ≢ 5 → cause_status (as_cause e) ≢ 5
-    own o e is ne five = ne (ap outcome_status is ∙ five)
-
-pub then_sound : {T E : Type 0} (as_cause : E → Cause) (First : Result T E → Type 0) (Rest : T → Outcome → Type 0)
-    → ((e : E) → First (Err e) → cause_status (as_cause e) ≢ 5 → ⊥) → ((x : T) → First (Ok x) → NoCause (Rest x))
-    → NoCause (OutcomeThen as_cause First Rest)
-then_sound as_cause First Rest first rest cause ne right = ⊎_elim
-    (λ p. absurd (first p.0 p.2 (λ five. ne (ap outcome_status p.1 ∙ five)))) (λ p. rest p.0 p.1 cause ne p.2) right
+NoCause Right = NoCauseBut cause_status IsOwnCause Right
 
 -- ---- layouts
 
-abbrev pub Laid : Type 0
-Laid = Result (List Layout) LayoutError
-
--- two answers on the layouts are the same, unless memory ran out
-abbrev pub Unique : (Laid → Type 0) → Type 0
-Unique Says = (a b : Laid) → Says a → Says b → b ≢ Err layout.OutOfMemory → (a ≡ b) ⊎ (a ≡ Err layout.OutOfMemory)
-
-ok_err : (a : List Layout) (e : LayoutError) → ◌≡◌ {A = Laid} (Ok a) (Err e) → ⊥
-ok_err a e is = cc
-
-ok_same : (a b : List Layout) → ◌≡◌ {A = Laid} (Ok a) (Ok b) → a ≡ b
-ok_same a b is = cc
-
-err_same : (a b : LayoutError) → ◌≡◌ {A = Laid} (Err a) (Err b) → a ≡ b
-err_same a b is = cc
-
-pub ok_unique : (Says : Laid → Type 0) → Unique Says → (a b : List Layout) → Says (Ok a) → Says (Ok b) → a ≡ b
-ok_unique Says unique a b one other =
-    ⊎_elim (ok_same a b) (λ is. absurd (ok_err a layout.OutOfMemory is))
-    (unique (Ok a) (Ok b) one other (ok_err b layout.OutOfMemory))
-
-pub flaw_apart : (Says : Laid → Type 0) → Unique Says → (a : List Layout) (e : LayoutError) → e ≢ layout.OutOfMemory
-    → Says (Ok a) → Says (Err e) → ⊥
-flaw_apart Says unique a e ne one other =
-    ⊎_elim (ok_err a e) (ok_err a layout.OutOfMemory) (unique (Ok a) (Err e) one other (λ is. ne (err_same e layout.OutOfMemory is)))
-
-layouts_exclude : (Says : Laid → Type 0) → Unique Says → Excludes (λ error. Layouts error) Says
-layouts_exclude Says unique = record {
-  apart = λ l e one other ne. flaw_apart Says unique l e (flaw_status e ne).1 one other;
-  alike = λ e f one other ne nf. (flaw_status e ne).0 ∙ sym (flaw_status f nf).0;
-}
-
 -- a step of layouts, after which the work agrees
-pub layouts_agree : (Says : Laid → Type 0) (Works : List Layout → Outcome → Type 0) → Unique Says
+pub layouts_agree : (Says : Result (List Layout) LayoutError → Type 0) (Works : List Layout → Outcome → Type 0) → Unique Says
     → ((layouts : List Layout) → Says (Ok layouts) → Agree (Works layouts)) → Agree (OutcomeThen (λ error. Layouts error) Says Works)
-layouts_agree Says Works unique agree = then_agree (λ error. Layouts error) Says Works (layouts_exclude Says unique)
+layouts_agree Says Works unique agree = steps_agree cause_status settled (λ error. Layouts error) Says Works
+    (layouts_exclude Says unique cause_status (λ error. Layouts error) (λ e. refl))
     (λ l m says also a b p q na nb. agree l says a b p (subst (λ x. Works x b) (ok_unique Says unique m l also says) q) na nb)
 
 -- and after which no cause is right
-pub layouts_sound : (Says : Laid → Type 0) (Works : List Layout → Outcome → Type 0) → Unique Says
+pub layouts_sound : (Says : Result (List Layout) LayoutError → Type 0) (Works : List Layout → Outcome → Type 0) → Unique Says
     → (layouts : List Layout) → Says (Ok layouts) → NoCause (Works layouts) → NoCause (OutcomeThen (λ error. Layouts error) Says Works)
-layouts_sound Says Works unique layouts says works = then_sound (λ error. Layouts error) Says Works
+layouts_sound Says Works unique layouts says works = steps_sound cause_status IsOwnCause (λ error. Layouts error) Says Works
     (λ e error ne. flaw_apart Says unique layouts e (flaw_status e ne).1 says error)
     (λ l other. subst (λ m. NoCause (Works m)) (ok_unique Says unique layouts l says other) works)
 
@@ -167,22 +106,17 @@ source_unique (file name) [] a b one other ne = absurd one
 source_unique (file name) (text ∷ []) a b one other ne = right-unique text a b one other ne
 source_unique (file name) (text ∷ more ∷ rest) a b one other ne = absurd one
 
+list_is : (a b : List Layout) → ◌≡◌ {A = Result (List Layout) LayoutError} (Ok a) (Ok b) → a ≡ b
+list_is a b is = cc
+
 source_apart : (source : LayoutSource) (rest : List (List ℕ)) (list : List Layout) → SourceSays source rest (Ok list) → NoneClash list
-source_apart sample [] list says = subst NoneClash (sym (ok_same list (sample_layout ∷ []) says)) (one_apart sample_layout)
+source_apart sample [] list says = subst NoneClash (sym (list_is list (sample_layout ∷ []) says)) (one_apart sample_layout)
 source_apart sample (text ∷ rest) list says = absurd says
 source_apart (file name) [] list says = absurd says
 source_apart (file name) (text ∷ []) list says = says.sound.apart
 source_apart (file name) (text ∷ more ∷ rest) list says = absurd says
 
 -- ---- the work over a core
-
--- a step whose causes are those of a core, and whose values exclude them
-core_exclude : {T : Type 0} (First : Result T CoreError → Type 0)
-    → ((x : T) (e : CoreError) → First (Ok x) → First (Err e) → e ≢ core.OutOfMemory → ⊥) → Excludes (λ error. Core error) First
-core_exclude First apart = record {
-  apart = λ x e one other ne. apart x e one other (core_one e ne).1;
-  alike = λ e f one other ne nf. (core_one e ne).0 ∙ sym (core_one f nf).0;
-}
 
 pub cause_is : (a b : Cause) → ◌≡◌ {A = Outcome} (Err a) (Err b) → a ≡ b
 cause_is a b is = cc
@@ -209,8 +143,8 @@ walk_apart w bytes list apart v e one other ne =
     (lost_of (map trace_of v.items) core.OutOfMemory) (lost_kept e ne))
 
 walked_agree : (w : Walk) (bytes : List ℕ) (list : List Layout) → NoneClash list → Agree (IsWalkedBy w bytes list)
-walked_agree w bytes list apart = then_agree (λ error. Core error) (WalkAnswers w bytes list) (IsShown w)
-    (core_exclude (WalkAnswers w bytes list) (walk_apart w bytes list apart))
+walked_agree w bytes list apart = steps_agree cause_status settled (λ error. Core error) (WalkAnswers w bytes list) (IsShown w)
+    (core_exclude cause_status (λ error. Core error) (λ e. refl) (WalkAnswers w bytes list) (walk_apart w bytes list apart))
     (λ s t one other a b p q na nb. text_agree _ _ a b p q)
 
 pub walk_agree : (w : Walk) (contents : List (List ℕ)) → Agree (IsWalkOutcome w contents)
@@ -221,7 +155,7 @@ walk_agree w (bytes ∷ rest) a b one other na nb =
 
 walked_sound : (w : Walk) (bytes : List ℕ) (list : List Layout) → NoneClash list
     → IsWalkable bytes list w.version w.addresses → NoCause (IsWalkedBy w bytes list)
-walked_sound w bytes list apart good = then_sound (λ error. Core error) (WalkAnswers w bytes list) (IsShown w)
+walked_sound w bytes list apart good = steps_sound cause_status IsOwnCause (λ error. Core error) (WalkAnswers w bytes list) (IsShown w)
     (λ e error ne. walk_complete bytes list w.version w.addresses apart good e error (lost_kept e (core_one e ne).1))
     (λ traces found. text_sound (walk_text w.version traces.items))
 
@@ -247,8 +181,8 @@ report_apart config bytes images list apart r e one other ne =
     (err_of (reported_of r) core.OutOfMemory) (err_kept e ne))
 
 dumped_agree : (d : Dump) (bytes : List ℕ) (images : Pushed) (list : List Layout) → NoneClash list → Agree (IsDumpedBy d bytes images list)
-dumped_agree d bytes images list apart = then_agree (λ error. Core error) (ReportAnswers d.config bytes images list) (IsReported d)
-    (core_exclude (ReportAnswers d.config bytes images list) (report_apart d.config bytes images list apart))
+dumped_agree d bytes images list apart = steps_agree cause_status settled (λ error. Core error) (ReportAnswers d.config bytes images list) (IsReported d)
+    (core_exclude cause_status (λ error. Core error) (λ e. refl) (ReportAnswers d.config bytes images list) (report_apart d.config bytes images list apart))
     (λ s t one other a b p q na nb. text_agree _ _ a b p q)
 
 pub text_apart : (text : List ℕ) (list : List Layout) → IsRightFor text (Ok list) → NoneClash list
@@ -263,7 +197,7 @@ dump_agree d (bytes ∷ text ∷ images) a b one other na nb =
 
 dumped_sound : (d : Dump) (bytes : List ℕ) (images : Pushed) (list : List Layout) → NoneClash list
     → IsReadable bytes images list d.config → NoCause (IsDumpedBy d bytes images list)
-dumped_sound d bytes images list apart good = then_sound (λ error. Core error) (ReportAnswers d.config bytes images list) (IsReported d)
+dumped_sound d bytes images list apart good = steps_sound cause_status IsOwnCause (λ error. Core error) (ReportAnswers d.config bytes images list) (IsReported d)
     (λ e error ne. report_complete bytes images list d.config apart good e error (err_kept e (core_one e ne).1))
     (λ r found. text_sound (shown_report d r))
 
@@ -305,14 +239,14 @@ reach_own : (e : ReachError) → reach_status e ≢ 5 → e ≡ reaching.ReachLi
 reach_own reaching.ReachLimit ne = refl
 reach_own reaching.OutOfMemory ne = absurd (ne refl)
 
-led_exclude : (s : Stacked) (thread : Trace) → Excludes (λ error. Reach error) (LeadsTo s thread)
+led_exclude : (s : Stacked) (thread : Trace) → Excludes cause_status (λ error. Reach error) (LeadsTo s thread)
 led_exclude s thread = record {
   apart = λ objects e one other ne. one.1 (subst (λ x. LeadsTo s thread (Err x)) (reach_own e ne) other);
   alike = λ e f one other ne nf. ap reach_status (reach_own e ne) ∙ sym (ap reach_status (reach_own f nf));
 }
 
 from_agree : (s : Stacked) (thread : Trace) → Agree (IsReachedFrom s thread)
-from_agree s thread = then_agree (λ error. Reach error) (LeadsTo s thread) (λ objects text. text ≡ Ok (reach_text objects))
+from_agree s thread = steps_agree cause_status settled (λ error. Reach error) (LeadsTo s thread) (λ objects text. text ≡ Ok (reach_text objects))
     (led_exclude s thread) (λ x y one other a b p q na nb. text_agree _ _ a b p q)
 
 in_agree : (index : ℕ) (s : Stacked) → Agree (IsReachedIn index s)
@@ -323,8 +257,8 @@ in_agree index s a b (inr one) (inr other) na nb =
     from_agree s one.0 a b one.2 (subst (λ t. IsReachedFrom s t b) (same_Some _ _ (sym other.1 ∙ one.1)) other.2) na nb
 
 reached_agree : (r : AsksReach) (bytes : List ℕ) (images : Pushed) (list : List Layout) → NoneClash list → Agree (IsReachedBy r bytes images list)
-reached_agree r bytes images list apart = then_agree (λ error. Core error) (StackedIs bytes images list locals_asked) (IsReachedIn r.index)
-    (core_exclude (StackedIs bytes images list locals_asked) (stacked_apart_by locals_asked bytes images list apart))
+reached_agree r bytes images list apart = steps_agree cause_status settled (λ error. Core error) (StackedIs bytes images list locals_asked) (IsReachedIn r.index)
+    (core_exclude cause_status (λ error. Core error) (λ e. refl) (StackedIs bytes images list locals_asked) (stacked_apart_by locals_asked bytes images list apart))
     (λ s t one other a b p q na nb. in_agree r.index s a b p (subst (λ u. IsReachedIn r.index u b)
     (ok_is t s (stacked_agree bytes images list locals_asked (chooses_once list apart) (Ok t) (Ok s) other one (ok_kept t) (ok_kept s))) q) na nb)
 
@@ -345,7 +279,7 @@ in_sound index s cause ne (inr p) = from_sound s p.0 cause ne p.2
 
 reached_sound : (r : AsksReach) (bytes : List ℕ) (images : Pushed) (list : List Layout) → NoneClash list
     → IsReadable bytes images list locals_asked → NoCause (IsReachedBy r bytes images list)
-reached_sound r bytes images list apart good = then_sound (λ error. Core error) (StackedIs bytes images list locals_asked) (IsReachedIn r.index)
+reached_sound r bytes images list apart good = steps_sound cause_status IsOwnCause (λ error. Core error) (StackedIs bytes images list locals_asked) (IsReachedIn r.index)
     (λ e error ne. report_complete bytes images list locals_asked apart good e (unstacked bytes images list locals_asked e error) (err_kept e (core_one e ne).1))
     (λ s found. in_sound r.index s)
 
@@ -359,7 +293,7 @@ reach_sound r (bytes ∷ text ∷ images) (list, says, good) cause ne is =
 -- ---- threads merged with native addresses
 
 merge_exclude : (core : List ℕ) (images : Pushed) (python : ℕ → Bool) (thread : Trace) (text : List ℕ)
-    → Excludes (λ error. Merge error) (CoreMergeIs core images python thread.frames text)
+    → Excludes cause_status (λ error. Merge error) (CoreMergeIs core images python thread.frames text)
 merge_exclude core images python thread text = record {
   apart = λ x e one other ne. merge_ok_err x e (core_merge_once core images python thread.frames text (Ok x) (Err e) one other);
   alike = λ e f one other ne nf.
@@ -371,7 +305,7 @@ merged_text_agree s t a b one other = text_agree _ _ a b one.2 other.2
 
 merging_agree : (core : List ℕ) (images : Pushed) (python : ℕ → Bool) (thread : Trace) (text : List ℕ)
     → Agree (OutcomeThen (λ error. Merge error) (CoreMergeIs core images python thread.frames text) IsMergedText)
-merging_agree core images python thread text = then_agree (λ error. Merge error)
+merging_agree core images python thread text = steps_agree cause_status settled (λ error. Merge error)
     (CoreMergeIs core images python thread.frames text) IsMergedText (merge_exclude core images python thread text)
     (λ x y one other a b p q na nb. merged_text_agree x y a b p q)
 
@@ -391,8 +325,8 @@ merged_in_agree index core images text s a b (inr one) (inr other) na nb =
 
 merged_agree : (m : AsksMerge) (core : List ℕ) (images : Pushed) (text : List ℕ) (list : List Layout) → NoneClash list
     → Agree (IsMergedBy m core images text list)
-merged_agree m core images text list apart = then_agree (λ error. Core error) (StackedIs core images list default_config) (IsMergedIn m.index core images text)
-    (core_exclude (StackedIs core images list default_config) (stacked_apart_by default_config core images list apart))
+merged_agree m core images text list apart = steps_agree cause_status settled (λ error. Core error) (StackedIs core images list default_config) (IsMergedIn m.index core images text)
+    (core_exclude cause_status (λ error. Core error) (λ e. refl) (StackedIs core images list default_config) (stacked_apart_by default_config core images list apart))
     (λ s t one other a b p q na nb. merged_in_agree m.index core images text s a b p (subst (λ u. IsMergedIn m.index core images text u b)
     (ok_is t s (stacked_agree core images list default_config (chooses_once list apart) (Ok t) (Ok s) other one (ok_kept t) (ok_kept s))) q) na nb)
 
@@ -420,7 +354,7 @@ merged_in_sound index core images text s cause ne (inr p) =
 
 merged_sound : (m : AsksMerge) (core : List ℕ) (images : Pushed) (text : List ℕ) (list : List Layout) → NoneClash list
     → IsReadable core images list default_config → NoCause (IsMergedBy m core images text list)
-merged_sound m core images text list apart good = then_sound (λ error. Core error) (StackedIs core images list default_config) (IsMergedIn m.index core images text)
+merged_sound m core images text list apart good = steps_sound cause_status IsOwnCause (λ error. Core error) (StackedIs core images list default_config) (IsMergedIn m.index core images text)
     (λ e error ne. report_complete core images list default_config apart good e (unstacked core images list default_config e error) (err_kept e (core_one e ne).1))
     (λ s found. merged_in_sound m.index core images text s)
 

@@ -43,9 +43,9 @@ use Rattle.core_report.specs.Outcome.{IsSampledAs, IsSlimOutcome, IsSlimmedFrom,
 use Rattle.core_report.specs.Outcome.{outcome_status}
 use Rattle.core_report.specs.Run.{HasFewReads}
 use Rattle.program_run.proofs.Statuses.{core_one, core_within, flaw_status}
-use Rattle.core_report.proofs.Agreement.{Agree, Excludes, NoCause, cause_is, err_kept, flaw_apart}
-use Rattle.core_report.proofs.Agreement.{ok_unique, outcome_class, settled, text_agree, text_apart}
-use Rattle.core_report.proofs.Agreement.{text_sound, then_agree, then_sound}
+use Rattle.core_report.proofs.Agreement.{Agree, NoCause, cause_is, err_kept, outcome_class, settled, text_agree}
+use Rattle.core_report.proofs.Agreement.{text_apart, text_sound}
+use Rattle.program_run.proofs.Outcomes.{Excludes, flaw_apart, ok_unique, steps_agree, steps_sound}
 use Rattle.core_report.proofs.Stacked.{step}
 
 -- ---- one process
@@ -172,7 +172,7 @@ module _ (named : List (List ℕ × List ℕ)) (bytes text : List ℕ) (images :
       (subst (λ l. OpenedIs bytes (images_read named images) l (Ok o)) (one_list more list also says) opened) stacks) (err_kept e ne)
 
 -- the same for all contents
-opens_exclude : (named : List (List ℕ × List ℕ)) (contents : List (List ℕ)) → Excludes (λ cause. cause) (OpensBy named contents)
+opens_exclude : (named : List (List ℕ × List ℕ)) (contents : List (List ℕ)) → Excludes cause_status (λ cause. cause) (OpensBy named contents)
 opens_exclude named [] = record { apart = λ o e one other ne. absurd one; alike = λ e f one other ne nf. absurd one }
 opens_exclude named (core ∷ []) = record { apart = λ o e one other ne. absurd one; alike = λ e f one other ne nf. absurd one }
 opens_exclude named (core ∷ text ∷ images) = record { apart = open_apart named core text images; alike = open_alike named core text images }
@@ -185,13 +185,13 @@ opens_once named (core ∷ text ∷ images) a b one other = open_one named core 
 -- ---- where an interpreter is
 
 pub locate_agree : (l : AsksLocate) (contents : List (List ℕ)) → Agree (IsLocateOutcome l contents)
-locate_agree l contents = then_agree (λ cause. cause) (OpensBy l.images contents) IsLocated (opens_exclude l.images contents)
+locate_agree l contents = steps_agree cause_status settled (λ cause. cause) (OpensBy l.images contents) IsLocated (opens_exclude l.images contents)
     (λ x y one other a b p q na nb. text_agree _ _ a b p q)
 
 pub locate_sound : (l : AsksLocate) (contents : List (List ℕ)) → IsFaultlessProcess l.images default_config contents → NoCause (IsLocateOutcome l contents)
 locate_sound l [] good = absurd good
 locate_sound l (core ∷ []) good = absurd good
-locate_sound l (core ∷ text ∷ images) (list, says, good) = then_sound (λ cause. cause) (OpensBy l.images (core ∷ text ∷ images)) IsLocated
+locate_sound l (core ∷ text ∷ images) (list, says, good) = steps_sound cause_status IsOwnCause (λ cause. cause) (OpensBy l.images (core ∷ text ∷ images)) IsLocated
     (open_sound l.images core text images default_config list says good)
     (λ o opened. text_sound (locate_text o.finding.version o.finding.addresses))
 
@@ -261,14 +261,14 @@ module _ (level : ℕ) (o : Opened) where
   slimmed_sound none cause ne (inr p) = absurd (let h : _ = p.2 in cc)
 
 pub slim_agree : (s : AsksSlim) (contents : List (List ℕ)) → Agree (IsSlimOutcome s contents)
-slim_agree s contents = then_agree (λ cause. cause) (OpensBy s.images contents) (IsSlimmedFrom s.level) (opens_exclude s.images contents)
+slim_agree s contents = steps_agree cause_status settled (λ cause. cause) (OpensBy s.images contents) (IsSlimmedFrom s.level) (opens_exclude s.images contents)
     (λ x y one other a b p q na nb. slimmed_agree s.level x a b p
     (subst (λ o. IsSlimmedFrom s.level o b) (opens_once s.images contents y x other one) q) na nb)
 
 pub slim_sound : (s : AsksSlim) (contents : List (List ℕ)) → IsFaultlessProcess s.images (level_asked s.level) contents → NoCause (IsSlimOutcome s contents)
 slim_sound s [] good = absurd good
 slim_sound s (core ∷ []) good = absurd good
-slim_sound s (core ∷ text ∷ images) (list, says, good) = then_sound (λ cause. cause) (OpensBy s.images (core ∷ text ∷ images)) (IsSlimmedFrom s.level)
+slim_sound s (core ∷ text ∷ images) (list, says, good) = steps_sound cause_status IsOwnCause (λ cause. cause) (OpensBy s.images (core ∷ text ∷ images)) (IsSlimmedFrom s.level)
     (open_sound s.images core text images (level_asked s.level) list says good)
     (λ o opened. slimmed_sound s.level o (stacks_sound s.images core text images (level_asked s.level) list says good o opened))
 

@@ -24,7 +24,8 @@ use Rattle.core_stacks.specs.Seen.{AreBinaries}
 use Rattle.core_merge.specs.CoreMerges.{CoreMergeIs}
 use Rattle.core_words.specs.Words.{Merge as AsksMerge}
 use Rattle.core_report.specs.Outcome.{IsMergeOutcome, IsMergedBy, IsMergedFrom, IsMergedIn, merge_status, Outcome}
-use Rattle.core_report.specs.Outcome.{OutcomeThen, images_by, images_read}
+use Rattle.core_report.specs.Outcome.{images_by, images_read}
+use Rattle.program_run.specs.Outcomes.{OutcomeThen}
 use Rattle.core_report.specs.Stacked.{Stacked, StackedIs}
 use Rattle.core_report.specs.declared.cause.Cause.TheVariants.{Layouts, Merge}
 

@@ -17,6 +17,7 @@ use Rattle.core_texts.specs.Text.{frames_text, report_text, walk_text}
 use Rattle.core_texts.specs.Tree.{report_json}
 use Rattle.image_memory.specs.Images.{Pushed}
 pub use Rattle.named_images.specs.Named.{images_by, images_read}
+use Rattle.program_run.specs.Outcomes.{IsAnswerBy, OutcomeThen, status_by}
 pub use Rattle.program_run.specs.Statuses.{core_status, layouts_status}
 use Rattle.py_stacks.specs.declared.config.Config.{Config}
 use Rattle.py_process.specs.Reports.{IsReadable, ReportIs, reported}
@@ -49,13 +50,6 @@ use Rattle.core_report.specs.Stacked.{LeadsTo, Stacked, StackedIs, locals_asked,
 -- a command's text, or the cause why there is none
 abbrev pub Outcome : Type 0
 Outcome = Result (List ℕ) Cause
-
--- two steps, of which the first may end with a cause
-abbrev pub OutcomeThen : {T E : Type 0} → (E → Cause) → (Result T E → Type 0)
-    → (T → Outcome → Type 0) → Outcome → Type 0
-OutcomeThen as_cause First Rest outcome =
-    ((error : _) × (outcome ≡ Err (as_cause error)) × First (Err error))
-    ⊎ ((value : _) × First (Ok value) × Rest value outcome)
 
 -- ---- steps
 
@@ -297,13 +291,11 @@ cause_status (TooManyPieces count) = 8
 cause_status OutOfMemory = 5
 
 abbrev pub outcome_status : Outcome → ℕ
-outcome_status (Ok _) = 0
-outcome_status (Err cause) = cause_status cause
+outcome_status outcome = status_by cause_status outcome
 
 -- the answer of some work is right, unless memory ran out
 abbrev pub IsAnswer : (Outcome → Type 0) → Result (Vec ℕ Global) Cause → Type 0
-IsAnswer Right (Ok text) = Right (Ok text.items)
-IsAnswer Right (Err cause) = cause_status cause ≢ 5 → Right (Err cause)
+IsAnswer Right result = IsAnswerBy cause_status Right result
 
 -- the process is opened by these contents, or not by a cause, unless memory ran out
 abbrev pub IsOpening : List (List ℕ × List ℕ) → List (List ℕ) → Result Opened Cause → Type 0

@@ -4,6 +4,7 @@ pub mod Images
 pub mod Layouts
 pub mod Left
 pub mod OpenedLaws
+pub mod Opening
 pub mod PlainFaults
 pub mod PlainWalks
 pub mod ReportCauses

@@ -10,8 +10,8 @@ use Rattle.py_version.specs.declared.version.Version.{Version}
 use Rattle.py_stacks.specs.declared.config.Config.{Config}
 use Rattle.py_process.specs.Candidates.{IsFirstOf, candidates_of}
 use Rattle.py_process.specs.Facts.{Known}
-use Rattle.py_process.specs.Findings.{AfterImages, AfterLayout, AfterMaps, AfterSearch, AfterVersion, Finding}
-use Rattle.py_process.specs.Findings.{FindingIs, IsChosen, IsFound, IsMade, LayoutSays, LockSays, SearchSays}
+use Rattle.py_process.specs.Findings.{AfterImages, AfterSearch, Finding, FindingIs, FindsIn, IsChosen, IsFound}
+use Rattle.py_process.specs.Findings.{IsMade, LayoutSays, LockSays, SearchSays}
 use Rattle.py_process.specs.Findings.{VersionSays, finding}
 use Rattle.py_process.specs.Programs.{ArePrograms, ImagesSay, IsKnown, MapsSay, Programs}
 use Rattle.py_process.specs.Reports.{AfterCore, AfterFinding, CoreSays, Dumped, IsDumped, IsTold, MeetsFault, ReportIs}
@@ -109,10 +109,12 @@ module _ (bytes : List ℕ) (images : Pushed) (layouts : List Layout) (config : 
         let m = memory_in d in
         let machine = machine_of bytes in
         let contains = in_maps d.maps in
-        by_step (MapsSay d.maps) (AfterMaps m machine d.maps images layouts) IsCause e maps_cause (λ p are.
-        by_step (ImagesSay images p) (AfterImages m machine contains layouts) IsCause e (images_cause p) (λ k known.
-        by_step (VersionSays m k) (AfterVersion m machine contains layouts k) IsCause e (version_cause k) (λ v told.
-        by_step (LayoutSays layouts v) (AfterLayout m machine contains k v) IsCause e (layout_cause v) (λ l chosen.
+        let after = AfterImages m machine contains layouts in
+        let sought = FindsIn m machine contains in
+        by_step (MapsSay d.maps) (λ p. Then (ImagesSay images p) after) IsCause e maps_cause (λ p are.
+        by_step (ImagesSay images p) after IsCause e (images_cause p) (λ k known.
+        by_step (VersionSays m k) (λ v. Then (LayoutSays layouts v) (sought k v)) IsCause e (version_cause k) (λ v told.
+        by_step (LayoutSays layouts v) (sought k v) IsCause e (layout_cause v) (λ l chosen.
         by_step (SearchSays m contains k v l) (AfterSearch m machine k v l) IsCause e (search_cause k v l) (λ a first.
         by_step (LockSays m machine k v l a) (IsMade v l a) IsCause e (lock_cause p are k known v told l chosen a first)
         (λ lock held made. absurd (ok_not_err (finding v l a lock) e (sym made)))))))) h

@@ -16,7 +16,7 @@ use Rattle.py_fields.specs.declared.layout.Layout.{Layout}
 use Rattle.py_stacks.specs.declared.config.Config.{Config}
 use Rattle.py_stacks.specs.Threads.{Trace}
 use Rattle.py_process.specs.Facts.{Known}
-use Rattle.py_process.specs.Findings.{AfterImages, AfterMaps, Finding, FindingIs, IsFound}
+use Rattle.py_process.specs.Findings.{AfterImages, Finding, FindingIs, FindsIn, IsFound}
 use Rattle.py_process.specs.Programs.{ImagesSay, IsKnown, MapsSay, Programs}
 use Rattle.py_process.specs.Sources.{FirstTells, sources_of}
 use Rattle.py_process.specs.Reports.{AfterCore, AfterFinding, AsksNoOther, CoreSays, Dumped, IsDumped, IsReadable}
@@ -36,6 +36,7 @@ use Rattle.py_process.proofs.StackCauses.{stacks_agree}
 use Rattle.core_stacks.proofs.Settling.{settles_agree, settles_by_err, settles_by_ok, settles_err, settles_ok}
 use Rattle.core_stacks.proofs.ReportLaws.{left_memory}
 use Rattle.core_stacks.proofs.Searching.{candidate_ends}
+use Rattle.core_stacks.proofs.Steps.{unknown_then}
 use Rattle.core_stacks.proofs.Unfaulted.{unfaulted}
 
 err_is : {T : Type 0} (e d : CoreError) → ◌≡◌ {A = Result T CoreError} (Err e) (Err d) → e ≡ d
@@ -159,11 +160,7 @@ module _ (bytes : List ℕ) (images : Pushed) (layouts : List Layout) (config : 
 
     -- where nothing is known
     unknown_settles : (e : CoreError) → Then (MapsSay d.maps) (ImagesSay images) (Err e) → Settles found_in (Err e)
-    unknown_settles e (inl (x, says, is)) =
-        settles_err (MapsSay d.maps) (AfterMaps (memory_in d) (machine_of bytes) d.maps images layouts) (maps_agree d.maps) x (Err e) says (err_moves e x is)
-    unknown_settles e (inr (p, programs, says)) =
-        settles_ok (MapsSay d.maps) (AfterMaps (memory_in d) (machine_of bytes) d.maps images layouts) (maps_agree d.maps) p (Err e) programs
-        (settles_err (ImagesSay images p) (AfterImages (memory_in d) (machine_of bytes) (in_maps d.maps) layouts) (images_agree images p) e (Err e) says refl)
+    unknown_settles e says = unknown_then (memory_in d) d.maps images layouts (FindsIn (memory_in d) (machine_of bytes) (in_maps d.maps)) e (Err e) says refl
 
     pub unknown_reports : (e : CoreError) → Then (MapsSay d.maps) (ImagesSay images) (Err e) → (r : Result Reported CoreError) → r ≡ Err e
         → Settles (ReportIs bytes images layouts config) r
@@ -199,6 +196,9 @@ module _ (bytes : List ℕ) (images : Pushed) (layouts : List Layout) (config : 
       abbrev after_known : Known → Result Finding CoreError → Type 0
       after_known = AfterImages (memory_in d) (machine_of bytes) (in_maps d.maps) layouts
 
+      abbrev after_maps : Programs → Result Finding CoreError → Type 0
+      after_maps p = Then (ImagesSay images p) after_known
+
       here : (r : Result Finding CoreError) → AfterImages (byte_at s0.pieces) (machine_of bytes) contains layouts k r → after (in_maps d.maps) r
       here r h =
           subst (λ test. after test r) tested (subst (λ ps. AfterImages (byte_at ps) (machine_of bytes) contains layouts k r) same h)
@@ -210,9 +210,9 @@ module _ (bytes : List ℕ) (images : Pushed) (layouts : List Layout) (config : 
       known_reports s1 r h =
           let over = subst (λ test. Settles (AfterKnown bytes (memory_in d) test layouts config k) r) tested
           (subst (λ ps. Settles (AfterKnown bytes (byte_at ps) contains layouts config k) r) same (reading_here h.reading)) in
-          by_core r (settles_outward (MapsSay d.maps) (AfterMaps (memory_in d) (machine_of bytes) d.maps images layouts) (AfterFinding bytes d config) r
-          (settles_ok (MapsSay d.maps) (λ p. Then (AfterMaps (memory_in d) (machine_of bytes) d.maps images layouts p) (AfterFinding bytes d config)) (maps_agree d.maps) known_by.0 r known_by.1
-          (settles_outward (ImagesSay images known_by.0) (after_known) (AfterFinding bytes d config) r
+          by_core r (settles_outward (MapsSay d.maps) after_maps (AfterFinding bytes d config) r
+          (settles_ok (MapsSay d.maps) (λ p. Then (after_maps p) (AfterFinding bytes d config)) (maps_agree d.maps) known_by.0 r known_by.1
+          (settles_outward (ImagesSay images known_by.0) after_known (AfterFinding bytes d config) r
           (settles_ok (ImagesSay images known_by.0) (λ x. Then (after_known x) (AfterFinding bytes d config)) (images_agree images known_by.0) k r known_by.2 over))))
 
       found_here : (f : Finding) → AfterImages (byte_at s0.pieces) (machine_of bytes) contains layouts k (Ok f) → IsFound (memory_in d) (machine_of bytes) d.maps images layouts f
@@ -246,8 +246,8 @@ module _ (bytes : List ℕ) (images : Pushed) (layouts : List Layout) (config : 
       -- what can be read is found
       pub good_found : (good : IsReadable bytes images layouts config) → AfterImages (byte_at s0.pieces) (machine_of bytes) contains layouts k (Ok good.finding)
       good_found good =
-          let maps = then_value (MapsSay d.maps) (AfterMaps (memory_in d) (machine_of bytes) d.maps images layouts) (maps_agree d.maps) known_by.0 known_by.1 (Ok good.finding) (ok_kept good.finding) (readable good) in
-          let known = then_value (ImagesSay images known_by.0) (AfterImages (memory_in d) (machine_of bytes) (in_maps d.maps) layouts) (images_agree images known_by.0) k known_by.2 (Ok good.finding) (ok_kept good.finding) maps in
+          let maps = then_value (MapsSay d.maps) after_maps (maps_agree d.maps) known_by.0 known_by.1 (Ok good.finding) (ok_kept good.finding) (readable good) in
+          let known = then_value (ImagesSay images known_by.0) after_known (images_agree images known_by.0) k known_by.2 (Ok good.finding) (ok_kept good.finding) maps in
           subst (λ ps. AfterImages (byte_at ps) (machine_of bytes) contains layouts k (Ok good.finding)) (sym same)
           (subst (λ test. after test (Ok good.finding)) (sym tested) known)
 

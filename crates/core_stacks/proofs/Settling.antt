@@ -1,5 +1,5 @@
 -- Answers of which one is right, and steps of them.
-use Rattle.std.proofs.Common.{◌≡◌, sym, ap, subst, ◌∙◌, inl, inr, ⊎_elim}
+use Rattle.std.proofs.Common.{◌≡◌, refl, sym, ap, subst, ◌∙◌, inl, inr, ⊎_elim}
 use Rattle.std.specs.Prelude.{Result, Ok, Err}
 use Rattle.py_process.specs.Steps.{Then}
 use Rattle.py_process.specs.declared.core_error.CoreError.{CoreError}
@@ -52,3 +52,35 @@ settles_err First Rest first e r one is = settles_by_err First Rest e r (settles
 pub settles_ok : {T U : Type 0} (First : Result T CoreError → Type 0) (Rest : T → Result U CoreError → Type 0) → Agree First
     → (x : T) (r : Result U CoreError) → First (Ok x) → Settles (Rest x) r → Settles (Then First Rest) r
 settles_ok First Rest first x r one rest = settles_by_ok First Rest x r (settles_agree First first (Ok x) one) rest
+
+-- ---- steps in other brackets
+
+module _ {T V U : Type 0} (A : Result T CoreError → Type 0) (B : T → Result V CoreError → Type 0)
+    (C : T × V → Result U CoreError → Type 0) (r : Result U CoreError) where
+  abbrev Both : Result (T × V) CoreError → Type 0
+  Both = Then A (λ x. Then (B x) (λ y pair. pair ≡ Ok (x, y)))
+
+  abbrev InTurn : Result U CoreError → Type 0
+  InTurn = Then A (λ x. Then (B x) (λ y. C (x, y)))
+
+  err_moves : (e d : CoreError) → ◌≡◌ {A = Result (T × V) CoreError} (Err e) (Err d) → ◌≡◌ {A = Result U CoreError} (Err e) (Err d)
+  err_moves e d is = cc
+
+  flat : Then Both C r → InTurn r
+  flat (inl (e, inl (d, a, is'), is)) = inl (d, a, is ∙ err_moves e d is')
+  flat (inl (e, inr (x, a, inl (d, b, is')), is)) = inr (x, a, inl (d, b, is ∙ err_moves e d is'))
+  flat (inl (e, inr (x, a, inr (y, b, is')), is)) = absurd (ok_not_err (x, y) e (sym is'))
+  flat (inr (q, inl (d, a, is'), c)) = absurd (ok_not_err q d is')
+  flat (inr (q, inr (x, a, inl (d, b, is')), c)) = absurd (ok_not_err q d is')
+  flat (inr (q, inr (x, a, inr (y, b, is')), c)) = inr (x, a, inr (y, b, subst (λ z. C z r) (ok_is q (x, y) is') c))
+
+  deep : InTurn r → Then Both C r
+  deep (inl (e, a, is)) = inl (e, inl (e, a, refl), is)
+  deep (inr (x, a, inl (e, b, is))) = inl (e, inr (x, a, inl (e, b, refl)), is)
+  deep (inr (x, a, inr (y, b, c))) = inr ((x, y), inr (x, a, inr (y, b, refl)), c)
+
+-- the values of two steps as a pair, and what comes of it, are three steps in turn
+pub settles_flat : {T V U : Type 0} (A : Result T CoreError → Type 0) (B : T → Result V CoreError → Type 0)
+    (C : T × V → Result U CoreError → Type 0) (r : Result U CoreError)
+    → Settles (Then (Then A (λ x. Then (B x) (λ y pair. pair ≡ Ok (x, y)))) C) r → Settles (Then A (λ x. Then (B x) (λ y. C (x, y)))) r
+settles_flat A B C r h = record { right = flat A B C r h.right; only = λ answer is kept. h.only answer (deep A B C answer is) kept }

@@ -1,10 +1,9 @@
 -- What the answers of the search say as steps.
-use Rattle.std.proofs.Common.{◌≡◌, ℕ, List, refl, subst, sym, ◌∙◌}
+use Rattle.std.proofs.Common.{◌≡◌, ℕ, List, refl, subst, sym, ◌∙◌, inl, inr}
 use Rattle.std.specs.Prelude.{Bool, Some, Result, Ok, Err}
 use Rattle.elf64_core.specs.Header.{machine_of}
 use Rattle.elf64_core.specs.declared.header.Machine.{Machine}
 use Rattle.image_memory.specs.Images.{Pushed}
-use Rattle.image_memory.specs.Maps.{in_maps}
 use Rattle.image_memory.specs.declared.maps.CoreMapRange.{CoreMapRange}
 use Rattle.process_memory.specs.Memory.{Memory}
 use Rattle.py_fields.specs.declared.layout.Layout.{Layout}
@@ -12,17 +11,19 @@ use Rattle.py_version.specs.declared.version.Version.{Version}
 use Rattle.py_process.specs.Candidates.{IsFirstOf, IsNoneOf, NotFoundWhere, candidates_of}
 use Rattle.py_process.specs.Causes.{cause_of_search, cause_of_version}
 use Rattle.py_process.specs.Facts.{Known}
-use Rattle.py_process.specs.Findings.{AfterImages, AfterLayout, AfterMaps, AfterSearch, AfterVersion, Finding}
-use Rattle.py_process.specs.Findings.{FindingIs, IsChosen, IsMade, LayoutSays, LockSays, SearchSays, VersionSays}
-use Rattle.py_process.specs.Findings.{finding}
-use Rattle.py_process.specs.Programs.{ArePrograms, ImagesSay, IsKnown, MapsSay, Programs}
+use Rattle.py_process.specs.Findings.{AfterSearch, Finding, FindingIs, FindsIn, IsChosen, IsMade, LayoutSays}
+use Rattle.py_process.specs.Findings.{LockSays, ProcessThen, SearchSays, VersionSays, VersionThen, finding}
+use Rattle.py_process.specs.Programs.{ImagesSay, MapsSay, Programs}
 use Rattle.py_process.specs.Reports.{Dumped, IsDumped, memory_in}
 use Rattle.py_process.specs.Sources.{FirstTells, VersionIs, sources_of}
+use Rattle.py_process.specs.Steps.{Then}
 use Rattle.py_process.specs.declared.core_error.CoreError.{CoreError}
 use Rattle.py_process.specs.declared.core_error.CoreError.TheVariants as core
-use Rattle.core_stacks.specs.Seen.{FindsProcess}
+use Rattle.core_stacks.specs.Seen.{FindsProcess, IsCovered}
 use Rattle.core_stacks.specs.Sole.{Settles}
-use Rattle.core_stacks.proofs.Settling.{settles_agree, settles_err, settles_ok}
+use Rattle.core_stacks.proofs.Settling.{settles_agree, settles_by_err, settles_by_ok, settles_err, settles_flat}
+use Rattle.core_stacks.proofs.Settling.{settles_ok}
+use Rattle.py_process.proofs.Agreement.{ok_is, then_ok}
 use Rattle.py_process.proofs.Dumped.{dumped_once}
 use Rattle.py_process.proofs.FindingLaws.{images_agree, layout_agree, lock_agree, made_agree, maps_agree, search_agree}
 use Rattle.py_process.proofs.FindingLaws.{version_agree}
@@ -44,7 +45,7 @@ version_says m k version.NotFound h = h
 version_says m k version.OutOfMemory h = tt
 
 -- what is found by what is dumped is found of the core
-in_core : (bytes : List ℕ) (d : Dumped) (images : Pushed) (layouts : List Layout) (r : Result Finding CoreError) → IsDumped bytes images d
+pub in_core : (bytes : List ℕ) (d : Dumped) (images : Pushed) (layouts : List Layout) (r : Result Finding CoreError) → IsDumped bytes images d
     → Settles (FindingIs (memory_in d) (machine_of bytes) d.maps images layouts) r → Settles (FindsProcess bytes images layouts) r
 in_core bytes d images layouts r is h = record {
   right = record { dumped = d; is_dumped = is; is = h.right };
@@ -56,7 +57,7 @@ in_core bytes d images layouts r is h = record {
 pub search_fails : (m : Memory) (machine : Machine) (contains : ℕ → Bool) (k : Known) (v : Version) (l : Layout) (e : SearchError)
     (error : CoreError) (r : Result Finding CoreError) → error ≡ cause_of_search e
     → NotFoundWhere (IsNoneOf contains l m (candidates_of k v l m)) (Err e) → r ≡ Err error
-    → Settles (AfterLayout m machine contains k v l) r
+    → Settles (FindsIn m machine contains k v l) r
 search_fails m machine contains k v l e error r cause none is =
     settles_err (SearchSays m contains k v l) (AfterSearch m machine k v l) (search_agree m contains k v l) error r
     (subst (λ x. SearchSays m contains k v l (Err x)) (sym cause) (search_says m contains k v l e none)) is
@@ -64,7 +65,7 @@ search_fails m machine contains k v l e error r cause none is =
 -- one that finds an interpreter, and what comes of it over the same memory
 pub search_hits : (m n : Memory) (machine : Machine) (contains : ℕ → Bool) (k : Known) (v : Version) (l : Layout) (a : ℕ)
     (r : Result Finding CoreError) → IsFirstOf contains l m (candidates_of k v l m) a → n ≡ m
-    → Settles (AfterSearch n machine k v l a) r → Settles (AfterLayout m machine contains k v l) r
+    → Settles (AfterSearch n machine k v l a) r → Settles (FindsIn m machine contains k v l) r
 search_hits m n machine contains k v l a r first same rest =
     settles_ok (SearchSays m contains k v l) (AfterSearch m machine k v l) (search_agree m contains k v l) a r first
     (subst (λ x. Settles (AfterSearch x machine k v l a) r) same rest)
@@ -81,55 +82,89 @@ lock_hits m machine k v l a lock r h is =
     settles_ok (LockSays m machine k v l a) (IsMade v l a) (lock_agree m machine k v l a) lock r h
     (settles_agree (IsMade v l a lock) (made_agree v l a lock) r is)
 
--- a layout that covers the version, or none
-pub layout_then : (m : Memory) (machine : Machine) (contains : ℕ → Bool) (layouts : List Layout) (k : Known) (v : Version) (l : Layout) (r : Result Finding CoreError)
-    → IsChosen layouts v l → ((other : Layout) → IsChosen layouts v other → other ≡ l) → Settles (AfterLayout m machine contains k v l) r
-    → Settles (AfterVersion m machine contains layouts k v) r
-layout_then m machine contains layouts k v l r chosen once rest =
-    settles_ok (LayoutSays layouts v) (AfterLayout m machine contains k v) (layout_agree layouts v (λ a b x y. once a x ∙ sym (once b y))) l r chosen rest
+-- ---- an opened process, and what comes of it
 
-pub layout_lacks : (m : Memory) (machine : Machine) (contains : ℕ → Bool) (layouts : List Layout) (k : Known) (v : Version) (r : Result Finding CoreError)
-    → ((l : Layout) → ¬ IsChosen layouts v l) → r ≡ Err (core.UnsupportedVersion v) → Settles (AfterVersion m machine contains layouts k v) r
-layout_lacks m machine contains layouts k v r none is =
-    settles_err (LayoutSays layouts v) (AfterLayout m machine contains k v) (layout_agree layouts v (λ a b x y. absurd (none a x)))
-    (core.UnsupportedVersion v) r (refl, none) is
+module _ {U : Type 0} (m : Memory) (layouts : List Layout) (k : Known) (Rest : Version → Layout → Result U CoreError → Type 0) where
+  abbrev after_version : Version → Result U CoreError → Type 0
+  after_version v = Then (LayoutSays layouts v) (Rest v)
 
--- a version, and what comes of it over the same memory; or why there is none
-pub version_then : (m n : Memory) (machine : Machine) (contains : ℕ → Bool) (layouts : List Layout) (k : Known) (v : Version) (r : Result Finding CoreError)
-    → FirstTells m (sources_of k) (Ok (Some v)) → n ≡ m → Settles (AfterVersion n machine contains layouts k v) r → Settles (AfterImages m machine contains layouts k) r
-version_then m n machine contains layouts k v r told same h =
-    settles_ok (VersionSays m k) (AfterVersion m machine contains layouts k) (version_agree m k) v r told
-    (subst (λ x. Settles (AfterVersion x machine contains layouts k v) r) same h)
+  -- no version is told
+  pub version_fails : (e : VersionError) (error : CoreError) (r : Result U CoreError) → error ≡ cause_of_version e
+      → VersionIs m (sources_of k) (Err e) → r ≡ Err error → Settles (VersionThen m layouts k Rest) r
+  version_fails e error r cause h is =
+      settles_err (VersionSays m k) after_version (version_agree m k) error r
+      (subst (λ x. VersionSays m k (Err x)) (sym cause) (version_says m k e h)) is
 
-pub version_fails : (m : Memory) (machine : Machine) (contains : ℕ → Bool) (layouts : List Layout) (k : Known) (e : VersionError) (error : CoreError) (r : Result Finding CoreError)
-    → error ≡ cause_of_version e → VersionIs m (sources_of k) (Err e) → r ≡ Err error → Settles (AfterImages m machine contains layouts k) r
-version_fails m machine contains layouts k e error r cause h is =
-    settles_err (VersionSays m k) (AfterVersion m machine contains layouts k) (version_agree m k) error r
-    (subst (λ x. VersionSays m k (Err x)) (sym cause) (version_says m k e h)) is
+  -- no layout covers it
+  pub version_lacks : (v : Version) (r : Result U CoreError) → FirstTells m (sources_of k) (Ok (Some v))
+      → ((l : Layout) → ¬ IsChosen layouts v l) → r ≡ Err (core.UnsupportedVersion v) → Settles (VersionThen m layouts k Rest) r
+  version_lacks v r told none is =
+      settles_ok (VersionSays m k) after_version (version_agree m k) v r told
+      (settles_err (LayoutSays layouts v) (Rest v) (layout_agree layouts v (λ a b x y. absurd (none a x)))
+      (core.UnsupportedVersion v) r (refl, none) is)
 
--- what the images say, and what comes of it over the same memory and maps; or why they say nothing
-pub images_then : (m n : Memory) (machine other : Machine) (contains : ℕ → Bool) (maps : List CoreMapRange) (images : Pushed)
-    (layouts : List Layout) (p : Programs) (k : Known) (r : Result Finding CoreError) → IsKnown images p k → n ≡ m
-    → other ≡ machine → contains ≡ in_maps maps → Settles (AfterImages n other contains layouts k) r
-    → Settles (AfterMaps m machine maps images layouts p) r
-images_then m n machine other contains maps images layouts p k r known same same_machine same_maps h =
-    settles_ok (ImagesSay images p) (AfterImages m machine (in_maps maps) layouts) (images_agree images p) k r known
-    (subst (λ x. Settles (AfterImages x machine (in_maps maps) layouts k) r) same
-    (subst (λ x. Settles (AfterImages n x (in_maps maps) layouts k) r) same_machine
-    (subst (λ test. Settles (AfterImages n other test layouts k) r) same_maps h)))
+  -- one does
+  pub version_then : (v : Version) (l : Layout) (r : Result U CoreError) → FirstTells m (sources_of k) (Ok (Some v))
+      → IsChosen layouts v l → ((other : Layout) → IsChosen layouts v other → other ≡ l) → Settles (Rest v l) r
+      → Settles (VersionThen m layouts k Rest) r
+  version_then v l r told chosen once rest =
+      settles_ok (VersionSays m k) after_version (version_agree m k) v r told
+      (settles_ok (LayoutSays layouts v) (Rest v) (layout_agree layouts v (λ a b x y. once a x ∙ sym (once b y))) l r chosen rest)
 
-pub images_fail : (m : Memory) (machine : Machine) (maps : List CoreMapRange) (images : Pushed) (layouts : List Layout) (p : Programs) (e : CoreError) (r : Result Finding CoreError)
-    → ImagesSay images p (Err e) → r ≡ Err e → Settles (AfterMaps m machine maps images layouts p) r
-images_fail m machine maps images layouts p e r h is = settles_err (ImagesSay images p) (AfterImages m machine (in_maps maps) layouts) (images_agree images p) e r h is
+  abbrev by_both : Version × Layout → Result U CoreError → Type 0
+  by_both covered = Rest covered.0 covered.1
 
--- the maps, and what comes of them; or that there is no program
-pub maps_then : (bytes : List ℕ) (d : Dumped) (images : Pushed) (layouts : List Layout) (p : Programs) (r : Result Finding CoreError)
-    → IsDumped bytes images d → ArePrograms d.maps p → Settles (AfterMaps (memory_in d) (machine_of bytes) d.maps images layouts p) r
-    → Settles (FindsProcess bytes images layouts) r
-maps_then bytes d images layouts p r is programs rest =
-    in_core bytes d images layouts r is (settles_ok (MapsSay d.maps) (AfterMaps (memory_in d) (machine_of bytes) d.maps images layouts) (maps_agree d.maps) p r programs rest)
+  -- a version with its layout, and what comes of them; or why there is none
+  pub covered_then : (v : Version) (l : Layout) (r : Result U CoreError) → Settles (VersionThen m layouts k IsCovered) (Ok (v, l))
+      → Settles (Rest v l) r → Settles (VersionThen m layouts k Rest) r
+  covered_then v l r first rest =
+      settles_flat (VersionSays m k) (LayoutSays layouts) by_both r
+      (settles_by_ok (VersionThen m layouts k IsCovered) by_both (v, l) r first rest)
 
-pub maps_fail : (bytes : List ℕ) (d : Dumped) (images : Pushed) (layouts : List Layout) (e : CoreError) (r : Result Finding CoreError)
-    → IsDumped bytes images d → MapsSay d.maps (Err e) → r ≡ Err e → Settles (FindsProcess bytes images layouts) r
-maps_fail bytes d images layouts e r is h same =
-    in_core bytes d images layouts r is (settles_err (MapsSay d.maps) (AfterMaps (memory_in d) (machine_of bytes) d.maps images layouts) (maps_agree d.maps) e r h same)
+  pub covered_fails : (e : CoreError) (r : Result U CoreError) → Settles (VersionThen m layouts k IsCovered) (Err e) → r ≡ Err e
+      → Settles (VersionThen m layouts k Rest) r
+  covered_fails e r first is =
+      settles_flat (VersionSays m k) (LayoutSays layouts) by_both r
+      (settles_by_err (VersionThen m layouts k IsCovered) by_both e r first is)
+
+-- the version alone, with its layout
+pub covered_settles : (m : Memory) (layouts : List Layout) (k : Known) (v : Version) (l : Layout) → FirstTells m (sources_of k) (Ok (Some v))
+    → IsChosen layouts v l → ((other : Layout) → IsChosen layouts v other → other ≡ l) → Settles (VersionThen m layouts k IsCovered) (Ok (v, l))
+covered_settles m layouts k v l told chosen once =
+    version_then m layouts k IsCovered v l (Ok (v, l)) told chosen once
+    (settles_agree (IsCovered v l) (λ a b one other na nb. one ∙ sym other) (Ok (v, l)) refl)
+
+-- which version it is, and which layout
+pub covered_by : (m : Memory) (layouts : List Layout) (k : Known) (v : Version) (l : Layout) → VersionThen m layouts k IsCovered (Ok (v, l))
+    → FirstTells m (sources_of k) (Ok (Some v)) × IsChosen layouts v l
+covered_by m layouts k v l h =
+    let told = then_ok (VersionSays m k) (λ x. Then (LayoutSays layouts x) (IsCovered x)) (v, l) h in
+    let chosen = then_ok (LayoutSays layouts told.0) (IsCovered told.0) (v, l) told.2 in
+    subst (λ (q : Version × Layout). FirstTells m (sources_of k) (Ok (Some q.0)) × IsChosen layouts q.0 q.1)
+    (sym (ok_is (v, l) (told.0, chosen.0) chosen.2)) (told.1, chosen.1)
+
+module _ {U : Type 0} (m : Memory) (maps : List CoreMapRange) (images : Pushed) (layouts : List Layout)
+    (Rest : Known → Version → Layout → Result U CoreError → Type 0) where
+  abbrev after_images : Known → Result U CoreError → Type 0
+  after_images k = VersionThen m layouts k (Rest k)
+
+  abbrev after_maps : Programs → Result U CoreError → Type 0
+  after_maps p = Then (ImagesSay images p) after_images
+
+  -- what is known by the maps and the images, and what comes of it; or why nothing is known
+  pub known_then : (k : Known) (r : Result U CoreError) → Then (MapsSay maps) (ImagesSay images) (Ok k)
+      → Settles (VersionThen m layouts k (Rest k)) r → Settles (ProcessThen m maps images layouts Rest) r
+  known_then k r says rest =
+      let known = then_ok (MapsSay maps) (ImagesSay images) k says in
+      settles_ok (MapsSay maps) after_maps (maps_agree maps) known.0 r known.1
+      (settles_ok (ImagesSay images known.0) after_images (images_agree images known.0) k r known.2 rest)
+
+  err_moves : (e d : CoreError) → ◌≡◌ {A = Result Known CoreError} (Err e) (Err d) → ◌≡◌ {A = Result U CoreError} (Err e) (Err d)
+  err_moves e d is = cc
+
+  pub unknown_then : (e : CoreError) (r : Result U CoreError) → Then (MapsSay maps) (ImagesSay images) (Err e) → r ≡ Err e
+      → Settles (ProcessThen m maps images layouts Rest) r
+  unknown_then e r (inl (d, says, is)) same = settles_err (MapsSay maps) after_maps (maps_agree maps) d r says (same ∙ err_moves e d is)
+  unknown_then e r (inr (p, programs, says)) same =
+      settles_ok (MapsSay maps) after_maps (maps_agree maps) p r programs
+      (settles_err (ImagesSay images p) after_images (images_agree images p) e r says same)

@@ -2,6 +2,7 @@ pub mod Answer
 pub mod ReportCauses
 pub mod Opened
 pub mod Printing
+pub mod Process
 pub mod Seen
 pub mod Sole
 pub mod Notes

@@ -38,15 +38,10 @@ pub record IsTrial (m : Memory) (maps : List CoreMapRange) (images : Pushed) (la
   pub told : FirstTells m (sources_of t.known) (Ok (Some t.version))
   pub chosen : IsChosen layouts t.version t.layout
 
--- the same where what is known, or the version too, is settled
+-- the same where what is known is settled
 pub record IsTrialBy (m : Memory) (layouts : List Layout) (k : Known) (t : Trial) : Type 0 where
   pub known_is : t.known ≡ k
   pub told : FirstTells m (sources_of t.known) (Ok (Some t.version))
-  pub chosen : IsChosen layouts t.version t.layout
-
-pub record IsTrialAt (layouts : List Layout) (k : Known) (v : Version) (t : Trial) : Type 0 where
-  pub known_is : t.known ≡ k
-  pub version_is : t.version ≡ v
   pub chosen : IsChosen layouts t.version t.layout
 
 -- a sum over what was never reached is 0

@@ -7,6 +7,7 @@ use Rattle.image_memory.specs.Maps.{AreMaps, in_maps}
 use Rattle.image_memory.specs.declared.map_table.MapTable.{MapTable}
 use Rattle.image_memory.specs.declared.maps.CoreMapRange.{CoreMapRange}
 use Rattle.py_fields.specs.declared.layout.Layout.{Layout}
+use Rattle.py_version.specs.declared.version.Version.{Version}
 use Rattle.py_process.specs.Findings.{Finding, FindingIs}
 use Rattle.py_process.specs.Reports.{Dumped, IsDumped, memory_in}
 use Rattle.py_process.specs.Facts.{Facts, Known, known_of}
@@ -52,6 +53,10 @@ finding_of f = record { version = f.version; layout = f.layout; addresses = f.ad
 abbrev pub finding_in : Result Found CoreError → Result Finding CoreError
 finding_in (Ok f) = Ok (finding_of f)
 finding_in (Err e) = Err e
+
+-- a version with the layout that covers it
+abbrev pub IsCovered : Version → Layout → Result (Version × Layout) CoreError → Type 0
+IsCovered version layout result = result ≡ Ok (version, layout)
 
 -- what is found of the process of a core and its images, or the first cause why nothing is
 pub record FindsProcess (bytes : List ℕ) (images : Pushed) (layouts : List Layout)

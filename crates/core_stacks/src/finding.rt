@@ -1,14 +1,16 @@
 //! What is found of a Python process, by the memory, the maps and the images.
-ghost use Rattle.std.specs.Prelude.{IfOk, option_map};
+ghost use Rattle.std.specs.Prelude.{◌≡◌, ◌+◌, IfOk, option_map};
 ghost use Rattle.image_memory.specs.Backed.{IsBackedMemory, regions_of};
 ghost use Rattle.process_memory.specs.Memory.{byte_at};
-ghost use Rattle.process_memory.specs.Seen.{Reading};
+ghost use Rattle.process_memory.specs.Seen.{Reading, ReadingOf};
 ghost use Rattle.py_fields.specs.Sound.{IsSound};
+ghost use Rattle.py_process.specs.Candidates.{search_bound};
 ghost use Rattle.py_process.specs.Facts.{facts_of, known_of};
-ghost use Rattle.py_process.specs.Findings.{AfterImages, LockSays};
+ghost use Rattle.py_process.specs.Findings.{AfterImages, FindsIn, LockSays, VersionThen};
+ghost use Rattle.py_process.specs.Sections.{IsSearched};
 ghost use Rattle.core_stacks.specs.Reached.{IsTrialBy, Trying};
 ghost use Rattle.core_stacks.specs.Sole.{Settles};
-ghost use Rattle.core_stacks.specs.Seen.{AreBinaries, FindsProcess, Knows, finding_first, finding_in};
+ghost use Rattle.core_stacks.specs.Seen.{AreBinaries, FindsProcess, IsCovered, Knows, finding_first, finding_in};
 
 use crate::found::{Found, PythonBinaries};
 use crate::programs::{programs_of, read_images};
@@ -53,6 +55,56 @@ fn find_lock<M: ContainsAddr, P: ProcessMemory>(
     }
 }
 
+/// The version of a process, over a memory of it, by what is known of it, and the layout that covers that.
+///
+/// The error is the first of these: `UnreadableVersion` and `NoVersion` (`py_process::get_python_version`);
+/// `UnsupportedVersion` where no layout covers the version. Else it is want of memory. At most 3 reads.
+pub(crate) fn read_version<M: ContainsAddr, P: ProcessMemory>(
+    alloc: Global,
+    info: &PythonProcessInfo<M>,
+    process: &mut P,
+    layouts: &Layouts,
+) -> Result<(Version, Layout), CoreError>
+    ensures settles { ReadingOf (IsSearched (known_of info.now)) 3 (P.seen process.old) (P.seen process.new)
+        (λ m. Settles (VersionThen m layouts.now (known_of info.now) IsCovered) result) }
+    ensures sound { IfOk result (λ covered. IsSound covered.1) }
+{
+    let version = get_python_version(alloc, info, process)?;
+    match layouts.choose(&version) {
+        Some(layout) => Ok((version, *layout)),
+        None => Err(CoreError::UnsupportedVersion { version }),
+    }
+}
+
+/// What is found in a process of this version, over a memory of it: the interpreter, and its lock; or the first cause
+/// why nothing is.
+///
+/// At most 7 reads, and those of the candidates that are tried, up to and with the first that is an interpreter's.
+fn find_in<M: ContainsAddr, P: ProcessMemory>(
+    alloc: Global,
+    info: &PythonProcessInfo<M>,
+    process: &mut P,
+    machine: Machine,
+    version: Version,
+    layout: Layout,
+) -> Result<Found, CoreError>
+    requires { IsSound layout }
+    ensures finds { ReadingOf (IsSearched (known_of info.now)) (search_bound (M.contains info.now.maps)
+        (known_of info.now) version layout (byte_at (P.seen process.old).pieces) + 1)
+        (P.seen process.old) (P.seen process.new)
+        (λ m. Settles (FindsIn m machine (M.contains info.now.maps) (known_of info.now) version layout)
+        (finding_in result)) }
+    ensures layout { IfOk result (λ found. found.layout ≡ layout) }
+{
+    let interpreter = get_interpreter_address(alloc, info, process, &version, &layout)?;
+    let lock = find_lock(interpreter, info, process, machine, &version, &layout)?;
+    Ok(Found {
+        version,
+        layout,
+        addresses: Addresses { interpreter, lock },
+    })
+}
+
 /// What is found over a memory of a process, by what is known of it: the version, the layout that covers it, the
 /// interpreter, and the lock; or the first cause why nothing is.
 ///
@@ -71,17 +123,8 @@ pub(crate) fn find_process<M: ContainsAddr, P: ProcessMemory>(
         (finding_in result)) }
     ensures sound { IfOk result (λ found. IsSound found.layout) }
 {
-    let version = get_python_version(alloc, info, process)?;
-    let Some(layout) = layouts.choose(&version) else {
-        return Err(CoreError::UnsupportedVersion { version });
-    };
-    let interpreter = get_interpreter_address(alloc, info, process, &version, layout)?;
-    let lock = find_lock(interpreter, info, process, machine, &version, layout)?;
-    Ok(Found {
-        version,
-        layout: *layout,
-        addresses: Addresses { interpreter, lock },
-    })
+    let (version, layout) = read_version(alloc, info, process, layouts)?;
+    find_in(alloc, info, process, machine, version, layout)
 }
 
 /// What the images of the maps of a core say of its process. Nothing of the process's memory is read.

@@ -13,15 +13,13 @@ use Rattle.py_stacks.specs.Threads.{AreTraces, Trace}
 use Rattle.py_stacks.proofs.Wholes.{traces_whole}
 use Rattle.py_process.specs.Candidates.{IsFirstOf, candidates_of}
 use Rattle.py_process.specs.Facts.{Known}
-use Rattle.py_process.specs.Findings.{IsChosen, LayoutSays, SearchSays, VersionSays}
-use Rattle.py_process.specs.Programs.{ImagesSay, MapsSay, Programs}
+use Rattle.py_process.specs.Findings.{IsChosen, ProcessThen, SearchSays}
 use Rattle.py_process.specs.Reports.{CoreSays, Dumped, HasFrames, Reported, bare_trace, memory_in}
 use Rattle.py_process.specs.Sources.{FirstTells, sources_of}
 use Rattle.py_process.specs.Steps.{Then}
 use Rattle.py_process.specs.declared.core_error.CoreError.{CoreError}
 use Rattle.py_process.proofs.Agreement.{Agree, ok_is, ok_kept, then_agree}
-use Rattle.py_process.proofs.FindingLaws.{ChoosesOnce, images_agree, layout_agree, maps_agree, search_agree}
-use Rattle.py_process.proofs.FindingLaws.{version_agree}
+use Rattle.py_process.proofs.FindingLaws.{ChoosesOnce, process_then_agree, search_agree}
 use Rattle.py_process.proofs.ReportLaws.{core_agree}
 use Rattle.image_builder.specs.Shown.{HaveSameFrames}
 
@@ -40,46 +38,23 @@ plain_agree m v l a x y (ws, are, is) (us, those, is') nx ny =
     is ∙ ap (λ ts. Ok (v, map bare_trace ts)) same ∙ sym is'
 
 module _ (bytes : List ℕ) (images : Pushed) (layouts : List Layout) where
-  abbrev AfterLayout : Dumped → Known → Version → Layout → Result Plain CoreError → Type 0
-  AfterLayout d k v l = Then (SearchSays (memory_in d) (in_maps d.maps) k v l) (PlainIs (memory_in d) v l)
+  abbrev PlainIn : Dumped → Known → Version → Layout → Result Plain CoreError → Type 0
+  PlainIn d k v l = Then (SearchSays (memory_in d) (in_maps d.maps) k v l) (PlainIs (memory_in d) v l)
 
-  abbrev AfterVersion : Dumped → Known → Version → Result Plain CoreError → Type 0
-  AfterVersion d k v = Then (LayoutSays layouts v) (AfterLayout d k v)
-
-  abbrev AfterImages : Dumped → Known → Result Plain CoreError → Type 0
-  AfterImages d k = Then (VersionSays (memory_in d) k) (AfterVersion d k)
-
-  abbrev AfterMaps : Dumped → Programs → Result Plain CoreError → Type 0
-  AfterMaps d ps = Then (ImagesSay images ps) (AfterImages d)
-
-  abbrev AfterCore : Dumped → Result Plain CoreError → Type 0
-  AfterCore d = Then (MapsSay d.maps) (AfterMaps d)
+  abbrev PlainOf : Dumped → Result Plain CoreError → Type 0
+  PlainOf d = ProcessThen (memory_in d) d.maps images layouts (PlainIn d)
 
   abbrev IsPlain : Result Plain CoreError → Type 0
-  IsPlain = Then (CoreSays bytes images) AfterCore
+  IsPlain = Then (CoreSays bytes images) PlainOf
 
   module _ (once : ChoosesOnce layouts) where
-    after_layout : (d : Dumped) (k : Known) (v : Version) (l : Layout) → Agree (AfterLayout d k v l)
-    after_layout d k v l = then_agree (SearchSays (memory_in d) (in_maps d.maps) k v l) (PlainIs (memory_in d) v l)
+    in_agree : (d : Dumped) (k : Known) (v : Version) (l : Layout) → Agree (PlainIn d k v l)
+    in_agree d k v l = then_agree (SearchSays (memory_in d) (in_maps d.maps) k v l) (PlainIs (memory_in d) v l)
         (search_agree (memory_in d) (in_maps d.maps) k v l) (λ a h. plain_agree (memory_in d) v l a)
 
-    after_version : (d : Dumped) (k : Known) (v : Version) → Agree (AfterVersion d k v)
-    after_version d k v = then_agree (LayoutSays layouts v) (AfterLayout d k v) (layout_agree layouts v (once v))
-        (λ l h. after_layout d k v l)
-
-    after_images : (d : Dumped) (k : Known) → Agree (AfterImages d k)
-    after_images d k = then_agree (VersionSays (memory_in d) k) (AfterVersion d k) (version_agree (memory_in d) k)
-        (λ v h. after_version d k v)
-
-    after_maps : (d : Dumped) (ps : Programs) → Agree (AfterMaps d ps)
-    after_maps d ps = then_agree (ImagesSay images ps) (AfterImages d) (images_agree images ps)
-        (λ k h. after_images d k)
-
-    after_core : (d : Dumped) → Agree (AfterCore d)
-    after_core d = then_agree (MapsSay d.maps) (AfterMaps d) (maps_agree d.maps) (λ ps h. after_maps d ps)
-
     agree : Agree IsPlain
-    agree = then_agree (CoreSays bytes images) AfterCore (core_agree bytes images) (λ d h. after_core d)
+    agree = then_agree (CoreSays bytes images) PlainOf (core_agree bytes images)
+        (λ d h. process_then_agree (memory_in d) layouts once (PlainIn d) (in_agree d) d.maps images)
 
     abbrev plain_of : Reported → Plain
     plain_of r = (r.version, map bare_trace r.traces)

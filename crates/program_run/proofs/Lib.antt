@@ -1,3 +1,4 @@
 pub mod Statuses
 pub mod Ends
 pub mod Contents
+pub mod Outcomes

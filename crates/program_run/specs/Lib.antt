@@ -1,3 +1,4 @@
 pub mod Statuses
 pub mod Ends
 pub mod Reading
+pub mod Outcomes

@@ -14,13 +14,14 @@ use Rattle.py_version.specs.declared.version.Version.{Version}
 use Rattle.py_process.specs.Binary.{SaysFacts}
 use Rattle.py_process.specs.Candidates.{IsFirstOf, IsInterpreterIn, IsNoneOf, candidates_of}
 use Rattle.py_process.specs.Facts.{Facts, Known}
-use Rattle.py_process.specs.Findings.{AfterImages, AfterLayout, AfterMaps, AfterSearch, AfterVersion, FindingIs}
-use Rattle.py_process.specs.Findings.{IsChosen, IsMade, LayoutSays, LockSays, SearchSays, VersionSays}
+use Rattle.py_process.specs.Findings.{AfterSearch, FindingIs, FindsIn, IsChosen, IsMade, LayoutSays, LockSays}
+use Rattle.py_process.specs.Findings.{ProcessThen, SearchSays, VersionSays, VersionThen}
 use Rattle.py_process.specs.Lock.{lock_address_of}
 use Rattle.py_process.specs.Programs.{ArePrograms, FactsAre, FactsOf, FirstMapIs, ImageSays, ImagesSay, IsBadImage}
 use Rattle.py_process.specs.Programs.{IsFirstMap, IsKnown, IsLibraryMap, IsProgram, MapsSay, Programs, needed_map}
 use Rattle.py_process.specs.Programs.{path_of}
 use Rattle.py_process.specs.Sources.{FirstTells, sources_of}
+use Rattle.py_process.specs.Steps.{Then}
 use Rattle.py_process.specs.declared.core_error.CoreError.{CoreError}
 use Rattle.py_process.specs.declared.core_error.CoreError.TheVariants as core
 use Rattle.py_process.proofs.Images.{facts_once}
@@ -46,7 +47,7 @@ first_map_is Is maps None (Some b) one two = absurd (no_first_map Is maps b two 
 first_map_is Is maps (Some a) None one two = absurd (no_first_map Is maps a one two)
 first_map_is Is maps (Some a) (Some b) one two = ap (λ x. Some x) (first_map_same Is maps a b one two)
 
-programs_same : (maps : List CoreMapRange) (p q : Programs) → ArePrograms maps p → ArePrograms maps q → p ≡ q
+pub programs_same : (maps : List CoreMapRange) (p q : Programs) → ArePrograms maps p → ArePrograms maps q → p ≡ q
 programs_same maps p q one two = λ i. record {
   program = first_map_same (λ m. IsProgram m) maps p.program q.program one.first_program two.first_program i;
   library = first_map_is (λ m. IsLibraryMap m) maps p.library q.library one.first_library two.first_library i;
@@ -79,13 +80,13 @@ says_same images m f g one two =
     facts_once (shown_bytes two.image) m.segment.addr m.segment.mem_size f g
     (subst (λ i. SaysFacts (shown_bytes i) m.segment.addr m.segment.mem_size f) image one.says) two.says
 
-facts_are : (images : Pushed) (m : CoreMapRange) (f g : Option Facts) → FactsAre images m f → FactsAre images m g → f ≡ g
+pub facts_are : (images : Pushed) (m : CoreMapRange) (f g : Option Facts) → FactsAre images m f → FactsAre images m g → f ≡ g
 facts_are images m None None one two = refl
 facts_are images m None (Some g) one two = absurd (one g two)
 facts_are images m (Some f) None one two = absurd (two f one)
 facts_are images m (Some f) (Some g) one two = ap (λ x. Some x) (says_same images m f g one two)
 
-facts_of_map : (images : Pushed) (m : Option CoreMapRange) (f g : Option Facts) → FactsOf images m f → FactsOf images m g → f ≡ g
+pub facts_of_map : (images : Pushed) (m : Option CoreMapRange) (f g : Option Facts) → FactsOf images m f → FactsOf images m g → f ≡ g
 facts_of_map images None f g one two = one ∙ sym two
 facts_of_map images (Some m) f g one two = facts_are images m f g one two
 
@@ -266,23 +267,27 @@ lock_agree m machine k v l a one other x y nx ny =
 pub made_agree : (v : Version) (l : Layout) (x lock : ℕ) → Agree (IsMade v l x lock)
 made_agree v l x lock a b one two na nb = one ∙ sym two
 
-after_layout : (m : Memory) (machine : Machine) (contains : ℕ → Bool) (k : Known) (v : Version) (l : Layout) → Agree (AfterLayout m machine contains k v l)
-after_layout m machine contains k v l =
+pub finds_agree : (m : Memory) (machine : Machine) (contains : ℕ → Bool) (k : Known) (v : Version) (l : Layout)
+    → Agree (FindsIn m machine contains k v l)
+finds_agree m machine contains k v l =
     then_agree (SearchSays m contains k v l) (AfterSearch m machine k v l) (search_agree m contains k v l)
     (λ a h. then_agree (LockSays m machine k v l a) (IsMade v l a) (lock_agree m machine k v l a) (λ lock g. made_agree v l a lock))
 
-after_version : (m : Memory) (machine : Machine) (contains : ℕ → Bool) (layouts : List Layout) (k : Known) (v : Version) → ChoosesOnce layouts → Agree (AfterVersion m machine contains layouts k v)
-after_version m machine contains layouts k v apart =
-    then_agree (LayoutSays layouts v) (AfterLayout m machine contains k v) (layout_agree layouts v (apart v)) (λ l h. after_layout m machine contains k v l)
+-- an opened process has one right answer where what comes of it has
+module _ {U : Type 0} (m : Memory) (layouts : List Layout) (apart : ChoosesOnce layouts)
+    (Rest : Known → Version → Layout → Result U CoreError → Type 0)
+    (rest : (k : Known) (v : Version) (l : Layout) → Agree (Rest k v l)) where
+  pub version_then_agree : (k : Known) → Agree (VersionThen m layouts k (Rest k))
+  version_then_agree k =
+      then_agree (VersionSays m k) (λ v. Then (LayoutSays layouts v) (Rest k v)) (version_agree m k)
+      (λ v h. then_agree (LayoutSays layouts v) (Rest k v) (layout_agree layouts v (apart v)) (λ l g. rest k v l))
 
-after_images : (m : Memory) (machine : Machine) (contains : ℕ → Bool) (layouts : List Layout) (k : Known) → ChoosesOnce layouts → Agree (AfterImages m machine contains layouts k)
-after_images m machine contains layouts k apart =
-    then_agree (VersionSays m k) (AfterVersion m machine contains layouts k) (version_agree m k) (λ v h. after_version m machine contains layouts k v apart)
-
-after_maps : (m : Memory) (machine : Machine) (maps : List CoreMapRange) (images : Pushed) (layouts : List Layout) (p : Programs) → ChoosesOnce layouts → Agree (AfterMaps m machine maps images layouts p)
-after_maps m machine maps images layouts p apart =
-    then_agree (ImagesSay images p) (AfterImages m machine (in_maps maps) layouts) (images_agree images p) (λ k h. after_images m machine (in_maps maps) layouts k apart)
+  pub process_then_agree : (maps : List CoreMapRange) (images : Pushed) → Agree (ProcessThen m maps images layouts Rest)
+  process_then_agree maps images =
+      then_agree (MapsSay maps) (λ p. Then (ImagesSay images p) (λ k. VersionThen m layouts k (Rest k))) (maps_agree maps)
+      (λ p h. then_agree (ImagesSay images p) (λ k. VersionThen m layouts k (Rest k)) (images_agree images p)
+      (λ k g. version_then_agree k))
 
 pub finding_agree : (m : Memory) (machine : Machine) (maps : List CoreMapRange) (images : Pushed) (layouts : List Layout) → ChoosesOnce layouts → Agree (FindingIs m machine maps images layouts)
 finding_agree m machine maps images layouts apart =
-    then_agree (MapsSay maps) (AfterMaps m machine maps images layouts) (maps_agree maps) (λ p h. after_maps m machine maps images layouts p apart)
+    process_then_agree m layouts apart (FindsIn m machine (in_maps maps)) (finds_agree m machine (in_maps maps)) maps images

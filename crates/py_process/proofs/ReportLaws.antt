@@ -16,11 +16,11 @@ use Rattle.py_fields.specs.declared.layout.Layout.{Layout}
 use Rattle.py_stacks.specs.Threads.{Trace}
 use Rattle.py_stacks.specs.declared.config.Config.{Config}
 use Rattle.py_process.specs.Causes.{cause_of_dump}
-use Rattle.py_process.specs.Findings.{AfterImages, AfterLayout, AfterMaps, AfterSearch, AfterVersion, Finding}
-use Rattle.py_process.specs.Findings.{FindingIs, IsFound, IsMade, LayoutSays, LockSays, SearchSays, VersionSays}
-use Rattle.py_process.specs.Findings.{finding}
+use Rattle.py_process.specs.Findings.{AfterImages, AfterSearch, Finding, FindingIs, FindsIn, IsFound, IsMade}
+use Rattle.py_process.specs.Findings.{LayoutSays, LockSays, SearchSays, VersionSays, finding}
 use Rattle.py_process.specs.Programs.{ImagesSay, MapsSay}
 use Rattle.py_process.specs.Reports.{AfterCore, AfterFinding, CoreSays, IsTold, NotesTell, ReportIs, Reported}
+use Rattle.py_process.specs.Steps.{Then}
 use Rattle.py_process.specs.Reports.{StacksSay, TellsReport, Dumped, IsDumped, memory_in, first_signal, process_told}
 use Rattle.py_process.specs.declared.core_error.CoreError.{CoreError}
 use Rattle.py_process.specs.declared.core_error.CoreError.TheVariants as core
@@ -105,10 +105,12 @@ module _ (bytes : List ℕ) (images : Pushed) (layouts : List Layout) (config : 
 pub found_by : (m : Memory) (machine : Machine) (maps : List CoreMapRange) (images : Pushed) (layouts : List Layout) (f : Finding)
     → FindingIs m machine maps images layouts (Ok f) → IsFound m machine maps images layouts f
 found_by m machine maps images layouts f h =
-    let one = then_ok (MapsSay maps) (AfterMaps m machine maps images layouts) f h in
-    let two = then_ok (ImagesSay images one.0) (AfterImages m machine (in_maps maps) layouts) f one.2 in
-    let three = then_ok (VersionSays m two.0) (AfterVersion m machine (in_maps maps) layouts two.0) f two.2 in
-    let four = then_ok (LayoutSays layouts three.0) (AfterLayout m machine (in_maps maps) two.0 three.0) f three.2 in
+    let known = AfterImages m machine (in_maps maps) layouts in
+    let one = then_ok (MapsSay maps) (λ p. Then (ImagesSay images p) known) f h in
+    let two = then_ok (ImagesSay images one.0) known f one.2 in
+    let sought = FindsIn m machine (in_maps maps) two.0 in
+    let three = then_ok (VersionSays m two.0) (λ v. Then (LayoutSays layouts v) (sought v)) f two.2 in
+    let four = then_ok (LayoutSays layouts three.0) (sought three.0) f three.2 in
     let five = then_ok (SearchSays m (in_maps maps) two.0 three.0 four.0) (AfterSearch m machine two.0 three.0 four.0) f four.2 in
     let six = then_ok (LockSays m machine two.0 three.0 four.0 five.0) (IsMade three.0 four.0 five.0) f five.2 in
     subst (λ x. IsFound m machine maps images layouts x) (sym (ok_is f (finding three.0 four.0 five.0 six.0) six.2)) (record {

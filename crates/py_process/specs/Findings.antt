@@ -51,6 +51,18 @@ SearchSays m contains k version layout (Err NoInterpreter) =
 SearchSays m contains k version layout (Err OutOfMemory) = ⊤
 SearchSays m contains k version layout (Err _) = ⊥
 
+-- the version of a process, the layout that covers it, and what comes of these, or the first cause why there is none
+abbrev pub VersionThen : {U : Type 0} → Memory → List Layout → Known → (Version → Layout → Result U CoreError → Type 0)
+    → Result U CoreError → Type 0
+VersionThen m layouts k Rest = Then (VersionSays m k) (λ v. Then (LayoutSays layouts v) (Rest v))
+
+-- The process opened: by the maps its programs, by the images what is known of it, its version, and the layout that
+-- covers that; and what comes of these, or the first cause why there is none
+abbrev pub ProcessThen : {U : Type 0} → Memory → List CoreMapRange → Pushed → List Layout
+    → (Known → Version → Layout → Result U CoreError → Type 0) → Result U CoreError → Type 0
+ProcessThen m maps images layouts Rest =
+    Then (MapsSay maps) (λ p. Then (ImagesSay images p) (λ k. VersionThen m layouts k (Rest k)))
+
 -- ---- what is found
 
 -- a process: its version, the layout that covers it, and where its interpreter and the lock are
@@ -77,27 +89,19 @@ IsMade version layout interpreter lock result = result ≡ Ok (finding version l
 abbrev pub AfterSearch : Memory → Machine → Known → Version → Layout → ℕ → Result Finding CoreError → Type 0
 AfterSearch m machine k version layout a = Then (LockSays m machine k version layout a) (IsMade version layout a)
 
--- `contains` tests whether a map holds an address
-abbrev pub AfterLayout : Memory → Machine → (ℕ → Bool) → Known → Version → Layout → Result Finding CoreError → Type 0
-AfterLayout m machine contains k version layout =
+-- what is found in an opened process: its interpreter is looked for, and then the lock. `contains` tests whether a map
+-- holds an address
+abbrev pub FindsIn : Memory → Machine → (ℕ → Bool) → Known → Version → Layout → Result Finding CoreError → Type 0
+FindsIn m machine contains k version layout =
     Then (SearchSays m contains k version layout) (AfterSearch m machine k version layout)
 
-abbrev pub AfterVersion : Memory → Machine → (ℕ → Bool) → List Layout → Known → Version
-    → Result Finding CoreError → Type 0
-AfterVersion m machine contains layouts k version =
-    Then (LayoutSays layouts version) (AfterLayout m machine contains k version)
-
+-- what is found by what is known of a process
 abbrev pub AfterImages : Memory → Machine → (ℕ → Bool) → List Layout → Known → Result Finding CoreError → Type 0
-AfterImages m machine contains layouts k = Then (VersionSays m k) (AfterVersion m machine contains layouts k)
-
-abbrev pub AfterMaps : Memory → Machine → List CoreMapRange → Pushed → List Layout → Programs
-    → Result Finding CoreError → Type 0
-AfterMaps m machine maps images layouts p =
-    Then (ImagesSay images p) (AfterImages m machine (in_maps maps) layouts)
+AfterImages m machine contains layouts k = VersionThen m layouts k (FindsIn m machine contains k)
 
 -- what is found, or the first cause: of the maps, the images, the version, the layouts, the search, the lock
 abbrev pub FindingIs : Memory → Machine → List CoreMapRange → Pushed → List Layout → Result Finding CoreError → Type 0
-FindingIs m machine maps images layouts = Then (MapsSay maps) (AfterMaps m machine maps images layouts)
+FindingIs m machine maps images layouts = ProcessThen m maps images layouts (FindsIn m machine (in_maps maps))
 
 -- ---- the same where something is found, in one record
 

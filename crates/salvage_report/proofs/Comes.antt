@@ -4,6 +4,7 @@ use Rattle.std.specs.Prelude.{Result, Vec}
 use Rattle.std.specs.Global.{Global}
 use Rattle.outside.specs.Files.{FilesSeen}
 use Rattle.program_run.specs.Ends.{IsAnswered, IsTroubled}
+use Rattle.program_run.specs.Outcomes.{OutcomeThen}
 use Rattle.program_run.specs.Reading.{AreRead, AsksAmong, HasAll, IsUnreadTrouble, core_contents, trouble_of}
 use Rattle.program_run.specs.declared.core_files.CoreFiles.{CoreFiles}
 use Rattle.program_run.specs.declared.trouble.FileTrouble.{FileTrouble}
@@ -13,7 +14,7 @@ use Rattle.salvage_words.specs.Salvage.{Salvage}
 use Rattle.salvage_words.specs.Salvage.Wanted.{salvage}
 use Rattle.salvage_report.specs.declared.cause.Cause.{Cause}
 use Rattle.salvage_report.specs.declared.cause.Cause.TheVariants.{OutOfMemory}
-use Rattle.salvage_report.specs.Outcome.{IsAnswer, IsOutcome, Outcome, OutcomeThen, cause_status}
+use Rattle.salvage_report.specs.Outcome.{IsAnswer, IsOutcome, Outcome, cause_status}
 use Rattle.salvage_report.specs.Reading.{files_of}
 use Rattle.salvage_report.specs.Run.{pysalvage}
 

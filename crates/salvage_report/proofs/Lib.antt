@@ -1,4 +1,3 @@
-pub mod Opening
 pub mod Remains
 pub mod Agreement
 pub mod Comes

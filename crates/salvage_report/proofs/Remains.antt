@@ -19,11 +19,11 @@ use Rattle.salvage_marks.specs.declared.salvaged.SalvagedInterpreter.{SalvagedIn
 use Rattle.salvage_words.specs.Salvage.{Salvage}
 use Rattle.salvage_report.specs.declared.cause.Cause.TheVariants.{NoInterpreter}
 use Rattle.salvage_report.specs.declared.left.Left.{Left}
-use Rattle.salvage_report.specs.declared.process.Process.{Process}
+use Rattle.core_stacks.specs.declared.process.Process.{Process}
 use Rattle.salvage_report.specs.Crashed.{CrashTold}
-use Rattle.salvage_report.specs.Opened.{Opened}
+use Rattle.core_stacks.specs.Process.{IsProcess, OpenedProcess, opened_of}
 use Rattle.salvage_report.specs.Outcome.{IsLeft, IsLeftOf, Outcome, asked_of, looked_at, shown_or_none}
-use Rattle.salvage_report.specs.Seen.{IsProcess, Salvages, opened_of}
+use Rattle.salvage_report.specs.Seen.{Salvages}
 use Rattle.salvage_report.specs.Texts.{shown_left}
 
 -- the thread that got the signal is handed on
@@ -41,7 +41,7 @@ something_shown (i ∷ is) n t some = refl
 
 module _ (s : Salvage) (p : Process) (crash : Option Crash) (salvaged : Salvaged) (found : Salvages s p crash (Ok salvaged))
     (bytes : List ℕ) (images : Pushed) (layouts : List Layout) (is : IsProcess bytes images layouts p) (told : CrashTold bytes crash) where
-  abbrev opened : Opened
+  abbrev opened : OpenedProcess
   opened = opened_of is.maps p
 
   abbrev left : Left

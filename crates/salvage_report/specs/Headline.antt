@@ -7,7 +7,7 @@ use Rattle.py_fields.specs.declared.layout.Layout.{Layout}
 use Rattle.py_layout.specs.File.{IsRightFor}
 use Rattle.salvage_words.specs.Salvage.{Salvage}
 use Rattle.salvage_report.specs.declared.left.Left.{Left}
-use Rattle.salvage_report.specs.Opened.{Opened, OpenedIs}
+use Rattle.core_stacks.specs.Process.{OpenedProcess, ProcessIs}
 use Rattle.salvage_report.specs.Outcome.{IsLeft}
 use Rattle.named_images.specs.Named.{images_read}
 use Rattle.program_run.specs.Reading.{AreRead}
@@ -26,8 +26,8 @@ pub record HasSalvaged (s : Salvage) (told : Told) (old new : SinkSeen) : Type 0
   pub read : AreRead told (files_of s) (core ∷ text ∷ images)
   pub layouts : List Layout
   pub says : IsRightFor text (Ok layouts)
-  pub opened : Opened
-  pub is_opened : OpenedIs core (images_read s.images images) layouts (Ok opened)
+  pub opened : OpenedProcess
+  pub is_opened : ProcessIs core (images_read s.images images) layouts (Ok opened)
   pub left : Left
   pub is_left : IsLeft s core opened left
   pub some : left.salvaged.interpreters.items ≢ []

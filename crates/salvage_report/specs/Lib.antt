@@ -1,6 +1,5 @@
 pub mod Reading
 pub mod Crashed
-pub mod Opened
 pub mod Texts
 pub mod Outcome
 pub mod Lines

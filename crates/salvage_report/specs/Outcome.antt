@@ -1,5 +1,5 @@
 -- What is come to over the contents of the files.
-use Rattle.std.specs.Prelude.{◌≡◌, ◌≢◌, ◌⊎◌, ℕ, ◌+◌, nat_eq, not, List}
+use Rattle.std.specs.Prelude.{◌≡◌, ◌≢◌, ℕ, ◌+◌, nat_eq, not, List}
 use Rattle.std.specs.Prelude.{[], ◌∷◌, length, Option, Result, Ok, Err, Vec}
 use Rattle.std.specs.Global.{Global}
 use Rattle.elf64_core.specs.Header.{machine_of}
@@ -20,8 +20,9 @@ use Rattle.salvage_report.specs.declared.cause.Cause.{Cause}
 use Rattle.salvage_report.specs.declared.cause.Cause.TheVariants.{Core, Layouts, NoInterpreter, OutOfMemory}
 use Rattle.salvage_report.specs.declared.left.Left.{Left}
 use Rattle.salvage_report.specs.Crashed.{CrashTold}
-use Rattle.salvage_report.specs.Opened.{Opened, OpenedIs}
+use Rattle.core_stacks.specs.Process.{OpenedProcess, ProcessIs}
 use Rattle.named_images.specs.Named.{images_read}
+use Rattle.program_run.specs.Outcomes.{IsAnswerBy, OutcomeThen, status_by}
 pub use Rattle.program_run.specs.Statuses.{core_status, layouts_status}
 use Rattle.salvage_report.specs.Texts.{shown_left}
 use Rattle.std.specs.Prelude.{map}
@@ -29,13 +30,6 @@ use Rattle.std.specs.Prelude.{map}
 -- a text, or the cause why there is none
 abbrev pub Outcome : Type 0
 Outcome = Result (List ℕ) Cause
-
--- two steps, of which the first may end with a cause
-abbrev pub OutcomeThen : {T E : Type 0} → (E → Cause) → (Result T E → Type 0)
-    → (T → Outcome → Type 0) → Outcome → Type 0
-OutcomeThen as_cause First Rest outcome =
-    ((error : _) × (outcome ≡ Err (as_cause error)) × First (Err error))
-    ⊎ ((value : _) × First (Ok value) × Rest value outcome)
 
 -- ---- what is left of a process
 
@@ -48,19 +42,19 @@ abbrev pub salvaged_of : Salvaged → SalvagedShown
 salvaged_of s = record { interpreters = map locked s.interpreters.items; more = s.more; crash = s.crash }
 
 -- it is what the fronts over the memory of the core and its images are, each interpreter with its own lock
-abbrev pub left_at : Salvage → List ℕ → Opened → Option Crash → SalvagedShown
+abbrev pub left_at : Salvage → List ℕ → OpenedProcess → Option Crash → SalvagedShown
 left_at s bytes o crash = salvaged_at (in_maps o.dumped.maps) (machine_of bytes) o.known o.version o.layout
     (memory_in o.dumped) (asked_of s) s.limit crash
 
 -- what is left of an opened process, with what the notes of its core tell
-pub record IsLeft (s : Salvage) (bytes : List ℕ) (o : Opened) (left : Left) : Type 0 where
+pub record IsLeft (s : Salvage) (bytes : List ℕ) (o : OpenedProcess) (left : Left) : Type 0 where
   pub version_is : left.version ≡ o.version
   pub notes : NotesTell bytes left.signal left.process
   pub crash : CrashTold bytes left.salvaged.crash
   pub salvaged : salvaged_of left.salvaged ≡ left_at s bytes o left.salvaged.crash
 
 -- how many addresses are looked at where no interpreter is shown, repeats included
-abbrev pub looked_at : Opened → ℕ
+abbrev pub looked_at : OpenedProcess → ℕ
 looked_at o = length (named_candidates o.known o.version o.layout (memory_in o.dumped))
     + length (searched_candidates o.known (memory_in o.dumped))
 
@@ -69,10 +63,10 @@ abbrev pub shown_or_none : List SalvagedInterpreter → ℕ → List ℕ → Out
 shown_or_none [] addresses text = Err (NoInterpreter addresses)
 shown_or_none (i ∷ is) addresses text = Ok text
 
-abbrev pub left_outcome : Salvage → Opened → Left → Outcome
+abbrev pub left_outcome : Salvage → OpenedProcess → Left → Outcome
 left_outcome s o left = shown_or_none left.salvaged.interpreters.items (looked_at o) (shown_left s left)
 
-abbrev pub IsLeftOf : Salvage → List ℕ → Opened → Outcome → Type 0
+abbrev pub IsLeftOf : Salvage → List ℕ → OpenedProcess → Outcome → Type 0
 IsLeftOf s bytes o outcome = (left : Left) × IsLeft s bytes o left × (outcome ≡ left_outcome s o left)
 
 -- ---- over the contents of the files
@@ -80,7 +74,7 @@ IsLeftOf s bytes o outcome = (left : Left) × IsLeft s bytes o left × (outcome 
 -- a core and its images by these layouts
 abbrev pub IsSalvagedBy : Salvage → List ℕ → Pushed → List Layout → Outcome → Type 0
 IsSalvagedBy s bytes images layouts outcome =
-    OutcomeThen (λ error. Core error) (OpenedIs bytes images layouts) (IsLeftOf s bytes) outcome
+    OutcomeThen (λ error. Core error) (ProcessIs bytes images layouts) (IsLeftOf s bytes) outcome
 
 -- the layouts are judged first, and then the process is opened, and its interpreters are looked for
 abbrev pub IsOutcome : Salvage → List (List ℕ) → Outcome → Type 0
@@ -91,8 +85,8 @@ IsOutcome s _ outcome = ⊥
 -- ---- contents with which nothing is wrong: the process can be opened, and an interpreter is shown
 
 pub record IsShowable (s : Salvage) (bytes : List ℕ) (images : Pushed) (layouts : List Layout) : Type 0 where
-  pub opened : Opened
-  pub is_opened : OpenedIs bytes images layouts (Ok opened)
+  pub opened : OpenedProcess
+  pub is_opened : ProcessIs bytes images layouts (Ok opened)
   pub crash : Option Crash
   pub shown : (left_at s bytes opened crash).interpreters ≢ []
 
@@ -111,10 +105,8 @@ cause_status (NoInterpreter addresses) = 1
 cause_status OutOfMemory = 5
 
 abbrev pub outcome_status : Outcome → ℕ
-outcome_status (Ok _) = 0
-outcome_status (Err cause) = cause_status cause
+outcome_status outcome = status_by cause_status outcome
 
 -- the answer of some work is right, unless memory ran out
 abbrev pub IsAnswer : (Outcome → Type 0) → Result (Vec ℕ Global) Cause → Type 0
-IsAnswer Right (Ok text) = Right (Ok text.items)
-IsAnswer Right (Err cause) = cause_status cause ≢ 5 → Right (Err cause)
+IsAnswer Right result = IsAnswerBy cause_status Right result

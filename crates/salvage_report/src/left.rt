@@ -8,8 +8,8 @@ ghost use Rattle.salvage_report.specs.Seen.{Counts, Salvages, ShowsLeft};
 
 use crate::cause::Cause;
 use crate::crash::first_crash;
-use crate::process::{Process, open};
 use crate::text::shown;
+use core_stacks::{Process, open};
 use elf64_core::Text;
 use image_memory::Images;
 use named_images::image_list;

@@ -10,7 +10,6 @@ mod crash;
 mod help;
 mod left;
 mod lines;
-mod process;
 mod text;
 
 pub use command::run;

@@ -2,10 +2,9 @@ use Rattle.std.proofs.Common.{inl, refl, subst, ◌∙◌}
 use Rattle.std.proofs.lemmas.Result.{err_from_is_err_and}
 use Rattle.salvage_words.specs.Seen.{asked_salvage}
 use Rattle.salvage_report.specs.declared.cause.Cause.TheVariants.{Core}
+use Rattle.core_stacks.specs.Process.{ProcessIs, opened_of}
 use Rattle.salvage_report.specs.Crashed.{CrashTold}
-use Rattle.salvage_report.specs.Opened.{OpenedIs}
 use Rattle.salvage_report.specs.Outcome.{IsLeftOf}
-use Rattle.salvage_report.specs.Seen.{opened_of}
 use Rattle.salvage_report.proofs.Comes.{after}
 use Rattle.salvage_report.proofs.left.salvage_core.Goals as goal
 
@@ -24,6 +23,6 @@ returns c =
     let is = c.in_ok-process.ensures.opens in
     let bytes = c.core.ensures.same ∙ is.same in
     let told = subst (λ bs. CrashTold bs c.in_ok-crash.crash) bytes c.in_ok-crash.ensures in
-    after (λ error. Core error) (OpenedIs c.args.core.items c.args.images.now c.args.layouts.now)
+    after (λ error. Core error) (ProcessIs c.args.core.items c.args.images.now c.args.layouts.now)
     (IsLeftOf (asked_salvage c.args.words.now) c.args.core.items) (opened_of is.maps c.in_ok-process.process) c.shown_left.result
     is.opened (c.shown_left.ensures c.args.core.items c.args.images.now c.args.layouts.now is told)
