@@ -1,13 +1,11 @@
 //! Which versions are refused, and the files of a program; more of both are rows of `listing`.
 ghost use Rattle.py_fields.specs.Sound.{IsSound};
 
-use crate::laid_tests::sample_3_12;
 use elf64_core::{Machine, Text};
 use image_builder::{
     BuildError, Built, Program, ProgramFrame, ProgramThread, build, has_room, has_word_room,
 };
-use memory_builder::{ProgramItem, ProgramLocal, ProgramValue};
-use py_fields::{Layout, is_sound};
+use py_fields::Layout;
 use py_lines::LineRange;
 use py_version::Version;
 use std::alloc::Global;
@@ -31,26 +29,15 @@ fn frame(alloc: Global, name: &str, first: i32, line: i32, end: u64) -> Result<P
     })
 }
 
-/// One thread of two frames, which holds the lock if anybody does; its first frame's one argument is the first of `locals`.
-fn with_locals(
-    alloc: Global,
-    owner: Option<u32>,
-    locals: Vec<ProgramLocal>,
-) -> Result<Program, Fail> {
+/// One thread of two frames, which holds the lock if anybody does.
+fn small(alloc: Global, owner: Option<u32>) -> Result<Program, Fail> {
     let mut first = frame(alloc, "f", 3, 5, 8)?;
     first.offset = 2;
-    first.args = if locals.is_empty() { 0 } else { 1 };
-    first.locals = locals;
     let frames = vec![in alloc; first, frame(alloc, "<module>", 1, 1, 4)?]?;
     Ok(Program {
         threads: vec![in alloc; ProgramThread { id: 32512, frames }]?,
         owner,
     })
-}
-
-/// The same without locals.
-fn small(alloc: Global, owner: Option<u32>) -> Result<Program, Fail> {
-    with_locals(alloc, owner, Vec::new(alloc))
 }
 
 /// A version of 3.9, or of another minor.
@@ -95,14 +82,6 @@ fn versions_without_a_number_are_uncovered(rt: HostRuntime) -> Result<(), Fail> 
 }
 
 #[test]
-fn zeros_may_stand_in_front(rt: HostRuntime) -> Result<(), Fail> {
-    let (layout, program) = (Layout::sample(), small(rt.alloc(), None)?);
-    let version = version(rt.alloc(), 9, 0, "a05")?;
-    assert!(rt; admit(rt.alloc(), &program, &layout, &version, Machine::X86_64) == Ok(()));
-    Ok(())
-}
-
-#[test]
 fn the_example_has_room(rt: HostRuntime) -> Result<(), Fail> {
     let (layout, version) = (Layout::sample(), version(rt.alloc(), 9, 0, "")?);
     assert!(rt; has_room(&layout));
@@ -130,32 +109,4 @@ pub(crate) fn built(alloc: Global) -> Result<Built, Fail> {
         &version,
         Machine::X86_64,
     )?)
-}
-
-fn local(alloc: Global, name: &str, value: ProgramValue) -> Result<ProgramLocal, Fail> {
-    let name = Text::of(alloc, name)?;
-    Ok(ProgramLocal { name, value })
-}
-
-/// A number, and a list of a text and a number.
-fn locals(alloc: Global) -> Result<Vec<ProgramLocal>, Fail> {
-    let words = ProgramItem::Words(Text::of(alloc, "s")?);
-    let items = vec![in alloc; words, ProgramItem::Number(7)]?;
-    let number = local(alloc, "x", ProgramValue::Number(-5))?;
-    Ok(vec![in alloc; number, local(alloc, "y", ProgramValue::List(items))?]?)
-}
-
-/// The program by 3.12's sample, with the lock free, or with locals in its first frame, by the thread that holds it.
-pub(crate) fn built_by_3_12(alloc: Global, has_locals: bool) -> Result<Built, Fail> {
-    let layout = sample_3_12();
-    if !is_sound(&layout) {
-        return Err(Fail::from("the layout isn't sound"));
-    }
-    let program = if has_locals {
-        with_locals(alloc, Some(0), locals(alloc)?)?
-    } else {
-        small(alloc, None)?
-    };
-    let version = version(alloc, 12, 0, "")?;
-    Ok(build(alloc, &program, &layout, &version, Machine::X86_64)?)
 }

@@ -6,8 +6,6 @@ mod core_tests;
 #[cfg(test)]
 mod image_tests;
 #[cfg(test)]
-mod laid_tests;
-#[cfg(test)]
 mod program_tests;
 #[cfg(test)]
 mod report_tests;

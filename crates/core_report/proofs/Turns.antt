@@ -11,13 +11,12 @@ use Rattle.py_fields.specs.declared.layout.Layout.{Layout}
 use Rattle.py_layout.specs.declared.error.LayoutError.{LayoutError}
 use Rattle.core_report.specs.declared.cause.Cause.TheVariants.{OutOfMemory}
 use Rattle.program_run.specs.Ends.{IsAnswered, IsTroubled}
-use Rattle.program_run.specs.Reading.{AreRead, AsksAmong, HasCoreFiles, IsReadTrouble, IsUnreadTrouble, trouble_of}
+use Rattle.program_run.specs.Reading.{AreRead, AsksAmong, HasCoreFiles, IsUnreadTrouble, trouble_of}
 use Rattle.program_run.specs.declared.core_files.CoreFiles.{CoreFiles}
 use Rattle.program_run.specs.declared.trouble.FileTrouble.{FileTrouble}
-use Rattle.program_run.specs.declared.trouble.FileTrouble.TheVariants as reading
 use Rattle.program_run.specs.declared.trouble.Trouble.TheVariants.{Cause as Caused}
-use Rattle.program_run.proofs.Contents.{told_same}
-use Rattle.program_run.proofs.Ends.{unread_file}
+use Rattle.program_run.proofs.Contents.{core_names, told_same}
+use Rattle.program_run.proofs.Ends.{unread_files}
 use Rattle.core_report.specs.declared.cause.Cause.{Cause}
 use Rattle.core_report.specs.declared.walk_command.WalkFiles.{WalkFiles}
 use Rattle.core_report.specs.declared.merge_command.MergeFiles.{MergeFiles}
@@ -107,9 +106,10 @@ same_contents told command xs ys some a b all whole = same_after told command []
 
 pub is_unread : (old mid new : FilesSeen) (command : Command) (read : List (List ℕ)) (name : List ℕ) (t : FileTrouble)
     → IsRead old.told command read → IsNext command read name → mid.failed ≡ old.failed
-    → IsReadTrouble mid.failed new.failed name t → IsTroubled pystacks old new command (trouble_of OutOfMemory t)
+    → IsUnreadTrouble (λ asked. asked ≡ name) mid new t → IsTroubled pystacks old new command (trouble_of OutOfMemory t)
 is_unread old mid new command read name t are next same h =
-    unread_file pystacks old mid new command name OutOfMemory t refl (record { contents = read; read = are; next = next }) same h
+    unread_files pystacks (λ asked. asked ≡ name) old mid new command OutOfMemory t refl
+    (λ asked is. subst (λ n. AsksNext old.told command n) (sym is) (record { contents = read; read = are; next = next })) same h
 
 -- ---- the files of each command
 
@@ -201,27 +201,16 @@ asks_next told command names rest name asked among =
     }
 
 pub first_unread : (old new : FilesSeen) (command : Command) (names rest : List (List ℕ)) (t : FileTrouble) → kept_files command ≡ names ++ rest
-    → IsUnreadTrouble old new names t → IsTroubled pystacks old new command (trouble_of OutOfMemory t)
-first_unread old new command names rest reading.OutOfMemory asked h = (λ ne. absurd (ne refl), h)
-first_unread old new command names rest (reading.File n why) asked h =
-    record { asks = asks_next old.told command names rest n.now asked h.asks; not_memory = h.not_memory; failed = h.failed }
+    → IsUnreadTrouble (AsksAmong old.told names) old new t → IsTroubled pystacks old new command (trouble_of OutOfMemory t)
+first_unread old new command names rest t asked h =
+    unread_files pystacks (AsksAmong old.told names) old old new command OutOfMemory t refl
+    (λ name among. asks_next old.told command names rest name asked among) refl h
 
 -- ---- the files of a core
 
-abbrev Named : Type 0
-Named = List (List ℕ × List ℕ)
-
--- the names of the files of a core
-abbrev pub core_names : List ℕ → List ℕ → Named → List (List ℕ)
-core_names core layouts images = core ∷ layouts ∷ map (λ image. image.1) images
-
-pub same_names : (core c layouts l : List ℕ) (images pairs : Named) → core ≡ c → layouts ≡ l → images ≡ pairs
-    → core_names core layouts images ≡ core_names c l pairs
-same_names core c layouts l images pairs one two three i = one i ∷ two i ∷ map (λ (image : List ℕ × List ℕ). image.1) (three i)
-
 -- of a command that keeps these alone
 pub core_unread : (old new : FilesSeen) (command : Command) (names : List (List ℕ)) (t : FileTrouble) → names ≡ kept_files command
-    → IsUnreadTrouble old new names t → IsTroubled pystacks old new command (trouble_of OutOfMemory t)
+    → IsUnreadTrouble (AsksAmong old.told names) old new t → IsTroubled pystacks old new command (trouble_of OutOfMemory t)
 core_unread old new command names t kept h = first_unread old new command names [] t (sym kept ∙ sym (append-nil names)) h
 
 pub core_has : (old new : FilesSeen) (command : Command) (names : List (List ℕ)) (files : CoreFiles) → names ≡ kept_files command
@@ -268,7 +257,7 @@ abbrev pub triage_names : Triage → List (List ℕ)
 triage_names t = t.layouts ∷ map (λ image. image.1) t.images
 
 pub triage_unread : (old new : FilesSeen) (t : Triage) (names : List (List ℕ)) (trouble : FileTrouble) → names ≡ triage_names t
-    → IsUnreadTrouble old new names trouble → IsTroubled pystacks old new (triage t) (trouble_of OutOfMemory trouble)
+    → IsUnreadTrouble (AsksAmong old.told names) old new trouble → IsTroubled pystacks old new (triage t) (trouble_of OutOfMemory trouble)
 triage_unread old new t names trouble are h = first_unread old new (triage t) names [] trouble (sym are ∙ sym (append-nil names)) h
 
 pub triage_has : (old new : FilesSeen) (t : Triage) (names : List (List ℕ)) (files : TriageFiles) → names ≡ triage_names t

@@ -1,12 +1,12 @@
 //! The top call.
 ghost use Rattle.std.specs.Prelude.{◌≡◌, ◌≢◌, ◌≤◌, ◌↔◌, ◌⊎◌, IfOk, List, ℕ, Option, None, Some, Ok, Err};
-ghost use Rattle.std.specs.Io.KnownBytes.{Appends};
 ghost use Rattle.outside.specs.Counts.{Rose};
 ghost use Rattle.core_words.specs.Answers.{AnswersWords};
 ghost use Rattle.core_words.specs.Dump.{Dump};
 ghost use Rattle.core_words.specs.Words.{Command as Asked, HasFewCores, Slim, command_of, dump, slim, texts};
 ghost use Rattle.core_words.specs.Seen.{asked_command};
-ghost use Rattle.program_run.specs.Ends.{HasEnded, HasRun, IsAnswered, Reaches, end_after, ran};
+ghost use Rattle.program_run.specs.Ends.{HasOutcome, IsAnswered, ran};
+ghost use Rattle.program_run.specs.Runs.{IsRun};
 ghost use Rattle.core_report.specs.declared.cause.Cause.{Cause as Why};
 ghost use Rattle.core_report.specs.Headline.{HasReported};
 ghost use Rattle.core_report.specs.Outcome.{IsFaultless, IsOutcome, cause_status};
@@ -23,7 +23,7 @@ use crate::triage_command::{TriageFiles, triage_over};
 use crate::walk_command::{WalkFiles, walk_over};
 use core_words::{ArgsError, Command, read_words};
 use outside::{Files, Sink};
-use program_run::{CoreFiles, tell};
+use program_run::{CoreFiles, finish};
 use std::alloc::Global;
 
 /// The text of a command.
@@ -73,27 +73,21 @@ fn text_of<'a, F: Files>(
     }
 }
 
-/// Does what was asked for, if anything was: its whole text is written to `out`.
-fn execute<'a, F: Files, S: Sink>(
+/// What the words come to: the text of their command, if they ask for one.
+fn outcome_of<'a, F: Files>(
     alloc: Global,
     asked: &'a Result<Command<'_>, ArgsError>,
     files: &mut F,
-    out: &mut S,
-) -> Result<(), Trouble<'a>>
+) -> Result<Vec<u8>, Trouble<'a>>
     requires few { IfOk asked.now (λ command. HasFewCores (asked_command command)) }
-    ensures ends { (asks : Option Asked) → AnswersWords asked_command asks asked.now → HasEnded pystacks asks
-        (ran (F.seen files.old) (F.seen files.new) (S.seen out.old) (S.seen out.new)) (end_after result) }
     ensures told { (F.seen files.new).told ≡ (F.seen files.old).told }
+    ensures comes { (asks : Option Asked) → AnswersWords asked_command asks asked.now
+        → HasOutcome pystacks asks (F.seen files.old) (F.seen files.new) result }
 {
-    let command = match asked {
-        Ok(command) => command,
-        Err(ArgsError::Refused) => return Err(Trouble::Words),
-        Err(ArgsError::OutOfMemory) => return Err(Trouble::Cause(Cause::OutOfMemory)),
-    };
-    let text = text_of(alloc, command, files)?;
-    match out.write(&text) {
-        Ok(()) => Ok(()),
-        Err(_) => Err(Trouble::Write),
+    match asked {
+        Ok(command) => text_of(alloc, command, files),
+        Err(ArgsError::Refused) => Err(Trouble::Words),
+        Err(ArgsError::OutOfMemory) => Err(Trouble::Cause(Cause::OutOfMemory)),
     }
 }
 
@@ -127,17 +121,14 @@ pub fn run<F: Files, S: Sink, E: Sink>(
     out: &mut S,
     err: &mut E,
 ) -> u8
-    // each status has its cause and its line, and what `out`, `err` and the list of failed names gained
-    ensures right { HasRun pystacks (command_of (texts words.now))
+    // each status has its cause and its line. 0 comes only after the whole text was written, and then nothing is said.
+    // Under another one but 4 nothing is written to `out`. The words are refused exactly where they ask for nothing, and
+    // 3 comes exactly where a file that they name could not be read
+    ensures runs { IsRun pystacks (command_of (texts words.now))
         (ran (F.seen files.old) (F.seen files.new) (S.seen out.old) (S.seen out.new))
         (E.seen err.old) (E.seen err.new) result }
 
     ensures statuses { result ≤ 9 }
-
-    // status 0 comes only after the whole text of what the command comes to was written
-    ensures printed { result ≡ 0 → (text : List ℕ)
-        × Reaches pystacks (command_of (texts words.now)) (F.seen files.old).told (Ok text)
-        × Appends (S.seen out.old).written (S.seen out.new).written text }
 
     // a dump ends with status 0 only after writing the text of a report whose threads are the whole chain, to null,
     // of the first candidate interpreter that passes the test over the memory of the core and its images, and in which
@@ -145,17 +136,6 @@ pub fn run<F: Files, S: Sink, E: Sink>(
     // function names: by all the files that the words name, where the files and `out` tell their bytes
     ensures headline { (d : Dump) → command_of (texts words.now) ≡ Some (dump d) → result ≡ 0
         → HasReported d (F.seen files.old).told (S.seen out.old) (S.seen out.new) }
-
-    ensures silent { result ≡ 0 → E.seen err.new ≡ E.seen err.old }
-    ensures nothing_out { result ≢ 0 → result ≢ 4 → S.seen out.new ≡ S.seen out.old }
-
-    // the words are refused exactly where they ask for nothing, want of memory aside
-    ensures refused { result ≡ 2 → command_of (texts words.now) ≡ None }
-    ensures asked { command_of (texts words.now) ≡ None → (result ≡ 2) ⊎ (result ≡ 5) }
-
-    ensures unread { (result ≡ 3) ↔ ((F.seen files.new).failed ≢ (F.seen files.old).failed) }
-    ensures all_read { result ≢ 3 → (F.seen files.new).failed ≡ (F.seen files.old).failed }
-    ensures told { (F.seen files.new).told ≡ (F.seen files.old).told }
 
     // where the files tell, each cause has its status, want of memory aside; of too many pieces the next clause speaks
     ensures only { (command : Asked) (contents : List (List ℕ)) (cause : Why)
@@ -185,6 +165,6 @@ pub fn run<F: Files, S: Sink, E: Sink>(
         → (result ≡ 0) ⊎ ((result ≡ 5) ⊎ EndsItself command contents result) }
 {
     let asked = read_words(alloc, words);
-    let ended = execute(alloc, &asked, files, out);
-    tell(err, b"pystacks: ", &ended)
+    let outcome = outcome_of(alloc, &asked, files);
+    finish(out, err, b"pystacks: ", &outcome)
 }

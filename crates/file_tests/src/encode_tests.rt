@@ -1,6 +1,6 @@
 //! Tables of ranges, worked out by hand.
 use LineFamily::{Locations, Pairs, Ranges};
-use py_lines::{EncodeError, LineFamily, LineRange, encode, ranges};
+use py_lines::{EncodeError, LineFamily, LineRange, encode};
 use std::alloc::Global;
 use std::test::Fail;
 
@@ -114,49 +114,55 @@ fn tables_are_written(rt: HostRuntime) -> Result<(), Fail> {
     Ok(())
 }
 
-fn range(start: u64, end: u64, line: Option<i32>) -> LineRange {
+/// A range, by its start, its end and its line.
+type Row = (u64, u64, Option<i32>);
+
+fn range_of((start, end, line): Row) -> LineRange {
     LineRange { start, end, line }
 }
 
+/// Why there is no table of two ranges, whose first line is 1.
+fn fault_of(alloc: Global, family: LineFamily, first: Row, second: Row) -> Option<EncodeError> {
+    encode(alloc, family, 1, &[range_of(first), range_of(second)]).err()
+}
+
+/// The family, two ranges, and which of them can't stand there.
+const UNORDERED: [(LineFamily, Row, Row, u64); 9] = [
+    (Pairs, (1, 4, Some(1)), (4, 6, Some(1)), 0),
+    (Ranges, (1, 4, Some(1)), (4, 6, Some(1)), 0),
+    (Locations, (1, 5, Some(1)), (5, 7, Some(1)), 0),
+    (Ranges, (0, 0, Some(1)), (0, 4, Some(1)), 0),
+    (Ranges, (0, 4, Some(1)), (5, 6, Some(1)), 1),
+    (Ranges, (0, 4, Some(1)), (3, 6, Some(1)), 1),
+    (Pairs, (0, 4, Some(1)), (4, 2_147_483_648, Some(1)), 1),
+    (Pairs, (0, 4, Some(1)), (4, 6, None), 1),
+    (Locations, (0, 4, Some(1)), (4, 7, None), 1),
+];
+
 #[test]
-fn ranges_that_cannot_stand_are_named(rt: HostRuntime) -> Result<(), Fail> {
-    let alloc = rt.alloc();
-    let good = range(0, 4, Some(1));
-    let last = (1 << 31) - 1;
-    let cases = [
-        (Pairs, [range(1, 4, Some(1)), range(4, 6, Some(1))], 0),
-        (Ranges, [range(1, 4, Some(1)), range(4, 6, Some(1))], 0),
-        (Locations, [range(1, 5, Some(1)), range(5, 7, Some(1))], 0),
-        (Ranges, [range(0, 0, Some(1)), good], 0),
-        (Ranges, [good, range(5, 6, Some(1))], 1),
-        (Ranges, [good, range(3, 6, Some(1))], 1),
-        (Pairs, [good, range(4, last + 1, Some(1))], 1),
-        (Pairs, [good, range(4, 6, None)], 1),
-        (Locations, [good, range(4, 7, None)], 1),
-    ];
-    for (family, ranges, index) in &cases {
-        let want = Err(EncodeError::NotOrdered { index: *index });
-        assert!(rt;
-            encode(alloc, *family, 1, ranges).map(|_| ()) == want,
-            "{family:?} {index}"
-        );
+fn ranges_that_cannot_stand_are_named(rt: HostRuntime) {
+    for (family, first, second, index) in &UNORDERED {
+        let fault = fault_of(rt.alloc(), *family, *first, *second);
+        let want = EncodeError::NotOrdered { index: *index };
+        assert!(rt; fault == Some(want), "{family:?} {index}");
     }
-    let far = encode(alloc, Pairs, 1, &[good, range(4, last, Some(1))])?;
-    assert!(rt; far.as_slice() == [0, 0, 4, 0].as_slice());
-    Ok(())
+    let far = fault_of(
+        rt.alloc(),
+        Pairs,
+        (0, 4, Some(1)),
+        (4, 2_147_483_647, Some(1)),
+    );
+    assert!(rt; far.is_none());
+}
+
+/// Whether the table of one range is too long.
+fn is_too_long(alloc: Global, family: LineFamily, end: u64, line: Option<i32>) -> bool {
+    encode(alloc, family, 1, &[range_of((0, end, line))]).err() == Some(EncodeError::TooLong)
 }
 
 #[test]
-fn long_tables_are_refused(rt: HostRuntime) -> Result<(), Fail> {
-    let alloc = rt.alloc();
-    let too_long = Err(EncodeError::TooLong);
-    let same = encode(alloc, Ranges, 1, &[range(0, 1 << 24, Some(1))]).map(|_| ());
-    assert!(rt; same == too_long);
-    let table = encode(alloc, Locations, 1, &[range(0, 65535 * 16, None)])?;
-    assert!(rt; table.len() == 65535);
-    let found = ranges(alloc, Locations, 1, &table)?;
-    assert!(rt; found.len() == 65535);
-    let more = encode(alloc, Locations, 1, &[range(0, 65536 * 16, None)]).map(|_| ());
-    assert!(rt; more == too_long);
-    Ok(())
+fn long_tables_are_refused(rt: HostRuntime) {
+    assert!(rt; is_too_long(rt.alloc(), Ranges, 16_777_216, Some(1)));
+    assert!(rt; !is_too_long(rt.alloc(), Locations, 1_048_560, None));
+    assert!(rt; is_too_long(rt.alloc(), Locations, 1_048_576, None));
 }

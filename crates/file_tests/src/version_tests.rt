@@ -171,20 +171,3 @@ fn both_tables_have_their_borders(rt: HostRuntime) -> Result<(), Fail> {
     }
     Ok(())
 }
-
-/// Flags and metadata of a version, and how it is written.
-static WRITTEN: [(&str, Option<&str>, &str); 4] = [
-    ("", None, "3.10.7"),
-    ("rc1", None, "3.10.7rc1"),
-    ("", Some("debug"), "3.10.7+debug"),
-    ("a2", Some(""), "3.10.7a2+"),
-];
-
-#[test]
-fn versions_are_written(rt: HostRuntime) -> Result<(), Fail> {
-    for (flags, metadata, wanted) in &WRITTEN {
-        let version = version(rt.alloc(), (3, 10, 7), flags, *metadata)?;
-        assert!(rt; version.to_string(rt.alloc())?.as_str() == *wanted);
-    }
-    Ok(())
-}

@@ -64,15 +64,6 @@ fn images(alloc: Global) -> Result<Images, Fail> {
     Ok(images)
 }
 
-#[test]
-fn the_first_image_of_a_path_counts(rt: HostRuntime) -> Result<(), Fail> {
-    let images = images(rt.alloc())?;
-    let shown = images.get(b"/a").map(|bytes| bytes.as_slice());
-    assert!(rt; shown == Some(b"0123456789abcdef".as_slice()));
-    assert!(rt; images.get(b"/").is_none());
-    Ok(())
-}
-
 fn backed(alloc: Global) -> Result<BackedDump, Fail> {
     Ok(BackedDump::new(alloc, core(alloc)?, &images(alloc)?)?)
 }

@@ -1,4 +1,4 @@
-//! Tests of ELF files, records, files and streams, tables of pieces, the memory of a core, and cores of parts of it.
+//! Tests of ELF files, records, tables of pieces, and the memory of a core.
 #![tactic(auto)]
 
 #[cfg(test)]
@@ -17,5 +17,3 @@ mod piece_table_tests;
 mod piece_tests;
 #[cfg(test)]
 mod record_tests;
-#[cfg(test)]
-mod slim_tests;

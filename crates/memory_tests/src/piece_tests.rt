@@ -1,12 +1,8 @@
-//! The pieces of cores that are written out, and the addresses of maps that overlap.
-ghost use Rattle.std.specs.Prelude.{◌<◌};
-
+//! Many pieces of a core.
 use crate::made::file_of;
-use elf64_core::{LOAD, NOTE, Segment};
-use image_memory::{
-    BackedDump, ContainsAddr, CoreDump, CoreMapRange, Images, ProcessMemory, ReadFault,
-};
-use std::alloc::{AllocError, Global};
+use elf64_core::{LOAD, NOTE};
+use image_memory::{BackedDump, CoreDump, Images, ProcessMemory, ReadFault};
+use std::alloc::Global;
 use std::test::Fail;
 
 /// How many segments a core may have beside one of notes.
@@ -44,32 +40,4 @@ fn many_segments_are_read_at_once_beside_images(rt: HostRuntime) -> Result<(), F
     let dump = BackedDump::new(rt.alloc(), core, &Images::new(rt.alloc()))?;
     assert!(rt; are_read(&mut dump.view())?);
     Ok(())
-}
-
-/// The starts and sizes of maps that overlap, one of them past 2^64 - 1.
-const MAPS: [(u64, u64); 6] = [
-    (0x3000, 0x1000),
-    (0x1000, 0x2800),
-    (0x2000, 0x100),
-    (0x8000, 0),
-    (u64::MAX - 1, 1),
-    (u64::MAX - 16, 4),
-];
-
-fn maps(alloc: Global, past: u64) -> Result<Vec<CoreMapRange>, AllocError> {
-    let mut maps = Vec::new(alloc);
-    for (addr, size) in MAPS {
-        maps.push(CoreMapRange {
-            pathname: None,
-            segment: Segment {
-                kind: LOAD,
-                flags: 0,
-                offset: 0,
-                addr,
-                file_size: 0,
-                mem_size: size.saturating_add(past),
-            },
-        })?;
-    }
-    Ok(maps)
 }

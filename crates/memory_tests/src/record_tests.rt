@@ -3,8 +3,8 @@ ghost use Rattle.std.specs.Prelude.{◌≡◌, ◌<◌};
 
 use elf64_core::Steps;
 use process_memory::{
-    Counted, Part, Piece, ProcessMemory, ReadFault, Recorder, Span, record, record_in, record_wide,
-    word, word_past, word_wide,
+    Counted, Part, Piece, ProcessMemory, ReadFault, record, record_in, record_wide, word,
+    word_past, word_wide,
 };
 use std::alloc::{AllocError, Global};
 use std::marker::Brand;
@@ -146,29 +146,6 @@ fn check_counted<L: Ledger>(rt: &impl Abort, alloc: Global, blank: Blank) -> Res
 #[test]
 fn a_counted_memory_answers_the_same(rt: HostRuntime) -> Result<(), Fail> {
     check_counted::<Brand>(&rt, rt.alloc(), Blank::new(1))
-}
-
-const SPANS: [Span; 2] = [
-    Span {
-        start: 0x1000,
-        len: 2,
-    },
-    Span {
-        start: u64::MAX,
-        len: 0,
-    },
-];
-
-#[test]
-fn ranges_are_those_read_with_ok(rt: HostRuntime) -> Result<(), Fail> {
-    let alloc = rt.alloc();
-    let mut recorder = Recorder::new(alloc, part(alloc)?);
-    assert!(rt; recorder.copy(alloc, 0x1010, 9).is_err());
-    assert!(rt; recorder.ranges().is_empty());
-    assert!(rt; recorder.copy(alloc, 0x1000, 2).is_ok());
-    assert!(rt; recorder.read(u64::MAX, &mut []).is_ok());
-    assert!(rt; recorder.ranges() == SPANS.as_slice());
-    Ok(())
 }
 
 /// How many addresses there are.

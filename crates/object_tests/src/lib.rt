@@ -2,26 +2,12 @@
 #![tactic(auto)]
 
 #[cfg(test)]
-mod byte_tests;
-#[cfg(test)]
 mod dict_tests;
 #[cfg(test)]
-mod integer_tests;
-#[cfg(test)]
 mod interpreter_tests;
-#[cfg(test)]
-mod item_tests;
 #[cfg(test)]
 mod made;
 #[cfg(test)]
 mod name_tests;
 #[cfg(test)]
-mod process_tests;
-#[cfg(test)]
-mod reach_tests;
-#[cfg(test)]
 mod stack_tests;
-#[cfg(test)]
-mod string_tests;
-#[cfg(test)]
-mod value_tests;

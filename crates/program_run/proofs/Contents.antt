@@ -8,7 +8,7 @@ use Rattle.std.proofs.lemmas.Option.{same_Some}
 use Rattle.outside.specs.Files.{FilesSeen, Told, Gives}
 use Rattle.program_run.specs.declared.trouble.FileTrouble.{FileTrouble}
 use Rattle.program_run.specs.declared.trouble.FileTrouble.TheVariants.{File, OutOfMemory}
-use Rattle.program_run.specs.Reading.{AreRead, IsReadTrouble, IsUnreadTrouble}
+use Rattle.program_run.specs.Reading.{AreRead, AsksAmong, IsUnreadTrouble}
 
 -- one file more
 pub more_read : (told : Told) (names contents : List (List ℕ)) (name bytes : List ℕ) → AreRead told names contents
@@ -41,24 +41,25 @@ around f xs i x d lt is =
 
 pub unread : (old mid new : FilesSeen) (names before behind contents : List (List ℕ)) (name : List ℕ) (t : FileTrouble)
     → names ≡ before ++ name ∷ behind → AreRead old.told before contents → mid.failed ≡ old.failed
-    → IsReadTrouble mid.failed new.failed name t → IsUnreadTrouble old new names t
+    → IsUnreadTrouble (λ asked. asked ≡ name) mid new t → IsUnreadTrouble (AsksAmong old.told names) old new t
 unread old mid new names before behind contents name OutOfMemory are read same h = h ∙ same
 unread old mid new names before behind contents name (File n why) are read same h = record {
   asks = record {
     before = before;
     behind = behind;
-    are = are ∙ ap (λ x. before ++ x ∷ behind) (sym h.0);
+    are = are ∙ ap (λ x. before ++ x ∷ behind) (sym h.asks);
     contents = contents;
     read = read;
   };
-  not_memory = h.1;
-  failed = h.2 ∙ ap (λ b. b ++ (n.now, why) ∷ []) same;
+  not_memory = h.not_memory;
+  failed = h.failed ∙ ap (λ b. b ++ (n.now, why) ∷ []) same;
 }
 
 -- after another file that was read
 pub later : (old mid new : FilesSeen) (names : List (List ℕ)) (name bytes : List ℕ) (t : FileTrouble)
     → mid.told ≡ old.told → mid.failed ≡ old.failed → Gives old.told name bytes
-    → IsUnreadTrouble mid new names t → IsUnreadTrouble old new (name ∷ names) t
+    → IsUnreadTrouble (AsksAmong mid.told names) mid new t
+    → IsUnreadTrouble (AsksAmong old.told (name ∷ names)) old new t
 later old mid new names name bytes OutOfMemory told failed gives h = h ∙ failed
 later old mid new names name bytes (File n why) told failed gives h = record {
   asks = record {
@@ -87,3 +88,16 @@ same_contents told (n ∷ ns) [] ys some a b = absurd a
 same_contents told (n ∷ ns) (x ∷ xs) [] some a b = absurd b
 same_contents told (n ∷ ns) (x ∷ xs) (y ∷ ys) some a b =
     ap (λ z. z ∷ xs) (told_same told n x y some a.0 b.0) ∙ ap (λ zs. y ∷ zs) (same_contents told ns xs ys some a.1 b.1)
+
+-- ---- the names of the files of a core
+
+abbrev Named : Type 0
+Named = List (List ℕ × List ℕ)
+
+abbrev pub core_names : List ℕ → List ℕ → Named → List (List ℕ)
+core_names core layouts images = core ∷ layouts ∷ map (λ image. image.1) images
+
+pub same_names : (core c layouts l : List ℕ) (images pairs : Named) → core ≡ c → layouts ≡ l → images ≡ pairs
+    → core_names core layouts images ≡ core_names c l pairs
+same_names core c layouts l images pairs one two three i =
+    one i ∷ two i ∷ map (λ (image : List ℕ × List ℕ). image.1) (three i)

@@ -1,15 +1,15 @@
 -- How a run of a program ends: by the whole text that its words ask for, or by one line and a status of its own.
-use Rattle.std.specs.Prelude.{◌≡◌, ◌≢◌, ◌++◌, ℕ, List, [], ◌∷◌, Option, Some, None, Result, Ok, Err, Vec, codes}
+use Rattle.std.specs.Prelude.{◌≡◌, ◌≢◌, ℕ, List, [], ◌∷◌, Option, Some, None, Result, Ok, Err, Vec, codes}
 use Rattle.std.specs.Global.{Global}
 use Rattle.std.specs.List.{concat}
 use Rattle.outside.specs.Files.{FilesSeen, Told}
 use Rattle.outside.specs.Streams.{SinkSeen}
 use Rattle.outside.specs.declared.faults.FileFault.{FileFault}
-use Rattle.outside.specs.declared.faults.FileFault.TheVariants as fault
 use Rattle.core_texts.specs.Says.{IsAdded, IsCutOff, Says}
 use Rattle.fault_lines.specs.Lines.{file_parts, line_of}
+use Rattle.program_run.specs.Reading.{IsUnread}
 use Rattle.program_run.specs.declared.trouble.Trouble.{Trouble}
-use Rattle.program_run.specs.declared.trouble.Trouble.TheVariants.{Cause as Caused, Words, File, Write}
+use Rattle.program_run.specs.declared.trouble.Trouble.TheVariants.{Cause as Caused, Words, File}
 
 -- what is said of a cause why there is no text: the status with which a run ends by it, and the parts of its line
 pub record CauseSays : Type 0 where
@@ -30,13 +30,6 @@ pub record Reaches {Command Cause : Type 0} (p : Program Command Cause) (asked :
   pub command : Command
   pub is_asked : asked ≡ Some command
   pub comes : p.Comes told command outcome
-
--- this file is asked for, and could not be read
-pub record IsUnread {Command Cause : Type 0} (p : Program Command Cause) (old new : FilesSeen) (command : Command)
-    (name : List ℕ) (why : FileFault) : Type 0 where
-  pub asks : p.Asks old.told command name
-  pub not_memory : why ≢ fault.OutOfMemory
-  pub failed : new.failed ≡ old.failed ++ (name, why) ∷ []
 
 -- ---- how a run ends
 
@@ -103,7 +96,7 @@ pub record IsStuck {Command Cause : Type 0} (p : Program Command Cause) (asked :
     (name : List ℕ) (why : FileFault) : Type 0 where
   pub command : Command
   pub is_asked : asked ≡ Some command
-  pub unread : IsUnread p r.files r.files_after command name why
+  pub unread : IsUnread (p.Asks r.files.told command) r.files r.files_after name why
   pub written : r.out_after ≡ r.out
 
 -- what the words ask for comes to this cause, unless memory ran out, and nothing was written
@@ -135,7 +128,7 @@ abbrev pub IsTroubled : {Command Cause : Type 0} → Program Command Cause → F
     → Trouble Cause → Type 0
 IsTroubled p old new command (Caused cause) =
     ((p.says cause).status ≢ 5 → p.Comes old.told command (Err cause)) × (new.failed ≡ old.failed)
-IsTroubled p old new command (File name why) = IsUnread p old new command name.now why
+IsTroubled p old new command (File name why) = IsUnread (p.Asks old.told command) old new name.now why
 IsTroubled p old new command _ = ⊥
 
 -- what a command's own code answers: its text, or what was wrong
@@ -144,15 +137,39 @@ abbrev pub IsAnswered : {Command Cause : Type 0} → Program Command Cause → F
 IsAnswered p old new command (Ok text) = p.Comes old.told command (Ok text.items) × (new.failed ≡ old.failed)
 IsAnswered p old new command (Err trouble) = IsTroubled p old new command trouble
 
+-- what the words ask for comes to, before anything is written: a text or a cause, unless memory ran out, or a file that
+-- could not be read; or they ask for nothing
+abbrev pub HasOutcome : {Command Cause : Type 0} → Program Command Cause → Option Command → FilesSeen → FilesSeen
+    → Result (Vec ℕ Global) (Trouble Cause) → Type 0
+HasOutcome p asked old new (Ok text) = Reaches p asked old.told (Ok text.items) × (new.failed ≡ old.failed)
+HasOutcome p asked old new (Err (Caused cause)) =
+    ((p.says cause).status ≢ 5 → Reaches p asked old.told (Err cause)) × (new.failed ≡ old.failed)
+HasOutcome {Command} p asked old new (Err (File name why)) =
+    (command : Command) × (asked ≡ Some command) × IsUnread (p.Asks old.told command) old new name.now why
+HasOutcome p asked old new (Err Words) = (asked ≡ None) × (new.failed ≡ old.failed)
+
+-- the end that something wrong leads to
 abbrev pub end_at : {Cause : Type 0} → Trouble Cause → End Cause
 end_at (Caused cause) = stopped cause
 end_at Words = refused
 end_at (File name why) = unread name.now why
-end_at Write = cut
 
-abbrev pub end_after : {Cause : Type 0} → Result (Unit {0}) (Trouble Cause) → End Cause
-end_after (Ok _) = printed
-end_after (Err trouble) = end_at trouble
+-- what the stream of the text gains where an outcome is brought to an end: the whole text, or a front of it, or nothing
+abbrev pub BringsTo : {Cause : Type 0} → Result (Vec ℕ Global) (Trouble Cause) → End Cause → SinkSeen → SinkSeen
+    → Type 0
+BringsTo (Ok text) printed old new = IsAdded old new text.items
+BringsTo (Ok text) cut old new = IsCutOff old new text.items
+BringsTo (Ok text) _ old new = ⊥
+BringsTo (Err trouble) end old new = (end ≡ end_at trouble) × (new ≡ old)
+
+-- an outcome was brought to an end with this status, and its line was said
+pub record HasFinished {Cause : Type 0} (start : List ℕ) (says : Cause → CauseSays)
+    (outcome : Result (Vec ℕ Global) (Trouble Cause)) (out out_after err err_after : SinkSeen)
+    (status : ℕ) : Type 0 where
+  pub end : End Cause
+  pub is : status ≡ end_status says end
+  pub brought : BringsTo outcome end out out_after
+  pub said : SaysEnd start says end err err_after
 
 -- ---- what follows of a status
 

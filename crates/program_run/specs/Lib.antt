@@ -1,4 +1,5 @@
 pub mod Statuses
-pub mod Ends
 pub mod Reading
+pub mod Ends
+pub mod Runs
 pub mod Outcomes

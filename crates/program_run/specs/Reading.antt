@@ -1,7 +1,7 @@
 -- Files that are asked for in turn, by their names, and what they hold.
 use Rattle.std.specs.Prelude.{◌≡◌, ◌≢◌, ⊤, ℕ, List, [], ◌∷◌, ◌++◌, Result, Ok, Err, Vec}
 use Rattle.std.specs.Global.{Global}
-use Rattle.outside.specs.Files.{FailedNames, FilesSeen, Gives, Told}
+use Rattle.outside.specs.Files.{FilesSeen, Gives, Told}
 use Rattle.outside.specs.declared.faults.FileFault.{FileFault}
 use Rattle.outside.specs.declared.faults.FileFault.TheVariants as fault
 pub use Rattle.named_images.specs.Named.{contents}
@@ -28,22 +28,16 @@ pub record AsksAmong (told : Told) (names : List (List ℕ)) (name : List ℕ) :
 
 -- ---- as they are read
 
--- what the reading of one file may leave
-abbrev pub IsReadTrouble : FailedNames → FailedNames → List ℕ → FileTrouble → Type 0
-IsReadTrouble before after name (File n why) =
-    (n.now ≡ name) × (why ≢ fault.OutOfMemory) × (after ≡ before ++ (n.now, why) ∷ [])
-IsReadTrouble before after name OutOfMemory = after ≡ before
-
--- this file, one of some, could not be read
-pub record IsUnreadOf (old new : FilesSeen) (names : List (List ℕ)) (name : List ℕ) (why : FileFault) : Type 0 where
-  pub asks : AsksAmong old.told names name
+-- this file could not be read, which is asked for by what is so of those that are
+pub record IsUnread (Asks : List ℕ → Type 0) (old new : FilesSeen) (name : List ℕ) (why : FileFault) : Type 0 where
+  pub asks : Asks name
   pub not_memory : why ≢ fault.OutOfMemory
   pub failed : new.failed ≡ old.failed ++ (name, why) ∷ []
 
--- what the reading of several may leave
-abbrev pub IsUnreadTrouble : FilesSeen → FilesSeen → List (List ℕ) → FileTrouble → Type 0
-IsUnreadTrouble old new names (File n why) = IsUnreadOf old new names n.now why
-IsUnreadTrouble old new names OutOfMemory = new.failed ≡ old.failed
+-- what reading files that are asked for may leave: one that could not be read, or want of memory
+abbrev pub IsUnreadTrouble : (List ℕ → Type 0) → FilesSeen → FilesSeen → FileTrouble → Type 0
+IsUnreadTrouble Asks old new (File n why) = IsUnread Asks old new n.now why
+IsUnreadTrouble Asks old new OutOfMemory = new.failed ≡ old.failed
 
 -- files of these names hold these contents, and none failed
 pub record HasAll (old new : FilesSeen) (names contents : List (List ℕ)) : Type 0 where
@@ -53,7 +47,7 @@ pub record HasAll (old new : FilesSeen) (names contents : List (List ℕ)) : Typ
 -- what reading them answers
 abbrev pub HasFiles : FilesSeen → FilesSeen → List (List ℕ) → Result (Vec (Vec ℕ Global) Global) FileTrouble → Type 0
 HasFiles old new names (Ok files) = HasAll old new names (contents files.items)
-HasFiles old new names (Err trouble) = IsUnreadTrouble old new names trouble
+HasFiles old new names (Err trouble) = IsUnreadTrouble (AsksAmong old.told names) old new trouble
 
 -- what the files of a core hold, in the order in which they are asked for
 abbrev pub core_contents : CoreFiles → List (List ℕ)
@@ -61,7 +55,7 @@ core_contents files = files.core.items ∷ files.layouts.items ∷ contents file
 
 abbrev pub HasCoreFiles : FilesSeen → FilesSeen → List (List ℕ) → Result CoreFiles FileTrouble → Type 0
 HasCoreFiles old new names (Ok files) = HasAll old new names (core_contents files)
-HasCoreFiles old new names (Err trouble) = IsUnreadTrouble old new names trouble
+HasCoreFiles old new names (Err trouble) = IsUnreadTrouble (AsksAmong old.told names) old new trouble
 
 -- what is wrong with a run where a file is not read, of a program in which this cause is want of memory
 abbrev pub trouble_of : {Cause : Type 0} → Cause → FileTrouble → Trouble Cause

@@ -1,7 +1,7 @@
 //! Reading files that words name.
 ghost use Rattle.std.specs.Prelude.{◌≡◌, IfErr, IfOk, map};
 ghost use Rattle.outside.specs.Files.{Gives};
-ghost use Rattle.program_run.specs.Reading.{HasFiles, IsReadTrouble};
+ghost use Rattle.program_run.specs.Reading.{HasFiles, IsUnreadTrouble};
 
 use crate::trouble::FileTrouble;
 use elf64_core::Name;
@@ -17,7 +17,7 @@ pub fn read_file<'a, F: Files>(
     ensures told { (F.seen files.new).told ≡ (F.seen files.old).told }
     ensures given { IfOk result (λ bytes. Gives (F.seen files.old).told name.now bytes.items
         × ((F.seen files.new).failed ≡ (F.seen files.old).failed)) }
-    ensures trouble { IfErr result (IsReadTrouble (F.seen files.old).failed (F.seen files.new).failed name.now) }
+    ensures trouble { IfErr result (IsUnreadTrouble (λ asked. asked ≡ name.now) (F.seen files.old) (F.seen files.new)) }
 {
     match files.read(alloc, name) {
         Ok(bytes) => Ok(bytes),

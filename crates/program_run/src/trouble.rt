@@ -1,4 +1,4 @@
-//! Why a run printed nothing, or not all.
+//! Why a file was not read, and why a run has no text.
 ghost use Rattle.std.specs.Prelude.{◌≡◌};
 
 use crate::cause::RunCause;
@@ -14,7 +14,7 @@ pub enum FileTrouble<'a> {
     OutOfMemory,
 }
 
-/// Why a run printed nothing, or not all.
+/// Why a run has no text.
 #[derive(Drop)]
 pub enum Trouble<'a, C> {
     /// What the words ask for comes to no text.
@@ -23,8 +23,6 @@ pub enum Trouble<'a, C> {
     Words,
     /// A file that they name could not be read, or is too long.
     File { name: &'a [u8], fault: FileFault },
-    /// The text could not be written.
-    Write,
 }
 
 impl<'a, C: RunCause> From<C> for Trouble<'a, C> {

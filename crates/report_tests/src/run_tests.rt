@@ -49,27 +49,23 @@ const ADDRESSES: &[u8] = b"0x9999\n";
 const ROOM: u32 = 1000;
 
 /// A command over files that serve: its words, which for `pysalvage` begin with its name, and the files that it asks
-/// for, in order, each with blanks between them; how many bytes it prints, and which, where these are a text; and what
-/// it prints before the cause where its core is cut, and with the cause where its image is, if it goes on then.
+/// for, in order, each with blanks between them; how many bytes it prints; and what it prints before the cause where its
+/// core is cut, and with the cause where its image is, if it goes on then.
 struct Row {
     words: &'static str,
     files: &'static str,
     length: usize,
-    text: Option<&'static str>,
     cut_core: Option<&'static str>,
     cut_image: Option<&'static str>,
 }
 
 const STACKS: &str = "Python v3.9.0\n\nThread 0x7F00\n";
 
-const PLACES: &str = "Python v3.9.0\nInterpreter 0x10000\nLock 0x0\n";
-
 const ROWS: [Row; 9] = [
     Row {
         words: "walk core sample 3.9.0 0x10000 0",
         files: "core",
         length: 29,
-        text: Some(STACKS),
         cut_core: None,
         cut_image: Some(STACKS),
     },
@@ -77,7 +73,6 @@ const ROWS: [Row; 9] = [
         words: "walk core layouts 3.9.0 0x10000 0",
         files: "core layouts",
         length: 29,
-        text: Some(STACKS),
         cut_core: None,
         cut_image: Some(STACKS),
     },
@@ -85,7 +80,6 @@ const ROWS: [Row; 9] = [
         words: "dump -c core --layouts layouts /usr/bin/python3.9=image",
         files: "core layouts image",
         length: 29,
-        text: Some(STACKS),
         cut_core: None,
         cut_image: None,
     },
@@ -93,7 +87,6 @@ const ROWS: [Row; 9] = [
         words: "merge core layouts 0 addresses /usr/bin/python3.9=image",
         files: "core layouts image addresses",
         length: 15,
-        text: Some("    0x9999 (?)\n"),
         cut_core: None,
         cut_image: None,
     },
@@ -101,7 +94,6 @@ const ROWS: [Row; 9] = [
         words: "locate core layouts /usr/bin/python3.9=image",
         files: "core layouts image",
         length: 43,
-        text: Some(PLACES),
         cut_core: None,
         cut_image: None,
     },
@@ -109,7 +101,6 @@ const ROWS: [Row; 9] = [
         words: "slim core layouts 0 /usr/bin/python3.9=image",
         files: "core layouts image",
         length: 328,
-        text: None,
         cut_core: None,
         cut_image: None,
     },
@@ -117,7 +108,6 @@ const ROWS: [Row; 9] = [
         words: "triage layouts core copy /usr/bin/python3.9=image",
         files: "layouts image core copy",
         length: 29,
-        text: Some("Group 1: 2\n    core\n    copy\n"),
         cut_core: Some("Group 1: 1\n    copy\nRefused: 1\n    core: "),
         cut_image: Some(
             "Refused: 2\n    core: bad image: /usr/bin/python3.9\n    copy: bad image: /usr/bin/python3.9\n",
@@ -127,7 +117,6 @@ const ROWS: [Row; 9] = [
         words: "reach core layouts 0 /usr/bin/python3.9=image",
         files: "core layouts image",
         length: 10,
-        text: Some("Objects 0\n"),
         cut_core: None,
         cut_image: None,
     },
@@ -135,7 +124,6 @@ const ROWS: [Row; 9] = [
         words: "pysalvage core --layouts layouts /usr/bin/python3.9=image",
         files: "core layouts image",
         length: 29,
-        text: Some(STACKS),
         cut_core: None,
         cut_image: None,
     },

@@ -1,5 +1,5 @@
 -- What is asked for comes to its outcome.
-use Rattle.std.proofs.Common.{◌≡◌, ◌≢◌, ℕ, List, ◌∷◌, map, Ok, Err, inr, refl, subst}
+use Rattle.std.proofs.Common.{◌≡◌, ◌≢◌, ℕ, List, Ok, Err, inr, refl, subst}
 use Rattle.std.specs.Prelude.{Result, Vec}
 use Rattle.std.specs.Global.{Global}
 use Rattle.outside.specs.Files.{FilesSeen}
@@ -7,8 +7,8 @@ use Rattle.program_run.specs.Ends.{IsAnswered, IsTroubled}
 use Rattle.program_run.specs.Outcomes.{OutcomeThen}
 use Rattle.program_run.specs.Reading.{AreRead, AsksAmong, HasAll, IsUnreadTrouble, core_contents, trouble_of}
 use Rattle.program_run.specs.declared.core_files.CoreFiles.{CoreFiles}
+use Rattle.program_run.proofs.Ends.{unread_files}
 use Rattle.program_run.specs.declared.trouble.FileTrouble.{FileTrouble}
-use Rattle.program_run.specs.declared.trouble.FileTrouble.TheVariants as reading
 use Rattle.program_run.specs.declared.trouble.Trouble.TheVariants.{Cause as Caused}
 use Rattle.salvage_words.specs.Salvage.{Salvage}
 use Rattle.salvage_words.specs.Salvage.Wanted.{salvage}
@@ -20,14 +20,10 @@ use Rattle.salvage_report.specs.Run.{pysalvage}
 
 module _ (old new : FilesSeen) (s : Salvage) where
   -- a file that could not be read, of names that are those of the words
-  pub troubled : (names : List (List ℕ)) (t : FileTrouble) → names ≡ files_of s → IsUnreadTrouble old new names t
-      → IsTroubled pysalvage old new (salvage s) (trouble_of OutOfMemory t)
-  troubled names reading.OutOfMemory are h = (λ ne. absurd (ne refl), h)
-  troubled names (reading.File n why) are h = record {
-    asks = subst (λ l. AsksAmong old.told l n.now) are h.asks;
-    not_memory = h.not_memory;
-    failed = h.failed;
-  }
+  pub troubled : (names : List (List ℕ)) (t : FileTrouble) → names ≡ files_of s
+      → IsUnreadTrouble (AsksAmong old.told names) old new t → IsTroubled pysalvage old new (salvage s) (trouble_of OutOfMemory t)
+  troubled names t are h = unread_files pysalvage (AsksAmong old.told names) old old new (salvage s) OutOfMemory t refl
+      (λ name among. subst (λ l. AsksAmong old.told l name) are among) refl h
 
   module _ (files : CoreFiles) (names : List (List ℕ)) (are : names ≡ files_of s) (has : HasAll old new names (core_contents files)) where
     read : AreRead old.told (files_of s) (core_contents files)
@@ -45,8 +41,3 @@ pub after : {T E : Type 0} (as_cause : E → Cause) (First : Result T E → Type
     (r : Result (Vec ℕ Global) Cause) → First (Ok x) → IsAnswer (Rest x) r → IsAnswer (OutcomeThen as_cause First Rest) r
 after as_cause First Rest x (Ok text) first h = inr (x, first, h)
 after as_cause First Rest x (Err cause) first h = λ ne. inr (x, first, h ne)
-
--- the names of the words' files
-pub same_names : (core c layouts l : List ℕ) (images pairs : List (List ℕ × List ℕ)) → core ≡ c → layouts ≡ l → images ≡ pairs
-    → core ∷ layouts ∷ map (λ image. image.1) images ≡ c ∷ l ∷ map (λ image. image.1) pairs
-same_names core c layouts l images pairs one two three i = one i ∷ two i ∷ map (λ (image : List ℕ × List ℕ). image.1) (three i)

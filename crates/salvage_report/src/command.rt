@@ -1,6 +1,5 @@
 //! The top call.
 ghost use Rattle.std.specs.Prelude.{◌≡◌, ◌≢◌, ◌≤◌, ◌↔◌, ◌⊎◌, List, ℕ, Option, None, Some, Ok, Err, IfOk};
-ghost use Rattle.std.specs.Io.KnownBytes.{Appends};
 ghost use Rattle.outside.specs.Counts.{Rose};
 ghost use Rattle.core_words.specs.Answers.{AnswersWords};
 ghost use Rattle.core_words.specs.Words.{texts};
@@ -10,13 +9,14 @@ ghost use Rattle.salvage_report.specs.declared.cause.Cause.{Cause as Why};
 ghost use Rattle.salvage_report.specs.Headline.{HasSalvaged};
 ghost use Rattle.salvage_report.specs.Outcome.{IsFaultless, IsOutcome, cause_status};
 ghost use Rattle.salvage_report.specs.Run.{IsFew, TellsContents, pysalvage};
-ghost use Rattle.program_run.specs.Ends.{HasEnded, HasRun, IsAnswered, Reaches, end_after, ran};
+ghost use Rattle.program_run.specs.Ends.{HasOutcome, IsAnswered, ran};
+ghost use Rattle.program_run.specs.Runs.{IsRun};
 
 use crate::cause::{Cause, Trouble};
 use crate::help::{help, program_version};
 use crate::left::salvage_over;
 use outside::{Files, Sink};
-use program_run::{CoreFiles, tell};
+use program_run::{CoreFiles, finish};
 use salvage_words::{ArgsError, Asked, read_words};
 use std::alloc::Global;
 
@@ -41,27 +41,21 @@ fn text_of<'a, F: Files>(
     }
 }
 
-/// Does what was asked for, if anything was: its whole text is written to `out`.
-fn execute<'a, F: Files, S: Sink>(
+/// What the words come to: the text that they ask for, if they ask for anything.
+fn outcome_of<'a, F: Files>(
     alloc: Global,
     asked: &'a Result<Asked, ArgsError>,
     files: &mut F,
-    out: &mut S,
-) -> Result<(), Trouble<'a>>
+) -> Result<Vec<u8>, Trouble<'a>>
     requires few { IfOk asked.now (λ wanted. IsFew (asked_by wanted)) }
-    ensures ends { (asks : Option Wanted) → AnswersWords asked_by asks asked.now → HasEnded pysalvage asks
-        (ran (F.seen files.old) (F.seen files.new) (S.seen out.old) (S.seen out.new)) (end_after result) }
     ensures told { (F.seen files.new).told ≡ (F.seen files.old).told }
+    ensures comes { (asks : Option Wanted) → AnswersWords asked_by asks asked.now
+        → HasOutcome pysalvage asks (F.seen files.old) (F.seen files.new) result }
 {
-    let asked = match asked {
-        Ok(asked) => asked,
-        Err(ArgsError::Refused) => return Err(Trouble::Words),
-        Err(ArgsError::OutOfMemory) => return Err(Trouble::Cause(Cause::OutOfMemory)),
-    };
-    let text = text_of(alloc, asked, files)?;
-    match out.write(&text) {
-        Ok(()) => Ok(()),
-        Err(_) => Err(Trouble::Write),
+    match asked {
+        Ok(asked) => text_of(alloc, asked, files),
+        Err(ArgsError::Refused) => Err(Trouble::Words),
+        Err(ArgsError::OutOfMemory) => Err(Trouble::Cause(Cause::OutOfMemory)),
     }
 }
 
@@ -90,33 +84,19 @@ pub fn run<F: Files, S: Sink, E: Sink>(
     out: &mut S,
     err: &mut E,
 ) -> u8
-    // each status has its cause and its line, and what `out`, `err` and the list of failed names gained
-    ensures right { HasRun pysalvage (words_asked (texts words.now))
+    // each status has its cause and its line. 0 comes only after the whole text was written, and then nothing is said.
+    // Under another one but 4 nothing is written to `out`. The words are refused exactly where they ask for nothing, and
+    // 3 comes exactly where a file that they name could not be read
+    ensures runs { IsRun pysalvage (words_asked (texts words.now))
         (ran (F.seen files.old) (F.seen files.new) (S.seen out.old) (S.seen out.new))
         (E.seen err.old) (E.seen err.new) result }
 
     ensures statuses { result ≤ 6 }
 
-    // status 0 comes only after the whole text of what is asked for was written
-    ensures printed { result ≡ 0 → (text : List ℕ)
-        × Reaches pysalvage (words_asked (texts words.now)) (F.seen files.old).told (Ok text)
-        × Appends (S.seen out.old).written (S.seen out.new).written text }
-
     // where a core is asked for, the text is that of what is left of its interpreters over the memory of the core and
     // its images: by all the files that the words name, where the files and `out` tell their bytes
     ensures headline { (s : Salvage) → words_asked (texts words.now) ≡ Some (salvages s) → result ≡ 0
         → HasSalvaged s (F.seen files.old).told (S.seen out.old) (S.seen out.new) }
-
-    ensures silent { result ≡ 0 → E.seen err.new ≡ E.seen err.old }
-    ensures nothing_out { result ≢ 0 → result ≢ 4 → S.seen out.new ≡ S.seen out.old }
-
-    // the words are refused exactly where they ask for nothing, want of memory aside
-    ensures refused { result ≡ 2 → words_asked (texts words.now) ≡ None }
-    ensures asked { words_asked (texts words.now) ≡ None → (result ≡ 2) ⊎ (result ≡ 5) }
-
-    ensures unread { (result ≡ 3) ↔ ((F.seen files.new).failed ≢ (F.seen files.old).failed) }
-    ensures all_read { result ≢ 3 → (F.seen files.new).failed ≡ (F.seen files.old).failed }
-    ensures told { (F.seen files.new).told ≡ (F.seen files.old).told }
 
     // where the files tell, each cause has its status, want of memory aside
     ensures only { (s : Salvage) (contents : List (List ℕ)) (cause : Why)
@@ -135,6 +115,6 @@ pub fn run<F: Files, S: Sink, E: Sink>(
         → (result ≡ 0) ⊎ (result ≡ 5) }
 {
     let asked = read_words(alloc, words);
-    let ended = execute(alloc, &asked, files, out);
-    tell(err, b"pysalvage: ", &ended)
+    let outcome = outcome_of(alloc, &asked, files);
+    finish(out, err, b"pysalvage: ", &outcome)
 }

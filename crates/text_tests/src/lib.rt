@@ -1,11 +1,9 @@
-//! Tests of texts, lines and keys of stacks, of the system's files and streams, and of what the public types of all
+//! Tests of texts and lines, of the system's files and streams, and of what the public types of all
 //! crates can do beside their calls.
 #![tactic(auto)]
 
 #[cfg(test)]
 mod derive_tests;
-#[cfg(test)]
-mod key_tests;
 #[cfg(test)]
 mod line_tests;
 #[cfg(test)]

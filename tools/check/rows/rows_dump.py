@@ -2,7 +2,7 @@
 
 import json
 import struct
-from typing import Callable, Dict, Iterator, List, Optional, Sequence
+from typing import Callable, Dict, Iterator, List, Optional, Sequence, Union
 
 from made import (
     AARCH64, EXAMPLE, READABLE, WRITABLE, Objects, Segment, Symbol, core_file, edited, image_file, layout_of, process_record,
@@ -257,8 +257,11 @@ def cut_tables() -> Iterator[Row]:
 def names() -> Iterator[Row]:
     """The names of threads are those of the map of threading, if each part of it can be read."""
 
-    def named(key: int) -> bytes:
+    def named(keys: Sequence[Union[str, int]] = ("sys", "threading"), ids: Sequence[int] = (0x7F00, 0x7F01), own: int = 0x7F00) -> bytes:
+        """Modules of these names, or whose keys are texts of such a length or stand at such an address; and two threads of
+        these ids. The small core's thread has an id of its own."""
         objects = heap()
+        objects.word(THREAD + 32, own)
         place = {it: at for it, at in (("int", objects.klass("int", 24)), ("str", objects.klass("str", 28)),
                                        ("dict", objects.klass("dict", 29)), ("object", objects.klass("object", 0)))}
         module = objects.klass("module", 0)
@@ -280,16 +283,28 @@ def names() -> Iterator[Row]:
         def text(text: str) -> int:
             return objects.text(text, klass=place["str"])
 
-        thread = instance(place["object"], dict_of((text("_name"), text("MainThread"))))
-        active = dict_of((objects.number(0x7F00, place["int"]), thread))
-        threading = instance(module, dict_of((text("_active"), active)))
-        first = text("sys") if key == 0 else objects.record("string", None, length=key, state=100)
-        modules = dict_of((first, threading), (text("threading"), threading))
-        objects.word(HEAP + 16, modules)
+        def key_of(key: Union[str, int]) -> int:
+            if isinstance(key, str):
+                return text(key)
+            return key if key > 65535 else objects.record("string", None, length=key, state=100)
+
+        threads = [instance(place["object"], dict_of((0, 0), (text("_name"), text(name)), (text("_name"), text("sys"))))
+                   for name in ("MainThread", "Worker")]
+        active = dict_of(*((objects.number(number, place["int"]), thread) for number, thread in zip(ids, threads)))
+        threading = instance(module, dict_of((text("sys"), 0), (text("_active"), active)))
+        objects.word(HEAP + 16, dict_of((0, 0), *((key_of(key), threading) for key in keys)))
         return core_file([objects.segment(6), mapped(), bss()])
 
-    yield row("dump: the name of a thread", GOOD, files_of(named(0)), TEXT.replace("0x7F00", '0x7F00: "MainThread"'))
-    yield row("dump: a key that is no text leaves all names out", GOOD, files_of(named(5000)), TEXT)
+    for what, data, told in (
+        ("the name of a thread", named(), '0x7F00: "MainThread"'), ("the name of the second thread", named(own=0x7F01), '0x7F01: "Worker"'),
+        ("the last thread of an id", named(ids=(0x7F00, 0x7F00)), '0x7F00: "Worker"'),
+        ("the name of a thread of id -1", named(ids=(-1, 0x7F00), own=2 ** 64 - 1), '0xFFFFFFFFFFFFFFFF: "MainThread"'),
+        ("no thread of that id", named(own=0x7F02), "0x7F02"), ("no module of threads", named(("sys", "_active")), "0x7F00"),
+        ("keys behind that of threads are not read", named(("threading", 5000)), '0x7F00: "MainThread"'),
+        ("a key that is no text leaves all names out", named((5000, "threading")), "0x7F00"),
+        ("a key that isn't in memory leaves all names out", named((0xDEAD0000, "threading")), "0x7F00"),
+    ):
+        yield row(f"dump: {what}", GOOD, files_of(data), TEXT.replace("0x7F00", told))
 
 
 def locals_rows() -> Iterator[Row]:
@@ -397,7 +412,39 @@ def values() -> Iterator[Row]:
         objects.word(entries + 40, objects.number(1, numbers))
         return objects.of_class(objects.record("dict", None, keys=keys), objects.klass("dict", 29))
 
+    def scalar(name: str, word: int, flag: int = 0) -> Callable[[Objects, int, int], int]:
+        """A value of such a type, whose bytes stand behind the head of an object."""
+        return lambda objects, numbers, texts: objects.of_class(
+            objects.write(objects.free(), struct.pack("<3Q", 0, 0, word)), objects.klass(name, flag))
+
+    def of_digits(count: int, *digits: int) -> Callable[[Objects, int, int], int]:
+        def make(objects: Objects, numbers: int, texts: int) -> int:
+            found = objects.record("long", None, count=count)
+            objects.write(found + objects.group("long")["digits"], struct.pack(f"<{len(digits)}I", *digits))
+            return objects.of_class(found, numbers)
+
+        return make
+
+    def of_tuple(objects: Objects, numbers: int, texts: int) -> int:
+        items = [of_digits(-3, 7, 7)(objects, numbers, texts), objects.number(1, objects.klass("bool", 24))]
+        return objects.of_class(objects.items(items), objects.klass("tuple", 26))
+
     letters = lambda count: lambda objects, numbers, texts: objects.text("x" * count, klass=texts)
+    for what, make, text in (
+        ("two digits", of_digits(2, 1, 1), "1073741825"), ("two digits, below 0", of_digits(-2, 1, 1), "-1073741825"),
+        ("three digits", of_digits(3, 7, 7, 7), "+bigint"), ("three digits, below 0", of_digits(-3, 7, 7, 7), "-bigint"),
+        ("the least count of digits", of_digits(-2 ** 63, 7), "-bigint"), ("no digits", of_digits(0, 7, 9), "0"),
+        ("a number of 8 bytes", scalar("int", 2 ** 64 - 1, 23), "-1"), ("a truth of 8 bytes", scalar("bool", 2 ** 64 - 1, 23), "False"),
+        ("a tuple", of_tuple, "(-bigint, True)"),
+        ("numpy.bool", scalar("numpy.bool", 1), "true"), ("numpy.bool, false", scalar("numpy.bool", 0), "false"),
+        ("numpy.uint8", scalar("numpy.uint8", 0xFE), "254"), ("numpy.uint16", scalar("numpy.uint16", 0xFFFE), "65534"),
+        ("numpy.uint32", scalar("numpy.uint32", 0xFFFFFFFE), "4294967294"), ("numpy.uint64", scalar("numpy.uint64", 2 ** 64 - 1), str(2 ** 64 - 1)),
+        ("numpy.int8", scalar("numpy.int8", 0xFE), "-2"), ("numpy.int16", scalar("numpy.int16", 0xFFFE), "-2"),
+        ("numpy.int32", scalar("numpy.int32", 0xFFFFFFFE), "-2"), ("numpy.int64", scalar("numpy.int64", 2 ** 64 - 1), "-1"),
+        ("numpy.float32", scalar("numpy.float32", 0x3FC00000), "float 0x3fc00000"),
+        ("numpy.float64", scalar("numpy.float64", 0x3FF8000000000001), "float 0x3ff8000000000001"),
+    ):
+        yield shown(what, make, text)
     yield shown("a text of 200 letters", letters(200), '"' + "x" * 123 + '..."')
     yield shown("a text of 200 letters, twice", letters(200), '"' + "x" * 200 + '"', "-ll")
     yield shown("a list", lambda objects, numbers, texts: list_of(
@@ -411,6 +458,15 @@ def values() -> Iterator[Row]:
     yield shown("none", lambda objects, numbers, texts: objects.of_class(
         objects.record("object"), objects.klass("NoneType", 0)), "None")
     yield shown("what isn't in memory", lambda objects, numbers, texts: 0x70000000, "?")
+    places: List[int] = []
+
+    def thing(objects: Objects, numbers: int, texts: int) -> int:
+        places.append(objects.of_class(objects.record("object"), objects.klass("thing", 0)))
+        return places[0]
+
+    data = of_locals(lambda objects, numbers, texts: [thing(objects, numbers, texts)], "v", 0)
+    yield row("dump: value: a thing", f"{GOOD} -l", files_of(data), TEXT.replace(
+        "f (a.py)\n", f"f (a.py)\n        Locals:\n            v: <thing at 0x{places[0]:x}>\n"))
 
 
 def frame_tree(name: str, is_entry: bool, is_shim_entry: bool, locals_of: Optional[List[Dict[str, object]]]) -> Dict[str, object]:

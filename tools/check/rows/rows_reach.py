@@ -4,7 +4,7 @@ from typing import Callable, Iterator, List, Sequence
 
 from made import Objects
 from row import Row, row
-from small_core import IMAGE, files_of, of_locals, small
+from small_core import BSS, IMAGE, files_of, of_locals, small
 
 GOOD = f"reach core layouts 0 {IMAGE}"
 
@@ -127,17 +127,37 @@ def objects_reached() -> Iterator[Row]:
     yield reached("a tuple", of_tuple, "a")
     yield reached("one object twice", lambda objects, klass, texts: [objects.number(7, klass)] * 2, "ab")
     yield reached("an address that is not in memory", lambda objects, klass, texts: [0x70000000], "a", [0])
+    def short(objects: Objects, klass: int, texts: int) -> Sequence[int]:
+        return [objects.of_class(objects.record("list", None, count=2, items=BSS + 8), objects.klass("list", 25))]
+
+    def negative(objects: Objects, klass: int, texts: int) -> Sequence[int]:
+        keys = objects.record("keys", None, used=2 ** 63, slots=8)
+        return [objects.of_class(objects.record("dict", None, keys=keys), objects.klass("dict", 29))]
+
+    def lost(objects: Objects, klass: int, texts: int) -> Sequence[int]:
+        leads(objects, 0x70000000)
+        return [objects.of_class(objects.items([0x70000000]), objects.klass("tuple", 26))]
+
+    yield reached("a list whose second item is not in memory", short, "a", [0])
+    yield reached("a dict of a number of slots below 0", negative, "a", [0])
+    yield reached("an item that is not in memory", lost, "a", [1])
     yield reached("a count below 0", lambda objects, klass, texts: [list_of(objects, [], objects.klass("list", 25), -1)], "a", [0])
 
 
 def limits() -> Iterator[Row]:
-    """70 lists, each with 262144 slots over one array of zeros: more than 2^24 slots."""
+    """A list of 64 lists, each with 262144 slots over one array of zeros but for the last: 2^24 slots in all, and one more."""
 
-    def made(objects: Objects, klass: int, texts: int) -> Sequence[int]:
-        lists = objects.klass("list", 25)
-        place = objects.write(objects.free(), bytes(8 * 262144))
-        found = [objects.of_class(objects.record("list", None, count=262144, items=place), lists) for _ in range(70)]
-        return [list_of(objects, found, lists)]
+    def made(more: int) -> Callable[[Objects, int, int], Sequence[int]]:
+        def slots(objects: Objects, klass: int, texts: int) -> Sequence[int]:
+            lists = objects.klass("list", 25)
+            place = objects.write(objects.free(), bytes(8 * 262144))
+            counts = [262144] * 63 + [262144 - 64 + more]
+            found = [objects.of_class(objects.record("list", None, count=count, items=place), lists) for count in counts]
+            objects.__dict__["led"] = found
+            return [list_of(objects, found, lists)]
 
-    yield row("reach: too many slots", GOOD, files_of(of_locals(made, "a", 0)),
+        return slots
+
+    yield reached("as many slots as there may be", made(0), "a")
+    yield row("reach: too many slots", GOOD, files_of(of_locals(made(1), "a", 0)),
               line="more than 1048576 objects or 16777216 slots", status=9)

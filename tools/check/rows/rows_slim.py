@@ -3,20 +3,11 @@
 from typing import Iterator, List
 
 import slim_cores
-from made import EXAMPLE, Objects, layout_of
 from row import Row, row
-from small_core import CODE, FRAME, HEAP, IMAGE, files_of, of_locals, small
+from small_core import FRAME, IMAGE, files_of, of_locals, small
 
 LOCATE = f"locate core layouts {IMAGE}"
 SLIM = f"slim core layouts 0 {IMAGE}"
-
-FAR, THREADS, FRAMES, APART = 0x10000000, 4096, 17, 128
-"""A core with so many threads of so many frames from an address on, each record so many bytes behind the one before: none
-touches another."""
-
-SHARED = 4
-"""The pieces that all share: the word of the first thread, the code, and the two texts with their characters."""
-
 
 def rows() -> List[Row]:
     """All of them."""
@@ -67,20 +58,8 @@ def located() -> Iterator[Row]:
     yield row("slim: locals that can't be read are not looked at", LOCATE, files_of(of_locals(lambda objects, klass, texts: [0], "a", 0, 65536)), text)
 
 
-def many() -> bytes:
-    """The small core with the threads, and the frames of each, in a segment of their own."""
-    far = Objects(layout_of(EXAMPLE), FAR)
-    for thread in range(THREADS):
-        at = FAR + APART * thread * (FRAMES + 1)
-        after = 0 if thread + 1 == THREADS else at + APART * (FRAMES + 1)
-        far.record("thread", at, **{"next": after, "interp": HEAP, "frame": at + APART, "id": thread})
-        for number in range(1, FRAMES + 1):
-            far.frame(at=at + APART * number, code=CODE, back=0 if number == FRAMES else at + APART * (number + 1))
-    return small(lambda objects: objects.word(HEAP + objects.group("interpreter")["threads"], FAR), more=[far.segment(6)])
-
-
 def too_many() -> Iterator[Row]:
-    """Each record is a piece, beside those of what the threads share."""
-    pieces = THREADS * (FRAMES + 1) + SHARED
-    yield row("slim: too many pieces", SLIM, files_of(many()), line=f"too many pieces: {pieces}", status=8)
-    yield row("slim: where the interpreter of as many is", LOCATE, files_of(many()), "Python v3.9.0\nInterpreter 0x10000\nLock 0x0\n")
+    """One piece more than there may be. As many as there may be are in slim_cores.py."""
+    files = files_of(slim_cores.many(1))
+    yield row("slim: too many pieces", SLIM, files, line=f"too many pieces: {slim_cores.MOST + 1}", status=8)
+    yield row("slim: where the interpreter of as many is", LOCATE, files, "Python v3.9.0\nInterpreter 0x10000\nLock 0x0\n")

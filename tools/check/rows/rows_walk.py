@@ -356,8 +356,19 @@ def texts() -> Iterator[Row]:
         objects.write(place + at, data)
         return core_file([objects.segment()])
 
+    def apart(state: int, length: int, data: bytes) -> bytes:
+        objects = heap()
+        objects.record("string", FUNCTION, length=length, state=state, pointer=objects.write(objects.free(), data))
+        return core_file([objects.segment()])
+
     without = TEXT.replace("    f (a.py)\n", "")
     for what, data, out in (
+        ("UTF-8, apart", apart(0x44, 5, "\u00fcber".encode()), TEXT.replace(" f ", " \u00fcber ")),
+        ("Latin-1, apart", apart(0x04, 2, b"\xff\xe4"), TEXT.replace(" f ", " \u00ff\u00e4 ")),
+        ("two bytes a character, apart", apart(0x08, 3, "\U0001f600a".encode("utf-16-le")), TEXT.replace(" f ", " \U0001f600a ")),
+        ("two bytes a character, marked as ASCII", changed(FUNCTION, 0x68, 1, b"\xff\xff"), TEXT.replace(" f ", " \uffff ")),
+        ("four bytes a character, apart", apart(0x10, 1, b"\xff\xff\x10\0"), TEXT.replace(" f ", " \U0010ffff ")),
+        ("no characters, apart", apart(0x0C, 0, b""), TEXT.replace(" f (", "  (")),
         ("a unit of 4 bytes that is no character", changed(FUNCTION, 48, 1, b"\0\0\x11\0", 72), without),
         ("a length of 4096", changed(FUNCTION, 100, 4096), without),
         ("a length below 0", changed(FUNCTION, 100, -1), without),

@@ -16,11 +16,32 @@ from typing import Dict, Iterator, List, Tuple
 
 import rooms  # (first: it makes the other rooms known)
 from child_cores import Failure
-from made import Segment, elf_file, file_table, process_record, status_record
-from small_core import HEAP, IMAGE, PATH, bss, files_of, heap, mapped, of_locals, small
+from made import EXAMPLE, Objects, Segment, elf_file, file_table, layout_of, process_record, status_record
+from small_core import CODE, HEAP, IMAGE, PATH, bss, files_of, heap, mapped, of_locals, small
 from slim_reader import check_slim
 
 Case = Tuple[str, Dict[str, bytes], str]
+
+FAR, THREADS, FRAMES, APART = 0x10000000, 809, 80, 128
+"""A core with so many threads of so many frames from an address on, each record so many bytes behind the one before: none
+touches another."""
+
+MOST = THREADS * (FRAMES + 1) + 4
+"""As many pieces as there may be: each record is one, beside those that all share: the word of the first thread, the code, and the
+two texts with their characters."""
+
+
+def many(more: int) -> bytes:
+    """The small core with the threads, and the frames of each, in a segment of their own; the last thread has some more."""
+    far = Objects(layout_of(EXAMPLE), FAR)
+    for thread in range(THREADS):
+        at = FAR + APART * thread * (FRAMES + 1)
+        is_last = thread + 1 == THREADS
+        far.record("thread", at, **{"next": 0 if is_last else at + APART * (FRAMES + 1), "interp": HEAP, "frame": at + APART, "id": thread})
+        count = FRAMES + (more if is_last else 0)
+        for number in range(1, count + 1):
+            far.frame(at=at + APART * number, code=CODE, back=0 if number == count else at + APART * (number + 1))
+    return small(lambda objects: objects.word(HEAP + objects.group("interpreter")["threads"], FAR), more=[far.segment(6)])
 
 
 def two_notes() -> bytes:
@@ -46,6 +67,7 @@ def cases() -> Iterator[Case]:
     values = of_locals(lambda objects, klass, texts: [objects.number(7, klass), objects.text("größe", klass=texts)], "ab", 1)
     yield "without its values", files_of(values), "0"
     yield "with its values", files_of(values), "1"
+    yield "as many pieces as there may be", files_of(many(0)), "0"
     yield "another machine", files_of(small()[:18] + (40).to_bytes(2, "little") + small()[20:]), "0"
 
 

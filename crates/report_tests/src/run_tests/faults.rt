@@ -88,33 +88,12 @@ fn each_write_fails_after_so_many_bytes(rt: HostRuntime) -> Result<(), Fail> {
 }
 
 #[test]
-fn texts_are_those_of_the_rows(rt: HostRuntime) -> Result<(), Fail> {
-    let alloc = rt.alloc();
-    for row in &ROWS {
-        if let Some(text) = row.text {
-            check(&rt, alloc, &whole(row.words), 0, text.as_bytes(), b"")?;
-        }
-    }
-    Ok(())
-}
-
-/// Lets the write of a sample fail, which asks for no file.
-fn fail_sample(rt: &impl Abort, alloc: Global, words: &str, length: usize) -> Result<(), Fail> {
+fn the_core_of_a_sample_fails_as_it_is_written(rt: HostRuntime) -> Result<(), Fail> {
     let trial = Trial {
         room: 1 << 22,
-        ..whole(words)
+        ..whole("sample 7 core")
     };
-    fail_writes(rt, alloc, &trial, length)
-}
-
-#[test]
-fn counts_of_a_sample_fail_as_they_are_written(rt: HostRuntime) -> Result<(), Fail> {
-    fail_sample(&rt, rt.alloc(), "sample 7", 31)
-}
-
-#[test]
-fn the_core_of_a_sample_fails_as_it_is_written(rt: HostRuntime) -> Result<(), Fail> {
-    fail_sample(&rt, rt.alloc(), "sample 7 core", 1_831_472)
+    fail_writes(&rt, rt.alloc(), &trial, 1_831_472)
 }
 
 /// Words that come to a line, with their status.

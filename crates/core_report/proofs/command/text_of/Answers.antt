@@ -4,7 +4,8 @@ use Rattle.core_words.specs.Seen.{asked_dump, asked_locate, asked_merge, asked_r
 use Rattle.core_words.specs.Seen.{asked_walk}
 use Rattle.core_words.specs.Words.{dump, locate, merge, reach, seeded, slim, walk}
 use Rattle.core_report.specs.Reading.{merge_contents, core_contents, walk_contents}
-use Rattle.core_report.proofs.Turns.{caused_of, comes_of, core_has, core_unread, same_names, sample_has}
+use Rattle.program_run.proofs.Contents.{same_names}
+use Rattle.core_report.proofs.Turns.{caused_of, comes_of, core_has, core_unread, sample_has}
 use Rattle.core_report.proofs.command.text_of.Goals as goal
 
 pub returns-in_err-walk_over-in-Walk-clause-comes : goal.returns-in_err-walk_over-in-Walk-clause-comes

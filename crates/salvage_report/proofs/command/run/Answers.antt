@@ -1,8 +1,7 @@
 use Rattle.core_words.specs.Words.{texts}
 use Rattle.salvage_words.specs.Salvage.{words_asked}
-use Rattle.program_run.specs.Ends.{end_after}
-use Rattle.program_run.proofs.Ends.{run_all_read, run_asked, run_nothing_out, run_printed, run_refused, run_silent}
-use Rattle.program_run.proofs.Ends.{run_unread}
+use Rattle.program_run.specs.Ends.{ran}
+use Rattle.program_run.proofs.Ends.{run_of}
 use Rattle.salvage_report.specs.Run.{pysalvage}
 use Rattle.salvage_report.proofs.Agreement.{cause_own}
 use Rattle.salvage_report.proofs.Ends.{run_complete, run_only, run_status}
@@ -10,50 +9,30 @@ use Rattle.salvage_report.proofs.Headline.{salvaged_of_run}
 use Rattle.salvage_report.proofs.Few.{asked_few}
 use Rattle.salvage_report.proofs.command.run.Goals as goal
 
-pub execute-ended-requires : goal.execute-ended-requires
-execute-ended-requires g c =
+pub outcome_of-outcome-requires : goal.outcome_of-outcome-requires
+outcome_of-outcome-requires g c =
     record { few = asked_few (texts c.args.words.now) c.read_words-asked.result c.read_words-asked.ensures }
 
-pub returns-clause-right : goal.returns-clause-right
-returns-clause-right g c = record {
-  end = end_after c.execute-ended.result;
-  is = c.tell.ensures.status;
-  ended = c.execute-ended.ensures.ends (words_asked (texts c.args.words.now)) c.read_words-asked.ensures;
-  said = c.tell.ensures.said;
-}
+pub returns-clause-runs : goal.returns-clause-runs
+returns-clause-runs g c =
+    let asks = words_asked (texts c.args.words.now) in
+    run_of pysalvage cause_own asks
+    (ran (g.F.Files.seen c.args.files.now) (g.F.Files.seen c.outcome_of-outcome.new.files)
+    (g.S.Sink.seen c.args.out.now) (g.S.Sink.seen c.finish.new.out))
+    _ _ _ c.outcome_of-outcome.result (c.outcome_of-outcome.ensures.comes asks c.read_words-asked.ensures)
+    c.finish.ensures c.outcome_of-outcome.ensures.told
 
 pub returns-clause-statuses : goal.returns-clause-statuses
-returns-clause-statuses g c = run_status (returns-clause-right g c)
-
-pub returns-clause-printed : goal.returns-clause-printed
-returns-clause-printed g c = run_printed pysalvage cause_own (returns-clause-right g c)
+returns-clause-statuses g c = run_status (returns-clause-runs g c).right
 
 pub returns-clause-headline : goal.returns-clause-headline
 returns-clause-headline g c s asks is =
-    let printed = returns-clause-printed g c is in
-    salvaged_of_run s _ (g.S.Sink.seen c.args.out.now) (g.S.Sink.seen c.execute-ended.new.out)
+    let printed = (returns-clause-runs g c).printed is in
+    salvaged_of_run s (g.F.Files.seen c.args.files.now).told (g.S.Sink.seen c.args.out.now) (g.S.Sink.seen c.finish.new.out)
     printed.0 printed.2 (words_asked (texts c.args.words.now)) asks printed.1
 
-pub returns-clause-silent : goal.returns-clause-silent
-returns-clause-silent g c = run_silent pysalvage cause_own (returns-clause-right g c)
-
-pub returns-clause-nothing_out : goal.returns-clause-nothing_out
-returns-clause-nothing_out g c = run_nothing_out pysalvage cause_own (returns-clause-right g c)
-
-pub returns-clause-refused : goal.returns-clause-refused
-returns-clause-refused g c = run_refused pysalvage cause_own (returns-clause-right g c)
-
-pub returns-clause-asked : goal.returns-clause-asked
-returns-clause-asked g c = run_asked pysalvage cause_own (returns-clause-right g c)
-
-pub returns-clause-unread : goal.returns-clause-unread
-returns-clause-unread g c = run_unread pysalvage cause_own (returns-clause-right g c)
-
-pub returns-clause-all_read : goal.returns-clause-all_read
-returns-clause-all_read g c = run_all_read pysalvage cause_own (returns-clause-right g c)
-
 pub returns-clause-only : goal.returns-clause-only
-returns-clause-only g c = run_only (returns-clause-right g c)
+returns-clause-only g c = run_only (returns-clause-runs g c).right
 
 pub returns-clause-complete : goal.returns-clause-complete
-returns-clause-complete g c = run_complete (returns-clause-right g c)
+returns-clause-complete g c = run_complete (returns-clause-runs g c).right

@@ -1,6 +1,7 @@
 use Rattle.std.proofs.lemmas.Result.{err_from_is_err_and}
 use Rattle.salvage_words.specs.Seen.{asked_salvage}
-use Rattle.salvage_report.proofs.Comes.{caused, comes, same_names, troubled}
+use Rattle.program_run.proofs.Contents.{same_names}
+use Rattle.salvage_report.proofs.Comes.{caused, comes, troubled}
 use Rattle.salvage_report.proofs.command.text_of.Goals as goal
 
 pub returns-in_err-read-in-Salvage-clause-comes : goal.returns-in_err-read-in-Salvage-clause-comes

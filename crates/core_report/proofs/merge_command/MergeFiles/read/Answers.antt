@@ -4,8 +4,8 @@ use Rattle.core_words.specs.Seen.{asked_merge}
 use Rattle.core_words.specs.Words.{merge}
 use Rattle.core_report.specs.Reading.{core_contents}
 use Rattle.core_report.specs.declared.merge_command.MergeFiles.{MergeFiles}
-use Rattle.core_report.proofs.Turns.{core_names, first_read, first_unread, is_unread, merge_has, merge_kept, merge_next}
-use Rattle.core_report.proofs.Turns.{more, same_names}
+use Rattle.program_run.proofs.Contents.{core_names, same_names}
+use Rattle.core_report.proofs.Turns.{first_read, first_unread, is_unread, merge_has, merge_kept, merge_next, more}
 use Rattle.core_report.proofs.merge_command.MergeFiles.read.Goals as goal
 
 pub returns-in_err-report-clause-read : goal.returns-in_err-report-clause-read
