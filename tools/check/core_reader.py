@@ -58,17 +58,23 @@ class Reader:
         return [(it.start, it.flags, named[it.start]) for it in self.loads if it.start in named]
 
 
-def names_in(data: bytes) -> Iterator[Tuple[int, bytes]]:
-    """The starts and names of the file tables among some notes."""
+def notes_in(data: bytes) -> Iterator[Tuple[int, bytes]]:
+    """The types and descriptors of the notes of a segment."""
     at = 0
     while at + 12 <= len(data):
         owner, size, kind = struct.unpack_from("<3I", data, at)
         at += 12 + (owner + 3) // 4 * 4
-        if kind == 0x46494C45 and size >= 16:
-            (count,) = struct.unpack_from("<Q", data, at)
-            names = data[at + 16 + 24 * count : at + size].split(b"\0")
-            yield from ((struct.unpack_from("<Q", data, at + 16 + 24 * n)[0], names[n]) for n in range(count))
+        yield kind, data[at : at + size]
         at += (size + 3) // 4 * 4
+
+
+def names_in(data: bytes) -> Iterator[Tuple[int, bytes]]:
+    """The starts and names of the file tables among some notes."""
+    for kind, table in notes_in(data):
+        if kind == 0x46494C45 and len(table) >= 16:
+            (count,) = struct.unpack_from("<Q", table, 0)
+            names = table[16 + 24 * count :].split(b"\0")
+            yield from ((struct.unpack_from("<Q", table, 16 + 24 * n)[0], names[n]) for n in range(count))
 
 
 def reader(data: bytes) -> Reader:

@@ -75,6 +75,7 @@ CHECKS = (
     Check("real/pages", OF_PROGRAM),
     Check("real/real_merge", OF_PROGRAM),
     Check("real/real_salvage", OF_BOTH),
+    Check("real/real_sections", ("--salvage", SALVAGE), ("--salvage", SALVAGE, "--all")),
     Check("real/arm_core", OF_PROGRAM),
     Check("real/compare_elf", OF_LISTING),
     Check("real/compare_frames", OF_LISTING, (*OF_LISTING, "--all")),

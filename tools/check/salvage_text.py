@@ -132,7 +132,8 @@ def check_interpreter(tree: object) -> None:
 
 def check_told(tree: object, limit: int) -> None:
     """Fails where something is no JSON of this program, which shows so many frames at each end of a thread."""
-    need_keys(tree, "interpreters", "more", "process", "signal", "version")
+    need_keys(tree, "interpreters", "more", "process", "registers", "signal", "signal_info", "version")
+    need(tree["registers"] is None and tree["signal_info"] is None, "a section that isn't asked for")
     need_truths(tree["more"])
     need_texts(tree["version"])
     need(tree["signal"] is None or type(tree["signal"]) is int, "a signal that is no number")

@@ -28,6 +28,8 @@ is run, which shows whole stacks or none. docs/MESSAGES.md has each line of the 
 def add_shown(parser: argparse.ArgumentParser) -> None:
     """Adds what is shown of a core."""
     parser.add_argument("-l", "--locals", action="count", default=0, help="show locals; twice, longer ones")
+    parser.add_argument("--no-signal", action="store_true", help="without the line that says how the signal came about")
+    parser.add_argument("--registers", action="store_true", help="show the registers of each thread")
     parser.add_argument("--all", action="store_true", help="each thread with its own stack, however many there are")
     parser.add_argument("--source", metavar="FOLDER", nargs="?", const="", default=None,
                         help="show source lines, where the files are there: as they are named, or below this folder")
@@ -63,7 +65,7 @@ def parser_for(name: str) -> argparse.ArgumentParser:
 def options_of(words: argparse.Namespace) -> Options:
     """The words, each with its type."""
     return Options(
-        cores=tuple(words.core), locals=words.locals, shows_all=words.all, source=words.source, json=words.json,
+        cores=tuple(words.core), locals=words.locals, signal=not words.no_signal, registers=words.registers, shows_all=words.all, source=words.source, json=words.json,
         collapsed=words.collapsed, html=words.html, group=words.group, plain=words.plain, root=words.root, maps=words.maps,
         keep=words.keep, anyway=words.anyway, layouts=words.layouts, program=words.program, salvage=words.salvage,
         version=words.version)

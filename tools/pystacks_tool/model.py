@@ -84,6 +84,18 @@ class Interpreter:
 
 
 @dataclass(frozen=True)
+class Registers:
+    """The registers of a thread of the process."""
+
+    native: int
+    """The id that the system gave."""
+    number: Optional[int] = None
+    """The id of the Python thread that it is, where it is one."""
+    values: Tuple[Tuple[str, int], ...] = ()
+    """Each by its name; none where they aren't told."""
+
+
+@dataclass(frozen=True)
 class Report:
     """What is left of a process."""
 
@@ -98,6 +110,10 @@ class Report:
     """Whether it is known which thread got the signal, and how chains end."""
     core: str = ""
     """The user's name for the core."""
+    signal_told: str = ""
+    """How the signal came about, where that is told."""
+    registers: Tuple[Registers, ...] = ()
+    """Those of each thread, where they are asked for."""
 
     @property
     def threads(self) -> List[Thread]:

@@ -12,6 +12,10 @@ class Options:
     """The cores' files, by the user's names for them."""
     locals: int = 0
     """How often locals are asked for."""
+    signal: bool = True
+    """Whether it is asked how the signal came about."""
+    registers: bool = False
+    """Whether the registers of each thread are."""
     shows_all: bool = False
     """Whether each thread has its own stack, however many there are."""
     source: Optional[str] = None

@@ -13,7 +13,6 @@ use Rattle.py_stacks.specs.declared.error.StackError.{StackError}
 use Rattle.py_stacks.specs.declared.error.StackError.TheVariants as locals
 use Rattle.py_stacks.specs.declared.trace.Frame.{Frame}
 use Rattle.py_stacks.specs.declared.trace.LocalVariable.{LocalVariable}
-use Rattle.py_version.specs.declared.version.Version.{Version}
 use Rattle.py_fronts.specs.declared.chain_end.ChainEnd.{ChainEnd}
 use Rattle.py_fronts.specs.declared.chain_end.ChainEnd.TheVariants as chain
 use Rattle.py_fronts.specs.declared.frame_front.FramesFront.{FramesFront}
@@ -23,7 +22,6 @@ use Rattle.py_fronts.specs.declared.thread_front.ThreadFront.{ThreadFront}
 use Rattle.salvage_marks.specs.declared.crash.Crash.{Crash}
 use Rattle.salvage_marks.specs.declared.lock.LockState.{LockState}
 use Rattle.salvage_marks.specs.declared.lock.LockState.TheVariants.{Holder, Unreadable}
-use Rattle.salvage_marks.specs.declared.salvaged.Salvaged.{Salvaged}
 use Rattle.salvage_marks.specs.declared.salvaged.SalvagedInterpreter.{SalvagedInterpreter}
 use Rattle.salvage_marks.specs.Crashes.{is_crashed}
 use Rattle.salvage_marks.specs.Salvaged.{first_crashed}
@@ -31,7 +29,7 @@ use Rattle.salvage_json.specs.Kinds.{end_tree, fault_or_null, fault_tree, lock_t
 use Rattle.salvage_json.specs.Members.{frame_tree, local_tree, shown_tree, standing_tree, standings_tree, text_tree}
 use Rattle.salvage_json.specs.Threads.{frames_tree, id_tree, placed_trees, reversed_trees, thread_tree, threads_tree}
 use Rattle.salvage_json.specs.Salvaged.{interpreter_tree, interpreter_trees, interpreters_tree, process_tree}
-use Rattle.salvage_json.specs.Salvaged.{salvaged_tree, signal_tree, placed_trees as placed_of_all}
+use Rattle.salvage_json.specs.Salvaged.{signal_tree, placed_trees as placed_of_all}
 
 items : {X : Type 0} (f : X → Data) (each : (x : X) → has_float (f x) ≡ false) (xs : List X)
     → items_have_float (items_of (map (λ x. f x) xs)) ≡ false
@@ -61,7 +59,7 @@ id : (i : Option ℕ) → has_float (id_tree i) ≡ false
 id (Some i) = refl
 id None = refl
 
-integer : (z : ℤ) → has_float (number (of_integer z)) ≡ false
+pub integer : (z : ℤ) → has_float (number (of_integer z)) ≡ false
 integer (pos n) = refl
 integer (negsuc n) = refl
 
@@ -146,18 +144,13 @@ placed_interpreters crash is (Some i) = both (interpreter_trees crash (take 1 (d
     (both (interpreter_trees crash (take i is)) (interpreter_trees crash (drop (i + 1) is)) (some_interpreters crash (take i is))
     (some_interpreters crash (drop (i + 1) is)))
 
-interpreters : (crash : Option Crash) (is : List SalvagedInterpreter) → has_float (interpreters_tree crash is) ≡ false
+pub interpreters : (crash : Option Crash) (is : List SalvagedInterpreter) → has_float (interpreters_tree crash is) ≡ false
 interpreters crash is = placed_interpreters crash is (first_crashed crash is)
 
-process : (p : Option (ℤ × List ℕ)) → has_float (process_tree p) ≡ false
+pub process : (p : Option (ℤ × List ℕ)) → has_float (process_tree p) ≡ false
 process None = refl
 process (Some p) = ap (λ b. b || false) (integer p.0)
 
-signal : (s : Option ℤ) → has_float (signal_tree s) ≡ false
+pub signal : (s : Option ℤ) → has_float (signal_tree s) ≡ false
 signal None = refl
 signal (Some s) = integer s
-
-pub no_float : (s : Option ℤ) (p : Option (ℤ × List ℕ)) (v : Version) (left : Salvaged)
-    → has_float (salvaged_tree s p v left) ≡ false
-no_float s p v left = λ i. interpreters left.crash left.interpreters.items i || (false || (process p i
-    || (signal s i || (false || false))))

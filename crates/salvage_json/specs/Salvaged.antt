@@ -1,16 +1,10 @@
--- The JSON of what is left of a process, and its text.
+-- The JSON of what is left of a process.
 use Rattle.std.specs.Prelude.{ℕ, ℤ, ◌+◌, ◌++◌, List, map, drop, take, Option, Some, None, codes, encode_utf8_all}
-use Rattle.json.specs.Layout.{pretty}
-use Rattle.json.specs.Tree.{json_tokens}
 use Rattle.serde_json.specs.Data.{Data, array, boolean, member, no_members, null, number, object, string}
 use Rattle.serde_json.specs.Find.{of_integer}
 use Rattle.serde_json.specs.View.{items_of}
-use Rattle.serde_json.specs.Written.{outline}
-use Rattle.py_version.specs.Version.{version_text}
-use Rattle.py_version.specs.declared.version.Version.{Version}
 use Rattle.salvage_marks.specs.Salvaged.{first_crashed}
 use Rattle.salvage_marks.specs.declared.crash.Crash.{Crash}
-use Rattle.salvage_marks.specs.declared.salvaged.Salvaged.{Salvaged}
 use Rattle.salvage_marks.specs.declared.salvaged.SalvagedInterpreter.{SalvagedInterpreter}
 use Rattle.salvage_json.specs.Kinds.{address_tree, end_tree, lock_tree}
 use Rattle.salvage_json.specs.Threads.{threads_tree}
@@ -49,18 +43,3 @@ process_tree (Some process) = object (
 abbrev pub signal_tree : Option ℤ → Data
 signal_tree None = null
 signal_tree (Some signal) = number (of_integer signal)
-
-abbrev pub salvaged_tree : Option ℤ → Option (ℤ × List ℕ) → Version → Salvaged → Data
-salvaged_tree signal process version s = object (
-    member (codes "interpreters") (interpreters_tree s.crash s.interpreters.items) (
-    member (codes "more") (boolean s.more) (
-    member (codes "process") (process_tree process) (
-    member (codes "signal") (signal_tree signal) (
-    member (codes "version") (string (version_text version)) no_members)))))
-
--- the text of a tree: each item and member on a line of its own, two spaces deeper for each bracket
-abbrev pub pretty_text : Data → List ℕ
-pretty_text d = pretty (json_tokens (outline d))
-
-abbrev pub salvaged_json : Option ℤ → Option (ℤ × List ℕ) → Version → Salvaged → List ℕ
-salvaged_json signal process version s = pretty_text (salvaged_tree signal process version s) ++ codes "\n"

@@ -1,4 +1,4 @@
-//! What is left of a process's stacks, as JSON.
+//! What is left of a process's stacks, as values of JSON.
 #![tactic(auto)]
 
 mod kind;
@@ -6,4 +6,4 @@ mod member;
 mod salvaged;
 mod thread;
 
-pub use salvaged::salvaged_json;
+pub use salvaged::{interpreters_value, process_value, signal_value};

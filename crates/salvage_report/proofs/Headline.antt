@@ -1,23 +1,27 @@
 -- What status 0 tells where a core is asked for.
-use Rattle.std.proofs.Common.{◌≡◌, ◌≢◌, ℕ, List, [], ◌∷◌, Ok, Err, Some, inl, inr, sym, subst, ◌∙◌}
+use Rattle.std.proofs.Common.{◌≡◌, ◌≢◌, ℕ, List, [], ◌∷◌, Ok, Err, Some, inl, inr, ap, sym, subst, true, ◌∙◌}
 use Rattle.std.specs.Prelude.{Option}
 use Rattle.std.specs.Io.KnownBytes.{Appends}
 use Rattle.std.proofs.lemmas.Option.{same_Some}
 use Rattle.outside.specs.Files.{Told}
 use Rattle.outside.specs.Streams.{SinkSeen}
+use Rattle.elf64_core.specs.Header.{machine_of}
+use Rattle.crash_signal.specs.Signals.{signal_told}
+use Rattle.thread_registers.specs.Threads.{threads_told}
 use Rattle.py_fields.specs.declared.layout.Layout.{Layout}
 use Rattle.py_layout.specs.File.{IsRightFor}
 use Rattle.salvage_marks.specs.declared.salvaged.SalvagedInterpreter.{SalvagedInterpreter}
 use Rattle.salvage_words.specs.Salvage.{Salvage, Wanted}
 use Rattle.salvage_words.specs.Salvage.Wanted.{salvage}
 use Rattle.salvage_report.specs.declared.cause.Cause.{Cause}
-use Rattle.salvage_report.specs.Headline.{HasSalvaged}
+use Rattle.salvage_report.specs.Headline.{HasSalvaged, SaysRegisters, SaysSignal}
 use Rattle.salvage_report.specs.Outcome.{IsOutcome, IsSalvagedBy, Outcome, looked_at, shown_or_none}
 use Rattle.named_images.specs.Named.{images_read}
 use Rattle.program_run.specs.Ends.{Reaches}
 use Rattle.program_run.specs.Reading.{AreRead}
 use Rattle.salvage_report.specs.Reading.{files_of}
 use Rattle.salvage_report.specs.Run.{ComesTo, pysalvage}
+use Rattle.salvage_report.specs.Sections.{if_asked, own_id, python_threads}
 use Rattle.salvage_report.specs.Texts.{shown_left}
 
 no_text : (s : List ℕ) (cause : Cause) → ◌≡◌ {A = Outcome} (Ok s) (Err cause) → ⊥
@@ -62,3 +66,27 @@ module _ (s : Salvage) (told : Told) (old new : SinkSeen) (written : List ℕ) (
   pub salvaged_of_run : (asked : Option Wanted) → asked ≡ Some (salvage s) → Reaches pysalvage asked told (Ok written) → HasSalvaged s told old new
   salvaged_of_run asked is reached =
       comes (subst (λ w. ComesTo told w (Ok written)) (same_Some _ _ (sym reached.is_asked ∙ is)) reached.comes)
+
+-- a section that is asked for is told
+pub says_signal : (s : Salvage) (told : Told) (old new : SinkSeen) → HasSalvaged s told old new → s.sections.signal ≡ true
+    → SaysSignal s told old new
+says_signal s told old new h asked =
+    let own = own_id h.left.process in
+    record {
+      has = h;
+      notes = h.is_left.told.notes;
+      are = h.is_left.told.are;
+      is = h.is_left.told.signal ∙ ap (λ a. if_asked a (signal_told own h.is_left.told.notes)) asked;
+    }
+
+pub says_registers : (s : Salvage) (told : Told) (old new : SinkSeen) → HasSalvaged s told old new
+    → s.sections.registers ≡ true → SaysRegisters s told old new
+says_registers s told old new h asked =
+    let pythons = python_threads h.left.salvaged.interpreters.items in
+    record {
+      has = h;
+      notes = h.is_left.told.notes;
+      are = h.is_left.told.are;
+      is = h.is_left.told.registers
+          ∙ ap (λ a. if_asked a (threads_told (machine_of h.core) pythons h.is_left.told.notes)) asked;
+    }

@@ -4,3 +4,4 @@ pub mod Comes
 pub mod Few
 pub mod Ends
 pub mod Headline
+pub mod NoFloat

@@ -19,10 +19,12 @@ use Rattle.salvage_marks.specs.declared.salvaged.SalvagedInterpreter.{SalvagedIn
 use Rattle.salvage_words.specs.Salvage.{Salvage}
 use Rattle.salvage_report.specs.declared.cause.Cause.TheVariants.{NoInterpreter}
 use Rattle.salvage_report.specs.declared.left.Left.{Left}
+use Rattle.salvage_report.specs.declared.sections.Told.{Told}
 use Rattle.core_stacks.specs.declared.process.Process.{Process}
 use Rattle.salvage_report.specs.Crashed.{CrashTold}
 use Rattle.core_stacks.specs.Process.{IsProcess, OpenedProcess, opened_of}
 use Rattle.salvage_report.specs.Outcome.{IsLeft, IsLeftOf, Outcome, asked_of, looked_at, shown_or_none}
+use Rattle.salvage_report.specs.Sections.{AreTold}
 use Rattle.salvage_report.specs.Seen.{Salvages}
 use Rattle.salvage_report.specs.Texts.{shown_left}
 
@@ -40,12 +42,13 @@ something_shown [] n t some = absurd (some refl)
 something_shown (i ∷ is) n t some = refl
 
 module _ (s : Salvage) (p : Process) (crash : Option Crash) (salvaged : Salvaged) (found : Salvages s p crash (Ok salvaged))
-    (bytes : List ℕ) (images : Pushed) (layouts : List Layout) (is : IsProcess bytes images layouts p) (told : CrashTold bytes crash) where
+    (bytes : List ℕ) (images : Pushed) (layouts : List Layout) (is : IsProcess bytes images layouts p) (told : CrashTold bytes crash)
+    (sections : Told) (are : AreTold s.sections p.dump.core p.notes.process salvaged.interpreters.items sections) where
   abbrev opened : OpenedProcess
   opened = opened_of is.maps p
 
   abbrev left : Left
-  left = record { signal = p.notes.signal; process = p.notes.process; version = p.version; salvaged = salvaged }
+  left = record { signal = p.notes.signal; process = p.notes.process; version = p.version; salvaged = salvaged; told = sections }
 
   abbrev over : (ℕ → Bool) → List ℕ → Option Crash → SalvagedShown
   over contains core c =
@@ -62,6 +65,7 @@ module _ (s : Salvage) (p : Process) (crash : Option Crash) (salvaged : Salvaged
     crash = subst (CrashTold bytes) (sym handed) told;
     salvaged = found ∙ ap (λ t. over t p.dump.core crash) is.tested ∙ ap (λ b. over (in_maps is.maps) b crash) is.same
         ∙ ap (over (in_maps is.maps) bytes) (sym handed);
+    told = subst (λ core. AreTold s.sections core p.notes.process salvaged.interpreters.items sections) is.same are;
   }
 
   pub none_left : (n : ℕ) → salvaged.interpreters.items ≡ [] → n ≡ looked_at opened → IsLeftOf s bytes opened (Err (NoInterpreter n))

@@ -1,8 +1,13 @@
 -- What a run that salvages a core promises under status 0.
-use Rattle.std.specs.Prelude.{◌≢◌, ◌∷◌, [], ℕ, List, Ok}
+use Rattle.std.specs.Prelude.{◌≡◌, ◌≢◌, ◌∷◌, [], ℕ, List, Ok, Some}
 use Rattle.std.specs.Io.KnownBytes.{Appends}
 use Rattle.outside.specs.Files.{Told}
 use Rattle.outside.specs.Streams.{SinkSeen}
+use Rattle.elf64_core.specs.Header.{machine_of}
+use Rattle.elf64_core.specs.Notes.{Noted}
+use Rattle.image_memory.specs.Notes.{AreNotesOfCore}
+use Rattle.crash_signal.specs.Signals.{signal_told}
+use Rattle.thread_registers.specs.Threads.{threads_told}
 use Rattle.py_fields.specs.declared.layout.Layout.{Layout}
 use Rattle.py_layout.specs.File.{IsRightFor}
 use Rattle.salvage_words.specs.Salvage.{Salvage}
@@ -12,11 +17,13 @@ use Rattle.salvage_report.specs.Outcome.{IsLeft}
 use Rattle.named_images.specs.Named.{images_read}
 use Rattle.program_run.specs.Reading.{AreRead}
 use Rattle.salvage_report.specs.Reading.{files_of}
+use Rattle.salvage_report.specs.Sections.{own_id, python_threads, registers_shown}
 use Rattle.salvage_report.specs.Texts.{shown_left}
 
 -- The text of what is left of a process was written, or its JSON where the words ask for that: of at least one
 -- interpreter, and of the fronts over the memory of the core and its images, each interpreter with its own lock, and
--- the thread that the core's first status record is of (`IsLeft`): by the bytes that the files gave for the core, by
+-- the thread that the core's first status record is of, and what is told in the sections that are asked for
+-- (`IsLeft`): by the bytes that the files gave for the core, by
 -- the layouts that they gave, and by all the images, each under its path. Which bytes a file gave is said where the
 -- files tell, and what was written where the stream tells.
 pub record HasSalvaged (s : Salvage) (told : Told) (old new : SinkSeen) : Type 0 where
@@ -32,3 +39,18 @@ pub record HasSalvaged (s : Salvage) (told : Told) (old new : SinkSeen) : Type 0
   pub is_left : IsLeft s core opened left
   pub some : left.salvaged.interpreters.items ≢ []
   pub written : Appends old.written new.written (shown_left s left)
+
+-- ---- the sections: each that is asked for is told, by the notes of the core
+
+pub record SaysSignal (s : Salvage) (told : Told) (old new : SinkSeen) : Type 0 where
+  pub has : HasSalvaged s told old new
+  pub notes : List Noted
+  pub are : AreNotesOfCore has.core notes
+  pub is : has.left.told.signal ≡ Some (signal_told (own_id has.left.process) notes)
+
+pub record SaysRegisters (s : Salvage) (told : Told) (old new : SinkSeen) : Type 0 where
+  pub has : HasSalvaged s told old new
+  pub notes : List Noted
+  pub are : AreNotesOfCore has.core notes
+  pub is : registers_shown has.left.told.registers ≡ Some
+      (threads_told (machine_of has.core) (python_threads has.left.salvaged.interpreters.items) notes)

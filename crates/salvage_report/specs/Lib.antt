@@ -6,3 +6,5 @@ pub mod Lines
 pub mod Run
 pub mod Seen
 pub mod Headline
+pub mod Sections
+pub mod Tree

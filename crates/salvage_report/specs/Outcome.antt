@@ -24,6 +24,7 @@ use Rattle.core_stacks.specs.Process.{OpenedProcess, ProcessIs}
 use Rattle.named_images.specs.Named.{images_read}
 use Rattle.program_run.specs.Outcomes.{IsAnswerBy, OutcomeThen, status_by}
 pub use Rattle.program_run.specs.Statuses.{core_status, layouts_status}
+use Rattle.salvage_report.specs.Sections.{AreTold}
 use Rattle.salvage_report.specs.Texts.{shown_left}
 use Rattle.std.specs.Prelude.{map}
 
@@ -46,12 +47,13 @@ abbrev pub left_at : Salvage → List ℕ → OpenedProcess → Option Crash →
 left_at s bytes o crash = salvaged_at (in_maps o.dumped.maps) (machine_of bytes) o.known o.version o.layout
     (memory_in o.dumped) (asked_of s) s.limit crash
 
--- what is left of an opened process, with what the notes of its core tell
+-- what is left of an opened process, with what the notes of its core tell, and the sections that are asked for
 pub record IsLeft (s : Salvage) (bytes : List ℕ) (o : OpenedProcess) (left : Left) : Type 0 where
   pub version_is : left.version ≡ o.version
   pub notes : NotesTell bytes left.signal left.process
   pub crash : CrashTold bytes left.salvaged.crash
   pub salvaged : salvaged_of left.salvaged ≡ left_at s bytes o left.salvaged.crash
+  pub told : AreTold s.sections bytes left.process left.salvaged.interpreters.items left.told
 
 -- how many addresses are looked at where no interpreter is shown, repeats included
 abbrev pub looked_at : OpenedProcess → ℕ

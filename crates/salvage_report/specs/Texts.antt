@@ -5,10 +5,13 @@ use Rattle.bstr.specs.Utf8.{lossy_chars}
 use Rattle.py_version.specs.Version.{version_text}
 use Rattle.py_version.specs.declared.version.Version.{Version}
 use Rattle.core_texts.specs.Text.{signal_text}
-use Rattle.salvage_json.specs.Salvaged.{salvaged_json}
+use Rattle.crash_signal.specs.Text.{signal_text as info_text}
+use Rattle.thread_registers.specs.Text.{threads_text}
 use Rattle.salvage_texts.specs.Escape.{escaped}
 use Rattle.salvage_texts.specs.Salvaged.{salvaged_text}
 use Rattle.salvage_words.specs.Salvage.{Salvage}
+use Rattle.salvage_report.specs.Tree.{left_json}
+use Rattle.salvage_report.specs.Sections.{registers_shown}
 use Rattle.salvage_report.specs.declared.left.Left.{Left}
 
 -- the process that a core tells, by its id and arguments, where it tells one; what could end the line is escaped
@@ -24,18 +27,24 @@ core_name core = escaped false (lossy_chars core)
 abbrev pub version_line : Version → List ℕ
 version_line version = codes "Python v" ++ (version_text version ++ codes "\n\n")
 
--- the signal, beside the core's name, the process, the version, and what is left
+-- the text of a section; of one that isn't asked for there is none
+abbrev pub section_text : {T : Type 0} → (T → List ℕ) → Option T → List ℕ
+section_text text None = []
+section_text text (Some told) = text told
+
+-- the signal, beside the core's name, and how it came about; the process, the version, and what is left; the registers
 abbrev pub left_text : List ℕ → Left → List ℕ
-left_text core left = signal_text (core_name core) left.signal ++ (process_text left.process
-    ++ (version_line left.version ++ salvaged_text left.salvaged))
+left_text core left = signal_text (core_name core) left.signal ++ (section_text info_text left.told.signal
+    ++ (process_text left.process ++ (version_line left.version ++ (salvaged_text left.salvaged
+    ++ section_text threads_text (registers_shown left.told.registers)))))
 
 -- that, or JSON where it is asked for
 abbrev pub shown_left : Salvage → Left → List ℕ
 shown_left s left =
-    if s.json then salvaged_json left.signal left.process left.version left.salvaged else left_text s.core left
+    if s.json then left_json left else left_text s.core left
 
 unfoldable pub help_text : List ℕ
-help_text = codes "pysalvage CORE --layouts FILE [-n N] [-l].. [-j] [PATH=FILE]..\n\n"
+help_text = codes "pysalvage CORE --layouts FILE [-n N] [-l].. [-j] [--signal] [--registers] [PATH=FILE]..\n\n"
     ++ (codes "What is left of the Python stacks in the core of a broken process, or in one that was cut: each chain "
     ++ (codes "of threads and\nframes as far as it goes. Where no mark stands a chain is whole.\n\n"
     ++ (codes "CORE            the core's file\n"
@@ -43,9 +52,11 @@ help_text = codes "pysalvage CORE --layouts FILE [-n N] [-l].. [-j] [PATH=FILE].
     ++ (codes "-n N            the first N frames of a thread and the last N, from 1 to 4096; 100 unless it is said\n"
     ++ (codes "-l              the locals of each frame\n"
     ++ (codes "-j              JSON in place of text\n"
+    ++ (codes "--signal        how the signal came about\n"
+    ++ (codes "--registers     the registers of each thread, and which of Python's threads it is\n"
     ++ (codes "PATH=FILE       FILE is read in place of the file that the process had mapped from PATH\n"
     ++ (codes "--help          this text\n"
-    ++ codes "--version       the version of the program\n")))))))))
+    ++ codes "--version       the version of the program\n")))))))))))
 
 abbrev pub program_version : List ℕ
 program_version = codes "pysalvage 1.0.0\n"

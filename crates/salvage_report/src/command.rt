@@ -1,12 +1,12 @@
 //! The top call.
-ghost use Rattle.std.specs.Prelude.{◌≡◌, ◌≢◌, ◌≤◌, ◌↔◌, ◌⊎◌, List, ℕ, Option, None, Some, Ok, Err, IfOk};
+ghost use Rattle.std.specs.Prelude.{◌≡◌, ◌≢◌, ◌≤◌, ◌↔◌, ◌⊎◌, List, ℕ, Option, None, Some, Ok, Err, IfOk, true};
 ghost use Rattle.outside.specs.Counts.{Rose};
 ghost use Rattle.core_words.specs.Answers.{AnswersWords};
 ghost use Rattle.core_words.specs.Words.{texts};
 ghost use Rattle.salvage_words.specs.Salvage.{Salvage, Wanted, salvage as salvages, words_asked};
 ghost use Rattle.salvage_words.specs.Seen.{asked_by};
 ghost use Rattle.salvage_report.specs.declared.cause.Cause.{Cause as Why};
-ghost use Rattle.salvage_report.specs.Headline.{HasSalvaged};
+ghost use Rattle.salvage_report.specs.Headline.{HasSalvaged, SaysRegisters, SaysSignal};
 ghost use Rattle.salvage_report.specs.Outcome.{IsFaultless, IsOutcome, cause_status};
 ghost use Rattle.salvage_report.specs.Run.{IsFew, TellsContents, pysalvage};
 ghost use Rattle.program_run.specs.Ends.{HasOutcome, IsAnswered, ran};
@@ -64,11 +64,11 @@ fn outcome_of<'a, F: Files>(
 /// The words are those of `salvage_words::read_words`, the program's name first. They are judged, the files that they
 /// name are read: the core's, the layout file and those of the images, in order; the layouts are checked, the process
 /// of the core is opened as for a report (`core_stacks::report`) up to its layout, and what is left of its interpreters
-/// is read over the memory of the core and its images (`salvage_marks::salvage`); and the whole text is written to
-/// `out`. Where `--help` or `--version` is asked for alone, the text is the help, or the program's version, and no file
-/// is read. Under each status but 0 one line, `pysalvage: ` and the cause, is written to `err`, and a fault of `err`
-/// changes no status. That no other file is asked for is proved of reads that fail, which leave their name; no clause
-/// says by how many calls `out` is written.
+/// is read over the memory of the core and its images (`salvage_marks::salvage`), with the sections that are asked for,
+/// of which none has a status of its own; and the whole text is written to `out`. Where `--help` or `--version` is asked
+/// for alone, the text is the help, or the program's version, and no file is read. Under each status but 0 one line,
+/// `pysalvage: ` and the cause, is written to `err`, and a fault of `err` changes no status. That no other file is asked
+/// for is proved of reads that fail, which leave their name; no clause says by how many calls `out` is written.
 ///
 /// - 0: the whole text was written.
 /// - 1: the process can't be opened, or of the addresses that were looked at none is an interpreter's that is shown.
@@ -97,6 +97,12 @@ pub fn run<F: Files, S: Sink, E: Sink>(
     // its images: by all the files that the words name, where the files and `out` tell their bytes
     ensures headline { (s : Salvage) → words_asked (texts words.now) ≡ Some (salvages s) → result ≡ 0
         → HasSalvaged s (F.seen files.old).told (S.seen out.old) (S.seen out.new) }
+
+    // a section that is asked for is told, by the notes of the core
+    ensures signal { (s : Salvage) → words_asked (texts words.now) ≡ Some (salvages s) → s.sections.signal ≡ true
+        → result ≡ 0 → SaysSignal s (F.seen files.old).told (S.seen out.old) (S.seen out.new) }
+    ensures registers { (s : Salvage) → words_asked (texts words.now) ≡ Some (salvages s) → s.sections.registers ≡ true
+        → result ≡ 0 → SaysRegisters s (F.seen files.old).told (S.seen out.old) (S.seen out.new) }
 
     // where the files tell, each cause has its status, want of memory aside
     ensures only { (s : Salvage) (contents : List (List ℕ)) (cause : Why)

@@ -8,6 +8,7 @@ ghost use Rattle.salvage_report.specs.Seen.{Counts, Salvages, ShowsLeft};
 
 use crate::cause::Cause;
 use crate::crash::first_crash;
+use crate::sections::{Told, tell_sections};
 use crate::text::shown;
 use core_stacks::{Process, open};
 use elf64_core::Text;
@@ -21,14 +22,15 @@ use salvage_marks::{Crash, Salvaged, salvage};
 use salvage_words::SalvageWords;
 use std::alloc::Global;
 
-/// What is left of a process: the signal that its core tells and the process, the version, and what is left of its
-/// interpreters.
+/// What is left of a process: the signal that its core tells and the process, the version, what is left of its
+/// interpreters, and what is told in the sections that are asked for.
 #[derive(Drop)]
 pub(crate) struct Left {
     pub(crate) signal: Option<i16>,
     pub(crate) process: Option<(i32, Text)>,
     pub(crate) version: Version,
     pub(crate) salvaged: Salvaged,
+    pub(crate) told: Told,
 }
 
 /// What is left of the interpreters of a process.
@@ -91,6 +93,14 @@ fn shown_left(
     ensures { ShowsLeft (asked_salvage words.now) process crash result }
 {
     let salvaged = salvaged_of(alloc, words, &process, crash)?;
+    let core = process.dump.core();
+    let told = tell_sections(
+        alloc,
+        words.sections,
+        core,
+        &process.notes,
+        &salvaged.interpreters,
+    )?;
     if salvaged.interpreters.is_empty() {
         let addresses = count_addresses(alloc, &process)?;
         return Err(Cause::NoInterpreter { addresses });
@@ -101,6 +111,7 @@ fn shown_left(
         process: notes.process,
         version,
         salvaged,
+        told,
     };
     Ok(shown(alloc, words, &left)?)
 }

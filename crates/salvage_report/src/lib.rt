@@ -4,12 +4,14 @@
 //! what is left of their threads and frames, or one line why there is nothing.
 #![tactic(auto)]
 
+mod as_json;
 mod cause;
 mod command;
 mod crash;
 mod help;
 mod left;
 mod lines;
+mod sections;
 mod text;
 
 pub use command::run;

@@ -2,15 +2,21 @@
 ghost use Rattle.std.specs.Prelude.{◌≡◌, ◌++◌, IfOk, OnOk, string_bytes};
 ghost use Rattle.core_texts.specs.Text.{signal_text};
 ghost use Rattle.salvage_words.specs.Seen.{asked_salvage};
-ghost use Rattle.salvage_report.specs.Texts.{core_name, left_text, process_text, shown_left, version_line};
+ghost use Rattle.crash_signal.specs.Text.{signal_text as info_text};
+ghost use Rattle.thread_registers.specs.Text.{threads_text};
+ghost use Rattle.salvage_report.specs.Sections.{registers_shown};
+ghost use Rattle.salvage_report.specs.Texts.{core_name, left_text, process_text, section_text, shown_left};
+ghost use Rattle.salvage_report.specs.Texts.{version_line};
 
+use crate::as_json::left_json;
 use crate::left::Left;
+use crash_signal::{CrashSignal, Untold};
 use elf64_core::{Name, Text};
 use py_layout::Version;
-use salvage_json::salvaged_json;
 use salvage_texts::{push_escaped, salvaged_text};
 use salvage_words::SalvageWords;
 use std::alloc::{AllocError, Global};
+use thread_registers::{ThreadRegisters, push_threads};
 
 /// The line of the signal, beside the core's name, where there is one; what could end the line is escaped.
 fn push_signal(
@@ -55,16 +61,42 @@ fn push_version(text: &mut String, version: &Version) -> Result<(), AllocError>
     write!(text, "Python v{version}\n\n")
 }
 
-/// The head lines, and what is left.
+/// How the signal came about, where that is asked for.
+fn push_info(
+    text: &mut String,
+    told: &Option<Result<CrashSignal, Untold>>,
+) -> Result<(), AllocError>
+    ensures { OnOk result (string_bytes text.new ≡ string_bytes text.old ++ section_text info_text told.now) }
+{
+    match told {
+        Some(told) => crash_signal::push_signal(text, told),
+        None => Ok(()),
+    }
+}
+
+/// The threads with their registers, where these are asked for.
+fn push_registers(text: &mut String, told: &Option<Vec<ThreadRegisters>>) -> Result<(), AllocError>
+    ensures { OnOk result (string_bytes text.new
+        ≡ string_bytes text.old ++ section_text threads_text (registers_shown told.now)) }
+{
+    match told {
+        Some(threads) => push_threads(text, threads),
+        None => Ok(()),
+    }
+}
+
+/// The head lines, what is left, and the sections, each at its place.
 fn left_text(alloc: Global, core: &Name, left: &Left) -> Result<Vec<u8>, AllocError>
     ensures { IfOk result (λ text. text.items ≡ left_text core.now left.now) }
 {
     let mut text = String::new(alloc);
     push_signal(alloc, &mut text, core, left.signal)?;
+    push_info(&mut text, &left.told.signal)?;
     push_process(alloc, &mut text, &left.process)?;
     push_version(&mut text, &left.version)?;
     let salvaged = salvaged_text(alloc, &left.salvaged)?;
     text.push_str(salvaged.as_str())?;
+    push_registers(&mut text, &left.told.registers)?;
     Ok(text.into_bytes())
 }
 
@@ -73,13 +105,7 @@ pub(crate) fn shown(alloc: Global, words: &SalvageWords, left: &Left) -> Result<
     ensures { IfOk result (λ text. text.items ≡ shown_left (asked_salvage words.now) left.now) }
 {
     if words.json {
-        let json = salvaged_json(
-            alloc,
-            left.signal,
-            &left.process,
-            &left.version,
-            &left.salvaged,
-        )?;
+        let json = left_json(alloc, left)?;
         return Ok(json.into_bytes());
     }
     left_text(alloc, &words.core, left)

@@ -6,6 +6,7 @@ use Rattle.clap.specs.declared.builder.ArgAction.TheVariants.{Set}
 use Rattle.core_words.specs.Dump.{flag_rule, image_words, images_of, images_rule, is_set, locals_rule, option_value_of}
 use Rattle.core_words.specs.Dump.{rows_taken, wanted_rule}
 use Rattle.core_words.specs.Words.{digits_in}
+use Rattle.salvage_words.specs.declared.asked.Sections.{Sections}
 
 -- ---- the command, as clap is told of it
 
@@ -18,8 +19,10 @@ abbrev pub frames_rule : Rule
 frames_rule = record (new_rule (codes "frames")) { short = Some 110; long = Some (codes "frames"); action = Some Set }
 
 abbrev pub salvage_app : App
-salvage_app = with_rule (with_rule (with_rule (with_rule (with_rule (with_rule (new_app (codes "pysalvage")) core_rule)
-    (wanted_rule (codes "layouts") None)) frames_rule) locals_rule) (flag_rule (codes "json") (Some 106))) images_rule
+salvage_app = with_rule (with_rule (with_rule (with_rule (with_rule (with_rule (with_rule (with_rule
+    (new_app (codes "pysalvage")) core_rule) (wanted_rule (codes "layouts") None)) frames_rule) locals_rule)
+    (flag_rule (codes "json") (Some 106))) (flag_rule (codes "signal") None)) (flag_rule (codes "registers") None))
+    images_rule
 
 -- what clap finds, where it takes the words; it reads none of the first, which stands for the program's name
 unfoldable pub taken_rows : List Text → Option (List Row)
@@ -46,7 +49,15 @@ pub record Salvage : Type 0 where
   pub limit : ℕ
   pub locals : ℕ
   pub json : Bool
+  pub sections : Sections
   pub images : List (List ℕ × List ℕ)
+
+-- each section's flag
+abbrev pub sections_of : List Row → Sections
+sections_of rows = record {
+  signal = is_set (codes "signal") rows;
+  registers = is_set (codes "registers") rows;
+}
 
 abbrev pub salvage_by : List Row → ℕ → List (List ℕ × List ℕ) → Salvage
 salvage_by rows limit images = record {
@@ -55,6 +66,7 @@ salvage_by rows limit images = record {
   limit = limit;
   locals = count_of (codes "locals") rows;
   json = is_set (codes "json") rows;
+  sections = sections_of rows;
   images = images;
 }
 

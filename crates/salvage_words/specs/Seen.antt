@@ -12,6 +12,7 @@ asked_salvage w = record {
   limit = w.limit;
   locals = w.locals;
   json = w.json;
+  sections = w.sections;
   images = w.images.items;
 }
 

@@ -3,7 +3,7 @@ ghost use Rattle.std.specs.Prelude.{◌≡◌, option_map};
 ghost use Rattle.clap.specs.Words.{first_of, found_of, rows_of};
 ghost use Rattle.core_words.specs.Answers.{AnswersWords};
 ghost use Rattle.core_words.specs.Words.{texts};
-ghost use Rattle.salvage_words.specs.Salvage.{is_alone, salvage_found, salvage_words, words_asked};
+ghost use Rattle.salvage_words.specs.Salvage.{is_alone, salvage_found, salvage_words, sections_of, words_asked};
 ghost use Rattle.salvage_words.specs.Seen.{asked_by, asked_salvage};
 
 use crate::limit::limit_of;
@@ -12,6 +12,15 @@ use clap::ArgMatches;
 use core_words::{ArgsError, images_given, is_set, option_value_of};
 use elf64_core::Name;
 use std::alloc::Global;
+
+/// Which sections are asked for: what else is told of the process, each by a flag of its own.
+#[derive(Clone, Copy, Debug)]
+pub struct Sections {
+    /// `--signal`: what the record of the signal tells.
+    pub signal: bool,
+    /// `--registers`: the registers of each thread, and which of Python's threads it is.
+    pub registers: bool,
+}
 
 /// What is asked for of a core.
 #[derive(Debug, Drop)]
@@ -26,6 +35,8 @@ pub struct SalvageWords {
     pub locals: u64,
     /// Whether JSON was.
     pub json: bool,
+    /// Which sections were.
+    pub sections: Sections,
     /// The path at which the process had a file mapped, and the name of such a file, by each image's word, in
     /// order.
     pub images: Vec<(Name, Name)>,
@@ -59,6 +70,16 @@ fn option_text<'a>(matches: &ArgMatches<'a>, name: &str) -> Option<&'a str>
     matches.get_str(name)
 }
 
+/// The sections that are asked for, by what clap found.
+fn sections_by(matches: &ArgMatches<'_>) -> Sections
+    ensures { result ≡ sections_of (rows_of (found_of matches.now)) }
+{
+    Sections {
+        signal: is_set(matches, "signal"),
+        registers: is_set(matches, "registers"),
+    }
+}
+
 /// What is asked for of a core, by what clap found.
 fn salvage_by(alloc: Global, matches: &ArgMatches<'_>) -> Result<SalvageWords, ArgsError>
     ensures { AnswersWords asked_salvage (salvage_found (rows_of (found_of matches.now))) result }
@@ -75,6 +96,7 @@ fn salvage_by(alloc: Global, matches: &ArgMatches<'_>) -> Result<SalvageWords, A
         limit,
         locals: u64::from(matches.get_count("locals")),
         json: is_set(matches, "json"),
+        sections: sections_by(matches),
         images,
     })
 }
@@ -87,12 +109,12 @@ fn salvage_words(alloc: Global, words: &[String]) -> Result<SalvageWords, ArgsEr
     salvage_by(alloc, &matches)
 }
 
-/// What the words ask for: `CORE --layouts FILE [-n N] [-l].. [-j] [PATH=FILE]..` behind the program's name, of which
-/// nothing is read; or `--help` or `--version` alone.
+/// What the words ask for: `CORE --layouts FILE [-n N] [-l].. [-j] [--signal] [--registers] [PATH=FILE]..` behind the
+/// program's name, of which nothing is read; or `--help` or `--version` alone.
 ///
 /// Clap takes the words, in any order that it knows: the core's file; `--layouts` with a value, once; `-n` or
 /// `--frames` with a value, at most once, a number from 1 to 4096 in decimal digits, which is 100 unless it is said;
-/// `-j` or `--json`, at most once; `-l` or `--locals`, any number of times; and the images, none or more, each with a
+/// `-j` or `--json`, and each section's flag, at most once; `-l` or `--locals`, any number of times; and the images, none or more, each with a
 /// path, the first equals sign, and the name of a file. A bundle as `-lj` and `--layouts=FILE` are taken, and behind
 /// `--` each word is the core's or an image's.
 ///

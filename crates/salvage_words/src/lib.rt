@@ -5,5 +5,5 @@ mod asked;
 mod limit;
 mod taken;
 
-pub use asked::{Asked, SalvageWords, read_words};
+pub use asked::{Asked, SalvageWords, Sections, read_words};
 pub use core_words::ArgsError;

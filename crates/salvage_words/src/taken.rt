@@ -38,6 +38,8 @@ fn salvage_command<'a>(alloc: Global) -> Result<Command<'a>, AllocError>
         .arg(frames_arg(alloc))?
         .arg(locals_arg(alloc))?
         .arg(flag(alloc, "json", Some('j')))?
+        .arg(flag(alloc, "signal", None))?
+        .arg(flag(alloc, "registers", None))?
         .arg(images_arg(alloc))
 }
 

@@ -24,7 +24,7 @@ STRIPPED = image_file([Segment(0x400000, b"", 5, 0x1000)], (BSS, 16), [], [Secti
 """The same without symbols."""
 
 HELP = """\
-pysalvage CORE --layouts FILE [-n N] [-l].. [-j] [PATH=FILE]..
+pysalvage CORE --layouts FILE [-n N] [-l].. [-j] [--signal] [--registers] [PATH=FILE]..
 
 What is left of the Python stacks in the core of a broken process, or in one that was cut: each chain of threads and
 frames as far as it goes. Where no mark stands a chain is whole.
@@ -34,6 +34,8 @@ CORE            the core's file
 -n N            the first N frames of a thread and the last N, from 1 to 4096; 100 unless it is said
 -l              the locals of each frame
 -j              JSON in place of text
+--signal        how the signal came about
+--registers     the registers of each thread, and which of Python's threads it is
 PATH=FILE       FILE is read in place of the file that the process had mapped from PATH
 --help          this text
 --version       the version of the program
@@ -42,7 +44,7 @@ PATH=FILE       FILE is read in place of the file that the process had mapped fr
 
 def rows() -> List[Row]:
     """All of them."""
-    parts = (words, order, causes, heads, marks, frames, threads, interpreters, names, trees)
+    parts = (words, order, causes, heads, marks, frames, threads, interpreters, names, trees, signals, registers)
     return [it for part in parts for it in part()]
 
 
@@ -94,7 +96,7 @@ def words() -> Iterator[Row]:
     for what, text in (
         ("none", "core"), ("no layouts", f"core {IMAGE}"), ("a core twice", f"{GOOD} core"), ("no frame", f"{GOOD} -n 0"),
         ("too many frames", f"{GOOD} -n 4097"), ("frames twice", f"{GOOD} -n 1 -n 1"), ("help beside others", f"{GOOD} --help"),
-        ("JSON twice", f"{GOOD} -j -j"), ("a number with a sign", f"{GOOD} -n +1"),
+        ("JSON twice", f"{GOOD} -j -j"), ("a section twice", f"{GOOD} --signal --signal"), ("a number with a sign", f"{GOOD} -n +1"),
     ):
         yield salvage(f"words: refused: {what}", text, files, line=b"bad words", status=2)
 
@@ -312,7 +314,8 @@ def trees() -> Iterator[Row]:
     thread = {"address": hex(THREAD), "crashed": True, "frames": frames, "gil": False, "os_thread_id": None, "thread_id": 0x7F00}
     interpreter = {"address": hex(HEAP), "lock": {"holder": 0, "kind": "read"}, "searched": False, "threads": [thread],
                    "threads_end": {"kind": "whole"}}
-    tree = {"interpreters": [interpreter], "more": False, "process": {"arguments": "p\n", "pid": 4}, "signal": 11, "version": "3.9.0"}
+    tree = {"interpreters": [interpreter], "more": False, "process": {"arguments": "p\n", "pid": 4}, "registers": None, "signal": 11,
+            "signal_info": None, "version": "3.9.0"}
     notes = [status_record(11, 4, 0x7F00), process_record(4, b"p", b"p\n")]
     text = lambda it: json.dumps(it, indent=2, ensure_ascii=False) + "\n"
     yield salvage("JSON", f"{GOOD} -j", named(heap(), notes=notes), text(tree))
@@ -328,3 +331,56 @@ def trees() -> Iterator[Row]:
         {"address": hex(FRAME), "why": lost("0x70000000", "string")}, member("<module>")]}
     plain = {**interpreter, "threads": [{**thread, "crashed": False, "frames": broken}]}
     yield salvage("JSON of what is broken", f"{GOOD} -j", named(cut), text({**tree, "interpreters": [plain], "process": None, "signal": None}))
+
+
+def signal_record(signal: int, code: int, union: bytes = b"", size: int = 128) -> bytes:
+    """The note of a signal."""
+    return note(b"CORE\0", 0x53494749, (struct.pack("<iii4x", signal, 0, code) + union).ljust(size, b"\0")[:size])
+
+
+def signals() -> Iterator[Row]:
+    """How the signal came about."""
+    address, sender = struct.pack("<Q", 0x1234), struct.pack("<iI", 77, 1000)
+    for signal, code, union, line in (
+        (11, 1, address, "SIGSEGV at 0x1234: address not mapped"), (11, 2, address, "SIGSEGV at 0x1234: no permission"),
+        (11, 77, address, "SIGSEGV at 0x1234: code 77"), (7, 2, address, "SIGBUS at 0x1234: no such physical address"),
+        (8, 1, address, "SIGFPE at 0x1234: integer division by zero"), (4, 2, address, "SIGILL at 0x1234: illegal operand"),
+        (5, 1, address, "SIGTRAP at 0x1234: breakpoint"),
+        (11, 128, bytes(8), "SIGSEGV, no address: an address that can't be one, or a protection fault"),
+        (5, 128, bytes(8), "SIGTRAP by the system"), (6, -6, struct.pack("<iI", 4, 0), "SIGABRT by itself"),
+        (15, 0, sender, "SIGTERM by process 77, user 1000"), (10, -1, sender, "SIGUSR1 by process 77, user 1000"),
+        (31, 1, address + struct.pack("<i", 59), "SIGSYS at 0x1234: a filter refused call 59"), (29, 3, b"", "SIGIO with code 3"),
+        (40, 0, sender, "signal 40 by process 77, user 1000"),
+    ):
+        notes = [status_record(signal, 4), process_record(4, b"p", b"p"), signal_record(signal, code, union)]
+        head = f"Signal {signal}: core\n{line}\nProcess 4: p\n"
+        yield salvage(f"signal: {line}", f"{GOOD} --signal", named(heap(), notes=notes), head + TEXT)
+    for what, notes, line in (
+        ("gcore's", [status_record(0, 4), signal_record(0, 128)], "No signal is told by the first thread's record"),
+        ("no note", [status_record(11, 4)], "No note tells how the signal came about"),
+        ("another signal's", [status_record(11, 4), signal_record(6, -6)], "The note is of SIGABRT, another signal"),
+        ("a short note", [status_record(11, 4), signal_record(11, 1, address, 23)], "The note of the signal is too short"),
+    ):
+        signal = 0 if what == "gcore's" else 11
+        yield salvage(f"signal: {what}", f"{GOOD} --signal", named(heap(), notes=notes), f"Signal {signal}: core\n{line}\n{TEXT}")
+
+
+NAMES = "r15 r14 r13 r12 rbp rbx r11 r10 r9 r8 rax rcx rdx rsi rdi orig_rax rip cs eflags rsp ss fs_base gs_base ds es fs gs".split()
+"""The registers of x86-64, in the order of a status record."""
+
+
+def registers_text(*held: int) -> str:
+    """The lines of the registers that hold these."""
+    cells = [f" {name:>8} {value:016x}" for name, value in zip(NAMES, held)]
+    return "".join("\n   " + "".join(cells[at : at + 4]) for at in range(0, len(cells), 4)) + "\n"
+
+
+def registers() -> Iterator[Row]:
+    """The registers of each thread."""
+    held = [0] * 27
+    held[21] = 0x7F00
+    notes = [status_record(0, 5), status_record(0, 4, 0x7F00), status_record(0, 6, 0x7F00, 200), process_record(4, b"p", b"p")]
+    lines = ["Thread 5 (none of Python's)" + registers_text(*[0] * 27), "Thread 4 (Python's 0x7F00)" + registers_text(*held),
+             "Thread 6 (whose is not told): no registers\n"]
+    head = "Signal 0: core\nProcess 4: p\n"
+    yield salvage("registers", f"{GOOD} --registers", named(heap(), notes=notes), head + TEXT + "".join(lines))

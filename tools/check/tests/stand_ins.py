@@ -70,10 +70,16 @@ def interpreter(threads: Sequence[Tree], address: int = 0x10000, searched: bool 
     }
 
 
-def salvage(*interpreters: Tree, signal: Optional[int] = 11, arguments: Optional[str] = "python3 a.py", more: bool = False) -> Tree:
+def salvage(
+    *interpreters: Tree, signal: Optional[int] = 11, arguments: Optional[str] = "python3 a.py", more: bool = False,
+    info: Optional[Tree] = None, registers: Optional[List[Tree]] = None,
+) -> Tree:
     """All of a core."""
     process = None if arguments is None else {"arguments": arguments, "pid": 4711}
-    return {"interpreters": list(interpreters), "more": more, "process": process, "signal": signal, "version": "3.11.7"}
+    return {
+        "interpreters": list(interpreters), "more": more, "process": process, "registers": registers, "signal": signal,
+        "signal_info": info, "version": "3.11.7",
+    }
 
 
 # ---- what `pystacks dump` writes

@@ -128,6 +128,33 @@ class Shown(Case):
             "    ... unreadable at 0x20008, 8 bytes\nInterpreter 0x20000 (found by search)\nThread 0x2\n")
         self.assertEqual(self.tool(), (0, wanted, ""))
 
+    def test_signal(self):
+        front = {"code": 1, "name": "SIGSEGV", "signal": 11}
+        for info, line in (
+            ({"kind": "fault", "address": "0x10", "meaning": "address not mapped"}, "SIGSEGV at 0x10: address not mapped"),
+            ({"kind": "fault", "address": "0x10", "meaning": None}, "SIGSEGV at 0x10: code 1"),
+            ({"kind": "process", "pid": 1, "uid": 0}, "SIGSEGV by process 1, user 0"),
+            ({"kind": "itself", "pid": 1, "uid": 0, "name": None}, "signal 11 by itself"),
+            ({"kind": "no address"}, "SIGSEGV, no address: an address that can't be one, or a protection fault"),
+            ({"kind": "system"}, "SIGSEGV by the system"), ({"kind": "code"}, "SIGSEGV with code 1"),
+            ({"kind": "call", "call_address": "0x10", "call": 7}, "SIGSEGV at 0x10: a filter refused call 7"),
+        ):
+            self.programs(salvage(interpreter([CRASHED]), info={**front, **info}))
+            self.assertEqual(self.tool()[1].splitlines()[1:3], [line, "Process 4711: python3 a.py"])
+        for info in ({"kind": "no signal"}, {"kind": "no note"}, {"kind": "short note"}, {"kind": "another signal", "signal": 5}):
+            self.programs(salvage(interpreter([CRASHED]), info=info))
+            self.assertEqual(self.tool()[1].splitlines()[1], "Process 4711: python3 a.py")
+
+    def test_registers(self):
+        values = {"cs": "0x33", "r8": "0x8", "rbp": "0x3", "rip": "0x401000", "rsp": "0x7fff0000"}
+        rows = [{"python": {"kind": "thread", "thread_id": 0x7F00}, "registers": values, "system_id": 99},
+                {"python": {"kind": "none"}, "registers": None, "system_id": 7}]
+        self.programs(salvage(interpreter([CRASHED]), registers=rows), names={0x7F00: "Main"})
+        self.assertEqual(self.tool("--registers")[1].splitlines()[-4:], [
+            'Registers of thread 99 (0x7F00 "Main")',
+            "         rip 0000000000401000       rsp 000000007fff0000       rbp 0000000000000003        cs 0000000000000033",
+            "          r8 0000000000000008", "Registers of thread 7: none"])
+
     def test_ends(self):
         read = {"kind": "unreadable", "address": "0x10200", "length": 48}
         members = [{"address": "0x1", "why": read}, {"address": "0x1", "why": {"kind": "no text"}},

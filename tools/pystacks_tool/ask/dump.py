@@ -106,4 +106,7 @@ def tree_of(report: Report, threads: List[Tree]) -> Tree:
     rows = [thread_tree(it) for it in reversed(threads)]
     interpreter = {"address": None, "lock": None, "searched": None, "threads": rows, "threads_end": {"kind": "whole"}}
     process = None if report.process is None else {"arguments": report.process[1], "pid": report.process[0]}
-    return {"interpreters": [interpreter], "more": None, "process": process, "signal": report.signal, "version": report.version}
+    return {
+        "interpreters": [interpreter], "more": None, "process": process, "registers": None, "signal": report.signal,
+        "signal_info": None, "version": report.version,
+    }

@@ -37,7 +37,8 @@ def dump_command(options: Options, core: OpenedCore, *more: str) -> List[bytes]:
     return [*command_of(words, [core.name]), *(os.fsencode(it) for it in more), *core.images]
 
 
-def salvage_command(program: Path, core: OpenedCore, count: int) -> List[bytes]:
-    """The words of `pysalvage`, which is asked for JSON."""
-    words = [os.fspath(program), f"--layouts={core.layouts}", "-j", *["-l"] * count, "--", core.word]
+def salvage_command(options: Options, program: Path, core: OpenedCore) -> List[bytes]:
+    """The words of `pysalvage`, which is asked for JSON, and for the sections that are shown."""
+    sections = ["--signal"] * options.signal + ["--registers"] * options.registers
+    words = [os.fspath(program), f"--layouts={core.layouts}", "-j", *["-l"] * options.locals, *sections, "--", core.word]
     return [*command_of(words, [core.name]), *core.images]

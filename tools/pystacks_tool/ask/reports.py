@@ -49,7 +49,7 @@ def ask_for_names_and_values(options: Options, core: OpenedCore) -> NamesAndValu
 
 def ask_salvage(options: Options, core: OpenedCore, program: Path) -> Outcome:
     """What `pysalvage` tells, with names and values."""
-    answer = ask(core, salvage_command(program, core, options.locals))
+    answer = ask(core, salvage_command(options, program, core))
     if answer.status != 0:
         return Outcome(answer)
     tree, report = report_by_salvage(decoded(answer.out), core.name, ask_for_names_and_values(options, core))

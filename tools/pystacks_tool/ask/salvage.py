@@ -8,7 +8,7 @@ from dataclasses import dataclass, field
 from typing import Callable, Dict, Iterable, Optional, Tuple
 
 from pystacks_tool.ask.dump import Tree, Unexpected, local_of
-from pystacks_tool.model import Frame, Interpreter, Report, Thread
+from pystacks_tool.model import Frame, Interpreter, Registers, Report, Thread
 
 Words = Dict[str, Callable[[], str]]
 """What is said, by the kind of a fault or an end."""
@@ -48,6 +48,27 @@ def locals_fault(tree: Optional[Tree]) -> str:
     words: Words = {"bad": lambda: "locals with a bad name or count", "too many": lambda: "locals more than 65535",
                     "unreadable": lambda: f"locals {unreadable(found)}"}
     return words[found["kind"]]()
+
+
+def signal_told(tree: Optional[Tree]) -> str:
+    """How the signal came about, where that is told."""
+    if tree is None or tree.get("signal") is None or tree["kind"] == "another signal":
+        return ""
+    found, name = tree, tree["name"] or f"signal {tree['signal']}"
+    words: Words = {
+        "fault": lambda: f" at {found['address']}: {found['meaning'] or 'code %d' % found['code']}",
+        "process": lambda: f" by process {found['pid']}, user {found['uid']}", "itself": lambda: " by itself",
+        "no address": lambda: ", no address: an address that can't be one, or a protection fault",
+        "system": lambda: " by the system", "code": lambda: f" with code {found['code']}",
+        "call": lambda: f" at {found['call_address']}: a filter refused call {found['call']}",
+    }
+    return name + words[tree["kind"]]()
+
+
+def registers_of(tree: Tree) -> Registers:
+    """The registers of a thread."""
+    rows = tree["registers"] or {}
+    return Registers(tree["system_id"], tree["python"].get("thread_id"), tuple((name, int(value, 16)) for name, value in rows.items()))
 
 
 def member_of(tree: Tree) -> Frame:
@@ -116,6 +137,8 @@ def report_by_salvage(text: str, core: str, added: NamesAndValues) -> Tuple[Tree
         interpreters = tuple(interpreter_of(it) for it in tree["interpreters"])
         process = tree["process"]
         told: Optional[Tuple[int, str]] = None if process is None else (process["pid"], process["arguments"])
-        return tree, Report(interpreters, tree["version"], tree["signal"], told, tree["more"], True, core)
+        registers = tuple(registers_of(it) for it in tree["registers"] or ())
+        signal = signal_told(tree["signal_info"])
+        return tree, Report(interpreters, tree["version"], tree["signal"], told, tree["more"], True, core, signal, registers)
     except (ValueError, KeyError, TypeError) as error:
         raise Unexpected(f"its JSON: {error!r}") from None

@@ -187,7 +187,8 @@ def head_part(report: Report) -> str:
     rows = []
     if report.signal is not None:
         name = signal_name(report.signal)
-        rows.append(("Signal", f"<b class=\"bad\">{report.signal}{f' ({name})' if name else ''}</b>"))
+        how = f"; {text(report.signal_told)}" if report.signal_told else ""
+        rows.append(("Signal", f"<b class=\"bad\">{report.signal}{f' ({name})' if name else ''}</b>{how}"))
     if report.process is not None:
         rows.append(("Process", f"{report.process[0]}: {text(report.process[1])}"))
     rows.append(("Python", text(report.version)))

@@ -16,6 +16,9 @@ MANY = 8
 NAMED = 2
 """How many threads of one stack are named, where there are more."""
 
+FIRST = ("rip", "rsp", "rbp", "pc", "sp")
+"""The registers that say where a thread stood, on x86-64 and on aarch64."""
+
 BOLD, DIM, RED, YELLOW = "1", "2", "1;31", "33"
 
 
@@ -93,6 +96,8 @@ def head_lines(report: Report, style: Style) -> Iterator[str]:
         name = signal_name(report.signal)
         told = f" ({name})" if name else ""
         yield style.paint(f"Signal {report.signal}{told}", BOLD) + f": {in_line(report.core)}"
+    if report.signal_told:
+        yield style.paint(in_line(report.signal_told), RED)
     if report.process is not None:
         yield f"Process {report.process[0]}: {in_line(report.process[1])}"
     yield f"Python v{in_line(report.version)}"
@@ -167,8 +172,20 @@ def stacks_lines(report: Report, style: Style) -> Iterator[str]:
         yield "... more than 16 interpreters"
 
 
+def register_lines(report: Report) -> Iterator[str]:
+    """The registers of each thread, four a line: where it stood first, and then by name."""
+    names = {it.number: f' "{as_name(it.name)}"' for it in report.threads if it.name is not None}
+    for it in report.registers:
+        whose = "" if it.number is None else f" (0x{it.number:X}{names.get(it.number, '')})"
+        yield f"Registers of thread {it.native}{whose}{'' if it.values else ': none'}"
+        rows = sorted(it.values, key=lambda row: (FIRST.index(row[0]) if row[0] in FIRST else len(FIRST), row[0]))
+        for at in range(0, len(rows), 4):
+            yield "    " + "  ".join(f"{name:>8} {value:016x}" for name, value in rows[at : at + 4])
+
+
 def report_lines(report: Report, style: Style) -> Iterator[str]:
     """The whole text, line by line."""
     yield from head_lines(report, style)
     yield from overview_lines(report, style)
     yield from stacks_lines(report, style)
+    yield from register_lines(report)

@@ -5,7 +5,7 @@ use Rattle.program_run.proofs.Ends.{run_of}
 use Rattle.salvage_report.specs.Run.{pysalvage}
 use Rattle.salvage_report.proofs.Agreement.{cause_own}
 use Rattle.salvage_report.proofs.Ends.{run_complete, run_only, run_status}
-use Rattle.salvage_report.proofs.Headline.{salvaged_of_run}
+use Rattle.salvage_report.proofs.Headline.{salvaged_of_run, says_registers, says_signal}
 use Rattle.salvage_report.proofs.Few.{asked_few}
 use Rattle.salvage_report.proofs.command.run.Goals as goal
 
@@ -30,6 +30,12 @@ returns-clause-headline g c s asks is =
     let printed = (returns-clause-runs g c).printed is in
     salvaged_of_run s (g.F.Files.seen c.args.files.now).told (g.S.Sink.seen c.args.out.now) (g.S.Sink.seen c.finish.new.out)
     printed.0 printed.2 (words_asked (texts c.args.words.now)) asks printed.1
+
+pub returns-clause-signal : goal.returns-clause-signal
+returns-clause-signal g c s asks on is = says_signal s _ _ _ (returns-clause-headline g c s asks is) on
+
+pub returns-clause-registers : goal.returns-clause-registers
+returns-clause-registers g c s asks on is = says_registers s _ _ _ (returns-clause-headline g c s asks is) on
 
 pub returns-clause-only : goal.returns-clause-only
 returns-clause-only g c = run_only (returns-clause-runs g c).right

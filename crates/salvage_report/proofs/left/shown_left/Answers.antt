@@ -1,6 +1,7 @@
-use Rattle.std.proofs.Common.{◌≡◌, ◌≢◌, List, [], ◌∷◌, ap, arith, length, refl, rules}
+use Rattle.std.proofs.Common.{◌≡◌, ◌≢◌, List, [], ◌∷◌, ap, arith, length, refl, rules, subst}
 use Rattle.std.proofs.lemmas.Result.{err_from_is_err_and}
 use Rattle.salvage_words.specs.Seen.{asked_salvage}
+use Rattle.salvage_report.specs.Sections.{AreTold}
 use Rattle.salvage_report.proofs.Remains.{none_left, some_left}
 use Rattle.salvage_report.proofs.left.shown_left.Goals as goal
 
@@ -14,16 +15,26 @@ returns-in_err-addresses c =
     let p = err_from_is_err_and c.from_residual-in_err-addresses.result c.from_residual-in_err-addresses.ensures.1 in
     rw (p.1, p.2) (λ bytes images layouts is told ne. absurd (ne refl))
 
+pub returns-in_err-told : goal.returns-in_err-told
+returns-in_err-told c =
+    let p = err_from_is_err_and c.from_residual-in_err-told.result c.from_residual-in_err-told.ensures.1 in
+    rw (p.1, p.2) (λ bytes images layouts is told ne. absurd (ne refl))
+
 empty : {T : Type 0} (xs : List T) → length xs ≡ 0 → xs ≡ []
 empty [] e = refl
 empty (x ∷ xs) e = absurd (omega (arith, e))
 
 pub returns-then-is_empty : goal.returns-then-is_empty
-returns-then-is_empty c = λ bytes images layouts is told ne.
+returns-then-is_empty c = λ bytes images layouts is crashed ne.
     let salvaged = c.in_ok-salvaged.salvaged in
+    let asked = c.args.words.now.sections in
+    let process = c.args.process.notes.process in
+    let told = c.in_ok-told.told in
+    let core = subst (λ core. AreTold asked core process c.deref.result.now told) c.core-core.ensures.same c.in_ok-told.ensures in
+    let sections = subst (λ xs. AreTold asked c.args.process.dump.core process xs told) c.deref.ensures.value core in
     let none : salvaged.interpreters.items ≡ [] = empty salvaged.interpreters.items (search rules) in
-    none_left (asked_salvage c.args.words.now) c.args.process c.args.crash salvaged c.in_ok-salvaged.ensures bytes images layouts is told
-    c.in_ok-addresses.addresses none c.in_ok-addresses.ensures
+    none_left (asked_salvage c.args.words.now) c.args.process c.args.crash salvaged c.in_ok-salvaged.ensures bytes images layouts is crashed
+    told sections c.in_ok-addresses.addresses none c.in_ok-addresses.ensures
 
 pub returns-in_err-shown : goal.returns-in_err-shown
 returns-in_err-shown c =
@@ -31,9 +42,14 @@ returns-in_err-shown c =
     rw (p.1, p.2) (λ bytes images layouts is told ne. absurd (ne refl))
 
 pub returns : goal.returns
-returns c = λ bytes images layouts is told.
+returns c = λ bytes images layouts is crashed.
     let salvaged = c.in_ok-salvaged.salvaged in
+    let asked = c.args.words.now.sections in
+    let process = c.args.process.notes.process in
+    let told = c.in_ok-told.told in
+    let core = subst (λ core. AreTold asked core process c.deref.result.now told) c.core-core.ensures.same c.in_ok-told.ensures in
+    let sections = subst (λ xs. AreTold asked c.args.process.dump.core process xs told) c.deref.ensures.value core in
     let full : length salvaged.interpreters.items ≢ 0 = search rules in
     let some : salvaged.interpreters.items ≢ [] = λ none. full (ap length none) in
-    some_left (asked_salvage c.args.words.now) c.args.process c.args.crash salvaged c.in_ok-salvaged.ensures bytes images layouts is told
-    c.in_ok-shown.field-0.items some c.in_ok-shown.ensures
+    some_left (asked_salvage c.args.words.now) c.args.process c.args.crash salvaged c.in_ok-salvaged.ensures bytes images layouts is crashed
+    told sections c.in_ok-shown.field-0.items some c.in_ok-shown.ensures

@@ -11,6 +11,8 @@ returns c =
     let three = c.in_ok-arg-3.ensures.shape c.frames_arg.ensures.local ∙ ap₂ with_rule two c.frames_arg.ensures.rule in
     let four = c.in_ok-arg-4.ensures.shape c.locals_arg.ensures.local ∙ ap₂ with_rule three c.locals_arg.ensures.rule in
     let five = c.in_ok-arg-5.ensures.shape c.flag.ensures.local ∙ ap₂ with_rule four c.flag.ensures.rule in
-    IfOk-weaker c.arg-6.result _ _
-    (λ command added. added.shape c.images_arg.ensures.local ∙ ap₂ with_rule five c.images_arg.ensures.rule)
-    c.arg-6.ensures
+    let signal = c.in_ok-arg-6.ensures.shape c.flag-2.ensures.local ∙ ap₂ with_rule five c.flag-2.ensures.rule in
+    let registers = c.in_ok-arg-7.ensures.shape c.flag-3.ensures.local ∙ ap₂ with_rule signal c.flag-3.ensures.rule in
+    IfOk-weaker c.arg-8.result _ _
+    (λ command added. added.shape c.images_arg.ensures.local ∙ ap₂ with_rule registers c.images_arg.ensures.rule)
+    c.arg-8.ensures

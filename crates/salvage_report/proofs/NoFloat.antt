@@ -1,0 +1,73 @@
+-- The tree of all that is told has no float.
+use Rattle.std.proofs.Common.{◌≡◌, ℕ, ℤ, false, List, Option, Some, None, Result, Ok, Err, refl}
+use Rattle.std.specs.Prelude.{◌||◌, codes}
+use Rattle.serde_json.specs.Written.{has_float}
+use Rattle.crash_signal.specs.Tables.{meaning_of, name_of}
+use Rattle.crash_signal.specs.Trees.{call_tree, cause_tree, fault_tree, plain_tree, sender_tree, signal_tree, untold_tree}
+use Rattle.crash_signal.specs.Trees.{word_tree}
+use Rattle.crash_signal.specs.declared.told.Cause.{Cause}
+use Rattle.crash_signal.specs.declared.told.Cause.TheVariants.{Itself, Process, Fault, NoAddress, System, Call, Code}
+use Rattle.crash_signal.specs.declared.told.CrashSignal.{CrashSignal}
+use Rattle.crash_signal.specs.declared.told.Untold.{Untold}
+use Rattle.crash_signal.specs.declared.told.Untold.TheVariants.{NoSignal, NoNote, Short, Other}
+use Rattle.thread_registers.specs.Threads.{ThreadShown}
+use Rattle.thread_registers.specs.Trees.{threads_tree}
+use Rattle.thread_registers.proofs.Plain.{no_float as threads}
+use Rattle.salvage_json.proofs.Trees.{integer, interpreters, process, signal}
+use Rattle.salvage_report.specs.Tree.{left_tree, section_tree}
+use Rattle.salvage_report.specs.Sections.{registers_shown}
+use Rattle.salvage_report.specs.declared.left.Left.{Left}
+
+-- ---- how the signal came about
+
+word : (w : Option (List ℕ)) → has_float (word_tree w) ≡ false
+word (Some w) = refl
+word None = refl
+
+plain : (kind : List ℕ) (s code : ℤ) → has_float (plain_tree kind s code) ≡ false
+plain kind s code = λ i. integer code i || (word (name_of s) i || (integer s i || false))
+
+sender : (kind : List ℕ) (s code pid : ℤ) (uid : ℕ) → has_float (sender_tree kind s code pid uid) ≡ false
+sender kind s code pid uid =
+    λ i. integer code i || (word (name_of s) i || (integer pid i || (integer s i || (false || false))))
+
+fault : (s code : ℤ) (address : ℕ) → has_float (fault_tree s code address) ≡ false
+fault s code address =
+    λ i. integer code i || (word (meaning_of s code) i || (word (name_of s) i || (integer s i || false)))
+
+call : (s code : ℤ) (address : ℕ) (number : ℤ) → has_float (call_tree s code address number) ≡ false
+call s code address number = λ i. integer number i || (integer code i || (word (name_of s) i || (integer s i || false)))
+
+cause : (s code : ℤ) (c : Cause) → has_float (cause_tree s code c) ≡ false
+cause s code (Itself pid uid) = sender (codes "itself") s code pid uid
+cause s code (Process pid uid) = sender (codes "process") s code pid uid
+cause s code (Fault address) = fault s code address
+cause s code NoAddress = plain (codes "no address") s code
+cause s code System = plain (codes "system") s code
+cause s code (Call address number) = call s code address number
+cause s code Code = plain (codes "code") s code
+
+untold : (why : Untold) → has_float (untold_tree why) ≡ false
+untold NoSignal = refl
+untold NoNote = refl
+untold Short = refl
+untold (Other s) = λ i. integer s i || false
+
+info : (told : Result CrashSignal Untold) → has_float (signal_tree told) ≡ false
+info (Ok s) = cause s.signal s.code s.cause
+info (Err why) = untold why
+
+-- ---- the sections, and the whole
+
+info_section : (told : Option (Result CrashSignal Untold)) → has_float (section_tree signal_tree told) ≡ false
+info_section None = refl
+info_section (Some told) = info told
+
+threads_section : (told : Option (List ThreadShown)) → has_float (section_tree threads_tree told) ≡ false
+threads_section None = refl
+threads_section (Some told) = threads told
+
+pub no_float : (left : Left) → has_float (left_tree left) ≡ false
+no_float left = λ i. interpreters left.salvaged.crash left.salvaged.interpreters.items i || (false
+    || (process left.process i || (threads_section (registers_shown left.told.registers) i || (signal left.signal i
+    || (info_section left.told.signal i || (false || false))))))

@@ -1,0 +1,36 @@
+-- The JSON of what is left of a process, and of what is told in its sections: one object, which has the key of each
+-- section, null where it isn't asked for.
+use Rattle.std.specs.Prelude.{ℕ, ◌++◌, List, map, Option, Some, None, codes}
+use Rattle.json.specs.Layout.{pretty}
+use Rattle.json.specs.Tree.{json_tokens}
+use Rattle.serde_json.specs.Data.{Data, boolean, member, no_members, null, object, string}
+use Rattle.serde_json.specs.Written.{outline}
+use Rattle.py_version.specs.Version.{version_text}
+use Rattle.crash_signal.specs.Trees.{signal_tree as info_tree}
+use Rattle.thread_registers.specs.Trees.{threads_tree}
+use Rattle.salvage_json.specs.Salvaged.{interpreters_tree, process_tree, signal_tree}
+use Rattle.salvage_report.specs.Sections.{registers_shown}
+use Rattle.salvage_report.specs.declared.left.Left.{Left}
+
+-- a section's value, or null
+abbrev pub section_tree : {T : Type 0} → (T → Data) → Option T → Data
+section_tree tree None = null
+section_tree tree (Some told) = tree told
+
+-- the keys stand in the order of their bytes
+abbrev pub left_tree : Left → Data
+left_tree left = object (
+    member (codes "interpreters") (interpreters_tree left.salvaged.crash left.salvaged.interpreters.items) (
+    member (codes "more") (boolean left.salvaged.more) (
+    member (codes "process") (process_tree left.process) (
+    member (codes "registers") (section_tree threads_tree (registers_shown left.told.registers)) (
+    member (codes "signal") (signal_tree left.signal) (
+    member (codes "signal_info") (section_tree info_tree left.told.signal) (
+    member (codes "version") (string (version_text left.version)) no_members)))))))
+
+-- the text of a tree: each item and member on a line of its own, two spaces deeper for each bracket
+abbrev pub pretty_text : Data → List ℕ
+pretty_text d = pretty (json_tokens (outline d))
+
+abbrev pub left_json : Left → List ℕ
+left_json left = pretty_text (left_tree left) ++ codes "\n"

@@ -1,0 +1,86 @@
+//! What is left of a process, and what is told in its sections, as JSON.
+ghost use Rattle.std.specs.Prelude.{◌≡◌, false, IfOk, string_bytes};
+ghost use Rattle.serde_json.specs.View.{view};
+ghost use Rattle.serde_json.specs.Written.{has_float};
+ghost use Rattle.py_version.specs.Version.{version_text};
+ghost use Rattle.crash_signal.specs.Trees.{signal_tree as info_tree};
+ghost use Rattle.thread_registers.specs.Trees.{threads_tree};
+ghost use Rattle.salvage_report.specs.Tree.{left_json, left_tree, pretty_text, section_tree};
+ghost use Rattle.salvage_report.specs.Sections.{registers_shown};
+
+use crate::left::Left;
+use crash_signal::{CrashSignal, Untold};
+use py_layout::Version;
+use salvage_json::{interpreters_value, process_value, signal_value};
+use serde_json::{Value, json};
+use std::alloc::{AllocError, Global};
+use thread_registers::{ThreadRegisters, threads_value};
+
+/// How the signal came about, or null.
+fn info_value(
+    alloc: Global,
+    told: &Option<Result<CrashSignal, Untold>>,
+) -> Result<Value, AllocError>
+    ensures { IfOk result (λ value. view value ≡ section_tree info_tree told.now) }
+{
+    match told {
+        Some(told) => crash_signal::signal_value(alloc, told),
+        None => Ok(Value::Null),
+    }
+}
+
+/// The threads with their registers, or null.
+fn registers_value(alloc: Global, told: &Option<Vec<ThreadRegisters>>) -> Result<Value, AllocError>
+    ensures { IfOk result (λ value. view value ≡ section_tree threads_tree (registers_shown told.now)) }
+{
+    match told {
+        Some(threads) => threads_value(alloc, threads),
+        None => Ok(Value::Null),
+    }
+}
+
+fn version_of(alloc: Global, version: &Version) -> Result<String, AllocError>
+    ensures { IfOk result (λ text. string_bytes text ≡ version_text version.now) }
+{
+    format!(in alloc; "{version}")
+}
+
+fn left_value(alloc: Global, left: &Left) -> Result<Value, AllocError>
+    ensures { IfOk result (λ value. view value ≡ left_tree left.now) }
+{
+    let salvaged = &left.salvaged;
+    let interpreters = interpreters_value(alloc, salvaged.crash, &salvaged.interpreters)?;
+    let process = process_value(alloc, &left.process)?;
+    let registers = registers_value(alloc, &left.told.registers)?;
+    let signal = signal_value(alloc, left.signal)?;
+    let signal_info = info_value(alloc, &left.told.signal)?;
+    let version = version_of(alloc, &left.version)?;
+    json!(in alloc; {
+        "interpreters": interpreters,
+        "more": salvaged.more,
+        "process": process,
+        "registers": registers,
+        "signal": signal,
+        "signal_info": signal_info,
+        "version": version.as_str()
+    })
+}
+
+/// The text of a value that has no float.
+fn pretty(alloc: Global, value: &Value) -> Result<String, AllocError>
+    requires { has_float (view value.now) ≡ false }
+    ensures { IfOk result (λ text. string_bytes text ≡ pretty_text (view value.now)) }
+{
+    value.to_string_pretty(alloc)
+}
+
+/// All of it as one object, on lines, with a line feed at the end. The keys stand in the order of their bytes; that of a
+/// section that isn't asked for is null. The one error is want of memory.
+pub(crate) fn left_json(alloc: Global, left: &Left) -> Result<String, AllocError>
+    ensures { IfOk result (λ text. string_bytes text ≡ left_json left.now) }
+{
+    let value = left_value(alloc, left)?;
+    let mut text = pretty(alloc, &value)?;
+    text.push_str("\n")?;
+    Ok(text)
+}

@@ -1,0 +1,123 @@
+//! The sections of what is told of a process, each asked for by a flag of its own.
+ghost use Rattle.std.specs.Prelude.{◌≡◌, IfOk, map, option_map};
+ghost use Rattle.elf64_core.specs.Notes.{noted};
+ghost use Rattle.crash_signal.specs.Signals.{signal_told};
+ghost use Rattle.thread_registers.specs.Threads.{threads_told};
+ghost use Rattle.salvage_report.specs.Sections.{AreTold, if_asked, own_id, python_thread, python_threads};
+ghost use Rattle.salvage_report.specs.Sections.{registers_shown};
+
+use core_stacks::Notes;
+use crash_signal::{CrashSignal, Untold, read_signal};
+use elf64_core::{Machine, Note, Text};
+use image_memory::CoreDump;
+use py_fronts::ThreadFront;
+use salvage_marks::SalvagedInterpreter;
+use salvage_words::Sections;
+use std::alloc::{AllocError, Global};
+use thread_registers::{PythonThread, ThreadRegisters, read_threads};
+
+/// What is told in each section: none in one that isn't asked for.
+#[derive(Drop)]
+pub(crate) struct Told {
+    /// How the signal came about, or why that is not told.
+    pub(crate) signal: Option<Result<CrashSignal, Untold>>,
+    /// The threads of the status records, with their registers.
+    pub(crate) registers: Option<Vec<ThreadRegisters>>,
+}
+
+/// The process's own id.
+fn own_id(process: &Option<(i32, Text)>) -> Option<i32>
+    ensures { result ≡ own_id process.now }
+{
+    match process {
+        Some((pid, _)) => Some(*pid),
+        None => None,
+    }
+}
+
+/// How the signal came about.
+fn signal_section(
+    asked: bool,
+    own: Option<i32>,
+    notes: &[Note<'_>],
+) -> Option<Result<CrashSignal, Untold>>
+    ensures { result ≡ if_asked asked (signal_told own (map noted notes.now)) }
+{
+    if asked {
+        Some(read_signal(own, notes))
+    } else {
+        None
+    }
+}
+
+/// A thread of Python's, by its ids.
+fn python_thread(thread: &ThreadFront) -> PythonThread
+    ensures { result ≡ python_thread thread.now }
+{
+    PythonThread {
+        thread_id: thread.thread_id,
+        native_id: thread.os_thread_id,
+    }
+}
+
+/// The threads of a chain, by their ids.
+fn chain_threads(alloc: Global, threads: &[ThreadFront]) -> Result<Vec<PythonThread>, AllocError>
+    ensures { IfOk result (λ own. own.items ≡ map python_thread threads.now) }
+{
+    let mut own = Vec::new(alloc);
+    for thread in threads {
+        own.push(python_thread(thread))?;
+    }
+    Ok(own)
+}
+
+/// The threads of all interpreters that are shown.
+fn python_threads(
+    alloc: Global,
+    interpreters: &[SalvagedInterpreter],
+) -> Result<Vec<PythonThread>, AllocError>
+    ensures { IfOk result (λ threads. threads.items ≡ python_threads interpreters.now) }
+{
+    let mut threads = Vec::new(alloc);
+    for interpreter in interpreters {
+        let own = chain_threads(alloc, &interpreter.front.threads.threads)?;
+        threads.extend_from_slice(&own)?;
+    }
+    Ok(threads)
+}
+
+/// The threads of the status records, with their registers.
+fn registers_section(
+    alloc: Global,
+    asked: bool,
+    machine: Machine,
+    notes: &[Note<'_>],
+    interpreters: &[SalvagedInterpreter],
+) -> Result<Option<Vec<ThreadRegisters>>, AllocError>
+    ensures { IfOk result (λ threads. registers_shown threads
+        ≡ if_asked asked (threads_told machine (python_threads interpreters.now) (map noted notes.now))) }
+{
+    if !asked {
+        return Ok(None);
+    }
+    let pythons = python_threads(alloc, interpreters)?;
+    let threads = read_threads(alloc, machine, notes, &pythons)?;
+    Ok(Some(threads))
+}
+
+/// What is told in the sections that are asked for, by the notes of a core and what is left of its interpreters. The one
+/// error is want of memory.
+pub(crate) fn tell_sections(
+    alloc: Global,
+    asked: Sections,
+    core: &CoreDump,
+    notes: &Notes,
+    interpreters: &[SalvagedInterpreter],
+) -> Result<Told, AllocError>
+    ensures { IfOk result (AreTold asked core.now notes.now.process interpreters.now) }
+{
+    let all = core.notes(alloc)?;
+    let signal = signal_section(asked.signal, own_id(&notes.process), &all);
+    let registers = registers_section(alloc, asked.registers, core.machine(), &all, interpreters)?;
+    Ok(Told { signal, registers })
+}
