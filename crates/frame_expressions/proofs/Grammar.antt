@@ -64,13 +64,15 @@ narrow_read size half bytes n is =
       is = sym (ap (λ (x : Number). x.value) same) ∙ ap (with_sign half) found.is;
       long = sym (ap (λ (x : Number). x.size) same) ∙ found.long;
     } where
-      same_widened : (half : ℕ) (m n : Number) → ◌≡◌ {A = Result Number Flaw} (Ok (widened half m)) (Ok n) → widened half m ≡ n
+      same_widened : (half : ℕ) (m n : Number) → ◌≡◌ {A = Result Number Flaw} (Ok (widened half m)) (Ok n)
+          → widened half m ≡ n
       same_widened half m n e = cc
 
 abbrev word : SignedNumber → Result Number Flaw
 word n = Ok (record { value = cast_unsigned w64 n.value; size = n.size })
 
-same_word : (m : SignedNumber) (n : Number) → word m ≡ Ok n → record { value = cast_unsigned w64 m.value; size = m.size } ≡ n
+same_word : (m : SignedNumber) (n : Number) → word m ≡ Ok n
+    → record { value = cast_unsigned w64 m.value; size = m.size } ≡ n
 same_word m n e = cc
 
 signed_word_read : (bytes : List ℕ) (n : Number) → operand_in Signed bytes ≡ Ok n → Spelled Signed bytes n
@@ -83,11 +85,16 @@ signed_word_read bytes n is =
       text = found.text;
       behind = found.behind;
       parts = found.parts;
-      is = record { number = m.0.value; is = (found.is, found.short); as_word = sym (ap (λ (x : Number). x.value) same) };
+      is = record {
+        number = m.0.value;
+        is = (found.is, found.short);
+        as_word = sym (ap (λ (x : Number). x.value) same);
+      };
       long = sym (ap (λ (x : Number). x.size) same) ∙ found.long;
     }
 
-nothing_read : (bytes : List ℕ) (n : Number) → ◌≡◌ {A = Result Number Flaw} (Ok (record { value = 0; size = 0 })) (Ok n) → Spelled Plain bytes n
+nothing_read : (bytes : List ℕ) (n : Number) → ◌≡◌ {A = Result Number Flaw} (Ok (record { value = 0; size = 0 })) (Ok n)
+    → Spelled Plain bytes n
 nothing_read bytes n is =
     let same : record { value = 0; size = 0 } ≡ n = cc in
     record {
@@ -151,7 +158,9 @@ operand_back TwoSigned text rest word is = narrow_is 2 0x8000 text rest word is.
 operand_back FourSigned text rest word is = narrow_is 4 0x80000000 text rest word is.0 is.1
 operand_back Unsigned text rest word is = unsigned_back text rest word is
 operand_back Signed text rest word is =
-    ap (λ (r : Result SignedNumber Flaw). read_then r (λ n. Ok (record { value = cast_unsigned w64 n.value; size = n.size }))) (signed_back text rest is.number is.is)
+    ap
+    (λ (r : Result SignedNumber Flaw). read_then r
+    (λ n. Ok (record { value = cast_unsigned w64 n.value; size = n.size }))) (signed_back text rest is.number is.is)
     ∙ same_number (cast_unsigned w64 is.number) word (length text) (length text) (sym is.as_word) refl
 
 -- ---- operations
@@ -173,7 +182,8 @@ pub spelled_read : (text rest : List ℕ) (o : Operation) → Spells text o
 spelled_read text rest o s =
     ap (λ (l : List ℕ). operation_in (l ++ rest)) s.parts
     ∙ opcode_back s.opcode s.form s.behind s.word rest s.is_form s.is_operand
-    ∙ same_read (operation_of s.opcode s.word) o (1 + length s.behind) (length text) (sym s.means) (omega (arith, ap length s.parts))
+    ∙ same_read (operation_of s.opcode s.word) o (1 + length s.behind) (length text) (sym s.means)
+    (omega (arith, ap length s.parts))
 
 form_then : (opcode : ℕ) (rest : List ℕ) (form : Option Form) (r : Read) → formed_in opcode rest form ≡ Ok r
     → (f : Form) × (form ≡ Some f) × (read_then (operand_in f rest) (read_of opcode) ≡ Ok r)

@@ -34,14 +34,16 @@ at_most_63 most h = pow-le-pow_right (omega arith) h
 pub at_most_64 : (size : ℕ) → size ≤ 8 → 256 ^ size ≤ 256 ^ 8
 at_most_64 size h = pow-le-pow_right (omega arith) h
 
-pub low_more : (most low : ℕ) (high : ℤ) → most ≢ 0 → neg_ℤ (pos (128 ^ (most - 1))) ≤ℤ high → neg_ℤ (pos (128 ^ most)) ≤ℤ (pos low +ℤ (pos 128 *ℤ high))
+pub low_more : (most low : ℕ) (high : ℤ) → most ≢ 0 → neg_ℤ (pos (128 ^ (most - 1))) ≤ℤ high
+    → neg_ℤ (pos (128 ^ most)) ≤ℤ (pos low +ℤ (pos 128 *ℤ high))
 low_more zero low high n h = absurd (n refl)
 low_more (suc most) low high n h =
     let fewer : suc most - 1 ≡ most = omega arith in
     let above : neg_ℤ (pos (128 ^ most)) ≤ℤ high = rw fewer at h in
     rw pow-succ' (omega (arith, ints, above))
 
-pub high_more : (most low : ℕ) (high : ℤ) → most ≢ 0 → low < 128 → high <ℤ pos (128 ^ (most - 1)) → (pos low +ℤ (pos 128 *ℤ high)) <ℤ pos (128 ^ most)
+pub high_more : (most low : ℕ) (high : ℤ) → most ≢ 0 → low < 128 → high <ℤ pos (128 ^ (most - 1))
+    → (pos low +ℤ (pos 128 *ℤ high)) <ℤ pos (128 ^ most)
 high_more zero low high n l h = absurd (n refl)
 high_more (suc most) low high n l h =
     let fewer : suc most - 1 ≡ most = omega arith in
@@ -50,8 +52,10 @@ high_more (suc most) low high n l h =
 
 -- ---- one byte more
 
-pub signed_next : (most : ℕ) (bytes : List ℕ) (high : Result SignedNumber Flaw) → most ≢ 0 → length bytes ≢ 0 → 128 ≤ get_or bytes 0 0
-    → signed_within (most - 1) (drop 1 bytes) ≡ high → signed_within most bytes ≡ read_then high (signed_more (get_or bytes 0 0))
+pub signed_next : (most : ℕ) (bytes : List ℕ) (high : Result SignedNumber Flaw) → most ≢ 0 → length bytes ≢ 0
+    → 128 ≤ get_or bytes 0 0
+    → signed_within (most - 1) (drop 1 bytes) ≡ high → signed_within most bytes
+    ≡ read_then high (signed_more (get_or bytes 0 0))
 signed_next zero bytes high n l e is = absurd (n refl)
 signed_next (suc most) [] high n l e is = absurd (l refl)
 signed_next (suc most) (b ∷ bytes) high n l e is =
@@ -60,5 +64,7 @@ signed_next (suc most) (b ∷ bytes) high n l e is =
     let fewer : suc most - 1 ≡ most = omega arith in
     rw (six, seven) (ap (λ (r : Result SignedNumber Flaw). read_then r (signed_more b)) (rw fewer at is))
 
-pub signed_is : (a b : ℤ) (size : ℕ) → a ≡ b → ◌≡◌ {A = Result SignedNumber Flaw} (Ok (record { value = a; size = size })) (Ok (record { value = b; size = size }))
+pub signed_is : (a b : ℤ) (size : ℕ) → a ≡ b
+    → ◌≡◌ {A = Result SignedNumber Flaw} (Ok (record { value = a; size = size }))
+    (Ok (record { value = b; size = size }))
 signed_is a b size is = rw is refl

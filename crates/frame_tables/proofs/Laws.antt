@@ -21,7 +21,9 @@ rises : (file : List ℕ) (h : Heading)
     → (j k : ℕ) → j ≤ k → k < h.count → (pair_at file h j).first ≤ (pair_at file h k).first
 rises file h ascends j k le inside = elim (cases_lt j k) [
   | inl lt ↦ ascends j k lt inside
-  | inr ge ↦ let same : j ≡ k = omega (arith, le, ge) in subst (λ (n : ℕ). (pair_at file h j).first ≤ (pair_at file h n).first) same (omega arith)
+  | inr ge ↦ let same : j
+      ≡ k = omega (arith, le, ge) in subst (λ (n : ℕ). (pair_at file h j).first ≤ (pair_at file h n).first) same
+      (omega arith)
 ]
 
 not_before : (file : List ℕ) (h : Heading) (address m n : ℕ)
@@ -48,8 +50,10 @@ pub finds_once : (file : List ℕ) (address : ℕ) (x y : Result (Option Entry) 
     → Finds file address x → Finds file address y → x ≡ y
 finds_once file address x y ascends p q =
     let same : p.heading ≡ q.heading = same_heading p.heading q.heading (sym p.is_heading ∙ q.is_heading) in
-    let behind : IsBehind file q.heading address p.count = subst (λ (h : Heading). IsBehind file h address p.count) same p.behind in
-    let count : p.count ≡ q.count = one_count file q.heading address p.count q.count (ascends q.heading q.is_heading) behind q.behind in
+    let behind : IsBehind file q.heading address p.count = subst (λ (h : Heading). IsBehind file h address p.count) same
+    p.behind in
+    let count : p.count
+    ≡ q.count = one_count file q.heading address p.count q.count (ascends q.heading q.is_heading) behind q.behind in
     p.is
     ∙ ap (λ (h : Heading). answer_of file h address p.count) same
     ∙ ap (λ (n : ℕ). answer_of file q.heading address n) count
@@ -84,11 +88,16 @@ pub none_covers : (file : List ℕ) (h : Heading) (address count : ℕ) → head
 none_covers file h address count is behind free tidy = λ entry named.
     let same : named.heading ≡ h = same_heading named.heading h (sym named.is_heading ∙ is) in
     let inside : named.number < h.count = subst (λ (x : Heading). named.number < x.count) same named.within in
-    none_by file h address count (tidy h is) behind free named.number entry inside (ap (λ (x : Heading). entry_of file x named.number) (sym same)
+    none_by file h address count (tidy h is) behind free named.number entry inside
+    (ap (λ (x : Heading). entry_of file x named.number) (sym same)
     ∙ named.is)
 
 covers_is : (address : ℕ) (entry : Entry) → Covers address entry → covers address entry ≡ true
-covers_is address entry c = rw (le-leb entry.begin address c.begins, lt-ltb (address - entry.begin) entry.size (omega (arith, c.begins, c.ends))) refl
+covers_is address entry c = rw (
+  le-leb entry.begin address c.begins,
+  lt-ltb (address - entry.begin) entry.size
+      (omega (arith, c.begins, c.ends)),
+) refl
 
 differs : (entry : Entry) → ◌≡◌ {A = Result (Option Entry) RecordError} (Ok None) (Ok (Some entry)) → ⊥
 differs entry e = cc

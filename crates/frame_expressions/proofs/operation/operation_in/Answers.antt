@@ -7,4 +7,5 @@ pub returns-clause-right : goal.returns-clause-right
 returns-clause-right c = first_of c.args.bytes.now c.read_in.result c.read_in.ensures
 
 pub returns-clause-only : goal.returns-clause-only
-returns-clause-only c = λ text behind o parts spells. c.read_in.ensures ∙ ap operation_in parts ∙ spelled_read text behind o spells
+returns-clause-only c = λ text behind o parts spells. c.read_in.ensures ∙ ap operation_in parts
+    ∙ spelled_read text behind o spells

@@ -24,7 +24,8 @@ returns-in_err-operand c =
     let bytes = c.args.bytes.now in
     let some : length bytes ≢ 0 = grind (arith, nat_tests) in
     let form : form_of (get_or bytes 0 0) ≡ Some c.in-Some.form = sym c.form_of.ensures ∙ c.in-Some.is in
-    let rest = ap (operand_in c.in-Some.form) (sym (take_rest bytes 1)) ∙ sym c.operand_in.ensures.value ∙ c.in_err-operand.was in
+    let rest = ap (operand_in c.in-Some.form) (sym (take_rest bytes 1)) ∙ sym c.operand_in.ensures.value
+    ∙ c.in_err-operand.was in
     let p = err_from_is_err_and c.from_residual.result c.from_residual.ensures.1 in
     p.1 ∙ ap Err p.2 ∙ sym (operand_follows bytes c.in-Some.form (Err c.in_err-operand.field-0.0) some form rest)
 
@@ -33,6 +34,7 @@ returns c =
     let bytes = c.args.bytes.now in
     let some : length bytes ≢ 0 = grind (arith, nat_tests) in
     let form : form_of (get_or bytes 0 0) ≡ Some c.in-Some.form = sym c.form_of.ensures ∙ c.in-Some.is in
-    let rest = ap (operand_in c.in-Some.form) (sym (take_rest bytes 1)) ∙ sym c.operand_in.ensures.value ∙ c.in_ok-operand.was in
+    let rest = ap (operand_in c.in-Some.form) (sym (take_rest bytes 1)) ∙ sym c.operand_in.ensures.value
+    ∙ c.in_ok-operand.was in
     read_is _ _ (1 + c.in_ok-operand.operand.size) c.operation_of.ensures
     ∙ sym (operand_follows bytes c.in-Some.form (Ok c.in_ok-operand.operand) some form rest)

@@ -17,7 +17,8 @@ returns-in-Err c =
     let walk : Walk = record { location = c.args.begin; row = c.new-2.result; depth = 0 } in
     let is = c.frame_at-frame.ensures ∙ ap (frame_of a c.args.address) c.new.ensures in
     refused_first a initial own c.args.begin c.args.address c.args.kept.now c.run.new.kept c.in-Err.error
-    (begins a initial own c.args.begin c.args.address frame walk c.args.kept.now c.run.new.kept (Err c.in-Err.error) is refl c.new-2.ensures refl c.in-Err.ensures.runs)
+    (begins a initial own c.args.begin c.args.address frame walk c.args.kept.now c.run.new.kept (Err c.in-Err.error) is
+    refl c.new-2.ensures refl c.in-Err.ensures.runs)
 
 pub returns-in-Ok-Reached : goal.returns-in-Ok-Reached
 returns-in-Ok-Reached c =
@@ -27,9 +28,12 @@ returns-in-Ok-Reached c =
     let frame = c.frame_at-frame.result in
     let walk : Walk = record { location = c.args.begin; row = c.new-2.result; depth = 0 } in
     let is = c.frame_at-frame.ensures ∙ ap (frame_of a c.args.address) c.new.ensures in
-    let runs = λ (s : State) (holds : Holds c.args.kept.now walk s). subst (λ (f : Flow). Runs frame c.args.kept.now s 0 initial c.run.new.kept (Ok f)) c.in-Ok-Reached.field-0-is (c.in-Ok-Reached.ensures.runs s holds) in
+    let runs = λ (s : State) (holds : Holds c.args.kept.now walk s). subst
+    (λ (f : Flow). Runs frame c.args.kept.now s 0 initial c.run.new.kept (Ok f)) c.in-Ok-Reached.field-0-is
+    (c.in-Ok-Reached.ensures.runs s holds) in
     arrived_first a initial own c.args.begin c.args.address c.args.kept.now c.run.new.kept c.in-Ok-Reached.row
-    (begins a initial own c.args.begin c.args.address frame walk c.args.kept.now c.run.new.kept (Ok (Reached c.in-Ok-Reached.row)) is refl c.new-2.ensures refl runs)
+    (begins a initial own c.args.begin c.args.address frame walk c.args.kept.now c.run.new.kept
+    (Ok (Reached c.in-Ok-Reached.row)) is refl c.new-2.ensures refl runs)
 
 pub returns-in-Ok-Goes : goal.returns-in-Ok-Goes
 returns-in-Ok-Goes c =
@@ -42,8 +46,12 @@ returns-in-Ok-Goes c =
     let later = c.frame_at-later.result in
     let is = c.frame_at-frame.ensures ∙ ap (frame_of a c.args.address) c.new.ensures in
     let later_is = c.frame_at-later.ensures in
-    let runs = λ (s : State) (holds : Holds c.args.kept.now walk s). subst (λ (f : Flow). Runs frame c.args.kept.now s 0 initial c.run.new.kept (Ok f)) c.in-Ok-Goes.field-0-is (c.in-Ok-Goes.ensures.runs s holds) in
+    let runs = λ (s : State) (holds : Holds c.args.kept.now walk s). subst
+    (λ (f : Flow). Runs frame c.args.kept.now s 0 initial c.run.new.kept (Ok f)) c.in-Ok-Goes.field-0-is
+    (c.in-Ok-Goes.ensures.runs s holds) in
     let long : length c.run.new.kept ≡ length c.args.kept.now = search rules in
-    gone_on a initial own c.args.begin c.args.address c.args.kept.now c.run.new.kept c.run-in-Ok-Goes.new.kept later w c.run-in-Ok-Goes.result
-    (begins a initial own c.args.begin c.args.address frame walk c.args.kept.now c.run.new.kept (Ok (Goes w)) is refl c.new-2.ensures refl runs)
+    gone_on a initial own c.args.begin c.args.address c.args.kept.now c.run.new.kept c.run-in-Ok-Goes.new.kept later w
+    c.run-in-Ok-Goes.result
+    (begins a initial own c.args.begin c.args.address frame walk c.args.kept.now c.run.new.kept (Ok (Goes w)) is refl
+    c.new-2.ensures refl runs)
     later_is long c.run-in-Ok-Goes.ensures.runs

@@ -5,4 +5,5 @@ use Rattle.frame_tables.specs.Headers.{is_header}
 use Rattle.frame_tables.proofs.header.header_in.Given as goal
 
 abbrev pub invariant-loop-segment : goal.invariant-loop-segment
-invariant-loop-segment l = find is_header (segments_left l.segment-iterator) ≡ find is_header (segments_left l.fn.segments)
+invariant-loop-segment l = find is_header (segments_left l.segment-iterator)
+    ≡ find is_header (segments_left l.fn.segments)
