@@ -219,16 +219,21 @@ def core_named(words: Sequence[str]) -> str:
     return ""
 
 
+def sections_asked(words: Sequence[str]) -> Sequence[str]:
+    """The flags of sections of which `pysalvage` is asked."""
+    return [it for it in options_of(words) if it in ("--signal", "--registers")]
+
+
 def fault_of_salvage(run: Run, out: bytes) -> Optional[str]:
     """JSON must have what docs/SALVAGE.md says, and a text must be that of its JSON."""
-    limit = frames_asked(run.words)
+    limit, sections = frames_asked(run.words), sections_asked(run.words)
     if any(re.fullmatch(r"--json|-l*j.*", it) for it in options_of(run.words)):
-        tree_of(out, limit)
+        tree_of(out, limit, sections)
         return None
     answer = run.again("-j", *run.words)
     if answer.status != 0 or answer.said:
         return f"status {answer.status} with -j: {answer.said!r}"
-    text = text_of(tree_of(answer.out, limit), core_named(run.words))
+    text = text_of(tree_of(answer.out, limit, sections), core_named(run.words))
     return None if out == text.encode() else "the text isn't that of its JSON"
 
 

@@ -42,7 +42,8 @@ CHOSEN = (
     (rows_merge.rows, "merge: steps: one for each frame"), (rows_triage.rows, "triage: functions that differ"),
     (rows_reach.rows, "reach: a list"), (rows_slim.rows, "slim: where the interpreter is"),
     (rows_slim.slim_rows, "slim: with its values"), (rows_sample.rows, "sample: 7"))
-OF_SALVAGE = ((rows_salvage.rows, "salvage: interpreters: two"), (rows_salvage.rows, "salvage: JSON of what is broken"))
+OF_SALVAGE = ((rows_salvage.rows, "salvage: interpreters: two"), (rows_salvage.rows, "salvage: JSON of what is broken"),
+              (rows_salvage.rows, "salvage: registers"))
 """Which rows are run: of each list the first that answers with a text, and whose name begins so."""
 
 FAULTS = (("malloc", "refused"), ("realloc", "refused"), ("read", "failed"), ("read", "interrupted"), ("read", "short"),

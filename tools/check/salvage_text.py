@@ -3,10 +3,11 @@
 import json
 import re
 import unicodedata
-from typing import Any, Dict, Iterable, List, Optional, Sequence
+from typing import Any, Collection, Dict, Iterable, List, Optional, Sequence
 
 import rooms  # noqa: F401
 from child_cores import Failure
+from section_text import check_sections, register_lines, signal_lines
 from pystacks_tool.ask.salvage import frames_end, locals_fault, threads_end, unreadable, why_of
 
 Tree = Dict[str, Any]
@@ -130,10 +131,11 @@ def check_interpreter(tree: object) -> None:
     need(not is_held or tree["lock"]["kind"] == "read", "a thread that holds a lock which can't be read")
 
 
-def check_told(tree: object, limit: int) -> None:
-    """Fails where something is no JSON of this program, which shows so many frames at each end of a thread."""
+def check_told(tree: object, limit: int, sections: Collection[str] = ()) -> None:
+    """Fails where something is no JSON of this program, which shows so many frames at each end of a thread, and these
+    sections."""
     need_keys(tree, "interpreters", "more", "process", "registers", "signal", "signal_info", "version")
-    need(tree["registers"] is None and tree["signal_info"] is None, "a section that isn't asked for")
+    check_sections(tree, sections)
     need_truths(tree["more"])
     need_texts(tree["version"])
     need(tree["signal"] is None or type(tree["signal"]) is int, "a signal that is no number")
@@ -218,10 +220,12 @@ def text_of(tree: Tree, core: str) -> str:
     """The text of a core of this name."""
     signal, process, interpreters = tree["signal"], tree["process"], tree["interpreters"]
     lines = [] if signal is None else [f"Signal {signal}: {escaped(core, False)}"]
+    lines += signal_lines(tree)
     lines += [] if process is None else [f"Process {process['pid']}: {escaped(process['arguments'], False)}"]
     lines += [f"Python v{tree['version']}", ""]
     lines += [line for it in interpreters for line in lines_of_interpreter(it, len(interpreters) > 1)]
     lines += ["... more than 16 interpreters"] if tree["more"] else []
+    lines += register_lines(tree)
     return "".join(f"{line}\n" for line in lines)
 
 
@@ -230,9 +234,9 @@ def json_of(tree: Tree) -> str:
     return json.dumps(tree, indent=2, ensure_ascii=False, sort_keys=True) + "\n"
 
 
-def tree_of(out: bytes, limit: int) -> Tree:
+def tree_of(out: bytes, limit: int, sections: Collection[str] = ()) -> Tree:
     """What some JSON tells; fails where it isn't as this program writes it."""
     tree = json.loads(out)
-    check_told(tree, limit)
+    check_told(tree, limit, sections)
     need(json_of(tree).encode() == out, "the JSON has another form")
     return tree

@@ -14,6 +14,7 @@ import changes
 import fuzz
 import growths
 import salvage_text
+import section_text
 import told
 import told_salvage
 from child_cores import Failure
@@ -122,8 +123,8 @@ def tree(frames=(), thread=(), interpreter=(), **fields):
            **dict(thread)}
     held = {"address": "0x10", "lock": {"holder": 0, "kind": "read"}, "searched": False, "threads": [one],
             "threads_end": {"kind": "whole"}, **dict(interpreter)}
-    return {"interpreters": [held], "more": False, "process": {"arguments": 'a "b"\n', "pid": 4}, "signal": 11,
-            "version": "3.9.0", **fields}
+    return {"interpreters": [held], "more": False, "process": {"arguments": 'a "b"\n', "pid": 4},
+            "registers": None, "signal": 11, "signal_info": None, "version": "3.9.0", **fields}
 
 
 SALVAGED = "Signal 11: core\nProcess 4: a \"b\"\\u{a}\nPython v3.9.0\n\nThread 7 (crashed)\n    f (a.py:3)\n"
@@ -152,6 +153,27 @@ class Salvage(unittest.TestCase):
             self.assertEqual(self.fault(tree(), wrong), "the text isn't that of its JSON")
         script = f"case \"$*\" in *-j*) exit 1;; esac; cat <<'END'\n{SALVAGED}END\n"
         self.assertIn("with -j", Fuzz().fault(script, SALVAGE, command="pysalvage"))
+
+    def test_sections(self):
+        info = {"address": "0x10", "code": 1, "kind": "fault", "meaning": "address not mapped", "name": "SIGSEGV", "signal": 11}
+        held = dict.fromkeys(section_text.X86_64, "0x0")
+        rows = [{"python": {"kind": "thread", "thread_id": 9}, "registers": held, "system_id": 7},
+                {"python": {"kind": "not told"}, "registers": None, "system_id": 8}]
+        cells = [f" {name:>8} {0:016x}" for name in section_text.X86_64]
+        lines = ["Thread 7 (Python's 0x9)", *("   " + "".join(cells[at : at + 4]) for at in range(0, 27, 4)),
+                 "Thread 8 (whose is not told): no registers"]
+        told, both = tree(signal_info=info, registers=rows), ["--signal", "--registers"]
+        text = SALVAGED.replace("core\n", "core\nSIGSEGV at 0x10: address not mapped\n", 1) + "\n".join(lines) + "\n"
+        self.assertIsNone(self.fault(told, text, both))
+        self.assertEqual(self.fault(told, text.replace("not mapped", "mapped"), both), "the text isn't that of its JSON")
+        self.assertEqual(self.fault(told, text.replace("r15 0", "r15 1"), both), "the text isn't that of its JSON")
+        for wrong, options in (
+            (told, ["--signal"]), (tree(), both), (tree(signal_info={"kind": "none"}, registers=[]), both),
+            (tree(signal_info={**info, "address": 16}, registers=[]), both), (tree(signal_info={**info, "pid": 1}, registers=[]), both),
+            (tree(registers=[{**rows[0], "registers": {"rip": "0x0"}}]), ["--registers"]),
+            (tree(registers=[{**rows[0], "python": {"kind": "thread"}}]), ["--registers"]),
+        ):
+            self.assertIn("isn't read", self.fault(wrong, options=options))
 
     def test_forms(self):
         right = salvage_text.json_of(tree())

@@ -1,0 +1,114 @@
+"""What the sections of `pysalvage` have to have in its JSON, and in its text, by docs/SALVAGE.md."""
+
+import re
+from typing import Any, Collection, Dict, List
+
+import rooms  # noqa: F401
+from child_cores import Failure
+from pystacks_tool.ask.salvage import signal_told
+
+Tree = Dict[str, Any]
+
+X86_64 = (
+    "r15 r14 r13 r12 rbp rbx r11 r10 r9 r8 rax rcx rdx rsi rdi orig_rax rip cs eflags rsp ss fs_base gs_base ds es fs gs"
+).split()
+AARCH64 = [f"x{number}" for number in range(31)] + ["sp", "pc", "pstate"]
+"""The registers of a status record, in its order."""
+
+NAMES = (
+    "HUP INT QUIT ILL TRAP ABRT BUS FPE KILL USR1 SEGV USR2 PIPE ALRM TERM STKFLT CHLD CONT STOP TSTP TTIN TTOU URG XCPU XFSZ "
+    "VTALRM PROF WINCH IO PWR SYS"
+).split()
+"""Linux' signals from 1 on."""
+
+TOLD = {
+    "fault": {"address", "meaning"}, "no address": set(), "system": set(), "process": {"pid", "uid"}, "itself": {"pid", "uid"},
+    "call": {"call", "call_address"}, "code": set(),
+}
+UNTOLD = {
+    "no signal": "No signal is told by the first thread's record", "no note": "No note tells how the signal came about",
+    "short note": "The note of the signal is too short",
+}
+"""The kinds of how a signal came about, each with its values; and of why that is not told, each with its line."""
+
+
+def check_keys(tree: Tree, *keys: str) -> None:
+    """Fails where an object hasn't these keys."""
+    if set(tree) != set(keys):
+        raise Failure(f"{tree!r} where an object of {', '.join(keys)} is wanted")
+
+
+def check_value(value: object) -> None:
+    """Fails where something is no number in hexadecimal digits."""
+    if not isinstance(value, str) or not re.fullmatch(r"0x(0|[1-9a-f][0-9a-f]{0,15})", value):
+        raise Failure(f"{value!r} is no number in hexadecimal digits")
+
+
+def check_signal(tree: Tree) -> None:
+    """Fails where an object doesn't say how a signal came about, or why that is not told."""
+    kind = tree["kind"]
+    if kind in TOLD:
+        check_keys(tree, "code", "kind", "name", "signal", *TOLD[kind])
+        for key in {"address", "call_address"} & set(tree):
+            check_value(tree[key])
+    elif kind != "another signal":
+        check_keys(tree, "kind")
+        if kind not in UNTOLD:
+            raise Failure(f"{kind!r} is no kind of a signal")
+    else:
+        check_keys(tree, "kind", "signal")
+
+
+def check_thread(tree: Tree) -> None:
+    """Fails where an object isn't a thread with its registers."""
+    check_keys(tree, "python", "registers", "system_id")
+    whose, registers = tree["python"], tree["registers"]
+    check_keys(whose, "kind", *["thread_id"] * (whose["kind"] == "thread"))
+    if whose["kind"] not in ("thread", "none", "not told"):
+        raise Failure(f"{whose!r} says of no thread whose it is")
+    if registers is not None:
+        if sorted(registers) not in (sorted(X86_64), sorted(AARCH64)):
+            raise Failure(f"{sorted(registers)} are the registers of no machine")
+        for value in registers.values():
+            check_value(value)
+
+
+def check_sections(tree: Tree, asked: Collection[str]) -> None:
+    """Fails where a section isn't there by its flag, or has not what it has to have."""
+    for key, flag in (("signal_info", "--signal"), ("registers", "--registers")):
+        if (tree[key] is not None) != (flag in asked):
+            raise Failure(f"the section {key} is {tree[key]!r}, where {asked!r} are asked for")
+    if tree["signal_info"] is not None:
+        check_signal(tree["signal_info"])
+    for it in tree["registers"] or ():
+        check_thread(it)
+
+
+def signal_lines(tree: Tree) -> List[str]:
+    """The line of how the signal came about, where it is asked for."""
+    info = tree["signal_info"]
+    if info is None:
+        return []
+    if info["kind"] == "another signal":
+        number = info["signal"]
+        named = f"SIG{NAMES[number - 1]}" if 0 < number <= len(NAMES) else f"signal {number}"
+        return [f"The note is of {named}, another signal"]
+    return [UNTOLD.get(info["kind"]) or signal_told(info)]
+
+
+def whose_text(tree: Tree) -> str:
+    """Whose thread it is."""
+    texts = {"none": "none of Python's", "not told": "whose is not told"}
+    return texts.get(tree["kind"]) or f"Python's 0x{tree['thread_id']:X}"
+
+
+def register_lines(tree: Tree) -> List[str]:
+    """The lines of the threads with their registers, where they are asked for."""
+    lines = []
+    for it in tree["registers"] or ():
+        held = it["registers"]
+        lines.append(f"Thread {it['system_id']} ({whose_text(it['python'])}){': no registers' if held is None else ''}")
+        names = [] if held is None else X86_64 if "rip" in held else AARCH64
+        cells = [f" {name:>8} {int(held[name], 16):016x}" for name in names]
+        lines += ["   " + "".join(cells[at : at + 4]) for at in range(0, len(cells), 4)]
+    return lines
