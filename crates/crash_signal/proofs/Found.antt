@@ -1,11 +1,7 @@
 -- What is found in a list, and what is found in what its elements say.
 use Rattle.std.proofs.Common.{◌≡◌, ℕ, ℤ, Bool, true, false, cond, List, [], ◌∷◌, Option, Some, map, refl}
-use Rattle.std.specs.Prelude.{find, nat_eq, option_map}
+use Rattle.std.specs.Prelude.{find, option_map}
 use Rattle.std.specs.Ordering.{int_eq}
-use Rattle.elf64_core.specs.Notes.{Noted, noted}
-use Rattle.elf64_core.specs.declared.note.Note.{Note}
-use Rattle.image_memory.specs.Notes.{is_of_kind}
-use Rattle.crash_signal.specs.Signals.{first_desc}
 use Rattle.crash_signal.specs.Tables.{Word, text_at, word_of}
 use Rattle.crash_signal.specs.declared.tables.Word as code
 
@@ -24,8 +20,3 @@ among view field test (x ∷ xs) =
 pub words : (xs : List code.Word) (number : ℤ) → text_at (map word_of xs) number
     ≡ option_map (λ (w : code.Word). w.text.now) (find (λ w. int_eq w.number number) xs)
 words xs number = among word_of (λ (w : Word). w.text) (λ w. int_eq w.number number) xs
-
-pub descs : (xs : List Note) (kind : ℕ) → first_desc kind (map noted xs)
-    ≡ option_map (λ (n : Note). n.desc.now) (find (λ n. nat_eq n.kind kind) xs)
-unfolding first_desc
-descs xs kind = among noted (λ (n : Noted). n.desc) (is_of_kind kind) xs

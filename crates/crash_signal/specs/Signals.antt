@@ -2,12 +2,12 @@
 -- (include/uapi/asm-generic/siginfo.h), which is laid out alike on x86-64 and aarch64; what its code makes of the rest
 -- is `siginfo_layout` of kernel/signal.c. That a record is short where it hasn't all that is read of it, and that one
 -- of another signal than the first status record's tells nothing, are this project's own rules.
-use Rattle.std.specs.Prelude.{ℕ, ℤ, pos, negsuc, nat_lt, ◌&&◌, ◌||◌, Bool, false, if◌then◌else◌, List, length, find}
-use Rattle.std.specs.Prelude.{Option, Some, None, option_and_then, option_map, Result, Ok, Err}
+use Rattle.std.specs.Prelude.{ℕ, ℤ, pos, negsuc, nat_lt, ◌&&◌, ◌||◌, Bool, false, if◌then◌else◌, List, length}
+use Rattle.std.specs.Prelude.{Option, Some, None, option_and_then, Result, Ok, Err}
 use Rattle.std.specs.Ordering.{int_eq, int_cmp, is_lt}
 use Rattle.elf64_core.specs.Fields.{u32_in, u64_in}
 use Rattle.elf64_core.specs.Notes.{Noted}
-use Rattle.image_memory.specs.Notes.{cursig_place, i16_in, i32_in, is_of_kind, status_kind}
+use Rattle.image_memory.specs.Notes.{cursig_place, desc_of, i16_in, i32_in, status_kind}
 use Rattle.crash_signal.specs.declared.told.Cause.{Cause}
 use Rattle.crash_signal.specs.declared.told.Cause.TheVariants.{Itself, Process, Fault, NoAddress, System, Call, Code}
 use Rattle.crash_signal.specs.declared.told.CrashSignal.{CrashSignal}
@@ -120,13 +120,9 @@ abbrev pub signal_of_status : List ℕ → Option ℤ
 signal_of_status status =
     if nat_lt (length status) 14 then None else signal_or_none (i16_in status cursig_place)
 
--- the descriptor of the first note of a type
-unfoldable pub first_desc : ℕ → List Noted → Option (List ℕ)
-first_desc kind notes = option_map (λ (note : Noted). note.desc) (find (is_of_kind kind) notes)
-
 -- the signal of the first status record
 abbrev pub ended_by : List Noted → Option ℤ
-ended_by notes = option_and_then signal_of_status (first_desc status_kind notes)
+ended_by notes = option_and_then signal_of_status (desc_of status_kind notes)
 
 abbrev pub told_of : Option ℤ → Option ℤ → Option (List ℕ) → Result CrashSignal Untold
 told_of own None info = Err NoSignal
@@ -136,4 +132,4 @@ told_of own (Some signal) (Some info) = info_told own signal info
 -- how the signal came about that ended a process of this id, by the notes of its core: the first status record's
 -- signal, and the first record of a signal
 abbrev pub signal_told : Option ℤ → List Noted → Result CrashSignal Untold
-signal_told own notes = told_of own (ended_by notes) (first_desc siginfo_kind notes)
+signal_told own notes = told_of own (ended_by notes) (desc_of siginfo_kind notes)

@@ -1,18 +1,14 @@
 //! A signal's record among the notes of a core.
-ghost use Rattle.std.specs.Prelude.{◌≡◌, ◌≤◌, find, length, map, nat_eq, option_copied};
+ghost use Rattle.std.specs.Prelude.{◌≡◌, ◌≤◌, length, map};
 ghost use Rattle.elf64_core.specs.Notes.{noted};
-ghost use Rattle.crash_signal.specs.Signals.{call_in, cause_in, ended_by, fault_in, first_desc, has_address, info_told};
+ghost use Rattle.crash_signal.specs.Signals.{call_in, cause_in, ended_by, fault_in, has_address, info_told};
 ghost use Rattle.crash_signal.specs.Signals.{is_access, is_call, is_fault, is_own, is_sent, is_system, sender_in};
 ghost use Rattle.crash_signal.specs.Signals.{sender_of, signal_of_status, signal_or_none, signal_told, system_cause};
 ghost use Rattle.crash_signal.specs.Signals.{told_in};
 
 use crate::told::{Cause, CrashSignal, Untold};
 use elf64_core::{Note, u16_in, u32_in, u64_in};
-
-/// The types of a status record and of a signal's record (`NT_SIGINFO`).
-const STATUS: u32 = 1;
-
-const SIGINFO: u32 = 0x5349_4749;
+use image_memory::{NT_PRSTATUS, NT_SIGINFO, first_desc};
 
 /// Where the signal stands in a status record (`pr_cursig` of Linux' `elf_prstatus`), of 2 bytes; and where it ends.
 const PR_CURSIG: usize = 12;
@@ -233,28 +229,11 @@ fn signal_of_status(status: &[u8]) -> Option<i32>
     signal_or_none(i32::from(u16_in(status, PR_CURSIG).cast_signed()))
 }
 
-/// The first note of a type.
-fn first_of<'m, 'a>(kind: u32, notes: &'m [Note<'a>]) -> Option<&'m Note<'a>>
-    ensures { option_copied result ≡ find (λ note. nat_eq note.kind kind) notes.now }
-{
-    notes.iter().find(|note| note.kind == kind)
-}
-
-/// The descriptor of the first note of a type.
-fn first_desc<'a>(kind: u32, notes: &[Note<'a>]) -> Option<&'a [u8]>
-    ensures { option_copied result ≡ first_desc kind (map noted notes.now) }
-{
-    match first_of(kind, notes) {
-        Some(note) => Some(note.desc),
-        None => None,
-    }
-}
-
 /// The signal of the first status record, where it has one.
 fn ended_by(notes: &[Note<'_>]) -> Option<i32>
     ensures { result ≡ ended_by (map noted notes.now) }
 {
-    match first_desc(STATUS, notes) {
+    match first_desc(notes, NT_PRSTATUS) {
         Some(status) => signal_of_status(status),
         None => None,
     }
@@ -276,7 +255,7 @@ pub fn read_signal(own: Option<i32>, notes: &[Note<'_>]) -> Result<CrashSignal, 
     let Some(signal) = ended_by(notes) else {
         return Err(Untold::NoSignal);
     };
-    match first_desc(SIGINFO, notes) {
+    match first_desc(notes, NT_SIGINFO) {
         Some(info) => info_told(own, signal, info),
         None => Err(Untold::NoNote),
     }
