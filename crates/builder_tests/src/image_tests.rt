@@ -5,9 +5,8 @@ use elf64_core::{Machine, Text};
 use image_builder::{
     BuildError, Built, Program, ProgramFrame, ProgramThread, build, has_room, has_word_room,
 };
-use py_fields::Layout;
+use py_fields::{Layout, Version};
 use py_lines::LineRange;
-use py_version::Version;
 use std::alloc::Global;
 use std::test::Fail;
 

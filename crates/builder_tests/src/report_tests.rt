@@ -3,10 +3,9 @@ use elf64_core::{Machine, Text};
 use program_report::{
     Program, ProgramFrame, ProgramLocal, ProgramThread, ProgramValue, report_of_program,
 };
-use py_fields::Layout;
+use py_fields::{Layout, Version};
 use py_lines::LineRange;
 use py_stacks::{Config, Frame, StackTrace};
-use py_version::Version;
 use std::alloc::Global;
 use std::test::Fail;
 

@@ -5,8 +5,8 @@ use Rattle.std.specs.List.{concat}
 use Rattle.elf64_core.specs.Header.{machine_of}
 use Rattle.image_memory.specs.Images.{Pushed}
 use Rattle.py_fields.specs.declared.layout.Layout.{Layout}
-use Rattle.py_version.specs.Version.{version_text}
-use Rattle.py_version.specs.declared.version.Version.{Version}
+use Rattle.py_fields.specs.Version.{version_text}
+use Rattle.py_fields.specs.declared.version.Version.{Version}
 use Rattle.py_stacks.specs.Asking.{default_config}
 use Rattle.py_stacks.specs.declared.config.Config.{Config}
 use Rattle.py_stacks.specs.declared.trace.Addresses.{Addresses}

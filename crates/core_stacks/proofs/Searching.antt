@@ -11,7 +11,7 @@ use Rattle.process_memory.specs.Memory.{Memory, Region, byte_at}
 use Rattle.process_memory.specs.Seen.{ReadingOf, Seen}
 use Rattle.process_memory.proofs.Reading.{reading_gives, reading_here, reading_then, reads_within}
 use Rattle.py_fields.specs.declared.layout.Layout.{Layout}
-use Rattle.py_version.specs.declared.version.Version.{Version}
+use Rattle.py_fields.specs.declared.version.Version.{Version}
 use Rattle.py_stacks.specs.Interpreter.{threads_head}
 use Rattle.py_stacks.proofs.Candidates.{test_most}
 use Rattle.py_process.specs.Candidates.{candidate_cost, head_lies, search_bound, walk_bound}

@@ -7,7 +7,7 @@ use Rattle.image_memory.specs.Images.{Pushed}
 use Rattle.image_memory.specs.declared.maps.CoreMapRange.{CoreMapRange}
 use Rattle.process_memory.specs.Memory.{Memory}
 use Rattle.py_fields.specs.declared.layout.Layout.{Layout}
-use Rattle.py_version.specs.declared.version.Version.{Version}
+use Rattle.py_fields.specs.declared.version.Version.{Version}
 use Rattle.py_process.specs.Candidates.{IsFirstOf, IsNoneOf, NotFoundWhere, candidates_of}
 use Rattle.py_process.specs.Causes.{cause_of_search, cause_of_version}
 use Rattle.py_process.specs.Facts.{Known}

@@ -11,7 +11,7 @@ use Rattle.process_memory.specs.Faults.{IsFirst}
 use Rattle.process_memory.proofs.Founds.{ok_same}
 use Rattle.py_fields.specs.declared.layout.Layout.{Layout}
 use Rattle.py_fields.specs.Sound.{IsSound}
-use Rattle.py_version.specs.declared.version.Version.{Version}
+use Rattle.py_fields.specs.declared.version.Version.{Version}
 use Rattle.py_layout.specs.Lists.{AreSound}
 use Rattle.py_stacks.specs.Asking.{nothing}
 use Rattle.py_stacks.specs.StackError.{stack_fault}

@@ -10,7 +10,7 @@ use Rattle.process_memory.specs.Memory.Fault.{ChainLimit as ManyMembers}
 use Rattle.image_memory.specs.Pieces.{memory_of}
 use Rattle.process_memory.specs.Walk.{first_fault}
 use Rattle.py_fields.specs.declared.layout.Layout.{Layout}
-use Rattle.py_version.specs.declared.version.Version.{Version}
+use Rattle.py_fields.specs.declared.version.Version.{Version}
 use Rattle.py_stacks.specs.declared.trace.Addresses.{Addresses}
 use Rattle.py_stacks.specs.declared.trace.StackTrace.{StackTrace}
 use Rattle.py_stacks.specs.Asking.{nothing}

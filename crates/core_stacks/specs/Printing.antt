@@ -1,7 +1,7 @@
 -- The printed text of the stacks of a core.
 use Rattle.std.specs.Prelude.{◌≡◌, ℕ, ℤ, Bool, true, false, List, Option, Result, Ok, Err}
 use Rattle.outside.specs.Streams.{SinkSeen}
-use Rattle.py_version.specs.declared.version.Version.{Version}
+use Rattle.py_fields.specs.declared.version.Version.{Version}
 use Rattle.py_stacks.specs.declared.trace.StackTrace.{StackTrace}
 use Rattle.py_process.specs.Reports.{NotesTell}
 use Rattle.core_texts.specs.Says.{IsAdded, IsCutOff}

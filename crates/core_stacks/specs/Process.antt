@@ -8,7 +8,7 @@ use Rattle.image_memory.specs.MapTables.{tests}
 use Rattle.image_memory.specs.Maps.{in_maps}
 use Rattle.image_memory.specs.declared.maps.CoreMapRange.{CoreMapRange}
 use Rattle.py_fields.specs.declared.layout.Layout.{Layout}
-use Rattle.py_version.specs.declared.version.Version.{Version}
+use Rattle.py_fields.specs.declared.version.Version.{Version}
 use Rattle.py_process.specs.Facts.{Known, known_of}
 use Rattle.py_process.specs.Findings.{ProcessThen}
 use Rattle.py_process.specs.Reports.{CoreSays, Dumped, NotesTell, memory_in}

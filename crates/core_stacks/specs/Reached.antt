@@ -7,7 +7,7 @@ use Rattle.image_memory.specs.declared.maps.CoreMapRange.{CoreMapRange}
 use Rattle.process_memory.specs.Memory.{Memory, byte_at}
 use Rattle.process_memory.specs.Seen.{ReadingOf, Seen}
 use Rattle.py_fields.specs.declared.layout.Layout.{Layout}
-use Rattle.py_version.specs.declared.version.Version.{Version}
+use Rattle.py_fields.specs.declared.version.Version.{Version}
 use Rattle.py_stacks.specs.declared.config.Config.{Config}
 use Rattle.py_stacks.specs.Asking.{asked_of}
 use Rattle.py_stacks.specs.Met.{locals_walked, members_walked, threads_walked}

@@ -7,7 +7,7 @@ use Rattle.image_memory.specs.Maps.{AreMaps, in_maps}
 use Rattle.image_memory.specs.declared.map_table.MapTable.{MapTable}
 use Rattle.image_memory.specs.declared.maps.CoreMapRange.{CoreMapRange}
 use Rattle.py_fields.specs.declared.layout.Layout.{Layout}
-use Rattle.py_version.specs.declared.version.Version.{Version}
+use Rattle.py_fields.specs.declared.version.Version.{Version}
 use Rattle.py_process.specs.Findings.{Finding, FindingIs}
 use Rattle.py_process.specs.Reports.{Dumped, IsDumped, memory_in}
 use Rattle.py_process.specs.Facts.{Facts, Known, known_of}

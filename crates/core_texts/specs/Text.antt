@@ -4,8 +4,8 @@ use Rattle.std.specs.Prelude.{reverse, Option, Some, None, unwrap_or, Vec, codes
 use Rattle.std.specs.Fmt.{signed_decimal}
 use Rattle.std.specs.Global.{Global}
 use Rattle.std.specs.List.{concat, list_any}
-use Rattle.py_version.specs.Version.{version_text}
-use Rattle.py_version.specs.declared.version.Version.{Version}
+use Rattle.py_fields.specs.Version.{version_text}
+use Rattle.py_fields.specs.declared.version.Version.{Version}
 use Rattle.py_stacks.specs.Shown.{id_text, status_text}
 use Rattle.py_stacks.specs.declared.trace.Frame.{Frame}
 use Rattle.py_stacks.specs.declared.trace.LocalVariable.{LocalVariable}

@@ -1,6 +1,6 @@
 -- What the program's own words stand for.
-use Rattle.py_version.specs.Version.{release}
-use Rattle.py_version.specs.declared.version.Version.{Version}
+use Rattle.py_fields.specs.Version.{release}
+use Rattle.py_fields.specs.declared.version.Version.{Version}
 use Rattle.core_words.specs.Dump.{Dump}
 use Rattle.core_words.specs.Words as words
 use Rattle.core_words.specs.declared.numbers.Release.{Release}

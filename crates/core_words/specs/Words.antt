@@ -6,8 +6,8 @@ use Rattle.std.specs.List.{list_all, position_or_len, starts_with, before_first,
 use Rattle.std.specs.Char.{digit_value}
 use Rattle.std.specs.Str.Parse.{digits_value}
 use Rattle.std.specs.Global.{Global}
-use Rattle.py_version.specs.Version.{is_dot, release}
-use Rattle.py_version.specs.declared.version.Version.{Version}
+use Rattle.py_fields.specs.Version.{is_dot, release}
+use Rattle.py_fields.specs.declared.version.Version.{Version}
 use Rattle.py_stacks.specs.declared.trace.Addresses.{Addresses}
 use Rattle.core_words.specs.Dump.{Dump, dump_words, images_of, is_image}
 

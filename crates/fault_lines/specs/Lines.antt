@@ -3,7 +3,7 @@ use Rattle.std.specs.Prelude.{ℕ, ◌++◌, List, [], ◌∷◌, codes, decimal
 use Rattle.std.specs.Fmt.{signed_decimal}
 use Rattle.outside.specs.declared.faults.FileFault.{FileFault}
 use Rattle.outside.specs.declared.faults.FileFault.TheVariants as fault
-use Rattle.py_version.specs.Version.{version_text}
+use Rattle.py_fields.specs.Version.{version_text}
 use Rattle.py_layout.specs.declared.error.LayoutError.{LayoutError}
 use Rattle.py_layout.specs.declared.error.LayoutError.TheVariants as layout
 use Rattle.py_process.specs.declared.core_error.CoreError.{CoreError}

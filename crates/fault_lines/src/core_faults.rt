@@ -1,14 +1,14 @@
 //! The parts of the line of a core that gives no stacks.
 ghost use Rattle.std.specs.Prelude.{◌≡◌, ◌++◌, codes};
 ghost use Rattle.std.specs.List.{concat};
-ghost use Rattle.py_version.specs.Version.{version_text};
+ghost use Rattle.py_fields.specs.Version.{version_text};
 ghost use Rattle.core_texts.specs.Parts.{said};
 ghost use Rattle.fault_lines.specs.Lines.{core_parts, range_parts};
 
 use crate::file_faults::{named_parts, text_part};
 use core_texts::{Part, Parts, parts};
 use py_process::CoreError;
-use py_version::Version;
+use py_fields::Version;
 
 /// What so many bytes at an address are.
 fn range_parts<'a>(text: &'a str, addr: u64, len: u64) -> Parts<'a>

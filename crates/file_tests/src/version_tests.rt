@@ -1,6 +1,6 @@
 //! Texts that spell a version and texts that don't, and the borders of both tables.
 use elf64_core::{Machine, Text};
-use py_version::{ScanError, Version, get_interp_head_offset, get_tstate_current_offset};
+use py_fields::{ScanError, Version, get_interp_head_offset, get_tstate_current_offset};
 use std::alloc::{AllocError, Global};
 use std::test::Fail;
 

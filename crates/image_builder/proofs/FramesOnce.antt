@@ -6,7 +6,7 @@ use Rattle.image_memory.specs.Maps.{in_maps}
 use Rattle.process_memory.specs.Memory.{Memory}
 use Rattle.process_memory.proofs.Founds.{ok_same}
 use Rattle.py_fields.specs.declared.layout.Layout.{Layout}
-use Rattle.py_version.specs.declared.version.Version.{Version}
+use Rattle.py_fields.specs.declared.version.Version.{Version}
 use Rattle.py_stacks.specs.Asking.{nothing}
 use Rattle.py_stacks.specs.Frames.{Call}
 use Rattle.py_stacks.specs.Threads.{AreTraces, Trace}

@@ -12,7 +12,7 @@ use Rattle.image_memory.specs.Notes.{AreStatuses, IsProcess}
 use Rattle.process_memory.specs.Memory.{Memory}
 use Rattle.py_fields.specs.Sound.{Covers}
 use Rattle.py_fields.specs.declared.layout.Layout.{Layout}
-use Rattle.py_version.specs.declared.version.Version.{Version}
+use Rattle.py_fields.specs.declared.version.Version.{Version}
 use Rattle.py_stacks.specs.Asking.{asked_of}
 use Rattle.py_stacks.specs.StacksOver.{AreStacksOver}
 use Rattle.py_stacks.specs.Threads.{Trace}

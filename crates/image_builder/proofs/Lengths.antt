@@ -16,7 +16,7 @@ use Rattle.image_builder.specs.ImageFiles.{image_symbols, no_section, section_he
 use Rattle.image_builder.specs.ImageFiles.{symbols_section}
 use Rattle.py_fields.specs.Sound.{IsSound}
 use Rattle.py_fields.specs.declared.layout.Layout.{Layout}
-use Rattle.py_version.specs.declared.version.Version.{Version}
+use Rattle.py_fields.specs.declared.version.Version.{Version}
 use Rattle.object_builder.proofs.Objects.{length-inside}
 use Rattle.image_builder.specs.Records.{filled, record_of}
 use Rattle.image_builder.specs.RuntimeWords.{runtime_words, words_writes}

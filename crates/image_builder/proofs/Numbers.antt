@@ -3,7 +3,7 @@ use Rattle.std.proofs.Common.{◌≡◌, ◌∙◌, ℕ, ◌+◌, ◌*◌, ◌/�
 use Rattle.std.specs.Prelude.{codes, replicate, ◌++◌}
 use Rattle.std.specs.Fmt.{decimal}
 use Rattle.std.specs.Option.{unwrap_or}
-use Rattle.py_version.specs.declared.version.Version.{Version}
+use Rattle.py_fields.specs.declared.version.Version.{Version}
 use Rattle.py_process.specs.Sources.{flags_of, version_of_number}
 use Rattle.image_builder.specs.Covered.{IsNumberOf, IsNumbered, IsPreFinal, IsReleaseByte, number_of, plain_flags}
 use Rattle.image_builder.specs.Covered.{told_version}

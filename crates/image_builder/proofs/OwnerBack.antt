@@ -3,8 +3,8 @@ use Rattle.std.proofs.Common.{◌≡◌, ◌≢◌, ℕ, ◌+◌, ◌<◌, ◌^�
 use Rattle.std.specs.Prelude.{Some, None, Option, Ok, IsSome, map}
 use Rattle.elf64_core.specs.declared.header.Machine.{Machine}
 use Rattle.process_memory.specs.Memory.{Memory, word_at}
-use Rattle.py_version.specs.Offsets.{tstate_current_offset}
-use Rattle.py_version.specs.declared.version.Version.{Version}
+use Rattle.py_fields.specs.Offsets.{tstate_current_offset}
+use Rattle.py_fields.specs.declared.version.Version.{Version}
 use Rattle.py_fields.specs.Sound.{IsSound}
 use Rattle.py_fields.specs.declared.layout.Lock.{Lock}
 use Rattle.py_fields.specs.declared.layout.Lock.TheVariants.{Symbol, Runtime, Gil}

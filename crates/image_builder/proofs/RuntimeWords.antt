@@ -15,9 +15,9 @@ use Rattle.py_fields.specs.declared.layout.Layout.{Layout}
 use Rattle.object_builder.specs.Objects.{optional_write, write_place}
 use Rattle.object_builder.specs.Objects.Value.{U64}
 use Rattle.image_builder.specs.RuntimeWords.{HasWordRoom, head_field, head_place, lock_word_place, words_writes}
-use Rattle.py_version.specs.Offsets.{by_minor, current_of_3, head_of_3, interp_head_offset, is_cinder}
-use Rattle.py_version.specs.Offsets.{tstate_current_offset}
-use Rattle.py_version.specs.declared.version.Version.{Version}
+use Rattle.py_fields.specs.Offsets.{by_minor, current_of_3, head_of_3, interp_head_offset, is_cinder}
+use Rattle.py_fields.specs.Offsets.{tstate_current_offset}
+use Rattle.py_fields.specs.declared.version.Version.{Version}
 
 -- ---- the two tables
 

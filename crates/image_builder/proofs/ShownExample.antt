@@ -5,7 +5,7 @@ use Rattle.py_fields.specs.declared.layout.Layout.{Layout}
 use Rattle.py_lines.specs.Lines.{line_among}
 use Rattle.py_stacks.specs.Asking.{default_config}
 use Rattle.py_stacks.specs.Frames.{Call}
-use Rattle.py_version.specs.declared.version.Version.{Version}
+use Rattle.py_fields.specs.declared.version.Version.{Version}
 use Rattle.memory_builder.specs.Program.{Frame, Program}
 use Rattle.image_builder.specs.Shown.{shown_report}
 

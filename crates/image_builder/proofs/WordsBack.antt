@@ -10,8 +10,8 @@ use Rattle.elf64_core.specs.Fields.{u64_in}
 use Rattle.elf64_core.specs.declared.header.Machine.{Machine}
 use Rattle.process_memory.specs.Memory.{Memory, Found, record_at, word_at}
 use Rattle.process_memory.specs.Memory.Fault.{Missing}
-use Rattle.py_version.specs.Offsets.{tstate_current_offset}
-use Rattle.py_version.specs.declared.version.Version.{Version}
+use Rattle.py_fields.specs.Offsets.{tstate_current_offset}
+use Rattle.py_fields.specs.declared.version.Version.{Version}
 use Rattle.py_fields.specs.Places.{IsGroup, offsets_places}
 use Rattle.py_fields.specs.Sound.{IsSound, IsRecord}
 use Rattle.py_fields.proofs.Fields.{some_is}

@@ -4,8 +4,8 @@ use Rattle.elf64_core.specs.declared.header.Machine.{Machine}
 use Rattle.py_fields.specs.declared.layout.Layout.{Layout}
 use Rattle.py_fields.specs.declared.layout.Lock.{Lock}
 use Rattle.py_fields.specs.declared.layout.Lock.TheVariants.{Symbol, Runtime, Gil}
-use Rattle.py_version.specs.Offsets.{tstate_current_offset}
-use Rattle.py_version.specs.declared.version.Version.{Version}
+use Rattle.py_fields.specs.Offsets.{tstate_current_offset}
+use Rattle.py_fields.specs.declared.version.Version.{Version}
 use Rattle.memory_builder.specs.Laid.{gil_place, laid_program, owner_place}
 use Rattle.memory_builder.specs.Program.{Program}
 use Rattle.image_builder.specs.CoreFiles.{core_file}

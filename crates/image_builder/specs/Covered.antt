@@ -8,8 +8,8 @@ use Rattle.std.specs.Fmt.{decimal}
 use Rattle.std.specs.Option.{unwrap_or}
 use Rattle.std.specs.Int.{is_in_range}
 use Rattle.elf64_core.specs.declared.header.Machine.{Machine}
-use Rattle.py_version.specs.declared.version.Version.{Version}
-use Rattle.py_version.specs.Offsets.{tstate_current_offset}
+use Rattle.py_fields.specs.declared.version.Version.{Version}
+use Rattle.py_fields.specs.Offsets.{tstate_current_offset}
 use Rattle.py_fields.specs.declared.layout.Layout.{Layout}
 use Rattle.py_fields.specs.declared.layout.Lock.TheVariants.{Runtime}
 use Rattle.py_fields.specs.Sound.{Covers}

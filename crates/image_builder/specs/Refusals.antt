@@ -1,7 +1,7 @@
 -- Why no core and image are written of a program.
 use Rattle.std.specs.Prelude.{◌≡◌, ℕ, ◌+◌, ◌<◌, ◌≤◌, ◌^◌}
 use Rattle.elf64_core.specs.declared.header.Machine.{Machine}
-use Rattle.py_version.specs.declared.version.Version.{Version}
+use Rattle.py_fields.specs.declared.version.Version.{Version}
 use Rattle.py_fields.specs.declared.layout.Layout.{Layout}
 use Rattle.memory_builder.specs.Program.{Program}
 use Rattle.memory_builder.specs.Sizes.{capped, program_size}

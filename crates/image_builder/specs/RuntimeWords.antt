@@ -1,8 +1,8 @@
 -- The words of the second segment, the bss of the image: by them the interpreter is found, and who holds the lock.
 use Rattle.std.specs.Prelude.{ℕ, Option, Some, None, List, [], ◌∷◌, option_map, IfSome}
 use Rattle.elf64_core.specs.declared.header.Machine.{Machine}
-use Rattle.py_version.specs.Offsets.{interp_head_offset, tstate_current_offset}
-use Rattle.py_version.specs.declared.version.Version.{Version}
+use Rattle.py_fields.specs.Offsets.{interp_head_offset, tstate_current_offset}
+use Rattle.py_fields.specs.declared.version.Version.{Version}
 use Rattle.py_fields.specs.Places.{Apart}
 use Rattle.py_fields.specs.declared.layout.Head.{Head}
 use Rattle.py_fields.specs.declared.layout.Head.TheVariants.{Symbol, Runtime, Offsets}

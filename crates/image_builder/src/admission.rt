@@ -8,8 +8,7 @@ use crate::BuildError;
 use crate::covered::is_covered;
 use elf64_core::Machine;
 use memory_builder::{Program, family_of, first_invalid, objects_size};
-use py_fields::Layout;
-use py_version::Version;
+use py_fields::{Layout, Version};
 use std::alloc::Global;
 
 /// How many bytes a core has beside its objects, at most.

@@ -42,8 +42,7 @@ use crate::image_file::image_file;
 use crate::runtime_words::{INTERPRETER, lock_word_place, runtime_words};
 use elf64_core::{Machine, Name};
 use memory_builder::{Program, holder_place, laid_program, lock_record_place};
-use py_fields::{Layout, Lock};
-use py_version::Version;
+use py_fields::{Layout, Lock, Version};
 use std::alloc::Global;
 
 /// Where the bss of the image begins.

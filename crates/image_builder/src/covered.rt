@@ -6,8 +6,7 @@ ghost use Rattle.image_builder.specs.Covered.{plain_digits};
 ghost use Rattle.image_builder.specs.Covered.{IsNumbered, IsCovered, number_of};
 
 use elf64_core::{Machine, Text};
-use py_fields::{Layout, Lock};
-use py_version::{Version, get_tstate_current_offset};
+use py_fields::{Layout, Lock, Version, get_tstate_current_offset};
 
 /// The byte of a final release.
 const FINAL: u8 = 0xF0;

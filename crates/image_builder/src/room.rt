@@ -7,8 +7,7 @@ ghost use Rattle.image_builder.specs.RuntimeWords.{HasWordRoom};
 
 use crate::runtime_words::{head_field, lock_word_place};
 use elf64_core::Machine;
-use py_fields::Layout;
-use py_version::Version;
+use py_fields::{Layout, Version};
 
 /// Whether two places of 8 bytes don't meet.
 fn are_apart(a: u32, b: u32) -> bool

@@ -5,8 +5,7 @@ ghost use Rattle.image_builder.specs.RuntimeWords.{head_field, head_place, lock_
 
 use elf64_core::Machine;
 use object_builder::{Value, Write, add_object, optional_write};
-use py_fields::{Head, Layout, Lock};
-use py_version::{Version, get_interp_head_offset, get_tstate_current_offset};
+use py_fields::{Head, Layout, Lock, Version, get_interp_head_offset, get_tstate_current_offset};
 use std::alloc::{AllocError, Global};
 
 /// Where the objects begin, with the interpreter.

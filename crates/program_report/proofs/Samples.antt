@@ -9,8 +9,8 @@ use Rattle.elf64_core.specs.declared.header.Machine.TheVariants.{X86_64}
 use Rattle.py_fields.specs.Samples.{sample_layout}
 use Rattle.py_fields.specs.declared.layout.Layout.{Layout}
 use Rattle.py_lines.specs.declared.lines.LineFamily.TheVariants.{Pairs}
-use Rattle.py_version.specs.Version.{release}
-use Rattle.py_version.specs.declared.version.Version.{Version}
+use Rattle.py_fields.specs.Version.{release}
+use Rattle.py_fields.specs.declared.version.Version.{Version}
 use Rattle.py_stacks.specs.Asking.{default_config}
 use Rattle.py_stacks.specs.Threads.{Trace}
 use Rattle.py_stacks.specs.declared.config.Config.{Config}

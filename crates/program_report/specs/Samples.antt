@@ -3,7 +3,7 @@ use Rattle.std.specs.Prelude.{◌≡◌, ℕ, List, [], ◌∷◌, codes, decima
 use Rattle.std.specs.List.{concat, sum_by}
 use Rattle.elf64_core.specs.declared.header.Machine.TheVariants.{X86_64}
 use Rattle.py_fields.specs.Samples.{sample_layout}
-use Rattle.py_version.specs.Version.{release}
+use Rattle.py_fields.specs.Version.{release}
 use Rattle.py_stacks.specs.Asking.{default_config}
 use Rattle.py_stacks.specs.Threads.{Trace, trace_of}
 use Rattle.py_stacks.specs.declared.trace.StackTrace.{StackTrace}

@@ -16,11 +16,10 @@ use core_stacks::report;
 use elf64_core::{Machine, Name};
 use image_builder::{BuildError, Built, Program, build};
 use image_memory::{Images, Mmap};
-use py_fields::Layout;
+use py_fields::{Layout, Version};
 use py_layout::Layouts;
 use py_process::{CoreError, Report};
 use py_stacks::Config;
-use py_version::Version;
 use std::alloc::{AllocError, Global};
 
 /// An image alone, under its path. The one error is want of memory.

@@ -3,7 +3,7 @@ ghost use Rattle.std.specs.Prelude.{◌≡◌, IfOk};
 ghost use Rattle.elf64_core.specs.declared.header.Machine.TheVariants.{X86_64};
 ghost use Rattle.py_fields.specs.Samples.{sample_layout};
 ghost use Rattle.py_process.specs.Reports.{reported_of};
-ghost use Rattle.py_version.specs.Version.{release};
+ghost use Rattle.py_fields.specs.Version.{release};
 ghost use Rattle.image_builder.specs.Generated.{generated};
 ghost use Rattle.image_builder.specs.Inverse.{IsCoreOf};
 ghost use Rattle.image_builder.specs.Refusals.{IsUnbuilt};
@@ -13,10 +13,9 @@ use crate::reporting::report_of_program;
 use core_texts::{Part, push_parts};
 use elf64_core::Machine;
 use image_builder::{BuildError, build, generate};
-use py_fields::Layout;
+use py_fields::{Layout, Version};
 use py_process::Report;
 use py_stacks::{Config, StackTrace};
-use py_version::Version;
 use std::alloc::{AllocError, Global};
 
 /// The one reason why the program of a seed isn't written: want of memory.

@@ -23,7 +23,7 @@ use Rattle.py_fields.specs.declared.layout.LongAt.{LongAt}
 use Rattle.py_fields.specs.declared.layout.KeysAt.{KeysAt}
 use Rattle.py_fields.specs.declared.layout.HeapAt.{HeapAt}
 use Rattle.py_fields.specs.declared.layout.Layout.{Layout}
-use Rattle.py_version.specs.declared.version.Version.{Version}
+use Rattle.py_fields.specs.declared.version.Version.{Version}
 
 -- a number that is not bounded by a record's size
 abbrev pub IsPlain : ℕ → Type 0

@@ -4,7 +4,7 @@
 //! the record are read. Which groups and fields are there follows from the families: `Layout` says so
 //! at each, and a layout in which it isn't so is not sound.
 
-use py_version::Version;
+use crate::version::Version;
 
 /// How the address of the newest interpreter is found.
 #[derive(Clone, Copy, Debug, PartialEq, Eq)]

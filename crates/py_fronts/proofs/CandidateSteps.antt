@@ -8,7 +8,7 @@ use Rattle.process_memory.proofs.Records.{record_length}
 use Rattle.process_memory.specs.Seen.{Answers, read_fault}
 use Rattle.process_memory.specs.declared.memory.ReadFault.{ReadFault}
 use Rattle.process_memory.specs.declared.memory.ReadFault.TheVariants as read
-use Rattle.py_version.specs.declared.version.Version.{Version}
+use Rattle.py_fields.specs.declared.version.Version.{Version}
 use Rattle.py_fields.specs.declared.layout.Layout.{Layout}
 use Rattle.py_process.specs.Facts.{Known, facts_of}
 use Rattle.py_process.specs.declared.binary.BinaryInfo.{BinaryInfo}

@@ -7,7 +7,7 @@ use Rattle.std.specs.Prelude.{sum_by}
 use Rattle.process_memory.specs.Memory.{Memory, byte_at}
 use Rattle.process_memory.specs.Seen.{ReadingBy, Seen}
 use Rattle.process_memory.proofs.Reading.{reading_gives, reading_here, reading_none, reading_then}
-use Rattle.py_version.specs.declared.version.Version.{Version}
+use Rattle.py_fields.specs.declared.version.Version.{Version}
 use Rattle.py_fields.specs.declared.layout.Layout.{Layout}
 use Rattle.py_stacks.specs.declared.asked.Asked.{Asked}
 use Rattle.py_stacks.specs.declared.error.StackError.{StackError}

@@ -23,3 +23,5 @@ pub mod MemberFrames
 pub mod ReportLaws
 pub mod AllFound
 pub mod NameLaws
+pub mod Locking
+pub mod LockSteps

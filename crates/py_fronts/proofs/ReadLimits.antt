@@ -18,7 +18,7 @@ use Rattle.py_fronts.specs.Fronts.{InterpreterShown, fronts_most, fronts_reads, 
 use Rattle.py_fronts.specs.Fronts.{all_most, fronts_at}
 use Rattle.py_fronts.specs.Interpreters.{interpreters_at, interpreters_reads}
 use Rattle.py_process.specs.Facts.{Known}
-use Rattle.py_version.specs.declared.version.Version.{Version}
+use Rattle.py_fields.specs.declared.version.Version.{Version}
 use Rattle.py_fronts.specs.Members.{Chained, caller_of, is_kept, members_front}
 use Rattle.py_fronts.specs.Standings.{standing_at, standing_reads}
 use Rattle.py_fronts.specs.ThreadFronts.{ThreadShown, bytes_of, front_shown, left_after, thread_of}

@@ -12,7 +12,7 @@ use Rattle.elf64_core.specs.Fields.{u64_in}
 use Rattle.process_memory.specs.Memory.{Found, Memory, ◌>>=◌, record_at}
 use Rattle.process_memory.specs.Walk.{IsChain}
 use Rattle.process_memory.proofs.Founds.{bound, ok_same}
-use Rattle.py_version.specs.declared.version.Version.{Version}
+use Rattle.py_fields.specs.declared.version.Version.{Version}
 use Rattle.py_fields.specs.declared.layout.Layout.{Layout}
 use Rattle.py_stacks.specs.declared.asked.Asked.{Asked}
 use Rattle.py_stacks.specs.Asking.{nothing}

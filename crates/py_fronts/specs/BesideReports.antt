@@ -4,7 +4,7 @@ use Rattle.std.specs.Prelude.{◌≡◌, ◌≢◌, ℕ, ◌≤◌, ◌<◌, ◌
 use Rattle.std.specs.Prelude.{map, Ok, ⊤}
 use Rattle.std.specs.List.{list_any}
 use Rattle.process_memory.specs.Memory.{Memory}
-use Rattle.py_version.specs.declared.version.Version.{Version}
+use Rattle.py_fields.specs.declared.version.Version.{Version}
 use Rattle.py_fields.specs.declared.layout.Layout.{Layout}
 use Rattle.py_builtins.specs.Texts.{text_at}
 use Rattle.py_stacks.specs.Asking.{nothing}

@@ -8,7 +8,7 @@ use Rattle.std.specs.List.{filter}
 use Rattle.std.specs.Global.{Global}
 use Rattle.process_memory.specs.Memory.{Found, Memory, word_at}
 use Rattle.process_memory.specs.Seen.{Reading, ReadingBy, Seen}
-use Rattle.py_version.specs.declared.version.Version.{Version}
+use Rattle.py_fields.specs.declared.version.Version.{Version}
 use Rattle.py_fields.specs.declared.layout.Layout.{Layout}
 use Rattle.py_stacks.specs.Interpreter.{threads_head}
 use Rattle.py_stacks.specs.declared.error.StackError.{StackError}

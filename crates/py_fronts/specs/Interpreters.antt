@@ -6,7 +6,7 @@ use Rattle.std.specs.Prelude.{Result, Ok, Err}
 use Rattle.std.specs.List.{list_any}
 use Rattle.process_memory.specs.Memory.{Found, Memory, byte_at}
 use Rattle.process_memory.specs.Seen.{Reading, ReadingOf, Seen}
-use Rattle.py_version.specs.declared.version.Version.{Version}
+use Rattle.py_fields.specs.declared.version.Version.{Version}
 use Rattle.py_fields.specs.declared.layout.Layout.{Layout}
 use Rattle.py_stacks.specs.Interpreter.{interpreter_named_by, threads_head}
 use Rattle.py_stacks.specs.declared.error.StackError.{StackError}

@@ -12,3 +12,8 @@ pub mod Interpreters
 pub mod ShownInterpreters
 pub mod Fronts
 pub mod BesideReports
+pub mod Ids
+pub mod Crashes
+pub mod Locks
+pub mod Lines
+pub mod Salvaged

@@ -1,7 +1,7 @@
 -- Which interpreters are shown, in the subject's own words.
 use Rattle.std.specs.Prelude.{◌≡◌, ◌≢◌, ℕ, ◌≤◌, ◌⊎◌, Bool, true, false, All, Contains, List, [], ◌∷◌, length, Ok, ⊤}
 use Rattle.process_memory.specs.Memory.{Memory}
-use Rattle.py_version.specs.declared.version.Version.{Version}
+use Rattle.py_fields.specs.declared.version.Version.{Version}
 use Rattle.py_fields.specs.declared.layout.Layout.{Layout}
 use Rattle.py_stacks.specs.Interpreter.{interpreter_named_by, threads_head}
 use Rattle.py_process.specs.Facts.{Known}

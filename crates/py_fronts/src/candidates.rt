@@ -18,10 +18,9 @@ ghost use Rattle.py_fronts.specs.Candidates.{words_result};
 use elf64_core::u64_in;
 use image_memory::ContainsAddr;
 use process_memory::{ProcessMemory, ReadFault, word_past};
-use py_fields::Layout;
+use py_fields::{Layout, Version};
 use py_process::{BinaryInfo, PythonProcessInfo, SearchError, read_head, read_head_from};
 use py_stacks::{StackError, get_first_thread};
-use py_version::Version;
 use std::alloc::{AllocFailed, Global};
 
 /// How many words of an interpreter's record are looked at, at most.

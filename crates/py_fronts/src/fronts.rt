@@ -14,10 +14,9 @@ use crate::threads::get_threads_front;
 use crate::{FoundInterpreter, ThreadsFront};
 use image_memory::ContainsAddr;
 use process_memory::ProcessMemory;
-use py_fields::Layout;
+use py_fields::{Layout, Version};
 use py_process::PythonProcessInfo;
 use py_stacks::{Asked, StackError};
-use py_version::Version;
 use std::alloc::Global;
 
 /// How many members are met in all threads of all interpreters at most.

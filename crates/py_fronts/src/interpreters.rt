@@ -25,10 +25,9 @@ use crate::thread_front::{THREAD_LIMIT, Thread, read_thread};
 use elf64_core::u64_in;
 use image_memory::ContainsAddr;
 use process_memory::ProcessMemory;
-use py_fields::Layout;
+use py_fields::{Layout, Version};
 use py_process::PythonProcessInfo;
 use py_stacks::{StackError, get_first_thread};
-use py_version::Version;
 use std::alloc::{AllocFailed, Global};
 
 /// How many interpreters are shown at most.

@@ -2,24 +2,34 @@
 //!
 //! An interpreter names its first thread, each thread the next one and its newest frame, and each frame the one that
 //! called it. What was lost of such a chain loses what stands behind it, and nothing in front of it: a front is the
-//! members up to there, each the next of the one before, and how they end.
+//! members up to there, each the next of the one before, and how they end. Marks stand beside them: who holds the lock of
+//! each interpreter, and which thread got the signal.
 #![tactic(auto)]
 
 mod candidates;
 mod chain_end;
+mod crash;
 mod frame_front;
 mod fronts;
+mod id;
 mod interpreters;
+mod line;
+mod lock;
 mod members;
+mod salvaged;
 mod standing;
 mod thread_front;
 mod threads;
 
 pub use candidates::{named_candidates, searched_candidates};
 pub use chain_end::ChainEnd;
+pub use crash::{Crash, crash_of, crashed_at, is_crashed, is_id, status_thread};
 pub use frame_front::FramesFront;
 pub use fronts::{Fronts, InterpreterFront, get_fronts};
 pub use interpreters::{FoundInterpreter, FoundInterpreters, find_interpreters};
+pub use line::shown_line;
+pub use lock::{LockState, holds_lock, lock_state};
+pub use salvaged::{Salvaged, SalvagedInterpreter, first_crashed, salvage};
 pub use standing::Standing;
 pub use thread_front::{ThreadFront, ThreadsFront};
 pub use threads::get_threads_front;

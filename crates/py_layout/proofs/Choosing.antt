@@ -7,7 +7,7 @@ use Rattle.std.specs.Prelude.{AllPairs, Contains, IfSome, Option, Some, None}
 use Rattle.py_fields.specs.Sound.{Covers}
 use Rattle.py_fields.specs.declared.layout.Layout.{Layout}
 use Rattle.py_layout.specs.Lists.{Clash}
-use Rattle.py_version.specs.declared.version.Version.{Version}
+use Rattle.py_fields.specs.declared.version.Version.{Version}
 
 covers_clash : (a b : Layout) (version : Version) → Covers a version → Covers b version → Clash a b
 covers_clash a b version ca cb = record {

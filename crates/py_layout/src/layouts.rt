@@ -11,8 +11,7 @@ ghost use Rattle.py_fields.specs.declared.layout.Layout.{Layout};
 
 use crate::error::LayoutError;
 use crate::file::layouts_from_toml;
-use py_fields::{Layout, is_sound};
-use py_version::Version;
+use py_fields::{Layout, Version, is_sound};
 use std::alloc::Global;
 use std::marker::Model;
 

@@ -15,6 +15,6 @@ pub use layouts::Layouts;
 pub use py_fields::{
     BytesAt, CframeAt, CodeAt, DictAt, Dicts, FrameAt, Frames, GilAt, Head, HeapAt, Integers,
     InterpreterAt, KeysAt, KlassAt, Lasti, Layout, Lines, ListAt, Lock, LongAt, Managed, ObjectAt,
-    OffsetsAt, StringAt, Strings, ThreadAt, TupleAt, ValueAt,
+    OffsetsAt, ScanError, StringAt, Strings, ThreadAt, TupleAt, ValueAt, Version,
+    get_interp_head_offset, get_tstate_current_offset,
 };
-pub use py_version::{ScanError, Version, get_interp_head_offset, get_tstate_current_offset};

@@ -10,7 +10,7 @@ use Rattle.image_memory.specs.declared.maps.CoreMapRange.{CoreMapRange}
 use Rattle.process_memory.specs.Memory.{Memory, Found}
 use Rattle.process_memory.specs.Memory.Fault.{Missing}
 use Rattle.py_fields.specs.declared.layout.Layout.{Layout}
-use Rattle.py_version.specs.declared.version.Version.{Version}
+use Rattle.py_fields.specs.declared.version.Version.{Version}
 use Rattle.py_process.specs.Binary.{SaysFacts}
 use Rattle.py_process.specs.Candidates.{IsFirstOf, IsInterpreterIn, IsNoneOf, candidates_of}
 use Rattle.py_process.specs.Facts.{Facts, Known}

@@ -2,7 +2,7 @@
 use Rattle.std.proofs.Common.{◌≡◌, ℕ, [], refl, sym, ap, ◌∙◌}
 use Rattle.std.specs.Prelude.{Option, Some, None, codes}
 use Rattle.process_memory.specs.Memory.{Memory, word_at}
-use Rattle.py_version.specs.declared.version.Version.{Version}
+use Rattle.py_fields.specs.declared.version.Version.{Version}
 use Rattle.py_fields.specs.declared.layout.Head.{Head}
 use Rattle.py_fields.specs.declared.layout.Head.TheVariants.{Symbol, Runtime, Offsets}
 use Rattle.py_fields.specs.declared.layout.Layout.{Layout}

@@ -3,8 +3,8 @@ use Rattle.std.proofs.Common.{◌≡◌, ℕ, ap, ◌∙◌, refl}
 use Rattle.std.specs.Prelude.{Option, Some, None, Ok, option_map, codes}
 use Rattle.elf64_core.specs.declared.header.Machine.{Machine}
 use Rattle.process_memory.specs.Memory.{Memory}
-use Rattle.py_version.specs.Offsets.{tstate_current_offset}
-use Rattle.py_version.specs.declared.version.Version.{Version}
+use Rattle.py_fields.specs.Offsets.{tstate_current_offset}
+use Rattle.py_fields.specs.declared.version.Version.{Version}
 use Rattle.py_fields.specs.declared.layout.Layout.{Layout}
 use Rattle.py_fields.specs.declared.layout.Lock.TheVariants.{Symbol, Runtime, Gil}
 use Rattle.py_process.specs.Facts.{Known, symbol_known}

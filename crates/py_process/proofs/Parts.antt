@@ -7,7 +7,7 @@ use Rattle.std.proofs.lemmas.List.Sums.{position_or_len_is, suffix_len_is}
 use Rattle.std.proofs.lemmas.List.{take_all}
 use Rattle.std.proofs.lemmas.List.Elements.{All-from_get_or}
 use Rattle.std.proofs.lemmas.List.Splits.{slice_split_first, slice_split_none}
-use Rattle.py_version.specs.Version.{is_dot}
+use Rattle.py_fields.specs.Version.{is_dot}
 use Rattle.py_process.specs.FileVersions.{is_slash}
 
 -- all of what stands from a place on

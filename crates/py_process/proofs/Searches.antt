@@ -13,7 +13,7 @@ use Rattle.process_memory.specs.declared.memory.Span.{Span}
 use Rattle.process_memory.specs.declared.memory.ReadFault.{ReadFault}
 use Rattle.process_memory.specs.declared.memory.ReadFault.TheVariants as read
 use Rattle.process_memory.proofs.Reading.{reading_gives, reading_here, reading_none, reading_then, reads_within}
-use Rattle.py_version.specs.declared.version.Version.{Version}
+use Rattle.py_fields.specs.declared.version.Version.{Version}
 use Rattle.py_fields.specs.declared.layout.Layout.{Layout}
 use Rattle.py_process.specs.Candidates.{FirstIs, IsFirstOf, IsInterpreterIn, IsNoneOf, ListIs, NotFoundWhere, SearchIs}
 use Rattle.py_process.specs.Candidates.{Searching, Seeking, candidate_cost, candidates_of, head_lies, interpreter_of}

@@ -10,10 +10,10 @@ use Rattle.process_memory.specs.declared.memory.Span.{Span}
 use Rattle.process_memory.specs.declared.memory.ReadFault.{ReadFault}
 use Rattle.process_memory.specs.declared.memory.ReadFault.TheVariants as read
 use Rattle.process_memory.proofs.Reading.{reading_gives, reading_then, reads_within}
-use Rattle.py_version.specs.Spelling.{IsLeftmost, SpellsAt}
-use Rattle.py_version.specs.declared.version.Version.{Version}
-use Rattle.py_version.proofs.Scans.{not_none}
-use Rattle.py_version.proofs.Unique.{spells_once}
+use Rattle.py_fields.specs.Spelling.{IsLeftmost, SpellsAt}
+use Rattle.py_fields.specs.declared.version.Version.{Version}
+use Rattle.py_fields.proofs.Scans.{not_none}
+use Rattle.py_fields.proofs.Unique.{spells_once}
 use Rattle.py_process.specs.Causes.{version_unread}
 use Rattle.py_process.specs.Facts.{facts_of}
 use Rattle.py_process.specs.Sources.{BytesTell, FirstTells, IsVersionTold, SectionTells, VersionSource, TellsVersion}

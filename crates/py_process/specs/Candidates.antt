@@ -9,8 +9,8 @@ use Rattle.process_memory.specs.Memory.{Found, Memory, ◌>>=◌, byte_at, recor
 use Rattle.process_memory.specs.Seen.{ReadingOf, Seen}
 use Rattle.process_memory.specs.declared.memory.ReadFault.{ReadFault}
 use Rattle.process_memory.specs.declared.memory.ReadFault.TheVariants as read
-use Rattle.py_version.specs.Offsets.{interp_head_offset}
-use Rattle.py_version.specs.declared.version.Version.{Version}
+use Rattle.py_fields.specs.Offsets.{interp_head_offset}
+use Rattle.py_fields.specs.declared.version.Version.{Version}
 use Rattle.py_fields.specs.declared.layout.Head.{Head}
 use Rattle.py_fields.specs.declared.layout.Head.TheVariants.{Symbol, Runtime, Offsets}
 use Rattle.py_fields.specs.declared.layout.Layout.{Layout}

@@ -5,8 +5,8 @@ use Rattle.std.specs.Prelude.{Some, None, option_and_then, codes}
 use Rattle.std.specs.Char.{is_ascii_digit}
 use Rattle.std.specs.List.{after_last, list_all, slice_split, starts_with}
 use Rattle.std.specs.Str.Parse.{digits_value}
-use Rattle.py_version.specs.Version.{is_dot, release}
-use Rattle.py_version.specs.declared.version.Version.{Version}
+use Rattle.py_fields.specs.Version.{is_dot, release}
+use Rattle.py_fields.specs.declared.version.Version.{Version}
 
 abbrev pub is_slash : ℕ → Bool
 is_slash c = c == 47

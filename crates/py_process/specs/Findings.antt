@@ -8,7 +8,7 @@ use Rattle.process_memory.specs.Memory.{Memory}
 use Rattle.process_memory.specs.Memory.Fault.{Missing}
 use Rattle.py_fields.specs.Sound.{Covers}
 use Rattle.py_fields.specs.declared.layout.Layout.{Layout}
-use Rattle.py_version.specs.declared.version.Version.{Version}
+use Rattle.py_fields.specs.declared.version.Version.{Version}
 use Rattle.py_stacks.specs.declared.trace.Addresses.{Addresses}
 use Rattle.py_process.specs.Candidates.{IsFirstOf, IsNoneOf, candidates_of}
 use Rattle.py_process.specs.Facts.{Known}

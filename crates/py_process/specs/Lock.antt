@@ -6,8 +6,8 @@ use Rattle.std.specs.Prelude.{unwrap_or, Result, Ok, Err, ⊤, codes}
 use Rattle.elf64_core.specs.declared.header.Machine.{Machine}
 use Rattle.process_memory.specs.Memory.{Found, Memory, word_at}
 use Rattle.process_memory.specs.Memory.Fault.{Missing}
-use Rattle.py_version.specs.Offsets.{tstate_current_offset}
-use Rattle.py_version.specs.declared.version.Version.{Version}
+use Rattle.py_fields.specs.Offsets.{tstate_current_offset}
+use Rattle.py_fields.specs.declared.version.Version.{Version}
 use Rattle.py_fields.specs.declared.layout.Layout.{Layout}
 use Rattle.py_fields.specs.declared.layout.Lock.{Lock}
 use Rattle.py_fields.specs.declared.layout.Lock.TheVariants.{Symbol, Runtime, Gil}

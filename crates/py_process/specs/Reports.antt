@@ -20,7 +20,7 @@ use Rattle.process_memory.specs.Memory.Fault.{ThreadLimit as ManyThreads, FrameL
 use Rattle.process_memory.specs.Memory.Fault.{ChainLimit as ManyMembers}
 use Rattle.process_memory.specs.Walk.{first_fault}
 use Rattle.py_fields.specs.declared.layout.Layout.{Layout}
-use Rattle.py_version.specs.declared.version.Version.{Version}
+use Rattle.py_fields.specs.declared.version.Version.{Version}
 use Rattle.py_stacks.specs.Asking.{asked_of, nothing}
 use Rattle.py_stacks.specs.Frames.{Call}
 use Rattle.py_stacks.specs.Stacks.{stacks_faults}

@@ -7,8 +7,8 @@ use Rattle.std.specs.Int.{w32, from_le_bytes}
 use Rattle.std.specs.Option.{option_or}
 use Rattle.process_memory.specs.Memory.{Found, Memory, ◌>>=◌, record_at}
 use Rattle.process_memory.specs.Memory.Fault.{Missing}
-use Rattle.py_version.specs.Spelling.{IsLeftmost, SpellsNone}
-use Rattle.py_version.specs.declared.version.Version.{Version}
+use Rattle.py_fields.specs.Spelling.{IsLeftmost, SpellsNone}
+use Rattle.py_fields.specs.declared.version.Version.{Version}
 use Rattle.py_process.specs.Facts.{Facts, Known, symbol_known}
 use Rattle.py_process.specs.FileVersions.{file_version}
 use Rattle.py_process.specs.declared.version_error.VersionError.{VersionError}

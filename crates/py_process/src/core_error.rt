@@ -5,8 +5,8 @@ ghost use Rattle.py_process.specs.declared.core_error.CoreError.TheVariants.{Out
 use crate::{SearchError, VersionError};
 use elf64_core::Name;
 use image_memory::DumpError;
+use py_fields::Version;
 use py_stacks::StackError;
-use py_version::Version;
 use std::alloc::AllocError;
 use thiserror::Error;
 

@@ -2,11 +2,11 @@
 ghost use Rattle.std.specs.Prelude.{◌≡◌, ◌<◌, ◌≤◌, ◌-◌, ◌∷◌, [], ℕ, true, false, length, slice_index, IfOk};
 ghost use Rattle.std.specs.Prelude.{MatchOption, option_map};
 ghost use Rattle.std.specs.List.{after_last, slice_split};
-ghost use Rattle.py_version.specs.Version.{release};
+ghost use Rattle.py_fields.specs.Version.{release};
 ghost use Rattle.py_process.specs.FileVersions.{decimal_of, file_version, is_slash};
-ghost use Rattle.py_version.specs.Version.{is_dot};
+ghost use Rattle.py_fields.specs.Version.{is_dot};
 
-use py_version::Version;
+use py_fields::Version;
 use std::alloc::{AllocError, Global};
 
 /// Where the last part of a path begins.

@@ -10,8 +10,7 @@ use crate::{PythonProcessInfo, SearchError};
 use elf64_core::u64_in;
 use image_memory::ContainsAddr;
 use process_memory::{ProcessMemory, ReadFault, record, word, word_past};
-use py_fields::{Head, Layout, OffsetsAt};
-use py_version::{Version, get_interp_head_offset};
+use py_fields::{Head, Layout, OffsetsAt, Version, get_interp_head_offset};
 use std::alloc::Global;
 
 /// What a read gives as a candidate: nothing where something is not in memory.

@@ -12,8 +12,7 @@ use crate::head::first_of_head;
 use crate::{PythonProcessInfo, SearchError};
 use image_memory::ContainsAddr;
 use process_memory::ProcessMemory;
-use py_fields::Layout;
-use py_version::Version;
+use py_fields::{Layout, Version};
 use std::alloc::Global;
 
 /// The first word of the images' sections that is an interpreter. At most 4 reads beside those of the candidates.

@@ -10,9 +10,8 @@ use crate::{LockError, PythonProcessInfo};
 use elf64_core::Machine;
 use image_memory::ContainsAddr;
 use process_memory::{ProcessMemory, ReadFault, word_past};
-use py_fields::{Layout, Lock};
+use py_fields::{Layout, Lock, Version, get_tstate_current_offset};
 use py_stacks::Config;
-use py_version::{Version, get_tstate_current_offset};
 
 /// A place in the runtime; none where its symbol or the place is not known.
 fn in_runtime(runtime: Option<u64>, offset: Option<u64>) -> Result<Option<u64>, LockError>

@@ -2,7 +2,7 @@
 ghost use Rattle.std.specs.Prelude.{◌<◌, ◌^◌, ◌≡◌, Option, Ok, IfOk, option_map};
 ghost use Rattle.process_memory.specs.Memory.{Found};
 ghost use Rattle.process_memory.specs.Seen.{IsRange, Reading, ReadingOf};
-ghost use Rattle.py_version.specs.declared.version.Version.{Version as Told};
+ghost use Rattle.py_fields.specs.declared.version.Version.{Version as Told};
 ghost use Rattle.py_process.specs.Facts.{facts_of, known_of};
 ghost use Rattle.py_process.specs.Sections.{IsSearched, IsSection, IsSectionIn};
 ghost use Rattle.py_process.specs.Sources.{FirstTells, IsVersionTold, SectionTells, TellsVersion, ToldBy, VersionIs};
@@ -15,7 +15,7 @@ use crate::{BinaryInfo, PythonProcessInfo, VersionError};
 use elf64_core::Text;
 use image_memory::ContainsAddr;
 use process_memory::{ProcessMemory, ReadFault, record_in};
-use py_version::{ScanError, Version};
+use py_fields::{ScanError, Version};
 use std::alloc::{AllocError, Global};
 
 /// The letters of a release that is not final, with its serial number; nothing for a final one.

@@ -1,7 +1,7 @@
 //! What a core tells of a Python process.
 use elf64_core::Text;
+use py_fields::Version;
 use py_stacks::StackTrace;
-use py_version::Version;
 
 /// What a core tells of a Python process: how it ended, and the stacks of its threads.
 #[derive(Debug, Drop)]

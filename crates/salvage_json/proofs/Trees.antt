@@ -19,12 +19,12 @@ use Rattle.py_fronts.specs.declared.frame_front.FramesFront.{FramesFront}
 use Rattle.py_fronts.specs.declared.standing.Standing.{Standing}
 use Rattle.py_fronts.specs.declared.standing.Standing.TheVariants as standing
 use Rattle.py_fronts.specs.declared.thread_front.ThreadFront.{ThreadFront}
-use Rattle.salvage_marks.specs.declared.crash.Crash.{Crash}
-use Rattle.salvage_marks.specs.declared.lock.LockState.{LockState}
-use Rattle.salvage_marks.specs.declared.lock.LockState.TheVariants.{Holder, Unreadable}
-use Rattle.salvage_marks.specs.declared.salvaged.SalvagedInterpreter.{SalvagedInterpreter}
-use Rattle.salvage_marks.specs.Crashes.{is_crashed}
-use Rattle.salvage_marks.specs.Salvaged.{first_crashed}
+use Rattle.py_fronts.specs.declared.crash.Crash.{Crash}
+use Rattle.py_fronts.specs.declared.lock.LockState.{LockState}
+use Rattle.py_fronts.specs.declared.lock.LockState.TheVariants.{Holder, Unreadable}
+use Rattle.py_fronts.specs.declared.salvaged.SalvagedInterpreter.{SalvagedInterpreter}
+use Rattle.py_fronts.specs.Crashes.{is_crashed}
+use Rattle.py_fronts.specs.Salvaged.{first_crashed}
 use Rattle.salvage_json.specs.Kinds.{end_tree, fault_or_null, fault_tree, lock_tree, why_tree}
 use Rattle.salvage_json.specs.Members.{frame_tree, local_tree, shown_tree, standing_tree, standings_tree, text_tree}
 use Rattle.salvage_json.specs.Threads.{frames_tree, id_tree, placed_trees, reversed_trees, thread_tree, threads_tree}

@@ -9,9 +9,9 @@ use Rattle.py_stacks.specs.declared.error.StackError.{StackError}
 use Rattle.py_stacks.specs.declared.error.StackError.TheVariants as locals
 use Rattle.py_fronts.specs.declared.chain_end.ChainEnd.{ChainEnd}
 use Rattle.py_fronts.specs.declared.chain_end.ChainEnd.TheVariants as chain
-use Rattle.salvage_marks.specs.declared.lock.LockState.{LockState}
-use Rattle.salvage_marks.specs.declared.lock.LockState.TheVariants.{Holder, Unreadable}
-use Rattle.salvage_texts.specs.Ends.{address_text}
+use Rattle.py_fronts.specs.declared.lock.LockState.{LockState}
+use Rattle.py_fronts.specs.declared.lock.LockState.TheVariants.{Holder, Unreadable}
+use Rattle.core_texts.specs.Parts.{address_text}
 
 -- an address, as in 0x1f
 abbrev pub address_tree : ℕ → Data

@@ -8,7 +8,7 @@ use Rattle.py_stacks.specs.declared.trace.Frame.{Frame}
 use Rattle.py_stacks.specs.declared.trace.LocalVariable.{LocalVariable}
 use Rattle.py_fronts.specs.declared.standing.Standing.{Standing}
 use Rattle.py_fronts.specs.declared.standing.Standing.TheVariants as standing
-use Rattle.salvage_texts.specs.Lines.{shown_line}
+use Rattle.py_fronts.specs.Lines.{shown_line}
 use Rattle.salvage_json.specs.Kinds.{address_tree, fault_or_null, why_tree}
 
 -- a text in UTF-8, or null

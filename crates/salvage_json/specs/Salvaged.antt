@@ -3,9 +3,9 @@ use Rattle.std.specs.Prelude.{ℕ, ℤ, ◌+◌, ◌++◌, List, map, drop, take
 use Rattle.serde_json.specs.Data.{Data, array, boolean, member, no_members, null, number, object, string}
 use Rattle.serde_json.specs.Find.{of_integer}
 use Rattle.serde_json.specs.View.{items_of}
-use Rattle.salvage_marks.specs.Salvaged.{first_crashed}
-use Rattle.salvage_marks.specs.declared.crash.Crash.{Crash}
-use Rattle.salvage_marks.specs.declared.salvaged.SalvagedInterpreter.{SalvagedInterpreter}
+use Rattle.py_fronts.specs.Salvaged.{first_crashed}
+use Rattle.py_fronts.specs.declared.crash.Crash.{Crash}
+use Rattle.py_fronts.specs.declared.salvaged.SalvagedInterpreter.{SalvagedInterpreter}
 use Rattle.salvage_json.specs.Kinds.{address_tree, end_tree, lock_tree}
 use Rattle.salvage_json.specs.Threads.{threads_tree}
 

@@ -4,10 +4,10 @@ use Rattle.serde_json.specs.Data.{Data, array, boolean, member, no_members, null
 use Rattle.serde_json.specs.View.{items_of}
 use Rattle.py_fronts.specs.declared.frame_front.FramesFront.{FramesFront}
 use Rattle.py_fronts.specs.declared.thread_front.ThreadFront.{ThreadFront}
-use Rattle.salvage_marks.specs.declared.crash.Crash.{Crash}
-use Rattle.salvage_marks.specs.declared.lock.LockState.{LockState}
-use Rattle.salvage_marks.specs.Crashes.{is_crashed}
-use Rattle.salvage_marks.specs.Locks.{holds_lock}
+use Rattle.py_fronts.specs.declared.crash.Crash.{Crash}
+use Rattle.py_fronts.specs.declared.lock.LockState.{LockState}
+use Rattle.py_fronts.specs.Crashes.{is_crashed}
+use Rattle.py_fronts.specs.Locks.{holds_lock}
 use Rattle.salvage_json.specs.Kinds.{address_tree, end_tree}
 use Rattle.salvage_json.specs.Members.{standings_tree}
 

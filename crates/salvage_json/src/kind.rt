@@ -3,12 +3,11 @@ ghost use Rattle.std.specs.Prelude.{◌≡◌, IfOk, string_bytes};
 ghost use Rattle.serde_json.specs.View.{view};
 ghost use Rattle.salvage_json.specs.Kinds.{address_tree, end_tree, fault_or_null, fault_tree, holder_tree};
 ghost use Rattle.salvage_json.specs.Kinds.{kind_tree, lock_tree, missing_tree, stray_tree, why_tree};
-ghost use Rattle.salvage_texts.specs.Ends.{address_text};
+ghost use Rattle.core_texts.specs.Parts.{address_text};
 
 use py_builtins::ObjectError;
-use py_fronts::ChainEnd;
+use py_fronts::{ChainEnd, LockState};
 use py_stacks::StackError;
-use salvage_marks::LockState;
 use serde_json::{Value, json};
 use std::alloc::{AllocError, Global};
 

@@ -6,9 +6,8 @@ ghost use Rattle.salvage_json.specs.Members.{standing_tree, standings_tree, text
 
 use crate::kind::{address_value, fault_or_null, why_value};
 use elf64_core::Text;
-use py_fronts::Standing;
+use py_fronts::{Standing, shown_line};
 use py_stacks::{Frame, LocalVariable, StackError};
-use salvage_texts::shown_line;
 use serde_json::{Value, json};
 use std::alloc::{AllocError, Global};
 

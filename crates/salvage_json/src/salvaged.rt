@@ -7,7 +7,7 @@ ghost use Rattle.salvage_json.specs.Salvaged.{process_tree, signal_tree};
 use crate::kind::{address_value, end_value, lock_value};
 use crate::thread::threads_value;
 use elf64_core::Text;
-use salvage_marks::{Crash, SalvagedInterpreter, first_crashed};
+use py_fronts::{Crash, SalvagedInterpreter, first_crashed};
 use serde_json::{Value, json};
 use std::alloc::{AllocError, Global};
 

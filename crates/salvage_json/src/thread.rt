@@ -6,8 +6,7 @@ ghost use Rattle.salvage_json.specs.Threads.{reversed_trees, thread_tree, thread
 
 use crate::kind::{address_value, end_value};
 use crate::member::standings_value;
-use py_fronts::{FramesFront, ThreadFront};
-use salvage_marks::{Crash, LockState, crashed_at, holds_lock, is_crashed};
+use py_fronts::{Crash, FramesFront, LockState, ThreadFront, crashed_at, holds_lock, is_crashed};
 use serde_json::{Value, json};
 use std::alloc::{AllocError, Global};
 

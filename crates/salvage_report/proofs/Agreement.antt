@@ -14,9 +14,9 @@ use Rattle.py_process.proofs.FindingLaws.{ChoosesOnce}
 use Rattle.core_stacks.specs.Process.{OpenedProcess, ProcessIs}
 use Rattle.core_stacks.proofs.Layouts.{chooses_once}
 use Rattle.core_stacks.proofs.Opening.{process_agree}
-use Rattle.salvage_marks.specs.Salvaged.{LockedInterpreter, locked, salvaged_at}
-use Rattle.salvage_marks.specs.declared.crash.Crash.{Crash}
-use Rattle.salvage_marks.specs.declared.salvaged.SalvagedInterpreter.{SalvagedInterpreter}
+use Rattle.py_fronts.specs.Salvaged.{LockedInterpreter, locked, salvaged_at}
+use Rattle.py_fronts.specs.declared.crash.Crash.{Crash}
+use Rattle.py_fronts.specs.declared.salvaged.SalvagedInterpreter.{SalvagedInterpreter}
 use Rattle.salvage_words.specs.Salvage.{Salvage}
 use Rattle.salvage_report.specs.declared.cause.Cause.{Cause}
 use Rattle.salvage_report.specs.declared.cause.Cause.TheVariants.{Core, Layouts, NoInterpreter, OutOfMemory}

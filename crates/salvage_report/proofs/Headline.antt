@@ -10,7 +10,7 @@ use Rattle.crash_signal.specs.Signals.{signal_told}
 use Rattle.thread_registers.specs.Threads.{threads_told}
 use Rattle.py_fields.specs.declared.layout.Layout.{Layout}
 use Rattle.py_layout.specs.File.{IsRightFor}
-use Rattle.salvage_marks.specs.declared.salvaged.SalvagedInterpreter.{SalvagedInterpreter}
+use Rattle.py_fronts.specs.declared.salvaged.SalvagedInterpreter.{SalvagedInterpreter}
 use Rattle.salvage_words.specs.Salvage.{Salvage, Wanted}
 use Rattle.salvage_words.specs.Salvage.Wanted.{salvage}
 use Rattle.salvage_report.specs.declared.cause.Cause.{Cause}

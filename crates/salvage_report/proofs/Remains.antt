@@ -9,13 +9,13 @@ use Rattle.image_memory.specs.MapTables.{tests}
 use Rattle.image_memory.specs.Maps.{in_maps}
 use Rattle.process_memory.specs.Memory.{Memory, byte_at}
 use Rattle.py_fields.specs.declared.layout.Layout.{Layout}
-use Rattle.py_version.specs.declared.version.Version.{Version}
+use Rattle.py_fields.specs.declared.version.Version.{Version}
 use Rattle.py_stacks.specs.declared.asked.Asked.{Asked}
 use Rattle.py_process.specs.Facts.{Known, known_of}
-use Rattle.salvage_marks.specs.Salvaged.{SalvagedShown, salvaged_at}
-use Rattle.salvage_marks.specs.declared.crash.Crash.{Crash}
-use Rattle.salvage_marks.specs.declared.salvaged.Salvaged.{Salvaged}
-use Rattle.salvage_marks.specs.declared.salvaged.SalvagedInterpreter.{SalvagedInterpreter}
+use Rattle.py_fronts.specs.Salvaged.{SalvagedShown, salvaged_at}
+use Rattle.py_fronts.specs.declared.crash.Crash.{Crash}
+use Rattle.py_fronts.specs.declared.salvaged.Salvaged.{Salvaged}
+use Rattle.py_fronts.specs.declared.salvaged.SalvagedInterpreter.{SalvagedInterpreter}
 use Rattle.salvage_words.specs.Salvage.{Salvage}
 use Rattle.salvage_report.specs.declared.cause.Cause.TheVariants.{NoInterpreter}
 use Rattle.salvage_report.specs.declared.left.Left.{Left}

@@ -5,8 +5,8 @@ use Rattle.elf64_core.specs.Header.{machine_of}
 use Rattle.elf64_core.specs.Notes.{Noted}
 use Rattle.elf64_core.specs.declared.header.Machine.{Machine}
 use Rattle.image_memory.specs.Notes.{AreNotesOfCore, desc_of, status_kind}
-use Rattle.salvage_marks.specs.Crashes.{crash_of}
-use Rattle.salvage_marks.specs.declared.crash.Crash.{Crash}
+use Rattle.py_fronts.specs.Crashes.{crash_of}
+use Rattle.py_fronts.specs.declared.crash.Crash.{Crash}
 
 -- the thread that a status record is of, where it has all its bytes
 abbrev pub told_by : Machine → List ℕ → Option Crash

@@ -11,10 +11,10 @@ use Rattle.py_stacks.specs.declared.asked.Asked.{Asked}
 use Rattle.py_stacks.specs.declared.asked.LineNo.TheVariants.{LastInstruction}
 use Rattle.py_process.specs.Reports.{NotesTell, memory_in}
 use Rattle.py_fronts.specs.Candidates.{named_candidates, searched_candidates}
-use Rattle.salvage_marks.specs.Salvaged.{SalvagedShown, locked, salvaged_at}
-use Rattle.salvage_marks.specs.declared.crash.Crash.{Crash}
-use Rattle.salvage_marks.specs.declared.salvaged.Salvaged.{Salvaged}
-use Rattle.salvage_marks.specs.declared.salvaged.SalvagedInterpreter.{SalvagedInterpreter}
+use Rattle.py_fronts.specs.Salvaged.{SalvagedShown, locked, salvaged_at}
+use Rattle.py_fronts.specs.declared.crash.Crash.{Crash}
+use Rattle.py_fronts.specs.declared.salvaged.Salvaged.{Salvaged}
+use Rattle.py_fronts.specs.declared.salvaged.SalvagedInterpreter.{SalvagedInterpreter}
 use Rattle.salvage_words.specs.Salvage.{Salvage}
 use Rattle.salvage_report.specs.declared.cause.Cause.{Cause}
 use Rattle.salvage_report.specs.declared.cause.Cause.TheVariants.{Core, Layouts, NoInterpreter, OutOfMemory}

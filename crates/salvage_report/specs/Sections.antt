@@ -10,7 +10,7 @@ use Rattle.crash_signal.specs.Signals.{signal_told}
 use Rattle.crash_signal.specs.declared.told.CrashSignal.{CrashSignal}
 use Rattle.crash_signal.specs.declared.told.Untold.{Untold}
 use Rattle.py_fronts.specs.declared.thread_front.ThreadFront.{ThreadFront}
-use Rattle.salvage_marks.specs.declared.salvaged.SalvagedInterpreter.{SalvagedInterpreter}
+use Rattle.py_fronts.specs.declared.salvaged.SalvagedInterpreter.{SalvagedInterpreter}
 use Rattle.thread_registers.specs.Threads.{ThreadShown, thread_shown, threads_told}
 use Rattle.thread_registers.specs.declared.threads.PythonThread.{PythonThread}
 use Rattle.thread_registers.specs.declared.threads.ThreadRegisters.{ThreadRegisters}

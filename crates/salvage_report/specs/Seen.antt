@@ -11,9 +11,9 @@ use Rattle.py_stacks.specs.declared.error.StackError.{StackError}
 use Rattle.py_process.specs.Facts.{known_of}
 use Rattle.py_fronts.specs.Answers.{IsOrNoMemory}
 use Rattle.py_fronts.specs.Candidates.{named_candidates, searched_candidates}
-use Rattle.salvage_marks.specs.Salvaged.{salvaged_at, salvaged_result}
-use Rattle.salvage_marks.specs.declared.crash.Crash.{Crash}
-use Rattle.salvage_marks.specs.declared.salvaged.Salvaged.{Salvaged}
+use Rattle.py_fronts.specs.Salvaged.{salvaged_at, salvaged_result}
+use Rattle.py_fronts.specs.declared.crash.Crash.{Crash}
+use Rattle.py_fronts.specs.declared.salvaged.Salvaged.{Salvaged}
 use Rattle.salvage_words.specs.Salvage.{Salvage}
 use Rattle.salvage_report.specs.declared.cause.Cause.{Cause}
 use Rattle.core_stacks.specs.declared.process.Process.{Process}

@@ -2,8 +2,8 @@
 use Rattle.std.specs.Prelude.{ℕ, ℤ, ◌++◌, false, List, [], Option, Some, None, if◌then◌else◌, codes}
 use Rattle.std.specs.Fmt.{signed_decimal}
 use Rattle.bstr.specs.Utf8.{lossy_chars}
-use Rattle.py_version.specs.Version.{version_text}
-use Rattle.py_version.specs.declared.version.Version.{Version}
+use Rattle.py_fields.specs.Version.{version_text}
+use Rattle.py_fields.specs.declared.version.Version.{Version}
 use Rattle.core_texts.specs.Text.{signal_text}
 use Rattle.crash_signal.specs.Text.{signal_text as info_text}
 use Rattle.thread_registers.specs.Text.{threads_text}

@@ -5,7 +5,7 @@ use Rattle.json.specs.Layout.{pretty}
 use Rattle.json.specs.Tree.{json_tokens}
 use Rattle.serde_json.specs.Data.{Data, boolean, member, no_members, null, object, string}
 use Rattle.serde_json.specs.Written.{outline}
-use Rattle.py_version.specs.Version.{version_text}
+use Rattle.py_fields.specs.Version.{version_text}
 use Rattle.crash_signal.specs.Trees.{signal_tree as info_tree}
 use Rattle.thread_registers.specs.Trees.{threads_tree}
 use Rattle.salvage_json.specs.Salvaged.{interpreters_tree, process_tree, signal_tree}

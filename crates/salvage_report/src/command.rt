@@ -64,7 +64,7 @@ fn outcome_of<'a, F: Files>(
 /// The words are those of `salvage_words::read_words`, the program's name first. They are judged, the files that they
 /// name are read: the core's, the layout file and those of the images, in order; the layouts are checked, the process
 /// of the core is opened as for a report (`core_stacks::report`) up to its layout, and what is left of its interpreters
-/// is read over the memory of the core and its images (`salvage_marks::salvage`), with the sections that are asked for,
+/// is read over the memory of the core and its images (`py_fronts::salvage`), with the sections that are asked for,
 /// of which none has a status of its own; and the whole text is written to `out`. Where `--help` or `--version` is asked
 /// for alone, the text is the help, or the program's version, and no file is read. Under each status but 0 one line,
 /// `pysalvage: ` and the cause, is written to `err`, and a fault of `err` changes no status. That no other file is asked

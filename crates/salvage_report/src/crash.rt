@@ -5,7 +5,7 @@ ghost use Rattle.salvage_report.specs.Crashed.{CrashTold, crash_among, told_by};
 
 use elf64_core::{Machine, Note};
 use image_memory::{CoreDump, NT_PRSTATUS, first_desc};
-use salvage_marks::{Crash, crash_of};
+use py_fronts::{Crash, crash_of};
 use std::alloc::{AllocError, Global};
 
 /// How many bytes a status record has at least.

@@ -15,10 +15,9 @@ use elf64_core::Text;
 use image_memory::Images;
 use named_images::image_list;
 use program_run::CoreFiles;
-use py_fronts::{named_candidates, searched_candidates};
+use py_fronts::{Crash, Salvaged, named_candidates, salvage, searched_candidates};
 use py_layout::{Layouts, Version};
 use py_stacks::{Asked, LineNo, StackError};
-use salvage_marks::{Crash, Salvaged, salvage};
 use salvage_words::SalvageWords;
 use std::alloc::Global;
 

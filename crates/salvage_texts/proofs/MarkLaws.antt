@@ -11,9 +11,11 @@ use Rattle.py_fronts.specs.declared.chain_end.ChainEnd.TheVariants.{Whole, Cut, 
 use Rattle.py_stacks.specs.declared.error.StackError.{StackError}
 use Rattle.py_stacks.specs.declared.error.StackError.TheVariants as stack
 use Rattle.py_stacks.specs.declared.trace.Frame.{Frame}
-use Rattle.salvage_texts.specs.Ends.{address_text, frames_end_text, missing_text, more_text}
+use Rattle.core_texts.specs.Parts.{address_text}
+use Rattle.salvage_texts.specs.Ends.{frames_end_text, missing_text, more_text}
 use Rattle.salvage_texts.specs.Escape.{escaped}
-use Rattle.salvage_texts.specs.Lines.{line_text, shown_line}
+use Rattle.py_fronts.specs.Lines.{shown_line}
+use Rattle.salvage_texts.specs.Lines.{line_text}
 use Rattle.salvage_texts.specs.Marks.{IsNoMark}
 use Rattle.salvage_texts.specs.Standings.{frame_line, locals_fault, member_line}
 use Rattle.salvage_texts.proofs.Escapes.{digits_from}

@@ -1,12 +1,8 @@
 -- The lines that say how a chain ends.
-use Rattle.std.specs.Prelude.{ℕ, ◌++◌, ◌==◌, false, if◌then◌else◌, List, [], codes, decimal}
-use Rattle.std.specs.Fmt.{digits}
+use Rattle.std.specs.Prelude.{ℕ, ◌++◌, ◌==◌, if◌then◌else◌, List, [], codes, decimal}
 use Rattle.py_fronts.specs.declared.chain_end.ChainEnd.{ChainEnd}
+use Rattle.core_texts.specs.Parts.{address_text}
 use Rattle.py_fronts.specs.declared.chain_end.ChainEnd.TheVariants.{Whole, Cut, Unreadable, Stray}
-
--- an address, as in 0x1f
-abbrev pub address_text : ℕ → List ℕ
-address_text n = codes "0x" ++ digits 16 false n
 
 -- a range that isn't in memory
 abbrev pub missing_text : (addr len : ℕ) → List ℕ

@@ -3,13 +3,14 @@ use Rattle.std.specs.Prelude.{ℕ, ◌+◌, ◌++◌, nat_lt, Bool, true, false,
 use Rattle.std.specs.Prelude.{Option, Some, None, codes}
 use Rattle.std.specs.List.{concat}
 use Rattle.py_fronts.specs.declared.fronts.InterpreterFront.{InterpreterFront}
-use Rattle.salvage_marks.specs.declared.crash.Crash.{Crash}
-use Rattle.salvage_marks.specs.declared.lock.LockState.{LockState}
-use Rattle.salvage_marks.specs.declared.lock.LockState.TheVariants.{Holder, Unreadable}
-use Rattle.salvage_marks.specs.declared.salvaged.Salvaged.{Salvaged}
-use Rattle.salvage_marks.specs.declared.salvaged.SalvagedInterpreter.{SalvagedInterpreter}
-use Rattle.salvage_texts.specs.Ends.{address_text, missing_text, threads_end_text}
-use Rattle.salvage_marks.specs.Salvaged.{first_crashed}
+use Rattle.py_fronts.specs.declared.crash.Crash.{Crash}
+use Rattle.py_fronts.specs.declared.lock.LockState.{LockState}
+use Rattle.py_fronts.specs.declared.lock.LockState.TheVariants.{Holder, Unreadable}
+use Rattle.py_fronts.specs.declared.salvaged.Salvaged.{Salvaged}
+use Rattle.py_fronts.specs.declared.salvaged.SalvagedInterpreter.{SalvagedInterpreter}
+use Rattle.core_texts.specs.Parts.{address_text}
+use Rattle.salvage_texts.specs.Ends.{missing_text, threads_end_text}
+use Rattle.py_fronts.specs.Salvaged.{first_crashed}
 use Rattle.salvage_texts.specs.Threads.{threads_text}
 
 abbrev pub searched_text : Bool → List ℕ

@@ -12,7 +12,8 @@ use Rattle.py_fronts.specs.declared.standing.Standing.{Standing}
 use Rattle.py_fronts.specs.declared.standing.Standing.TheVariants as standing
 use Rattle.salvage_texts.specs.Ends.{missing_text}
 use Rattle.salvage_texts.specs.Escape.{escaped}
-use Rattle.salvage_texts.specs.Lines.{line_text, shown_line}
+use Rattle.py_fronts.specs.Lines.{shown_line}
+use Rattle.salvage_texts.specs.Lines.{line_text}
 
 -- a frame's function, file and line
 abbrev pub frame_line : Frame → List ℕ

@@ -5,11 +5,11 @@ use Rattle.std.specs.List.{concat}
 use Rattle.py_stacks.specs.Shown.{id_text}
 use Rattle.py_fronts.specs.declared.frame_front.FramesFront.{FramesFront}
 use Rattle.py_fronts.specs.declared.thread_front.ThreadFront.{ThreadFront}
-use Rattle.salvage_marks.specs.declared.crash.Crash.{Crash}
-use Rattle.salvage_marks.specs.declared.lock.LockState.{LockState}
+use Rattle.py_fronts.specs.declared.crash.Crash.{Crash}
+use Rattle.py_fronts.specs.declared.lock.LockState.{LockState}
 use Rattle.salvage_texts.specs.Ends.{frames_end_text, more_text}
-use Rattle.salvage_marks.specs.Crashes.{is_crashed}
-use Rattle.salvage_marks.specs.Locks.{holds_lock}
+use Rattle.py_fronts.specs.Crashes.{is_crashed}
+use Rattle.py_fronts.specs.Locks.{holds_lock}
 use Rattle.salvage_texts.specs.Standings.{standings_text}
 
 abbrev pub mark_text : Bool → List ℕ → List ℕ

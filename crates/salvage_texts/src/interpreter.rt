@@ -5,8 +5,7 @@ ghost use Rattle.salvage_texts.specs.Salvaged.{searched_text};
 
 use crate::ends::{push_missing, push_threads_end};
 use crate::thread::push_threads;
-use py_fronts::InterpreterFront;
-use salvage_marks::{Crash, LockState, SalvagedInterpreter};
+use py_fronts::{Crash, InterpreterFront, LockState, SalvagedInterpreter};
 use std::alloc::{AllocError, Global};
 
 /// How an interpreter was found, where by search alone.

@@ -14,5 +14,4 @@ mod standing;
 mod thread;
 
 pub use escape::push_escaped;
-pub use line::shown_line;
 pub use salvaged::salvaged_text;

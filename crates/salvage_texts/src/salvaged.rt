@@ -6,7 +6,7 @@ ghost use Rattle.salvage_texts.specs.Salvaged.{ordered_text, salvaged_text};
 ghost use Rattle.salvage_texts.specs.Standings.{frame_line};
 
 use crate::interpreter::push_interpreters;
-use salvage_marks::{Crash, Salvaged, SalvagedInterpreter, first_crashed};
+use py_fronts::{Crash, Salvaged, SalvagedInterpreter, first_crashed};
 use std::alloc::{AllocError, Global};
 
 /// The lines of all interpreters: of the first one of which a thread got the signal, and then of the others.

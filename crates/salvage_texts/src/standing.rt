@@ -7,10 +7,10 @@ ghost use Rattle.salvage_texts.specs.Standings.{standings_text, value_text, why_
 
 use crate::ends::push_missing;
 use crate::escape::push_escaped;
-use crate::line::{push_line, shown_line};
+use crate::line::push_line;
 use elf64_core::Text;
 use py_builtins::ObjectError;
-use py_fronts::Standing;
+use py_fronts::{Standing, shown_line};
 use py_stacks::{Frame, LocalVariable, StackError};
 use std::alloc::{AllocError, Global};
 

@@ -6,8 +6,7 @@ ghost use Rattle.salvage_texts.specs.Threads.{threads_text};
 
 use crate::ends::{push_frames_end, push_more};
 use crate::standing::push_standings;
-use py_fronts::{FramesFront, ThreadFront};
-use salvage_marks::{Crash, LockState, crashed_at, holds_lock, is_crashed};
+use py_fronts::{Crash, FramesFront, LockState, ThreadFront, crashed_at, holds_lock, is_crashed};
 use std::alloc::{AllocError, Global};
 
 /// The id that the system gave in decimal, where there is one, else the interpreter's in hexadecimal.

@@ -10,8 +10,8 @@ use Rattle.elf64_core.specs.Notes.{Noted}
 use Rattle.elf64_core.specs.declared.header.Machine.{Machine}
 use Rattle.elf64_core.specs.declared.header.Machine.TheVariants as machine
 use Rattle.image_memory.specs.Notes.{is_of_kind, status_kind, status_pid_place}
-use Rattle.salvage_marks.specs.declared.crash.Crash.{Crash}
-use Rattle.salvage_marks.specs.Crashes.{is_id, is_native, status_thread}
+use Rattle.py_fronts.specs.declared.crash.Crash.{Crash}
+use Rattle.py_fronts.specs.Crashes.{is_id, is_native, status_thread}
 use Rattle.thread_registers.specs.declared.threads.PythonMatch.{PythonMatch}
 use Rattle.thread_registers.specs.declared.threads.PythonThread.{PythonThread}
 use Rattle.thread_registers.specs.declared.threads.Register.{Register}

@@ -1,14 +1,14 @@
 //! The threads of a process among the notes of its core.
 ghost use Rattle.std.specs.Prelude.{◌≡◌, ◌≤◌, ◌++◌, IfOk, OnOk, is_none, length, map, option_to_list, position};
 ghost use Rattle.elf64_core.specs.Notes.{noted};
-ghost use Rattle.salvage_marks.specs.Crashes.{is_native};
+ghost use Rattle.py_fronts.specs.Crashes.{is_native};
 ghost use Rattle.thread_registers.specs.Threads.{is_python, is_untold, match_at, python_of, thread_in, thread_noted};
 ghost use Rattle.thread_registers.specs.Threads.{thread_shown, threads_told, whose_of};
 
 use crate::registers::registers_in;
 use crate::threads::{PythonMatch, PythonThread, ThreadRegisters, Whose};
 use elf64_core::{Machine, Note, u32_in};
-use salvage_marks::{Crash, is_id, status_thread};
+use py_fronts::{Crash, is_id, status_thread};
 use std::alloc::{AllocError, Global};
 
 /// The type of a status record, and how many bytes one has at least.

@@ -1,4 +1,0 @@
-pub mod Version
-pub mod Spelling
-pub mod Fronts
-pub mod Offsets

@@ -1,4 +1,0 @@
-pub mod Ids
-pub mod Crashes
-pub mod Locks
-pub mod Salvaged
