@@ -5,12 +5,12 @@ ghost use Rattle.process_memory.specs.Memory.{record_at};
 ghost use Rattle.process_memory.specs.Seen.{Answers, ReadsRange, read_fault, with_bytes};
 ghost use Rattle.py_fields.specs.Sound.{IsSound};
 ghost use Rattle.py_builtins.specs.Consulted.{Consults, ReadingFields, ReadsFields};
-ghost use Rattle.py_builtins.specs.Dicts.{AreNear, Cursor, dict_slots, entry_width, managed_slots, slot_at, slot_by};
-ghost use Rattle.py_builtins.specs.Dicts.{slots_of};
+ghost use Rattle.py_builtins.specs.Dicts.{AreNear, Cursor, dict_slots, entry_width, keys_slots, managed_slots, slot_at};
+ghost use Rattle.py_builtins.specs.Dicts.{slot_by, slots_of};
 ghost use Rattle.py_builtins.specs.ObjectError.{object_fault};
 
 use crate::ObjectError;
-use crate::keys::{Slots, read_dict};
+use crate::keys::{Slots, read_dict, read_keys};
 use crate::managed::read_managed;
 use elf64_core::u64_in;
 use process_memory::{ProcessMemory, ReadFault, record_in, word_wide};
@@ -99,6 +99,27 @@ impl DictCursor {
         ensures memory { IsErrOf result ObjectError.OutOfMemory → IsTrue (P.seen process.old).may_want_memory }
     {
         let slots = read_managed(process, layout, addr, tp_addr, flags)?;
+        Ok(DictCursor { slots, passed: 0 })
+    }
+
+    /// The slots of the keys at an address, whose values stand apart from `values` on, one behind the other; 0 says
+    /// that they stand beside their keys. Objects share the keys of their type, and each has its own values.
+    ///
+    /// The keys are those of a dict, as `from` reads them, with the same errors; the values are not looked at. It
+    /// takes no memory, as `from`. At most one read.
+    pub fn from_keys<P: ProcessMemory>(
+        process: &mut P,
+        layout: &Layout,
+        keys: u64,
+        values: u64,
+    ) -> Result<DictCursor, ObjectError>
+        requires sound { IsSound layout.now }
+        ensures answer { Consults layout.now object_fault 1 (P.seen process.old) (P.seen process.new)
+            (λ m. keys_slots layout.now m keys values) (slots_of result) }
+        ensures start { IfOk result (λ cursor. cursor.passed ≡ 0) }
+        ensures memory { IsErrOf result ObjectError.OutOfMemory → IsTrue (P.seen process.old).may_want_memory }
+    {
+        let slots = read_keys(process, layout, keys, values as u128)?;
         Ok(DictCursor { slots, passed: 0 })
     }
 

@@ -11,3 +11,5 @@ mod typed;
 
 pub use names::thread_names_from_interpreter;
 pub use names_error::NamesError;
+pub use search::{Looked, find_in};
+pub use typed::word_beside;

@@ -13,9 +13,11 @@ use std::alloc::Global;
 
 /// What a search found, and how many slots may be looked at then.
 #[derive(Clone, Copy)]
-pub(crate) struct Looked {
-    pub(crate) found: Option<u64>,
-    pub(crate) left: u64,
+pub struct Looked {
+    /// The address of the value under the name, where there is one.
+    pub found: Option<u64>,
+    /// How many slots may still be looked at.
+    pub left: u64,
 }
 
 /// The value that a slot has under a name; none where it is empty or its key is another text. At most 2 reads.
@@ -62,9 +64,13 @@ fn read_value<P: ProcessMemory>(
     value_named(alloc, process, layout, name, slot)
 }
 
-/// The value of the first entry of a dict under a name, where so many slots may be looked at. `Entries` comes
-/// where they were and there is another. At most 4 reads for each slot that is looked at.
-pub(crate) fn find_in<P: ProcessMemory>(
+/// The value of the first entry of a dict under a name, where so many slots may be looked at.
+///
+/// The dict is one of which no slot was passed. `Entries` comes where so many slots were looked at, empty ones too,
+/// and there is another. `Object` has the first fault of a slot or of a key on the way: a part that is not in memory,
+/// or a key that is no text. Else it is want of memory, `OutOfMemory`, which `Object` never holds. At most 4 reads
+/// for each slot that is looked at.
+pub fn find_in<P: ProcessMemory>(
     alloc: Global,
     process: &mut P,
     layout: &Layout,

@@ -13,8 +13,11 @@ use process_memory::{ProcessMemory, ReadFault, word, word_past};
 use py_builtins::{DictCursor, ObjectError, ObjectType, PY_TPFLAGS_MANAGED_DICT};
 use py_fields::Layout;
 
-/// The word so far behind an address; a negative distance is a number from 2^63 on. At most one read.
-pub(crate) fn word_beside<P: ProcessMemory>(
+/// The word so far behind an address; a negative distance is a number from 2^63 on.
+///
+/// A word that is not in memory is `Unreadable`, and so is one before address 0 or past the last one. At most one
+/// read.
+pub fn word_beside<P: ProcessMemory>(
     process: &mut P,
     addr: u64,
     distance: u64,
