@@ -25,6 +25,6 @@ pub use entries::DictIterator;
 pub use error::ObjectError;
 pub use integers::{Digits, copy_int, copy_long};
 pub use items::{Items, Sequence, read_item, read_items};
-pub use managed::{PY_TPFLAGS_INLINE_VALUES, PY_TPFLAGS_MANAGED_DICT};
+pub use managed::{PY_TPFLAGS_INLINE_VALUES, PY_TPFLAGS_MANAGED_DICT, word_before};
 pub use strings::{Characters, StateAt, copy_string};
 pub use types::{ObjectType, read_type};

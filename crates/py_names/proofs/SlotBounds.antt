@@ -32,7 +32,7 @@ go_on_sum (Some value) rest count left r e h = let is = ok_same (looked (Some va
 
 module _ (l : Layout) (m : Memory) where
   module _ (name : List ℕ) (s : Slots) where
-    find_most : (n number left : ℕ) → find_looked l m name s n number left ≤ left
+    pub find_most : (n number left : ℕ) → find_looked l m name s n number left ≤ left
     unfolding find_looked
     find_most zero number left = omega arith
     find_most (suc n) number zero = omega arith
@@ -48,7 +48,7 @@ module _ (l : Layout) (m : Memory) where
         rw v.1 (go_on_sum v.0 (find_from l m name s n (number + 1) left) (find_looked l m name s n (number + 1) left) left r v.2
         (λ h. find_sum n (number + 1) left r h))
 
-  looked_most : {T : Type 0} (d : Found T) (count : T → ℕ) (left : ℕ) → ((x : T) → count x ≤ left) → looked_in d count ≤ left
+  pub looked_most : {T : Type 0} (d : Found T) (count : T → ℕ) (left : ℕ) → ((x : T) → count x ≤ left) → looked_in d count ≤ left
   looked_most (Ok x) count left h = h x
   looked_most (Err f) count left h = omega arith
 
@@ -104,7 +104,7 @@ module _ (l : Layout) (m : Memory) where
   threads_most None left = omega arith
   threads_most (Some dict) left = looked_most (dict_slots l m dict) _ left (λ slots. each_most slots slots.count 0 left)
 
-  search_sum : (name : List ℕ) (left : ℕ) (slots : Slots) (d : Found Looked) (behind : Option ℕ → ℕ → ℕ) → find_from l m name slots slots.count 0 left ≡ d
+  pub search_sum : (name : List ℕ) (left : ℕ) (slots : Slots) (d : Found Looked) (behind : Option ℕ → ℕ → ℕ) → find_from l m name slots slots.count 0 left ≡ d
       → ((found : Option ℕ) (k : ℕ) → behind found k ≤ k)
       → find_looked l m name slots slots.count 0 left + looked_in d (λ search. behind search.found search.left) ≤ left
   search_sum name left slots (Ok r) behind e h = omega (arith, find_sum name slots slots.count 0 left r e, h r.found r.left)
