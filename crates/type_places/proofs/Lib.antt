@@ -1,0 +1,4 @@
+pub mod FlagSteps
+pub mod Having
+pub mod HolderSteps
+pub mod ModuleSteps
