@@ -1,0 +1,145 @@
+-- Generators, coroutines, and what stands between them; when the groups of these are sound, and what a table
+-- says of them. From the structs of CPython that the groups' docs name; the form of the file is this project's
+-- own.
+use Rattle.std.specs.Prelude.{Bool, List, [], ◌∷◌, None, IfSome, is_some, option_map, codes}
+use Rattle.std.specs.Option.{option_or}
+use Rattle.toml.specs.Data.{Members}
+use Rattle.py_layout.specs.Values.{group_at, number_at}
+use Rattle.py_fields.specs.Places.{Place}
+use Rattle.py_fields.specs.Sound.{IsRecord}
+use Rattle.py_records.specs.Places.{ArePlain, any_both}
+use Rattle.py_records.specs.declared.coroutines.GeneratorRecord.{GeneratorRecord}
+use Rattle.py_records.specs.declared.coroutines.GeneratorFrameRecord.{GeneratorFrameRecord}
+use Rattle.py_records.specs.declared.coroutines.GeneratorRunningRecord.{GeneratorRunningRecord}
+use Rattle.py_records.specs.declared.coroutines.GeneratorInsideRecord.{GeneratorInsideRecord}
+use Rattle.py_records.specs.declared.coroutines.GeneratorHandledRecord.{GeneratorHandledRecord}
+use Rattle.py_records.specs.declared.coroutines.HeldRecord.{HeldRecord}
+use Rattle.py_records.specs.declared.coroutines.CoroutineRecords.{CoroutineRecords}
+
+unfoldable pub generator_places : GeneratorRecord → List Place
+generator_places r = (r.name, 8) ∷ (r.qualname, 8) ∷ []
+
+abbrev pub IsSoundGenerator : GeneratorRecord → Type 0
+IsSoundGenerator r = IsRecord r.size (generator_places r)
+
+abbrev pub IsSoundGeneratorFrame : GeneratorFrameRecord → Type 0
+IsSoundGeneratorFrame r = ArePlain (r.frame ∷ [])
+
+abbrev pub IsSoundGeneratorRunning : GeneratorRunningRecord → Type 0
+IsSoundGeneratorRunning r = ArePlain (r.running ∷ [])
+
+abbrev pub IsSoundGeneratorInside : GeneratorInsideRecord → Type 0
+IsSoundGeneratorInside r = ArePlain (r.frame ∷ r.state ∷ [])
+
+abbrev pub IsSoundGeneratorHandled : GeneratorHandledRecord → Type 0
+IsSoundGeneratorHandled r = ArePlain (r.item ∷ [])
+
+unfoldable pub held_places : HeldRecord → List Place
+held_places r = (r.held, 8) ∷ []
+
+abbrev pub IsSoundHeld : HeldRecord → Type 0
+IsSoundHeld r = IsRecord r.size (held_places r)
+
+pub record AreSoundCoroutines (r : CoroutineRecords) : Type 0 where
+  pub generator : IfSome r.generator IsSoundGenerator
+  pub coroutine : IfSome r.coroutine IsSoundGenerator
+  pub async_generator : IfSome r.async_generator IsSoundGenerator
+  pub generator_frame : IfSome r.generator_frame IsSoundGeneratorFrame
+  pub generator_running : IfSome r.generator_running IsSoundGeneratorRunning
+  pub generator_inside : IfSome r.generator_inside IsSoundGeneratorInside
+  pub generator_handled : IfSome r.generator_handled IsSoundGeneratorHandled
+  pub coroutine_wrapper : IfSome r.coroutine_wrapper IsSoundHeld
+  pub asend : IfSome r.asend IsSoundHeld
+  pub athrow : IfSome r.athrow IsSoundHeld
+  pub anext_awaitable : IfSome r.anext_awaitable IsSoundHeld
+
+abbrev pub generator_in : Members → GeneratorRecord
+generator_in ms = record {
+  size = number_at ms None (codes "size");
+  name = number_at ms None (codes "name");
+  qualname = number_at ms None (codes "qualname");
+}
+
+abbrev pub generator_frame_in : Members → GeneratorFrameRecord
+generator_frame_in ms = record {
+  frame = number_at ms None (codes "frame");
+}
+
+abbrev pub generator_running_in : Members → GeneratorRunningRecord
+generator_running_in ms = record {
+  running = number_at ms None (codes "running");
+}
+
+abbrev pub generator_inside_in : Members → GeneratorInsideRecord
+generator_inside_in ms = record {
+  frame = number_at ms None (codes "frame");
+  state = number_at ms None (codes "state");
+}
+
+abbrev pub generator_handled_in : Members → GeneratorHandledRecord
+generator_handled_in ms = record {
+  item = number_at ms None (codes "item");
+}
+
+abbrev pub held_in : Members → HeldRecord
+held_in ms = record {
+  size = number_at ms None (codes "size");
+  held = number_at ms None (codes "held");
+}
+
+unfoldable pub coroutines_from : Members → CoroutineRecords
+coroutines_from ms = record {
+  generator = option_map generator_in (group_at ms (codes "generator"));
+  coroutine = option_map generator_in (group_at ms (codes "coroutine"));
+  async_generator = option_map generator_in (group_at ms (codes "async_generator"));
+  generator_frame = option_map generator_frame_in (group_at ms (codes "generator_frame"));
+  generator_running = option_map generator_running_in (group_at ms (codes "generator_running"));
+  generator_inside = option_map generator_inside_in (group_at ms (codes "generator_inside"));
+  generator_handled = option_map generator_handled_in (group_at ms (codes "generator_handled"));
+  coroutine_wrapper = option_map held_in (group_at ms (codes "coroutine_wrapper"));
+  asend = option_map held_in (group_at ms (codes "asend"));
+  athrow = option_map held_in (group_at ms (codes "athrow"));
+  anext_awaitable = option_map held_in (group_at ms (codes "anext_awaitable"));
+}
+
+-- no group is there
+abbrev pub no_coroutines : CoroutineRecords
+no_coroutines = record {
+  generator = None;
+  coroutine = None;
+  async_generator = None;
+  generator_frame = None;
+  generator_running = None;
+  generator_inside = None;
+  generator_handled = None;
+  coroutine_wrapper = None;
+  asend = None;
+  athrow = None;
+  anext_awaitable = None;
+}
+
+-- each group of the first that is there, and else of the second
+unfoldable pub joined_coroutines : CoroutineRecords → CoroutineRecords → CoroutineRecords
+joined_coroutines a b = record {
+  generator = option_or a.generator b.generator;
+  coroutine = option_or a.coroutine b.coroutine;
+  async_generator = option_or a.async_generator b.async_generator;
+  generator_frame = option_or a.generator_frame b.generator_frame;
+  generator_running = option_or a.generator_running b.generator_running;
+  generator_inside = option_or a.generator_inside b.generator_inside;
+  generator_handled = option_or a.generator_handled b.generator_handled;
+  coroutine_wrapper = option_or a.coroutine_wrapper b.coroutine_wrapper;
+  asend = option_or a.asend b.asend;
+  athrow = option_or a.athrow b.athrow;
+  anext_awaitable = option_or a.anext_awaitable b.anext_awaitable;
+}
+
+-- whether a group is there in both
+unfoldable pub share_coroutines : CoroutineRecords → CoroutineRecords → Bool
+share_coroutines a b = any_both (is_some a.generator ∷ is_some a.coroutine ∷ is_some a.async_generator
+    ∷ is_some a.generator_frame ∷ is_some a.generator_running ∷ is_some a.generator_inside
+    ∷ is_some a.generator_handled ∷ is_some a.coroutine_wrapper ∷ is_some a.asend ∷ is_some a.athrow
+    ∷ is_some a.anext_awaitable ∷ [])
+    (is_some b.generator ∷ is_some b.coroutine ∷ is_some b.async_generator ∷ is_some b.generator_frame
+    ∷ is_some b.generator_running ∷ is_some b.generator_inside ∷ is_some b.generator_handled
+    ∷ is_some b.coroutine_wrapper ∷ is_some b.asend ∷ is_some b.athrow ∷ is_some b.anext_awaitable ∷ [])
