@@ -29,10 +29,14 @@ class Field:
     """A struct that stands before this one, so that its length is added."""
     is_last: bool = False
     """Whether the number is that of the member's last byte."""
+    code: str = ""
+    """An expression of C that tells the number, where no member of a struct does."""
 
     @property
     def what(self) -> str:
         """The field as CPython spells it."""
+        if self.code:
+            return self.code
         spelled = f"{self.struct}.{self.member}" if self.member else f"sizeof({self.struct})"
         spelled = f"the last byte of {spelled}" if self.is_last else spelled
         return f"sizeof({self.after}) + {spelled}" if self.after else spelled

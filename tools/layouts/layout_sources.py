@@ -72,6 +72,8 @@ class Answers:
 
 def c_line(it: Field) -> str:
     """The line of C that prints one field's place, without macros: so a compiler's error names the line."""
+    if it.code:
+        return f'printf("{it.key} %zu %zu\\n", (size_t)({it.code}), (size_t)0);'
     start = f"__builtin_offsetof({it.struct}, {it.member})"
     if it.is_bit:
         outer = f"__builtin_offsetof({it.struct}, {it.member.rpartition('.')[0]})"
@@ -137,14 +139,17 @@ def build_probe(
         body = [it for at, it in enumerate(body) if at not in (headers or faults)]
 
 
-def from_headers(fields: Sequence[Field], includes: Sequence[str], flags: Sequence[str], cc: str) -> Answers:
-    """What the headers in these folders tell, by a C program. Left out of it is what the compiler refuses."""
+def from_headers(
+    fields: Sequence[Field], includes: Sequence[str], flags: Sequence[str], cc: str, named: Sequence[str] = HEADERS
+) -> Answers:
+    """What the headers with these names in these folders tell, by a C program. Left out of it is what the compiler
+    refuses."""
     answers = Answers("headers")
     if not any((Path(it) / "Python.h").is_file() for it in includes):
         return answers.none(fields, f"no Python.h in {', '.join(includes)}")
     # (some internal headers name others by paths below internal/; a public header of one name comes before)
     compiler = [cc, *flags, *(f"-I{it}" for it in includes), *(f"-idirafter{it}/internal" for it in includes)]
-    installed = [it for it in HEADERS if any((Path(folder) / it).is_file() for folder in includes)]
+    installed = [it for it in named if any((Path(folder) / it).is_file() for folder in includes)]
     with tempfile.TemporaryDirectory(prefix="derive-layout-") as name:
         why = build_probe(Path(name), compiler, fields, installed, answers)
         if why:
@@ -163,7 +168,7 @@ def from_debug_information(fields: Sequence[Field], binary: str, gdb: str) -> An
     answers = Answers("debug information")
     script = Path(__file__).resolve().with_name("gdb_fields.py")
     with tempfile.NamedTemporaryFile("w", suffix=".json") as asked:
-        json.dump([[it.key, it.struct, it.member, it.is_bit, it.after] for it in fields], asked)
+        json.dump([[it.key, it.struct, it.member, it.is_bit, it.after, it.code] for it in fields], asked)
         asked.flush()
         # (nothing is to be fetched from servers)
         given = {**os.environ, "FIELDS": asked.name, "DEBUGINFOD_URLS": ""}
