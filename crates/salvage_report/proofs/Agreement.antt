@@ -2,7 +2,7 @@
 -- wrong no outcome is a cause.
 use Rattle.std.proofs.Common.{◌≡◌, ◌≢◌, ◌≤◌, ℕ, List, [], ◌∷◌, Ok, Err, refl, sym, ap, subst, ◌∙◌, arith}
 use Rattle.std.proofs.Common.{inl, inr}
-use Rattle.std.specs.Prelude.{Option, map}
+use Rattle.std.specs.Prelude.{Option, Some, None, map}
 use Rattle.image_memory.specs.Images.{Pushed}
 use Rattle.py_fields.specs.declared.layout.Layout.{Layout}
 use Rattle.py_layout.specs.File.{IsRightFor}
@@ -19,9 +19,12 @@ use Rattle.py_fronts.specs.declared.crash.Crash.{Crash}
 use Rattle.py_fronts.specs.declared.salvaged.SalvagedInterpreter.{SalvagedInterpreter}
 use Rattle.salvage_words.specs.Salvage.{Salvage}
 use Rattle.salvage_report.specs.declared.cause.Cause.{Cause}
-use Rattle.salvage_report.specs.declared.cause.Cause.TheVariants.{Core, Layouts, NoInterpreter, OutOfMemory}
+use Rattle.salvage_report.specs.declared.cause.Cause.TheVariants.{Core, Layouts, NoInterpreter, OutOfMemory, Records}
 use Rattle.salvage_report.specs.declared.left.Left.{Left}
-use Rattle.salvage_report.specs.Outcome.{IsFaultless, IsLeft, IsLeftOf, IsOutcome, IsSalvagedBy, IsShowable, Outcome}
+use Rattle.py_records.specs.File.{IsRightFor as AreRightFor}
+use Rattle.salvage_report.proofs.Recorded.{records_apart, records_exclude, records_flaw, records_own, records_within}
+use Rattle.salvage_report.specs.Outcome.{IsCoreFaultless, IsCoreOutcome, IsFaultless, IsFaultlessBy, IsOutcomeBy}
+use Rattle.salvage_report.specs.Outcome.{IsLeft, IsLeftOf, IsOutcome, IsSalvagedBy, IsShowable, Outcome}
 use Rattle.salvage_report.specs.Outcome.{cause_status, left_at, looked_at}
 use Rattle.salvage_report.specs.Outcome.{outcome_status, shown_or_none}
 use Rattle.named_images.specs.Named.{images_read}
@@ -44,12 +47,14 @@ NoCause Right = NoCauseBut cause_status (λ cause. ⊥) Right
 pub cause_own : (cause : Cause) → IsOwn (cause_status cause)
 cause_own (Core e) = core_own e
 cause_own (Layouts e) = layouts_own e
+cause_own (Records e) = records_own e
 cause_own (NoInterpreter addresses) = own 1 (inl refl)
 cause_own OutOfMemory = own 5 (inr (omega arith))
 
 pub cause_within : (cause : Cause) → cause_status cause ≤ 6
 cause_within (Core e) = core_within e
 cause_within (Layouts e) = layouts_within e
+cause_within (Records e) = records_within e
 cause_within (NoInterpreter addresses) = omega arith
 cause_within OutOfMemory = omega arith
 
@@ -121,22 +126,47 @@ module _ (s : Salvage) (bytes : List ℕ) where
       (λ none. good.shown (sym (shown_of good.opened h.0 good.crash
       (subst (λ q. IsLeft s bytes q h.0) (opened_once layouts once bytes images o good.opened found good.is_opened) h.1)) ∙ none)) h.2)
 
-pub outcomes_agree : (s : Salvage) (contents : List (List ℕ)) → AgreeIn (IsOutcome s contents)
-outcomes_agree s [] a b one other na nb = absurd one
-outcomes_agree s (bytes ∷ []) a b one other na nb = absurd one
-outcomes_agree s (bytes ∷ text ∷ images) a b one other na nb =
+core_outcomes_agree : (s : Salvage) (contents : List (List ℕ)) → AgreeIn (IsCoreOutcome s contents)
+core_outcomes_agree s [] a b one other na nb = absurd one
+core_outcomes_agree s (bytes ∷ []) a b one other na nb = absurd one
+core_outcomes_agree s (bytes ∷ text ∷ images) a b one other na nb =
     steps_agree cause_status (λ n. n) (λ error. Layouts error) (IsRightFor text) (IsSalvagedBy s bytes (images_read s.images images))
     (layouts_exclude (IsRightFor text) (right-unique text) cause_status (λ error. Layouts error) (λ e. refl))
     (λ l m says also a b x y na nb. salvaged_agree s bytes (images_read s.images images) l (chooses_once l says.sound.apart) a b x
     (subst (λ q. IsSalvagedBy s bytes (images_read s.images images) q b) (laid_once text m l also says) y) na nb)
     a b one other na nb
 
-pub no_cause : (s : Salvage) (contents : List (List ℕ)) → IsFaultless s contents → NoCause (IsOutcome s contents)
-no_cause s [] good cause ne is = absurd good
-no_cause s (bytes ∷ []) good cause ne is = absurd good
-no_cause s (bytes ∷ text ∷ images) (layouts, says, good) cause ne is =
+core_no_cause : (s : Salvage) (contents : List (List ℕ)) → IsCoreFaultless s contents → NoCause (IsCoreOutcome s contents)
+core_no_cause s [] good cause ne is = absurd good
+core_no_cause s (bytes ∷ []) good cause ne is = absurd good
+core_no_cause s (bytes ∷ text ∷ images) (layouts, says, good) cause ne is =
     steps_sound cause_status (λ cause. ⊥) (λ error. Layouts error) (IsRightFor text) (IsSalvagedBy s bytes (images_read s.images images))
     (λ e error nm. flaw_apart (IsRightFor text) (right-unique text) layouts e (flaw_status e nm).1 says error)
     (λ l other. subst (λ q. NoCause (IsSalvagedBy s bytes (images_read s.images images) q)) (laid_once text layouts l says other)
     (salvaged_sound s bytes (images_read s.images images) layouts (chooses_once layouts says.sound.apart) good))
     cause ne is
+
+-- ---- records
+
+records_agree : (s : Salvage) (name : Option (List ℕ)) (contents : List (List ℕ)) → AgreeIn (IsOutcomeBy name s contents)
+records_agree s None contents = core_outcomes_agree s contents
+records_agree s (Some name) [] = λ a b one other na nb. absurd one
+records_agree s (Some name) (text ∷ contents) =
+    steps_agree cause_status (λ n. n) (λ error. Records error) (AreRightFor text) (λ tables. IsCoreOutcome s contents)
+    (records_exclude cause_status (λ error. Records error) (λ e. refl) text)
+    (λ l m says also a b x y na nb. core_outcomes_agree s contents a b x y na nb)
+
+pub outcomes_agree : (s : Salvage) (contents : List (List ℕ)) → AgreeIn (IsOutcome s contents)
+outcomes_agree s contents = records_agree s s.records contents
+
+no_cause_by : (s : Salvage) (name : Option (List ℕ)) (contents : List (List ℕ)) → IsFaultlessBy name s contents
+    → NoCause (IsOutcomeBy name s contents)
+no_cause_by s None contents good = core_no_cause s contents good
+no_cause_by s (Some name) [] good = absurd good
+no_cause_by s (Some name) (text ∷ contents) (tables, says, good) =
+    steps_sound cause_status (λ cause. ⊥) (λ error. Records error) (AreRightFor text) (λ tables. IsCoreOutcome s contents)
+    (λ e error nm. records_apart text tables e (records_flaw e nm).1 says error)
+    (λ l other. core_no_cause s contents good)
+
+pub no_cause : (s : Salvage) (contents : List (List ℕ)) → IsFaultless s contents → NoCause (IsOutcome s contents)
+no_cause s contents good = no_cause_by s s.records contents good

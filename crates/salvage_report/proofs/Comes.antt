@@ -5,8 +5,7 @@ use Rattle.std.specs.Global.{Global}
 use Rattle.outside.specs.Files.{FilesSeen}
 use Rattle.program_run.specs.Ends.{IsAnswered, IsTroubled}
 use Rattle.program_run.specs.Outcomes.{OutcomeThen}
-use Rattle.program_run.specs.Reading.{AreRead, AsksAmong, HasAll, IsUnreadTrouble, core_contents, trouble_of}
-use Rattle.program_run.specs.declared.core_files.CoreFiles.{CoreFiles}
+use Rattle.program_run.specs.Reading.{AreRead, AsksAmong, HasAll, IsUnreadTrouble, trouble_of}
 use Rattle.program_run.proofs.Ends.{unread_files}
 use Rattle.program_run.specs.declared.trouble.FileTrouble.{FileTrouble}
 use Rattle.program_run.specs.declared.trouble.Trouble.TheVariants.{Cause as Caused}
@@ -25,16 +24,16 @@ module _ (old new : FilesSeen) (s : Salvage) where
   troubled names t are h = unread_files pysalvage (AsksAmong old.told names) old old new (salvage s) OutOfMemory t refl
       (λ name among. subst (λ l. AsksAmong old.told l name) are among) refl h
 
-  module _ (files : CoreFiles) (names : List (List ℕ)) (are : names ≡ files_of s) (has : HasAll old new names (core_contents files)) where
-    read : AreRead old.told (files_of s) (core_contents files)
-    read = subst (λ l. AreRead old.told l (core_contents files)) are has.read
+  module _ (contents names : List (List ℕ)) (are : names ≡ files_of s) (has : HasAll old new names contents) where
+    read : AreRead old.told (files_of s) contents
+    read = subst (λ l. AreRead old.told l contents) are has.read
 
-    pub comes : (text : Vec ℕ Global) → IsOutcome s (core_contents files) (Ok text.items) → IsAnswered pysalvage old new (salvage s) (Ok text)
-    comes text is = (record { contents = core_contents files; read = read; is = is }, has.failed)
+    pub comes : (text : Vec ℕ Global) → IsOutcome s contents (Ok text.items) → IsAnswered pysalvage old new (salvage s) (Ok text)
+    comes text is = (record { contents = contents; read = read; is = is }, has.failed)
 
-    pub caused : (cause : Cause) → (cause_status cause ≢ 5 → IsOutcome s (core_contents files) (Err cause))
+    pub caused : (cause : Cause) → (cause_status cause ≢ 5 → IsOutcome s contents (Err cause))
         → IsTroubled pysalvage old new (salvage s) (Caused cause)
-    caused cause is = (λ ne. record { contents = core_contents files; read = read; is = is ne }, has.failed)
+    caused cause is = (λ ne. record { contents = contents; read = read; is = is ne }, has.failed)
 
 -- an answer after another step is one of both
 pub after : {T E : Type 0} (as_cause : E → Cause) (First : Result T E → Type 0) (Rest : T → Outcome → Type 0) (x : T)

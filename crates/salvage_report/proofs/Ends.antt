@@ -80,7 +80,7 @@ module _ (asked : Option Wanted) (r : Ran) where
       subst (λ c. IsOutcome s c outcome) (same_contents r.files.told (files_of s) comes.contents contents tells.tells comes.read tells.read) comes.is
 
   pub complete_of : (end : End Cause) → HasEnded pysalvage asked r end → (s : Salvage) (contents : List (List ℕ)) → TellsContents asked r.files.told s contents
-      → IsFaultless s contents → r.files_after.failed ≡ r.files.failed → (Rose r.out.faults r.out_after.faults → ⊥)
+      → IsFaultless s contents → r.files_after.failed ≡ r.files.failed → (end_status cause_says end ≡ 4 → ⊥)
       → (end_status cause_says end ≡ 0) ⊎ (end_status cause_says end ≡ 5)
   complete_of printed ended s contents tells good same quiet = inl refl
   complete_of (stopped cause) ended s contents tells good same quiet = by (cases_five (cause_status cause))
@@ -90,7 +90,7 @@ module _ (asked : Option Wanted) (r : Ran) where
       by (inr ne5) = absurd (no_cause s contents good cause ne5 (told_outcome s contents (Err cause) tells (ended.reached ne5)))
   complete_of refused ended s contents tells good same quiet = absurd (none-some _ (sym ended.0 ∙ tells.is_asked))
   complete_of (unread name why) ended s contents tells good same quiet = absurd (one_more r.files.failed (name, why) (sym ended.unread.failed ∙ same))
-  complete_of cut ended s contents tells good same quiet = absurd (quiet ended.cut.rose)
+  complete_of cut ended s contents tells good same quiet = absurd (quiet refl)
 
 -- ---- what a run tells
 
@@ -104,6 +104,17 @@ module _ {asked : Option Wanted} {r : Ran} {err err_after : SinkSeen} {status : 
       (only_of asked r run.end run.ended s contents cause tells is ne same)
 
   pub run_complete : (s : Salvage) (contents : List (List ℕ)) → TellsContents asked r.files.told s contents → IsFaultless s contents
-      → r.files_after.failed ≡ r.files.failed → (Rose r.out.faults r.out_after.faults → ⊥) → (status ≡ 0) ⊎ (status ≡ 5)
+      → r.files_after.failed ≡ r.files.failed → (status ≡ 4 → ⊥) → (status ≡ 0) ⊎ (status ≡ 5)
   run_complete s contents tells good same quiet = subst (λ n. (n ≡ 0) ⊎ (n ≡ 5)) (sym run.is)
-      (complete_of asked r run.end run.ended s contents tells good same quiet)
+      (complete_of asked r run.end run.ended s contents tells good same (λ four. quiet (run.is ∙ four)))
+
+  -- a text that can't be written has a fault of its stream
+  pub four_rose : status ≡ 4 → Rose r.out.faults r.out_after.faults
+  four_rose four = at run.end run.ended (sym run.is ∙ four)
+    where
+      at : (end : End Cause) → HasEnded pysalvage asked r end → end_status cause_says end ≡ 4 → Rose r.out.faults r.out_after.faults
+      at printed ended is = absurd (omega (arith, is))
+      at (stopped cause) ended is = absurd ((cause_own cause).not_4 is)
+      at refused ended is = absurd (omega (arith, is))
+      at (unread name why) ended is = absurd (omega (arith, is))
+      at cut ended is = ended.cut.rose

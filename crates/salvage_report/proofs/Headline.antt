@@ -1,5 +1,5 @@
 -- What status 0 tells where a core is asked for.
-use Rattle.std.proofs.Common.{◌≡◌, ◌≢◌, ℕ, List, [], ◌∷◌, Ok, Err, Some, inl, inr, ap, sym, subst, true, ◌∙◌}
+use Rattle.std.proofs.Common.{◌≡◌, ◌≢◌, ℕ, List, [], ◌∷◌, ◌++◌, Ok, Err, Some, None, inl, inr, ap, sym, subst, true, ◌∙◌}
 use Rattle.std.specs.Prelude.{Option}
 use Rattle.std.specs.Io.KnownBytes.{Appends}
 use Rattle.std.proofs.lemmas.Option.{same_Some}
@@ -15,7 +15,7 @@ use Rattle.salvage_words.specs.Salvage.{Salvage, Wanted}
 use Rattle.salvage_words.specs.Salvage.Wanted.{salvage}
 use Rattle.salvage_report.specs.declared.cause.Cause.{Cause}
 use Rattle.salvage_report.specs.Headline.{HasSalvaged, SaysRegisters, SaysSignal}
-use Rattle.salvage_report.specs.Outcome.{IsOutcome, IsSalvagedBy, Outcome, looked_at, shown_or_none}
+use Rattle.salvage_report.specs.Outcome.{IsCoreOutcome, IsOutcomeBy, IsSalvagedBy, Outcome, looked_at, shown_or_none}
 use Rattle.named_images.specs.Named.{images_read}
 use Rattle.program_run.specs.Ends.{Reaches}
 use Rattle.program_run.specs.Reading.{AreRead}
@@ -34,12 +34,13 @@ shows [] n t written same = absurd (no_text written _ same)
 shows (i ∷ is) n t written same = (λ none. absurd (cc), cc)
 
 module _ (s : Salvage) (told : Told) (old new : SinkSeen) (written : List ℕ) (added : Appends old.written new.written written) where
-  by_left : (bytes text : List ℕ) (images : List (List ℕ)) (layouts : List Layout) → AreRead told (files_of s) (bytes ∷ text ∷ images)
-      → IsRightFor text (Ok layouts) → IsSalvagedBy s bytes (images_read s.images images) layouts (Ok written) → HasSalvaged s told old new
-  by_left bytes text images layouts read says (inl (e, is, h)) = absurd (no_text written _ is)
-  by_left bytes text images layouts read says (inr (o, opened, (left, h, is))) =
+  by_left : (records : List (List ℕ)) (bytes text : List ℕ) (images : List (List ℕ)) (layouts : List Layout)
+      → AreRead told (files_of s) (records ++ bytes ∷ text ∷ images) → IsRightFor text (Ok layouts) → IsSalvagedBy s bytes (images_read s.images images) layouts (Ok written) → HasSalvaged s told old new
+  by_left records bytes text images layouts read says (inl (e, is, h)) = absurd (no_text written _ is)
+  by_left records bytes text images layouts read says (inr (o, opened, (left, h, is))) =
       let shown = shows left.salvaged.interpreters.items (looked_at o) (shown_left s left) written is in
       record {
+        records = records;
         core = bytes;
         text = text;
         images = images;
@@ -54,14 +55,23 @@ module _ (s : Salvage) (told : Told) (old new : SinkSeen) (written : List ℕ) (
         written = subst (λ t. Appends old.written new.written t) shown.1 added;
       }
 
-  by_contents : (contents : List (List ℕ)) → AreRead told (files_of s) contents → IsOutcome s contents (Ok written) → HasSalvaged s told old new
-  by_contents [] read h = absurd h
-  by_contents (bytes ∷ []) read h = absurd h
-  by_contents (bytes ∷ text ∷ images) read (inl (e, is, h)) = absurd (no_text written _ is)
-  by_contents (bytes ∷ text ∷ images) read (inr (layouts, says, h)) = by_left bytes text images layouts read says h
+  by_core : (records contents : List (List ℕ)) → AreRead told (files_of s) (records ++ contents)
+      → IsCoreOutcome s contents (Ok written) → HasSalvaged s told old new
+  by_core records [] read h = absurd h
+  by_core records (bytes ∷ []) read h = absurd h
+  by_core records (bytes ∷ text ∷ images) read (inl (e, is, h)) = absurd (no_text written _ is)
+  by_core records (bytes ∷ text ∷ images) read (inr (layouts, says, h)) =
+      by_left records bytes text images layouts read says h
+
+  by_contents : (name : Option (List ℕ)) (contents : List (List ℕ)) → AreRead told (files_of s) contents
+      → IsOutcomeBy name s contents (Ok written) → HasSalvaged s told old new
+  by_contents None contents read h = by_core [] contents read h
+  by_contents (Some name) [] read h = absurd h
+  by_contents (Some name) (text ∷ contents) read (inl (e, is, h)) = absurd (no_text written _ is)
+  by_contents (Some name) (text ∷ contents) read (inr (tables, says, h)) = by_core (text ∷ []) contents read h
 
   comes : ComesTo told (salvage s) (Ok written) → HasSalvaged s told old new
-  comes h = by_contents h.contents h.read h.is
+  comes h = by_contents s.records h.contents h.read h.is
 
   pub salvaged_of_run : (asked : Option Wanted) → asked ≡ Some (salvage s) → Reaches pysalvage asked told (Ok written) → HasSalvaged s told old new
   salvaged_of_run asked is reached =

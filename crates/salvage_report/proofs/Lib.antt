@@ -1,7 +1,10 @@
 pub mod Remains
 pub mod Agreement
+pub mod Recorded
 pub mod Comes
 pub mod Few
 pub mod Ends
 pub mod Headline
 pub mod NoFloat
+pub mod TellingRefused
+pub mod Saying

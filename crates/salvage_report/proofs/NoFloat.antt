@@ -14,8 +14,10 @@ use Rattle.thread_registers.specs.Threads.{ThreadShown}
 use Rattle.thread_registers.specs.Trees.{threads_tree}
 use Rattle.thread_registers.proofs.Plain.{no_float as threads}
 use Rattle.salvage_json.proofs.Trees.{integer, interpreters, process, signal}
-use Rattle.salvage_report.specs.Tree.{left_tree, section_tree}
-use Rattle.salvage_report.specs.Sections.{registers_shown}
+use Rattle.missed_reads.specs.Told.{RefusedTold, missed_tree}
+use Rattle.missed_reads.proofs.NoFloat.{no_float as missed}
+use Rattle.salvage_report.specs.Tree.{left_tree, missing_tree, section_tree}
+use Rattle.salvage_report.specs.Sections.{missing_shown, registers_shown}
 use Rattle.salvage_report.specs.declared.left.Left.{Left}
 
 -- ---- how the signal came about
@@ -67,7 +69,14 @@ threads_section : (told : Option (List ThreadShown)) → has_float (section_tree
 threads_section None = refl
 threads_section (Some told) = threads told
 
+missing_section : (told : Option RefusedTold) → has_float (section_tree missed_tree told) ≡ false
+missing_section None = refl
+missing_section (Some told) = missed told
+
+pub missing_no_float : (told : RefusedTold) → has_float (missing_tree told) ≡ false
+missing_no_float told = λ i. missed told i || false
+
 pub no_float : (left : Left) → has_float (left_tree left) ≡ false
-no_float left = λ i. interpreters left.salvaged.crash left.salvaged.interpreters.items i || (false
-    || (process left.process i || (threads_section (registers_shown left.told.registers) i || (signal left.signal i
-    || (info_section left.told.signal i || (false || false))))))
+no_float left = λ i. interpreters left.salvaged.crash left.salvaged.interpreters.items i
+    || (missing_section (missing_shown left.told.missing) i || (false || (process left.process i || (threads_section (registers_shown left.told.registers) i || (signal left.signal i
+    || (info_section left.told.signal i || (false || false)))))))

@@ -1,5 +1,5 @@
 -- What a run that salvages a core promises under status 0.
-use Rattle.std.specs.Prelude.{◌≡◌, ◌≢◌, ◌∷◌, [], ℕ, List, Ok, Some}
+use Rattle.std.specs.Prelude.{◌≡◌, ◌≢◌, ◌∷◌, ◌++◌, [], ℕ, List, Ok, Some}
 use Rattle.std.specs.Io.KnownBytes.{Appends}
 use Rattle.outside.specs.Files.{Told}
 use Rattle.outside.specs.Streams.{SinkSeen}
@@ -23,14 +23,15 @@ use Rattle.salvage_report.specs.Texts.{shown_left}
 -- The text of what is left of a process was written, or its JSON where the words ask for that: of at least one
 -- interpreter, and of the fronts over the memory of the core and its images, each interpreter with its own lock, and
 -- the thread that the core's first status record is of, and what is told in the sections that are asked for
--- (`IsLeft`): by the bytes that the files gave for the core, by
+-- (`IsLeft`): by the bytes that the files gave for the file of records, where one is named, for the core, by
 -- the layouts that they gave, and by all the images, each under its path. Which bytes a file gave is said where the
 -- files tell, and what was written where the stream tells.
 pub record HasSalvaged (s : Salvage) (told : Told) (old new : SinkSeen) : Type 0 where
+  pub records : List (List ℕ)
   pub core : List ℕ
   pub text : List ℕ
   pub images : List (List ℕ)
-  pub read : AreRead told (files_of s) (core ∷ text ∷ images)
+  pub read : AreRead told (files_of s) (records ++ core ∷ text ∷ images)
   pub layouts : List Layout
   pub says : IsRightFor text (Ok layouts)
   pub opened : OpenedProcess

@@ -8,3 +8,4 @@ pub mod Seen
 pub mod Headline
 pub mod Sections
 pub mod Tree
+pub mod Missing

@@ -1,6 +1,6 @@
 -- What is come to over the contents of the files.
 use Rattle.std.specs.Prelude.{◌≡◌, ◌≢◌, ℕ, ◌+◌, nat_eq, not, List}
-use Rattle.std.specs.Prelude.{[], ◌∷◌, length, Option, Result, Ok, Err, Vec}
+use Rattle.std.specs.Prelude.{[], ◌∷◌, length, Option, Some, None, Result, Ok, Err, Vec}
 use Rattle.std.specs.Global.{Global}
 use Rattle.elf64_core.specs.Header.{machine_of}
 use Rattle.image_memory.specs.Images.{Pushed}
@@ -10,6 +10,10 @@ use Rattle.py_layout.specs.File.{IsRightFor}
 use Rattle.py_stacks.specs.declared.asked.Asked.{Asked}
 use Rattle.py_stacks.specs.declared.asked.LineNo.TheVariants.{LastInstruction}
 use Rattle.py_process.specs.Reports.{NotesTell, memory_in}
+use Rattle.py_records.specs.File.{IsRightFor as AreRightFor}
+use Rattle.py_records.specs.declared.error.RecordsError.{RecordsError}
+use Rattle.py_records.specs.declared.error.RecordsError.TheVariants as records
+use Rattle.py_records.specs.declared.table.RecordTable.{RecordTable}
 use Rattle.py_fronts.specs.Candidates.{named_candidates, searched_candidates}
 use Rattle.py_fronts.specs.Salvaged.{SalvagedShown, locked, salvaged_at}
 use Rattle.py_fronts.specs.declared.crash.Crash.{Crash}
@@ -17,7 +21,7 @@ use Rattle.py_fronts.specs.declared.salvaged.Salvaged.{Salvaged}
 use Rattle.py_fronts.specs.declared.salvaged.SalvagedInterpreter.{SalvagedInterpreter}
 use Rattle.salvage_words.specs.Salvage.{Salvage}
 use Rattle.salvage_report.specs.declared.cause.Cause.{Cause}
-use Rattle.salvage_report.specs.declared.cause.Cause.TheVariants.{Core, Layouts, NoInterpreter, OutOfMemory}
+use Rattle.salvage_report.specs.declared.cause.Cause.TheVariants.{Core, Layouts, NoInterpreter, OutOfMemory, Records}
 use Rattle.salvage_report.specs.declared.left.Left.{Left}
 use Rattle.salvage_report.specs.Crashed.{CrashTold}
 use Rattle.core_stacks.specs.Process.{OpenedProcess, ProcessIs}
@@ -78,11 +82,26 @@ abbrev pub IsSalvagedBy : Salvage → List ℕ → Pushed → List Layout → Ou
 IsSalvagedBy s bytes images layouts outcome =
     OutcomeThen (λ error. Core error) (ProcessIs bytes images layouts) (IsLeftOf s bytes) outcome
 
--- the layouts are judged first, and then the process is opened, and its interpreters are looked for
-abbrev pub IsOutcome : Salvage → List (List ℕ) → Outcome → Type 0
-IsOutcome s (bytes ∷ text ∷ images) outcome =
+-- by the files of the core: the layouts are judged, and then the process is opened, and its interpreters are looked for
+abbrev pub IsCoreOutcome : Salvage → List (List ℕ) → Outcome → Type 0
+IsCoreOutcome s (bytes ∷ text ∷ images) outcome =
     OutcomeThen (λ error. Layouts error) (IsRightFor text) (IsSalvagedBy s bytes (images_read s.images images)) outcome
-IsOutcome s _ outcome = ⊥
+IsCoreOutcome s _ outcome = ⊥
+
+-- the records are judged first, where there is a file of them
+abbrev pub IsOutcomeWith : Option (List ℕ) → Salvage → List (List ℕ) → Outcome → Type 0
+IsOutcomeWith None s contents outcome = IsCoreOutcome s contents outcome
+IsOutcomeWith (Some text) s contents outcome =
+    OutcomeThen (λ error. Records error) (AreRightFor text) (λ tables. IsCoreOutcome s contents) outcome
+
+abbrev pub IsOutcomeBy : Option (List ℕ) → Salvage → List (List ℕ) → Outcome → Type 0
+IsOutcomeBy None s contents outcome = IsOutcomeWith None s contents outcome
+IsOutcomeBy (Some name) s (text ∷ contents) outcome = IsOutcomeWith (Some text) s contents outcome
+IsOutcomeBy (Some name) s [] outcome = ⊥
+
+-- what is come to over the contents of all files, in the order in which they are read
+abbrev pub IsOutcome : Salvage → List (List ℕ) → Outcome → Type 0
+IsOutcome s contents outcome = IsOutcomeBy s.records s contents outcome
 
 -- ---- contents with which nothing is wrong: the process can be opened, and an interpreter is shown
 
@@ -92,17 +111,32 @@ pub record IsShowable (s : Salvage) (bytes : List ℕ) (images : Pushed) (layout
   pub crash : Option Crash
   pub shown : (left_at s bytes opened crash).interpreters ≢ []
 
-abbrev pub IsFaultless : Salvage → List (List ℕ) → Type 0
-IsFaultless s (bytes ∷ text ∷ images) = (layouts : List Layout) × IsRightFor text (Ok layouts)
+abbrev pub IsCoreFaultless : Salvage → List (List ℕ) → Type 0
+IsCoreFaultless s (bytes ∷ text ∷ images) = (layouts : List Layout) × IsRightFor text (Ok layouts)
     × IsShowable s bytes (images_read s.images images) layouts
-IsFaultless s _ = ⊥
+IsCoreFaultless s _ = ⊥
+
+abbrev pub IsFaultlessBy : Option (List ℕ) → Salvage → List (List ℕ) → Type 0
+IsFaultlessBy None s contents = IsCoreFaultless s contents
+IsFaultlessBy (Some name) s (text ∷ contents) =
+    (tables : List RecordTable) × AreRightFor text (Ok tables) × IsCoreFaultless s contents
+IsFaultlessBy (Some name) s [] = ⊥
+
+abbrev pub IsFaultless : Salvage → List (List ℕ) → Type 0
+IsFaultless s contents = IsFaultlessBy s.records s contents
 
 -- ---- statuses
+
+-- a file of records that is refused
+abbrev pub records_status : RecordsError → ℕ
+records_status records.OutOfMemory = 5
+records_status _ = 6
 
 -- want of memory has one status, wherever it came
 abbrev pub cause_status : Cause → ℕ
 cause_status (Core error) = core_status error
 cause_status (Layouts error) = layouts_status error
+cause_status (Records error) = records_status error
 cause_status (NoInterpreter addresses) = 1
 cause_status OutOfMemory = 5
 

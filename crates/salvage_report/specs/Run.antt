@@ -1,12 +1,16 @@
 -- What a run of the top call means.
 use Rattle.std.specs.Prelude.{◌≡◌, ◌≤◌, ⊤, ℕ, List, Option, Some, IsSome, Ok, codes}
 use Rattle.outside.specs.Files.{Told}
-use Rattle.program_run.specs.Ends.{Program}
+use Rattle.outside.specs.Files.{FilesSeen}
+use Rattle.outside.specs.Streams.{SinkSeen}
+use Rattle.program_run.specs.Ends.{Program, ran}
+use Rattle.program_run.specs.Runs.{IsRun}
 use Rattle.program_run.specs.Reading.{AreRead, AsksAmong}
 use Rattle.salvage_words.specs.Salvage.{Salvage, Wanted}
 use Rattle.salvage_words.specs.Salvage.Wanted.{help, version, salvage}
 use Rattle.salvage_report.specs.declared.cause.Cause.{Cause}
 use Rattle.salvage_report.specs.Lines.{cause_says}
+use Rattle.salvage_report.specs.Missing.{MayTellRefused}
 use Rattle.salvage_report.specs.Outcome.{IsOutcome, Outcome}
 use Rattle.salvage_report.specs.Reading.{files_of}
 use Rattle.salvage_report.specs.Texts.{help_text, program_version}
@@ -32,6 +36,13 @@ AsksFile told (salvage s) name = AsksAmong told (files_of s) name
 -- this program: what its lines begin with, what it says of causes, and what its words come to
 abbrev pub pysalvage : Program Wanted Cause
 pysalvage = record { start = codes "pysalvage: "; says = cause_says; Comes = ComesTo; Asks = AsksFile }
+
+-- a run of it, before which the stream of the text may have gained what was refused
+pub record HasRunAfter (asks : Option Wanted) (files files_after : FilesSeen) (out out_after err err_after : SinkSeen)
+    (status : ℕ) : Type 0 where
+  pub told : SinkSeen
+  pub may : MayTellRefused asks status out told
+  pub run : IsRun pysalvage asks (ran files files_after told out_after) err err_after status
 
 -- the words ask for this, and the files tell these contents of all that are named
 pub record TellsContents (asked : Option Wanted) (told : Told) (s : Salvage) (contents : List (List ℕ)) : Type 0 where

@@ -15,6 +15,8 @@ use Rattle.thread_registers.specs.Threads.{ThreadShown, thread_shown, threads_to
 use Rattle.thread_registers.specs.declared.threads.PythonThread.{PythonThread}
 use Rattle.thread_registers.specs.declared.threads.ThreadRegisters.{ThreadRegisters}
 use Rattle.salvage_words.specs.declared.asked.Sections.{Sections}
+use Rattle.missed_reads.specs.Told.{RefusedTold, blocks_told}
+use Rattle.missed_reads.specs.declared.told.MissedBlocks.{MissedBlocks}
 use Rattle.salvage_report.specs.declared.sections.Told.{Told}
 
 -- what is asked for is there, and nothing else
@@ -43,6 +45,9 @@ own_id process = option_map (λ (p : ℤ × List ℕ). p.0) process
 abbrev pub registers_shown : Option (Vec ThreadRegisters Global) → Option (List ThreadShown)
 registers_shown threads = option_map (λ (ts : Vec ThreadRegisters Global). map thread_shown ts.items) threads
 
+abbrev pub missing_shown : Option MissedBlocks → Option RefusedTold
+missing_shown missing = option_map (λ (m : MissedBlocks). blocks_told m) missing
+
 -- what is told of a core whose process has this id, and of whose interpreters these are left
 pub record AreTold (asked : Sections) (bytes : List ℕ) (process : Option (ℤ × List ℕ)) (is : List SalvagedInterpreter)
     (told : Told) : Type 0 where
@@ -51,3 +56,6 @@ pub record AreTold (asked : Sections) (bytes : List ℕ) (process : Option (ℤ 
   pub signal : told.signal ≡ if_asked asked.signal (signal_told (own_id process) notes)
   pub registers : registers_shown told.registers
       ≡ if_asked asked.registers (threads_told (machine_of bytes) (python_threads is) notes)
+  -- what was refused of the reads is what its keeper holds (`Keeps` of missed_reads)
+  pub refused : RefusedTold
+  pub missing : missing_shown told.missing ≡ if_asked asked.missing refused

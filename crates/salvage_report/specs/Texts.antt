@@ -44,19 +44,22 @@ shown_left s left =
     if s.json then left_json left else left_text s.core left
 
 unfoldable pub help_text : List ℕ
-help_text = codes "pysalvage CORE --layouts FILE [-n N] [-l].. [-j] [--signal] [--registers] [PATH=FILE]..\n\n"
+help_text = codes "pysalvage CORE --layouts FILE [--records FILE] [-n N] [-l].. [-j] [--signal] [--registers]\n"
+    ++ (codes "          [--missing] [PATH=FILE]..\n\n"
     ++ (codes "What is left of the Python stacks in the core of a broken process, or in one that was cut: each chain "
     ++ (codes "of threads and\nframes as far as it goes. Where no mark stands a chain is whole.\n\n"
     ++ (codes "CORE            the core's file\n"
     ++ (codes "--layouts FILE  the layout file\n"
+    ++ (codes "--records FILE  where the fields are that sections need beyond the layouts\n"
     ++ (codes "-n N            the first N frames of a thread and the last N, from 1 to 4096; 100 unless it is said\n"
     ++ (codes "-l              the locals of each frame\n"
     ++ (codes "-j              JSON in place of text\n"
     ++ (codes "--signal        how the signal came about\n"
     ++ (codes "--registers     the registers of each thread, and which of Python's threads it is\n"
+    ++ (codes "--missing       in JSON, which ranges were asked for and are not in memory\n"
     ++ (codes "PATH=FILE       FILE is read in place of the file that the process had mapped from PATH\n"
     ++ (codes "--help          this text\n"
-    ++ codes "--version       the version of the program\n")))))))))))
+    ++ codes "--version       the version of the program\n"))))))))))))))
 
 abbrev pub program_version : List ℕ
 program_version = codes "pysalvage 1.0.0\n"

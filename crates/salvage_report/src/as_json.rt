@@ -5,11 +5,13 @@ ghost use Rattle.serde_json.specs.Written.{has_float};
 ghost use Rattle.py_fields.specs.Version.{version_text};
 ghost use Rattle.crash_signal.specs.Trees.{signal_tree as info_tree};
 ghost use Rattle.thread_registers.specs.Trees.{threads_tree};
-ghost use Rattle.salvage_report.specs.Tree.{left_json, left_tree, pretty_text, section_tree};
-ghost use Rattle.salvage_report.specs.Sections.{registers_shown};
+ghost use Rattle.missed_reads.specs.Told.{missed_tree, told_of};
+ghost use Rattle.salvage_report.specs.Tree.{left_json, left_tree, missing_json, missing_tree, pretty_text, section_tree};
+ghost use Rattle.salvage_report.specs.Sections.{missing_shown, registers_shown};
 
 use crate::left::Left;
 use crash_signal::{CrashSignal, Untold};
+use missed_reads::{MissedBlocks, Misses, missed_blocks, missed_value};
 use py_layout::Version;
 use salvage_json::{interpreters_value, process_value, signal_value};
 use serde_json::{Value, json};
@@ -39,6 +41,16 @@ fn registers_value(alloc: Global, told: &Option<Vec<ThreadRegisters>>) -> Result
     }
 }
 
+/// Which reads were refused, or null.
+fn missing_value(alloc: Global, told: &Option<MissedBlocks>) -> Result<Value, AllocError>
+    ensures { IfOk result (λ value. view value ≡ section_tree missed_tree (missing_shown told.now)) }
+{
+    match told {
+        Some(missed) => missed_value(alloc, missed),
+        None => Ok(Value::Null),
+    }
+}
+
 fn version_of(alloc: Global, version: &Version) -> Result<String, AllocError>
     ensures { IfOk result (λ text. string_bytes text ≡ version_text version.now) }
 {
@@ -50,6 +62,7 @@ fn left_value(alloc: Global, left: &Left) -> Result<Value, AllocError>
 {
     let salvaged = &left.salvaged;
     let interpreters = interpreters_value(alloc, salvaged.crash, &salvaged.interpreters)?;
+    let missing = missing_value(alloc, &left.told.missing)?;
     let process = process_value(alloc, &left.process)?;
     let registers = registers_value(alloc, &left.told.registers)?;
     let signal = signal_value(alloc, left.signal)?;
@@ -57,6 +70,7 @@ fn left_value(alloc: Global, left: &Left) -> Result<Value, AllocError>
     let version = version_of(alloc, &left.version)?;
     json!(in alloc; {
         "interpreters": interpreters,
+        "missing": missing,
         "more": salvaged.more,
         "process": process,
         "registers": registers,
@@ -80,6 +94,25 @@ pub(crate) fn left_json(alloc: Global, left: &Left) -> Result<String, AllocError
     ensures { IfOk result (λ text. string_bytes text ≡ left_json left.now) }
 {
     let value = left_value(alloc, left)?;
+    let mut text = pretty(alloc, &value)?;
+    text.push_str("\n")?;
+    Ok(text)
+}
+
+/// An object that tells which reads were refused.
+fn refused_value(alloc: Global, misses: &Misses) -> Result<Value, AllocError>
+    ensures { IfOk result (λ value. view value ≡ missing_tree (told_of misses.now)) }
+{
+    let missed = missed_blocks(alloc, misses)?;
+    let missing = missed_value(alloc, &missed)?;
+    json!(in alloc; {"missing": missing})
+}
+
+/// Which reads were refused, as one object, on lines, with a line feed at the end. The one error is want of memory.
+pub(crate) fn missing_json(alloc: Global, misses: &Misses) -> Result<String, AllocError>
+    ensures { IfOk result (λ text. string_bytes text ≡ missing_json (told_of misses.now)) }
+{
+    let value = refused_value(alloc, misses)?;
     let mut text = pretty(alloc, &value)?;
     text.push_str("\n")?;
     Ok(text)

@@ -6,6 +6,7 @@ use core_texts::Parts;
 use program_run::RunCause;
 use py_layout::LayoutError;
 use py_process::CoreError;
+use py_records::RecordsError;
 use py_stacks::StackError;
 use std::alloc::AllocError;
 
@@ -16,6 +17,8 @@ pub(crate) enum Cause {
     Core(CoreError),
     /// The layout file has a fault.
     Layouts(LayoutError),
+    /// The file of records has a fault.
+    Records(RecordsError),
     /// Of so many addresses, repeats included, none is an interpreter's that is shown.
     NoInterpreter { addresses: u64 },
     /// There was no memory left.
@@ -41,9 +44,10 @@ impl RunCause for Cause {
         match self {
             Cause::Core(CoreError::OutOfMemory)
             | Cause::Layouts(LayoutError::OutOfMemory)
+            | Cause::Records(RecordsError::OutOfMemory)
             | Cause::OutOfMemory => 5,
             Cause::Core(_) | Cause::NoInterpreter { .. } => 1,
-            Cause::Layouts(_) => 6,
+            Cause::Layouts(_) | Cause::Records(_) => 6,
         }
     }
 
@@ -69,6 +73,16 @@ impl From<LayoutError> for Cause {
 
     fn from(error: LayoutError) -> Cause {
         Cause::Layouts(error)
+    }
+}
+
+impl From<RecordsError> for Cause {
+    ghost use Rattle.salvage_report.specs.declared.cause.Cause.TheVariants.{Records};
+
+    ghost from_gives = { λ error cause. cause ≡ Records error };
+
+    fn from(error: RecordsError) -> Cause {
+        Cause::Records(error)
     }
 }
 

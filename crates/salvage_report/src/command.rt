@@ -7,14 +7,16 @@ ghost use Rattle.salvage_words.specs.Salvage.{Salvage, Wanted, salvage as salvag
 ghost use Rattle.salvage_words.specs.Seen.{asked_by};
 ghost use Rattle.salvage_report.specs.declared.cause.Cause.{Cause as Why};
 ghost use Rattle.salvage_report.specs.Headline.{HasSalvaged, SaysRegisters, SaysSignal};
+ghost use Rattle.salvage_report.specs.Missing.{TellsRefused};
 ghost use Rattle.salvage_report.specs.Outcome.{IsFaultless, IsOutcome, cause_status};
-ghost use Rattle.salvage_report.specs.Run.{IsFew, TellsContents, pysalvage};
-ghost use Rattle.program_run.specs.Ends.{HasOutcome, IsAnswered, ran};
-ghost use Rattle.program_run.specs.Runs.{IsRun};
+ghost use Rattle.salvage_report.specs.Run.{HasRunAfter, IsFew, TellsContents, pysalvage};
+ghost use Rattle.program_run.specs.Ends.{HasOutcome, IsAnswered};
 
 use crate::cause::{Cause, Trouble};
 use crate::help::{help, program_version};
-use crate::left::salvage_over;
+use crate::missing::after_telling;
+use crate::records::{read_records, salvage_with};
+use missed_reads::Misses;
 use outside::{Files, Sink};
 use program_run::{CoreFiles, finish};
 use salvage_words::{ArgsError, Asked, read_words};
@@ -25,6 +27,7 @@ fn text_of<'a, F: Files>(
     alloc: Global,
     asked: &'a Asked,
     files: &mut F,
+    misses: &mut Misses,
 ) -> Result<Vec<u8>, Trouble<'a>>
     requires few { IsFew (asked_by asked.now) }
     ensures told { (F.seen files.new).told ≡ (F.seen files.old).told }
@@ -34,9 +37,10 @@ fn text_of<'a, F: Files>(
         Asked::Help => Ok(help(alloc)?),
         Asked::Version => Ok(program_version(alloc)?),
         Asked::Salvage(words) => {
+            let records = read_records(alloc, &words.records, files)?;
             let (core, layouts) = (words.core.as_bytes(), words.layouts.as_bytes());
             let read = CoreFiles::read(alloc, core, layouts, &words.images, files)?;
-            Ok(salvage_over(alloc, words, read)?)
+            Ok(salvage_with(alloc, words, records, read, misses)?)
         }
     }
 }
@@ -46,6 +50,7 @@ fn outcome_of<'a, F: Files>(
     alloc: Global,
     asked: &'a Result<Asked, ArgsError>,
     files: &mut F,
+    misses: &mut Misses,
 ) -> Result<Vec<u8>, Trouble<'a>>
     requires few { IfOk asked.now (λ wanted. IsFew (asked_by wanted)) }
     ensures told { (F.seen files.new).told ≡ (F.seen files.old).told }
@@ -53,7 +58,7 @@ fn outcome_of<'a, F: Files>(
         → HasOutcome pysalvage asks (F.seen files.old) (F.seen files.new) result }
 {
     match asked {
-        Ok(asked) => text_of(alloc, asked, files),
+        Ok(asked) => text_of(alloc, asked, files, misses),
         Err(ArgsError::Refused) => Err(Trouble::Words),
         Err(ArgsError::OutOfMemory) => Err(Trouble::Cause(Cause::OutOfMemory)),
     }
@@ -62,7 +67,8 @@ fn outcome_of<'a, F: Files>(
 /// Does what the words ask for, and answers the status with which a program ends.
 ///
 /// The words are those of `salvage_words::read_words`, the program's name first. They are judged, the files that they
-/// name are read: the core's, the layout file and those of the images, in order; the layouts are checked, the process
+/// name are read: the file of records, where there is one, the core's, the layout file and those of the images, in
+/// order; the records are checked, then the layouts, the process
 /// of the core is opened as for a report (`core_stacks::report`) up to its layout, and what is left of its interpreters
 /// is read over the memory of the core and its images (`py_fronts::salvage`), with the sections that are asked for,
 /// of which none has a status of its own; and the whole text is written to `out`. Where `--help` or `--version` is asked
@@ -72,11 +78,14 @@ fn outcome_of<'a, F: Files>(
 ///
 /// - 0: the whole text was written.
 /// - 1: the process can't be opened, or of the addresses that were looked at none is an interpreter's that is shown.
+///   Where `--missing` is asked for, an object that tells which reads were refused is written to `out`; a fault of that
+///   write changes no status.
 /// - 2: the words ask for nothing.
 /// - 3: a file that they name can't be read, or is too long.
 /// - 4: the text can't be written; a front of it may have been.
 /// - 5: there is no memory left.
-/// - 6: the layout file has a fault, as `py_layout::Layouts::from_toml` orders them.
+/// - 6: the file of records has a fault, as `py_records::RecordTables::from_toml` orders them, or the layout file has
+///   one, as `py_layout::Layouts::from_toml` does.
 pub fn run<F: Files, S: Sink, E: Sink>(
     alloc: Global,
     words: &[String],
@@ -85,11 +94,10 @@ pub fn run<F: Files, S: Sink, E: Sink>(
     err: &mut E,
 ) -> u8
     // each status has its cause and its line. 0 comes only after the whole text was written, and then nothing is said.
-    // Under another one but 4 nothing is written to `out`. The words are refused exactly where they ask for nothing, and
-    // 3 comes exactly where a file that they name could not be read
-    ensures runs { IsRun pysalvage (words_asked (texts words.now))
-        (ran (F.seen files.old) (F.seen files.new) (S.seen out.old) (S.seen out.new))
-        (E.seen err.old) (E.seen err.new) result }
+    // Under another one but 4 nothing is written to `out`, but what was refused under 1 where that is asked for. The words
+    // are refused exactly where they ask for nothing, and 3 comes exactly where a file that they name could not be read
+    ensures runs { HasRunAfter (words_asked (texts words.now)) (F.seen files.old) (F.seen files.new)
+        (S.seen out.old) (S.seen out.new) (E.seen err.old) (E.seen err.new) result }
 
     ensures statuses { result ≤ 6 }
 
@@ -103,6 +111,10 @@ pub fn run<F: Files, S: Sink, E: Sink>(
         → result ≡ 0 → SaysSignal s (F.seen files.old).told (S.seen out.old) (S.seen out.new) }
     ensures registers { (s : Salvage) → words_asked (texts words.now) ≡ Some (salvages s) → s.sections.registers ≡ true
         → result ≡ 0 → SaysRegisters s (F.seen files.old).told (S.seen out.old) (S.seen out.new) }
+
+    // where it is asked for, which reads were refused is told under status 1 too
+    ensures missing { (s : Salvage) → words_asked (texts words.now) ≡ Some (salvages s) → s.sections.missing ≡ true
+        → result ≡ 1 → TellsRefused (S.seen out.old) (S.seen out.new) }
 
     // where the files tell, each cause has its status, want of memory aside
     ensures only { (s : Salvage) (contents : List (List ℕ)) (cause : Why)
@@ -121,6 +133,8 @@ pub fn run<F: Files, S: Sink, E: Sink>(
         → (result ≡ 0) ⊎ (result ≡ 5) }
 {
     let asked = read_words(alloc, words);
-    let outcome = outcome_of(alloc, &asked, files);
+    let mut misses = Misses::new(alloc);
+    let outcome = outcome_of(alloc, &asked, files, &mut misses);
+    let outcome = after_telling(alloc, &asked, &misses, outcome, out);
     finish(out, err, b"pysalvage: ", &outcome)
 }

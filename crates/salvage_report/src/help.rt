@@ -6,18 +6,21 @@ use std::alloc::{AllocError, Global};
 
 /// The help.
 const HELP: &str = "\
-pysalvage CORE --layouts FILE [-n N] [-l].. [-j] [--signal] [--registers] [PATH=FILE]..
+pysalvage CORE --layouts FILE [--records FILE] [-n N] [-l].. [-j] [--signal] [--registers]
+          [--missing] [PATH=FILE]..
 
 What is left of the Python stacks in the core of a broken process, or in one that was cut: each chain of threads and
 frames as far as it goes. Where no mark stands a chain is whole.
 
 CORE            the core's file
 --layouts FILE  the layout file
+--records FILE  where the fields are that sections need beyond the layouts
 -n N            the first N frames of a thread and the last N, from 1 to 4096; 100 unless it is said
 -l              the locals of each frame
 -j              JSON in place of text
 --signal        how the signal came about
 --registers     the registers of each thread, and which of Python's threads it is
+--missing       in JSON, which ranges were asked for and are not in memory
 PATH=FILE       FILE is read in place of the file that the process had mapped from PATH
 --help          this text
 --version       the version of the program

@@ -2,8 +2,9 @@
 ghost use Rattle.std.specs.Prelude.{◌≡◌, ◌≤◌, IfOk};
 ghost use Rattle.py_fields.specs.Sound.{IsSound};
 ghost use Rattle.salvage_words.specs.Seen.{asked_salvage};
-ghost use Rattle.salvage_report.specs.Outcome.{IsAnswer, IsOutcome, IsSalvagedBy};
+ghost use Rattle.salvage_report.specs.Outcome.{IsAnswer, IsCoreOutcome, IsSalvagedBy};
 ghost use Rattle.program_run.specs.Reading.{core_contents};
+ghost use Rattle.core_stacks.specs.Process.{OpensProcess};
 ghost use Rattle.salvage_report.specs.Seen.{Counts, Salvages, ShowsLeft};
 
 use crate::cause::Cause;
@@ -13,10 +14,12 @@ use crate::text::shown;
 use core_stacks::{Process, open};
 use elf64_core::Text;
 use image_memory::Images;
+use missed_reads::{Missed, Misses};
 use named_images::image_list;
 use program_run::CoreFiles;
 use py_fronts::{Crash, Salvaged, named_candidates, salvage, searched_candidates};
 use py_layout::{Layouts, Version};
+use py_process::CoreError;
 use py_stacks::{Asked, LineNo, StackError};
 use salvage_words::SalvageWords;
 use std::alloc::Global;
@@ -32,18 +35,19 @@ pub(crate) struct Left {
     pub(crate) told: Told,
 }
 
-/// What is left of the interpreters of a process.
+/// What is left of the interpreters of a process. Reads that are refused are kept.
 fn salvaged_of(
     alloc: Global,
     words: &SalvageWords,
     process: &Process,
     crash: Option<Crash>,
+    misses: &mut Misses,
 ) -> Result<Salvaged, StackError>
     requires sound { IsSound process.now.layout }
     requires few { words.now.limit ≤ 4096 }
     ensures { Salvages (asked_salvage words.now) process.now crash result }
 {
-    let mut view = process.dump.view();
+    let mut view = Missed::new(process.dump.view(), misses);
     let asked = Asked {
         lineno: LineNo::LastInstruction,
         locals: words.locals != 0,
@@ -86,12 +90,13 @@ fn shown_left(
     words: &SalvageWords,
     process: Process,
     crash: Option<Crash>,
+    misses: &mut Misses,
 ) -> Result<Vec<u8>, Cause>
     requires sound { IsSound process.layout }
     requires few { words.now.limit ≤ 4096 }
     ensures { ShowsLeft (asked_salvage words.now) process crash result }
 {
-    let salvaged = salvaged_of(alloc, words, &process, crash)?;
+    let salvaged = salvaged_of(alloc, words, &process, crash, misses)?;
     let core = process.dump.core();
     let told = tell_sections(
         alloc,
@@ -99,6 +104,7 @@ fn shown_left(
         core,
         &process.notes,
         &salvaged.interpreters,
+        misses,
     )?;
     if salvaged.interpreters.is_empty() {
         let addresses = count_addresses(alloc, &process)?;
@@ -115,6 +121,29 @@ fn shown_left(
     Ok(shown(alloc, words, &left)?)
 }
 
+/// Keeps the range at which the version can't be read: the one read that is refused where a process can't be opened.
+fn keep_version(opened: &Result<Process, CoreError>, misses: &mut Misses) {
+    if let Err(CoreError::UnreadableVersion { addr, len }) = opened {
+        misses.add(*addr, *len);
+    }
+}
+
+/// Opens the process of a core, as `core_stacks::open` does. A read that is refused is kept.
+fn open_keeping(
+    alloc: Global,
+    core: Vec<u8>,
+    images: &Images,
+    layouts: &Layouts,
+    misses: &mut Misses,
+) -> Result<Process, CoreError>
+    ensures opens { OpensProcess core.items images.now layouts.now result }
+    ensures sound { IfOk result (λ process. IsSound process.layout) }
+{
+    let opened = open(alloc, core, images, layouts);
+    keep_version(&opened, misses);
+    opened
+}
+
 /// The text of what is left of the process of a core, by its images and some layouts.
 fn salvage_core(
     alloc: Global,
@@ -122,23 +151,25 @@ fn salvage_core(
     core: Vec<u8>,
     images: &Images,
     layouts: &Layouts,
+    misses: &mut Misses,
 ) -> Result<Vec<u8>, Cause>
     requires few { words.now.limit ≤ 4096 }
     ensures { IsAnswer (IsSalvagedBy (asked_salvage words.now) core.items images.now layouts.now) result }
 {
-    let process = open(alloc, core, images, layouts)?;
+    let process = open_keeping(alloc, core, images, layouts, misses)?;
     let crash = first_crash(alloc, process.dump.core())?;
-    shown_left(alloc, words, process, crash)
+    shown_left(alloc, words, process, crash, misses)
 }
 
-/// The text of what is left, over what the files hold.
+/// The text of what is left, over what the files hold. Reads that are refused are kept.
 pub(crate) fn salvage_over(
     alloc: Global,
     words: &SalvageWords,
     files: CoreFiles,
+    misses: &mut Misses,
 ) -> Result<Vec<u8>, Cause>
     requires few { words.now.limit ≤ 4096 }
-    ensures { IsAnswer (IsOutcome (asked_salvage words.now) (core_contents files)) result }
+    ensures { IsAnswer (IsCoreOutcome (asked_salvage words.now) (core_contents files)) result }
 {
     let CoreFiles {
         core,
@@ -147,5 +178,5 @@ pub(crate) fn salvage_over(
     } = files;
     let layouts = Layouts::from_toml(alloc, &layouts)?;
     let images = image_list(alloc, &words.images, images)?;
-    salvage_core(alloc, words, core, &images, &layouts)
+    salvage_core(alloc, words, core, &images, &layouts, misses)
 }

@@ -11,6 +11,8 @@ mod crash;
 mod help;
 mod left;
 mod lines;
+mod missing;
+mod records;
 mod sections;
 mod text;
 

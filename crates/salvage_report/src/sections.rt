@@ -4,12 +4,14 @@ ghost use Rattle.elf64_core.specs.Notes.{noted};
 ghost use Rattle.crash_signal.specs.Signals.{signal_told};
 ghost use Rattle.thread_registers.specs.Threads.{threads_told};
 ghost use Rattle.salvage_report.specs.Sections.{AreTold, if_asked, own_id, python_thread, python_threads};
-ghost use Rattle.salvage_report.specs.Sections.{registers_shown};
+ghost use Rattle.salvage_report.specs.Sections.{missing_shown, registers_shown};
+ghost use Rattle.missed_reads.specs.Told.{told_of};
 
 use core_stacks::Notes;
 use crash_signal::{CrashSignal, Untold, read_signal};
 use elf64_core::{Machine, Note, Text};
 use image_memory::CoreDump;
+use missed_reads::{MissedBlocks, Misses, missed_blocks};
 use py_fronts::{SalvagedInterpreter, ThreadFront};
 use salvage_words::Sections;
 use std::alloc::{AllocError, Global};
@@ -22,6 +24,8 @@ pub(crate) struct Told {
     pub(crate) signal: Option<Result<CrashSignal, Untold>>,
     /// The threads of the status records, with their registers.
     pub(crate) registers: Option<Vec<ThreadRegisters>>,
+    /// Which reads were refused.
+    pub(crate) missing: Option<MissedBlocks>,
 }
 
 /// The process's own id.
@@ -104,19 +108,39 @@ fn registers_section(
     Ok(Some(threads))
 }
 
-/// What is told in the sections that are asked for, by the notes of a core and what is left of its interpreters. The one
-/// error is want of memory.
+/// Which reads were refused.
+fn missing_section(
+    alloc: Global,
+    asked: bool,
+    misses: &Misses,
+) -> Result<Option<MissedBlocks>, AllocError>
+    ensures { IfOk result (λ missing. missing_shown missing ≡ if_asked asked (told_of misses.now)) }
+{
+    if !asked {
+        return Ok(None);
+    }
+    Ok(Some(missed_blocks(alloc, misses)?))
+}
+
+/// What is told in the sections that are asked for, by the notes of a core and what is left of its interpreters, and which
+/// reads were refused. The one error is want of memory.
 pub(crate) fn tell_sections(
     alloc: Global,
     asked: Sections,
     core: &CoreDump,
     notes: &Notes,
     interpreters: &[SalvagedInterpreter],
+    misses: &Misses,
 ) -> Result<Told, AllocError>
     ensures { IfOk result (AreTold asked core.now notes.now.process interpreters.now) }
 {
     let all = core.notes(alloc)?;
     let signal = signal_section(asked.signal, own_id(&notes.process), &all);
     let registers = registers_section(alloc, asked.registers, core.machine(), &all, interpreters)?;
-    Ok(Told { signal, registers })
+    let missing = missing_section(alloc, asked.missing, misses)?;
+    Ok(Told {
+        signal,
+        registers,
+        missing,
+    })
 }

@@ -18,11 +18,15 @@ core_rule = record (new_rule (codes "core")) { action = Some Set; required = tru
 abbrev pub frames_rule : Rule
 frames_rule = record (new_rule (codes "frames")) { short = Some 110; long = Some (codes "frames"); action = Some Set }
 
+-- --records FILE
+abbrev pub records_rule : Rule
+records_rule = record (new_rule (codes "records")) { long = Some (codes "records"); action = Some Set }
+
 abbrev pub salvage_app : App
-salvage_app = with_rule (with_rule (with_rule (with_rule (with_rule (with_rule (with_rule (with_rule
-    (new_app (codes "pysalvage")) core_rule) (wanted_rule (codes "layouts") None)) frames_rule) locals_rule)
-    (flag_rule (codes "json") (Some 106))) (flag_rule (codes "signal") None)) (flag_rule (codes "registers") None))
-    images_rule
+salvage_app = with_rule (with_rule (with_rule (with_rule (with_rule (with_rule (with_rule (with_rule (with_rule (with_rule
+    (new_app (codes "pysalvage")) core_rule) (wanted_rule (codes "layouts") None)) records_rule) frames_rule)
+    locals_rule) (flag_rule (codes "json") (Some 106))) (flag_rule (codes "signal") None))
+    (flag_rule (codes "registers") None)) (flag_rule (codes "missing") None)) images_rule
 
 -- what clap finds, where it takes the words; it reads none of the first, which stands for the program's name
 unfoldable pub taken_rows : List Text → Option (List Row)
@@ -42,10 +46,11 @@ abbrev pub limit_of : Option (List ℕ) → Option ℕ
 limit_of None = Some 100
 limit_of (Some word) = limit_in word
 
--- what is left of the core of this name, by a layout file, with files under the paths at which they were mapped
+-- what is left of the core of this name, by a layout file and maybe a file of records, with files under the paths at which they were mapped
 pub record Salvage : Type 0 where
   pub core : List ℕ
   pub layouts : List ℕ
+  pub records : Option (List ℕ)
   pub limit : ℕ
   pub locals : ℕ
   pub json : Bool
@@ -57,12 +62,14 @@ abbrev pub sections_of : List Row → Sections
 sections_of rows = record {
   signal = is_set (codes "signal") rows;
   registers = is_set (codes "registers") rows;
+  missing = is_set (codes "missing") rows;
 }
 
 abbrev pub salvage_by : List Row → ℕ → List (List ℕ × List ℕ) → Salvage
 salvage_by rows limit images = record {
   core = option_value_of (codes "core") rows;
   layouts = option_value_of (codes "layouts") rows;
+  records = first_of (codes "records") rows;
   limit = limit;
   locals = count_of (codes "locals") rows;
   json = is_set (codes "json") rows;

@@ -9,6 +9,7 @@ abbrev pub asked_salvage : SalvageWords → Salvage
 asked_salvage w = record {
   core = w.core;
   layouts = w.layouts;
+  records = w.records;
   limit = w.limit;
   locals = w.locals;
   json = w.json;

@@ -1,5 +1,5 @@
 //! What the words of `pysalvage` ask for.
-ghost use Rattle.std.specs.Prelude.{◌≡◌, option_map};
+ghost use Rattle.std.specs.Prelude.{◌≡◌, Some, codes, option_map};
 ghost use Rattle.clap.specs.Words.{first_of, found_of, rows_of};
 ghost use Rattle.core_words.specs.Answers.{AnswersWords};
 ghost use Rattle.core_words.specs.Words.{texts};
@@ -20,6 +20,8 @@ pub struct Sections {
     pub signal: bool,
     /// `--registers`: the registers of each thread, and which of Python's threads it is.
     pub registers: bool,
+    /// `--missing`: which reads were refused, since their bytes are not in memory.
+    pub missing: bool,
 }
 
 /// What is asked for of a core.
@@ -29,6 +31,8 @@ pub struct SalvageWords {
     pub core: Name,
     /// The layout file.
     pub layouts: Name,
+    /// The file of records, where one is named.
+    pub records: Option<Name>,
     /// How many frames of a thread are shown first, and how many last: from 1 to 4096.
     pub limit: usize,
     /// How often locals were asked for, at most 255.
@@ -70,6 +74,16 @@ fn option_text<'a>(matches: &ArgMatches<'a>, name: &str) -> Option<&'a str>
     matches.get_str(name)
 }
 
+/// The name of the file of records, where one was given.
+fn records_of(alloc: Global, matches: &ArgMatches<'_>) -> Result<Option<Name>, ArgsError>
+    ensures { AnswersWords (λ name. name) (Some (first_of (codes "records") (rows_of (found_of matches.now)))) result }
+{
+    match option_text(matches, "records") {
+        Some(name) => Ok(Some(Name::of(alloc, name.as_bytes())?)),
+        None => Ok(None),
+    }
+}
+
 /// The sections that are asked for, by what clap found.
 fn sections_by(matches: &ArgMatches<'_>) -> Sections
     ensures { result ≡ sections_of (rows_of (found_of matches.now)) }
@@ -77,6 +91,7 @@ fn sections_by(matches: &ArgMatches<'_>) -> Sections
     Sections {
         signal: is_set(matches, "signal"),
         registers: is_set(matches, "registers"),
+        missing: is_set(matches, "missing"),
     }
 }
 
@@ -89,10 +104,12 @@ fn salvage_by(alloc: Global, matches: &ArgMatches<'_>) -> Result<SalvageWords, A
     };
     let core = option_value_of(alloc, matches, "core")?;
     let layouts = option_value_of(alloc, matches, "layouts")?;
+    let records = records_of(alloc, matches)?;
     let images = images_given(alloc, matches)?;
     Ok(SalvageWords {
         core,
         layouts,
+        records,
         limit,
         locals: u64::from(matches.get_count("locals")),
         json: is_set(matches, "json"),
@@ -109,14 +126,14 @@ fn salvage_words(alloc: Global, words: &[String]) -> Result<SalvageWords, ArgsEr
     salvage_by(alloc, &matches)
 }
 
-/// What the words ask for: `CORE --layouts FILE [-n N] [-l].. [-j] [--signal] [--registers] [PATH=FILE]..` behind the
-/// program's name, of which nothing is read; or `--help` or `--version` alone.
+/// What the words ask for: `CORE --layouts FILE [--records FILE] [-n N] [-l].. [-j] [--signal] [--registers]
+/// [--missing] [PATH=FILE]..` behind the program's name, of which nothing is read; or `--help` or `--version` alone.
 ///
-/// Clap takes the words, in any order that it knows: the core's file; `--layouts` with a value, once; `-n` or
-/// `--frames` with a value, at most once, a number from 1 to 4096 in decimal digits, which is 100 unless it is said;
-/// `-j` or `--json`, and each section's flag, at most once; `-l` or `--locals`, any number of times; and the images, none or more, each with a
-/// path, the first equals sign, and the name of a file. A bundle as `-lj` and `--layouts=FILE` are taken, and behind
-/// `--` each word is the core's or an image's.
+/// Clap takes the words, in any order that it knows: the core's file; `--layouts` with a value, once; `--records` with
+/// one, at most once; `-n` or `--frames` with a value, at most once, a number from 1 to 4096 in decimal digits, which is
+/// 100 unless it is said; `-j` or `--json`, and each section's flag, at most once; `-l` or `--locals`, any number of
+/// times; and the images, none or more, each with a path, the first equals sign, and the name of a file. A bundle as
+/// `-lj` and `--layouts=FILE` are taken, and behind `--` each word is the core's or an image's.
 ///
 /// - `Refused` exactly where clap does not take the words for that command, the number is none of these, or a word of
 ///   an image has no equals sign.

@@ -3,7 +3,7 @@ ghost use Rattle.std.specs.Prelude.{◌≡◌, false, IfOk};
 ghost use Rattle.clap.specs.Words.{app_of, found_of, rows_of, rule_of};
 ghost use Rattle.core_words.specs.Answers.{AnswersWords};
 ghost use Rattle.core_words.specs.Words.{texts};
-ghost use Rattle.salvage_words.specs.Salvage.{core_rule, frames_rule, salvage_app, taken_rows};
+ghost use Rattle.salvage_words.specs.Salvage.{core_rule, frames_rule, records_rule, salvage_app, taken_rows};
 
 use clap::{Arg, ArgAction, ArgMatches, Command};
 use core_words::{ArgsError, flag, images_arg, locals_arg, matches_in, wanted};
@@ -28,6 +28,15 @@ fn frames_arg<'a>(alloc: Global) -> Arg<'a>
         .action(ArgAction::Set)
 }
 
+fn records_arg<'a>(alloc: Global) -> Arg<'a>
+    ensures rule { rule_of result ≡ records_rule }
+    ensures local { result.global ≡ false }
+{
+    Arg::new(alloc, "records")
+        .long("records")
+        .action(ArgAction::Set)
+}
+
 /// The command, as clap is told of it.
 fn salvage_command<'a>(alloc: Global) -> Result<Command<'a>, AllocError>
     ensures { IfOk result (λ command. app_of command ≡ salvage_app) }
@@ -35,11 +44,13 @@ fn salvage_command<'a>(alloc: Global) -> Result<Command<'a>, AllocError>
     Command::new(alloc, "pysalvage")
         .arg(core_arg(alloc))?
         .arg(wanted(alloc, "layouts", None))?
+        .arg(records_arg(alloc))?
         .arg(frames_arg(alloc))?
         .arg(locals_arg(alloc))?
         .arg(flag(alloc, "json", Some('j')))?
         .arg(flag(alloc, "signal", None))?
         .arg(flag(alloc, "registers", None))?
+        .arg(flag(alloc, "missing", None))?
         .arg(images_arg(alloc))
 }
 

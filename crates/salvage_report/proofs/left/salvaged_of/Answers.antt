@@ -1,4 +1,4 @@
-use Rattle.std.proofs.Common.{ap}
+use Rattle.std.proofs.Common.{◌∙◌, ap}
 use Rattle.image_memory.specs.Backed.{regions_of}
 use Rattle.process_memory.specs.Seen.{Seen}
 use Rattle.core_stacks.proofs.Stacks.{over_this}
@@ -6,5 +6,5 @@ use Rattle.salvage_report.proofs.left.salvaged_of.Goals as goal
 
 pub returns : goal.returns
 returns c =
-    let here = over_this (regions_of c.args.process.now.dump) (ap (λ (s : Seen). s.pieces) c.view-view.ensures) c.salvage.ensures.answer in
+    let here = over_this (regions_of c.args.process.now.dump) (ap (λ (s : Seen). s.pieces) (c.new-view.ensures ∙ c.view.ensures)) c.salvage.ensures.answer in
     rw (c.machine.ensures, c.core.ensures.same) at here

@@ -2,6 +2,7 @@ use Rattle.std.proofs.Common.{◌∙◌, ap, map}
 use Rattle.elf64_core.specs.Notes.{noted}
 use Rattle.crash_signal.specs.Signals.{signal_told}
 use Rattle.thread_registers.specs.Threads.{threads_told}
+use Rattle.missed_reads.specs.Told.{told_of}
 use Rattle.salvage_report.specs.Sections.{if_asked, own_id, python_threads}
 use Rattle.salvage_report.proofs.sections.tell_sections.Goals as goal
 
@@ -20,4 +21,6 @@ returns c =
       registers = c.in_ok-registers.ensures
           ∙ ap (λ ns. if_asked asked.registers (threads_told c.machine.result pythons (map noted ns))) c.deref-2.ensures.value
           ∙ ap (λ m. if_asked asked.registers (threads_told m pythons notes)) c.machine.ensures;
+      refused = told_of c.args.misses.now;
+      missing = c.in_ok-missing.ensures;
     }
