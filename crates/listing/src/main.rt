@@ -1,6 +1,7 @@
 //! What is read in a file, line by line, for comparison with other readers: `listing elf FILE [ADDR SIZE]`,
 //! `listing frames FILE [STEP [MOST]]`, `listing maps FILE`, `listing footprint LAYOUTS CORE [PATH=FILE]..` and
-//! `listing reads LAYOUTS MOST CORE [PATH=FILE]..`; and the files of programs that are built:
+//! `listing reads LAYOUTS MOST CORE [PATH=FILE]..` and `listing types LAYOUTS RECORDS CORE [PATH=FILE]..`; and the files of
+//! programs that are built:
 //! `listing built LAYOUTS VERSION MACHINE PART SEED` or `.. PART THREADS FRAMES OWNER ARGS [NAME=VALUE]..`.
 //!
 //! Of an ELF file the machine, each segment, each section, each symbol and the build id have a line; with
@@ -12,7 +13,8 @@
 //! 1, each line has one. All these numbers are decimal. A name that is no text is `?`, and `-` stands for none. Of a core
 //! each read of its stacks, by a layout file and the files that its process had mapped, has a line in order: the start and
 //! the size of the range, in hexadecimal digits. Or one line says whether there is a report, and that it took MOST reads or
-//! fewer, or how many.
+//! fewer, or how many. Of its types each that is looked for has a line: its name, its address in hexadecimal digits, and
+//! `code` or `module`, by how it was found; or that it is not there, or could not be read.
 //!
 //! A program that is built is that of a seed, or has so many threads, of ids from 32512 on, of so many frames each, all
 //! with the same locals, of which the first so many are arguments. A VALUE is a number, a text, or `[` and items with
@@ -30,6 +32,7 @@ mod footprint;
 mod frames_file;
 mod maps_file;
 mod reads;
+mod types_file;
 
 use built::list_built;
 use elf_file::list_elf;
@@ -43,6 +46,7 @@ use std::io::{BufWriter, Write};
 use std::process::ExitCode;
 use std::rt::Files;
 use std::{env, fs, io};
+use types_file::list_types;
 
 /// The words after the program's name.
 fn words<R: Env + Alloc<A = Global>>(rt: &R) -> io::Result<Vec<String>> {
@@ -85,6 +89,7 @@ fn run<R: Env + Files + Print + Alloc<A = Global>>(rt: &R) -> io::Result<()> {
         "maps" => list_maps(&mut out, rt.alloc(), &bytes)?,
         "footprint" => list_footprint(&mut out, rt, &bytes, rest)?,
         "reads" => list_reads(&mut out, rt, &bytes, rest)?,
+        "types" => list_types(&mut out, rt, &bytes, rest)?,
         "built" => list_built(&mut out, rt.alloc(), &bytes, rest)?,
         _ => writeln!(out, "refused")?,
     }
