@@ -6,8 +6,8 @@
 
 FOLDER/bin then has `pystacks`, `pysalvage` where it was built, and `pystacks-core`, which is the tool, with `pystacks-slim`,
 `pystacks-layout` and `pystacks-native` (tools/slim_core.py, tools/layouts/derive_layout.py, tools/native_addresses.py); beside it
-stand the tool's modules, the layouts, and the pages of docs for users. It needs the C library and Python 3.8 or later. A folder
-that has other files is not written into.
+stand the tool's modules, the layouts and records, and the pages of docs for users. It needs the C library and Python 3.8 or later. A
+folder that has other files is not written into.
 """
 
 import argparse
@@ -32,7 +32,10 @@ PAGES = ("CORES", "DIFFERENCES", "DUMP", "HOSTILE", "LAYOUTS", "MERGE", "MESSAGE
 TEXTS = ("README.md", "LICENSE", "NOTICE", "CHANGELOG.md", "SECURITY.md")
 """What stands beside docs/."""
 
-LAYOUT_TOOLS = ("derive_layout", "layout_plan", "layout_sources", "gdb_fields")
+LAYOUT_TOOLS = ("derive_layout", "layout_plan", "layout_sources", "gdb_fields", "derive_records", "join_records", "carry_records", "records_plan",
+                "join_layouts", "carry_layouts", "find_pythons", "probe_*")
+"""The modules of the tools that derive and join layouts and records."""
+
 TOOLS = ("dump_core.py", "slim_core.py", "native_addresses.py", "pystacks_tool/**/*.py", *(f"layouts/{it}.py" for it in LAYOUT_TOOLS))
 
 MARK = "COMMIT"
@@ -138,8 +141,9 @@ def put(folder: Path, program: Path, salvage: Optional[Path]) -> List[str]:
         copied(salvage, folder / "bin" / "pysalvage")
     put_tools(folder)
     for machine in MACHINES.values():
-        source = LAYOUTS.with_name(f"cpython-{machine}.toml")
-        copied(source, folder / "layouts" / source.name)
+        for what in ("cpython", "records"):
+            source = LAYOUTS.with_name(f"{what}-{machine}.toml")
+            copied(source, folder / "layouts" / source.name)
     put_pages(folder)
     (folder / MARK).write_text(commit() + "\n", encoding="ascii")
     none = [] if salvage else ["pysalvage isn't built, and isn't there: stacks of broken processes aren't shown"]

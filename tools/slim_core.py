@@ -128,14 +128,13 @@ def main() -> int:
     parser.add_argument("--program", metavar="P", help="the built program (default: the one in crates/pystacks/out)")
     parser.add_argument("--layouts", metavar="FILE", help="the layout file (default: the core's machine's in layouts/)")
     parser.add_argument("--maps", metavar="FILE", default="", help="the process's maps, for a core without a file table")
-    parser.add_argument("--anyway", action="store_true", help="read a core that is longer than half of the free memory")
     parser.add_argument("--version", action="version", version=version_line(), help="the project's version, and its commit")
     words = parser.parse_args()
     if words.root and not os.path.isdir(words.root):
         parser.error(f"there is no folder {words.root}")
     try:
         options = Options(
-            (words.core,), words.locals, root=words.root, maps=words.maps, anyway=words.anyway, layouts=words.layouts, program=words.program)
+            (words.core,), words.locals, root=words.root, maps=words.maps, whole=True, layouts=words.layouts, program=words.program)
         return run(options, words.core, words.out or f"{words.core}.slim")
     except Fault as fault:
         say(str(fault), fault.then, "slim_core")

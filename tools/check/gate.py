@@ -53,7 +53,9 @@ CHECKS = (
     Check("tests/test_typed"),
     Check("tests/test_real_core"),
     Check("tests/test_dump_core"),
+    Check("tests/test_records"),
     Check("tests/test_prepare"),
+    Check("tests/test_parts"),
     Check("tests/test_collapse"),
     Check("tests/test_core_text"),
     Check("tests/test_tool"),
@@ -71,15 +73,18 @@ CHECKS = (
     Check("fuzz", OF_BOTH, (*OF_BOTH, "--count", "5000")),
     Check("growths", (*OF_BOTH, "--step", "100", "--most", "6"), OF_BOTH),
     Check("real/real_core", OF_PROGRAM, (*OF_PROGRAM, "--all")),
+    Check("real/real_records", (), ("--all",)),
     Check("real/real_broken", OF_PROGRAM),
     Check("real/pages", OF_PROGRAM),
     Check("real/real_merge", OF_PROGRAM),
     Check("real/real_salvage", OF_BOTH),
+    Check("real/real_parts", ("--salvage", SALVAGE), ("--salvage", SALVAGE, "--all")),
     Check("real/real_sections", ("--salvage", SALVAGE), ("--salvage", SALVAGE, "--all")),
     Check("real/arm_core", OF_PROGRAM),
     Check("real/compare_elf", OF_LISTING),
     Check("real/compare_frames", OF_LISTING, (*OF_LISTING, "--all")),
     Check("real/compare_maps", OF_LISTING),
+    Check("real/real_types", OF_LISTING),
 )
 """What is run, in order."""
 

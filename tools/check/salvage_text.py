@@ -134,7 +134,7 @@ def check_interpreter(tree: object) -> None:
 def check_told(tree: object, limit: int, sections: Collection[str] = ()) -> None:
     """Fails where something is no JSON of this program, which shows so many frames at each end of a thread, and these
     sections."""
-    need_keys(tree, "interpreters", "more", "process", "registers", "signal", "signal_info", "version")
+    need_keys(tree, "interpreters", "missing", "more", "process", "registers", "signal", "signal_info", "version")
     check_sections(tree, sections)
     need_truths(tree["more"])
     need_texts(tree["version"])

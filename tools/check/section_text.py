@@ -73,15 +73,25 @@ def check_thread(tree: Tree) -> None:
             check_value(value)
 
 
+def check_missing(tree: Tree) -> None:
+    """Fails where an object doesn't tell what was missed: blocks of 64 KiB, ascending, and how many refused reads there were besides."""
+    check_keys(tree, "above", "blocks")
+    blocks = tree["blocks"]
+    if sorted(set(blocks)) != blocks or len(blocks) > 4096 or any(not 0 <= it < 1 << 48 for it in blocks) or tree["above"] < 0:
+        raise Failure(f"{tree!r} tells of no blocks")
+
+
 def check_sections(tree: Tree, asked: Collection[str]) -> None:
     """Fails where a section isn't there by its flag, or has not what it has to have."""
-    for key, flag in (("signal_info", "--signal"), ("registers", "--registers")):
+    for key, flag in (("signal_info", "--signal"), ("registers", "--registers"), ("missing", "--missing")):
         if (tree[key] is not None) != (flag in asked):
             raise Failure(f"the section {key} is {tree[key]!r}, where {asked!r} are asked for")
     if tree["signal_info"] is not None:
         check_signal(tree["signal_info"])
     for it in tree["registers"] or ():
         check_thread(it)
+    if tree["missing"] is not None:
+        check_missing(tree["missing"])
 
 
 def signal_lines(tree: Tree) -> List[str]:

@@ -8,10 +8,13 @@ from typing import List, Sequence
 
 from pystacks_tool.command import run
 from pystacks_tool.faults import NO_ROOM, Fault, say
-from pystacks_tool.options import Options
+from pystacks_tool.options import ALL_FRAMES, Options
 from pystacks_tool.output import written
 from pystacks_tool.pages import with_places
 from pystacks_tool.places import LAYOUTS, MACHINES, PROGRAM, SALVAGE, version_line
+
+LARGEST = 1 << 26
+"""The most MB that --memory takes."""
 
 WHAT = "Shows where a Python process stood when it died: the stacks of its threads, by its core."
 
@@ -30,7 +33,10 @@ def add_shown(parser: argparse.ArgumentParser) -> None:
     parser.add_argument("-l", "--locals", action="count", default=0, help="show locals; twice, longer ones")
     parser.add_argument("--no-signal", action="store_true", help="without the line that says how the signal came about")
     parser.add_argument("--registers", action="store_true", help="show the registers of each thread")
-    parser.add_argument("--all", action="store_true", help="each thread with its own stack, however many there are")
+    parser.add_argument("--stacks", action="store_true", help="each stack whole, once, however many there are")
+    parser.add_argument("--all", action="store_true", help="each thread with its own stack, and each frame with its line")
+    parser.add_argument("--frames", metavar="N", type=frames_at_end, default=None,
+                        help="how many frames of a stack are shown at each end, from 1 to 4096 (default: 100); all: 4096, and each has its line")
     parser.add_argument("--source", metavar="FOLDER", nargs="?", const="", default=None,
                         help="show source lines, where the files are there: as they are named, or below this folder")
     parser.add_argument("-j", "--json", action="store_true", help="as JSON: one object")
@@ -45,10 +51,27 @@ def add_taken(parser: argparse.ArgumentParser) -> None:
     parser.add_argument("--root", metavar="FOLDER", default="", help="look for the mapped files, and for sources, below this folder")
     parser.add_argument("--maps", metavar="FILE", default="", help="the process's maps, for a core without a file table")
     parser.add_argument("--keep", metavar="FILE", default="", help="keep the core that was prepared in this new file")
-    parser.add_argument("--anyway", action="store_true", help="read a core that is longer than half of the free memory")
+    parser.add_argument("--memory", metavar="MB", type=megabytes, default=512, help="how much of a core may be read (default: 512); of a longer one a part is")
     parser.add_argument("--layouts", metavar="FILE", help="the layout file (default: the core's machine's in layouts/)")
+    parser.add_argument("--records", metavar="FILE", help="the file of records, for pysalvage (default: the core's machine's in layouts/, where it is there)")
     parser.add_argument("--program", metavar="FILE", help="the program pystacks (default: the one that was built or installed)")
     parser.add_argument("--salvage", metavar="FILE", help="the program pysalvage (default: the one beside it)")
+
+
+def megabytes(word: str) -> int:
+    """How many MB a word says."""
+    if not word.isdecimal() or not 0 < int(word) <= LARGEST:
+        raise argparse.ArgumentTypeError(f"{word} is no number of MB from 1 to {LARGEST}")
+    return int(word)
+
+
+def frames_at_end(word: str) -> int:
+    """How many frames a word says."""
+    if word == "all":
+        return ALL_FRAMES
+    if not (word.isascii() and word.isdecimal()) or not 1 <= int(word) <= ALL_FRAMES:
+        raise argparse.ArgumentTypeError(f"{word} is neither a number of frames from 1 to {ALL_FRAMES} nor `all`")
+    return int(word)
 
 
 def parser_for(name: str) -> argparse.ArgumentParser:
@@ -65,9 +88,9 @@ def parser_for(name: str) -> argparse.ArgumentParser:
 def options_of(words: argparse.Namespace) -> Options:
     """The words, each with its type."""
     return Options(
-        cores=tuple(words.core), locals=words.locals, signal=not words.no_signal, registers=words.registers, shows_all=words.all, source=words.source, json=words.json,
+        cores=tuple(words.core), locals=words.locals, signal=not words.no_signal, registers=words.registers, shows_all=words.all, shows_stacks=words.stacks, frames=words.frames, source=words.source, json=words.json,
         collapsed=words.collapsed, html=words.html, group=words.group, plain=words.plain, root=words.root, maps=words.maps,
-        keep=words.keep, anyway=words.anyway, layouts=words.layouts, program=words.program, salvage=words.salvage,
+        keep=words.keep, memory=words.memory, layouts=words.layouts, records=words.records, program=words.program, salvage=words.salvage,
         version=words.version)
 
 
@@ -78,6 +101,8 @@ def clash(options: Options) -> str:
         return "--group takes no -l, -j, --collapsed, --keep and --maps"
     if options.collapsed and options.locals:
         return "--collapsed takes no -l"
+    if options.plain and options.frames is not None:
+        return "--plain takes no --frames: the program shows whole stacks"
     if len(forms) > 1 and forms != ["json", "plain"]:
         return "of --json, --collapsed, --html and --plain one is taken, or --json with --plain"
     if not options.cores:

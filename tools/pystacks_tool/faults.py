@@ -36,4 +36,4 @@ def say_next(then: str, who: str = "dump_core") -> None:
 def shown(name: bytes) -> str:
     """A name within a line."""
     text = name.decode("utf-8", "backslashreplace")
-    return text if text.isprintable() else ascii(text)[1:-1]
+    return "".join(it if it.isprintable() else f"\\u{{{ord(it):x}}}" for it in text)

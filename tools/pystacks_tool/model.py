@@ -2,7 +2,7 @@
 shows is made of this, and of nothing else.
 """
 
-from dataclasses import dataclass, field
+from dataclasses import dataclass, field, replace
 from typing import Dict, List, Optional, Sequence, Tuple
 
 
@@ -68,6 +68,11 @@ class Thread:
         """Its marks."""
         return ("gil",) * self.is_holder + ("crashed",) * self.is_crashed
 
+    @property
+    def is_empty(self) -> bool:
+        """Whether nothing is told of it: it has neither frames nor a mark, and its chain is whole."""
+        return not (self.frames or self.between or self.end or self.marks)
+
 
 @dataclass(frozen=True)
 class Interpreter:
@@ -129,13 +134,13 @@ class Stack:
 
     @property
     def one(self) -> Thread:
-        """The one that is shown."""
-        return self.threads[0]
+        """The one that is shown: the first, with the locals of all."""
+        return one_of(self.threads)
 
 
 def key_of(thread: Thread) -> Tuple[object, ...]:
-    """What threads are compared by: functions, files, lines and ends, and locals where there are any."""
-    frames = tuple((it.place, it.locals, it.fault) for it in thread.frames)
+    """What threads are compared by: functions, files, lines and ends."""
+    frames = tuple((it.place, it.fault) for it in thread.frames)
     return frames, thread.first if thread.between else None, thread.between, thread.end
 
 
@@ -146,3 +151,53 @@ def stacks_of(threads: Sequence[Thread], is_merged: bool = True) -> List[Stack]:
         key = place if thread.marks or not is_merged else key_of(thread)
         found.setdefault(key, Stack()).threads.append(thread)
     return list(found.values())
+
+
+# ---- threads of one stack
+
+
+def told_by(values: Sequence[Optional[str]], count: int) -> Optional[str]:
+    """What is said of a local of so many threads: its value, or how many it has."""
+    kinds = dict.fromkeys(values)
+    if len(values) == count:
+        return next(iter(kinds)) if len(kinds) == 1 else f"{len(kinds)} values"
+    where = f"in {len(values)} of {count} threads"
+    return f"1 value {where}: {values[0] or '?'}" if len(kinds) == 1 else f"{len(kinds)} values {where}"
+
+
+def frame_of_all(frames: Sequence[Frame]) -> Frame:
+    """One frame of several threads, with the locals of all: those that differ are said once."""
+    found: Dict[Tuple[str, bool, int], List[Optional[str]]] = {}
+    for it in frames:
+        turns: Dict[Tuple[str, bool], int] = {}
+        for row in it.locals or ():
+            turn = turns[row.name, row.is_argument] = turns.get((row.name, row.is_argument), -1) + 1
+            found.setdefault((row.name, row.is_argument, turn), []).append(row.value)
+    rows = tuple(Local(name, told_by(values, len(frames)), is_argument) for (name, is_argument, _), values in found.items())
+    return replace(frames[0], locals=rows) if rows else frames[0]
+
+
+def one_of(threads: Sequence[Thread]) -> Thread:
+    """The first of some threads of one stack, with the locals of all."""
+    first = threads[0]
+    if len(threads) == 1 or not any(frame.locals for it in threads for frame in it.frames):
+        return first
+    return replace(first, frames=tuple(frame_of_all(frames) for frames in zip(*(it.frames for it in threads))))
+
+
+# ---- the order in which they are shown
+
+
+def arranged(report: Report) -> Report:
+    """The report in the order in which it is shown: interpreters with frames first, and in each the threads of which nothing is
+    told last. A thread without frames has no mark that one with frames of the same id has: the record of a sub-interpreter up
+    to 3.12 keeps the id of the thread that made it."""
+    crashed, holders = ({it.number for it in report.threads if it.frames and getattr(it, mark)} for mark in ("is_crashed", "is_holder"))
+    found = []
+    for one in report.interpreters:
+        threads = [it if it.frames else replace(it, is_crashed=it.is_crashed and it.number not in crashed,
+                                                is_holder=it.is_holder and it.number not in holders) for it in one.threads]
+        threads.sort(key=lambda it: it.is_empty)
+        found.append(replace(one, threads=tuple(threads)))
+    found.sort(key=lambda one: not any(it.frames for it in one.threads))
+    return replace(report, interpreters=tuple(found))

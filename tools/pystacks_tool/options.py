@@ -4,6 +4,10 @@ from dataclasses import dataclass
 from typing import Optional, Tuple
 
 
+ALL_FRAMES = 4096
+"""How many frames the programs tell at most at each end of a stack: `--frames all`."""
+
+
 @dataclass(frozen=True)
 class Options:
     """The words of a run."""
@@ -18,6 +22,10 @@ class Options:
     """Whether the registers of each thread are."""
     shows_all: bool = False
     """Whether each thread has its own stack, however many there are."""
+    shows_stacks: bool = False
+    """Whether each stack is shown whole, however many there are."""
+    frames: Optional[int] = None
+    """How many frames are shown at each end of a stack, where that is said: `ALL_FRAMES` of `all`."""
     source: Optional[str] = None
     """The folder of sources, which is empty where the frames' own names are meant; nothing where no source lines are shown."""
     json: bool = False
@@ -33,9 +41,12 @@ class Options:
     """A copy of the process's /proc/PID/maps, if one is named."""
     keep: str = ""
     """The file that keeps the core that was prepared, if one is named."""
-    anyway: bool = False
-    """Whether a core is read that is longer than half of the free memory."""
+    memory: int = 512
+    """How many MB of a core, and of a file that the process had mapped, may be read."""
+    whole: bool = False
+    """Whether a core is handed over whole, however long it is."""
     layouts: Optional[str] = None
+    records: Optional[str] = None
     program: Optional[str] = None
     salvage: Optional[str] = None
     version: bool = False

@@ -8,7 +8,7 @@ from pystacks_tool.ask.advice import next_of
 from pystacks_tool.ask.reports import decoded
 from pystacks_tool.ask.run import Answer, end_as, write_all
 from pystacks_tool.faults import BAD_WORDS, CANNOT_WRITE, Fault, say, say_next, shown
-from pystacks_tool.options import Options
+from pystacks_tool.options import ALL_FRAMES, Options
 from pystacks_tool.show.escape import in_line
 from pystacks_tool.show.sources import Sources
 from pystacks_tool.show.text import Style
@@ -76,6 +76,14 @@ def has_colours() -> bool:
     return sys.stdout.isatty() and not os.environ.get("NO_COLOR") and os.environ.get("TERM", "dumb") != "dumb"
 
 
+def columns() -> Optional[int]:
+    """How wide the terminal is, where the text goes to one that tells it."""
+    try:
+        return os.get_terminal_size(sys.stdout.fileno()).columns or None
+    except (OSError, ValueError):
+        return None
+
+
 def sources_of(options: Options) -> Optional[Sources]:
     """Where source lines come from, if they are shown. A page has them always."""
     if options.source is None and not options.html:
@@ -88,4 +96,5 @@ def sources_of(options: Options) -> Optional[Sources]:
 
 def style_of(options: Options) -> Style:
     """How a report is shown."""
-    return Style(has_colours(), options.shows_all, sources_of(options))
+    is_whole = options.shows_stacks or options.locals > 0 or options.source is not None
+    return Style(has_colours(), options.shows_all, sources_of(options), is_whole, options.frames == ALL_FRAMES, columns())

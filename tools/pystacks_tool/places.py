@@ -58,6 +58,14 @@ def layouts_of(machine: Optional[int]) -> Path:
     return LAYOUTS.with_name(f"cpython-{MACHINES[machine]}.toml")
 
 
+def records_of(machine: Optional[int]) -> Optional[Path]:
+    """The records of a core's machine, of all versions, where there are any."""
+    if machine not in MACHINES:
+        return None
+    path = LAYOUTS.with_name(f"records-{MACHINES[machine]}.toml")
+    return path if path.is_file() else None
+
+
 def named_at(named: str) -> Path:
     """A program that is named. A name without a folder is that of a file here, and none that PATH leads to."""
     return Path(named) if os.sep in named else Path.cwd() / named
@@ -77,6 +85,11 @@ def salvage_at(named: Optional[str], usual: Path) -> Optional[Path]:
         raise Fault(f"there is no program {shown(os.fsencode(named))}", NO_PROGRAM, "build pysalvage, or leave --salvage out")
     program = named_at(named) if named else usual
     return program if program.is_file() else None
+
+
+def salvage_program(named: Optional[str], program: Optional[str]) -> Optional[Path]:
+    """`pysalvage`, where it is there: the one that is named, or the one beside the named program, or the built one."""
+    return salvage_at(named, named_at(program).with_name("pysalvage") if program else SALVAGE)
 
 
 def commit() -> str:

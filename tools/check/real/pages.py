@@ -11,6 +11,7 @@ Chromium one line says so. The status is 0 exactly where nothing that was tried 
 """
 
 import argparse
+import json
 import os
 import shutil
 import signal
@@ -69,7 +70,8 @@ def frames(*names: str) -> Tuple[Frame, ...]:
 def wide() -> Report:
     """A report of 200 threads, of which 190 are equal."""
     rows = (Local("order", "{\"id\": 7, \"total\": float 0x4033fd70a3d70a3d}", True), Local("state", '"open"'))
-    stack = (Frame("charge", "/srv/shop/payment.py", 41, rows), *frames("checkout", "serve", "<module>"))
+    deep = (Frame("total", "/srv/shop/cart.py", 9), Frame("discount", "/srv/shop/cart.py", 17)) * 40
+    stack = (Frame("charge", "/srv/shop/payment.py", 41, rows), *deep, *frames("checkout", "serve", "<module>"))
     crashed = Thread(0x7F00, stack, 4711, "MainThread", True, True)
     pool = [Thread(number, frames("wait", "get", "work", "run", "_bootstrap"), 4712 + number, f"pool-{number}") for number in range(190)]
     others = [Thread(1000 + number, frames(f"poll_{number % 4}", "loop", "run", "_bootstrap"), 5000 + number, f"poll-{number}",
@@ -102,7 +104,7 @@ def real_core(folder: Path) -> Path:
 def real_page(program: Path, folder: Path) -> Path:
     """The page of a real core, by the tool."""
     core, page = real_core(folder), folder / "real.html"
-    command = [sys.executable, "-B", str(TOOLS / "dump_core.py"), f"--program={program}", str(core), f"--html={page}", "--anyway"]
+    command = [sys.executable, "-B", str(TOOLS / "dump_core.py"), f"--program={program}", str(core), f"--html={page}"]
     ran = subprocess.run(command, stdin=subprocess.DEVNULL, stdout=subprocess.PIPE, stderr=subprocess.PIPE, text=True)
     if ran.returncode != 0:
         raise Failure(f"the tool ended with status {ran.returncode}: {ran.stderr}")
@@ -127,11 +129,30 @@ def check_table(browser: Browser) -> None:
         wanted(browser.value(order) == wish, f"the overview isn't sorted after {turn} clicks")
     wanted(browser.value("document.querySelector('#overview th').getAttribute('aria-sort')") == "descending", "the order isn't told")
     text = browser.value("document.querySelector('#overview tbody tr').textContent.toLowerCase().slice(0, 6)")
+    check_search(browser, text)
+    values = browser.value("Array.from(document.querySelectorAll('#stacks dd, section ol ol i')).map(it => it.textContent.toLowerCase()).slice(0, 1)")
+    for it in values:
+        # (what stands in a stack alone, folded)
+        check_search(browser, it[:20])
+        wanted(browser.value("Array.from(document.querySelectorAll('main details')).some(it => it.open)"), f"a search for {it!r} opens nothing")
+
+
+def check_search(browser: Browser, text: str) -> None:
+    """That a search leaves the rows that have a text, or whose stack has it, and the stacks that have it, and nothing else."""
+    told = json.dumps(text)
     left = browser.value(
-        f"word.value = {text!r}; word.dispatchEvent(new Event('input'));"
+        f"word.value = {told}; word.dispatchEvent(new Event('input'));"
         "Array.from(document.querySelectorAll('#overview tbody tr')).filter(it => !it.hidden).length")
-    every = browser.value(f"Array.from(document.querySelectorAll('#overview tbody tr')).filter(it => it.textContent.toLowerCase().includes({text!r})).length")
+    every = browser.value(
+        f"(() => {{ const has = it => it.textContent.toLowerCase().includes({told});"
+        "const part = row => document.getElementById(row.querySelector('a').hash.slice(1));"
+        "const rows = Array.from(document.querySelectorAll('#overview tbody tr'));"
+        "const alone = it => rows.filter(row => part(row) === it).length === 1;"
+        "return rows.filter(row => has(row) || (alone(part(row)) ? has(part(row)) : Array.from(part(row).querySelectorAll('ol')).some(has))).length; })()")
     wanted(0 < left == every, f"a search for {text!r} leaves {left} of {every}")
+    odd = browser.value(
+        f"Array.from(document.querySelectorAll('#stacks section, main > section[id^=g]')).filter(it => it.hidden === it.textContent.toLowerCase().includes({told})).length")
+    wanted(odd == 0, f"a search for {text!r} hides or shows {odd} stacks wrongly")
     browser.value("word.value = ''; word.dispatchEvent(new Event('input'))")
 
 

@@ -69,15 +69,28 @@ def ran(command: Sequence[object]) -> Tuple[int, str, str]:
 
 
 def body(text: str) -> List[str]:
-    """The lines of a text behind its head and the overview, without names of threads."""
-    parts = text.split("\n\n")
-    rest = parts[2:] if len(parts) > 2 and re.match(r"\d+ threads\n", parts[1]) else parts[1:]
-    return [re.sub(r'^(Thread .*?): ".*"$', r"\1", line) for line in "\n\n".join(rest).splitlines()]
+    """The lines of a text behind its head and the table of threads, without names of threads, in the order of the tool: interpreters
+    with frames first, and in each the threads without frames last. (These have no mark here: the tool leaves out those that a
+    thread with frames of the same id has.)"""
+    parts = [it for it in text.split("\n\n")[1:] if not re.match(r"\d+ (other )?threads?\n    ", it)]
+    lines = [re.sub(r'^(Thread .*?): ".*"$', r"\1", line) for line in "\n".join(parts).splitlines()]
+    found: List[List[List[str]]] = [[[]]]
+    for line in lines:
+        if line.startswith("Interpreter "):
+            found.append([[]])
+        elif line.startswith("Thread "):
+            found[-1].append([])
+        found[-1][-1].append(line)
+    for blocks in found:
+        blocks[1:] = [re.sub(r"( \((gil|crashed)\))*$", "", "".join(it)) .split("\n") if len(it) == 1 else it for it in blocks[1:]]
+        blocks[1:] = sorted(blocks[1:], key=lambda it: len(it) == 1)
+    found[1:] = sorted(found[1:], key=lambda blocks: all(len(it) == 1 for it in blocks[1:]))
+    return [line for blocks in found for it in blocks for line in it]
 
 
 def check_same(core: Path, words: argparse.Namespace, kept: Path) -> str:
     """Fails where the tool's text isn't that of `pysalvage`, over the core as the tool prepares it. Returns the text."""
-    status, out, said = ran([sys.executable, "-B", TOOLS / "dump_core.py", core, "--all", "--anyway", "--keep", kept,
+    status, out, said = ran([sys.executable, "-B", TOOLS / "dump_core.py", core, "--all", "--keep", kept,
                              "--program", words.program, "--salvage", words.salvage])
     with open(kept if kept.exists() else core, "rb") as file:
         machine, files = read_core(file)

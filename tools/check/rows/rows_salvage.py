@@ -24,18 +24,21 @@ STRIPPED = image_file([Segment(0x400000, b"", 5, 0x1000)], (BSS, 16), [], [Secti
 """The same without symbols."""
 
 HELP = """\
-pysalvage CORE --layouts FILE [-n N] [-l].. [-j] [--signal] [--registers] [PATH=FILE]..
+pysalvage CORE --layouts FILE [--records FILE] [-n N] [-l].. [-j] [--signal] [--registers]
+          [--missing] [PATH=FILE]..
 
 What is left of the Python stacks in the core of a broken process, or in one that was cut: each chain of threads and
 frames as far as it goes. Where no mark stands a chain is whole.
 
 CORE            the core's file
 --layouts FILE  the layout file
+--records FILE  where the fields are that sections need beyond the layouts
 -n N            the first N frames of a thread and the last N, from 1 to 4096; 100 unless it is said
 -l              the locals of each frame
 -j              JSON in place of text
 --signal        how the signal came about
 --registers     the registers of each thread, and which of Python's threads it is
+--missing       in JSON, which ranges were asked for and are not in memory
 PATH=FILE       FILE is read in place of the file that the process had mapped from PATH
 --help          this text
 --version       the version of the program
@@ -44,7 +47,7 @@ PATH=FILE       FILE is read in place of the file that the process had mapped fr
 
 def rows() -> List[Row]:
     """All of them."""
-    parts = (words, order, causes, heads, marks, frames, threads, interpreters, names, trees, signals, registers)
+    parts = (words, order, described, causes, heads, marks, frames, threads, interpreters, names, trees, signals, registers)
     return [it for part in parts for it in part()]
 
 
@@ -112,6 +115,37 @@ def order() -> Iterator[Row]:
         ("then the core", f"layouts --layouts layouts {IMAGE}", b"not an ELF64 little-endian file", 1),
     ):
         yield salvage(f"order: {what}", text, files, line=line, status=status)
+
+
+RECORDS = b"[[records]]\nmajor = 3\nminor = 9\nfirst_patch = 0\nlast_patch = 2\nset_entry = {size=16, key=0, hash=8}\n"
+"""A file of records."""
+
+
+def described() -> Iterator[Row]:
+    """The file of records: it is read first and judged first, and its faults have its name."""
+    files = {**files_of(small()), "records": RECORDS}
+    with_it = f"{GOOD} --records records"
+    for what, words, text in (
+        ("one that no section needs", with_it, RECORDS), ("of no release", with_it, b"records = []\n"),
+        ("an equals sign", f"{GOOD} --records=records", RECORDS),
+    ):
+        yield salvage(f"records: {what}", words, {**files, "records": text}, TEXT)
+    apart = RECORDS.replace(b"first_patch = 0", b"first_patch = 3").replace(b"last_patch = 2", b"last_patch = 3")
+    yield salvage("records: two tables of one minor version", with_it, {**files, "records": RECORDS + apart}, TEXT)
+    for what, text, line in (
+        ("not TOML", b"=", b"records: not TOML"), ("no array", b"records = 1\n", b"records: table 0, key records"),
+        ("a key too many", RECORDS + b"more = 1\n", b"records: table 0, key more"),
+        ("a key of a group is missing", RECORDS.replace(b", hash=8", b""), b"records: table 0, key set_entry.hash"),
+        ("a field past the end", RECORDS.replace(b"hash=8", b"hash=9"), b"records: table 0 is unsound"),
+        ("two fields in one place", RECORDS.replace(b"hash=8", b"hash=7"), b"records: table 0 is unsound"),
+        ("one group twice for a release", RECORDS + RECORDS, b"records: tables 0 and 1 clash"),
+    ):
+        yield salvage(f"records: {what}", with_it, {**files, "records": text}, line=line, status=6)
+    for what, words, line, status in (
+        ("not there", f"{GOOD} --records none", b"cannot read none", 3), ("read first", "none --layouts layouts --records none2", b"cannot read none2", 3),
+        ("judged first", f"core --layouts core --records layouts {IMAGE}", b"records: table 0, key records", 6), ("twice", f"{with_it} --records records", b"bad words", 2),
+    ):
+        yield salvage(f"records: {what}", words, files, line=line, status=status)
 
 
 def causes() -> Iterator[Row]:
@@ -314,7 +348,7 @@ def trees() -> Iterator[Row]:
     thread = {"address": hex(THREAD), "crashed": True, "frames": frames, "gil": False, "os_thread_id": None, "thread_id": 0x7F00}
     interpreter = {"address": hex(HEAP), "lock": {"holder": 0, "kind": "read"}, "searched": False, "threads": [thread],
                    "threads_end": {"kind": "whole"}}
-    tree = {"interpreters": [interpreter], "more": False, "process": {"arguments": "p\n", "pid": 4}, "registers": None, "signal": 11,
+    tree = {"interpreters": [interpreter], "missing": None, "more": False, "process": {"arguments": "p\n", "pid": 4}, "registers": None, "signal": 11,
             "signal_info": None, "version": "3.9.0"}
     notes = [status_record(11, 4, 0x7F00), process_record(4, b"p", b"p\n")]
     text = lambda it: json.dumps(it, indent=2, ensure_ascii=False) + "\n"

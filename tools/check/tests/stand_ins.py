@@ -12,6 +12,7 @@ import sys
 words = sys.argv[1:]
 name = "json" if "-j" in words else "triage" if words[:1] == ["triage"] else "text"
 try:
+    open({folder!r} + "/words", "w").write(chr(10).join(words))
     out = open({folder!r} + "/" + name, "rb").read()
 except OSError:
     out = b""
@@ -20,7 +21,7 @@ sys.stdout.flush()
 sys.stderr.buffer.write({said!r})
 sys.exit({status})
 """
-"""A program that writes the file `json`, `triage` or `text`, by its words."""
+"""A program that writes the file `json`, `triage` or `text`, by its words, which it notes in the file `words`."""
 
 Tree = Dict[str, Any]
 
@@ -77,7 +78,7 @@ def salvage(
     """All of a core."""
     process = None if arguments is None else {"arguments": arguments, "pid": 4711}
     return {
-        "interpreters": list(interpreters), "more": more, "process": process, "registers": registers, "signal": signal,
+        "interpreters": list(interpreters), "missing": None, "more": more, "process": process, "registers": registers, "signal": signal,
         "signal_info": info, "version": "3.11.7",
     }
 

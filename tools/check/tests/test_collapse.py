@@ -44,12 +44,12 @@ class Lines(unittest.TestCase):
         self.assertEqual(collapsed([thread(), thread(frame("f"))]), ["f (a.py) 1"])
 
     def test_odd_names(self):
-        self.assertEqual(collapsed([thread(frame("a;b\n\\", "\u2028é\x9f.py"))]), [r"a\x3bb\x0a\x5c (\u2028é\x9f.py) 1"])
+        self.assertEqual(collapsed([thread(frame("a;b\n\\", "\u2028é\x9f.py"))]), [r"a\u{3b}b\u{a}\u{5c} (\u{2028}é\u{9f}.py) 1"])
 
     def test_broken_chains(self):
         cut = thread(frame("f"), frame("g"), first=1, between=7, end="unreadable at 0x10, 8 bytes")
         self.assertEqual(collapsed([cut]), ["... unreadable at 0x10, 8 bytes;g (a.py);... 7 more frames;f (a.py) 1"])
-        self.assertEqual(collapsed([thread(Frame(why="a name; no text"))]), [r"? a name\x3b no text 1"])
+        self.assertEqual(collapsed([thread(Frame(why="a name; no text"))]), [r"? a name\u{3b} no text 1"])
 
     def test_a_name_forges_no_place(self):
         for why in ("unreadable at 0x70000000, 72 bytes", "a name that is no text", "... 7 more frames"):

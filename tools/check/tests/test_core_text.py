@@ -8,10 +8,11 @@ from pathlib import Path
 
 import rooms  # (first: it makes the other rooms known)
 
-from pystacks_tool.model import Frame, Interpreter, Local, Report, Thread
+from pystacks_tool.model import Frame, Interpreter, Local, Report, Thread, arranged
 from pystacks_tool.show.escape import as_name, in_line, signal_name, with_decimals
 from pystacks_tool.show.sources import Sources
-from pystacks_tool.show.text import Style, report_lines, stack_lines
+from pystacks_tool.show.text import LINES, Style, report_lines, stack_lines
+from pystacks_tool.show.widths import width_of
 
 HEAD = "Signal 11 (SIGSEGV): core\nProcess 7: python3 a.py\nPython v3.11.7\n"
 
@@ -79,7 +80,7 @@ class Stacks(unittest.TestCase):
                threads(Thread(2, ()), address=0x20000, is_searched=True, end="more than 4096 threads")]
         wanted = (
             "Interpreter 0x10000\n... lock unreadable at 0x8, 8 bytes\nThread 0x1\n    f (a.py:5)\n"
-            "Interpreter 0x20000 (found by search)\n... more than 4096 threads\nThread 0x2\n... more than 16 interpreters\n")
+            "Interpreter 0x20000 (found by search)\n... more than 4096 threads\n1 thread without frames: 0x2\n... more than 16 interpreters\n")
         self.assertEqual(text(*two, has_more=True), HEAD + "\n" + wanted)
         self.assertNotIn("Interpreter", text(two[0]))
 
@@ -125,8 +126,7 @@ class Many(unittest.TestCase):
 
     def test_overview(self):
         shown = text(threads(*self.pool(7)))
-        overview = ["9 threads", '    4 "Main" (gil): f (a.py:5)', *(f'    0x{at} "pool-{at}": f (a.py:5)' for at in range(7)),
-                    "    0x200: <module> (a.py:9)", ""]
+        overview = ["9 threads", '    4 "Main" (gil): f (a.py:5)', "    7 of 9: f (a.py:5)", "    0x200: <module> (a.py:9)", ""]
         stacks = ["Thread 4 (gil): \"Main\"", "    f (a.py:5)", "    <module> (a.py:9)", "7 threads: pool-0, pool-1 and 5 more",
                   "    f (a.py:5)", "    <module> (a.py:9)", "Thread 0x200", "    <module> (a.py:9)"]
         self.assertEqual(shown.splitlines(), (HEAD + "\n").splitlines() + overview + stacks)
@@ -136,13 +136,13 @@ class Many(unittest.TestCase):
         self.assertEqual((shown.count("\nThread "), shown.count("7 threads")), (9, 0))
 
     def test_what_is_equal(self):
-        # (a thread is like another by functions, files, lines and ends, and by locals where they are shown)
+        # (a thread is like another by functions, files, lines and ends)
         base = [Thread(number, (F,)) for number in range(8)]
         for other, count in (
             (Thread(9, (F,)), 9), (Thread(9, (Frame("f", "a.py", 6),)), 8), (Thread(9, (Frame("g", "a.py", 5),)), 8),
             (Thread(9, (Frame("f", "b.py", 5),)), 8), (Thread(9, (F,), end="cut after 3 members"), 8), (Thread(9, (F,), is_crashed=True), 8),
             (Thread(9, (F,), is_holder=True), 8), (Thread(9, (F,), first=1, between=2), 8), (Thread(9, (F, MAIN)), 8),
-            (Thread(9, (Frame("f", "a.py", 5, (Local("x", "1"),)),)), 8), (Thread(9, (F,), 7, "named", first=1), 9),
+            (Thread(9, (Frame("f", "a.py", 5, (Local("x", "1"),)),)), 9), (Thread(9, (F,), 7, "named", first=1), 9),
         ):
             self.assertIn(f"\n{count} threads: 0x0, 0x1 and {count - 2} more\n", text(threads(*base, other)), other)
 
@@ -152,9 +152,128 @@ class Many(unittest.TestCase):
 
     def test_empty(self):
         shown = text(threads(*[Thread(number, ()) for number in range(8)], Thread(9, (), end="cut after 3 members")))
-        self.assertIn("    0x0: no frames\n", shown)
-        self.assertIn("    0x9: ... cut after 3 members\n", shown)
+        self.assertIn("    8 of 9: no frames\n    0x9: ... cut after 3 members\n\n", shown)
+        self.assertTrue(shown.endswith("Thread 0x9\n    ... cut after 3 members\n8 threads without frames: 0x0, 0x1 and 6 more\n"), shown)
 
+    def test_crashed_first(self):
+        # (its stack stands before the table of the others)
+        crashed = Thread(0x300, (MAIN,), 7, "Main", is_crashed=True)
+        shown = text(threads(crashed, *self.pool(7))).splitlines()[4:]
+        self.assertEqual(shown[:5], ['Thread 7 (crashed): "Main"', "    <module> (a.py:9)", "", "9 other threads", '    4 "Main" (gil): f (a.py:5)'])
+        self.assertEqual(sum("(crashed)" in it for it in shown), 1)
+        other = threads(Thread(5, (F,)), address=0x20000)
+        shown = text(threads(crashed, *self.pool(7), address=0x10000, lock="lock unreadable at 0x8, 8 bytes"), other).splitlines()[4:]
+        self.assertEqual(shown[:3], ["Interpreter 0x10000", "... lock unreadable at 0x8, 8 bytes", 'Thread 7 (crashed): "Main"'])
+        self.assertEqual([it for it in shown if "nterpreter" in it or "lock" in it], [*shown[:2], "Interpreter 0x10000", "Interpreter 0x20000"])
+
+    def test_short(self):
+        # (a service of 2000 threads: all but the first stack has at most 40 lines, and what is left out is counted)
+        deep = [Frame(f"f{at}", "a.py", at + 1) for at in range(30)]
+        for kinds, depth in ((1, 3), (7, 30), (300, 30), (2000, 9)):
+            pool = [Thread(at, (Frame(f"wait_{at % kinds}", "b.py", 5), *deep[:depth])) for at in range(1999)]
+            one = threads(Thread(0x7F00, tuple(deep), is_crashed=True), *pool)
+            report = Report((one,), "3.11.7", 11, (7, "python3 a.py"), is_salvaged=True, core="core", signal_told="SIGSEGV at 0x10")
+            shown = list(report_lines(report, Style()))
+            self.assertLessEqual(len(shown) - 31, LINES, kinds)
+            rows = [int(it.split()[0]) if " of 2000: " in it else 1 for it in shown[shown.index("1999 other threads") + 1 :] if it.startswith("    ")
+                    and it.endswith(")") and ": wait_" in it]
+            more = [int(it.split()[1]) for it in shown if "other places" in it]
+            self.assertEqual(sum(rows) + sum(more), 1999)
+            stacks = [int(it.split()[0]) for it in shown if " threads: " in it and it[0].isdecimal()] + [1 for it in shown if it.startswith("Thread 0x") and "(crashed)" not in it]
+            left = [int(it.split(" of ")[1].split()[0]) for it in shown if it.startswith("... ") and " more stack" in it]
+            self.assertEqual(sum(stacks) + sum(left), 1999, shown)
+            self.assertEqual("\n".join(shown).count("more frames") > 0, depth > 7)
+            for style, count in ((Style(shows_stacks=True), kinds), (Style(shows_all=True), 1999)):
+                whole = list(report_lines(report, style))
+                self.assertEqual(sum(it.startswith(("Thread 0x", "1999 threads: ")) or " threads: " in it for it in whole) - 1, min(count, 1999))
+                self.assertNotIn("more frames", "\n".join(whole))
+
+    def test_values_said_once(self):
+        rows = lambda at: (Local("self", f"<Thread at {at}>", True), Local("n", "3"), *([Local("x", str(at % 2))] if at < 3 else []), *([Local("y", "7")] if at == 1 else []))
+        pool = [Thread(at, (Frame("run", "a.py", 5, rows(at)), MAIN)) for at in range(190)]
+        shown = text(threads(*pool), style=Style(shows_stacks=True))
+        self.assertTrue(shown.endswith(
+            "190 threads: 0x0, 0x1 and 188 more\n    run (a.py:5)\n        Arguments:\n            self: 190 values\n        Locals:\n"
+            "            n: 3\n            x: 2 values in 3 of 190 threads\n            y: 1 value in 1 of 190 threads: 7\n    <module> (a.py:9)\n"), shown)
+
+
+class Recursions(unittest.TestCase):
+    """Runs of one frame, of pairs and of triples."""
+
+    def stack(self, *frames, style=Style(), **more):
+        """The lines of a stack of these frames."""
+        return [it.strip() for it in stack_lines(Thread(1, tuple(Frame(name, "a.py", line) for name, line in frames), **more), style)]
+
+    def test_folded(self):
+        one, two, three = ("d", 9), ("b", 10), ("c", 0)
+        for unit, line in (([one], "... d: 450 times (line 9)"), ([one, two], "... d, b: 450 times (lines 9, 10)"),
+                           ([one, two, three], "... d, b, c: 450 times (lines 9, 10, ?)"), ([three], "... c: 450 times")):
+            lines = self.stack(("x", 1), *unit * 451, ("z", 2))
+            shown = [f"{name} (a.py{f':{number}' if number else ''})" for name, number in unit]
+            self.assertEqual(lines, ["x (a.py:1)", *shown, line, "z (a.py:2)"])
+            for style in (Style(shows_frames=True), Style(shows_all=True)):
+                self.assertEqual(len(self.stack(("x", 1), *unit * 451, ("z", 2), style=style)), 2 + 451 * len(unit))
+
+    def test_not_folded(self):
+        for frames in ([("d", 9)] * 3, [("d", 9), ("d", 10)] * 3, [("d", at) for at in range(1, 9)], [("a", 1), ("b", 1), ("c", 1), ("d", 1)] * 5):
+            self.assertEqual(len(self.stack(*frames)), len(frames))
+        self.assertEqual(len(list(stack_lines(Thread(1, (Frame(why="a name that is no text"),) * 9), Style()))), 9)
+
+    def test_gap(self):
+        # (what isn't shown stands between two runs)
+        lines = self.stack(*[("d", 10)] * 200, ("z", 2), first=100, between=19804)
+        self.assertEqual(lines, ["d (a.py:10)", "... d: 99 times (line 10)", "... 19804 more frames", "d (a.py:10)", "... d: 99 times (line 10)", "z (a.py:2)"])
+
+    def test_locals(self):
+        frames = tuple(Frame("d", "a.py", 10, (Local("n", str(at // 3)), Local("m", "1"))) for at in range(9))
+        lines = list(stack_lines(Thread(1, frames), Style()))
+        self.assertEqual(lines[-1], "    ... d: 8 times (line 10), 12 locals left out")
+
+    def test_forged(self):
+        odd = Frame("... d: 4 times", "line 10", 0)
+        self.assertEqual(list(stack_lines(Thread(1, (odd,)), Style())), ["    \\u{2e}.. d: 4 times (line 10)"])
+
+
+class Order(unittest.TestCase):
+    """Interpreters and threads without frames."""
+
+    def test_idle_interpreters(self):
+        # (up to 3.12 the record of an idle sub-interpreter keeps the id of the thread that made it, and so its marks)
+        idle = [threads(Thread(1, (), is_holder=True, is_crashed=True), address=at * 0x10000, is_searched=at == 2) for at in (2, 3, 4)]
+        main = threads(Thread(2, (), is_holder=False), Thread(1, (F, MAIN), is_holder=True, is_crashed=True), Thread(3, ()), address=0x10000)
+        report = arranged(Report((*idle, main), "3.12.1", 11, is_salvaged=True, core="core"))
+        self.assertEqual(list(report_lines(report, Style()))[3:], [
+            "Interpreter 0x10000", "Thread 0x1 (gil) (crashed)", "    f (a.py:5)", "    <module> (a.py:9)", "2 threads without frames: 0x2, 0x3",
+            "Interpreter 0x20000 (found by search): 1 thread without frames: 0x1", "Interpreter 0x30000: 1 thread without frames: 0x1",
+            "Interpreter 0x40000: 1 thread without frames: 0x1"])
+        self.assertEqual(list(report_lines(report, Style(shows_all=True)))[7:], [
+            "Thread 0x2", "Thread 0x3", "Interpreter 0x20000 (found by search)", "Thread 0x1", "Interpreter 0x30000", "Thread 0x1",
+            "Interpreter 0x40000", "Thread 0x1"])
+
+    def test_marks_stay(self):
+        # (where no thread with frames has the mark it is all that is known)
+        report = arranged(Report((threads(Thread(1, (), is_crashed=True), Thread(2, (F,))),), "3.12.1", 11, is_salvaged=True, core="core"))
+        self.assertEqual(list(report_lines(report, Style()))[3:], ["Thread 0x1 (crashed)", "Thread 0x2", "    f (a.py:5)"])
+        broken = threads(Thread(1, (), end="unreadable at 0x8, 8 bytes"), Thread(2, (F,)))
+        self.assertEqual([it.number for it in arranged(Report((broken,), "3.12.1")).threads], [1, 2])
+
+
+class Widths(unittest.TestCase):
+    """Paths on a terminal."""
+
+    def test_shortened(self):
+        path = "/root/.pyenv/versions/3.11.7/lib/python3.11/site-packages/application/views.py"
+        deep = Thread(1, (Frame("handle", path, 327), Frame("f", "a.py", 1), Frame("g", "x" * 90, 1), Frame("é" * 30, "/日本/" + "語" * 40 + "/a.py", 1)))
+        lines = list(stack_lines(deep, Style(width=60)))
+        self.assertEqual([lines[0], lines[1]], ["    handle (/root/.pyenv/v...kages/application/views.py:327)", "    f (a.py:1)"])
+        self.assertEqual((len(lines[0]), width_of(lines[3]) <= 60, lines[3].endswith("/a.py:1)")), (60, True, True), lines)
+        self.assertIn("x" * 90, lines[2])
+        self.assertEqual(list(stack_lines(deep, Style()))[0], f"    handle ({path}:327)")
+        for width in range(20, 120):
+            line = next(iter(stack_lines(deep, Style(width=width))))
+            self.assertTrue(line.endswith("/views.py:327)") and (len(line) <= width or width < 40), line)
+        many = [Thread(at, (Frame("handle", path, 327),), name="w" * at) for at in range(9)]
+        self.assertLessEqual(max(map(len, text(threads(*many), style=Style(width=70)).splitlines()[4:])), 70)
 
 class Values(unittest.TestCase):
     """Texts and numbers within a line."""

@@ -71,7 +71,7 @@ class Installed(Case):
         self.install()
         to = self.folder / "to"
         self.assertEqual(sorted(it.name for it in (to / "bin").iterdir()), ["pysalvage", "pystacks", "pystacks-core", "pystacks-layout", "pystacks-native", "pystacks-slim"])
-        self.assertEqual(sorted(it.name for it in (to / "layouts").iterdir()), ["cpython-aarch64.toml", "cpython-x86_64.toml"])
+        self.assertEqual(sorted(it.name for it in (to / "layouts").iterdir()), ["cpython-aarch64.toml", "cpython-x86_64.toml", "records-aarch64.toml", "records-x86_64.toml"])
         self.assertTrue({"dump_core.py", "slim_core.py"} <= {it.name for it in (to / "tools").iterdir()})
         self.assertTrue({"MESSAGES.md", "CORES.md", "DUMP.md", "SLIM.md"} <= {it.name for it in (to / "docs").iterdir()})
         page = (to / "docs/TOOL.md").read_text(encoding="utf-8")
@@ -105,6 +105,9 @@ class Installed(Case):
         door = self.folder / "to/bin/pystacks-layout"
         status, out, said = self.ran(sys.executable, door, self.folder / "none")
         self.assertEqual((status, out, said.startswith("derive_layout: ")), (1, "", True), said)
+        for it in ("derive_records", "join_records", "carry_records", "carry_layouts"):
+            tool = self.folder / "to/tools/layouts" / f"{it}.py"
+            self.assertIn(f"usage: {it}.py ", self.ran(sys.executable, "-B", tool, "--help")[1])
         door = self.folder / "to/bin/pystacks-native"
         self.assertEqual(self.ran(sys.executable, door, "none", "1")[0], 2)
         self.assertFalse(list((self.folder / "to").rglob("*.pyc")))

@@ -133,6 +133,19 @@ class Pages(unittest.TestCase):
         self.assertEqual(reader.text("summary"), "2 locals")
         self.assertTrue(reader.text("dt").endswith("x (argument)y") and reader.text("dd").endswith("1.5 (float 0x3ff8000000000000)?"))
 
+    def test_recursions(self):
+        # (one line that opens, which has each frame; and a bar in the graph)
+        page = report_page(report(Thread(1, (F, *(G, MAIN) * 9))), Style())
+        reader = Reader(page)
+        self.assertEqual((reader.faults, page.count("<summary>... g, &lt;module&gt;: 8 times (lines 7, 9)</summary>")), ([], 1))
+        self.assertEqual(len(re.findall(r"<li>(.*?) <i>(.*?)</i>", page)), 19)
+        self.assertEqual(len(re.findall(r"<g data-a", page)), 5)
+        self.assertIn("<title>... g, &lt;module&gt;: 8 times (lines 7, 9): 1 thread</title>", page)
+
+    def test_values_said_once(self):
+        rows = [Thread(at, (Frame("f", "a.py", 1, (Local("self", f"<T at {at}>", True), Local("n", "3"))),)) for at in range(9)]
+        self.assertTrue(Reader(report_page(report(*rows), Style())).text("dd").endswith("9 values3"))
+
     def test_sources(self):
         with tempfile.TemporaryDirectory(prefix="page-") as name:
             path = os.path.join(os.path.realpath(name), "a.py")
@@ -170,6 +183,9 @@ class Escapes(unittest.TestCase):
         self.assertIn("<script>: bad note", reader.text("li"))
         self.assertEqual(page.count("<h2>Group 1: 2</h2>"), 1)
         self.assertIn("f (a.py:5)", reader.text("td"))
+        for it in ("11 (SIGSEGV)", "python3 a.py", "3.11.7"):
+            self.assertIn(it, reader.text("td"))
+        self.assertIn("7: python3 a.py", reader.text("dd"))
 
     def test_rule(self):
         # (the page's own rule lets its own style and script alone be taken, by their sums)

@@ -29,8 +29,6 @@ from pystacks_tool.cores import sparse
 from pystacks_tool.cores.gaps import entries_in
 from pystacks_tool.cores.prepare import Prepared, Unprepared, Wishes, available, prepared
 from core_reader import Reader, reader
-from pystacks_tool.cores.images import LONGEST
-from pystacks_tool.cores.opened import free_memory
 from pystacks_tool.places import PROGRAM as BUILT
 from find_pythons import pythons
 from made import EXAMPLE, NOTE, Segment, core_file, elf_file, file_table, note
@@ -559,24 +557,6 @@ class Real(Case):
             status, out, said = self.tool("/dev/stdin", *self.words, stdin=ends[0])
             os.close(ends[0])
             self.assertEqual((status, out, said), (0, TEXT.encode(), f"dump_core: unpacked from a pipe{more}\n"))
-
-    def test_too_long(self):
-        free = free_memory()
-        if free is None or free // 2 >= LONGEST:
-            self.skipTest("the longest core is not too long here")
-        # (the map of an executable file stays whole)
-        core = self.put("core", core_file([mapped(0x10000, b"/usr/bin/python3.9", 5, b"")]))
-        data = bytearray(core.read_bytes())
-        data[96:112] = (LONGEST - PAGE).to_bytes(8, "little") * 2
-        core.write_bytes(data)
-        os.truncate(core, LONGEST)
-        status, out, said = self.tool(core, *self.words)
-        self.assertEqual((status, out, said.count("\n")), (5, b"", 1))
-        self.assertTrue(said.startswith(f"dump_core: {core} has {LONGEST} bytes, more than half of the "), said)
-        self.assertTrue(said.endswith(" that are free (--anyway tries it)\n"), said)
-        fake = self.put("fake", b"#!/bin/sh\necho read\n")
-        fake.chmod(0o700)
-        self.assertEqual(self.tool(core, *self.words, "--anyway", "--program", fake)[:2], (0, b"read\n"))
 
     def test_closed(self):
         core = self.large()

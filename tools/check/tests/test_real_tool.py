@@ -16,7 +16,7 @@ import stand_ins
 from child_cores import Failure
 from pystacks_tool.places import LAYOUTS
 from made import core_file
-from real_tool import Shown, check_tool, stacks_in
+from real_tool import Shown, check_brief, check_tool, stacks_in
 from stand_ins import frame, local, thread
 
 ROWS = [local("n", "12", True), local("s", None)]
@@ -24,7 +24,8 @@ ROWS = [local("n", "12", True), local("s", None)]
 THREADS = [
     thread(1, [frame("f", "größer als \"das\".py", 5), frame("<lambda>"), frame("g", line=0, rows=ROWS),
                frame("<module>", line=3)], gil=True),
-    *[thread(number, [frame("wait", "t.py", 12), frame("run", "t.py", 3)]) for number in range(2, 12)], thread(12)]
+    *[thread(number, [frame("wait", "t.py", 12), frame("run", "t.py", 3)]) for number in range(2, 12)],
+    thread(12), thread(13, [frame("... h", line=7)] * 6 + [frame("<module>", line=3)])]
 
 TAMPERED = """\
 import re, subprocess, sys
@@ -35,7 +36,7 @@ if {form!r} == "page" and page:
     text = open(page).read()
 if {form!r} in ("page" if page else "", "json" if "--json" in sys.argv else "", "collapsed" if "--collapsed" in sys.argv else "",
         "values" if "-l" in sys.argv and "--json" in sys.argv else "",
-        "all" if "--all" in sys.argv else "", "text" if len([it for it in sys.argv if it.startswith("--")]) == 2 else ""):
+        "all" if "--all" in sys.argv else "", "stacks" if "--stacks" in sys.argv else "", "text" if len([it for it in sys.argv if it.startswith("--")]) == 2 else ""):
     new = re.sub({old!r}, {new!r}, text, count=1, flags=re.DOTALL)
     assert new != text
     text = new
@@ -67,6 +68,9 @@ class Compared(unittest.TestCase):
         for form, old, new in (
             ("all", r"    <lambda> \(a.py:1\)\n", ""), ("all", r"(    g \(a.py\)\n)", r"\1\1"), ("all", r"(    f [^\n]*\n)(    <lambda>[^\n]*\n)", r"\2\1"),
             ("all", r"a.py:1\)", "a.py:2)"), ("all", r"Thread 0xC\n", ""), ("text", "10 threads", "9 threads"), ("text", r"    run \(t.py:3\)\n", ""),
+            ("text", "10 of 13", "9 of 13"), ("text", "    0xC: no frames\n", ""), ("text", r"1 thread without frames: 0xC\n", ""),
+            ("text", "h: 5 times", "h: 4 times"), ("stacks", "10 threads", "9 threads"), ("stacks", r"    run \(t.py:3\)\n", ""),
+            ("stacks", "h: 5 times", "h: 6 times"), ("stacks", "1 thread without", "2 threads without"),
             ("json", '"name": "g"', '"name": "h"'), ("json", '"line": 12', '"line": 13'), ("collapsed", " 10\n", " 9\n"), ("collapsed", "<module> ", "module "),
             ("values", '"12"', '"13"'), ("values", '"name": "s"', '"name": "t"'),
             ("values", r'("name": "s",\s*"repr": )null', r'\1"0"'),
@@ -79,7 +83,23 @@ class Compared(unittest.TestCase):
 
     def test_stacks_in(self):
         text = "Python v3.9.0\n\nThread 1\n    a\\u{22} (b.py:1)\n        > x\n        Locals:\n            y: 1\n    ... 3 more frames\n    c (d.py)\n2 threads: x, y\n"
-        self.assertEqual(stacks_in(text), [Shown("Thread 1", 1, ['a" (b.py:1)', "c (d.py)"]), Shown("2 threads: x, y", 2)])
+        text += "    e (d.py:2)\n    f (d.py)\n    ... e, f: 2 times (lines 2, ?), 3 locals left out\n    ... 4 more frames\n... 5 more\n    g (d.py)\n"
+        text += "Interpreter 0x1: 3 threads without frames: x\n"
+        self.assertEqual(stacks_in(text), [
+            Shown("Thread 1", 1, ['a" (b.py:1)', "c (d.py)"], 3, 1), Shown("2 threads: x, y", 2, ["e (d.py:2)", "f (d.py)"] * 3, 4, 6),
+            Shown("Interpreter 0x1: 3 threads without frames: x", 3)])
+        with self.assertRaises(Failure):
+            stacks_in("\n\nThread 1\n    e (d.py:2)\n    ... f: 2 times (line 2)\n")
+
+    def test_brief(self):
+        # (the newest frames of a stack, how many there are below, and the threads of those that aren't shown)
+        deep, other = tuple(f"f{at} (a.py)" for at in range(9)), ("g (a.py)",)
+        rows = "".join(f"    {it}\n" for it in deep[:6])
+        right = f"x\n\n9 threads: x\n{rows}    ... 3 more frames\n... 2 more stacks of 3 threads: --stacks shows\n"
+        check_brief([deep] * 9 + [other] * 3, right)
+        for old, new in (("9 threads", "8 threads"), ("f3 ", "f4 "), ("3 more frames", "2 more frames"), ("of 3 threads", "of 2 threads")):
+            with self.assertRaises(Failure, msg=old):
+                check_brief([deep] * 9 + [other] * 3, right.replace(old, new))
 
 
 if __name__ == "__main__":

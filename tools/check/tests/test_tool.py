@@ -1,14 +1,17 @@
 #!/usr/bin/env python3
 """What dump_core.py shows and says, over cores made by hand and programs that stand in for the built ones."""
 
+import fcntl
 import json
 import os
 import pty
 import re
 import shutil
+import struct
 import subprocess
 import sys
 import tempfile
+import termios
 import unittest
 from pathlib import Path
 
@@ -125,7 +128,7 @@ class Shown(Case):
         self.programs(salvage(interpreter([CRASHED, broken]), interpreter([thread(2)], 0x20000, True)), names={1: "one"})
         wanted = HEAD.format(core=self.core) + (
             'Interpreter 0x10000\nThread 99 (gil) (crashed)\n    boom (a.py:5)\n    <module> (a.py:9)\nThread 0x1: "one"\n    g (a.py:1)\n'
-            "    ... unreadable at 0x20008, 8 bytes\nInterpreter 0x20000 (found by search)\nThread 0x2\n")
+            "    ... unreadable at 0x20008, 8 bytes\nInterpreter 0x20000 (found by search): 1 thread without frames: 0x2\n")
         self.assertEqual(self.tool(), (0, wanted, ""))
 
     def test_signal(self):
@@ -286,9 +289,53 @@ class Shown(Case):
     def test_many(self):
         self.programs(salvage(interpreter([CRASHED, *POOL])), names={it["thread_id"]: f"pool-{it['thread_id']}" for it in POOL})
         out = self.tool()[1]
-        self.assertIn("11 threads\n    99 (gil) (crashed): boom (a.py:5)\n    100 \"pool-0\": wait (pool.py:12)\n", out)
+        front = "Thread 99 (gil) (crashed)\n    boom (a.py:5)\n    <module> (a.py:9)\n\n10 other threads\n    10 of 11: wait (pool.py:12)\n\n"
+        self.assertIn(f"Python v3.11.7\n\n{front}", out)
         self.assertIn("10 threads: pool-0, pool-1 and 8 more\n    wait (pool.py:12)\n", out)
         self.assertEqual(self.tool("--all")[1].count("Thread 10"), 10)
+        self.assertIn('10 other threads\n    100 "pool-0": wait (pool.py:12)\n    101 "pool-1"', self.tool("--all")[1])
+
+    def test_stacks(self):
+        # (what there is no room for is counted, and shown where it is asked for)
+        own = [thread(20 + at, [frame(f"f{at}_{depth}", "a.py", 1) for depth in range(9)]) for at in range(9)]
+        self.programs(salvage(interpreter([CRASHED, *POOL, *own])))
+        lines = self.tool()[1].splitlines()
+        self.assertLessEqual(len(lines), 40 + 3)
+        self.assertEqual(lines[-1], "... 7 more stacks of 7 threads: --stacks shows each stack, --all each thread")
+        self.assertIn("    ... 3 more frames", lines)
+        whole = self.tool("--stacks")[1]
+        self.assertEqual((whole.count("_8 (a.py:1)"), whole.count("more"), whole.count("\nThread ")), (9, 1, 10))
+        self.assertEqual(self.tool("-l")[1].count("_8 (a.py:1)"), 9)
+
+    def test_frames(self):
+        noted = self.folder / "pysalvage.said/words"
+        self.programs(salvage(interpreter([CRASHED])))
+        for words, handed in (((), []), (("--frames=3",), ["--frames=3"]), (("--frames", "all"), ["--frames=4096"])):
+            self.assertEqual(self.tool(*words)[0], 0)
+            self.assertEqual([it for it in noted.read_text().split("\n") if "frames" in it], handed)
+        for word in ("0", "4097", "-1", "x", "", "1.5", "٣"):
+            status, out, said = self.tool(f"--frames={word}")
+            self.assertEqual((status, out), (2, ""))
+            self.assertIn("argument --frames: ", said)
+            self.assertIn("is neither a number of frames from 1 to 4096 nor `all`", said)
+        self.assertIn("--plain takes no --frames", self.tool("--plain", "--frames=3")[2])
+
+    def test_frames_by_dump(self):
+        # (`pystacks dump` tells whole stacks, and so the tool takes their ends)
+        deep = thread(7, [*[frame("d", line=4)] * 9, frame("begin")])
+        self.programs(threads=[deep])
+        head = "Thread 0x7\n    d (a.py:4)\n"
+        for words, wanted in (
+            ((), f"{head}    ... d: 8 times (line 4)\n    begin (a.py:1)\n"), (("--frames=2",), f"{head}    d (a.py:4)\n    ... 6 more frames\n    d (a.py:4)\n    begin (a.py:1)\n"),
+            (("--frames=5",), f"{head}    ... d: 8 times (line 4)\n    begin (a.py:1)\n"), (("--frames=all",), "Thread 0x7\n" + "    d (a.py:4)\n" * 9 + "    begin (a.py:1)\n"),
+        ):
+            self.assertEqual(self.tool(*words)[1].split("\n\n")[1], wanted, words)
+        frames = json.loads(self.tool("--json", "--frames=2")[1])["interpreters"][0]["threads"][0]["frames"]
+        self.assertEqual((len(frames["first"]), frames["between"], len(frames["last"])), (2, 6, 2))
+
+    def test_direction(self):
+        self.programs(salvage(interpreter([thread(1, [frame("a\u202eb", "c\u2066.py", 1)])])), names={1: "\u200fx"})
+        self.assertIn('Thread 0x1: "\\u{200f}x"\n    a\\u{202e}b (c\\u{2066}.py:1)\n', self.tool()[1])
 
     def test_collapsed(self):
         self.programs(salvage(interpreter([CRASHED, *POOL])))
@@ -326,9 +373,10 @@ class Groups(Case):
         text = f"Group 1: 2\n    {self.core}\n    {more[0]}\nRefused: 1\n    {more[1]}: bad note\n"
         self.programs(salvage(interpreter([CRASHED, *POOL])), triage=text)
         stand_ins.program(self.program, stand_ins.dump_json([CRASHED, *POOL]), stand_ins.text_of([CRASHED, *POOL]), text)
-        stacks = "Thread 99 (gil) (crashed)\n    boom (a.py:5)\n    <module> (a.py:9)\n10 threads: 100, 101 and 8 more\n    wait (pool.py:12)\n    run (pool.py:3)\n"
+        stacks = "Thread 99 (gil) (crashed)\n    boom (a.py:5)\n    <module> (a.py:9)\n\n10 other threads\n    10 of 11: wait (pool.py:12)\n\n"
+        stacks += "10 threads: 100, 101 and 8 more\n    wait (pool.py:12)\n    run (pool.py:3)\n"
         head, rest = text.split("Refused")
-        shown = head + "".join(f"        {line}\n" for line in stacks.splitlines()) + "Refused" + rest
+        shown = head + "".join(f"        {line}\n" if line else "\n" for line in stacks.splitlines()) + "Refused" + rest
         self.assertEqual(self.tool("--group", core=[self.core, *more]), (0, shown, ""))
         self.assertEqual(self.tool("--group", "--plain", core=[self.core, *more]), (0, text, ""))
 
@@ -399,6 +447,22 @@ class Words(Case):
         status, out, said = self.tool("--salvage", self.folder / "none")
         self.assertEqual((status, out, said.splitlines()[0]), (127, "", f"dump_core: there is no program {self.folder / 'none'}"))
 
+    def test_records(self):
+        self.programs(salvage(interpreter([CRASHED])))
+        noted = self.folder / "pysalvage.said/words"
+        for words, handed in (((), f"{ROOT}/layouts/records-x86_64.toml"), (("--records", "own.toml"), "own.toml")):
+            self.assertEqual(self.tool(*words)[0], 0)
+            self.assertEqual([it for it in noted.read_text().split("\n") if "records" in it], [f"--records={handed}"])
+            self.assertNotIn("records", (self.folder / "pystacks.said/words").read_text())
+        # (of a machine without any none are handed over)
+        odd = self.put("odd", core_file([], machine=22))
+        self.assertEqual(self.tool("--layouts=my.toml", core=[odd])[0], 0)
+        self.assertNotIn("records", noted.read_text())
+        text = f"Group 1: 1\n    {self.core}\n"
+        stand_ins.program(self.program, stand_ins.dump_json([CRASHED]), stand_ins.text_of([CRASHED]), text)
+        self.assertEqual(self.tool("--group", "--records=own.toml")[0], 0)
+        self.assertIn("--records=own.toml", noted.read_text())
+
     def test_folders(self):
         self.programs(threads=[])
         for option in ("--root", "--source"):
@@ -429,12 +493,13 @@ class Words(Case):
 class Terminal(Case):
     """What a terminal gets."""
 
-    def on_terminal(self, *words, environment=None, size=None):
-        """What the tool writes on a terminal."""
+    def on_terminal(self, *words, environment=None, size=None, columns=0):
+        """What the tool writes on a terminal of so many columns; of none where it doesn't tell."""
         if size is not None:
             os.truncate(self.core, size)
         command = [sys.executable, "-B", str(TOOL), f"--program={self.program}", str(self.core), *words]
         end, own = pty.openpty()
+        fcntl.ioctl(own, termios.TIOCSWINSZ, struct.pack("<4H", 24, columns, 0, 0))
         environment = {"PATH": os.environ["PATH"], "TERM": "xterm", **(environment or {})}
         process = subprocess.Popen(command, stdin=subprocess.DEVNULL, stdout=own, stderr=own, env=environment)
         os.close(own)
@@ -459,6 +524,17 @@ class Terminal(Case):
         self.assertIn("\x1b", self.on_terminal(environment={"NO_COLOR": ""}))
         self.assertNotIn("\x1b", self.tool()[1])
 
+    def test_widths(self):
+        # (long paths are shortened on a terminal alone)
+        path = "/srv/application/lib/python3.11/site-packages/framework/handlers/requests/views.py"
+        self.programs(salvage(interpreter([thread(1, [frame("handle", path, 7), frame("f")])])))
+        plain = {"TERM": "dumb"}
+        line = "    handle (/srv/application/lib/...ages/framework/handlers/requests/views.py:7)"
+        self.assertEqual((len(line) <= 80, self.on_terminal(environment=plain, columns=80).splitlines()[-2:]), (True, [line, "    f (a.py:1)"]))
+        for shown in (self.on_terminal(environment=plain), self.on_terminal(environment=plain, columns=200), self.tool()[1]):
+            self.assertIn(f"    handle ({path}:7)\n", shown)
+        self.assertIn("\x1b[1mhandle\x1b[0m (/srv/application/lib/...", self.on_terminal(columns=80))
+
     def test_progress(self):
         self.programs(salvage(interpreter([CRASHED])))
         self.assertNotIn("preparing", self.on_terminal())
@@ -480,7 +556,7 @@ class Terminal(Case):
         data = core_file([Segment(0x100000, b"x" * (1 << 20), 6)])
         self.core.write_bytes(data)
         slow = self.put("slow/sitecustomize.py", SLOW).parent
-        self.assertIn("dump_core: preparing: ", self.on_terminal("--anyway", environment={"PYTHONPATH": str(slow)}, size=600_000_000))
+        self.assertIn("dump_core: preparing: ", self.on_terminal(environment={"PYTHONPATH": str(slow)}, size=600_000_000))
 
 
 if __name__ == "__main__":

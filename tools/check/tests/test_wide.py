@@ -61,13 +61,17 @@ class Wide(unittest.TestCase):
         return ran.stdout
 
     def test_text(self):
-        lines = self.tool().splitlines()
-        self.assertEqual(lines[:3], ["Python v3.9.0", "", "200 threads"])
-        self.assertEqual(sum(line.startswith("    0x10") and line.endswith(": f (a.py)") for line in lines), EQUAL)
+        lines = self.tool("--stacks").splitlines()
+        self.assertEqual(lines[:4], ["Python v3.9.0", "", "200 threads", "    190 of 200: f (a.py)"])
         stacks = lines[lines.index("", 3) + 1 :]
         # (threads stand in the reverse of the interpreter's order)
         own = [line for number in reversed(range(OTHERS)) for line in (f"Thread 0x{0x1000 + EQUAL + number:X}", f"    own_{number} (a.py)", "    <module> (a.py)")]
         self.assertEqual(stacks, own + ["190 threads: 0x10BD, 0x10BC and 188 more", "    f (a.py)", "    <module> (a.py)"])
+
+    def test_short(self):
+        lines = self.tool().splitlines()
+        self.assertLessEqual(len(lines), 40)
+        self.assertIn("    190 of 200: f (a.py)", lines)
 
     def test_all(self):
         self.assertEqual(len(re.findall("^Thread ", self.tool("--all"), re.MULTILINE)), EQUAL + OTHERS)

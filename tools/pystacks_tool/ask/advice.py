@@ -14,6 +14,7 @@ NEXT = {
     "file too long": "cores of at most 64 GiB are read, without their zero pages",
     "out of memory": "read it where there is more memory, or see `ulimit -v`",
     "layouts: ": "docs/LAYOUTS.md says what a layout file has",
+    "records: ": "docs/LAYOUTS.md says what a file of records has; without --records the tool hands over its own",
 }
 
 

@@ -2,7 +2,7 @@
 
 import json
 import re
-from typing import Any, Dict, List, Optional
+from typing import Any, Dict, List, Optional, Tuple
 
 from pystacks_tool.model import Frame, Interpreter, Local, Report, Thread
 
@@ -37,10 +37,16 @@ def is_holder(tree: Tree) -> bool:
     return bool(tree["owns_gil"]) and tree["thread_id"] != 0
 
 
-def thread_of(tree: Tree) -> Thread:
-    """A thread."""
-    frames = tuple(frame_of(it) for it in tree["frames"])
-    return Thread(tree["thread_id"], frames, tree["os_thread_id"], tree["thread_name"], is_holder(tree))
+def ends_of(rows: List[Tree], most: Optional[int]) -> Tuple[List[Tree], List[Tree]]:
+    """The newest of some frames and the oldest, so many of each where that is said and there are more."""
+    return (rows, []) if most is None or len(rows) <= 2 * most else (rows[:most], rows[-most:])
+
+
+def thread_of(tree: Tree, most: Optional[int]) -> Thread:
+    """A thread, with so many frames at each end, where that is said."""
+    first, last = ends_of(tree["frames"], most)
+    frames, between = tuple(frame_of(it) for it in first + last), len(tree["frames"]) - len(first) - len(last)
+    return Thread(tree["thread_id"], frames, tree["os_thread_id"], tree["thread_name"], is_holder(tree), False, len(first), between)
 
 
 def text_of(tree: Tree) -> str:
@@ -59,12 +65,13 @@ def number_of(text: Optional[str]) -> Optional[int]:
     return None if text is None else int(text)
 
 
-def report_by_dump(tree: str, text: str, word: str, core: str) -> Report:
+def report_by_dump(tree: str, text: str, word: str, core: str, most: Optional[int] = None) -> Report:
     """The report by the JSON and the text of one core, for which the program had this word. The text's threads stand in
-    the reverse of the JSON's order, and so they do here; its head is what stands before them."""
+    the reverse of the JSON's order, and so they do here; its head is what stands before them. So many frames are shown at each
+    end of a stack, where that is said."""
     try:
         trees = list(reversed(json.loads(tree)))
-        threads, rest = tuple(thread_of(it) for it in trees), "".join(text_of(it) for it in trees)
+        threads, rest = tuple(thread_of(it, most) for it in trees), "".join(text_of(it) for it in trees)
     except (ValueError, KeyError, TypeError) as error:
         raise Unexpected(f"its JSON: {error!r}") from None
     front = text[: len(text) - len(rest)].replace(f": {word}\n", ": \n", 1)
@@ -91,22 +98,23 @@ def member_tree(tree: Tree) -> Tree:
     return {"filename": tree["filename"], "line": tree["line"], "locals": shown, "locals_fault": None, "name": tree["name"]}
 
 
-def thread_tree(tree: Tree) -> Tree:
+def thread_tree(tree: Tree, most: Optional[int]) -> Tree:
     """A thread. Which one got the signal isn't told."""
-    members = [member_tree(it) for it in tree["frames"]]
-    frames = {"between": 0, "end": {"kind": "whole"}, "first": members, "last": [], "met": None}
+    first, last = ([member_tree(it) for it in rows] for rows in ends_of(tree["frames"], most))
+    between = len(tree["frames"]) - len(first) - len(last)
+    frames = {"between": between, "end": {"kind": "whole"}, "first": first, "last": last, "met": None}
     return {
         "address": None, "crashed": None, "frames": frames, "gil": is_holder(tree), "os_thread_id": tree["os_thread_id"],
         "thread_id": tree["thread_id"], "thread_name": tree["thread_name"],
     }
 
 
-def tree_of(report: Report, threads: List[Tree]) -> Tree:
+def tree_of(report: Report, threads: List[Tree], most: Optional[int] = None) -> Tree:
     """A report in the form of `pysalvage`'s JSON. What `dump` doesn't tell is null."""
-    rows = [thread_tree(it) for it in reversed(threads)]
+    rows = [thread_tree(it, most) for it in reversed(threads)]
     interpreter = {"address": None, "lock": None, "searched": None, "threads": rows, "threads_end": {"kind": "whole"}}
     process = None if report.process is None else {"arguments": report.process[1], "pid": report.process[0]}
     return {
-        "interpreters": [interpreter], "more": None, "process": process, "registers": None, "signal": report.signal,
+        "interpreters": [interpreter], "missing": None, "more": None, "process": process, "registers": None, "signal": report.signal,
         "signal_info": None, "version": report.version,
     }

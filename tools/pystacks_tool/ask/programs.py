@@ -2,13 +2,13 @@
 
 import os
 from pathlib import Path
-from typing import List, Optional, Sequence
+from typing import List, Sequence
 
 from pystacks_tool.ask.run import Answer, answer_of
 from pystacks_tool.cores.opened import OpenedCore, check_text
 from pystacks_tool.faults import NO_PROGRAM, Fault, shown
 from pystacks_tool.options import Options
-from pystacks_tool.places import NOT_RUN, PROGRAM, SALVAGE, named_at, program_at, salvage_at
+from pystacks_tool.places import NOT_RUN, PROGRAM, program_at
 
 
 def ask(core: OpenedCore, command: Sequence[bytes]) -> Answer:
@@ -26,11 +26,6 @@ def command_of(words: Sequence[str], names: Sequence[str]) -> List[bytes]:
     return parts
 
 
-def salvage_program(options: Options) -> Optional[Path]:
-    """`pysalvage`, where it is there: the one that is named, or the one beside the named program, or the built one."""
-    return salvage_at(options.salvage, named_at(options.program).with_name("pysalvage") if options.program else SALVAGE)
-
-
 def dump_command(options: Options, core: OpenedCore, *more: str) -> List[bytes]:
     """The words of `pystacks dump`."""
     words = [os.fspath(program_at(options.program, PROGRAM)), "dump", f"--core={core.word}", f"--layouts={core.layouts}"]
@@ -38,7 +33,11 @@ def dump_command(options: Options, core: OpenedCore, *more: str) -> List[bytes]:
 
 
 def salvage_command(options: Options, program: Path, core: OpenedCore) -> List[bytes]:
-    """The words of `pysalvage`, which is asked for JSON, and for the sections that are shown."""
-    sections = ["--signal"] * options.signal + ["--registers"] * options.registers
-    words = [os.fspath(program), f"--layouts={core.layouts}", "-j", *["-l"] * options.locals, *sections, "--", core.word]
+    """The words of `pysalvage`, which is asked for JSON by the layouts and the records of the core's machine, for the sections that are
+    shown, and over a part of a core for what it missed."""
+    sections = ["--signal"] * options.signal + ["--registers"] * options.registers + ["--missing"] * (core.part is not None)
+    records = [f"--records={core.records}"] if core.records else []
+    ends = [f"--frames={options.frames}"] if options.frames is not None else []
+    asked = ["-j", *ends, *["-l"] * options.locals, *sections, "--", core.word]
+    words = [os.fspath(program), f"--layouts={core.layouts}", *records, *asked]
     return [*command_of(words, [core.name]), *core.images]

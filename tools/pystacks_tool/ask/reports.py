@@ -11,14 +11,15 @@ from pathlib import Path
 from typing import Optional
 
 from pystacks_tool.ask.dump import Tree, Unexpected, report_by_dump, tree_of
-from pystacks_tool.ask.programs import ask, dump_command, salvage_command, salvage_program
+from pystacks_tool.ask.parts import ask_over
+from pystacks_tool.ask.programs import ask, dump_command
 from pystacks_tool.ask.run import Answer
 from pystacks_tool.ask.salvage import NamesAndValues, names_and_values, report_by_salvage
 from pystacks_tool.cores.opened import OpenedCore
 from pystacks_tool.faults import NO_PROGRAM, Fault
-from pystacks_tool.model import Report
+from pystacks_tool.model import Report, arranged
 from pystacks_tool.options import Options
-from pystacks_tool.places import PROGRAM
+from pystacks_tool.places import PROGRAM, salvage_program
 
 
 @dataclass(frozen=True)
@@ -49,11 +50,14 @@ def ask_for_names_and_values(options: Options, core: OpenedCore) -> NamesAndValu
 
 def ask_salvage(options: Options, core: OpenedCore, program: Path) -> Outcome:
     """What `pysalvage` tells, with names and values."""
-    answer = ask(core, salvage_command(options, program, core))
+    answer = ask_over(options, core, program)
     if answer.status != 0:
         return Outcome(answer)
     tree, report = report_by_salvage(decoded(answer.out), core.name, ask_for_names_and_values(options, core))
-    return Outcome(answer, report, tree)
+    if core.part is not None:
+        # (that is between the program and the tool)
+        tree["missing"] = None
+    return Outcome(answer, arranged(report), tree)
 
 
 def ask_dump(options: Options, core: OpenedCore) -> Outcome:
@@ -64,13 +68,13 @@ def ask_dump(options: Options, core: OpenedCore) -> Outcome:
     text = ask(core, dump_command(options, core))
     if text.status != 0:
         return Outcome(text)
-    report = report_by_dump(decoded(answer.out), decoded(text.out), core.word, core.name)
-    return Outcome(answer, report, tree_of(report, json.loads(decoded(answer.out))))
+    report = report_by_dump(decoded(answer.out), decoded(text.out), core.word, core.name, options.frames)
+    return Outcome(answer, arranged(report), tree_of(report, json.loads(decoded(answer.out)), options.frames))
 
 
 def report_on(options: Options, core: OpenedCore) -> Outcome:
     """What is told of a core, by `pysalvage` where it is there."""
-    program = salvage_program(options)
+    program = salvage_program(options.salvage, options.program)
     try:
         return ask_salvage(options, core, program) if program else ask_dump(options, core)
     except Unexpected as reason:

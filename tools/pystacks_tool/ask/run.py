@@ -9,6 +9,7 @@ import signal
 import subprocess
 import tempfile
 from dataclasses import dataclass
+from pathlib import Path
 from typing import IO, List, Sequence
 
 from pystacks_tool.faults import CANNOT_WRITE, NO_ROOM, Fault
@@ -76,6 +77,20 @@ def run_over(command: List[bytes], fd: int, name: bytes) -> int:
     return end_as(status)
 
 
+def tells_missed(program: Path) -> bool:
+    """Whether a program tells what it missed. (An older one that is named doesn't.)"""
+    try:
+        words = [os.fspath(program), "--help"]
+        done = subprocess.run(words, stdout=subprocess.PIPE, stderr=subprocess.DEVNULL, stdin=subprocess.DEVNULL, check=False)
+    except OSError:
+        return False
+    return b"--missing" in done.stdout
+
+
+TOLD = (0, 1)
+"""The statuses under which what the program wrote is kept: under 1 it may be what it missed."""
+
+
 @dataclass(frozen=True)
 class Answer:
     """What the program answered."""
@@ -91,10 +106,10 @@ def answer_of(command: Sequence[bytes], fds: Sequence[int], own: bytes, name: by
     with tempfile.TemporaryFile() as out, tempfile.TemporaryFile() as lines:
         status = subprocess.call(list(command), pass_fds=list(fds), stdout=out, stderr=lines)
         length = out.seek(0, 2)
-        if status == 0 and length > LONGEST_ANSWER:
+        if status in TOLD and length > LONGEST_ANSWER:
             line = f"the program wrote {length} bytes, more than {LONGEST_ANSWER}: --plain passes its text on"
             raise Fault(line, NO_ROOM)
         out.seek(0)
         lines.seek(0)
         said = lines.read()
-        return Answer(status, out.read() if status == 0 else b"", said.replace(own, name) if own != name else said)
+        return Answer(status, out.read() if status in TOLD else b"", said.replace(own, name) if own != name else said)

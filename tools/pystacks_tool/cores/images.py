@@ -27,12 +27,20 @@ OTHER_FILE = "of a container or another host: --root FOLDER, below which its fil
 """What to do where a file isn't the one that was mapped."""
 
 
+MORE = "--memory MB lets more be read"
+"""What to do where something was left out for memory."""
+
+
 class Missing(Exception):
     """Why there is no image under a name, and what to do next."""
 
     def __init__(self, line: str, then: str = OTHER_FILE) -> None:
         super().__init__(line)
         self.then = then
+
+
+class TooLong(Missing):
+    """That an image is longer than may be read."""
 
 
 def path_below(root: bytes, name: bytes) -> bytes:
@@ -72,11 +80,13 @@ def check_file(path: bytes, wanted: Wanted, machine: Optional[int]) -> None:
         raise Missing(f"{shown(path)} is of another build")
 
 
-def image_word(wanted: Wanted, root: bytes, machine: Optional[int]) -> bytes:
-    """The program's word for an image."""
+def image_word(wanted: Wanted, root: bytes, machine: Optional[int], budget: Optional[int] = None) -> bytes:
+    """The program's word for an image. One that is longer than may be read isn't handed over."""
     if b"=" in wanted.name:
         raise Missing("a path with an equals sign can't be handed over")
     path = path_below(root, wanted.name)
+    if budget is not None and os.path.getsize(path) > budget:
+        raise TooLong(f"{shown(path)} has {os.path.getsize(path)} bytes, and is left out for memory")
     word = wanted.name + b"=" + path
     if not is_text(word):
         raise Missing("a path that is not UTF-8 can't be handed over")
@@ -84,9 +94,9 @@ def image_word(wanted: Wanted, root: bytes, machine: Optional[int]) -> bytes:
     return word
 
 
-def image_words(files: List[Wanted], root: bytes, machine: Optional[int]) -> List[bytes]:
+def image_words(files: List[Wanted], root: bytes, machine: Optional[int], budget: Optional[int] = None) -> List[bytes]:
     """The words for the images that are there and of the core's machine, in the order of the maps, after the line that
-    names those that the program looks into and that are not."""
+    names those that the program looks into and that are not, and after one for each that is longer than may be read."""
     words, left = [], MOST
     missing: Dict[Use, str] = {}
     then = ""
@@ -95,7 +105,9 @@ def image_words(files: List[Wanted], root: bytes, machine: Optional[int]) -> Lis
         if wanted.use is Use.MEMORY and left < 0:
             continue
         try:
-            words.append(image_word(wanted, root, machine))
+            words.append(image_word(wanted, root, machine, budget))
+        except TooLong as reason:
+            say(str(reason), MORE)
         except Missing as reason:
             if wanted.use is not Use.MEMORY:
                 missing[wanted.use] = f"{shown(wanted.name)} ({wanted.use.value}; {reason})"

@@ -1,18 +1,26 @@
 """A core as it is handed to a program: prepared where it has to be, with its images and layouts."""
 
 import os
-from dataclasses import dataclass
+import tempfile
+from dataclasses import dataclass, field
 from pathlib import Path
 from typing import IO, Iterable, List, Optional
 
-from pystacks_tool.cores.images import LONGEST, finder_below, image_words, maps_in, opened, read_core
+from pystacks_tool.ask.run import tells_missed
+from pystacks_tool.cores.headers import headers_of
+from pystacks_tool.cores.images import finder_below, image_words, maps_in, opened, read_core
 from pystacks_tool.cores.kinds import check_kind
-from pystacks_tool.cores.maps import Use, is_text
-from pystacks_tool.cores.prepare import Prepared, Unprepared, Wishes, available, prepared
+from pystacks_tool.cores.maps import Use, Wanted, is_text
+from pystacks_tool.cores.parts import BLOCK, Part, Shrunk
+from pystacks_tool.cores.prepare import SHRUNK, Prepared, Unprepared, Wishes, available, prepared
 from pystacks_tool.cores.progress import shown_for
-from pystacks_tool.faults import BAD_WORDS, NO_ROOM, Fault, say, shown
+from pystacks_tool.cores.tables import Entry, entries_of
+from pystacks_tool.faults import BAD_WORDS, NO_ROOM, NO_STACKS, Fault, say, shown
 from pystacks_tool.options import Options
-from pystacks_tool.places import layouts_of
+from pystacks_tool.places import layouts_of, records_of, salvage_program
+
+STILL = "copy it first, once nothing writes it"
+"""What to do where a core became shorter."""
 
 ROOM = "make room, or name another folder by TMPDIR, or another file by --keep"
 """What to do where a core that is prepared can't be written."""
@@ -28,6 +36,16 @@ class OpenedCore:
     """The file that was prepared of it, if one was."""
     layouts: str
     images: List[bytes]
+    part: Optional[Part] = None
+    """What the prepared file is of the core, where it is a part of it."""
+    rest: List[Wanted] = field(default_factory=list)
+    """Files that are handed over once an address in them was missed."""
+    entries: List[Entry] = field(default_factory=list)
+    """Where files were mapped."""
+    root: bytes = b""
+    machine: Optional[int] = None
+    records: str = ""
+    """The file of records, where there is one."""
 
     @property
     def word(self) -> str:
@@ -39,6 +57,29 @@ class OpenedCore:
         """The files that a program inherits."""
         return [self.prepared.fileno()] if self.prepared else []
 
+    def give(self, blocks: List[int], run: int) -> bool:
+        """Gives what a run missed, as far as the core and the files have it. Whether anything was given."""
+        assert self.part is not None
+        try:
+            grew = self.part.grow(blocks, run)
+        except OSError as error:
+            line = f"cannot write a file in {tempfile.gettempdir()} (TMPDIR names another folder): {error.strerror}"
+            raise Fault(line, NO_ROOM, ROOM) from None
+        except Shrunk:
+            raise Fault(SHRUNK, NO_STACKS, STILL) from None
+        return self.give_files(blocks) or grew
+
+    def give_files(self, blocks: List[int]) -> bool:
+        """Hands over the files in which some blocks were mapped. Whether there are any that weren't."""
+        assert self.part is not None
+        spans = [(block * BLOCK, (block + 1) * BLOCK) for block in blocks]
+        names = {it.name for it in self.entries for start, end in spans if it.start < end and start < it.end}
+        wanted = [it for it in self.rest if it.name in names]
+        self.rest = [it for it in self.rest if it.name not in names]
+        words = image_words(wanted, self.root, self.machine, self.part.budget)
+        self.images += words
+        return bool(words)
+
 
 def free_memory() -> Optional[int]:
     """How much memory the system has free, where it tells."""
@@ -46,13 +87,6 @@ def free_memory() -> Optional[int]:
         return available(Path("/proc/meminfo").read_text(encoding="ascii", errors="replace"))
     except OSError:
         return None
-
-
-def check_room(path: str, length: int, free: Optional[int]) -> None:
-    """Refuses a core that is longer than half of the memory that is free, before the program asks for that much."""
-    if free is not None and free // 2 < length <= LONGEST:
-        line = f"{shown(os.fsencode(path))} has {length} bytes, more than half of the {free} that are free"
-        raise Fault(f"{line} (--anyway tries it)", NO_ROOM)
 
 
 def check_text(words: Iterable[bytes]) -> None:
@@ -63,28 +97,37 @@ def check_text(words: Iterable[bytes]) -> None:
             raise Fault(line, BAD_WORDS, "rename it, or make a link of another name to it")
 
 
+def wishes_of(options: Options) -> Wishes:
+    """How a core is to be prepared. Of a long one a part is made where `pysalvage` is asked, which tells what it missed; else it
+    is cut at its zero pages where it is longer than half of the free memory."""
+    maps, finder = maps_in(options.maps), finder_below(os.fsencode(options.root))
+    program = None if options.plain or options.group or options.whole else salvage_program(options.salvage, options.program)
+    if program is None:
+        free = free_memory()
+        return Wishes(options.keep, None if free is None else free // 2, maps=maps, finder=finder)
+    budget, asked = options.memory * 1_000_000, program
+    return Wishes(options.keep, budget, budget, lambda: tells_missed(asked), maps=maps, finder=finder)
+
+
 def prepare_core(options: Options, name: str, core: Optional[IO[bytes]]) -> Optional[Prepared]:
     """The core that is prepared, if it has to be. What is none is refused, if the words don't ask for the program's own
-    answer, and so is one that is too long."""
+    answer."""
     if core is None:
         return None
-    free = None if options.anyway else free_memory()
-    room = None if free is None else free // 2
     try:
-        wishes = Wishes(options.keep, room, maps=maps_in(options.maps), finder=finder_below(os.fsencode(options.root)))
+        wishes = wishes_of(options)
         with shown_for(os.fstat(core.fileno()).st_size):
             new = prepared(core, wishes)
     except Unprepared as reason:
-        then = ROOM if reason.status == NO_ROOM else ""
+        then = ROOM if reason.status == NO_ROOM else STILL if reason.status == NO_STACKS else ""
         raise Fault(str(reason), reason.status, then) from None
-    if new:
+    if new and new.said:
         say("; ".join(new.said))
-    elif options.keep:
+    elif options.keep and not new:
         say(f"the core needs no preparing, and {options.keep} isn't written")
     read = new.file if new else core
     if not options.plain and not options.group:
         check_kind(read, os.fsencode(name))
-    check_room(name, os.fstat(read.fileno()).st_size, free)
     return new
 
 
@@ -95,6 +138,12 @@ def open_core(options: Options, name: str) -> OpenedCore:
     machine, files = read_core(new.file if new else core)
     layouts = os.fspath(options.layouts or layouts_of(machine))
     wanted = [it for it in files if options.locals or it.use is not Use.MEMORY]
-    check_text(os.fsencode(it) for it in (name, layouts))
-    images = image_words(wanted, os.fsencode(options.root), machine)
-    return OpenedCore(name, new.file if new else None, layouts, images)
+    records = os.fspath(options.records or records_of(machine) or "")
+    check_text(os.fsencode(it) for it in (name, layouts, records))
+    root = os.fsencode(options.root)
+    if new is None or new.part is None:
+        return OpenedCore(name, new.file if new else None, layouts, image_words(wanted, root, machine), records=records)
+    images = image_words([it for it in wanted if it.use is not Use.MEMORY], root, machine)
+    rest = [it for it in wanted if it.use is Use.MEMORY]
+    entries = entries_of(new.file, headers_of(new.file) or [])
+    return OpenedCore(name, new.file, layouts, images, new.part, rest, entries, root, machine, records)

@@ -11,8 +11,9 @@ from dataclasses import dataclass, field, replace
 from typing import IO, Callable, List, Optional, Tuple
 
 from pystacks_tool.cores.gaps import READABLE, Find, at_maps, table_note, with_gaps
-from pystacks_tool.cores.headers import Header, Piece, copy, headers_of, written
+from pystacks_tool.cores.headers import Header, Piece, copy, headers_of, stretches, written
 from pystacks_tool.cores.maps import LOAD, NOTE, WRITABLE, notes_of, read_at
+from pystacks_tool.cores.parts import FIRST, Part, Shrunk
 from pystacks_tool.cores.sparse import Cuts, cut_pieces, cuts_of
 from pystacks_tool.cores.tables import Entry, entries_of
 from pystacks_tool.cores.unpack import NoSpace, NoUnpacker, unpacked
@@ -24,8 +25,11 @@ LARGEST = 1 << 48
 """More bytes than a core has: headers that claim so many are wrong, and no sign of a core that was cut."""
 
 
+NO_STACKS = 1
 NO_ROOM = 5
 NO_PROGRAM = 127
+
+SHRUNK = "the core became shorter while it was read"
 
 
 class Unprepared(Exception):
@@ -44,8 +48,14 @@ class Wishes:
     """Where the new file is to be kept; else it has no name."""
     room: Optional[int] = None
     """How long a core may be; a longer one is made shorter wherever that is possible."""
+    budget: Optional[int] = None
+    """How many bytes of a core may be read; of one that has more a part is made. Without it no part is made."""
+    tells: Callable[[], bool] = lambda: True
+    """Whether the program that is asked tells what it missed; else no part is made either."""
+    first: int = FIRST
+    """How many bytes of such a core are given at first."""
     is_forced: bool = False
-    """Whether it is cut at all its runs of zero pages, however few."""
+    """Whether it is cut at all its runs of zero pages, however few; or a part is made of it, however few bytes it has."""
     maps: Tuple[Entry, ...] = ()
     """The mappings of files by a copy of /proc/PID/maps, for a core that has no file table."""
     finder: Callable[[IO[bytes]], Find] = lambda file: lambda name: None
@@ -63,6 +73,8 @@ class Work:
     pieces: List[Piece] = field(default_factory=list)
     said: List[str] = field(default_factory=list)
     """What was done."""
+    is_part: bool = False
+    """Whether a part of it is to be made."""
 
     @property
     def length(self) -> int:
@@ -90,6 +102,8 @@ class Prepared:
 
     file: IO[bytes]
     said: Tuple[str, ...]
+    part: Optional[Part] = None
+    """What the file is of the core, where it is a part of it."""
 
 
 def megabytes(size: int) -> str:
@@ -114,6 +128,12 @@ def new_file(keep: str) -> IO[bytes]:
         return open(keep, "x+b") if keep else tempfile.TemporaryFile(prefix="dump-core-")
     except OSError as error:
         raise Unprepared(f"cannot write {keep or 'a file in ' + tempfile.gettempdir()}: {error.strerror}") from None
+
+
+def unwritten(keep: str, error: OSError) -> Unprepared:
+    """That a core can't be written."""
+    where = keep or f"a file in {tempfile.gettempdir()} (TMPDIR names another folder)"
+    return Unprepared(f"cannot write {where}: {error.strerror}")
 
 
 # ---- cores that were cut
@@ -182,6 +202,16 @@ def is_worth(cuts: Cuts, work: Work, wishes: Wishes) -> bool:
     return bool(cuts.runs) and (wishes.is_forced or is_too_long or is_sparse)
 
 
+def is_long(work: Work, wishes: Wishes) -> bool:
+    """Whether a core has more bytes than may be read; its holes are none."""
+    if wishes.budget is None or work.length <= wishes.budget:
+        return False
+    if wishes.is_forced:
+        return True
+    used = sum(last - first for first, last in stretches(work.file.fileno(), 0, work.length))
+    return used > wishes.budget and wishes.tells()
+
+
 def cut_zeros(work: Work, wishes: Wishes) -> None:
     """Cuts the segments at their runs of zero pages, where there are many."""
     if not wishes.is_forced and work.length < LEAST:
@@ -207,8 +237,8 @@ def prepared(file: IO[bytes], wishes: Wishes) -> Optional[Prepared]:
     work = mended(plain, wishes)
     if work:
         work.said = said + work.said
-        new = finished(work, wishes)
-        if plain is not file:
+        new = begun(work, wishes) if work.is_part else finished(work, wishes)
+        if plain is not file and not work.is_part:
             plain.close()
         return new
     return kept(Prepared(plain, tuple(said)), wishes) if said else None
@@ -224,8 +254,10 @@ def mended(file: IO[bytes], wishes: Wishes) -> Optional[Work]:
     if shares_bytes(work):
         return None
     fill_gaps(work, wishes)
-    cut_zeros(work, wishes)
-    return work if work.said else None
+    work.is_part = is_long(work, wishes)
+    if not work.is_part:
+        cut_zeros(work, wishes)
+    return work if work.said or work.is_part else None
 
 
 def kept(new: Prepared, wishes: Wishes) -> Prepared:
@@ -250,6 +282,21 @@ def finished(work: Work, wishes: Wishes) -> Prepared:
         written(work.file.fileno(), work.all_pieces, new.fileno())
     except OSError as error:
         new.close()
-        where = wishes.keep or f"a file in {tempfile.gettempdir()} (TMPDIR names another folder)"
-        raise Unprepared(f"cannot write {where}: {error.strerror}") from None
+        raise unwritten(wishes.keep, error) from None
     return Prepared(new, tuple(work.said))
+
+
+def begun(work: Work, wishes: Wishes) -> Prepared:
+    """The part of a core with which its reading begins."""
+    assert wishes.budget is not None
+    new = new_file(wishes.keep)
+    part = Part(work.file, work.all_pieces, work.entries, new, wishes.budget)
+    try:
+        part.begin(wishes.first)
+    except OSError as error:
+        new.close()
+        raise unwritten(wishes.keep, error) from None
+    except Shrunk:
+        new.close()
+        raise Unprepared(SHRUNK, NO_STACKS) from None
+    return Prepared(new, tuple(work.said), part)

@@ -12,7 +12,7 @@ from pystacks_tool.faults import BAD_WORDS, Fault, shown
 from pystacks_tool.groups.triage import Apart, Core, Group, group_answer, groups_of, read_core_of_group, renamed_text, shared_files, shared_machine
 from pystacks_tool.options import Options
 from pystacks_tool.output import one_line, page_written, refused, style_of, written
-from pystacks_tool.places import PROGRAM, layouts_of, program_at
+from pystacks_tool.places import PROGRAM, layouts_of, program_at, records_of
 from pystacks_tool.show.page import group_page
 from pystacks_tool.show.text import stacks_lines
 
@@ -50,7 +50,8 @@ def group(options: Options) -> int:
     if options.plain:
         write_all(1, text)
         return 0
-    by_name = {core.name: OpenedCore(os.fsdecode(core.name), core.prepared, layouts, images) for core in cores}
+    records = os.fspath(options.records or records_of(machine) or "")
+    by_name = {core.name: OpenedCore(os.fsdecode(core.name), core.prepared, layouts, images, records=records) for core in cores}
     return show_groups(options, groups_of(text, list(by_name)), by_name)
 
 
@@ -71,4 +72,4 @@ def group_lines(options: Options, groups: List[Group], by_name: Dict[bytes, Open
         if it.is_group and it.first in by_name:
             report = report_on(options, by_name[it.first]).report
             for line in stacks_lines(report, style) if report else ():
-                yield f"        {line}"
+                yield f"        {line}" if line else ""

@@ -1,39 +1,42 @@
 """The stacks of a core in the form that flame graph tools and speedscope read: for each stack its frames, the outermost
 first, joined by semicolons, a blank, and how many threads have it.
 
-A frame is written as py-spy writes it, `f (a.py:5)`. Semicolons and control characters in names are escaped, as `\\x3b`,
+A frame is written as py-spy writes it, `f (a.py:5)`. Semicolons and control characters in names are escaped, as `\\u{3b}`,
 so that a line is a stack. Threads without frames have no line. Of a chain that is broken the outermost place says how it
 ends, and of one that is shown in parts a place between them how many frames aren't there.
 """
 
-import re
 from typing import Counter, Iterator, List, Mapping, Sequence, Tuple
 
 from pystacks_tool.model import Frame, Thread
-
-ESCAPED = re.compile("[;\\\\\x00-\x1f\x7f-\x9f\u2028\u2029\ud800-\udfff]")
-
-
-def escaped(text: str) -> str:
-    """A text without what ends a place or a line."""
-    return ESCAPED.sub(lambda it: f"\\x{ord(it.group()):02x}" if ord(it.group()) < 256 else f"\\u{ord(it.group()):04x}", text)
-
+from pystacks_tool.show.escape import in_place
+from pystacks_tool.show.folds import Fold, folded
 
 def label(frame: Frame) -> str:
     """A frame in a line; or why it has no names, which doesn't end in a parenthesis, as each frame does."""
     if frame.why:
-        return escaped(f"? {frame.why}")
+        return in_place(f"? {frame.why}")
     line = f":{frame.line}" if frame.line else ""
-    return escaped(f"{frame.name} ({frame.filename}{line})")
+    return in_place(f"{frame.name} ({frame.filename}{line})")
 
 
-def places(thread: Thread) -> Tuple[str, ...]:
+def labels(frames: Sequence[Frame], is_folded: bool) -> List[str]:
+    """Some frames, each in a line; a recursion in one, where they are folded."""
+    if not is_folded:
+        return [label(it) for it in frames]
+    rows = [(it.line, True) if isinstance(it, Fold) else (label(it), False) for it in folded(frames)]
+    # (no frame's begins as a line does that tells a gap)
+    return [f"\\u{{2e}}{text[1:]}" if text.startswith("...") and not is_line else text for text, is_line in rows]
+
+
+def places(thread: Thread, is_folded: bool = False) -> Tuple[str, ...]:
     """A thread's frames, the outermost first."""
-    rows = [label(it) for it in thread.frames]
-    if thread.between and thread.first is not None:
-        rows.insert(thread.first, f"... {thread.between} more frames")
+    first = thread.first if thread.between else None
+    rows = labels(thread.frames[:first], is_folded)
+    if first is not None:
+        rows += [f"... {thread.between} more frames", *labels(thread.frames[first:], is_folded)]
     if thread.end:
-        rows.append(escaped(f"... {thread.end}"))
+        rows.append(in_place(f"... {thread.end}"))
     return tuple(reversed(rows))
 
 

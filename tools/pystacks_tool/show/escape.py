@@ -1,13 +1,18 @@
-"""Texts of a core within a line: what could end the line, or be taken for a quote, is escaped as `pysalvage` has it; the
-numbers of floats in decimal; and signals by name.
+"""Texts of a core within a line: what could end the line, be taken for a quote, or turn the direction of the text is escaped as
+Rust's literals have it; the numbers of floats in decimal; and signals by name.
 """
 
 import re
 import struct
 from typing import Optional
 
-CONTROL = re.compile("[\x00-\x1f\x7f-\x9f\u2028\u2029\ud800-\udfff]")
-NAME = re.compile("[\"\\\\\x00-\x1f\x7f-\x9f\u2028\u2029\ud800-\udfff]")
+ODD = "\x00-\x1f\x7f-\x9f\u061c\u200e\u200f\u2028-\u202e\u2066-\u2069\ud800-\udfff"
+"""What no text is shown with: control characters, what ends a line, and what turns the direction of the text around it."""
+
+CONTROL = re.compile(f"[{ODD}]")
+NAME = re.compile(f'["\\\\{ODD}]')
+PLACE = re.compile(f"[;\\\\{ODD}]")
+"""What would end a place of a collapsed stack, too."""
 
 FLOAT = re.compile(r"(?<![^\[({ ])float 0x([0-9a-f]{16}|[0-9a-f]{8})(?![^\])},:])")
 """A float by its bits, within a value."""
@@ -45,6 +50,11 @@ def decimal(found: "re.Match[str]") -> str:
     return f"{number!r} ({found.group()})"
 
 
+def in_place(text: str) -> str:
+    """A text within a place of a collapsed stack."""
+    return PLACE.sub(escaped, text)
+
+
 def with_decimals(value: str) -> str:
     """A value with its floats in decimal beside their bits. Texts within it stay as they are; and so does all of it where
     they can't be told from what is around them."""
@@ -65,8 +75,8 @@ def signal_name(number: int) -> Optional[str]:
     return None
 
 
-HIDDEN = re.compile("[\x00-\x1f\x7f-\x9f\u061c\u200e\u200f\u2028-\u202e\u2066-\u2069\ud800-\udfff\ufdd0-\ufdef\ufffe\uffff]")
-"""What a page shows escaped: control characters, and those that turn the direction of what follows."""
+HIDDEN = re.compile(f"[{ODD}\ufdd0-\ufdef\ufffe\uffff]")
+"""What a page shows escaped: also what is no character of HTML."""
 
 
 def in_page(text: str) -> str:

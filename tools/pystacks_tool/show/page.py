@@ -14,8 +14,9 @@ from pystacks_tool.model import Frame, Interpreter, Local, Report, Stack, Thread
 from pystacks_tool.show.collapse import places
 from pystacks_tool.show.escape import as_name, in_page, signal_name, with_decimals
 from pystacks_tool.show.flame import Flame, counted, flame_of
+from pystacks_tool.show.folds import Fold
 from pystacks_tool.show.page_parts import SCRIPT, STYLE
-from pystacks_tool.show.text import Style, crash_line, newest_of, place_of, titles_of
+from pystacks_tool.show.text import Style, crash_line, function_of, newest_of, place_of, titles_of
 
 LARGEST = 1_000_000
 """How many bytes a page should have at most. Where it would have more, source lines and the upper levels of the graph are
@@ -63,7 +64,7 @@ def frame_item(frame: Frame, style: Style) -> str:
         return f"<li class=\"end\">{text(place_of(frame))}"
     place = f"({as_name(frame.filename)}{f':{frame.line}' if frame.line else ''})"
     source = style.sources.line(frame.filename, frame.line) if style.sources else None
-    parts = [f"<li>{text(as_name(frame.name))} <i>{text(place)}</i>"]
+    parts = [f"<li>{text(function_of(frame))} <i>{text(place)}</i>"]
     if source:
         parts.append(f"<pre>{text(source)}</pre>")
     if frame.locals:
@@ -74,14 +75,23 @@ def frame_item(frame: Frame, style: Style) -> str:
     return "".join(parts)
 
 
+def items_of(frames: Sequence[Frame], style: Style) -> Iterator[str]:
+    """Some frames; those of a recursion below one line, which opens."""
+    for it in style.items(frames):
+        if isinstance(it, Fold):
+            rows = "\n".join(frame_item(frame, style) for frame in it.frames)
+            yield f"<li class=\"fold\"><details><summary>{text(it.line)}</summary><ol>\n{rows}\n</ol></details>"
+        else:
+            yield frame_item(it, style)
+
+
 def frame_items(thread: Thread, style: Style) -> Iterator[str]:
     """The frames of a thread, and how they end."""
     first = thread.first if thread.between else None
-    for place, frame in enumerate((*thread.frames, None)):
-        if place == first:
-            yield f"<li class=\"end\">... {thread.between} more frames"
-        if frame is not None:
-            yield frame_item(frame, style)
+    yield from items_of(thread.frames[:first], style)
+    if first is not None:
+        yield f"<li class=\"end\">... {thread.between} more frames"
+        yield from items_of(thread.frames[first:], style)
     if thread.end:
         yield f"<li class=\"end\">... {text(thread.end)}"
 
@@ -173,7 +183,7 @@ def table_part(caption: str, heads: Sequence[str], rows: Sequence[str]) -> str:
         return "<p>There are none.</p>"
     columns = "".join(f"<th scope=\"col\">{it}</th>" for it in heads)
     return (
-        "<p id=\"find\" hidden><label>Search <input id=\"word\" type=\"search\"></label>"
+        "<p id=\"find\" hidden><label>Search <input id=\"word\" type=\"search\" placeholder=\"names, frames, values\"></label>"
         " <span id=\"count\" role=\"status\"></span></p>\n"
         "<div class=\"box\" tabindex=\"0\" role=\"region\" aria-label=\"Overview\">\n"
         f"<table>\n<caption>{caption}</caption>\n<thead><tr>{columns}</tr></thead>\n<tbody>\n" + "\n".join(rows) + "\n</tbody>\n</table>\n</div>")
@@ -182,13 +192,20 @@ def table_part(caption: str, heads: Sequence[str], rows: Sequence[str]) -> str:
 # ---- a core
 
 
+def signal_of(report: Report) -> str:
+    """The signal, by number and name; nothing where none is told."""
+    if report.signal is None:
+        return ""
+    name = signal_name(report.signal)
+    return f"{report.signal}{f' ({name})' if name else ''}"
+
+
 def head_part(report: Report) -> str:
     """The signal, the process, the version, and which thread crashed."""
     rows = []
     if report.signal is not None:
-        name = signal_name(report.signal)
         how = f"; {text(report.signal_told)}" if report.signal_told else ""
-        rows.append(("Signal", f"<b class=\"bad\">{report.signal}{f' ({name})' if name else ''}</b>{how}"))
+        rows.append(("Signal", f"<b class=\"bad\">{signal_of(report)}</b>{how}"))
     if report.process is not None:
         rows.append(("Process", f"{report.process[0]}: {text(report.process[1])}"))
     rows.append(("Python", text(report.version)))
@@ -220,7 +237,7 @@ def graph_part(flame: Flame) -> str:
 def report_body(report: Report, style: Style, note: str, largest: int) -> str:
     """The body of a core's page, whose graph may have so many bytes."""
     stacks = stacks_part(report, "s", style)
-    flame = flame_of([places(it) for it in report.threads], max(LEAST_GRAPH, largest - len(stacks.encode("utf-8", "replace"))))
+    flame = flame_of([places(it, True) for it in report.threads], max(LEAST_GRAPH, largest - len(stacks.encode("utf-8", "replace"))))
     overview = overview_part(report, flame, anchors_of(report, "s", style))
     notes = f"<p>{note}</p>\n" if note else ""
     return (
@@ -249,16 +266,18 @@ def group_row(number: int, it: Group, report: Optional[Report]) -> str:
     threads = report.threads if report else []
     one = next((thread for thread in threads if thread.marks), threads[0] if threads else None)
     newest = text(newest_of(one)) if one else ""
+    signal, version = (signal_of(report), text(report.version)) if report else ("", "")
+    process = text(report.process[1]) if report and report.process else ""
     return (
-        f"<tr><td data-v=\"{number}\"><a href=\"#g{number}\">Group {number}</a></td><td>{len(it.cores)}</td>"
-        f"<td>{newest}</td><td>{len(threads)}</td></tr>")
+        f"<tr><td data-v=\"{number}\"><a href=\"#g{number}\">Group {number}</a></td><td>{len(it.cores)}</td><td>{signal}</td>"
+        f"<td>{process}</td><td>{version}</td><td>{newest}</td><td>{len(threads)}</td></tr>")
 
 
 def group_section(number: int, it: Group, report: Optional[Report], style: Style) -> str:
     """A group with its cores, and the stacks of the first."""
     cores = "\n".join(f"<li>{text(line[4:])}" for line in it.lines[1:])
-    stacks = stacks_part(report, f"g{number}s", style) if report else ""
-    return f"<section id=\"g{number}\">\n<h2>{text(it.lines[0])}</h2>\n<ol>\n{cores}\n</ol>\n{stacks}\n</section>"
+    shown = f"{head_part(report)}\n{stacks_part(report, f'g{number}s', style)}" if report else ""
+    return f"<section id=\"g{number}\">\n<h2>{text(it.lines[0])}</h2>\n<ol>\n{cores}\n</ol>\n{shown}\n</section>"
 
 
 def group_page(groups: Sequence[Group], reports: Mapping[bytes, Optional[Report]], style: Style) -> str:
@@ -271,7 +290,7 @@ def group_page(groups: Sequence[Group], reports: Mapping[bytes, Optional[Report]
         if not it.is_group:
             cores = "\n".join(f"<li class=\"end\">{text(line[4:])}" for line in it.lines[1:])
             sections.append(f"<section id=\"refused\">\n<h2>{text(it.lines[0])}</h2>\n<ol>\n{cores}\n</ol>\n</section>")
-    table = table_part("Cores of one group have the same stacks", ("Group", "Cores", "Newest frame", "Threads"), rows)
+    table = table_part("Cores of one group have the same stacks", ("Group", "Cores", "Signal", "Process", "Python", "Newest frame", "Threads"), rows)
     body = (
         f"<header>\n<h1>Cores in groups</h1>\n</header>\n<main>\n<section id=\"overview\">\n<h2>Groups</h2>\n{table}\n</section>\n"
         + "\n".join(sections) + "\n</main>")

@@ -24,6 +24,10 @@ th[aria-sort=descending] button::after { content: " \\25BC"; }
 ol { margin: .2rem 0; padding-left: 1.4rem; list-style: none; border-left: 2px solid var(--line); }
 li i { font-style: normal; color: var(--dim); }
 li pre { margin: 0 0 0 1rem; color: var(--dim); white-space: pre-wrap; }
+#overview td:first-child, #picked a, #picked span { white-space: nowrap; }
+li.fold { color: var(--dim); }
+li.fold > details { margin-left: 0; }
+li.fold li { color: var(--ink); }
 details { margin: .1rem 0 .1rem 1rem; }
 summary { cursor: pointer; }
 details dl { display: grid; grid-template-columns: max-content 1fr; gap: 0 1rem; margin: .1rem 0 .4rem; }
@@ -71,13 +75,37 @@ SCRIPT = """\
     });
     var find = document.getElementById("find"), word = document.getElementById("word"), count = document.getElementById("count");
     find.hidden = false;
-    word.addEventListener("input", function () {
-      var text = word.value.toLowerCase(), left = 0;
-      rows.forEach(function (row) {
-        row.hidden = row.textContent.toLowerCase().indexOf(text) < 0;
-        left += row.hidden ? 0 : 1;
+    var parts = Array.prototype.slice.call(document.querySelectorAll("#stacks section, main > section[id^=g], #refused"));
+    function lower(it) { return it.textContent.toLowerCase(); }
+    function part(row) { return document.getElementById(row.querySelector("a").getAttribute("href").slice(1)); }
+    var texts = null;
+    function read() {
+      // (the names of a stack's other threads are none of this one's)
+      var counts = new Map(), found = new Map(), own = new Map();
+      rows.forEach(function (row) { counts.set(part(row), (counts.get(part(row)) || 0) + 1); });
+      parts.forEach(function (it) {
+        found.set(it, lower(it));
+        own.set(it, counts.get(it) > 1 ? Array.prototype.map.call(it.querySelectorAll("ol"), lower).join(" ") : lower(it));
       });
-      count.textContent = left + " of " + rows.length;
+      rows.forEach(function (row) { found.set(row, lower(row) + " " + (own.get(part(row)) || "")); });
+      return found;
+    }
+    function hide(its, text) {
+      var left = 0;
+      its.forEach(function (it) {
+        it.hidden = texts.get(it).indexOf(text) < 0;
+        left += it.hidden ? 0 : 1;
+      });
+      return left;
+    }
+    word.addEventListener("input", function () {
+      var text = word.value.toLowerCase();
+      texts = texts || read();
+      var left = hide(rows, text), shown = hide(parts, text);
+      count.textContent = left + " of " + rows.length + " above, " + shown + " of " + parts.length + " below";
+      if (text) {
+        document.querySelectorAll("main details").forEach(function (it) { it.open = it.open || lower(it).indexOf(text) >= 0; });
+      }
     });
   }
   var graph = document.getElementById("graph"), picked = document.getElementById("picked");

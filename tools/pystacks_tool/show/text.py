@@ -1,17 +1,30 @@
-"""The text of a report: its head, an overview where there are many threads, and the stacks, of which equal ones stand once.
+"""The text of a report: the answer first. `PARTS` has what stands in it, in order: the signal and the process, the stacks of the
+threads that got the signal, a table of the others, their stacks, and the registers.
 
-It has what the program told, in its order: no frame is added, dropped or moved.
+It has what the program told: no frame is added, dropped or moved. Equal stacks of many threads stand once, a recursion is folded, and
+what is left out has its number. Of many threads all but the first stacks and what is asked for is at most LINES long.
 """
 
 from dataclasses import dataclass
-from typing import Iterator, List, Optional
+from typing import Callable, Dict, Iterator, List, Optional, Sequence, Set, Tuple
 
 from pystacks_tool.model import Frame, Interpreter, Local, Report, Stack, Thread, stacks_of
 from pystacks_tool.show.escape import as_name, in_line, signal_name, with_decimals
+from pystacks_tool.show.folds import Fold, Item, folded
 from pystacks_tool.show.sources import Sources
+from pystacks_tool.show.widths import shortened
 
 MANY = 8
-"""Above so many threads there is an overview, and equal stacks stand once."""
+"""Above so many threads there is a table of them, and equal stacks stand once."""
+
+LINES = 40
+"""The most lines of the text of many threads, beside the stacks of those that got the signal."""
+
+ROWS = 10
+"""The most rows of their table."""
+
+NEWEST = 6
+"""How many lines of a stack are shown where it is one of many threads', and longer."""
 
 NAMED = 2
 """How many threads of one stack are named, where there are more."""
@@ -28,24 +41,43 @@ class Style:
 
     has_colours: bool = False
     shows_all: bool = False
-    """Whether each thread has its own stack, however many there are."""
+    """Whether each thread has its own stack, and each frame its line, however many there are."""
     sources: Optional[Sources] = None
     """Where source lines come from, if they are shown."""
+    shows_stacks: bool = False
+    """Whether each stack is shown whole, however many there are."""
+    shows_frames: bool = False
+    """Whether each frame has its line."""
+    width: Optional[int] = None
+    """How many characters a line may have, where paths are shortened."""
 
     def paint(self, text: str, colour: str) -> str:
         """A text in a colour, where there are colours."""
         return f"\x1b[{colour}m{text}\x1b[0m" if self.has_colours else text
 
+    def items(self, frames: Sequence[Frame]) -> Iterator[Item]:
+        """Frames, with recursions folded, where they are."""
+        return iter(frames) if self.shows_all or self.shows_frames else folded(frames)
+
 
 # ---- parts of lines
 
 
-def place_of(frame: Frame, style: Style = Style()) -> str:
-    """A frame's function, file and line, or why there are none: this doesn't end in a parenthesis, as each frame does."""
+def function_of(frame: Frame) -> str:
+    """A frame's function. No frame's begins as a line does that tells a gap."""
+    name = as_name(frame.name)
+    return f"\\u{{2e}}{name[1:]}" if name.startswith("...") else name
+
+
+def place_of(frame: Frame, style: Style = Style(), before: int = 4) -> str:
+    """A frame's function, file and line, or why there are none: this doesn't end in a parenthesis, as each frame does. So many
+    characters stand before it in its line."""
     if frame.why:
         return f"? {in_line(frame.why)}"
-    line = f":{frame.line}" if frame.line else ""
-    return f"{style.paint(as_name(frame.name), BOLD)} ({as_name(frame.filename)}{line})"
+    name, file, line = function_of(frame), as_name(frame.filename), f":{frame.line}" if frame.line else ""
+    if style.width:
+        file = shortened(file, f"{name} ({line})", style.width - before)
+    return f"{style.paint(name, BOLD)} ({file}{line})"
 
 
 def marks_of(thread: Thread, style: Style) -> str:
@@ -71,9 +103,9 @@ def titles_of(stack: Stack) -> str:
     return f"{count} threads: {', '.join(names)}{more}"
 
 
-def newest_of(thread: Thread, style: Style = Style()) -> str:
-    """A thread's newest frame."""
-    return place_of(thread.frames[0], style) if thread.frames else f"... {thread.end}" if thread.end else "no frames"
+def newest_of(thread: Thread, style: Style = Style(), before: int = 4) -> str:
+    """A thread's newest frame, behind so many characters."""
+    return place_of(thread.frames[0], style, before) if thread.frames else f"... {thread.end}" if thread.end else "no frames"
 
 
 def crash_line(report: Report) -> str:
@@ -87,34 +119,28 @@ def crash_line(report: Report) -> str:
     return "" if count else "No Python thread got the signal: another thread of the process did, or its record is lost"
 
 
-# ---- lines
+def is_many(report: Report) -> bool:
+    """Whether there are many threads."""
+    return len(report.threads) > MANY
 
 
-def head_lines(report: Report, style: Style) -> Iterator[str]:
-    """The signal, the process and the version."""
-    if report.signal is not None:
-        name = signal_name(report.signal)
-        told = f" ({name})" if name else ""
-        yield style.paint(f"Signal {report.signal}{told}", BOLD) + f": {in_line(report.core)}"
-    if report.signal_told:
-        yield style.paint(in_line(report.signal_told), RED)
-    if report.process is not None:
-        yield f"Process {report.process[0]}: {in_line(report.process[1])}"
-    yield f"Python v{in_line(report.version)}"
-    if crash_line(report):
-        yield style.paint(crash_line(report), RED)
-    yield ""
+def is_brief(report: Report, style: Style) -> bool:
+    """Whether the text is to be short: where there are many threads, and no more is asked for."""
+    return is_many(report) and not (style.shows_all or style.shows_stacks)
 
 
-def overview_lines(report: Report, style: Style) -> Iterator[str]:
-    """A line for each thread, where there are many."""
-    threads = report.threads
-    if len(threads) > MANY:
-        yield f"{len(threads)} threads"
-        for it in threads:
-            name = "" if it.name is None else f' "{as_name(it.name)}"'
-            yield f"    {it.label}{name}{marks_of(it, style)}: {newest_of(it, style)}"
-        yield ""
+def names_in(threads: Sequence[Thread]) -> str:
+    """The names of some threads, of which the first are said."""
+    more = f" and {len(threads) - NAMED} more" if len(threads) > NAMED else ""
+    return ", ".join(name_of(it) for it in threads[:NAMED]) + more
+
+
+def empty_line(threads: Sequence[Thread]) -> str:
+    """The line of threads of which nothing is told."""
+    return f"{len(threads)} thread{'s' if len(threads) > 1 else ''} without frames: {names_in(threads)}"
+
+
+# ---- stacks
 
 
 def local_lines(rows: List[Local], title: str) -> Iterator[str]:
@@ -139,40 +165,202 @@ def frame_lines(frame: Frame, style: Style) -> Iterator[str]:
         yield f"        ... {frame.fault}"
 
 
+def items_lines(frames: Sequence[Frame], style: Style) -> Iterator[Tuple[List[str], int]]:
+    """The lines of some frames, each frame's or recursion's with how many frames it stands for."""
+    for it in style.items(frames):
+        if isinstance(it, Fold):
+            yield [style.paint(f"    {it.line}", DIM)], len(it.frames)
+        else:
+            yield list(frame_lines(it, style)), 1
+
+
+def thread_lines(thread: Thread, style: Style) -> Iterator[Tuple[List[str], int]]:
+    """The lines of a thread's stack, part by part, each with how many frames it stands for."""
+    first = thread.first if thread.between else None
+    yield from items_lines(thread.frames[:first], style)
+    if first is not None:
+        yield [f"    ... {thread.between} more frames"], thread.between
+        yield from items_lines(thread.frames[first:], style)
+    if thread.end:
+        yield [style.paint(f"    ... {thread.end}", RED)], 0
+
+
 def stack_lines(thread: Thread, style: Style) -> Iterator[str]:
     """The frames of a thread, and how they end."""
-    first = thread.first if thread.between else None
-    for place, frame in enumerate((*thread.frames, None)):
-        if place == first:
-            yield f"    ... {thread.between} more frames"
-        if frame is not None:
-            yield from frame_lines(frame, style)
-    if thread.end:
-        yield style.paint(f"    ... {thread.end}", RED)
+    return (line for lines, _ in thread_lines(thread, style) for line in lines)
 
 
-def interpreter_lines(it: Interpreter, is_titled: bool, is_merged: bool, style: Style) -> Iterator[str]:
-    """An interpreter's threads."""
-    if is_titled and it.address is not None:
-        yield f"Interpreter 0x{it.address:x}{' (found by search)' if it.is_searched else ''}"
-    for line in (it.lock, it.end):
-        if line:
-            yield style.paint(f"... {line}", RED)
-    for stack in stacks_of(it.threads, is_merged):
-        yield titles_of(stack) if len(stack.threads) > 1 else title_of(stack.one, style)
-        yield from stack_lines(stack.one, style)
+def newest_lines(thread: Thread, style: Style) -> Iterator[str]:
+    """The newest frames of a thread, how many there are below them, and how they end."""
+    parts = list(thread_lines(thread, style))
+    if len(parts) <= NEWEST + 1:
+        yield from (line for lines, _ in parts for line in lines)
+        return
+    yield from (line for lines, _ in parts[:NEWEST] for line in lines)
+    yield f"    ... {sum(count for _, count in parts[NEWEST:])} more frames"
+    yield from parts[-1][0] if thread.end else ()
 
 
-def stacks_lines(report: Report, style: Style) -> Iterator[str]:
-    """All threads, those of one stack together where there are many."""
-    is_merged = not style.shows_all and len(report.threads) > MANY
-    for it in report.interpreters:
-        yield from interpreter_lines(it, len(report.interpreters) > 1, is_merged, style)
+def heading_of(it: Interpreter) -> str:
+    """An interpreter's line."""
+    return f"Interpreter 0x{it.address or 0:x}{' (found by search)' if it.is_searched else ''}"
+
+
+def fault_lines(it: Interpreter, style: Style) -> List[str]:
+    """What can't be read of an interpreter."""
+    return [style.paint(f"... {line}", RED) for line in (it.lock, it.end) if line]
+
+
+# ---- the parts of the text
+
+
+def head_lines(report: Report, style: Style, _: int) -> Iterator[str]:
+    """The signal, the process and the version."""
+    if report.signal is not None:
+        name = signal_name(report.signal)
+        told = f" ({name})" if name else ""
+        yield style.paint(f"Signal {report.signal}{told}", BOLD) + f": {in_line(report.core)}"
+    if report.signal_told:
+        yield style.paint(in_line(report.signal_told), RED)
+    if report.process is not None:
+        yield f"Process {report.process[0]}: {in_line(report.process[1])}"
+    yield f"Python v{in_line(report.version)}"
+    if crash_line(report):
+        yield style.paint(crash_line(report), RED)
+    yield ""
+
+
+def crashed_lines(report: Report, style: Style, _: int) -> Iterator[str]:
+    """The stacks of the threads that got the signal, below their interpreters' lines."""
+    for one in report.interpreters:
+        found = [it for it in one.threads if it.is_crashed]
+        if found:
+            if is_titled(report, one):
+                yield heading_of(one)
+            yield from fault_lines(one, style)
+        for it in found:
+            yield title_of(it, style)
+            yield from stack_lines(it, style)
+    if is_many(report) and any(it.is_crashed for it in report.threads):
+        yield ""
+
+
+def is_titled(report: Report, it: Interpreter) -> bool:
+    """Whether an interpreter has its line."""
+    return len(report.interpreters) > 1 and it.address is not None
+
+
+def row_of(threads: Sequence[Thread], count: int, style: Style) -> str:
+    """The row of some threads of one newest frame, of so many in all."""
+    one = threads[0]
+    name = "" if one.name is None else f' "{as_name(one.name)}"'
+    front = f"    {one.label}{name}" if len(threads) == 1 else f"    {len(threads)} of {count}"
+    marks = "".join(f" ({it})" for it in one.marks)
+    return f"{front}{marks_of(one, style)}: {newest_of(one, style, len(front) + len(marks) + 2)}"
+
+
+def table_lines(report: Report, style: Style, _: int) -> Iterator[str]:
+    """Many threads by their newest frames, but for those that got the signal: those that have a mark first, and then those of
+    the frame that most have."""
+    threads = [it for it in report.threads if not it.is_crashed]
+    if not is_many(report) or not threads:
+        return
+    count = len(report.threads)
+    yield f"{len(threads)} {'other ' if len(threads) < count else ''}thread{'s' if len(threads) > 1 else ''}"
+    rows: Dict[object, List[Thread]] = {}
+    for at, it in enumerate(threads):
+        newest = it.frames[0].place if it.frames else it.end
+        rows.setdefault(at if it.marks or style.shows_all else newest, []).append(it)
+    found = list(rows.values()) if style.shows_all else sorted(rows.values(), key=lambda it: (not it[0].marks, -len(it)))
+    shown = found[:ROWS] if is_brief(report, style) else found
+    yield from (row_of(it, count, style) for it in shown)
+    if len(shown) < len(found):
+        rest = found[len(shown):]
+        yield f"    ... {sum(map(len, rest))} more at {len(rest)} other places: --all shows each thread"
+    yield ""
+
+
+@dataclass(frozen=True)
+class Block:
+    """A stack with the line of its threads, or the line of those without frames."""
+
+    place: int
+    """Its interpreter's place."""
+    lines: Sequence[str]
+    count: int
+    """How many threads it stands for."""
+    is_stack: bool = True
+    is_marked: bool = False
+
+
+def blocks_of(place: int, one: Interpreter, is_short: bool, report: Report, style: Style) -> Iterator[Block]:
+    """What stands of an interpreter's threads, but for those that got the signal."""
+    threads = [it for it in one.threads if not it.is_crashed]
+    empty = [] if style.shows_all else [it for it in threads if it.is_empty]
+    for stack in stacks_of([it for it in threads if style.shows_all or not it.is_empty], is_many(report) and not style.shows_all):
+        thread, count = stack.one, len(stack.threads)
+        lines = newest_lines(thread, style) if is_short else stack_lines(thread, style)
+        yield Block(place, [titles_of(stack) if count > 1 else title_of(thread, style), *lines], count, True, bool(thread.marks))
+    if empty:
+        yield Block(place, [empty_line(empty)], len(empty), False)
+
+
+def fitting(blocks: Sequence[Block], fixed: Sequence[int], room: int) -> Set[int]:
+    """The places of those blocks for which there is room: marked threads first, and then what stands for most. Each interpreter has
+    so many lines of its own."""
+    left = room - 1
+    seen: Set[int] = set()
+    found: Set[int] = set()
+    for at, it in sorted(enumerate(blocks), key=lambda row: (not row[1].is_marked, -row[1].count)):
+        cost = len(it.lines) + (0 if it.place in seen else fixed[it.place])
+        if cost <= left:
+            left -= cost
+            seen.add(it.place)
+            found.add(at)
+    return found
+
+
+def own_lines(report: Report, place: int, style: Style) -> List[str]:
+    """The lines that an interpreter has of its own above its other threads. Of few threads the first ones stand just above."""
+    one = report.interpreters[place]
+    has_crashed = any(it.is_crashed for it in one.threads)
+    if place == 0 and has_crashed and not is_many(report) and not any(it.is_crashed for other in report.interpreters[1:] for it in other.threads):
+        return []
+    return ([heading_of(one)] if is_titled(report, one) else []) + ([] if has_crashed else fault_lines(one, style))
+
+
+def rest_line(left: Sequence[Block]) -> str:
+    """What is said of stacks that aren't shown."""
+    stacks = sum(it.is_stack for it in left)
+    more = f"{stacks} more stack{'s' if stacks != 1 else ''}" if stacks else "more"
+    return f"... {more} of {sum(it.count for it in left)} threads: --stacks shows each stack, --all each thread"
+
+
+def others_lines(report: Report, style: Style, room: int) -> Iterator[str]:
+    """The stacks of the other threads, those of one stack together where there are many."""
+    is_short = is_brief(report, style)
+    rows = [list(blocks_of(at, one, is_short, report, style)) for at, one in enumerate(report.interpreters)]
+    owns = [own_lines(report, at, style) for at in range(len(rows))]
+    blocks = [it for row in rows for it in row]
+    shown = fitting(blocks, [len(it) for it in owns], room) if is_short else set(range(len(blocks)))
+    for at, (row, own) in enumerate(zip(rows, owns)):
+        its = [it for number, it in enumerate(blocks) if it.place == at and number in shown]
+        has_crashed = any(it.is_crashed for it in report.interpreters[at].threads)
+        if not its and (has_crashed or row and is_short):
+            continue
+        if own and len(its) == len(row) == 1 and not its[0].is_stack and len(own) == 1:
+            yield f"{own[0]}: {its[0].lines[0]}"
+            continue
+        yield from own
+        yield from (line for it in its for line in it.lines)
+    left = [it for number, it in enumerate(blocks) if number not in shown]
+    if left:
+        yield style.paint(rest_line(left), DIM)
     if report.has_more:
         yield "... more than 16 interpreters"
 
 
-def register_lines(report: Report) -> Iterator[str]:
+def register_lines(report: Report, _: Style, __: int) -> Iterator[str]:
     """The registers of each thread, four a line: where it stood first, and then by name."""
     names = {it.number: f' "{as_name(it.name)}"' for it in report.threads if it.name is not None}
     for it in report.registers:
@@ -183,9 +371,42 @@ def register_lines(report: Report) -> Iterator[str]:
             yield "    " + "  ".join(f"{name:>8} {value:016x}" for name, value in rows[at : at + 4])
 
 
+# ---- the whole
+
+
+@dataclass(frozen=True)
+class Part:
+    """A part of the text."""
+
+    lines: Callable[[Report, Style, int], Iterator[str]]
+    """Its lines, by how many there is room for."""
+    is_free: bool = False
+    """Whether it may be as long as it is: what was asked for, and the stacks of the threads that got the signal."""
+    kept: int = 0
+    """How many lines are kept for it, where those before it would take all."""
+
+
+STACKS = (Part(crashed_lines, is_free=True), Part(table_lines), Part(others_lines))
+"""What is shown of threads."""
+
+PARTS = (Part(head_lines), *STACKS, Part(register_lines, is_free=True))
+"""What the text has, in order. A further section is a line here."""
+
+
+def lines_of(parts: Sequence[Part], report: Report, style: Style) -> Iterator[str]:
+    """The lines of some parts."""
+    left = LINES
+    for at, part in enumerate(parts):
+        for line in part.lines(report, style, left - sum(it.kept for it in parts[at + 1:])):
+            left -= not part.is_free
+            yield line
+
+
+def stacks_lines(report: Report, style: Style) -> Iterator[str]:
+    """All threads."""
+    return lines_of(STACKS, report, style)
+
+
 def report_lines(report: Report, style: Style) -> Iterator[str]:
     """The whole text, line by line."""
-    yield from head_lines(report, style)
-    yield from overview_lines(report, style)
-    yield from stacks_lines(report, style)
-    yield from register_lines(report)
+    return lines_of(PARTS, report, style)
