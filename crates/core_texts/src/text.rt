@@ -4,8 +4,8 @@ ghost use Rattle.core_texts.specs.Text.{process_text, report_text, signal_text, 
 
 use crate::trace::push_trace;
 use elf64_core::Text;
-use py_stacks::StackTrace;
 use py_fields::Version;
+use py_stacks::StackTrace;
 use std::alloc::{AllocError, Global};
 
 /// The version, and the threads from the last to the first. The one error is want of memory.

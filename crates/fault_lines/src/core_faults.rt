@@ -7,8 +7,8 @@ ghost use Rattle.fault_lines.specs.Lines.{core_parts, range_parts};
 
 use crate::file_faults::{named_parts, text_part};
 use core_texts::{Part, Parts, parts};
-use py_process::CoreError;
 use py_fields::Version;
+use py_process::CoreError;
 
 /// What so many bytes at an address are.
 fn range_parts<'a>(text: &'a str, addr: u64, len: u64) -> Parts<'a>

@@ -13,7 +13,11 @@ use normalize_core::{
 use outside::{FileFault, SinkFault};
 use process_memory::ReadFault;
 use py_builtins::ObjectError;
-use py_fields::{BytesAt, CframeAt, CodeAt, DictAt, Dicts, FrameAt, Frames, GilAt, Head, HeapAt, Integers, InterpreterAt, KeysAt, KlassAt, Lasti, Layout, Lines, ListAt, Lock, LongAt, Managed, ObjectAt, OffsetsAt, ScanError, StringAt, Strings, ThreadAt, TupleAt, ValueAt, Version};
+use py_fields::{
+    BytesAt, CframeAt, CodeAt, DictAt, Dicts, FrameAt, Frames, GilAt, Head, HeapAt, Integers,
+    InterpreterAt, KeysAt, KlassAt, Lasti, Layout, Lines, ListAt, Lock, LongAt, Managed, ObjectAt,
+    OffsetsAt, ScanError, StringAt, Strings, ThreadAt, TupleAt, ValueAt, Version,
+};
 use py_layout::LayoutError;
 use py_lines::{EncodeError, LineFamily};
 use py_process::{BinaryError, CoreError, LockError, SearchError, VersionError};
