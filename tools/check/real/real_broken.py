@@ -81,6 +81,11 @@ def body(text: str) -> List[str]:
         elif line.startswith("Thread "):
             found[-1].append([])
         found[-1][-1].append(line)
+    # (the threads that got the signal stand before the others, and the heading of an interpreter of both then twice)
+    headed: Dict[str, List[List[str]]] = {}
+    for blocks in found[1:]:
+        headed.setdefault(blocks[0][0], [blocks[0]]).extend(blocks[1:])
+    found[1:] = list(headed.values())
     for blocks in found:
         blocks[1:] = [re.sub(r"( \((gil|crashed)\))*$", "", "".join(it)) .split("\n") if len(it) == 1 else it for it in blocks[1:]]
         blocks[1:] = sorted(blocks[1:], key=lambda it: len(it) == 1)
@@ -134,7 +139,7 @@ def several_told(text: str, told: Dict[str, int]) -> None:
     """That each interpreter is there, with the thread that waits in it. (Words of an interpreter's own record can pass for one
     by chance, as 3.11 shows: its threads or frames break off at once, and no frame is shown there.)"""
     lines = text.splitlines()
-    found = len(re.findall(r"^Interpreter 0x.*\n(?:\.\.\. .*\n)*Thread .*\n    \S+ \(", text, re.MULTILINE))
+    found = len(set(re.findall(r"^(Interpreter 0x.*)\n(?:\.\.\. .*\n)*Thread .*\n    \S+ \(", text, re.MULTILINE)))
     waits = sum(line.startswith("    waits (") for line in lines)
     wanted((found, waits) == (told["interpreters"], told["interpreters"] - 1), f"{found} interpreters are shown, with {waits} that wait")
 
