@@ -66,23 +66,30 @@ laid_once text a b one other = ok_unique (IsRightFor text) (right-unique text) a
 -- ---- the opened process
 
 module _ (layouts : List Layout) (once : ChoosesOnce layouts) where
-  opened_once : (bytes : List ℕ) (images : Pushed) (o p : OpenedProcess) → ProcessIs bytes images layouts (Ok o) → ProcessIs bytes images layouts (Ok p) → o ≡ p
-  opened_once bytes images o p one other = ok_is o p (process_agree bytes images layouts once (Ok o) (Ok p) one other (ok_kept o) (ok_kept p))
+  opened_once : (bytes : List ℕ) (images : Pushed) (o p : OpenedProcess) → ProcessIs bytes images layouts (Ok o)
+      → ProcessIs bytes images layouts (Ok p) → o ≡ p
+  opened_once bytes images o p one other = ok_is o p (process_agree bytes images layouts once (Ok o) (Ok p) one other
+      (ok_kept o) (ok_kept p))
 
-  opened_apart : (bytes : List ℕ) (images : Pushed) (o : OpenedProcess) (e : CoreError) → ProcessIs bytes images layouts (Ok o) → ProcessIs bytes images layouts (Err e)
+  opened_apart : (bytes : List ℕ) (images : Pushed) (o : OpenedProcess) (e : CoreError)
+      → ProcessIs bytes images layouts (Ok o) → ProcessIs bytes images layouts (Err e)
       → e ≢ core.OutOfMemory → ⊥
   opened_apart bytes images o e one other ne =
-      ok_not_err o e (process_agree bytes images layouts once (Ok o) (Err e) one other (ok_kept o) (λ is. ne (err_is e core.OutOfMemory is)))
+      ok_not_err o e (process_agree bytes images layouts once (Ok o) (Err e) one other (ok_kept o)
+      (λ is. ne (err_is e core.OutOfMemory is)))
 
-  opened_excludes : (bytes : List ℕ) (images : Pushed) → Excludes cause_status (λ error. Core error) (ProcessIs bytes images layouts)
+  opened_excludes : (bytes : List ℕ) (images : Pushed) → Excludes cause_status (λ error. Core error)
+      (ProcessIs bytes images layouts)
   opened_excludes bytes images =
-      core_exclude cause_status (λ error. Core error) (λ e. refl) (ProcessIs bytes images layouts) (opened_apart bytes images)
+      core_exclude cause_status (λ error. Core error) (λ e. refl) (ProcessIs bytes images layouts)
+      (opened_apart bytes images)
 
 -- ---- what is left
 
 -- whether some interpreters are shown is what their values say
 abbrev SameKind : List SalvagedInterpreter → List SalvagedInterpreter → Type 0
-SameKind is js = (n m : ℕ) (s t : List ℕ) → outcome_status (shown_or_none is n s) ≡ outcome_status (shown_or_none js m t)
+SameKind is js = (n m : ℕ) (s t : List ℕ) → outcome_status (shown_or_none is n s) ≡ outcome_status
+    (shown_or_none js m t)
 
 none_some : (x : LockedInterpreter) (xs : List LockedInterpreter) → [] ≡ x ∷ xs → ⊥
 none_some x xs is = cc
@@ -93,7 +100,8 @@ same_kind [] (j ∷ js) same n m s t = absurd (none_some (locked j) (map locked 
 same_kind (i ∷ is) [] same n m s t = absurd (none_some (locked i) (map locked is) (sym same))
 same_kind (i ∷ is) (j ∷ js) same n m s t = refl
 
-some_shown : (is : List SalvagedInterpreter) (n : ℕ) (s : List ℕ) (cause : Cause) → map locked is ≢ [] → Err cause ≡ shown_or_none is n s → ⊥
+some_shown : (is : List SalvagedInterpreter) (n : ℕ) (s : List ℕ) (cause : Cause) → map locked is ≢ []
+    → Err cause ≡ shown_or_none is n s → ⊥
 some_shown [] n s cause some e = some refl
 some_shown (i ∷ is) n s cause some e = absurd (cc)
 
@@ -112,43 +120,53 @@ module _ (s : Salvage) (bytes : List ℕ) where
       (looked_at o) (looked_at o) (shown_left s left) (shown_left s other)
       ∙ sym (ap outcome_status also)
 
-  salvaged_agree : (images : Pushed) (layouts : List Layout) → ChoosesOnce layouts → AgreeIn (IsSalvagedBy s bytes images layouts)
-  salvaged_agree images layouts once = steps_agree cause_status (λ n. n) (λ error. Core error) (ProcessIs bytes images layouts) (IsLeftOf s bytes)
+  salvaged_agree : (images : Pushed) (layouts : List Layout) → ChoosesOnce layouts
+      → AgreeIn (IsSalvagedBy s bytes images layouts)
+  salvaged_agree images layouts once = steps_agree cause_status (λ n. n) (λ error. Core error)
+      (ProcessIs bytes images layouts) (IsLeftOf s bytes)
       (opened_excludes layouts once bytes images)
       (λ o p one other a b x y na nb. left_agree o a b x
       (subst (λ q. IsLeftOf s bytes q b) (opened_once layouts once bytes images p o other one) y) na nb)
 
   salvaged_sound : (images : Pushed) (layouts : List Layout) → ChoosesOnce layouts → IsShowable s bytes images layouts
       → NoCause (IsSalvagedBy s bytes images layouts)
-  salvaged_sound images layouts once good = steps_sound cause_status (λ cause. ⊥) (λ error. Core error) (ProcessIs bytes images layouts) (IsLeftOf s bytes)
+  salvaged_sound images layouts once good = steps_sound cause_status (λ cause. ⊥) (λ error. Core error)
+      (ProcessIs bytes images layouts) (IsLeftOf s bytes)
       (λ e error ne. opened_apart layouts once bytes images good.opened e good.is_opened error (core_one e ne).1)
       (λ o found cause ne h. some_shown h.0.salvaged.interpreters.items (looked_at o) (shown_left s h.0) cause
       (λ none. good.shown (sym (shown_of good.opened h.0 good.crash
-      (subst (λ q. IsLeft s bytes q h.0) (opened_once layouts once bytes images o good.opened found good.is_opened) h.1)) ∙ none)) h.2)
+      (subst (λ q. IsLeft s bytes q h.0) (opened_once layouts once bytes images o good.opened found good.is_opened)
+      h.1)) ∙ none)) h.2)
 
 core_outcomes_agree : (s : Salvage) (contents : List (List ℕ)) → AgreeIn (IsCoreOutcome s contents)
 core_outcomes_agree s [] a b one other na nb = absurd one
 core_outcomes_agree s (bytes ∷ []) a b one other na nb = absurd one
 core_outcomes_agree s (bytes ∷ text ∷ images) a b one other na nb =
-    steps_agree cause_status (λ n. n) (λ error. Layouts error) (IsRightFor text) (IsSalvagedBy s bytes (images_read s.images images))
+    steps_agree cause_status (λ n. n) (λ error. Layouts error) (IsRightFor text)
+    (IsSalvagedBy s bytes (images_read s.images images))
     (layouts_exclude (IsRightFor text) (right-unique text) cause_status (λ error. Layouts error) (λ e. refl))
-    (λ l m says also a b x y na nb. salvaged_agree s bytes (images_read s.images images) l (chooses_once l says.sound.apart) a b x
+    (λ l m says also a b x y na nb. salvaged_agree s bytes (images_read s.images images) l
+    (chooses_once l says.sound.apart) a b x
     (subst (λ q. IsSalvagedBy s bytes (images_read s.images images) q b) (laid_once text m l also says) y) na nb)
     a b one other na nb
 
-core_no_cause : (s : Salvage) (contents : List (List ℕ)) → IsCoreFaultless s contents → NoCause (IsCoreOutcome s contents)
+core_no_cause : (s : Salvage) (contents : List (List ℕ)) → IsCoreFaultless s contents
+    → NoCause (IsCoreOutcome s contents)
 core_no_cause s [] good cause ne is = absurd good
 core_no_cause s (bytes ∷ []) good cause ne is = absurd good
 core_no_cause s (bytes ∷ text ∷ images) (layouts, says, good) cause ne is =
-    steps_sound cause_status (λ cause. ⊥) (λ error. Layouts error) (IsRightFor text) (IsSalvagedBy s bytes (images_read s.images images))
+    steps_sound cause_status (λ cause. ⊥) (λ error. Layouts error) (IsRightFor text)
+    (IsSalvagedBy s bytes (images_read s.images images))
     (λ e error nm. flaw_apart (IsRightFor text) (right-unique text) layouts e (flaw_status e nm).1 says error)
-    (λ l other. subst (λ q. NoCause (IsSalvagedBy s bytes (images_read s.images images) q)) (laid_once text layouts l says other)
+    (λ l other. subst (λ q. NoCause (IsSalvagedBy s bytes (images_read s.images images) q))
+    (laid_once text layouts l says other)
     (salvaged_sound s bytes (images_read s.images images) layouts (chooses_once layouts says.sound.apart) good))
     cause ne is
 
 -- ---- records
 
-records_agree : (s : Salvage) (name : Option (List ℕ)) (contents : List (List ℕ)) → AgreeIn (IsOutcomeBy name s contents)
+records_agree : (s : Salvage) (name : Option (List ℕ)) (contents : List (List ℕ))
+    → AgreeIn (IsOutcomeBy name s contents)
 records_agree s None contents = core_outcomes_agree s contents
 records_agree s (Some name) [] = λ a b one other na nb. absurd one
 records_agree s (Some name) (text ∷ contents) =
@@ -164,7 +182,8 @@ no_cause_by : (s : Salvage) (name : Option (List ℕ)) (contents : List (List �
 no_cause_by s None contents good = core_no_cause s contents good
 no_cause_by s (Some name) [] good = absurd good
 no_cause_by s (Some name) (text ∷ contents) (tables, says, good) =
-    steps_sound cause_status (λ cause. ⊥) (λ error. Records error) (AreRightFor text) (λ tables. IsCoreOutcome s contents)
+    steps_sound cause_status (λ cause. ⊥) (λ error. Records error) (AreRightFor text)
+    (λ tables. IsCoreOutcome s contents)
     (λ e error nm. records_apart text tables e (records_flaw e nm).1 says error)
     (λ l other. core_no_cause s contents good)
 

@@ -44,13 +44,15 @@ with_few : (rows : List Row) (n : ℕ) → n ≤ 4096 → (images : Option (List
 with_few rows n h None = tt
 with_few rows n h (Some images) = h
 
-found_few : (rows : List Row) (limit : Option ℕ) → FewIn limit → FewOf (option_and_then (λ n. salvage_with rows n) limit)
+found_few : (rows : List Row) (limit : Option ℕ) → FewIn limit
+    → FewOf (option_and_then (λ n. salvage_with rows n) limit)
 found_few rows None h = tt
 found_few rows (Some n) h = with_few rows n h (images_of (image_words rows))
 
 taken_few : (taken : Option (List Row)) → FewOf (option_and_then salvage_found taken)
 taken_few None = tt
-taken_few (Some rows) = found_few rows (limit_of (first_of (codes "frames") rows)) (limit_few (first_of (codes "frames") rows))
+taken_few (Some rows) = found_few rows (limit_of (first_of (codes "frames") rows))
+    (limit_few (first_of (codes "frames") rows))
 
 wanted_few : (a b : Bool) (o : Option Salvage) → FewOf o
     → IfSome (if a then Some help else if b then Some version else option_map (λ s. salvage s) o) IsFew
@@ -60,7 +62,8 @@ wanted_few false false None h = tt
 wanted_few false false (Some s) h = h
 
 words_few : (words : List Text) → IfSome (words_asked words) IsFew
-words_few words = wanted_few (is_alone (codes "--help") words) (is_alone (codes "--version") words) (salvage_words words)
+words_few words = wanted_few (is_alone (codes "--help") words) (is_alone (codes "--version") words)
+    (salvage_words words)
     (taken_few (taken_rows words))
 
 pub asked_few : (words : List Text) (asked : Result Asked ArgsError) → AnswersWords asked_by (words_asked words) asked

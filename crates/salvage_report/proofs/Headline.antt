@@ -1,5 +1,6 @@
 -- What status 0 tells where a core is asked for.
-use Rattle.std.proofs.Common.{◌≡◌, ◌≢◌, ℕ, List, [], ◌∷◌, ◌++◌, Ok, Err, Some, None, inl, inr, ap, sym, subst, true, ◌∙◌}
+use Rattle.std.proofs.Common.{◌≡◌, ◌≢◌, ℕ, List, [], ◌∷◌, ◌++◌, Ok, Err}
+use Rattle.std.proofs.Common.{Some, None, inl, inr, ap, sym, subst, true, ◌∙◌}
 use Rattle.std.specs.Prelude.{Option}
 use Rattle.std.specs.Io.KnownBytes.{Appends}
 use Rattle.std.proofs.lemmas.Option.{same_Some}
@@ -28,14 +29,17 @@ no_text : (s : List ℕ) (cause : Cause) → ◌≡◌ {A = Outcome} (Ok s) (Err
 no_text s cause is = cc
 
 -- where a text is shown, some interpreter is, and it is that text
-shows : (is : List SalvagedInterpreter) (n : ℕ) (t written : List ℕ) → ◌≡◌ {A = Outcome} (Ok written) (shown_or_none is n t)
+shows : (is : List SalvagedInterpreter) (n : ℕ) (t written : List ℕ)
+    → ◌≡◌ {A = Outcome} (Ok written) (shown_or_none is n t)
     → (is ≢ []) × (written ≡ t)
 shows [] n t written same = absurd (no_text written _ same)
 shows (i ∷ is) n t written same = (λ none. absurd (cc), cc)
 
-module _ (s : Salvage) (told : Told) (old new : SinkSeen) (written : List ℕ) (added : Appends old.written new.written written) where
+module _ (s : Salvage) (told : Told) (old new : SinkSeen) (written : List ℕ)
+    (added : Appends old.written new.written written) where
   by_left : (records : List (List ℕ)) (bytes text : List ℕ) (images : List (List ℕ)) (layouts : List Layout)
-      → AreRead told (files_of s) (records ++ bytes ∷ text ∷ images) → IsRightFor text (Ok layouts) → IsSalvagedBy s bytes (images_read s.images images) layouts (Ok written) → HasSalvaged s told old new
+      → AreRead told (files_of s) (records ++ bytes ∷ text ∷ images) → IsRightFor text (Ok layouts)
+      → IsSalvagedBy s bytes (images_read s.images images) layouts (Ok written) → HasSalvaged s told old new
   by_left records bytes text images layouts read says (inl (e, is, h)) = absurd (no_text written _ is)
   by_left records bytes text images layouts read says (inr (o, opened, (left, h, is))) =
       let shown = shows left.salvaged.interpreters.items (looked_at o) (shown_left s left) written is in
@@ -73,12 +77,14 @@ module _ (s : Salvage) (told : Told) (old new : SinkSeen) (written : List ℕ) (
   comes : ComesTo told (salvage s) (Ok written) → HasSalvaged s told old new
   comes h = by_contents s.records h.contents h.read h.is
 
-  pub salvaged_of_run : (asked : Option Wanted) → asked ≡ Some (salvage s) → Reaches pysalvage asked told (Ok written) → HasSalvaged s told old new
+  pub salvaged_of_run : (asked : Option Wanted) → asked ≡ Some (salvage s) → Reaches pysalvage asked told (Ok written)
+      → HasSalvaged s told old new
   salvaged_of_run asked is reached =
       comes (subst (λ w. ComesTo told w (Ok written)) (same_Some _ _ (sym reached.is_asked ∙ is)) reached.comes)
 
 -- a section that is asked for is told
-pub says_signal : (s : Salvage) (told : Told) (old new : SinkSeen) → HasSalvaged s told old new → s.sections.signal ≡ true
+pub says_signal : (s : Salvage) (told : Told) (old new : SinkSeen) → HasSalvaged s told old new
+    → s.sections.signal ≡ true
     → SaysSignal s told old new
 says_signal s told old new h asked =
     let own = own_id h.left.process in

@@ -3,7 +3,8 @@ use Rattle.std.proofs.Common.{◌≡◌, ℕ, ℤ, false, List, Option, Some, No
 use Rattle.std.specs.Prelude.{◌||◌, codes}
 use Rattle.serde_json.specs.Written.{has_float}
 use Rattle.crash_signal.specs.Tables.{meaning_of, name_of}
-use Rattle.crash_signal.specs.Trees.{call_tree, cause_tree, fault_tree, plain_tree, sender_tree, signal_tree, untold_tree}
+use Rattle.crash_signal.specs.Trees.{call_tree, cause_tree, fault_tree}
+use Rattle.crash_signal.specs.Trees.{plain_tree, sender_tree, signal_tree, untold_tree}
 use Rattle.crash_signal.specs.Trees.{word_tree}
 use Rattle.crash_signal.specs.declared.told.Cause.{Cause}
 use Rattle.crash_signal.specs.declared.told.Cause.TheVariants.{Itself, Process, Fault, NoAddress, System, Call, Code}
@@ -78,5 +79,6 @@ missing_no_float told = λ i. missed told i || false
 
 pub no_float : (left : Left) → has_float (left_tree left) ≡ false
 no_float left = λ i. interpreters left.salvaged.crash left.salvaged.interpreters.items i
-    || (missing_section (missing_shown left.told.missing) i || (false || (process left.process i || (threads_section (registers_shown left.told.registers) i || (signal left.signal i
+    || (missing_section (missing_shown left.told.missing) i || (false || (process left.process
+    i || (threads_section (registers_shown left.told.registers) i || (signal left.signal i
     || (info_section left.told.signal i || (false || false)))))))

@@ -29,34 +29,48 @@ use Rattle.salvage_report.specs.Seen.{Salvages}
 use Rattle.salvage_report.specs.Texts.{shown_left}
 
 -- the thread that got the signal is handed on
-same_crash : (contains : ℕ → Bool) (machine : Machine) (k : Known) (v : Version) (l : Layout) (m : Memory) (q : Asked) (limit : ℕ) (crash : Option Crash)
+same_crash : (contains : ℕ → Bool) (machine : Machine) (k : Known) (v : Version) (l : Layout) (m : Memory) (q : Asked)
+    (limit : ℕ) (crash : Option Crash)
     → (salvaged_at contains machine k v l m q limit crash).crash ≡ crash
 unfolding salvaged_at
 same_crash contains machine k v l m q limit crash = refl
 
-nothing_shown : (is : List SalvagedInterpreter) (n : ℕ) (t : List ℕ) → is ≡ [] → ◌≡◌ {A = Outcome} (Err (NoInterpreter n)) (shown_or_none is n t)
+nothing_shown : (is : List SalvagedInterpreter) (n : ℕ) (t : List ℕ) → is ≡ []
+    → ◌≡◌ {A = Outcome} (Err (NoInterpreter n)) (shown_or_none is n t)
 nothing_shown is n t none = ap (λ xs. shown_or_none xs n t) (sym none)
 
-something_shown : (is : List SalvagedInterpreter) (n : ℕ) (t : List ℕ) → is ≢ [] → ◌≡◌ {A = Outcome} (Ok t) (shown_or_none is n t)
+something_shown : (is : List SalvagedInterpreter) (n : ℕ) (t : List ℕ) → is ≢ []
+    → ◌≡◌ {A = Outcome} (Ok t) (shown_or_none is n t)
 something_shown [] n t some = absurd (some refl)
 something_shown (i ∷ is) n t some = refl
 
-module _ (s : Salvage) (p : Process) (crash : Option Crash) (salvaged : Salvaged) (found : Salvages s p crash (Ok salvaged))
-    (bytes : List ℕ) (images : Pushed) (layouts : List Layout) (is : IsProcess bytes images layouts p) (told : CrashTold bytes crash)
+module _ (s : Salvage) (p : Process) (crash : Option Crash) (salvaged : Salvaged)
+    (found : Salvages s p crash (Ok salvaged))
+    (bytes : List ℕ) (images : Pushed) (layouts : List Layout) (is : IsProcess bytes images layouts p)
+    (told : CrashTold bytes crash)
     (sections : Told) (are : AreTold s.sections p.dump.core p.notes.process salvaged.interpreters.items sections) where
   abbrev opened : OpenedProcess
   opened = opened_of is.maps p
 
   abbrev left : Left
-  left = record { signal = p.notes.signal; process = p.notes.process; version = p.version; salvaged = salvaged; told = sections }
+  left = record {
+    signal = p.notes.signal;
+    process = p.notes.process;
+    version = p.version;
+    salvaged = salvaged;
+    told =
+        sections;
+  }
 
   abbrev over : (ℕ → Bool) → List ℕ → Option Crash → SalvagedShown
   over contains core c =
-      salvaged_at contains (machine_of core) (known_of p.info) p.version p.layout (byte_at (regions_of p.dump)) (asked_of s) s.limit c
+      salvaged_at contains (machine_of core) (known_of p.info) p.version p.layout (byte_at (regions_of p.dump))
+      (asked_of s) s.limit c
 
   handed : salvaged.crash ≡ crash
   handed = ap (λ (x : SalvagedShown). x.crash) found
-      ∙ same_crash (tests p.info.maps) (machine_of p.dump.core) (known_of p.info) p.version p.layout (byte_at (regions_of p.dump)) (asked_of s) s.limit crash
+      ∙ same_crash (tests p.info.maps) (machine_of p.dump.core) (known_of p.info) p.version p.layout
+      (byte_at (regions_of p.dump)) (asked_of s) s.limit crash
 
   is_left : IsLeft s bytes opened left
   is_left = record {
@@ -68,14 +82,17 @@ module _ (s : Salvage) (p : Process) (crash : Option Crash) (salvaged : Salvaged
     told = subst (λ core. AreTold s.sections core p.notes.process salvaged.interpreters.items sections) is.same are;
   }
 
-  pub none_left : (n : ℕ) → salvaged.interpreters.items ≡ [] → n ≡ looked_at opened → IsLeftOf s bytes opened (Err (NoInterpreter n))
+  pub none_left : (n : ℕ) → salvaged.interpreters.items ≡ [] → n ≡ looked_at opened
+      → IsLeftOf s bytes opened (Err (NoInterpreter n))
   none_left n none count = (
     left,
     is_left,
-    ap (λ k. Err (NoInterpreter k)) count ∙ nothing_shown salvaged.interpreters.items (looked_at opened) (shown_left s left) none,
+    ap (λ k. Err (NoInterpreter k)) count ∙ nothing_shown salvaged.interpreters.items (looked_at opened)
+        (shown_left s left) none,
   )
 
-  pub some_left : (text : List ℕ) → salvaged.interpreters.items ≢ [] → text ≡ shown_left s left → IsLeftOf s bytes opened (Ok text)
+  pub some_left : (text : List ℕ) → salvaged.interpreters.items ≢ [] → text ≡ shown_left s left
+      → IsLeftOf s bytes opened (Ok text)
   some_left text some shown = (
     left,
     is_left,

@@ -1,5 +1,6 @@
 -- What was refused is told under status 1, where the words ask for it.
-use Rattle.std.proofs.Common.{◌≡◌, ◌≢◌, ℕ, true, List, Ok, Err, Some, None, ◌⊎◌, inl, inr, refl, sym, ap, subst, ◌∙◌, arith}
+use Rattle.std.proofs.Common.{◌≡◌, ◌≢◌, ℕ, true, List, Ok, Err, Some, None}
+use Rattle.std.proofs.Common.{◌⊎◌, inl, inr, refl, sym, ap, subst, ◌∙◌, arith}
 use Rattle.std.specs.Prelude.{Option, Result, Vec}
 use Rattle.std.specs.Global.{Global}
 use Rattle.std.proofs.lemmas.Option.{same_Some, none-some}
@@ -8,7 +9,8 @@ use Rattle.outside.specs.Streams.{SinkSeen}
 use Rattle.core_words.specs.Answers.{AnswersWords}
 use Rattle.core_words.specs.declared.args_error.ArgsError.{ArgsError}
 use Rattle.core_words.specs.declared.args_error.ArgsError.TheVariants as args
-use Rattle.program_run.specs.Ends.{BringsTo, End, HasFinished, HasOutcome, cut, end_status, printed, refused, stopped, unread}
+use Rattle.program_run.specs.Ends.{BringsTo, End, HasFinished, HasOutcome, cut}
+use Rattle.program_run.specs.Ends.{end_status, printed, refused, stopped, unread}
 use Rattle.program_run.specs.declared.trouble.Trouble.{Trouble}
 use Rattle.program_run.specs.declared.trouble.Trouble.TheVariants.{Cause as Caused, Words, File}
 use Rattle.salvage_words.specs.Salvage.{Salvage, Wanted}
@@ -29,7 +31,8 @@ Came = Result (Vec ℕ Global) (Trouble Cause)
 
 -- ---- what the words ask for
 
-asks_missing : (asks : Option Wanted) (words : Result Asked ArgsError) → AnswersWords asked_by asks words → AsksFor words
+asks_missing : (asks : Option Wanted) (words : Result Asked ArgsError) → AnswersWords asked_by asks words
+    → AsksFor words
     → AsksMissing asks
 asks_missing asks (Ok (asked.Salvage words)) is on = record { words = asked_salvage words; is = is; missing = on }
 asks_missing asks (Ok asked.Help) is on = absurd on
@@ -80,7 +83,8 @@ module _ (start : List ℕ) (out out_after err err_after : SinkSeen) (status : �
   status_one (Err Words) one f = absurd one
   status_one (Err (File name why)) one f = absurd one
 
-  by_text : (text : Vec ℕ Global) (end : End Cause) → BringsTo (Ok text) end out out_after → end_status cause_says end ≡ 1 → ⊥
+  by_text : (text : Vec ℕ Global) (end : End Cause) → BringsTo (Ok text) end out out_after
+      → end_status cause_says end ≡ 1 → ⊥
   by_text text printed b is = absurd (omega (arith, is))
   by_text text (stopped cause) b is = b
   by_text text refused b is = b
@@ -105,8 +109,10 @@ module _ (files files_after : FilesSeen) (asks : Option Wanted) (words : Result 
     (is : AnswersWords asked_by asks words) (comes : Comes files files_after words came) (old new : SinkSeen) where
   -- what came of the run is what the words ask for, also where memory ran out
   pub outcome_after : TellsAfter words came result old new → HasOutcome pysalvage asks files files_after result
-  outcome_after (untold same nothing never) = subst (HasOutcome pysalvage asks files files_after) (sym same) (comes asks is)
-  outcome_after (told same on one tells) = subst (HasOutcome pysalvage asks files files_after) (sym same) (comes asks is)
+  outcome_after (untold same nothing never) = subst (HasOutcome pysalvage asks files files_after) (sym same)
+      (comes asks is)
+  outcome_after (told same on one tells) = subst (HasOutcome pysalvage asks files files_after) (sym same)
+      (comes asks is)
   outcome_after (ran_out same one nothing) = subst (HasOutcome pysalvage asks files files_after) (sym same)
       (by came (comes asks is) one)
     where
@@ -117,7 +123,8 @@ module _ (files files_after : FilesSeen) (asks : Option Wanted) (words : Result 
       by (Err Words) h one = absurd one
       by (Err (File name why)) h one = absurd one
 
-  pub may_tell : (start : List ℕ) (out_after err err_after : SinkSeen) (status : ℕ) → TellsAfter words came result old new
+  pub may_tell : (start : List ℕ) (out_after err err_after : SinkSeen) (status : ℕ)
+      → TellsAfter words came result old new
       → Finished start new out_after err err_after status result → MayTellRefused asks status old new
   may_tell start out_after err err_after status (untold same nothing never) f = inl (
     nothing,
@@ -127,13 +134,15 @@ module _ (files files_after : FilesSeen) (asks : Option Wanted) (words : Result 
   )
   may_tell start out_after err err_after status (told same on one tells) f = inr (
     asks_missing asks words is on,
-    status_one start new out_after err err_after status came one (subst (Finished start new out_after err err_after status) same f),
+    status_one start new out_after err err_after status came one
+        (subst (Finished start new out_after err err_after status) same f),
     tells,
   )
   may_tell start out_after err err_after status (ran_out same one nothing) f = inl (
     nothing,
     λ m is_one.
-        let is_five = five start new out_after err err_after status result same f in absurd (omega (arith, is_five, is_one)),
+        let is_five = five start new out_after err err_after status result same f in absurd
+        (omega (arith, is_five, is_one)),
   )
 
 -- ---- what a run tells of it
@@ -147,7 +156,8 @@ module _ {asks : Option Wanted} {status : ℕ} {old new : SinkSeen} (may : MayTe
       by (inl nothing) = nothing.0
       by (inr h) = absurd (not_one h.1)
 
-  pub told_at_one : (s : Salvage) → asks ≡ Some (salvage s) → s.sections.missing ≡ true → status ≡ 1 → TellsRefused old new
+  pub told_at_one : (s : Salvage) → asks ≡ Some (salvage s) → s.sections.missing ≡ true → status ≡ 1
+      → TellsRefused old new
   told_at_one s is on one = by may
     where
       by : MayTellRefused asks status old new → TellsRefused old new

@@ -17,7 +17,8 @@ use Rattle.salvage_report.specs.declared.cause.Cause.TheVariants.{OutOfMemory}
 use Rattle.salvage_report.specs.Outcome.{cause_status}
 use Rattle.salvage_report.specs.Tree.{missing_json}
 
--- the stream gained an object of what was refused, or a front of it and a fault
+-- the stream gained an object that tells of refused reads, or a front of it and a fault; which reads these are is no
+-- part of it: that each refusal is kept is a clause of each read (`Keeps` of missed_reads)
 pub record TellsRefused (old new : SinkSeen) : Type 0 where
   pub refused : RefusedTold
   pub says : Says old new (missing_json refused)
@@ -44,7 +45,7 @@ IsStoppedAtOne (Err (Caused cause)) = cause_status cause ≡ 1
 IsStoppedAtOne _ = ⊥
 
 -- what came of a run, and what the stream gained: where the words don't ask for it, or the status isn't 1, nothing; else
--- what was refused, or memory ran out
+-- an object that tells of refused reads, or memory ran out
 pub data TellsAfter (asked : Result Asked ArgsError) (outcome result : Result (Vec ℕ Global) (Trouble Cause))
     (old new : SinkSeen) : Type 0 where
   untold : result ≡ outcome → new ≡ old → (AsksFor asked → IsStoppedAtOne outcome → ⊥)

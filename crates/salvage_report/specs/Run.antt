@@ -37,7 +37,7 @@ AsksFile told (salvage s) name = AsksAmong told (files_of s) name
 abbrev pub pysalvage : Program Wanted Cause
 pysalvage = record { start = codes "pysalvage: "; says = cause_says; Comes = ComesTo; Asks = AsksFile }
 
--- a run of it, before which the stream of the text may have gained what was refused
+-- a run of it, before which the stream of the text may have gained an object of refused reads
 pub record HasRunAfter (asks : Option Wanted) (files files_after : FilesSeen) (out out_after err err_after : SinkSeen)
     (status : ℕ) : Type 0 where
   pub told : SinkSeen

@@ -56,6 +56,7 @@ pub record AreTold (asked : Sections) (bytes : List ℕ) (process : Option (ℤ 
   pub signal : told.signal ≡ if_asked asked.signal (signal_told (own_id process) notes)
   pub registers : registers_shown told.registers
       ≡ if_asked asked.registers (threads_told (machine_of bytes) (python_threads is) notes)
-  -- what was refused of the reads is what its keeper holds (`Keeps` of missed_reads)
+  -- what is told of refused reads, whatever that is: that their keeper holds each refusal is a clause of each read
+  -- (`Keeps` of missed_reads)
   pub refused : RefusedTold
   pub missing : missing_shown told.missing ≡ if_asked asked.missing refused

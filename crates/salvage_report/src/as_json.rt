@@ -6,7 +6,8 @@ ghost use Rattle.py_fields.specs.Version.{version_text};
 ghost use Rattle.crash_signal.specs.Trees.{signal_tree as info_tree};
 ghost use Rattle.thread_registers.specs.Trees.{threads_tree};
 ghost use Rattle.missed_reads.specs.Told.{missed_tree, told_of};
-ghost use Rattle.salvage_report.specs.Tree.{left_json, left_tree, missing_json, missing_tree, pretty_text, section_tree};
+ghost use Rattle.salvage_report.specs.Tree.{left_json, left_tree, missing_json, missing_tree};
+ghost use Rattle.salvage_report.specs.Tree.{pretty_text, section_tree};
 ghost use Rattle.salvage_report.specs.Sections.{missing_shown, registers_shown};
 
 use crate::left::Left;
@@ -88,8 +89,8 @@ fn pretty(alloc: Global, value: &Value) -> Result<String, AllocError>
     value.to_string_pretty(alloc)
 }
 
-/// All of it as one object, on lines, with a line feed at the end. The keys stand in the order of their bytes; that of a
-/// section that isn't asked for is null. The one error is want of memory.
+/// All of it as one object, on lines, with a line feed at the end. The keys stand in the order of their bytes. The key
+/// of a section that isn't asked for is null. The one error is want of memory.
 pub(crate) fn left_json(alloc: Global, left: &Left) -> Result<String, AllocError>
     ensures { IfOk result (λ text. string_bytes text ≡ left_json left.now) }
 {

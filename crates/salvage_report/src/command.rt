@@ -66,15 +66,17 @@ fn outcome_of<'a, F: Files>(
 
 /// Does what the words ask for, and answers the status with which a program ends.
 ///
-/// The words are those of `salvage_words::read_words`, the program's name first. They are judged, the files that they
-/// name are read: the file of records, where there is one, the core's, the layout file and those of the images, in
-/// order; the records are checked, then the layouts, the process
-/// of the core is opened as for a report (`core_stacks::report`) up to its layout, and what is left of its interpreters
-/// is read over the memory of the core and its images (`py_fronts::salvage`), with the sections that are asked for,
-/// of which none has a status of its own; and the whole text is written to `out`. Where `--help` or `--version` is asked
-/// for alone, the text is the help, or the program's version, and no file is read. Under each status but 0 one line,
-/// `pysalvage: ` and the cause, is written to `err`, and a fault of `err` changes no status. That no other file is asked
-/// for is proved of reads that fail, which leave their name; no clause says by how many calls `out` is written.
+/// The words are those of `salvage_words::read_words`, the program's name first. They are judged. The files that they
+/// name are read in order: the file of records, where there is one, the core's, the layout file and those of the images.
+/// The records are checked, then the layouts. The process of the core is opened as for a report (`core_stacks::report`)
+/// up to its layout. What is left of its interpreters is read over the memory of the core and its images
+/// (`py_fronts::salvage`), with the sections that are asked for, of which none has a status of its own. The whole text
+/// is written to `out`.
+///
+/// Where `--help` or `--version` is asked for alone, the text is the help, or the program's version, and no file is
+/// read. Under each status but 0 one line, `pysalvage: ` and the cause, is written to `err`, and a fault of `err`
+/// changes no status. That no other file is asked for is proved of reads that fail, which leave their name; no clause
+/// says by how many calls `out` is written.
 ///
 /// - 0: the whole text was written.
 /// - 1: the process can't be opened, or of the addresses that were looked at none is an interpreter's that is shown.
@@ -94,8 +96,9 @@ pub fn run<F: Files, S: Sink, E: Sink>(
     err: &mut E,
 ) -> u8
     // each status has its cause and its line. 0 comes only after the whole text was written, and then nothing is said.
-    // Under another one but 4 nothing is written to `out`, but what was refused under 1 where that is asked for. The words
-    // are refused exactly where they ask for nothing, and 3 comes exactly where a file that they name could not be read
+    // Under another one but 4 nothing is written to `out`, but an object of refused reads under 1 where that is asked
+    // for. The words are refused exactly where they ask for nothing, and 3 comes exactly where a file that they name
+    // could not be read
     ensures runs { HasRunAfter (words_asked (texts words.now)) (F.seen files.old) (F.seen files.new)
         (S.seen out.old) (S.seen out.new) (E.seen err.old) (E.seen err.new) result }
 

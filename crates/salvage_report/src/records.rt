@@ -40,7 +40,8 @@ pub(crate) fn salvage_with(
     misses: &mut Misses,
 ) -> Result<Vec<u8>, Cause>
     requires few { words.now.limit ≤ 4096 }
-    ensures { IsAnswer (IsOutcomeWith (bytes_of_records records) (asked_salvage words.now) (core_contents files)) result }
+    ensures { IsAnswer
+        (IsOutcomeWith (bytes_of_records records) (asked_salvage words.now) (core_contents files)) result }
 {
     let Some(text) = records else {
         return salvage_over(alloc, words, files, misses);

@@ -122,7 +122,7 @@ fn missing_section(
     Ok(Some(missed_blocks(alloc, misses)?))
 }
 
-/// What is told in the sections that are asked for, by the notes of a core and what is left of its interpreters, and which
+/// What is told in the sections that are asked for, by the notes of a core, what is left of its interpreters, and which
 /// reads were refused. The one error is want of memory.
 pub(crate) fn tell_sections(
     alloc: Global,

@@ -23,7 +23,8 @@ abbrev pub records_rule : Rule
 records_rule = record (new_rule (codes "records")) { long = Some (codes "records"); action = Some Set }
 
 abbrev pub salvage_app : App
-salvage_app = with_rule (with_rule (with_rule (with_rule (with_rule (with_rule (with_rule (with_rule (with_rule (with_rule
+salvage_app =
+    with_rule (with_rule (with_rule (with_rule (with_rule (with_rule (with_rule (with_rule (with_rule (with_rule
     (new_app (codes "pysalvage")) core_rule) (wanted_rule (codes "layouts") None)) records_rule) frames_rule)
     locals_rule) (flag_rule (codes "json") (Some 106))) (flag_rule (codes "signal") None))
     (flag_rule (codes "registers") None)) (flag_rule (codes "missing") None)) images_rule
@@ -46,7 +47,8 @@ abbrev pub limit_of : Option (List ℕ) → Option ℕ
 limit_of None = Some 100
 limit_of (Some word) = limit_in word
 
--- what is left of the core of this name, by a layout file and maybe a file of records, with files under the paths at which they were mapped
+-- what is left of the core of this name, by a layout file and maybe a file of records, with files under the paths at
+-- which they were mapped
 pub record Salvage : Type 0 where
   pub core : List ℕ
   pub layouts : List ℕ

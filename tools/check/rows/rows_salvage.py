@@ -47,7 +47,8 @@ PATH=FILE       FILE is read in place of the file that the process had mapped fr
 
 def rows() -> List[Row]:
     """All of them."""
-    parts = (words, order, described, causes, heads, marks, frames, threads, interpreters, names, trees, signals, registers)
+    parts = (words, order, described, causes, heads, marks, frames, threads, interpreters, names, trees, signals, registers,
+             missed)
     return [it for part in parts for it in part()]
 
 
@@ -418,3 +419,46 @@ def registers() -> Iterator[Row]:
              "Thread 6 (whose is not told): no registers\n"]
     head = "Signal 0: core\nProcess 4: p\n"
     yield salvage("registers", f"{GOOD} --registers", named(heap(), notes=notes), head + TEXT + "".join(lines))
+
+
+def broken_caller(back: int) -> Dict[str, bytes]:
+    """The files of a core in which a chain of frames leads to this address."""
+    objects = heap()
+    objects.frame(at=CALLER, code=MODULE_CODE, back=back)
+    return named(objects)
+
+
+def missed_object(blocks: Sequence[int]) -> Dict[str, object]:
+    """What tells of refused reads."""
+    return {"missing": {"above": 0, "blocks": list(blocks)}}
+
+
+def broken_tree(back: int, blocks: Sequence[int]) -> Dict[str, object]:
+    """What is told of a core in which a chain of frames leads to this address, and of its refused reads."""
+    member = lambda name: {"filename": "a.py", "line": 0, "locals": None, "locals_fault": None, "name": name}
+    end = {"address": hex(back), "kind": "unreadable", "length": group("frame")["size"]}
+    frames = {"between": 0, "end": end, "first": [member("f"), member("<module>")], "last": [], "met": 2}
+    thread = {"address": hex(THREAD), "crashed": False, "frames": frames, "gil": False, "os_thread_id": None, "thread_id": 0x7F00}
+    interpreter = {"address": hex(HEAP), "lock": {"holder": 0, "kind": "read"}, "searched": False, "threads": [thread],
+                   "threads_end": {"kind": "whole"}}
+    return {"interpreters": [interpreter], **missed_object(blocks), "more": False, "process": None, "registers": None,
+            "signal": None, "signal_info": None, "version": "3.9.0"}
+
+
+def missed() -> Iterator[Row]:
+    """Which reads were refused, by blocks of 65,536 bytes. Block 0 is that of a word 0, which is tried as an interpreter."""
+    missing = f"{GOOD} --missing"
+    text = lambda it: json.dumps(it, indent=2, ensure_ascii=False) + "\n"
+    yield salvage("missing: the text is the same", missing, files_of(small()), TEXT)
+    for what, files, line, blocks in (
+        ("no interpreter", files_of(small(bss=bss(0x400000, THREAD))), b"no interpreter found: 2 addresses looked at", []),
+        ("half a bss", files_of(small(bss=Segment(BSS, bytes(8), 6, 16))), b"version unreadable at 0x500000, 16 bytes", [BSS >> 16]),
+        ("no core", {**files_of(small()), "core": b"text"}, b"not an ELF64 little-endian file", []),
+    ):
+        yield salvage(f"missing: {what}", missing, files, text(missed_object(blocks)), line)
+    faulty = {**files_of(small()), "layouts": b"layout = 1\n"}
+    yield salvage("missing: a faulty layout file", missing, faulty, line=b"layouts: layout", status=6)
+    for back, blocks in (
+        (0x70000008, [0, 0x7000]), (0x7000FFC0, [0, 0x7000]), (0x7000FFF8, [0, 0x7000, 0x7001]), (2**64 - 8, [0, 2**48 - 1]),
+    ):
+        yield salvage(f"missing: a frame at {back:#x}", f"{missing} -j", broken_caller(back), text(broken_tree(back, blocks)))

@@ -4,7 +4,8 @@ use Rattle.json.specs.Layout.{pretty}
 use Rattle.serde_json.proofs.Texts.{tokens_from_order}
 use Rattle.salvage_report.proofs.as_json.pretty.Goals as goal
 
-both : {T E : Type 0} (r : Result T E) (P Q R : T → Type 0) → IfOk r P → IfOk r Q → ((x : T) → P x → Q x → R x) → IfOk r R
+both : {T E : Type 0} (r : Result T E) (P Q R : T → Type 0) → IfOk r P → IfOk r Q → ((x : T) → P x → Q x → R x)
+    → IfOk r R
 both (Ok x) P Q R p q f = f x p q
 both (Err e) P Q R p q f = p
 

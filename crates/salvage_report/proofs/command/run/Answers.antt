@@ -35,7 +35,8 @@ returns-clause-runs g c =
       may = may_tell old new asks words came result c.read_words-asked.ensures comes out told _ _ _ _ _
           c.after_telling-outcome.ensures c.finish.ensures;
       run = run_of pysalvage cause_own asks (ran old new told (g.S.Sink.seen c.finish.new.out)) _ _ _ result
-          (outcome_after old new asks words came result c.read_words-asked.ensures comes out told c.after_telling-outcome.ensures)
+          (outcome_after old new asks words came result c.read_words-asked.ensures comes out told
+          c.after_telling-outcome.ensures)
           c.finish.ensures c.outcome_of-outcome.ensures.told;
     }
 
@@ -47,8 +48,10 @@ returns-clause-headline g c s asks is =
     let runs = returns-clause-runs g c in
     let printed = runs.run.printed is in
     let same = untold_else runs.may (λ one. absurd (omega (arith, is, one))) in
-    salvaged_of_run s (g.F.Files.seen c.args.files.now).told (g.S.Sink.seen c.args.out.now) (g.S.Sink.seen c.finish.new.out)
-    printed.0 (subst (λ (seen : SinkSeen). Appends seen.written (g.S.Sink.seen c.finish.new.out).written printed.0) same printed.2)
+    salvaged_of_run s (g.F.Files.seen c.args.files.now).told (g.S.Sink.seen c.args.out.now)
+    (g.S.Sink.seen c.finish.new.out)
+    printed.0 (subst (λ (seen : SinkSeen). Appends seen.written (g.S.Sink.seen c.finish.new.out).written printed.0)
+    same printed.2)
     (words_asked (texts c.args.words.now)) asks printed.1
 
 pub returns-clause-signal : goal.returns-clause-signal
@@ -60,8 +63,10 @@ returns-clause-registers g c s asks on is = says_registers s _ _ _ (returns-clau
 pub returns-clause-missing : goal.returns-clause-missing
 returns-clause-missing g c s asks on is =
     let runs = returns-clause-runs g c in
-    let rest = runs.run.nothing_out (λ zero. absurd (omega (arith, is, zero))) (λ four. absurd (omega (arith, is, four))) in
-    subst (λ (seen : SinkSeen). TellsRefused (g.S.Sink.seen c.args.out.now) seen) (sym rest) (told_at_one runs.may s asks on is)
+    let rest = runs.run.nothing_out (λ zero. absurd (omega (arith, is, zero)))
+    (λ four. absurd (omega (arith, is, four))) in
+    subst (λ (seen : SinkSeen). TellsRefused (g.S.Sink.seen c.args.out.now) seen) (sym rest)
+    (told_at_one runs.may s asks on is)
 
 pub returns-clause-only : goal.returns-clause-only
 returns-clause-only g c = run_only (returns-clause-runs g c).run.right

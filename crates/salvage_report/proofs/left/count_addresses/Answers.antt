@@ -27,7 +27,8 @@ returns c =
     let named = over_this pieces (ap (λ (s : Seen). s.pieces) c.view-view.ensures) c.in_ok-addresses.ensures in
     let searched = over_this pieces (ap (λ (s : Seen). s.pieces) c.view-again.ensures) c.in_ok-searched.ensures in
     let len : c.len.result ≡ length c.extend_from_slice.new.self.items = search rules in
-    len ∙ ap length (c.in_ok-extend_from_slice.ensures.items ∙ ap (λ xs. c.in_ok-addresses.addresses.items ++ xs) c.deref.ensures.value)
+    len ∙ ap length (c.in_ok-extend_from_slice.ensures.items
+    ∙ ap (λ xs. c.in_ok-addresses.addresses.items ++ xs) c.deref.ensures.value)
     ∙ length-append c.in_ok-addresses.addresses.items c.in_ok-searched.searched.items
     ∙ ap (λ xs. length xs + length c.in_ok-searched.searched.items) named
     ∙ ap (λ xs. length (named_candidates (known_of p.info) p.version p.layout (byte_at pieces)) + length xs) searched

@@ -24,7 +24,10 @@ returns c =
     let s = asked_salvage c.args.words.now in
     let core = c.args.files.core.items in
     let says = rw c.deref.ensures.value at c.in_ok-layouts.ensures.right in
-    let images = c.in_ok-images.ensures ∙ ap (λ w. images_read w (contents c.args.files.images.items)) c.deref-2.ensures.value in
-    after (λ error. Layouts error) (IsRightFor c.args.files.layouts.items) (IsSalvagedBy s core (images_read s.images (contents c.args.files.images.items)))
+    let images = c.in_ok-images.ensures ∙ ap (λ w. images_read w (contents c.args.files.images.items))
+    c.deref-2.ensures.value in
+    after (λ error. Layouts error) (IsRightFor c.args.files.layouts.items)
+    (IsSalvagedBy s core (images_read s.images (contents c.args.files.images.items)))
     c.in_ok-layouts.layouts c.salvage_core.result says
-    (subst (λ i. IsAnswer (IsSalvagedBy s core i c.in_ok-layouts.layouts) c.salvage_core.result) images c.salvage_core.ensures)
+    (subst (λ i. IsAnswer (IsSalvagedBy s core i c.in_ok-layouts.layouts) c.salvage_core.result) images
+    c.salvage_core.ensures)

@@ -6,5 +6,6 @@ use Rattle.salvage_report.proofs.left.salvaged_of.Goals as goal
 
 pub returns : goal.returns
 returns c =
-    let here = over_this (regions_of c.args.process.now.dump) (ap (λ (s : Seen). s.pieces) (c.new-view.ensures ∙ c.view.ensures)) c.salvage.ensures.answer in
+    let here = over_this (regions_of c.args.process.now.dump)
+    (ap (λ (s : Seen). s.pieces) (c.new-view.ensures ∙ c.view.ensures)) c.salvage.ensures.answer in
     rw (c.machine.ensures, c.core.ensures.same) at here

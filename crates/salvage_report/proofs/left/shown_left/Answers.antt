@@ -30,10 +30,12 @@ returns-then-is_empty c = λ bytes images layouts is crashed ne.
     let asked = c.args.words.now.sections in
     let process = c.args.process.notes.process in
     let told = c.in_ok-told.told in
-    let core = subst (λ core. AreTold asked core process c.deref.result.now told) c.core-core.ensures.same c.in_ok-told.ensures in
+    let core = subst (λ core. AreTold asked core process c.deref.result.now told) c.core-core.ensures.same
+    c.in_ok-told.ensures in
     let sections = subst (λ xs. AreTold asked c.args.process.dump.core process xs told) c.deref.ensures.value core in
     let none : salvaged.interpreters.items ≡ [] = empty salvaged.interpreters.items (search rules) in
-    none_left (asked_salvage c.args.words.now) c.args.process c.args.crash salvaged c.in_ok-salvaged.ensures bytes images layouts is crashed
+    none_left (asked_salvage c.args.words.now) c.args.process c.args.crash salvaged c.in_ok-salvaged.ensures bytes
+    images layouts is crashed
     told sections c.in_ok-addresses.addresses none c.in_ok-addresses.ensures
 
 pub returns-in_err-shown : goal.returns-in_err-shown
@@ -47,9 +49,11 @@ returns c = λ bytes images layouts is crashed.
     let asked = c.args.words.now.sections in
     let process = c.args.process.notes.process in
     let told = c.in_ok-told.told in
-    let core = subst (λ core. AreTold asked core process c.deref.result.now told) c.core-core.ensures.same c.in_ok-told.ensures in
+    let core = subst (λ core. AreTold asked core process c.deref.result.now told) c.core-core.ensures.same
+    c.in_ok-told.ensures in
     let sections = subst (λ xs. AreTold asked c.args.process.dump.core process xs told) c.deref.ensures.value core in
     let full : length salvaged.interpreters.items ≢ 0 = search rules in
     let some : salvaged.interpreters.items ≢ [] = λ none. full (ap length none) in
-    some_left (asked_salvage c.args.words.now) c.args.process c.args.crash salvaged c.in_ok-salvaged.ensures bytes images layouts is crashed
+    some_left (asked_salvage c.args.words.now) c.args.process c.args.crash salvaged c.in_ok-salvaged.ensures bytes
+    images layouts is crashed
     told sections c.in_ok-shown.field-0.items some c.in_ok-shown.ensures

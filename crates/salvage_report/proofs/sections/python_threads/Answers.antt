@@ -20,11 +20,14 @@ loop-interpreter-init c = c.new-threads.ensures.items
 pub loop-interpreter-preserved : goal.loop-interpreter-preserved
 loop-interpreter-preserved c =
     c.in_ok-extend_from_slice.ensures.items
-    ∙ ap (λ own. c.loop-interpreter.threads.items ++ own) (c.deref-in-loop-interpreter.ensures.value ∙ c.in_ok-own.ensures ∙ ap (map python_thread) c.deref.ensures.value)
+    ∙ ap (λ own. c.loop-interpreter.threads.items ++ own) (c.deref-in-loop-interpreter.ensures.value
+    ∙ c.in_ok-own.ensures ∙ ap (map python_thread) c.deref.ensures.value)
     ∙ ap (λ before. before ++ threads_of c.interpreter-item.result) c.loop-interpreter.invariant
-    ∙ one_more c.args.interpreters.now c.loop-interpreter.interpreter-index c.interpreter-item.result c.interpreter-item.result
+    ∙ one_more c.args.interpreters.now c.loop-interpreter.interpreter-index c.interpreter-item.result
+    c.interpreter-item.result
     c.loop-interpreter-test.true c.interpreter-item.is
 
 pub returns : goal.returns
 returns c = c.loop-interpreter.invariant
-    ∙ ap python_threads (take_all c.loop-interpreter.interpreter-index c.args.interpreters.now c.loop-interpreter-test.false)
+    ∙ ap python_threads (take_all c.loop-interpreter.interpreter-index c.args.interpreters.now
+    c.loop-interpreter-test.false)

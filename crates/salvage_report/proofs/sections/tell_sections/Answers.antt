@@ -19,7 +19,8 @@ returns c =
           ∙ ap (λ ns. if_asked asked.signal (signal_told c.own_id.result (map noted ns))) c.deref.ensures.value
           ∙ ap (λ pid. if_asked asked.signal (signal_told pid notes)) c.own_id.ensures;
       registers = c.in_ok-registers.ensures
-          ∙ ap (λ ns. if_asked asked.registers (threads_told c.machine.result pythons (map noted ns))) c.deref-2.ensures.value
+          ∙ ap (λ ns. if_asked asked.registers (threads_told c.machine.result pythons (map noted ns)))
+          c.deref-2.ensures.value
           ∙ ap (λ m. if_asked asked.registers (threads_told m pythons notes)) c.machine.ensures;
       refused = told_of c.args.misses.now;
       missing = c.in_ok-missing.ensures;

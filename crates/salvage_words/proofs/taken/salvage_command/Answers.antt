@@ -8,8 +8,10 @@ returns c =
     let one = c.in_ok-arg.ensures.shape c.core_arg.ensures.local
     ∙ ap₂ with_rule c.new.ensures.app c.core_arg.ensures.rule in
     let two = c.in_ok-arg-2.ensures.shape c.wanted.ensures.local ∙ ap₂ with_rule one c.wanted.ensures.rule in
-    let records = c.in_ok-arg-3.ensures.shape c.records_arg.ensures.local ∙ ap₂ with_rule two c.records_arg.ensures.rule in
-    let three = c.in_ok-arg-4.ensures.shape c.frames_arg.ensures.local ∙ ap₂ with_rule records c.frames_arg.ensures.rule in
+    let records = c.in_ok-arg-3.ensures.shape c.records_arg.ensures.local
+    ∙ ap₂ with_rule two c.records_arg.ensures.rule in
+    let three = c.in_ok-arg-4.ensures.shape c.frames_arg.ensures.local
+    ∙ ap₂ with_rule records c.frames_arg.ensures.rule in
     let four = c.in_ok-arg-5.ensures.shape c.locals_arg.ensures.local ∙ ap₂ with_rule three c.locals_arg.ensures.rule in
     let five = c.in_ok-arg-6.ensures.shape c.flag.ensures.local ∙ ap₂ with_rule four c.flag.ensures.rule in
     let signal = c.in_ok-arg-7.ensures.shape c.flag-2.ensures.local ∙ ap₂ with_rule five c.flag-2.ensures.rule in

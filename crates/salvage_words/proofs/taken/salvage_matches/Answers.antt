@@ -11,5 +11,6 @@ pub returns : goal.returns
 unfolding taken_rows
 returns c =
     let is = c.in_ok-command.ensures in
-    subst (λ app. AnswersWords (λ matches. rows_of (found_of matches)) (rows_taken app (texts c.args.words.now)) c.matches_in.result)
+    subst (λ app. AnswersWords (λ matches. rows_of (found_of matches)) (rows_taken app (texts c.args.words.now))
+    c.matches_in.result)
     is (c.matches_in.ensures (ap is_simple_and_free is ∙ salvage_is_simple))
