@@ -456,8 +456,8 @@ def missed() -> Iterator[Row]:
         ("no core", {**files_of(small()), "core": b"text"}, b"not an ELF64 little-endian file", []),
     ):
         yield salvage(f"missing: {what}", missing, files, text(missed_object(blocks)), line)
-    faulty = {**files_of(small()), "layouts": b"layout = 1\n"}
-    yield salvage("missing: a faulty layout file", missing, faulty, line=b"layouts: layout", status=6)
+    faulty = files_of(small(), "")
+    yield salvage("missing: a faulty layout file", missing, faulty, line=b"layouts: table 0, key layout", status=6)
     for back, blocks in (
         (0x70000008, [0, 0x7000]), (0x7000FFC0, [0, 0x7000]), (0x7000FFF8, [0, 0x7000, 0x7001]), (2**64 - 8, [0, 2**48 - 1]),
     ):
