@@ -25,7 +25,7 @@ from pystacks_tool.faults import BAD_WORDS, CANNOT_WRITE, Fault, say, shown
 from pystacks_tool.pages import ROOT
 from pystacks_tool.places import LAYOUTS, MACHINES, PROGRAM, SALVAGE, commit, program_at, salvage_at, version_line
 
-PAGES = ("CORES", "DIFFERENCES", "DUMP", "HOSTILE", "LAYOUTS", "MERGE", "MESSAGES", "REACH", "SALVAGE", "SAMPLE", "SLIM", "SPEED", "TOOL",
+PAGES = ("CORES", "DIFFERENCES", "DUMP", "FLEET", "HOSTILE", "LAYOUTS", "MERGE", "MESSAGES", "REACH", "SALVAGE", "SAMPLE", "SLIM", "SPEED", "TOOL",
          "TRIAGE", "WALK")
 """The pages of docs for users."""
 
@@ -36,7 +36,7 @@ LAYOUT_TOOLS = ("derive_layout", "layout_plan", "layout_sources", "gdb_fields", 
                 "join_layouts", "carry_layouts", "find_pythons", "probe_*")
 """The modules of the tools that derive and join layouts and records."""
 
-TOOLS = ("dump_core.py", "slim_core.py", "native_addresses.py", "pystacks_tool/**/*.py", *(f"layouts/{it}.py" for it in LAYOUT_TOOLS))
+TOOLS = ("dump_core.py", "core_fleet.py", "slim_core.py", "native_addresses.py", "pystacks_tool/**/*.py", *(f"layouts/{it}.py" for it in LAYOUT_TOOLS))
 
 MARK = "COMMIT"
 """The file by which an installed folder is known. It has the commit, where that is known."""

@@ -8,7 +8,7 @@ from typing import List, Sequence
 
 from pystacks_tool.command import run
 from pystacks_tool.faults import NO_ROOM, Fault, say
-from pystacks_tool.options import ALL_FRAMES, Options
+from pystacks_tool.options import ALL_FRAMES, BY, Options
 from pystacks_tool.output import written
 from pystacks_tool.pages import with_places
 from pystacks_tool.places import LAYOUTS, MACHINES, PROGRAM, SALVAGE, version_line
@@ -42,8 +42,20 @@ def add_shown(parser: argparse.ArgumentParser) -> None:
     parser.add_argument("-j", "--json", action="store_true", help="as JSON: one object")
     parser.add_argument("--collapsed", action="store_true", help="as flame graph tools and speedscope read stacks; of several cores together")
     parser.add_argument("--html", metavar="FILE", default="", help="write a page to share; with --group a page of the groups")
-    parser.add_argument("--group", action="store_true", help="group several cores by their stacks")
+    parser.add_argument("--group", action="store_true", help="group several cores by the stack of the thread that got the signal")
     parser.add_argument("--plain", action="store_true", help="the text (with -j the JSON) and the status of `pystacks dump` (with --group `triage`) as they are")
+
+
+def add_many(parser: argparse.ArgumentParser) -> None:
+    """Adds what is done with many cores."""
+    parser.add_argument("--by", choices=BY, default=None,
+                        help="group by the crash (signal and stack of the thread that got it; the default), by all threads' stacks, or exactly as `pystacks triage` does")
+    parser.add_argument("--keys", action="store_true", help="print one JSON object a line for each core: its keys, signal, process, time and newest frames")
+    parser.add_argument("--from", metavar="FILE", nargs="+", dest="lines", default=(), help="with --group: group such lines, from anywhere; - is the standard input")
+    parser.add_argument("--timeout", metavar="SECONDS", type=seconds, default=60, help="how long one core of --group and --keys may take (default: 60)")
+    parser.add_argument("--jobs", metavar="N", type=processes, default=0, help="how many cores are looked at at a time (default: as many as there are processors)")
+    parser.add_argument("--host", metavar="NAME", default="", help="the host that the lines of --keys name")
+    parser.add_argument("--key-line", action="store_true", help=argparse.SUPPRESS)
 
 
 def add_taken(parser: argparse.ArgumentParser) -> None:
@@ -65,6 +77,23 @@ def megabytes(word: str) -> int:
     return int(word)
 
 
+def number_to(word: str, largest: int, what: str) -> int:
+    """A number from 1 on."""
+    if not (word.isascii() and word.isdecimal()) or not 1 <= int(word) <= largest:
+        raise argparse.ArgumentTypeError(f"{word} is no number of {what} from 1 to {largest}")
+    return int(word)
+
+
+def seconds(word: str) -> int:
+    """How many seconds a word says."""
+    return number_to(word, 86_400, "seconds")
+
+
+def processes(word: str) -> int:
+    """How many processes a word says."""
+    return number_to(word, 1024, "processes")
+
+
 def frames_at_end(word: str) -> int:
     """How many frames a word says."""
     if word == "all":
@@ -78,8 +107,9 @@ def parser_for(name: str) -> argparse.ArgumentParser:
     """The parser of the tool's words."""
     parser = argparse.ArgumentParser(
         prog=name, description=WHAT, epilog=with_places(EXAMPLES.format(name)), formatter_class=argparse.RawDescriptionHelpFormatter)
-    parser.add_argument("core", metavar="CORE", nargs="*", help="the core's file; several with --group and --collapsed")
+    parser.add_argument("core", metavar="CORE", nargs="*", help="the core's file; several with --group, --keys and --collapsed")
     add_shown(parser)
+    add_many(parser)
     add_taken(parser)
     parser.add_argument("--version", action="store_true", help="the project's version, its commit, and those of its layouts")
     return parser
@@ -91,25 +121,45 @@ def options_of(words: argparse.Namespace) -> Options:
         cores=tuple(words.core), locals=words.locals, signal=not words.no_signal, registers=words.registers, shows_all=words.all, shows_stacks=words.stacks, frames=words.frames, source=words.source, json=words.json,
         collapsed=words.collapsed, html=words.html, group=words.group, plain=words.plain, root=words.root, maps=words.maps,
         keep=words.keep, memory=words.memory, layouts=words.layouts, records=words.records, program=words.program, salvage=words.salvage,
-        version=words.version)
+        version=words.version, by=words.by or ("exact" if words.plain else "crash"), keys=words.keys, key_line=words.key_line,
+        lines=tuple(words.lines), timeout=words.timeout, jobs=words.jobs, host=words.host)
+
+
+def clash_of_many(options: Options) -> str:
+    """What is wrong with the words for many cores, if anything is."""
+    word = "--group" if options.group else "--keys"
+    if options.group and options.keys:
+        return "of --group and --keys one is taken"
+    if options.locals or options.collapsed or options.keep or options.maps:
+        return f"{word} takes no -l, --collapsed, --keep and --maps"
+    if options.keys and (options.json or options.html or options.plain):
+        return "--keys takes no -j, --html and --plain"
+    if options.plain and options.by != "exact":
+        return "--plain groups exactly, as `pystacks triage` does"
+    if options.json and options.by == "exact":
+        return "--group takes no -j where it groups exactly"
+    if options.lines and (options.by == "exact" or options.html or options.cores):
+        return "--from takes no cores, no --html, and no exact groups"
+    return ""
 
 
 def clash(options: Options) -> str:
     """What is wrong with the words, if anything is."""
     forms = [it for it in ("json", "collapsed", "html", "plain") if getattr(options, it)]
-    if options.group and (options.locals or options.json or options.collapsed or options.keep or options.maps):
-        return "--group takes no -l, -j, --collapsed, --keep and --maps"
+    fault = clash_of_many(options) if options.group or options.keys else "--from is taken with --group" if options.lines else ""
+    if fault:
+        return fault
     if options.collapsed and options.locals:
         return "--collapsed takes no -l"
     if options.plain and options.frames is not None:
         return "--plain takes no --frames: the program shows whole stacks"
     if len(forms) > 1 and forms != ["json", "plain"]:
         return "of --json, --collapsed, --html and --plain one is taken, or --json with --plain"
-    if not options.cores:
+    if not options.cores and not options.lines:
         hint = f": --source took {options.source} for its folder, so name it behind the core" if options.source else ""
         return f"no core is named{hint}"
-    if len(options.cores) > 1 and not (options.group or options.collapsed and not options.keep):
-        return "several cores are taken with --group and --collapsed alone"
+    if len(options.cores) > 1 and not (options.group or options.keys or options.collapsed and not options.keep):
+        return "several cores are taken with --group, --keys and --collapsed alone"
     return ""
 
 

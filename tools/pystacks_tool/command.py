@@ -9,7 +9,8 @@ from pystacks_tool.ask.reports import Outcome, report_on
 from pystacks_tool.ask.run import run_over, write_all
 from pystacks_tool.cores.opened import OpenedCore, open_core
 from pystacks_tool.faults import BAD_WORDS, NO_PROGRAM, Fault, shown
-from pystacks_tool.groups.command import group
+from pystacks_tool.groups.command import group, group_by_key
+from pystacks_tool.groups.jobs import own_line, write_lines
 from pystacks_tool.options import Options
 from pystacks_tool.output import one_line, page_written, refused, style_of, written
 from pystacks_tool.places import NOT_RUN, PROGRAM, program_at
@@ -79,8 +80,12 @@ def run(options: Options) -> int:
             then = f"{option} names the folder below which the files are"
             raise Fault(f"there is no folder {shown(os.fsencode(folder))}", BAD_WORDS, then)
     try:
+        if options.key_line:
+            return own_line(options)
+        if options.keys:
+            return write_lines(options)
         if options.group:
-            return group(options)
+            return group(options) if options.by == "exact" else group_by_key(options)
         return collapse(options) if options.collapsed else show(options, options.cores[0])
     except OSError as error:
         raise Fault(f"cannot run {shown(os.fsencode(program))}: {error.strerror}", NO_PROGRAM, NOT_RUN) from None

@@ -8,6 +8,10 @@ ALL_FRAMES = 4096
 """How many frames the programs tell at most at each end of a stack: `--frames all`."""
 
 
+BY = ("crash", "stacks", "exact")
+"""What cores are grouped by: the signal and the stack of the thread that got it; all threads' stacks; `pystacks triage`."""
+
+
 @dataclass(frozen=True)
 class Options:
     """The words of a run."""
@@ -33,6 +37,20 @@ class Options:
     html: str = ""
     """The page's file, if one is written."""
     group: bool = False
+    by: str = "crash"
+    """What cores are grouped by: one of `BY`."""
+    keys: bool = False
+    """Whether a line for each core is written, with its keys."""
+    key_line: bool = False
+    """Whether this is the process that makes the line of one core."""
+    lines: Tuple[str, ...] = ()
+    """The files of such lines that are grouped."""
+    timeout: int = 60
+    """How many seconds the line of a core may take."""
+    jobs: int = 0
+    """How many cores are looked at at a time; 0 stands for as many as there are processors."""
+    host: str = ""
+    """The host that a line names."""
     plain: bool = False
     """Whether the program's own text and status are passed on."""
     root: str = ""

@@ -357,11 +357,11 @@ class Groups(Case):
     def test_apart(self):
         one, two = (core_file([mapped(0x1000, self.library, 5, built(number))]) for number in (1, 2))
         cores = self.cores(core_file([mapped(0x1000, self.library)]), one, two)
-        status, out, said = self.tool("--group", *cores)
+        status, out, said = self.tool("--group", "--by=exact", *cores)
         self.assertEqual((status, out), (2, b""))
         self.assertIn(f"{os.fsdecode(cores[1])} and {os.fsdecode(cores[2])} have different builds of", said)
         cores = self.cores(b"none", one, core_file([mapped(0x1000, self.python)], machine=AARCH64))
-        status, out, said = self.tool("--group", *cores)
+        status, out, said = self.tool("--group", "--by=exact", *cores)
         self.assertEqual((status, out), (2, b""))
         self.assertIn(f"{os.fsdecode(cores[1])} and {os.fsdecode(cores[2])} are of different machines", said)
 
@@ -378,7 +378,7 @@ class Groups(Case):
 
     def test_words(self):
         core = self.put("a=b", core_file([mapped(0x1000, self.python)]))
-        for words in (["--group", core], ["--group", "-l", core], [core, core], ["--group"]):
+        for words in (["--group", "--plain", core], ["--group", "-l", core], [core, core], ["--group"]):
             status, out, said = self.tool(*words)
             self.assertEqual((status, out), (2, b""), said)
 
@@ -387,7 +387,7 @@ class Groups(Case):
         data = core_file([mapped(0x1000, self.python), mapped(0x2000, data=bytes(0x2000))])
         cores = self.cores(data, data[:-0x1000], b"none")
         if os.path.isfile(PROGRAM):
-            status, out, said = self.tool("--group", *cores, program=PROGRAM)
+            status, out, said = self.tool("--group", "--by=exact", *cores, program=PROGRAM)
             line = "    {}: bad image: " + os.fsdecode(self.python) + "\n"
             names = [os.fsdecode(it) for it in cores]
             none = f"    {names[2]}: not an ELF64 little-endian file\n"

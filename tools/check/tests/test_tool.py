@@ -377,7 +377,7 @@ class Groups(Case):
         stacks += "10 threads: 100, 101 and 8 more\n    wait (pool.py:12)\n    run (pool.py:3)\n"
         head, rest = text.split("Refused")
         shown = head + "".join(f"        {line}\n" if line else "\n" for line in stacks.splitlines()) + "Refused" + rest
-        self.assertEqual(self.tool("--group", core=[self.core, *more]), (0, shown, ""))
+        self.assertEqual(self.tool("--group", "--by=exact", core=[self.core, *more]), (0, shown, ""))
         self.assertEqual(self.tool("--group", "--plain", core=[self.core, *more]), (0, text, ""))
 
     def test_page(self):
@@ -385,13 +385,13 @@ class Groups(Case):
         self.programs(salvage(interpreter([CRASHED, *POOL])))
         stand_ins.program(self.program, stand_ins.dump_json([CRASHED, *POOL]), stand_ins.text_of([CRASHED, *POOL]), text)
         page = self.folder / "page.html"
-        self.assertEqual(self.tool("--group", f"--html={page}", core=[self.core, self.program])[:2], (0, ""))
+        self.assertEqual(self.tool("--group", "--by=exact", f"--html={page}", core=[self.core, self.program])[:2], (0, ""))
         shown = page.read_text(encoding="utf-8")
         self.assertEqual([shown.count(it) for it in ("<h2>Group 1: 1</h2>", "10 threads: ", "Refused: 1", "<script>")], [1, 1, 1, 1])
 
     def test_refused(self):
         self.programs(threads=[], status=5, said=b"pystacks: out of memory\n")
-        status, out, said = self.tool("--group")
+        status, out, said = self.tool("--group", "--by=exact")
         self.assertEqual((status, out, said.count("\n")), (5, "", 2))
         self.assertTrue(said.startswith("pystacks: out of memory\ndump_core: next: read it where"), said)
         self.assertEqual(self.tool("--group", "--plain"), (5, "", "pystacks: out of memory\n"))
@@ -403,7 +403,7 @@ class Groups(Case):
         for front in ("", f"Group 1: 1\n    {self.core}\n"):
             text = f"{front}Refused: 2\n{causes}"
             stand_ins.program(self.program, stand_ins.dump_json([CRASHED]), stand_ins.text_of([CRASHED]), text)
-            status, out, said = self.tool("--group", core=[self.core, one, two])
+            status, out, said = self.tool("--group", "--by=exact", core=[self.core, one, two])
             self.assertEqual((status, said), (0, ""))
             wanted = ["Refused: 2", f"    {one}: bad image: /x\\u{{a}}Group 2: 7\\u{{a}}    /none\\u{{1b}}[2J", f"    {two}: bad note"]
             self.assertEqual(out.splitlines()[-3:], wanted)
@@ -411,7 +411,7 @@ class Groups(Case):
 
     def test_names(self):
         self.programs(threads=[])
-        status, out, said = self.tool("--group", core=[self.put("a\nb", core_file([]))])
+        status, out, said = self.tool("--group", "--by=exact", core=[self.put("a\nb", core_file([]))])
         self.assertEqual((status, out, said.count("\n")), (2, "", 2))
 
 
@@ -460,7 +460,7 @@ class Words(Case):
         self.assertNotIn("records", noted.read_text())
         text = f"Group 1: 1\n    {self.core}\n"
         stand_ins.program(self.program, stand_ins.dump_json([CRASHED]), stand_ins.text_of([CRASHED]), text)
-        self.assertEqual(self.tool("--group", "--records=own.toml")[0], 0)
+        self.assertEqual(self.tool("--group", "--by=exact", "--records=own.toml")[0], 0)
         self.assertIn("--records=own.toml", noted.read_text())
 
     def test_folders(self):

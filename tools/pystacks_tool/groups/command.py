@@ -7,8 +7,12 @@ from pystacks_tool.ask.programs import command_of
 from pystacks_tool.ask.reports import report_on
 from pystacks_tool.ask.run import end_as, write_all
 from pystacks_tool.cores.images import image_words, opened
-from pystacks_tool.cores.opened import OpenedCore, prepare_core
+from pystacks_tool.cores.opened import OpenedCore, open_core, prepare_core
 from pystacks_tool.faults import BAD_WORDS, Fault, shown
+from pystacks_tool.groups.gathered import Counted, Gathered, gathered, lines_from, say_counted
+from pystacks_tool.groups.jobs import lines_of
+from pystacks_tool.groups.shown import json_of, title_of
+from pystacks_tool.groups.shown import lines_of as text_lines
 from pystacks_tool.groups.triage import Apart, Core, Group, group_answer, groups_of, read_core_of_group, renamed_text, shared_files, shared_machine
 from pystacks_tool.options import Options
 from pystacks_tool.output import one_line, page_written, refused, style_of, written
@@ -53,6 +57,27 @@ def group(options: Options) -> int:
     records = os.fspath(options.records or records_of(machine) or "")
     by_name = {core.name: OpenedCore(os.fsdecode(core.name), core.prepared, layouts, images, records=records) for core in cores}
     return show_groups(options, groups_of(text, list(by_name)), by_name)
+
+
+def group_by_key(options: Options) -> int:
+    """Groups cores, or lines of cores, by one of their keys, and returns the status."""
+    counted = Counted()
+    groups = gathered(lines_from(options.lines, counted) if options.lines else lines_of(options), options.by)
+    say_counted(counted)
+    if options.html:
+        return page_written(options.html, page_of_gathered(options, groups))
+    return written(json_of(groups) if options.json else text_lines(groups))
+
+
+def page_of_gathered(options: Options, gathered_groups: List[Gathered]) -> str:
+    """The page of such groups, each with the stacks of its first core."""
+    groups, reports = [], {}
+    for number, it in enumerate(gathered_groups, 1):
+        names = [os.fsencode(name) for name in it.cores]
+        groups.append(Group(title_of(number, it), names, it.has_stacks))
+        if it.has_stacks:
+            reports[names[0]] = report_on(options, open_core(options, it.cores[0])).report
+    return group_page(groups, reports, style_of(options))
 
 
 def show_groups(options: Options, groups: List[Group], by_name: Dict[bytes, OpenedCore]) -> int:

@@ -290,7 +290,7 @@ def group_page(groups: Sequence[Group], reports: Mapping[bytes, Optional[Report]
         if not it.is_group:
             cores = "\n".join(f"<li class=\"end\">{text(line[4:])}" for line in it.lines[1:])
             sections.append(f"<section id=\"refused\">\n<h2>{text(it.lines[0])}</h2>\n<ol>\n{cores}\n</ol>\n</section>")
-    table = table_part("Cores of one group have the same stacks", ("Group", "Cores", "Signal", "Process", "Python", "Newest frame", "Threads"), rows)
+    table = table_part("Cores of one group have the same key", ("Group", "Cores", "Signal", "Process", "Python", "Newest frame", "Threads"), rows)
     body = (
         f"<header>\n<h1>Cores in groups</h1>\n</header>\n<main>\n<section id=\"overview\">\n<h2>Groups</h2>\n{table}\n</section>\n"
         + "\n".join(sections) + "\n</main>")
