@@ -36,7 +36,7 @@ def show(options: Options, name: str) -> int:
         return plain(options, core)
     found = report_on(options, core)
     if found.report is None:
-        return refused(found.answer)
+        return refused(found.answer, core)
     if options.json:
         return written([json.dumps(found.tree, indent=2, sort_keys=True, ensure_ascii=False)])
     if options.html:

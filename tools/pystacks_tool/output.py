@@ -7,7 +7,9 @@ from typing import Iterable, List, Optional
 from pystacks_tool.ask.advice import next_of
 from pystacks_tool.ask.reports import decoded
 from pystacks_tool.ask.run import Answer, end_as, write_all
-from pystacks_tool.faults import BAD_WORDS, CANNOT_WRITE, Fault, say, say_next, shown
+from pystacks_tool.cores.known import Known
+from pystacks_tool.cores.opened import OpenedCore
+from pystacks_tool.faults import BAD_WORDS, CANNOT_WRITE, NO_STACKS, Fault, say, say_next, shown
 from pystacks_tool.options import ALL_FRAMES, Options
 from pystacks_tool.show.escape import in_line
 from pystacks_tool.show.sources import Sources
@@ -34,8 +36,11 @@ def written(lines: Iterable[str]) -> int:
     """Writes lines on the standard output, and returns the status that comes of it."""
     try:
         put(lines)
+    except BrokenPipeError:
+        # (`| head` has what it wanted)
+        return CANNOT_WRITE
     except OSError as error:
-        raise Fault(f"cannot write the text: {error.strerror}", CANNOT_WRITE, "is the disk full, or was the pipe closed?") from None
+        raise Fault(f"cannot write the text: {error.strerror}", CANNOT_WRITE, "is the disk full?") from None
     return 0
 
 
@@ -61,10 +66,15 @@ def one_line(said: bytes) -> bytes:
     return in_line(text[:-1] if text.endswith("\n") else text).encode("utf-8") + b"\n" if text else b""
 
 
-def refused(answer: Answer) -> int:
-    """Says what the program said where there is no report, and what to do next, and returns its status."""
+def refused(answer: Answer, core: Optional[OpenedCore] = None) -> int:
+    """Says what is known of the process, what the program said where there is no report, and what to do next, and returns the program's
+    status."""
+    known = core.known if core and answer.status == NO_STACKS else Known()
+    if known.line:
+        say(known.line)
     write_all(2, one_line(answer.said))
-    say_next(next_of(decoded(answer.said)))
+    is_cut = core is not None and any(it.startswith("core is cut") for it in core.done)
+    say_next(next_of(decoded(answer.said), is_cut, known.other))
     return end_as(answer.status)
 
 

@@ -361,8 +361,8 @@ class Shown(Case):
         self.programs(salvage(interpreter([thread(1, [frame("f" * 1000)] * 1000)])))
         command = f"{sys.executable} -B {TOOL} --program={self.program} {self.core} | true; exit ${{PIPESTATUS[0]}}"
         ran = subprocess.run(["bash", "-c", command], stdin=subprocess.DEVNULL, stdout=subprocess.PIPE, stderr=subprocess.PIPE)
-        lines = ran.stderr.decode().splitlines()
-        self.assertEqual((ran.returncode, lines[0], len(lines)), (4, "dump_core: cannot write the text: Broken pipe", 2))
+        # (quietly: who reads has what it wanted)
+        self.assertEqual((ran.returncode, ran.stderr), (4, b""))
 
 
 class Groups(Case):

@@ -18,9 +18,22 @@ NEXT = {
 }
 
 
-def next_of(said: str) -> str:
+CUT = "the end of the core is missing, where Python's records may have stood: copy the core anew, or take the next one with more room"
+"""What to do where a core was cut."""
+
+
+def next_by_core(line: str, is_cut: bool, other: str) -> str:
+    """What to do behind the line of a program, by what is known of the core; nothing where that tells nothing."""
+    if not line.startswith(("no interpreter found", "version unreadable", "no Python version found", "image not given")):
+        return ""
+    if other:
+        return f"the process is {other}, by the names of its files: cores of CPython are read"
+    return CUT if is_cut else ""
+
+
+def next_of(said: str, is_cut: bool = False, other: str = "") -> str:
     """What to do behind the line of a program; nothing where the line says it, or the tool's own line before it."""
     name, _, line = said.partition(": ")
     if name not in ("pystacks", "pysalvage"):
         return ""
-    return next((then for front, then in NEXT.items() if line.startswith(front)), "")
+    return next_by_core(line, is_cut, other) or next((then for front, then in NEXT.items() if line.startswith(front)), "")

@@ -4,12 +4,13 @@ import os
 import tempfile
 from dataclasses import dataclass, field
 from pathlib import Path
-from typing import IO, Iterable, List, Optional
+from typing import IO, Iterable, List, Optional, Tuple
 
 from pystacks_tool.ask.run import tells_missed
 from pystacks_tool.cores.headers import headers_of
 from pystacks_tool.cores.images import finder_below, image_words, maps_in, opened, read_core
 from pystacks_tool.cores.kinds import check_kind
+from pystacks_tool.cores.known import Known, known_at
 from pystacks_tool.cores.maps import Use, Wanted, is_text
 from pystacks_tool.cores.parts import BLOCK, Part, Shrunk
 from pystacks_tool.cores.prepare import SHRUNK, Prepared, Unprepared, Wishes, available, prepared
@@ -46,6 +47,16 @@ class OpenedCore:
     machine: Optional[int] = None
     records: str = ""
     """The file of records, where there is one."""
+    done: Tuple[str, ...] = ()
+    """What was done to prepare it."""
+
+    @property
+    def known(self) -> Known:
+        """What its notes tell of the process."""
+        if self.prepared is None:
+            return known_at(self.name)
+        # (the file has no name, and its place in it is nobody's)
+        return known_at(f"/proc/self/fd/{self.prepared.fileno()}")
 
     @property
     def word(self) -> str:
@@ -142,8 +153,9 @@ def open_core(options: Options, name: str) -> OpenedCore:
     check_text(os.fsencode(it) for it in (name, layouts, records))
     root = os.fsencode(options.root)
     if new is None or new.part is None:
-        return OpenedCore(name, new.file if new else None, layouts, image_words(wanted, root, machine), records=records)
+        done = new.said if new else ()
+        return OpenedCore(name, new.file if new else None, layouts, image_words(wanted, root, machine), records=records, done=done)
     images = image_words([it for it in wanted if it.use is not Use.MEMORY], root, machine)
     rest = [it for it in wanted if it.use is Use.MEMORY]
     entries = entries_of(new.file, headers_of(new.file) or [])
-    return OpenedCore(name, new.file, layouts, images, new.part, rest, entries, root, machine, records)
+    return OpenedCore(name, new.file, layouts, images, new.part, rest, entries, root, machine, records, new.said)

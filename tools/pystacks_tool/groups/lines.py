@@ -6,11 +6,10 @@ Lines of many machines are grouped by `--group --from`. A core that can't be rea
 import datetime
 import json
 import os
-from typing import Dict, IO, List, Optional
+from typing import Dict, List, Optional
 
 from pystacks_tool.ask.reports import Outcome, decoded, report_on
-from pystacks_tool.cores.headers import headers_of
-from pystacks_tool.cores.maps import NOTE, notes_of, read_at
+from pystacks_tool.cores.known import known_at
 from pystacks_tool.cores.opened import open_core
 from pystacks_tool.faults import Fault
 from pystacks_tool.groups.keys import Chosen, cause_key, chosen, crash_key, stacks_key
@@ -28,9 +27,6 @@ SHOWN = 40
 LONGEST = 300
 """The most characters of a text in it."""
 
-PROCESS_RECORD, ARGUMENTS = 3, 56
-"""The type of the note that names the process, and where its arguments begin (Linux' elf_prpsinfo, of 64 bits)."""
-
 
 def brief(text: str) -> str:
     """A text that isn't longer than a line has it."""
@@ -46,26 +42,6 @@ def time_of(path: str) -> Optional[str]:
     return datetime.datetime.fromtimestamp(int(when), datetime.timezone.utc).strftime("%Y-%m-%dT%H:%M:%SZ")
 
 
-def arguments_in(file: IO[bytes]) -> Optional[str]:
-    """The process's arguments, by its note, as far as the kernel kept them."""
-    for it in headers_of(file) or []:
-        if it.kind != NOTE:
-            continue
-        for _, kind, data in notes_of(read_at(file, it.offset, it.size)):
-            if kind == PROCESS_RECORD and len(data) >= ARGUMENTS + 80:
-                return data[ARGUMENTS : ARGUMENTS + 80].split(b"\0")[0].decode("utf-8", "replace").strip()
-    return None
-
-
-def process_of(path: str) -> str:
-    """The process's arguments; nothing where the core doesn't tell."""
-    try:
-        with open(path, "rb") as file:
-            return arguments_in(file) or ""
-    except OSError:
-        return ""
-
-
 def base_line(options: Options, name: str) -> Line:
     """What each line has."""
     return {
@@ -76,10 +52,10 @@ def base_line(options: Options, name: str) -> Line:
 
 def refused_line(options: Options, name: str, cause: str) -> Line:
     """The line of a core without stacks."""
-    process = process_of(name)
-    key = cause_key(cause, process)
-    keys = {"crash": key, "stacks": key}
-    return {**base_line(options, name), "process": brief(in_line(process)), "cause": brief(in_line(cause)), "keys": keys}
+    known = known_at(name)
+    key = cause_key(cause, known.arguments)
+    own = {"signal": known.signal, "signal_name": signal_name(known.signal or 0), "process": brief(in_line(known.arguments))}
+    return {**base_line(options, name), **own, "cause": brief(in_line(cause)), "keys": {"crash": key, "stacks": key}}
 
 
 def stack_of(one: Chosen) -> List[str]:
@@ -95,7 +71,7 @@ def told_line(options: Options, name: str, report: Report) -> Line:
     if one is None:
         return refused_line(options, name, "no thread has frames")
     frames = [brief(place_of(it)) for it in one.thread.frames[:10]]
-    process = report.process[1] if report.process else process_of(name)
+    process = report.process[1] if report.process else known_at(name).arguments
     return {
         **base_line(options, name), "signal": report.signal, "signal_name": signal_name(report.signal or 0),
         "told": in_line(report.signal_told), "process": brief(in_line(process)), "version": report.version,
