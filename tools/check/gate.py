@@ -78,7 +78,7 @@ CHECKS = (
     Check("real/pages", OF_PROGRAM),
     Check("real/real_merge", OF_PROGRAM),
     Check("real/real_salvage", OF_BOTH),
-    Check("real/real_parts", ("--salvage", SALVAGE), ("--salvage", SALVAGE, "--all")),
+    Check("real/real_parts", OF_BOTH, (*OF_BOTH, "--all")),
     Check("real/real_sections", ("--salvage", SALVAGE), ("--salvage", SALVAGE, "--all")),
     Check("real/arm_core", OF_PROGRAM),
     Check("real/compare_elf", OF_LISTING),
