@@ -142,7 +142,7 @@ def open_core(options: Options, name: str) -> OpenedCore:
     check_text(os.fsencode(it) for it in (name, layouts, records))
     root = os.fsencode(options.root)
     if new is None or new.part is None:
-        return OpenedCore(name, new.file if new else None, layouts, image_words(wanted, root, machine), records=records)
+        return OpenedCore(name, new.file if new else None, layouts, image_words(wanted, root, machine), machine=machine, records=records)
     images = image_words([it for it in wanted if it.use is not Use.MEMORY], root, machine)
     rest = [it for it in wanted if it.use is Use.MEMORY]
     entries = entries_of(new.file, headers_of(new.file) or [])
