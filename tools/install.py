@@ -32,7 +32,7 @@ PAGES = ("CORES", "DIFFERENCES", "DUMP", "FLEET", "HOSTILE", "LAYOUTS", "MERGE",
 TEXTS = ("README.md", "LICENSE", "NOTICE", "CHANGELOG.md", "SECURITY.md")
 """What stands beside docs/."""
 
-LAYOUT_TOOLS = ("derive_layout", "layout_plan", "layout_sources", "gdb_fields", "derive_records", "join_records", "carry_records", "records_plan",
+LAYOUT_TOOLS = ("derive_layout", "layout_from_core", "layout_plan", "layout_sources", "gdb_fields", "derive_records", "join_records", "carry_records", "records_plan",
                 "join_layouts", "carry_layouts", "find_pythons", "probe_*")
 """The modules of the tools that derive and join layouts and records."""
 

@@ -1,11 +1,13 @@
 #!/usr/bin/env python3
-"""Writes the layout file of an installed CPython, from its own headers and debug information.
+"""Writes the layout file of an installed CPython, from its own headers and debug information; or that of one which left a core.
 
     tools/layouts/derive_layout.py /usr/bin/python3.9 -o layouts/cpython-3.9-x86_64.toml
+    tools/layouts/derive_layout.py --from-core core -o own.toml
 
 The interpreter is asked which build it is and where its headers are. Each number is then looked up in the headers,
 by a C program that is compiled against them, and in the debug information of the binary, by gdb. One of the two must
-tell it, and where both do they must agree: else nothing is written, and the error names the field.
+tell it, and where both do they must agree: else nothing is written, and the error names the field. Of a core the dead process is asked
+what it tells of itself (layout_from_core.py).
 """
 
 import argparse
@@ -22,8 +24,11 @@ from typing import Any, Dict, List, Optional, Sequence, Tuple
 sys.dont_write_bytecode = True
 sys.path.append(str(Path(__file__).resolve().parent.parent))
 
+from layout_from_core import layout_of_core
 from layout_plan import VERSIONS, Field, Group, Plan, Version, plan_of
 from layout_sources import Answers, from_debug_information, from_headers
+from pystacks_tool.faults import Fault, say
+from pystacks_tool.options import Options
 from pystacks_tool.places import version_line
 
 ASK = """
@@ -317,17 +322,47 @@ def derive(build: Build, how: How = How()) -> Derived:
     return Derived(build, "\n".join(lines) + "\n", numbers, families["lock"], families["dicts"] != "none")
 
 
-def main() -> int:
-    """The command."""
+def parser_of() -> argparse.ArgumentParser:
+    """The words of the command."""
     parser = argparse.ArgumentParser(description=__doc__.splitlines()[0])
     parser.add_argument("python", nargs="?", default=sys.executable, help="the interpreter (default: this one)")
+    parser.add_argument("--from-core", metavar="CORE", help="the core of a process, which is asked in place of an interpreter")
+    parser.add_argument("--root", metavar="FOLDER", default="", help="of a core: look for the mapped files below this folder")
+    parser.add_argument("--layouts", metavar="FILE", help="of a core: the file of layouts with one of which it is begun (default: its machine's)")
+    parser.add_argument("--salvage", metavar="FILE", help="of a core: the program pysalvage (default: the one that was built or installed)")
     parser.add_argument("-o", "--output", help="the file to write (default: the standard output)")
     parser.add_argument("--without-dicts", action="store_true", help='leave dicts out: dicts = "none"')
     parser.add_argument("--tried", default="", help="what the head says was tried on cores (default: nothing)")
     parser.add_argument("--cc", default="cc", help="the C compiler, or '' to ask no headers (default: cc)")
     parser.add_argument("--gdb", default="gdb", help="the debugger, or '' to ask no debug information (default: gdb)")
     parser.add_argument("--version", action="version", version=version_line(), help="the project's version, and its commit")
-    words = parser.parse_args()
+    return parser
+
+
+def put(text: str, output: Optional[str]) -> int:
+    """Writes a layout file, or prints it where no file is named, and returns 0."""
+    if output:
+        Path(output).write_text(text, encoding="utf-8")
+    else:
+        print(text, end="")
+    return 0
+
+
+def from_core(words: argparse.Namespace) -> int:
+    """Writes the layout of a core, and returns the status."""
+    try:
+        options = Options(signal=False, root=words.root, layouts=words.layouts, salvage=words.salvage)
+        return put(layout_of_core(words.from_core, options), words.output)
+    except Fault as fault:
+        say(f"{words.from_core}: {fault}", fault.then, "derive_layout")
+        return fault.status
+
+
+def main() -> int:
+    """The command."""
+    words = parser_of().parse_args()
+    if words.from_core:
+        return from_core(words)
     try:
         how = How(words.cc, words.gdb, not words.without_dicts, words.tried)
         derived = derive(build_of(words.python), how)
@@ -335,11 +370,7 @@ def main() -> int:
         for line in str(error).splitlines():
             print(f"derive_layout: {words.python}: {line}", file=sys.stderr)
         return 1
-    if words.output:
-        Path(words.output).write_text(derived.text, encoding="utf-8")
-    else:
-        print(derived.text, end="")
-    return 0
+    return put(derived.text, words.output)
 
 
 if __name__ == "__main__":

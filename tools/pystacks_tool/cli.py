@@ -65,6 +65,7 @@ def add_taken(parser: argparse.ArgumentParser) -> None:
     parser.add_argument("--keep", metavar="FILE", default="", help="keep the core that was prepared in this new file")
     parser.add_argument("--memory", metavar="MB", type=megabytes, default=512, help="how much of a core may be read (default: 512); of a longer one a part is")
     parser.add_argument("--layouts", metavar="FILE", help="the layout file (default: the core's machine's in layouts/)")
+    parser.add_argument("--any-layout", action="store_true", help="show stacks by a layout that the dead process itself says is wrong")
     parser.add_argument("--records", metavar="FILE", help="the file of records, for pysalvage (default: the core's machine's in layouts/, where it is there)")
     parser.add_argument("--program", metavar="FILE", help="the program pystacks (default: the one that was built or installed)")
     parser.add_argument("--salvage", metavar="FILE", help="the program pysalvage (default: the one beside it)")
@@ -120,7 +121,7 @@ def options_of(words: argparse.Namespace) -> Options:
     return Options(
         cores=tuple(words.core), locals=words.locals, signal=not words.no_signal, registers=words.registers, shows_all=words.all, shows_stacks=words.stacks, frames=words.frames, source=words.source, json=words.json,
         collapsed=words.collapsed, html=words.html, group=words.group, plain=words.plain, root=words.root, maps=words.maps,
-        keep=words.keep, memory=words.memory, layouts=words.layouts, records=words.records, program=words.program, salvage=words.salvage,
+        keep=words.keep, memory=words.memory, any_layout=words.any_layout, layouts=words.layouts, records=words.records, program=words.program, salvage=words.salvage,
         version=words.version, by=words.by or ("exact" if words.plain else "crash"), keys=words.keys, key_line=words.key_line,
         lines=tuple(words.lines), timeout=words.timeout, jobs=words.jobs, host=words.host)
 

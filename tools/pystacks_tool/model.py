@@ -101,6 +101,32 @@ class Registers:
 
 
 @dataclass(frozen=True)
+class Number:
+    """A number of a layout that the dead process tells itself."""
+
+    key: str
+    """As in frame.locals."""
+    layout: int
+    process: int
+
+
+@dataclass(frozen=True)
+class LayoutTold:
+    """What the dead process told of the layout by which it was read."""
+
+    verdict: str
+    told: Tuple[Number, ...] = ()
+    differ: Tuple[Number, ...] = ()
+    """Those of them that differ."""
+    not_told: Tuple[str, ...] = ()
+    """The keys that nothing tells."""
+    build: str = ""
+    """Which other build it is of, if it is of one that was recognised."""
+    known: Optional[Tuple[int, int]] = None
+    """How many of the answers that are known are right, and how many there are."""
+
+
+@dataclass(frozen=True)
 class Report:
     """What is left of a process."""
 
@@ -119,6 +145,8 @@ class Report:
     """How the signal came about, where that is told."""
     registers: Tuple[Registers, ...] = ()
     """Those of each thread, where they are asked for."""
+    layout: Tuple[str, ...] = ()
+    """What is said of the layout: nothing where the process agrees with it."""
 
     @property
     def threads(self) -> List[Thread]:

@@ -63,6 +63,8 @@ class Options:
     """How many MB of a core, and of a file that the process had mapped, may be read."""
     whole: bool = False
     """Whether a core is handed over whole, however long it is."""
+    any_layout: bool = False
+    """Whether stacks are shown by a layout with which the dead process disagrees."""
     layouts: Optional[str] = None
     records: Optional[str] = None
     program: Optional[str] = None

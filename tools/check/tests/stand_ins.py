@@ -10,6 +10,9 @@ from typing import Any, Dict, List, Optional, Sequence
 SCRIPT = """#!{python} -IS
 import sys
 words = sys.argv[1:]
+if words == ["--help"]:
+    print({help_text!r})
+    sys.exit(0)
 name = "json" if "-j" in words else "triage" if words[:1] == ["triage"] else "text"
 try:
     open({folder!r} + "/words", "w").write(chr(10).join(words))
@@ -21,20 +24,20 @@ sys.stdout.flush()
 sys.stderr.buffer.write({said!r})
 sys.exit({status})
 """
-"""A program that writes the file `json`, `triage` or `text`, by its words, which it notes in the file `words`."""
+"""A program that writes its help, or the file `json`, `triage` or `text`, by its words, which it notes in the file `words`."""
 
 Tree = Dict[str, Any]
 
 WHOLE = {"kind": "whole"}
 
 
-def program(path: Path, json_text: str = "", text: str = "", triage: str = "", status: int = 0, said: bytes = b"") -> Path:
-    """Writes a program that writes these."""
+def program(path: Path, json_text: str = "", text: str = "", triage: str = "", status: int = 0, said: bytes = b"", help_text: str = "") -> Path:
+    """Writes a program that writes these, and by `--help` that text."""
     folder = path.with_name(f"{path.name}.said")
     folder.mkdir(exist_ok=True)
     for name, data in (("json", json_text), ("text", text), ("triage", triage)):
         (folder / name).write_text(data, encoding="utf-8", errors="surrogatepass")
-    path.write_text(SCRIPT.format(python=sys.executable, folder=str(folder), status=status, said=said), encoding="utf-8")
+    path.write_text(SCRIPT.format(python=sys.executable, folder=str(folder), status=status, said=said, help_text=help_text), encoding="utf-8")
     path.chmod(0o700)
     return path
 
@@ -73,14 +76,26 @@ def interpreter(threads: Sequence[Tree], address: int = 0x10000, searched: bool 
 
 def salvage(
     *interpreters: Tree, signal: Optional[int] = 11, arguments: Optional[str] = "python3 a.py", more: bool = False,
-    info: Optional[Tree] = None, registers: Optional[List[Tree]] = None,
+    info: Optional[Tree] = None, registers: Optional[List[Tree]] = None, layout_check: Optional[Tree] = None,
 ) -> Tree:
     """All of a core."""
     process = None if arguments is None else {"arguments": arguments, "pid": 4711}
     return {
-        "interpreters": list(interpreters), "missing": None, "more": more, "process": process, "registers": registers, "signal": signal,
+        "interpreters": list(interpreters), "layout_check": layout_check, "missing": None, "more": more, "process": process, "registers": registers, "signal": signal,
         "signal_info": info, "version": "3.11.7",
     }
+
+
+def number(key: str, layout: int, process: Optional[int] = None) -> Tree:
+    """A number of a layout that the process tells, which is the layout's unless it is said."""
+    return {"key": key, "layout": layout, "process": layout if process is None else process}
+
+
+def layout_check(verdict: str, told: Sequence[Tree] = (), not_told: Sequence[str] = (), build: Optional[str] = None,
+                 known: Optional[Tree] = None) -> Tree:
+    """What a process tells of the layout."""
+    differ = [it for it in told if it["layout"] != it["process"]]
+    return {"build": build, "differ": differ, "known": known, "not_told": list(not_told), "told": list(told), "verdict": verdict}
 
 
 # ---- what `pystacks dump` writes

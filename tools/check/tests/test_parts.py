@@ -16,9 +16,9 @@ from typing import Dict, List, Optional, Sequence, Tuple
 
 from rooms import CHECK  # (first: it makes the other rooms known)
 
-from pystacks_tool.ask.parts import RUNS, ask_over
+from pystacks_tool.ask.parts import RUNS, ask_over, say_left_out
 from pystacks_tool.cores.opened import OpenedCore
-from pystacks_tool.cores.parts import BLOCK, Part, alone, joined, sizes
+from pystacks_tool.cores.parts import BLOCK, FIRST, Part, alone, joined, sizes
 from pystacks_tool.cores.headers import Header
 from pystacks_tool.cores.maps import Use, Wanted
 from pystacks_tool.cores.prepare import Prepared, Wishes, prepared
@@ -217,6 +217,14 @@ class Parts(Case):
         with self.assertRaisesRegex(Fault, "the core became shorter while it was read"):
             opened.give([HEAP >> 16], 1)
 
+    def test_half_of_what_may_be_read_is_for_what_is_missed(self) -> None:
+        segments = [Segment(HEAP + number * MIB, random_bytes(MIB // 4, number), 6) for number in range(1, 17)]
+        part = self.part(core_file(segments), 2 * MIB, FIRST)
+        self.assertLessEqual(part.spent, MIB + BLOCK)
+        self.assertGreaterEqual(part.spent, MIB)
+        self.assertFalse(part.is_whole)
+        self.assertTrue(part.grow([(HEAP + 16 * MIB) >> 16], 1))
+
     def test_sizes(self) -> None:
         self.assertEqual([sizes(run)[0] for run in (1, 2, 7)], [MIB, 2 * MIB, 64 * MIB])
         self.assertEqual(sizes(2), [2 * MIB, MIB, BLOCK])
@@ -271,6 +279,24 @@ class Runs(Case):
         self.assertEqual(len(each), RUNS)
         self.assertEqual((status, met), (0, RUNS - 1))
         self.assertIn("1 range lies in parts", said)
+
+
+    def test_what_is_said(self) -> None:
+        heap, within, without = random_bytes(4 * MIB), (HEAP + 3 * MIB) >> 16, 0x5
+        part = self.part(core_file([Segment(HEAP, heap, 6)]), 3 * MIB)
+        for is_all, blocks, above, line in (
+            (False, [], 0, ""), (False, [without], 0, ""), (False, [within, without], 0, "1 range lies"), (False, [within, within + 1], 0, "2 ranges lie"),
+            (False, [without], 1, "1 range may lie"), (False, [within], 2, "3 ranges may lie"), (True, [within, without], 7, ""),
+        ):
+            if is_all:
+                data = core_file([Segment(HEAP, heap, 6)])
+                part = self.part(data, len(data) - 1)
+                self.assertTrue(part.grow([within], 9) and part.is_whole)
+            said = io.StringIO()
+            with redirect_stderr(said):
+                say_left_out(OpenedCore("core", part.file, "layouts", [], part), blocks, above)
+            front = f"dump_core: {line} in parts that were left out for memory\ndump_core: next: --memory MB lets more be read\n"
+            self.assertEqual(said.getvalue(), front if line else "")
 
 
 class Files(Case):

@@ -14,6 +14,7 @@ NEXT = {
     "file too long": "cores of at most 64 GiB are read, without their zero pages",
     "out of memory": "read it where there is more memory, or see `ulimit -v`",
     "layouts: ": "docs/LAYOUTS.md says what a layout file has",
+    "layout: ": "`pystacks-layout --from-core CORE` writes a layout by what the process says; --any-layout shows the stacks all the same",
     "records: ": "docs/LAYOUTS.md says what a file of records has; without --records the tool hands over its own",
 }
 
@@ -34,6 +35,6 @@ def next_by_core(line: str, is_cut: bool, other: str) -> str:
 def next_of(said: str, is_cut: bool = False, other: str = "") -> str:
     """What to do behind the line of a program; nothing where the line says it, or the tool's own line before it."""
     name, _, line = said.partition(": ")
-    if name not in ("pystacks", "pysalvage"):
+    if name not in ("pystacks", "pysalvage", "dump_core"):
         return ""
     return next_by_core(line, is_cut, other) or next((then for front, then in NEXT.items() if line.startswith(front)), "")

@@ -5,7 +5,7 @@ A run over a part is a run over a memory, whole: what is answered last is shown,
 
 import json
 from pathlib import Path
-from typing import List, Tuple
+from typing import List, Sequence, Tuple
 
 from pystacks_tool.ask.programs import ask, salvage_command
 from pystacks_tool.ask.run import Answer
@@ -27,11 +27,15 @@ def missed_in(answer: Answer) -> Tuple[List[int], int]:
         return [], 0
 
 
-def say_left_out(count: int) -> None:
-    """Says how much the part lacks that the core has."""
-    if count:
-        ranges = "1 range lies" if count == 1 else f"{count} ranges lie"
-        say(f"{ranges} in parts that were left out for memory", MORE)
+def say_left_out(core: OpenedCore, blocks: Sequence[int], above: int) -> None:
+    """Says how much the part lacks that the core has: how many of the blocks that were missed. Of a refused read for which there was no
+    room among these it isn't known whether the core has it, where it has more than the part."""
+    assert core.part is not None
+    left, unknown = core.part.left_out(blocks), 0 if core.part.is_whole else above
+    if left or unknown:
+        ranges = "1 range" if left + unknown == 1 else f"{left + unknown} ranges"
+        lie = "may lie" if unknown else "lies" if left == 1 else "lie"
+        say(f"{ranges} {lie} in parts that were left out for memory", MORE)
 
 
 def ask_over(options: Options, core: OpenedCore, program: Path) -> Answer:
@@ -46,6 +50,5 @@ def ask_over(options: Options, core: OpenedCore, program: Path) -> Answer:
         core.part.runs += 1
         answer = ask(core, salvage_command(options, program, core))
         blocks, above = missed_in(answer)
-    left = core.part.left_out(blocks)
-    say_left_out(left + above if left else 0)
+    say_left_out(core, blocks, above)
     return answer

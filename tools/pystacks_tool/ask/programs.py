@@ -4,7 +4,8 @@ import os
 from pathlib import Path
 from typing import List, Sequence
 
-from pystacks_tool.ask.run import Answer, answer_of
+from pystacks_tool.ask.layout import FLAG
+from pystacks_tool.ask.run import Answer, answer_of, knows
 from pystacks_tool.cores.opened import OpenedCore, check_text
 from pystacks_tool.faults import NO_PROGRAM, Fault, shown
 from pystacks_tool.options import Options
@@ -34,8 +35,9 @@ def dump_command(options: Options, core: OpenedCore, *more: str) -> List[bytes]:
 
 def salvage_command(options: Options, program: Path, core: OpenedCore) -> List[bytes]:
     """The words of `pysalvage`, which is asked for JSON by the layouts and the records of the core's machine, for the sections that are
-    shown, and over a part of a core for what it missed."""
+    shown, for what the process says of the layout, and over a part of a core for what it missed."""
     sections = ["--signal"] * options.signal + ["--registers"] * options.registers + ["--missing"] * (core.part is not None)
+    sections += [FLAG] * knows(program, FLAG)
     records = [f"--records={core.records}"] if core.records else []
     ends = [f"--frames={options.frames}"] if options.frames is not None else []
     asked = ["-j", *ends, *["-l"] * options.locals, *sections, "--", core.word]

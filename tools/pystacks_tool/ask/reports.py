@@ -11,6 +11,7 @@ from pathlib import Path
 from typing import Optional
 
 from pystacks_tool.ask.dump import Tree, Unexpected, report_by_dump, tree_of
+from pystacks_tool.ask.layout import DIFFERS, layout_in, refusal
 from pystacks_tool.ask.parts import ask_over
 from pystacks_tool.ask.programs import ask, dump_command
 from pystacks_tool.ask.run import Answer
@@ -53,6 +54,9 @@ def ask_salvage(options: Options, core: OpenedCore, program: Path) -> Outcome:
     answer = ask_over(options, core, program)
     if answer.status != 0:
         return Outcome(answer)
+    told = layout_in(decoded(answer.out))
+    if told is not None and told.verdict == DIFFERS and not options.any_layout:
+        return Outcome(refusal(told))
     tree, report = report_by_salvage(decoded(answer.out), core.name, ask_for_names_and_values(options, core))
     if core.part is not None:
         # (that is between the program and the tool)

@@ -9,6 +9,7 @@ import signal
 import subprocess
 import tempfile
 from dataclasses import dataclass
+from functools import lru_cache
 from pathlib import Path
 from typing import IO, List, Sequence
 
@@ -77,14 +78,24 @@ def run_over(command: List[bytes], fd: int, name: bytes) -> int:
     return end_as(status)
 
 
-def tells_missed(program: Path) -> bool:
-    """Whether a program tells what it missed. (An older one that is named doesn't.)"""
+@lru_cache(maxsize=4)
+def help_of(program: str) -> bytes:
+    """The help of a program."""
     try:
-        words = [os.fspath(program), "--help"]
-        done = subprocess.run(words, stdout=subprocess.PIPE, stderr=subprocess.DEVNULL, stdin=subprocess.DEVNULL, check=False)
+        done = subprocess.run([program, "--help"], stdout=subprocess.PIPE, stderr=subprocess.DEVNULL, stdin=subprocess.DEVNULL, check=False)
     except OSError:
-        return False
-    return b"--missing" in done.stdout
+        return b""
+    return done.stdout
+
+
+def knows(program: Path, flag: str) -> bool:
+    """Whether a program has a flag. (An older one that is named may not.)"""
+    return flag.encode("ascii") in help_of(os.fspath(program))
+
+
+def tells_missed(program: Path) -> bool:
+    """Whether a program tells what it missed."""
+    return knows(program, "--missing")
 
 
 TOLD = (0, 1)

@@ -8,6 +8,7 @@ from dataclasses import dataclass, field
 from typing import Callable, Dict, Iterable, Optional, Tuple
 
 from pystacks_tool.ask.dump import Tree, Unexpected, local_of
+from pystacks_tool.ask.layout import KEY, layout_lines, layout_told
 from pystacks_tool.model import Frame, Interpreter, Registers, Report, Thread
 
 Words = Dict[str, Callable[[], str]]
@@ -139,6 +140,7 @@ def report_by_salvage(text: str, core: str, added: NamesAndValues) -> Tuple[Tree
         told: Optional[Tuple[int, str]] = None if process is None else (process["pid"], process["arguments"])
         registers = tuple(registers_of(it) for it in tree["registers"] or ())
         signal = signal_told(tree["signal_info"])
-        return tree, Report(interpreters, tree["version"], tree["signal"], told, tree["more"], True, core, signal, registers)
+        layout = tuple(layout_lines(layout_told(tree.get(KEY))))
+        return tree, Report(interpreters, tree["version"], tree["signal"], told, tree["more"], True, core, signal, registers, layout)
     except (ValueError, KeyError, TypeError) as error:
         raise Unexpected(f"its JSON: {error!r}") from None

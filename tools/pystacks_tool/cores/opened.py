@@ -154,7 +154,8 @@ def open_core(options: Options, name: str) -> OpenedCore:
     root = os.fsencode(options.root)
     if new is None or new.part is None:
         done = new.said if new else ()
-        return OpenedCore(name, new.file if new else None, layouts, image_words(wanted, root, machine), records=records, done=done)
+        return OpenedCore(name, new.file if new else None, layouts, image_words(wanted, root, machine),
+                          machine=machine, records=records, done=done)
     images = image_words([it for it in wanted if it.use is not Use.MEMORY], root, machine)
     rest = [it for it in wanted if it.use is Use.MEMORY]
     entries = entries_of(new.file, headers_of(new.file) or [])

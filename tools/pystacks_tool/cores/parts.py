@@ -199,13 +199,14 @@ class Part:
 
     def begin(self, first: int = FIRST) -> None:
         """Gives what is given at first: what can't be cut; the front of each mapping of a file; then, smallest first, so many bytes
-        of the writable mappings of files, of the stacks, and of the others."""
+        of the writable mappings of files, of the stacks, and of the others, and half of what may be read at most: the rest is for
+        what is missed."""
         for it in self.segments:
             if it.header.has_bytes and not it.is_cut:
                 self.put_whole(it)
             elif it.is_cut and it.header.start in self.named:
                 self.put(it, 0, min(HEAD, it.header.size))
-        limit = max(self.spent, min(first, self.budget))
+        limit = max(self.spent, min(first, self.budget // 2))
         for it in sorted(self.bases(), key=lambda it: it.header.size):
             self.give(it, 0, it.header.size, limit)
         for pointer in self.pointers():
@@ -282,6 +283,11 @@ class Part:
     def left_out(self, blocks: Iterable[int]) -> int:
         """How many of some missed blocks the core has and the part hasn't."""
         return sum(1 for block in blocks if any(True for _ in self.missed(block)))
+
+    @property
+    def is_whole(self) -> bool:
+        """Whether the part has all bytes that the core has."""
+        return not any(it.lacks(0, it.header.size) for it in self.segments if it.is_cut)
 
     # ---- its file
 

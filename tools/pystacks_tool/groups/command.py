@@ -1,7 +1,7 @@
 """Cores grouped by `pystacks triage`, with the stacks of each group's first core."""
 
 import os
-from typing import Dict, Iterable, List
+from typing import Dict, Iterable, List, Optional
 
 from pystacks_tool.ask.programs import command_of
 from pystacks_tool.ask.reports import report_on
@@ -14,6 +14,7 @@ from pystacks_tool.groups.jobs import lines_of
 from pystacks_tool.groups.shown import json_of, title_of
 from pystacks_tool.groups.shown import lines_of as text_lines
 from pystacks_tool.groups.triage import Apart, Core, Group, group_answer, groups_of, read_core_of_group, renamed_text, shared_files, shared_machine
+from pystacks_tool.model import Report
 from pystacks_tool.options import Options
 from pystacks_tool.output import one_line, page_written, refused, style_of, written
 from pystacks_tool.places import PROGRAM, layouts_of, program_at, records_of
@@ -76,15 +77,23 @@ def page_of_gathered(options: Options, gathered_groups: List[Gathered]) -> str:
         names = [os.fsencode(name) for name in it.cores]
         groups.append(Group(title_of(number, it), names, it.has_stacks))
         if it.has_stacks:
-            reports[names[0]] = report_on(options, open_core(options, it.cores[0])).report
+            reports[names[0]] = report_of(options, open_core(options, it.cores[0]))
     return group_page(groups, reports, style_of(options))
+
+
+def report_of(options: Options, core: OpenedCore) -> Optional[Report]:
+    """The report on a group's first core; where there is none the line says why."""
+    found = report_on(options, core)
+    if found.report is None:
+        write_all(2, one_line(os.fsencode(core.name) + b": " + found.answer.said))
+    return found.report
 
 
 def show_groups(options: Options, groups: List[Group], by_name: Dict[bytes, OpenedCore]) -> int:
     """Shows groups as the words ask for it, and returns the status."""
     if options.html:
         shown_groups = [it for it in groups if it.is_group and it.first in by_name]
-        reports = {it.first: report_on(options, by_name[it.first]).report for it in shown_groups}
+        reports = {it.first: report_of(options, by_name[it.first]) for it in shown_groups}
         return page_written(options.html, group_page(groups, reports, style_of(options)))
     return written(group_lines(options, groups, by_name))
 
@@ -95,6 +104,6 @@ def group_lines(options: Options, groups: List[Group], by_name: Dict[bytes, Open
     for it in groups:
         yield from it.lines
         if it.is_group and it.first in by_name:
-            report = report_on(options, by_name[it.first]).report
+            report = report_of(options, by_name[it.first])
             for line in stacks_lines(report, style) if report else ():
                 yield f"        {line}" if line else ""

@@ -30,7 +30,7 @@ Environment = Dict[str, str]
 def words_of(options: Options) -> List[str]:
     """The words by which a process makes a core's line."""
     own = [f"{word}={getattr(options, name)}" for name, word in WORDS if getattr(options, name)]
-    return ["--key-line", f"--memory={options.memory}", *own]
+    return ["--key-line", f"--memory={options.memory}", *["--any-layout"] * options.any_layout, *own]
 
 
 def own_line(options: Options) -> int:

@@ -84,7 +84,7 @@ def cause_of(found: Outcome) -> str:
     """Why there is no report, by the program's line."""
     said = decoded(found.answer.said).split("\n")[0]
     name, colon, line = said.partition(": ")
-    return line if colon and name in ("pystacks", "pysalvage") else said or f"the program ended with status {found.answer.status}"
+    return line if colon and name in ("pystacks", "pysalvage", "dump_core") else said or f"the program ended with status {found.answer.status}"
 
 
 def line_of(options: Options, name: str) -> Line:

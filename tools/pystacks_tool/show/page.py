@@ -208,7 +208,7 @@ def head_part(report: Report) -> str:
         rows.append(("Signal", f"<b class=\"bad\">{signal_of(report)}</b>{how}"))
     if report.process is not None:
         rows.append(("Process", f"{report.process[0]}: {text(report.process[1])}"))
-    rows.append(("Python", text(report.version)))
+    rows.append(("Python", "<br>".join([text(report.version), *(f"<b class=\"bad\">{text(it)}</b>" for it in report.layout)])))
     crashed = [f"{text(it.label)} {name_of(it)} in {text(newest_of(it))}" for it in report.threads if it.is_crashed]
     told = [", ".join(crashed), text(crash_line(report))]
     if any(told):

@@ -215,7 +215,7 @@ def fault_lines(it: Interpreter, style: Style) -> List[str]:
 
 
 def head_lines(report: Report, style: Style, _: int) -> Iterator[str]:
-    """The signal, the process and the version."""
+    """The signal, the process, the version, and what is said of its layout."""
     if report.signal is not None:
         name = signal_name(report.signal)
         told = f" ({name})" if name else ""
@@ -225,6 +225,7 @@ def head_lines(report: Report, style: Style, _: int) -> Iterator[str]:
     if report.process is not None:
         yield f"Process {report.process[0]}: {in_line(report.process[1])}"
     yield f"Python v{in_line(report.version)}"
+    yield from (style.paint(in_line(it), RED) for it in report.layout)
     if crash_line(report):
         yield style.paint(crash_line(report), RED)
     yield ""
