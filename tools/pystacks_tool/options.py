@@ -70,3 +70,8 @@ class Options:
     program: Optional[str] = None
     salvage: Optional[str] = None
     version: bool = False
+
+    @property
+    def groups_exactly(self) -> bool:
+        """Whether cores are grouped by `pystacks triage`, which is handed them whole."""
+        return self.group and self.by == "exact"

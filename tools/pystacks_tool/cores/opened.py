@@ -112,7 +112,7 @@ def wishes_of(options: Options) -> Wishes:
     """How a core is to be prepared. Of a long one a part is made where `pysalvage` is asked, which tells what it missed; else it
     is cut at its zero pages where it is longer than half of the free memory."""
     maps, finder = maps_in(options.maps), finder_below(os.fsencode(options.root))
-    program = None if options.plain or options.group or options.whole else salvage_program(options.salvage, options.program)
+    program = None if options.plain or options.groups_exactly or options.whole else salvage_program(options.salvage, options.program)
     if program is None:
         free = free_memory()
         return Wishes(options.keep, None if free is None else free // 2, maps=maps, finder=finder)
@@ -137,7 +137,7 @@ def prepare_core(options: Options, name: str, core: Optional[IO[bytes]]) -> Opti
     elif options.keep and not new:
         say(f"the core needs no preparing, and {options.keep} isn't written")
     read = new.file if new else core
-    if not options.plain and not options.group:
+    if not options.plain and not options.groups_exactly:
         check_kind(read, os.fsencode(name))
     return new
 
