@@ -10,6 +10,7 @@ is the one before that to which the callee returns: so it lies in the function t
 """
 
 import argparse
+import re
 import subprocess
 import sys
 from pathlib import Path
@@ -18,7 +19,9 @@ from typing import List, Optional
 # (what only looks at a core leaves nothing behind)
 sys.dont_write_bytecode = True
 
+from pystacks_tool.cores.headers import headers_of
 from pystacks_tool.cores.maps import EXECUTABLE, maps_of
+from pystacks_tool.cores.tables import entries_of
 from pystacks_tool.places import version_line
 
 STACK = """
@@ -29,7 +32,7 @@ def addresses(wanted):
         if wanted not in (thread.ptid[1], pthread(thread)):
             continue
         frame, called = gdb.newest_frame(), False
-        while frame is not None:
+        while frame is not None and (frame.pc() or not called):
             if frame.type() != gdb.INLINE_FRAME:
                 print("address 0x%x" % (frame.pc() - (1 if called else 0)))
                 called = frame.type() != gdb.SIGTRAMP_FRAME
@@ -42,7 +45,11 @@ def pthread(thread):
         return None
 addresses(THREAD)
 """
-"""What gdb runs. (A signal's frame called nothing: the frame behind it stands where it was interrupted.)"""
+"""What gdb runs. (A signal's frame called nothing: the frame behind it stands where it was interrupted. Where the address to which a frame
+returns is 0 its stack ends.)"""
+
+ADDRESS = re.compile("address (0x[0-9a-f]{1,16})")
+"""A line of it."""
 
 
 class Fault(Exception):
@@ -50,9 +57,12 @@ class Fault(Exception):
 
 
 def program_of(core: str, root: str) -> str:
-    """The first executable file that the core had mapped, below a folder."""
+    """The program's file, below a folder: the first of the core's file table by addresses, below which the kernel maps no other one; else
+    the first executable file that the core had mapped. (gdb's `gcore` leaves the program's own code out of the segments.)"""
     with open(core, "rb") as file:
-        names = [it.name for it in maps_of(file) if it.segment.flags & EXECUTABLE and it.name.startswith(b"/")]
+        entries = sorted(entries_of(file, headers_of(file) or []), key=lambda it: it.start)
+        maps = [it.name for it in maps_of(file) if it.segment.flags & EXECUTABLE]
+    names = [it for it in [*(it.name for it in entries), *maps] if it.startswith(b"/")]
     if not names:
         raise Fault(f"{core} has no named executable map: name the program by --program")
     return str(Path(root) / names[0].decode("utf-8", "surrogateescape").lstrip("/"))
@@ -65,10 +75,14 @@ def addresses_of(core: str, thread: int, program: str, root: str) -> List[str]:
         done = subprocess.run(command, stdout=subprocess.PIPE, stderr=subprocess.DEVNULL, stdin=subprocess.DEVNULL, check=False, text=True)
     except OSError as error:
         raise Fault(f"cannot run gdb: {error.strerror}") from error
-    found = [line.split()[1] for line in done.stdout.split("\n") if line.startswith("address 0x")]
+    lines = [line for line in done.stdout.split("\n") if line.startswith("address ")]
+    found = [ADDRESS.fullmatch(line) for line in lines]
     if not found:
         raise Fault(f"gdb finds no thread {thread} in {core}")
-    return found
+    bad = [line for line, it in zip(lines, found) if it is None]
+    if bad:
+        raise Fault(f"gdb unwinds thread {thread} of {core} to what is no address, {bad[0][8:]}: is {program} the program?")
+    return [it.group(1) for it in found if it]
 
 
 def main(words: Optional[List[str]] = None) -> int:
