@@ -8,7 +8,7 @@ from typing import IO, Iterable, List, Optional
 
 from pystacks_tool.ask.run import tells_missed
 from pystacks_tool.cores.headers import headers_of
-from pystacks_tool.cores.images import finder_below, image_words, maps_in, opened, read_core
+from pystacks_tool.cores.images import finder_below, image_words, maps_in, opened, read_core, size_of
 from pystacks_tool.cores.kinds import check_kind
 from pystacks_tool.cores.maps import Use, Wanted, is_text
 from pystacks_tool.cores.parts import BLOCK, Part, Shrunk
@@ -46,6 +46,8 @@ class OpenedCore:
     machine: Optional[int] = None
     records: str = ""
     """The file of records, where there is one."""
+    read: int = 0
+    """How many bytes the files have that were handed over once they were missed."""
 
     @property
     def word(self) -> str:
@@ -76,7 +78,8 @@ class OpenedCore:
         names = {it.name for it in self.entries for start, end in spans if it.start < end and start < it.end}
         wanted = [it for it in self.rest if it.name in names]
         self.rest = [it for it in self.rest if it.name not in names]
-        words = image_words(wanted, self.root, self.machine, self.part.budget)
+        words = image_words(wanted, self.root, self.machine, self.part.budget - self.read)
+        self.read += sum(map(size_of, words))
         self.images += words
         return bool(words)
 
