@@ -60,7 +60,7 @@ class Options:
     keep: str = ""
     """The file that keeps the core that was prepared, if one is named."""
     memory: int = 512
-    """How many MB of a core, and of a file that the process had mapped, may be read."""
+    """How many MB of a core may be read, and of the files that the process had mapped."""
     whole: bool = False
     """Whether a core is handed over whole, however long it is."""
     any_layout: bool = False

@@ -322,6 +322,20 @@ class Files(Case):
                                           "dump_core: next: --memory MB lets more be read\n")
         self.assertEqual([it.name for it in core.rest], [os.fsencode(self.folder / "1.so")])
 
+    def test_together_they_have_as_much_as_may_be_read(self) -> None:
+        part = self.part(core_file([Segment(HEAP, random_bytes(2 * MIB), 6)]), MIB)
+        paths = [self.folder / f"{number}.so" for number in range(4)]
+        for path, size in zip(paths, (MIB // 4, MIB // 2, MIB // 2, MIB // 4)):
+            path.write_bytes(b"\x7fELF\2\1".ljust(size, b"\0"))
+        entries = [Entry(0x10_0000 * at, 0x10_0000 * at + PAGE, 0, os.fsencode(path)) for at, path in enumerate(paths, 1)]
+        core = OpenedCore("core", part.file, "layouts", [], part, [Wanted(it.name, frozenset(), Use.MEMORY) for it in entries], entries, machine=0)
+        said = io.StringIO()
+        with redirect_stderr(said):
+            self.assertTrue(core.give([0x10], 1))
+            self.assertTrue(core.give([0x20, 0x30, 0x40], 2))
+        self.assertEqual(core.images, [os.fsencode(f"{paths[at]}={paths[at]}") for at in (0, 1, 3)])
+        self.assertEqual(said.getvalue().splitlines()[0], f"dump_core: {paths[2]} has {MIB // 2} bytes, and is left out for memory")
+
 
 if __name__ == "__main__":
     unittest.main(verbosity=0)

@@ -94,9 +94,14 @@ def image_word(wanted: Wanted, root: bytes, machine: Optional[int], budget: Opti
     return word
 
 
+def size_of(word: bytes) -> int:
+    """How many bytes the file of such a word has."""
+    return os.path.getsize(word.partition(b"=")[2])
+
+
 def image_words(files: List[Wanted], root: bytes, machine: Optional[int], budget: Optional[int] = None) -> List[bytes]:
     """The words for the images that are there and of the core's machine, in the order of the maps, after the line that
-    names those that the program looks into and that are not, and after one for each that is longer than may be read."""
+    names those that the program looks into and that are not, and after one for each that is longer than what may still be read."""
     words, left = [], MOST
     missing: Dict[Use, str] = {}
     then = ""
@@ -106,6 +111,7 @@ def image_words(files: List[Wanted], root: bytes, machine: Optional[int], budget
             continue
         try:
             words.append(image_word(wanted, root, machine, budget))
+            budget = None if budget is None else budget - size_of(words[-1])
         except TooLong as reason:
             say(str(reason), MORE)
         except Missing as reason:

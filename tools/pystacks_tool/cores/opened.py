@@ -8,7 +8,7 @@ from typing import IO, Iterable, List, Optional, Tuple
 
 from pystacks_tool.ask.run import tells_missed
 from pystacks_tool.cores.headers import headers_of
-from pystacks_tool.cores.images import finder_below, image_words, maps_in, opened, read_core
+from pystacks_tool.cores.images import finder_below, image_words, maps_in, opened, read_core, size_of
 from pystacks_tool.cores.kinds import check_kind
 from pystacks_tool.cores.known import Known, known_at
 from pystacks_tool.cores.maps import Use, Wanted, is_text
@@ -49,6 +49,8 @@ class OpenedCore:
     """The file of records, where there is one."""
     done: Tuple[str, ...] = ()
     """What was done to prepare it."""
+    read: int = 0
+    """How many bytes the files have that were handed over once they were missed."""
 
     @property
     def known(self) -> Known:
@@ -87,7 +89,8 @@ class OpenedCore:
         names = {it.name for it in self.entries for start, end in spans if it.start < end and start < it.end}
         wanted = [it for it in self.rest if it.name in names]
         self.rest = [it for it in self.rest if it.name not in names]
-        words = image_words(wanted, self.root, self.machine, self.part.budget)
+        words = image_words(wanted, self.root, self.machine, self.part.budget - self.read)
+        self.read += sum(map(size_of, words))
         self.images += words
         return bool(words)
 
