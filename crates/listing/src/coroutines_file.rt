@@ -213,10 +213,10 @@ fn list_chain<W: Write>(
     requires sound { IsSound process.now.layout }
     requires places { IsSoundPlaces places.now }
 {
-    let count = chain.members.len();
-    for (place, at) in chain.members.iter().enumerate() {
-        let is_last = place == count - 1;
-        let state = if is_last {
+    let mut left = chain.members.len();
+    for at in chain.members.iter() {
+        left = left.saturating_sub(1);
+        let state = if left == 0 {
             last_word(chain.end)
         } else {
             "awaiting"
