@@ -1,8 +1,7 @@
 -- Where the parts of coroutines stand by a layout and the records beside it: which group says what. That a group which
 -- isn't described takes what stands on it along, and nothing else, is this project's rule.
-use Rattle.std.specs.Prelude.{⊤, ℕ, ◌+◌, ◌×◌, nat_lt, ◌||◌, Option, Some, None, option_map, if◌then◌else◌}
+use Rattle.std.specs.Prelude.{⊤, ℕ, ◌+◌, nat_lt, ◌||◌, Option, Some, None, if◌then◌else◌}
 use Rattle.py_fields.specs.declared.layout.Layout.{Layout}
-use Rattle.py_records.specs.declared.coroutines.CoroutineRecords.{CoroutineRecords}
 use Rattle.py_records.specs.declared.coroutines.GeneratorFrameRecord.{GeneratorFrameRecord}
 use Rattle.py_records.specs.declared.coroutines.GeneratorInsideRecord.{GeneratorInsideRecord}
 use Rattle.py_records.specs.declared.coroutines.GeneratorRecord.{GeneratorRecord}
@@ -36,6 +35,7 @@ use Rattle.py_coroutines.specs.declared.places.States.{States}
 use Rattle.py_coroutines.specs.declared.places.Wants.{Wants}
 use Rattle.py_coroutines.specs.declared.places.Wants.TheVariants.{Class, Any, Future}
 use Rattle.py_coroutines.specs.Places.{IsSound}
+use Rattle.coroutine_frames.specs.declared.described.StackRead.{StackRead}
 
 -- what stands between a coroutine and what it awaits
 abbrev pub held_of : Wants → Option HeldRecord → Option Held
@@ -106,35 +106,34 @@ covering size place = if nat_lt place size || nat_lt 65534 place then size else 
 abbrev pub depth_stack : StackDepthRecord → States → ApartStack
 depth_stack at states = Depth at.bottom at.depth at.state states
 
-abbrev pub depth_of : ℕ → Option StackDepthRecord → Option StatesRecord → Option AwaitingStateRecord
-    → Option (ApartStack × ℕ)
+abbrev pub depth_of : ℕ → Option StackDepthRecord → Option StatesRecord → Option AwaitingStateRecord → Option StackRead
 depth_of size None states awaiting = None
 depth_of size (Some at) None awaiting = None
 depth_of size (Some at) (Some states) awaiting =
-    Some (depth_stack at (states_of states awaiting), covering size at.state)
+    Some (record { stack = depth_stack at (states_of states awaiting); size = covering size at.state })
 
 -- how a frame object tells its state and its stack, and how many bytes of it are read
 abbrev pub apart_stack_by : ℕ → Option StackPointerRecord → Option StackDepthRecord → Option StatesRecord
-    → Option AwaitingStateRecord → Option (ApartStack × ℕ)
+    → Option AwaitingStateRecord → Option StackRead
 apart_stack_by size None depth states awaiting = depth_of size depth states awaiting
-apart_stack_by size (Some at) depth states awaiting = Some (Pointer at.top, size)
+apart_stack_by size (Some at) depth states awaiting = Some (record { stack = Pointer at.top; size = size })
 
-abbrev pub apart_stack_of : Layout → StackRecords → Option (ApartStack × ℕ)
+abbrev pub apart_stack_of : Layout → StackRecords → Option StackRead
 apart_stack_of l s = apart_stack_by l.frame.size s.stack_pointer s.stack_depth s.states s.awaiting_state
 
-abbrev pub apart_by : Layout → Option GeneratorRecord → Option GeneratorFrameRecord → Option (ApartStack × ℕ)
-    → Option ℕ → Option ApartPlaces
+abbrev pub apart_by : Layout → Option GeneratorRecord → Option GeneratorFrameRecord → Option StackRead → Option ℕ
+    → Option ApartPlaces
 apart_by l None frame stack running = None
 apart_by l (Some generator) None stack running = None
 apart_by l (Some generator) (Some frame) None running = None
-apart_by l (Some generator) (Some frame) (Some stack) running = Some (record {
+apart_by l (Some generator) (Some frame) (Some read) running = Some (record {
   size = generator.size;
   frame = frame.frame;
   running = running;
-  frame_size = stack.1;
+  frame_size = read.size;
   code = l.frame.code;
   last = l.frame.instr;
-  stack = stack.0;
+  stack = read.stack;
 })
 
 -- coroutines whose frame is an object of its own
@@ -142,13 +141,12 @@ abbrev pub apart_of : Layout → Records → Option ApartPlaces
 apart_of l r = apart_by l r.coroutines.generator r.coroutines.generator_frame (apart_stack_of l r.stacks)
     (running_of r.coroutines.generator_running)
 
-abbrev pub inside_by : Layout → Option GeneratorRecord → Option GeneratorInsideRecord → Option StackCountRecord
+-- coroutines that have their frame inside
+abbrev pub inside_with : Layout → GeneratorRecord → GeneratorInsideRecord → Option StackCountRecord
     → Option StatesRecord → Option AwaitingStateRecord → Option InsidePlaces
-inside_by l None inside count states awaiting = None
-inside_by l (Some generator) None count states awaiting = None
-inside_by l (Some generator) (Some inside) None states awaiting = None
-inside_by l (Some generator) (Some inside) (Some count) None awaiting = None
-inside_by l (Some generator) (Some inside) (Some count) (Some states) awaiting = Some (record {
+inside_with l generator inside None states awaiting = None
+inside_with l generator inside (Some count) None awaiting = None
+inside_with l generator inside (Some count) (Some states) awaiting = Some (record {
   size = generator.size;
   frame = inside.frame;
   state = inside.state;
@@ -158,14 +156,23 @@ inside_by l (Some generator) (Some inside) (Some count) (Some states) awaiting =
   stack = l.frame.locals;
 })
 
--- coroutines that have their frame inside
-abbrev pub inside_of : Layout → CoroutineRecords → StackRecords → Option InsidePlaces
-inside_of l c s = inside_by l c.generator c.generator_inside s.stack_count s.states s.awaiting_state
+abbrev pub inside_if : Option InsidePlaces → Option Family
+inside_if None = None
+inside_if (Some places) = Some (Inside places)
+
+abbrev pub apart_if : Option ApartPlaces → Option Family
+apart_if None = None
+apart_if (Some places) = Some (Apart places)
+
+abbrev pub inside_of : Layout → Option GeneratorRecord → GeneratorInsideRecord → StackRecords → Option Family
+inside_of l None inside s = None
+inside_of l (Some generator) inside s =
+    inside_if (inside_with l generator inside s.stack_count s.states s.awaiting_state)
 
 -- how coroutines stand in memory
 abbrev pub family_by : Layout → Records → Option GeneratorInsideRecord → Option Family
-family_by l r None = option_map Apart (apart_of l r)
-family_by l r (Some inside) = option_map Inside (inside_of l r.coroutines r.stacks)
+family_by l r None = apart_if (apart_of l r)
+family_by l r (Some inside) = inside_of l r.coroutines.generator inside r.stacks
 
 abbrev pub family_of : Layout → Records → Option Family
 family_of l r = family_by l r r.coroutines.generator_inside

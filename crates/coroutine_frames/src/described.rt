@@ -1,9 +1,10 @@
 //! Where the parts of coroutines stand, by a layout and the records beside it.
 ghost use Rattle.std.specs.Prelude.{◌≡◌, IfSome, IsNone, Some};
 ghost use Rattle.py_coroutines.specs.Places.{IsSound};
-ghost use Rattle.coroutine_frames.specs.Described.{apart_of, apart_stack_of, awaiting_of, carried_of, class_of};
-ghost use Rattle.coroutine_frames.specs.Described.{code_of, covering, family_of, held_of, holders_of, inside_of};
-ghost use Rattle.coroutine_frames.specs.Described.{HasNoPlaces, running_of, states_of, unchecked_of};
+ghost use Rattle.coroutine_frames.specs.Described.{HasNoPlaces, apart_by, apart_of, apart_stack_of, awaiting_of};
+ghost use Rattle.coroutine_frames.specs.Described.{carried_of, class_of, code_of, covering, depth_of, family_of};
+ghost use Rattle.coroutine_frames.specs.Described.{held_of, holders_of, inside_of, inside_with, running_of};
+ghost use Rattle.coroutine_frames.specs.Described.{states_of, unchecked_of, yield_from_of};
 
 use py_coroutines::{
     ApartPlaces, ApartStack, AwaitTypes, ClassPlaces, CodePlaces, Family, Held, Holders,
@@ -11,9 +12,17 @@ use py_coroutines::{
 };
 use py_fields::Layout;
 use py_records::{
-    AwaitingStateRecord, CarrierRecord, CoroutineRecords, GeneratorRunningRecord, HeldRecord,
-    KlassRecord, Records, StackRecords, StatesRecord,
+    AwaitingStateRecord, CarrierRecord, CodeNamesRecord, GeneratorFrameRecord,
+    GeneratorInsideRecord, GeneratorRecord, GeneratorRunningRecord, HeldRecord, KlassRecord,
+    Records, StackDepthRecord, StackRecords, StatesRecord, YieldFromRecord,
 };
+
+/// How a frame object tells its state and its stack, and how many bytes of it are read.
+#[derive(Clone, Copy)]
+struct StackRead {
+    stack: ApartStack,
+    size: u32,
+}
 
 /// What an object must be that holds another one.
 fn held_of(at: Option<HeldRecord>, wants: Wants) -> Option<Held>
@@ -73,27 +82,42 @@ fn class_of(layout: &Layout, klass: &KlassRecord) -> ClassPlaces
     }
 }
 
-/// The instruction of a frame that awaits: `YIELD_FROM` up to 3.10, `RESUME` from 3.11 on.
+/// The instruction of a frame that awaits, up to 3.10: `YIELD_FROM`.
+fn yield_from_of(
+    layout: &Layout,
+    yield_from: Option<YieldFromRecord>,
+    names: Option<CodeNamesRecord>,
+) -> Option<CodePlaces>
+    ensures { result ≡ yield_from_of layout.now yield_from names }
+{
+    match yield_from {
+        None => None,
+        Some(at) => match names {
+            None => None,
+            Some(names) => Some(CodePlaces {
+                bytecode: names.bytecode,
+                start: layout.bytes.at,
+                first: at.opcode,
+                second: at.opcode,
+                least: 0,
+            }),
+        },
+    }
+}
+
+/// The same in each version; from 3.11 on it is `RESUME`.
 fn code_of(layout: &Layout, records: &Records) -> Option<CodePlaces>
     ensures { result ≡ code_of layout.now records.now }
 {
-    let (stacks, names) = (&records.stacks, records.frames.code_names);
-    match (stacks.resume, stacks.yield_from, names) {
-        (Some(resume), _, _) => Some(CodePlaces {
+    match records.stacks.resume {
+        None => yield_from_of(layout, records.stacks.yield_from, records.frames.code_names),
+        Some(at) => Some(CodePlaces {
             bytecode: 0,
             start: 0,
-            first: resume.first,
-            second: resume.second,
+            first: at.first,
+            second: at.second,
             least: 2,
         }),
-        (None, Some(yield_from), Some(names)) => Some(CodePlaces {
-            bytecode: names.bytecode,
-            start: layout.bytes.at,
-            first: yield_from.opcode,
-            second: yield_from.opcode,
-            least: 0,
-        }),
-        _ => None,
     }
 }
 
@@ -137,25 +161,78 @@ fn covering(size: u32, place: u32) -> u32
     place + 1
 }
 
+/// How a frame object counts the values on its stack, and how many bytes of it are read.
+fn depth_of(
+    size: u32,
+    depth: Option<StackDepthRecord>,
+    states: Option<StatesRecord>,
+    awaiting: Option<AwaitingStateRecord>,
+) -> Option<StackRead>
+    ensures { result ≡ depth_of size depth states awaiting }
+{
+    match depth {
+        None => None,
+        Some(at) => match states {
+            None => None,
+            Some(states) => Some(StackRead {
+                stack: ApartStack::Depth {
+                    bottom: at.bottom,
+                    depth: at.depth,
+                    state: at.state,
+                    states: states_of(&states, awaiting),
+                },
+                size: covering(size, at.state),
+            }),
+        },
+    }
+}
+
 /// How a frame object tells its state and its stack, and how many bytes of it are read.
-fn apart_stack_of(layout: &Layout, stacks: &StackRecords) -> Option<(ApartStack, u32)>
+fn apart_stack_of(layout: &Layout, stacks: &StackRecords) -> Option<StackRead>
     ensures { result ≡ apart_stack_of layout.now stacks.now }
 {
     let size = layout.frame.size;
-    match (stacks.stack_pointer, stacks.stack_depth, stacks.states) {
-        (Some(at), _, _) => Some((ApartStack::Pointer { top: at.top }, size)),
-        (None, Some(at), Some(states)) => {
-            let states = states_of(&states, stacks.awaiting_state);
-            let (bottom, depth, state) = (at.bottom, at.depth, at.state);
-            let stack = ApartStack::Depth {
-                bottom,
-                depth,
-                state,
-                states,
-            };
-            Some((stack, covering(size, state)))
-        }
-        _ => None,
+    match stacks.stack_pointer {
+        None => depth_of(
+            size,
+            stacks.stack_depth,
+            stacks.states,
+            stacks.awaiting_state,
+        ),
+        Some(at) => Some(StackRead {
+            stack: ApartStack::Pointer { top: at.top },
+            size,
+        }),
+    }
+}
+
+/// Coroutines whose frame is an object of its own, by their groups.
+fn apart_by(
+    layout: &Layout,
+    generator: Option<GeneratorRecord>,
+    frame: Option<GeneratorFrameRecord>,
+    stack: Option<StackRead>,
+    running: Option<u32>,
+) -> Option<ApartPlaces>
+    ensures { result ≡ apart_by layout.now generator frame stack running }
+{
+    match generator {
+        None => None,
+        Some(generator) => match frame {
+            None => None,
+            Some(frame) => match stack {
+                None => None,
+                Some(read) => Some(ApartPlaces {
+                    size: generator.size,
+                    frame: frame.frame,
+                    running,
+                    frame_size: read.size,
+                    code: layout.frame.code,
+                    last: layout.frame.instr,
+                    stack: read.stack,
+                }),
+            },
+        },
     }
 }
 
@@ -165,40 +242,52 @@ fn apart_of(layout: &Layout, records: &Records) -> Option<ApartPlaces>
 {
     let it = &records.coroutines;
     let stack = apart_stack_of(layout, &records.stacks);
-    match (it.generator, it.generator_frame, stack) {
-        (Some(generator), Some(frame), Some((stack, frame_size))) => Some(ApartPlaces {
-            size: generator.size,
-            frame: frame.frame,
-            running: running_of(it.generator_running),
-            frame_size,
-            code: layout.frame.code,
-            last: layout.frame.instr,
-            stack,
-        }),
-        _ => None,
+    let running = running_of(it.generator_running);
+    apart_by(layout, it.generator, it.generator_frame, stack, running)
+}
+
+/// Coroutines that have their frame inside, by the groups of their frames.
+fn inside_with(
+    layout: &Layout,
+    generator: GeneratorRecord,
+    inside: GeneratorInsideRecord,
+    stacks: &StackRecords,
+) -> Option<InsidePlaces>
+    ensures { result ≡ inside_with layout.now generator inside stacks.now.stack_count stacks.now.states
+        stacks.now.awaiting_state }
+{
+    match stacks.stack_count {
+        None => None,
+        Some(count) => match stacks.states {
+            None => None,
+            Some(states) => Some(InsidePlaces {
+                size: generator.size,
+                frame: inside.frame,
+                state: inside.state,
+                states: states_of(&states, stacks.awaiting_state),
+                instruction: layout.frame.instr,
+                depth: count.top,
+                stack: layout.frame.locals,
+            }),
+        },
     }
 }
 
-/// Coroutines that have their frame inside.
-fn inside_of(layout: &Layout, it: &CoroutineRecords, stacks: &StackRecords) -> Option<InsidePlaces>
-    ensures { result ≡ inside_of layout.now it.now stacks.now }
+/// How coroutines stand in memory that have their frame inside.
+fn inside_of(
+    layout: &Layout,
+    generator: Option<GeneratorRecord>,
+    inside: GeneratorInsideRecord,
+    stacks: &StackRecords,
+) -> Option<Family>
+    ensures { result ≡ inside_of layout.now generator inside stacks.now }
 {
-    match (
-        it.generator,
-        it.generator_inside,
-        stacks.stack_count,
-        stacks.states,
-    ) {
-        (Some(generator), Some(inside), Some(count), Some(states)) => Some(InsidePlaces {
-            size: generator.size,
-            frame: inside.frame,
-            state: inside.state,
-            states: states_of(&states, stacks.awaiting_state),
-            instruction: layout.frame.instr,
-            depth: count.top,
-            stack: layout.frame.locals,
-        }),
-        _ => None,
+    match generator {
+        None => None,
+        Some(generator) => match inside_with(layout, generator, inside, stacks) {
+            None => None,
+            Some(places) => Some(Family::Inside(places)),
+        },
     }
 }
 
@@ -207,14 +296,16 @@ fn family_of(layout: &Layout, records: &Records) -> Option<Family>
     ensures { result ≡ family_of layout.now records.now }
 {
     match records.coroutines.generator_inside {
-        Some(_) => match inside_of(layout, &records.coroutines, &records.stacks) {
-            Some(inside) => Some(Family::Inside(inside)),
-            None => None,
-        },
         None => match apart_of(layout, records) {
-            Some(apart) => Some(Family::Apart(apart)),
             None => None,
+            Some(places) => Some(Family::Apart(places)),
         },
+        Some(inside) => inside_of(
+            layout,
+            records.coroutines.generator,
+            inside,
+            &records.stacks,
+        ),
     }
 }
 
@@ -222,16 +313,21 @@ fn family_of(layout: &Layout, records: &Records) -> Option<Family>
 fn unchecked_of(layout: &Layout, records: &Records, types: &AwaitTypes) -> Option<Places>
     ensures { result ≡ unchecked_of layout.now records.now types.now }
 {
-    let (family, code) = (family_of(layout, records), code_of(layout, records));
-    match (records.types.klass, code, family) {
-        (Some(klass), Some(code), Some(family)) => Some(Places {
-            types: *types,
-            class: class_of(layout, &klass),
-            holders: holders_of(records, types),
-            code,
-            family,
-        }),
-        _ => None,
+    match records.types.klass {
+        None => None,
+        Some(klass) => match code_of(layout, records) {
+            None => None,
+            Some(code) => match family_of(layout, records) {
+                None => None,
+                Some(family) => Some(Places {
+                    types: *types,
+                    class: class_of(layout, &klass),
+                    holders: holders_of(records, types),
+                    code,
+                    family,
+                }),
+            },
+        },
     }
 }
 
@@ -246,9 +342,11 @@ pub fn places_of(layout: &Layout, records: &Records, types: &AwaitTypes) -> Opti
     ensures all { IsNone result → HasNoPlaces (unchecked_of layout.now records.now types.now) }
     ensures sound { IfSome result IsSound }
 {
-    let places = unchecked_of(layout, records, types)?;
-    if is_sound(&places) {
-        return Some(places);
+    match unchecked_of(layout, records, types) {
+        None => None,
+        Some(places) => {
+            let is = is_sound(&places);
+            if is { Some(places) } else { None }
+        }
     }
-    None
 }
