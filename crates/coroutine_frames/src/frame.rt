@@ -7,13 +7,14 @@ ghost use Rattle.py_stacks.specs.Frames.{name_at};
 ghost use Rattle.py_stacks.specs.Records.{AreWhole, member_of};
 ghost use Rattle.py_stacks.specs.StackError.{stack_fault};
 ghost use Rattle.py_coroutines.specs.Places.{IsSoundFamily};
-ghost use Rattle.coroutine_frames.specs.Frames.{frame_at, placed_at, said_at, there_at};
+ghost use Rattle.coroutine_frames.specs.Frames.{asked_line, frame_at, is_unbegun, own_line_at, placed_at};
+ghost use Rattle.coroutine_frames.specs.Frames.{said_at, there_at};
 
-use elf64_core::{Text, u64_in};
+use elf64_core::{Text, u32_in, u64_in};
 use process_memory::ProcessMemory;
 use py_builtins::{ObjectError, copy_string};
 use py_coroutines::{Family, read_frame_place};
-use py_fields::Layout;
+use py_fields::{Lasti, Layout};
 use py_stacks::{LineNo, Records, StackError, read_line, read_records};
 use std::alloc::Global;
 
@@ -24,7 +25,7 @@ pub struct CoroutineFrame {
     pub function: Option<Text>,
     /// That of its file.
     pub filename: Option<Text>,
-    /// The line of its last instruction, and the first one of its function before that; 0 where none is known.
+    /// The line of its last instruction, and the first one of its code before that; 0 where none is known.
     pub line: i32,
 }
 
@@ -47,6 +48,48 @@ fn read_text<P: ProcessMemory>(
     }
 }
 
+/// Whether a frame stands before its first instruction, where its last one is counted, which is so up to 3.10.
+fn is_unbegun(layout: &Layout, records: &Records) -> bool
+    requires sound { IsSound layout.now }
+    requires whole { AreWhole layout.now records.now }
+    ensures { result ≡ is_unbegun layout.now.lasti layout.now (member_of records.now) }
+{
+    let at = layout.frame.instr as usize;
+    match layout.lasti {
+        Lasti::Bytes => u32_in(&records.frame, at) >= 1 << 31,
+        Lasti::Units => u32_in(&records.frame, at) >= 1 << 31,
+        Lasti::Pointer => false,
+    }
+}
+
+/// Which line is asked for: of a frame before its first instruction the first one of its code.
+fn asked_line(is_unbegun: bool) -> LineNo
+    ensures { result ≡ asked_line is_unbegun }
+{
+    if is_unbegun {
+        LineNo::First
+    } else {
+        LineNo::LastInstruction
+    }
+}
+
+/// The line of a coroutine's frame. At most 2 reads.
+fn read_own_line<P: ProcessMemory>(
+    alloc: Global,
+    process: &mut P,
+    layout: &Layout,
+    records: &Records,
+) -> Result<i32, StackError>
+    requires sound { IsSound layout.now }
+    requires whole { AreWhole layout.now records.now }
+    ensures { Consults layout.now stack_fault 2 (P.seen process.old) (P.seen process.new)
+        (λ m. own_line_at layout.now m (member_of records.now)) result }
+{
+    let unbegun = is_unbegun(layout, records);
+    let lineno = asked_line(unbegun);
+    read_line(alloc, process, layout, lineno, records)
+}
+
 /// What the frame of these records shows. At most 6 reads.
 fn read_said<P: ProcessMemory>(
     alloc: Global,
@@ -63,7 +106,7 @@ fn read_said<P: ProcessMemory>(
     let function = read_text(alloc, process, layout, name_at)?;
     let file_at = u64_in(&records.code, layout.code.filename as usize);
     let filename = read_text(alloc, process, layout, file_at)?;
-    let line = read_line(alloc, process, layout, LineNo::LastInstruction, records)?;
+    let line = read_own_line(alloc, process, layout, records)?;
     Ok(CoroutineFrame {
         function,
         filename,
