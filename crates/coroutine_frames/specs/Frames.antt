@@ -1,6 +1,6 @@
 -- What a coroutine's frame shows: it is a frame as those of threads are, so that its texts and its line are told by the
 -- same rules (`py_stacks`). That a text which can't be read is left out is this project's rule.
-use Rattle.std.specs.Prelude.{ℕ, ◌^◌, nat_le, Bool, true, false, ℤ, Option, Some, None, Ok}
+use Rattle.std.specs.Prelude.{ℕ, ◌^◌, nat_le, Bool, true, false, ℤ, List, Option, Some, None, Ok}
 use Rattle.elf64_core.specs.Fields.{u64_in, u32_in}
 use Rattle.process_memory.specs.Memory.{Found, Memory, ◌>>=◌}
 use Rattle.py_fields.specs.declared.layout.Lasti.{Lasti}
@@ -29,13 +29,16 @@ asked_line false = LastInstruction
 unfoldable pub own_line_at : Layout → Memory → MemberAt → Found ℤ
 own_line_at l m r = line_at (asked_line (is_unbegun l.lasti l r)) l m r
 
+abbrev pub said_with : Option (List ℕ) → Option (List ℕ) → ℤ → CoroutineFrame
+said_with function filename line = record { function = function; filename = filename; line = line }
+
 -- what a frame shows, by its two records
 unfoldable pub said_at : Layout → Memory → MemberAt → Found CoroutineFrame
 said_at l m r = do
   function ← name_at l m (u64_in r.code l.code.name)
   filename ← name_at l m (u64_in r.code l.code.filename)
   line ← own_line_at l m r
-  Ok (record { function = function; filename = filename; line = line })
+  Ok (said_with function filename line)
 
 -- that of the frame at an address
 unfoldable pub there_at : Layout → Memory → ℕ → Found CoroutineFrame

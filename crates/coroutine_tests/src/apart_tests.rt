@@ -1,5 +1,5 @@
 //! Coroutines whose frame is an object of its own, as up to 3.10.
-use crate::chains::{CLASS, Case, HOLDERS, TYPES, missing, stops};
+use crate::chains::{CLASS, Case, HOLDERS, TYPES};
 use crate::made::{Words, memory_of};
 use py_coroutines::{
     ApartPlaces, ApartStack, AwaitEnd, CodePlaces, Family, Places, States, Stop, is_sound,
@@ -84,12 +84,25 @@ const POINTER_ROWS: [Words<'static>; 15] = [
 ];
 
 const POINTER_CASES: [Case; 6] = [
-    (0x1000, 9, &[0x1000, 0x1100], stops(Stop::Yielding)),
-    (0x1200, 9, &[0x1200], stops(Stop::Running)),
-    (0x1300, 9, &[0x1300], stops(Stop::Finished)),
-    (0x1400, 9, &[0x1400], stops(Stop::Created)),
-    (0x1500, 9, &[0x1500], stops(Stop::NoTop)),
-    (0x1600, 9, &[0x1600], missing(0x9008, 8)),
+    (
+        0x1000,
+        9,
+        &[0x1000, 0x1100],
+        AwaitEnd::Stops(Stop::Yielding),
+    ),
+    (0x1200, 9, &[0x1200], AwaitEnd::Stops(Stop::Running)),
+    (0x1300, 9, &[0x1300], AwaitEnd::Stops(Stop::Finished)),
+    (0x1400, 9, &[0x1400], AwaitEnd::Stops(Stop::Created)),
+    (0x1500, 9, &[0x1500], AwaitEnd::Stops(Stop::NoTop)),
+    (
+        0x1600,
+        9,
+        &[0x1600],
+        AwaitEnd::Stops(Stop::Unreadable {
+            addr: 0x9008,
+            len: 8,
+        }),
+    ),
 ];
 
 #[test]
@@ -125,11 +138,16 @@ const DEPTH_ROWS: [Words<'static>; 14] = [
 ];
 
 const DEPTH_CASES: [Case; 6] = [
-    (0x1000, 9, &[0x1000, 0x1100], stops(Stop::Yielding)),
-    (0x1200, 9, &[0x1200], stops(Stop::Running)),
-    (0x1300, 9, &[0x1300], stops(Stop::Finished)),
-    (0x1400, 9, &[0x1400], stops(Stop::Created)),
-    (0x1500, 9, &[0x1500], stops(Stop::NoTop)),
+    (
+        0x1000,
+        9,
+        &[0x1000, 0x1100],
+        AwaitEnd::Stops(Stop::Yielding),
+    ),
+    (0x1200, 9, &[0x1200], AwaitEnd::Stops(Stop::Running)),
+    (0x1300, 9, &[0x1300], AwaitEnd::Stops(Stop::Finished)),
+    (0x1400, 9, &[0x1400], AwaitEnd::Stops(Stop::Created)),
+    (0x1500, 9, &[0x1500], AwaitEnd::Stops(Stop::NoTop)),
     (0x1000, 1, &[0x1000], AwaitEnd::Cut { addr: 0x1100 }),
 ];
 

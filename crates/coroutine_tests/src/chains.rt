@@ -1,5 +1,5 @@
 //! Where the parts of coroutines stand in these memories, and what a chain is to be.
-use py_coroutines::{AwaitEnd, AwaitTypes, ClassPlaces, Held, Holders, Stop, Wants};
+use py_coroutines::{AwaitEnd, AwaitTypes, ClassPlaces, Held, Holders, Wants};
 
 /// The types, whose records stand at these addresses.
 pub(crate) const TYPES: AwaitTypes = AwaitTypes {
@@ -18,30 +18,30 @@ pub(crate) const CLASS: ClassPlaces = ClassPlaces {
     basic_size: 8,
 };
 
-const fn held(wants: Wants) -> Option<Held> {
-    Some(Held {
-        size: 24,
-        held: 16,
-        wants,
-    })
-}
-
 /// What stands between has 24 bytes.
 pub(crate) const HOLDERS: Holders = Holders {
-    coroutine_wrapper: held(Wants::Class(0x10)),
-    asend: held(Wants::Class(0x30)),
+    coroutine_wrapper: Some(Held {
+        size: 24,
+        held: 16,
+        wants: Wants::Class(0x10),
+    }),
+    asend: Some(Held {
+        size: 24,
+        held: 16,
+        wants: Wants::Class(0x30),
+    }),
     athrow: None,
-    anext_awaitable: held(Wants::Any),
-    future_iter: held(Wants::Future),
+    anext_awaitable: Some(Held {
+        size: 24,
+        held: 16,
+        wants: Wants::Any,
+    }),
+    future_iter: Some(Held {
+        size: 24,
+        held: 16,
+        wants: Wants::Future,
+    }),
 };
 
 /// Where a chain begins, its limit, its members, and how it ends.
 pub(crate) type Case = (u64, usize, &'static [u64], AwaitEnd);
-
-pub(crate) const fn stops(stop: Stop) -> AwaitEnd {
-    AwaitEnd::Stops(stop)
-}
-
-pub(crate) const fn missing(addr: u64, len: u64) -> AwaitEnd {
-    AwaitEnd::Stops(Stop::Unreadable { addr, len })
-}

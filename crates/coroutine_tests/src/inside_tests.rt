@@ -1,5 +1,5 @@
 //! Coroutines that have their frame inside, as from 3.11 on.
-use crate::chains::{CLASS, Case, HOLDERS, TYPES, missing, stops};
+use crate::chains::{CLASS, Case, HOLDERS, TYPES};
 use crate::made::{Words, memory_of, pieces_of};
 use process_memory::{Part, Piece, Recorder};
 use py_coroutines::{
@@ -123,7 +123,7 @@ const CASES: [Case; 15] = [
         0x1000,
         9,
         &[0x1000, 0x1100, 0x1200],
-        stops(Stop::Future { addr: 0x1400 }),
+        AwaitEnd::Stops(Stop::Future { addr: 0x1400 }),
     ),
     (0x1000, 2, &[0x1000, 0x1100], AwaitEnd::Cut { addr: 0x1200 }),
     (
@@ -132,34 +132,63 @@ const CASES: [Case; 15] = [
         &[0x1500, 0x1600],
         AwaitEnd::Cycle { addr: 0x1500 },
     ),
-    (0x1700, 9, &[0x1700], stops(Stop::Created)),
-    (0x1800, 9, &[0x1800], stops(Stop::Running)),
-    (0x1900, 9, &[0x1900], stops(Stop::Finished)),
-    (0x1a00, 9, &[0x1a00], stops(Stop::Yielding)),
-    (0x1b00, 9, &[0x1b00], stops(Stop::NoTop)),
+    (0x1700, 9, &[0x1700], AwaitEnd::Stops(Stop::Created)),
+    (0x1800, 9, &[0x1800], AwaitEnd::Stops(Stop::Running)),
+    (0x1900, 9, &[0x1900], AwaitEnd::Stops(Stop::Finished)),
+    (0x1a00, 9, &[0x1a00], AwaitEnd::Stops(Stop::Yielding)),
+    (0x1b00, 9, &[0x1b00], AwaitEnd::Stops(Stop::NoTop)),
     (
         0x1c00,
         9,
         &[0x1c00],
-        stops(Stop::Other {
+        AwaitEnd::Stops(Stop::Other {
             addr: 0x1d00,
             class: 0x700,
         }),
     ),
-    (0x1e00, 9, &[0x1e00], missing(0x1e20, 8)),
-    (0x1f00, 9, &[0x1f00], missing(0x1f00, 32)),
+    (
+        0x1e00,
+        9,
+        &[0x1e00],
+        AwaitEnd::Stops(Stop::Unreadable {
+            addr: 0x1e20,
+            len: 8,
+        }),
+    ),
+    (
+        0x1f00,
+        9,
+        &[0x1f00],
+        AwaitEnd::Stops(Stop::Unreadable {
+            addr: 0x1f00,
+            len: 32,
+        }),
+    ),
     (
         0x2000,
         9,
         &[],
-        stops(Stop::Other {
+        AwaitEnd::Stops(Stop::Other {
             addr: 0x2000,
             class: 0x500,
         }),
     ),
-    (0x2200, 9, &[0x2200], stops(Stop::Future { addr: 0x2300 })),
-    (0x2400, 9, &[0x2400], stops(Stop::NoTop)),
-    (0x2500, 9, &[], missing(0x800, 8)),
+    (
+        0x2200,
+        9,
+        &[0x2200],
+        AwaitEnd::Stops(Stop::Future { addr: 0x2300 }),
+    ),
+    (0x2400, 9, &[0x2400], AwaitEnd::Stops(Stop::NoTop)),
+    (
+        0x2500,
+        9,
+        &[],
+        AwaitEnd::Stops(Stop::Unreadable {
+            addr: 0x800,
+            len: 8,
+        }),
+    ),
 ];
 
 #[test]
@@ -185,8 +214,21 @@ const CODED: [Words<'static>; 4] = [
 ];
 
 const CODED_CASES: [Case; 2] = [
-    (0x1000, 9, &[0x1000, 0x2000], stops(Stop::Yielding)),
-    (0x3000, 9, &[0x3000], missing(0x9002, 2)),
+    (
+        0x1000,
+        9,
+        &[0x1000, 0x2000],
+        AwaitEnd::Stops(Stop::Yielding),
+    ),
+    (
+        0x3000,
+        9,
+        &[0x3000],
+        AwaitEnd::Stops(Stop::Unreadable {
+            addr: 0x9002,
+            len: 2,
+        }),
+    ),
 ];
 
 #[test]

@@ -1,9 +1,11 @@
-use Rattle.std.proofs.Common.{ap, arith, refl}
+use Rattle.std.proofs.Common.{◌≡◌, ap, arith, of_z, rules, sym, to_z}
+use Rattle.std.proofs.lemmas.Int.{to_z-of_z}
+use Rattle.std.specs.Int.{w32}
 use Rattle.std.proofs.lemmas.Result.{err_from_is_err_and}
 use Rattle.process_memory.proofs.Reading.{reads_end, reads_halt, reads_next}
 use Rattle.py_fields.proofs.Fields.{code_fits}
 use Rattle.py_stacks.specs.StackError.{stack_fault}
-use Rattle.coroutine_frames.specs.Frames.{said_at}
+use Rattle.coroutine_frames.specs.Frames.{said_at, said_with}
 use Rattle.coroutine_frames.proofs.frame.read_said.Goals as goal
 
 pub u64_in-name_at-requires : goal.u64_in-name_at-requires
@@ -40,4 +42,7 @@ unfolding said_at
 returns g c =
     let name = rw (c.u64_in-name_at.ensures, c.deref.ensures.value) at c.in_ok-function.ensures in
     let file = rw (c.u64_in-file_at.ensures, c.deref-2.ensures.value) at c.in_ok-filename.ensures in
-    reads_next 6 _ name (reads_next 4 _ file (reads_next {k = 0} 2 _ c.in_ok-line.ensures (reads_end 0 refl) (omega arith)) (omega arith)) (omega arith)
+    let line : c.in_ok-line.line ≡ to_z w32 (of_z w32 c.in_ok-line.line) = sym (to_z-of_z w32 _ (search rules)) in
+    let last = ap (said_with c.in_ok-function.function c.in_ok-filename.filename) line in
+    reads_next 6 _ name (reads_next 4 _ file (reads_next {k = 0} 2 _ c.in_ok-line.ensures (reads_end 0 last)
+    (omega arith)) (omega arith)) (omega arith)
