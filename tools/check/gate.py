@@ -90,6 +90,7 @@ CHECKS = (
     Check("real/compare_frames", OF_LISTING, (*OF_LISTING, "--all")),
     Check("real/compare_maps", OF_LISTING),
     Check("real/real_types", OF_LISTING),
+    Check("real/real_coroutines", OF_LISTING),
 )
 """What is run, in order."""
 

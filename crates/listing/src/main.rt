@@ -1,7 +1,7 @@
 //! What is read in a file, line by line, for comparison with other readers: `listing elf FILE [ADDR SIZE]`,
 //! `listing frames FILE [STEP [MOST]]`, `listing maps FILE`, `listing footprint LAYOUTS CORE [PATH=FILE]..` and
-//! `listing reads LAYOUTS MOST CORE [PATH=FILE]..` and `listing types LAYOUTS RECORDS CORE [PATH=FILE]..`; and the files of
-//! programs that are built:
+//! `listing reads LAYOUTS MOST CORE [PATH=FILE]..`, `listing types LAYOUTS RECORDS CORE [PATH=FILE]..` and
+//! `listing coroutines LAYOUTS RECORDS ADDR[,ADDR].. CORE [PATH=FILE]..`; and the files of programs that are built:
 //! `listing built LAYOUTS VERSION MACHINE PART SEED` or `.. PART THREADS FRAMES OWNER ARGS [NAME=VALUE]..`.
 //!
 //! Of an ELF file the machine, each segment, each section, each symbol and the build id have a line; with
@@ -14,7 +14,9 @@
 //! each read of its stacks, by a layout file and the files that its process had mapped, has a line in order: the start and
 //! the size of the range, in hexadecimal digits. Or one line says whether there is a report, and that it took MOST reads or
 //! fewer, or how many. Of its types each that is looked for has a line: its name, its address in hexadecimal digits, and
-//! `code` or `module`, by how it was found; or that it is not there, or could not be read.
+//! `code` or `module`, by how it was found; or that it is not there, or could not be read. Of each object at an address
+//! of its process, in hexadecimal digits, the chain of what awaits what from there on: `chain ADDR`, for each member a
+//! line `member ADDR KIND STATE LINE FUNCTION FILE`, where `-` stands for no frame, and `end` with how it ends.
 //!
 //! A program that is built is that of a seed, or has so many threads, of ids from 32512 on, of so many frames each, all
 //! with the same locals, of which the first so many are arguments. A VALUE is a number, a text, or `[` and items with
@@ -27,6 +29,7 @@
 #![tactic(auto)]
 
 mod built;
+mod coroutines_file;
 mod elf_file;
 mod footprint;
 mod frames_file;
@@ -35,6 +38,7 @@ mod reads;
 mod types_file;
 
 use built::list_built;
+use coroutines_file::list_coroutines;
 use elf_file::list_elf;
 use footprint::list_footprint;
 use frames_file::list_frames;
@@ -90,6 +94,7 @@ fn run<R: Env + Files + Print + Alloc<A = Global>>(rt: &R) -> io::Result<()> {
         "footprint" => list_footprint(&mut out, rt, &bytes, rest)?,
         "reads" => list_reads(&mut out, rt, &bytes, rest)?,
         "types" => list_types(&mut out, rt, &bytes, rest)?,
+        "coroutines" => list_coroutines(&mut out, rt, &bytes, rest)?,
         "built" => list_built(&mut out, rt.alloc(), &bytes, rest)?,
         _ => writeln!(out, "refused")?,
     }
