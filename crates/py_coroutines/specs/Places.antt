@@ -1,0 +1,39 @@
+-- Where the parts of coroutines stand: which places can be read. That what is read of a record lies inside it is this
+-- project's rule; which fields there are is CPython's (Include/genobject.h, Include/frameobject.h, from 3.11 on
+-- Include/cpython/genobject.h and Include/internal/pycore_frame.h).
+use Rattle.std.specs.Prelude.{ℕ, ◌+◌, ◌<◌, ◌≤◌, ◌^◌, Option, IfSome}
+use Rattle.py_coroutines.specs.declared.places.ApartPlaces.{ApartPlaces}
+use Rattle.py_coroutines.specs.declared.places.ApartStack.{ApartStack}
+use Rattle.py_coroutines.specs.declared.places.ApartStack.TheVariants.{Pointer, Depth}
+use Rattle.py_coroutines.specs.declared.places.Family.{Family}
+use Rattle.py_coroutines.specs.declared.places.Family.TheVariants.{Apart, Inside}
+use Rattle.py_coroutines.specs.declared.places.InsidePlaces.{InsidePlaces}
+use Rattle.py_coroutines.specs.declared.places.Places.{Places}
+
+-- the parts of a frame object's stack lie in its record of so many bytes
+abbrev pub IsSoundStack : ApartStack → ℕ → Type 0
+IsSoundStack (Pointer top) size = top + 8 ≤ size
+IsSoundStack (Depth bottom depth state states) size = (bottom + 8 ≤ size) × ((depth + 4 ≤ size) × (state + 1 ≤ size))
+
+pub record IsSoundApart (p : ApartPlaces) : Type 0 where
+  pub frame : p.frame + 8 ≤ p.size
+  pub running : IfSome p.running (λ place. place + 1 ≤ p.size)
+  pub size : p.size < 2 ^ 16
+  pub code : p.code + 8 ≤ p.frame_size
+  pub last : p.last + 4 ≤ p.frame_size
+  pub stack : IsSoundStack p.stack p.frame_size
+  pub frame_size : p.frame_size < 2 ^ 16
+
+pub record IsSoundInside (p : InsidePlaces) : Type 0 where
+  pub state : p.state + 1 ≤ p.size
+  pub instruction : p.frame + p.instruction + 8 ≤ p.size
+  pub depth : p.frame + p.depth + 4 ≤ p.size
+  pub size : p.size < 2 ^ 16
+
+-- what is read of each record lies inside it
+abbrev pub IsSoundFamily : Family → Type 0
+IsSoundFamily (Apart p) = IsSoundApart p
+IsSoundFamily (Inside p) = IsSoundInside p
+
+abbrev pub IsSound : Places → Type 0
+IsSound p = IsSoundFamily p.family
