@@ -282,13 +282,15 @@ os.execv({program!r}, [{program!r}, *sys.argv[1:]])
 def shrinks(salvage: Path, program: Path, room: Path) -> str:
     """A core that becomes shorter while it is read: the tool ends with a line."""
     core, layouts, _ = written(room, long_chain(60))
-    other = room / "pysalvage"
+    image, other = room / "root" / "usr" / "bin" / "python3.9", room / "pysalvage"
+    image.parent.mkdir(parents=True)
+    (room / "image").rename(image)
     other.write_text(SHRINKS.format(python=sys.executable, core=os.fspath(core), size=core.stat().st_size // 4, program=os.fspath(salvage)))
     other.chmod(0o700)
-    words = [sys.executable, "-B", TOOLS / "dump_core.py", core, "--layouts", layouts, "--program", program, "--salvage", other, "--memory", "6"]
-    run = ran(words)
+    words = ["--root", room / "root", "--layouts", layouts, "--program", program, "--salvage", other, "--memory", "6"]
+    run = ran([sys.executable, "-B", TOOLS / "dump_core.py", core, *words])
     wanted = "dump_core: the core became shorter while it was read\ndump_core: next: copy it first, once nothing writes it"
-    if run.status != 1 or not run.err.endswith(wanted) or run.out:
+    if run.status != 1 or run.err != wanted or run.out:
         raise Failure(f"of a core that becomes shorter: status {run.status}, {run.err!r}")
     return "one that becomes shorter"
 
