@@ -1,0 +1,10 @@
+pub mod Evaluating
+pub mod FileLaws
+pub mod Filling
+pub mod Listing
+pub mod ReadSteps
+pub mod StackLaws
+pub mod StepLaws
+pub mod StepParts
+pub mod TurnSteps
+pub mod WordLaws

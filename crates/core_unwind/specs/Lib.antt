@@ -1,0 +1,10 @@
+pub mod Ends
+pub mod Expressions
+pub mod Places
+pub mod Registers
+pub mod Stacks
+pub mod States
+pub mod Steps
+pub mod Told
+pub mod Turns
+pub mod Values

@@ -1,0 +1,29 @@
+//! The native stack of a thread, by its registers, the memory of its process and the files that were mapped.
+//!
+//! A stack is a chain of steps. A step takes the call frame information of the file in which the thread stands, and
+//! gives the registers that the caller had, by DWARF 5, section 6.4, and the psABI of the machine. What is guessed
+//! has no place here: a chain ends where no table says how it goes on, and the end says why. The crate knows no core:
+//! memory is any `ProcessMemory`, and files are their bytes.
+#![tactic(auto)]
+
+mod end;
+mod expression;
+mod frame;
+mod kept;
+mod place;
+mod read;
+mod state;
+mod step;
+mod thread;
+mod turn;
+mod value;
+mod walk;
+mod words;
+
+pub use end::{End, Limit, Refusal, UnwindError};
+pub use frame::{Frame, Next, Turn};
+pub use place::{CodePlace, Mapping};
+pub use state::State;
+pub use step::read_step;
+pub use thread::thread_state;
+pub use walk::{NativeStack, read_stack};
