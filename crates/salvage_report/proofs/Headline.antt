@@ -1,7 +1,7 @@
 -- What status 0 tells where a core is asked for.
 use Rattle.std.proofs.Common.{◌≡◌, ◌≢◌, ℕ, List, [], ◌∷◌, ◌++◌, Ok, Err}
 use Rattle.std.proofs.Common.{Some, None, inl, inr, ap, sym, subst, true, ◌∙◌}
-use Rattle.std.specs.Prelude.{Option}
+use Rattle.std.specs.Prelude.{Option, Bool, codes}
 use Rattle.std.specs.Io.KnownBytes.{Appends}
 use Rattle.std.proofs.lemmas.Option.{same_Some}
 use Rattle.outside.specs.Files.{Told}
@@ -15,13 +15,20 @@ use Rattle.py_fronts.specs.declared.salvaged.SalvagedInterpreter.{SalvagedInterp
 use Rattle.salvage_words.specs.Salvage.{Salvage, Wanted}
 use Rattle.salvage_words.specs.Salvage.Wanted.{salvage}
 use Rattle.salvage_report.specs.declared.cause.Cause.{Cause}
-use Rattle.salvage_report.specs.Headline.{HasSalvaged, SaysRegisters, SaysSignal}
+use Rattle.salvage_report.specs.Headline.{HasSalvaged, SaysLayout, SaysRegisters, SaysSignal}
 use Rattle.salvage_report.specs.Outcome.{IsCoreOutcome, IsOutcomeBy, IsSalvagedBy, Outcome, looked_at, shown_or_none}
 use Rattle.named_images.specs.Named.{images_read}
 use Rattle.program_run.specs.Ends.{Reaches}
 use Rattle.program_run.specs.Reading.{AreRead}
 use Rattle.salvage_report.specs.Reading.{files_of}
 use Rattle.salvage_report.specs.Run.{ComesTo, pysalvage}
+use Rattle.process_memory.specs.Memory.{Found}
+use Rattle.py_selftest.specs.Checking.{CheckShown, check_shown}
+use Rattle.py_selftest.specs.declared.checking.LayoutCheck.{LayoutCheck}
+use Rattle.py_selftest.proofs.Verdicts.{check_says}
+use Rattle.salvage_report.specs.LayoutChecked.{CheckIs, layout_checked, release_of, types_of}
+use Rattle.py_process.specs.Facts.{symbol_known}
+use Rattle.py_process.specs.Reports.{memory_in}
 use Rattle.salvage_report.specs.Sections.{if_asked, own_id, python_threads}
 use Rattle.salvage_report.specs.Texts.{shown_left}
 
@@ -105,4 +112,25 @@ says_registers s told old new h asked =
       are = h.is_left.told.are;
       is = h.is_left.told.registers
           ∙ ap (λ a. if_asked a (threads_told (machine_of h.core) pythons h.is_left.told.notes)) asked;
+    }
+
+-- what is told where it is asked for
+checked_one : (asked : Bool) (checked : Found CheckShown) (told : Option LayoutCheck) → CheckIs asked checked told
+    → asked ≡ true → (check : LayoutCheck) × (told ≡ Some check) × (checked ≡ Ok (check_shown check))
+checked_one false checked told is on = absurd (cc)
+checked_one true checked None is on = absurd is
+checked_one true checked (Some check) is on = (check, refl, is)
+
+pub says_layout : (s : Salvage) (told : Told) (old new : SinkSeen) → HasSalvaged s told old new
+    → s.sections.check_layout ≡ true → SaysLayout s told old new
+says_layout s told old new h asked =
+    let o = h.opened in
+    let one = checked_one s.sections.check_layout (layout_checked o) h.left.check h.is_left.check asked in
+    record {
+      has = h;
+      check = one.0;
+      is = one.1;
+      checked = one.2;
+      says = check_says (memory_in o.dumped) o.layout (types_of o.known o.version)
+          (symbol_known o.known (codes "_PyRuntime")) (release_of o.version) (check_shown one.0) one.2;
     }

@@ -17,6 +17,10 @@ use Rattle.thread_registers.proofs.Plain.{no_float as threads}
 use Rattle.salvage_json.proofs.Trees.{integer, interpreters, process, signal}
 use Rattle.missed_reads.specs.Told.{RefusedTold, missed_tree}
 use Rattle.missed_reads.proofs.NoFloat.{no_float as missed}
+use Rattle.py_selftest.specs.Checking.{CheckShown}
+use Rattle.py_selftest.specs.Trees.{check_tree}
+use Rattle.py_selftest.proofs.Plain.{no_float as checked}
+use Rattle.salvage_report.specs.LayoutChecked.{check_of}
 use Rattle.salvage_report.specs.Tree.{left_tree, missing_tree, section_tree}
 use Rattle.salvage_report.specs.Sections.{missing_shown, registers_shown}
 use Rattle.salvage_report.specs.declared.left.Left.{Left}
@@ -74,11 +78,16 @@ missing_section : (told : Option RefusedTold) → has_float (section_tree missed
 missing_section None = refl
 missing_section (Some told) = missed told
 
+check_section : (told : Option CheckShown) → has_float (section_tree check_tree told) ≡ false
+check_section None = refl
+check_section (Some told) = checked told
+
 pub missing_no_float : (told : RefusedTold) → has_float (missing_tree told) ≡ false
 missing_no_float told = λ i. missed told i || false
 
 pub no_float : (left : Left) → has_float (left_tree left) ≡ false
 no_float left = λ i. interpreters left.salvaged.crash left.salvaged.interpreters.items i
-    || (missing_section (missing_shown left.told.missing) i || (false || (process left.process
+    || (check_section (check_of left.check) i || (missing_section (missing_shown left.told.missing) i
+    || (false || (process left.process
     i || (threads_section (registers_shown left.told.registers) i || (signal left.signal i
-    || (info_section left.told.signal i || (false || false)))))))
+    || (info_section left.told.signal i || (false || false))))))))

@@ -24,6 +24,8 @@ use Rattle.core_stacks.specs.declared.process.Process.{Process}
 use Rattle.salvage_report.specs.Crashed.{CrashTold}
 use Rattle.core_stacks.specs.Process.{IsProcess, OpenedProcess, opened_of}
 use Rattle.salvage_report.specs.Outcome.{IsLeft, IsLeftOf, Outcome, asked_of, looked_at, shown_or_none}
+use Rattle.py_selftest.specs.declared.checking.LayoutCheck.{LayoutCheck}
+use Rattle.salvage_report.specs.LayoutChecked.{CheckIs, process_checked}
 use Rattle.salvage_report.specs.Sections.{AreTold}
 use Rattle.salvage_report.specs.Seen.{Salvages}
 use Rattle.salvage_report.specs.Texts.{shown_left}
@@ -48,7 +50,8 @@ module _ (s : Salvage) (p : Process) (crash : Option Crash) (salvaged : Salvaged
     (found : Salvages s p crash (Ok salvaged))
     (bytes : List ℕ) (images : Pushed) (layouts : List Layout) (is : IsProcess bytes images layouts p)
     (told : CrashTold bytes crash)
-    (sections : Told) (are : AreTold s.sections p.dump.core p.notes.process salvaged.interpreters.items sections) where
+    (sections : Told) (are : AreTold s.sections p.dump.core p.notes.process salvaged.interpreters.items sections)
+    (check : Option LayoutCheck) (checks : CheckIs s.sections.check_layout (process_checked p) check) where
   abbrev opened : OpenedProcess
   opened = opened_of is.maps p
 
@@ -58,8 +61,8 @@ module _ (s : Salvage) (p : Process) (crash : Option Crash) (salvaged : Salvaged
     process = p.notes.process;
     version = p.version;
     salvaged = salvaged;
-    told =
-        sections;
+    told = sections;
+    check = check;
   }
 
   abbrev over : (ℕ → Bool) → List ℕ → Option Crash → SalvagedShown
@@ -80,6 +83,7 @@ module _ (s : Salvage) (p : Process) (crash : Option Crash) (salvaged : Salvaged
     salvaged = found ∙ ap (λ t. over t p.dump.core crash) is.tested ∙ ap (λ b. over (in_maps is.maps) b crash) is.same
         ∙ ap (over (in_maps is.maps) bytes) (sym handed);
     told = subst (λ core. AreTold s.sections core p.notes.process salvaged.interpreters.items sections) is.same are;
+    check = checks;
   }
 
   pub none_left : (n : ℕ) → salvaged.interpreters.items ≡ [] → n ≡ looked_at opened

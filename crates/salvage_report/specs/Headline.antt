@@ -9,6 +9,8 @@ use Rattle.image_memory.specs.Notes.{AreNotesOfCore}
 use Rattle.crash_signal.specs.Signals.{signal_told}
 use Rattle.thread_registers.specs.Threads.{threads_told}
 use Rattle.py_fields.specs.declared.layout.Layout.{Layout}
+use Rattle.py_selftest.specs.Checking.{Says, check_shown}
+use Rattle.py_selftest.specs.declared.checking.LayoutCheck.{LayoutCheck}
 use Rattle.py_layout.specs.File.{IsRightFor}
 use Rattle.salvage_words.specs.Salvage.{Salvage}
 use Rattle.salvage_report.specs.declared.left.Left.{Left}
@@ -17,6 +19,7 @@ use Rattle.salvage_report.specs.Outcome.{IsLeft}
 use Rattle.named_images.specs.Named.{images_read}
 use Rattle.program_run.specs.Reading.{AreRead}
 use Rattle.salvage_report.specs.Reading.{files_of}
+use Rattle.salvage_report.specs.LayoutChecked.{layout_checked}
 use Rattle.salvage_report.specs.Sections.{own_id, python_threads, registers_shown}
 use Rattle.salvage_report.specs.Texts.{shown_left}
 
@@ -55,3 +58,13 @@ pub record SaysRegisters (s : Salvage) (told : Told) (old new : SinkSeen) : Type
   pub are : AreNotesOfCore has.core notes
   pub is : registers_shown has.left.told.registers ≡ Some
       (threads_told (machine_of has.core) (python_threads has.left.salvaged.interpreters.items) notes)
+
+-- What the process says of its layout: it is what the words of its own types and of its own table say, over the memory
+-- of the core and its images. Where the layout agrees, each of its numbers that is told is the process's, and the
+-- needed ones are told; where it differs, one that is told is another one.
+pub record SaysLayout (s : Salvage) (told : Told) (old new : SinkSeen) : Type 0 where
+  pub has : HasSalvaged s told old new
+  pub check : LayoutCheck
+  pub is : has.left.check ≡ Some check
+  pub checked : layout_checked has.opened ≡ Ok (check_shown check)
+  pub says : Says (check_shown check)

@@ -28,6 +28,7 @@ use Rattle.core_stacks.specs.Process.{OpenedProcess, ProcessIs}
 use Rattle.named_images.specs.Named.{images_read}
 use Rattle.program_run.specs.Outcomes.{IsAnswerBy, OutcomeThen, status_by}
 pub use Rattle.program_run.specs.Statuses.{core_status, layouts_status}
+use Rattle.salvage_report.specs.LayoutChecked.{CheckIs, layout_checked}
 use Rattle.salvage_report.specs.Sections.{AreTold}
 use Rattle.salvage_report.specs.Texts.{shown_left}
 use Rattle.std.specs.Prelude.{map}
@@ -58,6 +59,7 @@ pub record IsLeft (s : Salvage) (bytes : List ℕ) (o : OpenedProcess) (left : L
   pub crash : CrashTold bytes left.salvaged.crash
   pub salvaged : salvaged_of left.salvaged ≡ left_at s bytes o left.salvaged.crash
   pub told : AreTold s.sections bytes left.process left.salvaged.interpreters.items left.told
+  pub check : CheckIs s.sections.check_layout (layout_checked o) left.check
 
 -- how many addresses are looked at where no interpreter is shown, repeats included
 abbrev pub looked_at : OpenedProcess → ℕ

@@ -6,6 +6,8 @@ ghost use Rattle.py_fields.specs.Version.{version_text};
 ghost use Rattle.crash_signal.specs.Trees.{signal_tree as info_tree};
 ghost use Rattle.thread_registers.specs.Trees.{threads_tree};
 ghost use Rattle.missed_reads.specs.Told.{missed_tree, told_of};
+ghost use Rattle.py_selftest.specs.Trees.{check_tree};
+ghost use Rattle.salvage_report.specs.LayoutChecked.{check_of};
 ghost use Rattle.salvage_report.specs.Tree.{left_json, left_tree, missing_json, missing_tree};
 ghost use Rattle.salvage_report.specs.Tree.{pretty_text, section_tree};
 ghost use Rattle.salvage_report.specs.Sections.{missing_shown, registers_shown};
@@ -14,6 +16,7 @@ use crate::left::Left;
 use crash_signal::{CrashSignal, Untold};
 use missed_reads::{MissedBlocks, Misses, missed_blocks, missed_value};
 use py_layout::Version;
+use py_selftest::{LayoutCheck, check_value};
 use salvage_json::{interpreters_value, process_value, signal_value};
 use serde_json::{Value, json};
 use std::alloc::{AllocError, Global};
@@ -52,6 +55,16 @@ fn missing_value(alloc: Global, told: &Option<MissedBlocks>) -> Result<Value, Al
     }
 }
 
+/// What the process says of the layout, or null.
+fn layout_value(alloc: Global, check: &Option<LayoutCheck>) -> Result<Value, AllocError>
+    ensures { IfOk result (λ value. view value ≡ section_tree check_tree (check_of check.now)) }
+{
+    match check {
+        Some(check) => check_value(alloc, check),
+        None => Ok(Value::Null),
+    }
+}
+
 fn version_of(alloc: Global, version: &Version) -> Result<String, AllocError>
     ensures { IfOk result (λ text. string_bytes text ≡ version_text version.now) }
 {
@@ -63,6 +76,7 @@ fn left_value(alloc: Global, left: &Left) -> Result<Value, AllocError>
 {
     let salvaged = &left.salvaged;
     let interpreters = interpreters_value(alloc, salvaged.crash, &salvaged.interpreters)?;
+    let layout_check = layout_value(alloc, &left.check)?;
     let missing = missing_value(alloc, &left.told.missing)?;
     let process = process_value(alloc, &left.process)?;
     let registers = registers_value(alloc, &left.told.registers)?;
@@ -71,6 +85,7 @@ fn left_value(alloc: Global, left: &Left) -> Result<Value, AllocError>
     let version = version_of(alloc, &left.version)?;
     json!(in alloc; {
         "interpreters": interpreters,
+        "layout_check": layout_check,
         "missing": missing,
         "more": salvaged.more,
         "process": process,

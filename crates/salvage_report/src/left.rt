@@ -9,6 +9,7 @@ ghost use Rattle.salvage_report.specs.Seen.{Counts, Salvages, ShowsLeft};
 
 use crate::cause::Cause;
 use crate::crash::first_crash;
+use crate::layout_check::check_section;
 use crate::sections::{Told, tell_sections};
 use crate::text::shown;
 use core_stacks::{Process, open};
@@ -20,6 +21,7 @@ use program_run::CoreFiles;
 use py_fronts::{Crash, Salvaged, named_candidates, salvage, searched_candidates};
 use py_layout::{Layouts, Version};
 use py_process::CoreError;
+use py_selftest::LayoutCheck;
 use py_stacks::{Asked, LineNo, StackError};
 use salvage_words::SalvageWords;
 use std::alloc::Global;
@@ -33,6 +35,8 @@ pub(crate) struct Left {
     pub(crate) version: Version,
     pub(crate) salvaged: Salvaged,
     pub(crate) told: Told,
+    /// What the process says of its layout, where that is asked for.
+    pub(crate) check: Option<LayoutCheck>,
 }
 
 /// What is left of the interpreters of a process. Reads that are refused are kept.
@@ -97,6 +101,7 @@ fn shown_left(
     ensures { ShowsLeft (asked_salvage words.now) process crash result }
 {
     let salvaged = salvaged_of(alloc, words, &process, crash, misses)?;
+    let check = check_section(alloc, words.sections.check_layout, &process, misses)?;
     let core = process.dump.core();
     let told = tell_sections(
         alloc,
@@ -117,6 +122,7 @@ fn shown_left(
         version,
         salvaged,
         told,
+        check,
     };
     Ok(shown(alloc, words, &left)?)
 }

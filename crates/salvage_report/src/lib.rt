@@ -9,6 +9,7 @@ mod cause;
 mod command;
 mod crash;
 mod help;
+mod layout_check;
 mod left;
 mod lines;
 mod missing;

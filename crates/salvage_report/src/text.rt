@@ -4,6 +4,8 @@ ghost use Rattle.core_texts.specs.Text.{signal_text};
 ghost use Rattle.salvage_words.specs.Seen.{asked_salvage};
 ghost use Rattle.crash_signal.specs.Text.{signal_text as info_text};
 ghost use Rattle.thread_registers.specs.Text.{threads_text};
+ghost use Rattle.py_selftest.specs.Text.{check_text};
+ghost use Rattle.salvage_report.specs.LayoutChecked.{check_of};
 ghost use Rattle.salvage_report.specs.Sections.{registers_shown};
 ghost use Rattle.salvage_report.specs.Texts.{core_name, left_text, process_text, section_text, shown_left};
 ghost use Rattle.salvage_report.specs.Texts.{version_line};
@@ -13,6 +15,7 @@ use crate::left::Left;
 use crash_signal::{CrashSignal, Untold};
 use elf64_core::{Name, Text};
 use py_layout::Version;
+use py_selftest::LayoutCheck;
 use salvage_texts::{push_escaped, salvaged_text};
 use salvage_words::SalvageWords;
 use std::alloc::{AllocError, Global};
@@ -85,6 +88,17 @@ fn push_registers(text: &mut String, told: &Option<Vec<ThreadRegisters>>) -> Res
     }
 }
 
+/// What the process says of the layout, where that is asked for.
+fn push_check(text: &mut String, check: &Option<LayoutCheck>) -> Result<(), AllocError>
+    ensures { OnOk result (string_bytes text.new
+        ≡ string_bytes text.old ++ section_text check_text (check_of check.now)) }
+{
+    match check {
+        Some(check) => py_selftest::push_check(text, check),
+        None => Ok(()),
+    }
+}
+
 /// The head lines, what is left, and the sections, each at its place.
 fn left_text(alloc: Global, core: &Name, left: &Left) -> Result<Vec<u8>, AllocError>
     ensures { IfOk result (λ text. text.items ≡ left_text core.now left.now) }
@@ -97,6 +111,7 @@ fn left_text(alloc: Global, core: &Name, left: &Left) -> Result<Vec<u8>, AllocEr
     let salvaged = salvaged_text(alloc, &left.salvaged)?;
     text.push_str(salvaged.as_str())?;
     push_registers(&mut text, &left.told.registers)?;
+    push_check(&mut text, &left.check)?;
     Ok(text.into_bytes())
 }
 

@@ -24,10 +24,11 @@ records_rule = record (new_rule (codes "records")) { long = Some (codes "records
 
 abbrev pub salvage_app : App
 salvage_app =
-    with_rule (with_rule (with_rule (with_rule (with_rule (with_rule (with_rule (with_rule (with_rule (with_rule
+    with_rule (with_rule (with_rule (with_rule (with_rule (with_rule (with_rule (with_rule (with_rule (with_rule (with_rule
     (new_app (codes "pysalvage")) core_rule) (wanted_rule (codes "layouts") None)) records_rule) frames_rule)
     locals_rule) (flag_rule (codes "json") (Some 106))) (flag_rule (codes "signal") None))
-    (flag_rule (codes "registers") None)) (flag_rule (codes "missing") None)) images_rule
+    (flag_rule (codes "registers") None)) (flag_rule (codes "missing") None)) (flag_rule (codes "check-layout") None))
+    images_rule
 
 -- what clap finds, where it takes the words; it reads none of the first, which stands for the program's name
 unfoldable pub taken_rows : List Text → Option (List Row)
@@ -65,6 +66,7 @@ sections_of rows = record {
   signal = is_set (codes "signal") rows;
   registers = is_set (codes "registers") rows;
   missing = is_set (codes "missing") rows;
+  check_layout = is_set (codes "check-layout") rows;
 }
 
 abbrev pub salvage_by : List Row → ℕ → List (List ℕ × List ℕ) → Salvage

@@ -22,6 +22,8 @@ pub struct Sections {
     pub registers: bool,
     /// `--missing`: which reads were refused, since their bytes are not in memory.
     pub missing: bool,
+    /// `--check-layout`: what the process says of the layout.
+    pub check_layout: bool,
 }
 
 /// What is asked for of a core.
@@ -92,6 +94,7 @@ fn sections_by(matches: &ArgMatches<'_>) -> Sections
         signal: is_set(matches, "signal"),
         registers: is_set(matches, "registers"),
         missing: is_set(matches, "missing"),
+        check_layout: is_set(matches, "check-layout"),
     }
 }
 
@@ -127,7 +130,7 @@ fn salvage_words(alloc: Global, words: &[String]) -> Result<SalvageWords, ArgsEr
 }
 
 /// What the words ask for: `CORE --layouts FILE [--records FILE] [-n N] [-l].. [-j] [--signal] [--registers]
-/// [--missing] [PATH=FILE]..` behind the program's name, of which nothing is read; or `--help` or `--version` alone.
+/// [--missing] [--check-layout] [PATH=FILE]..` behind the program's name, of which nothing is read; or `--help` or `--version` alone.
 ///
 /// Clap takes the words, in any order that it knows: the core's file; `--layouts` with a value, once; `--records` with
 /// one, at most once; `-n` or `--frames` with a value, at most once, a number from 1 to 4096 in decimal digits (100

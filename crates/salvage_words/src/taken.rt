@@ -51,6 +51,7 @@ fn salvage_command<'a>(alloc: Global) -> Result<Command<'a>, AllocError>
         .arg(flag(alloc, "signal", None))?
         .arg(flag(alloc, "registers", None))?
         .arg(flag(alloc, "missing", None))?
+        .arg(flag(alloc, "check-layout", None))?
         .arg(images_arg(alloc))
 }
 

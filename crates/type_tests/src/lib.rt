@@ -4,6 +4,8 @@
 #[cfg(test)]
 mod attribute_tests;
 #[cfg(test)]
+mod layout_tests;
+#[cfg(test)]
 mod made;
 #[cfg(test)]
 mod place_tests;

@@ -10,6 +10,11 @@ returns-in_err-salvaged c =
     let p = err_from_is_err_and c.from_residual.result c.from_residual.ensures.1 in
     rw (p.1, p.2) (λ bytes images layouts is told ne. absurd (ne refl))
 
+pub returns-in_err-check : goal.returns-in_err-check
+returns-in_err-check c =
+    let p = err_from_is_err_and c.from_residual-in_err-check.result c.from_residual-in_err-check.ensures.1 in
+    rw (p.1, p.2) (λ bytes images layouts is told ne. absurd (ne refl))
+
 pub returns-in_err-addresses : goal.returns-in_err-addresses
 returns-in_err-addresses c =
     let p = err_from_is_err_and c.from_residual-in_err-addresses.result c.from_residual-in_err-addresses.ensures.1 in
@@ -36,7 +41,7 @@ returns-then-is_empty c = λ bytes images layouts is crashed ne.
     let none : salvaged.interpreters.items ≡ [] = empty salvaged.interpreters.items (search rules) in
     none_left (asked_salvage c.args.words.now) c.args.process c.args.crash salvaged c.in_ok-salvaged.ensures bytes
     images layouts is crashed
-    told sections c.in_ok-addresses.addresses none c.in_ok-addresses.ensures
+    told sections c.in_ok-check.check c.in_ok-check.ensures c.in_ok-addresses.addresses none c.in_ok-addresses.ensures
 
 pub returns-in_err-shown : goal.returns-in_err-shown
 returns-in_err-shown c =
@@ -56,4 +61,4 @@ returns c = λ bytes images layouts is crashed.
     let some : salvaged.interpreters.items ≢ [] = λ none. full (ap length none) in
     some_left (asked_salvage c.args.words.now) c.args.process c.args.crash salvaged c.in_ok-salvaged.ensures bytes
     images layouts is crashed
-    told sections c.in_ok-shown.field-0.items some c.in_ok-shown.ensures
+    told sections c.in_ok-check.check c.in_ok-check.ensures c.in_ok-shown.field-0.items some c.in_ok-shown.ensures

@@ -17,6 +17,7 @@ returns c =
     let signal = c.in_ok-arg-7.ensures.shape c.flag-2.ensures.local ∙ ap₂ with_rule five c.flag-2.ensures.rule in
     let registers = c.in_ok-arg-8.ensures.shape c.flag-3.ensures.local ∙ ap₂ with_rule signal c.flag-3.ensures.rule in
     let missing = c.in_ok-arg-9.ensures.shape c.flag-4.ensures.local ∙ ap₂ with_rule registers c.flag-4.ensures.rule in
-    IfOk-weaker c.arg-10.result _ _
-    (λ command added. added.shape c.images_arg.ensures.local ∙ ap₂ with_rule missing c.images_arg.ensures.rule)
-    c.arg-10.ensures
+    let checked = c.in_ok-arg-10.ensures.shape c.flag-5.ensures.local ∙ ap₂ with_rule missing c.flag-5.ensures.rule in
+    IfOk-weaker c.arg-11.result _ _
+    (λ command added. added.shape c.images_arg.ensures.local ∙ ap₂ with_rule checked c.images_arg.ensures.rule)
+    c.arg-11.ensures

@@ -1,0 +1,9 @@
+use Rattle.std.proofs.Common.{refl}
+use Rattle.process_memory.proofs.Reading.{reads_end}
+use Rattle.py_selftest.proofs.telling.entry_told.Goals as goal
+
+pub returns-in-None : goal.returns-in-None
+returns-in-None g c = rw c.in-None.is (reads_end 2 refl)
+
+pub returns-in-Some : goal.returns-in-Some
+returns-in-Some g c = rw c.in-Some.is c.entry_in.ensures

@@ -1,0 +1,163 @@
+-- A layout beside what its process says of itself, number by number. That a number which differs makes the layout
+-- another one, and which numbers have to be told, is this project's rule.
+use Rattle.std.specs.Prelude.{◌≡◌, ◌≢◌, ◌⊎◌, ℕ, ◌==◌, ◌&&◌, ◌||◌, not, is_none, Bool, true, false, if◌then◌else◌}
+use Rattle.std.specs.Prelude.{List, [], ◌∷◌}
+use Rattle.std.specs.Prelude.{codes, map, Option, Some, None, Result, Ok, Err, Vec}
+use Rattle.std.specs.Global.{Global}
+use Rattle.std.specs.List.{AllByRecursion, list_any}
+use Rattle.process_memory.specs.Memory.{Memory, Found, ◌>>=◌}
+use Rattle.process_memory.specs.declared.memory.ReadFault.{ReadFault}
+use Rattle.py_fields.specs.declared.layout.Layout.{Layout}
+use Rattle.py_selftest.specs.declared.checking.KeyTold.{KeyTold}
+use Rattle.py_selftest.specs.declared.checking.LayoutCheck.{LayoutCheck}
+use Rattle.py_selftest.specs.declared.checking.Trust.{Trust}
+use Rattle.py_selftest.specs.declared.checking.Verdict.{Verdict}
+use Rattle.py_selftest.specs.declared.checking.Verdict.TheVariants.{Agrees, Differs, Doubtful, Silent, NotDescribed}
+use Rattle.py_selftest.specs.declared.rows.BuiltIn.TheVariants.{Metatype}
+use Rattle.py_selftest.specs.declared.telling.Release.{Release}
+use Rattle.py_selftest.specs.declared.telling.Telling.{Telling}
+use Rattle.py_selftest.specs.declared.telling.Types.{Types}
+use Rattle.py_selftest.specs.declared.trusting.Build.{Build}
+use Rattle.py_selftest.specs.declared.trusting.Table.{Table}
+use Rattle.py_selftest.specs.Keys.{number_in}
+use Rattle.py_selftest.specs.Rows.{Row, the_rows}
+use Rattle.py_selftest.specs.Telling.{applies, kept, member_told, row_told}
+use Rattle.py_selftest.specs.Trusting.{address_if, build_of, is_described, is_doubted, own_place_at, table_at, trusted}
+
+-- a number of a layout, beside what the process says; one is needed where a layout is confirmed only if it is told
+pub record KeyShown : Type 0 where
+  pub name : List ℕ
+  pub layout : Option ℕ
+  pub process : Option ℕ
+  pub needed : Bool
+
+-- the same, as the code has it
+abbrev pub key_shown : KeyTold → KeyShown
+key_shown k = record { name = k.name.now; layout = k.layout; process = k.process; needed = k.needed }
+
+abbrev pub key_told : Layout → Release → Row → Option ℕ → KeyShown
+key_told l release row process = record {
+  name = row.name;
+  layout = number_in l row.key;
+  process = process;
+  needed = applies row.needed release;
+}
+
+-- the numbers of some rows, each beside what the process says
+unfoldable pub keys_from : Memory → Layout → Telling → List Row → Found (List KeyShown)
+keys_from m l t [] = Ok []
+keys_from m l t (row ∷ rows) = do
+  process ← row_told m t row
+  rest ← keys_from m l t rows
+  Ok (key_told l t.release row process ∷ rest)
+
+abbrev pub keys_result : Result (Vec KeyTold Global) ReadFault → Result (List KeyShown) ReadFault
+keys_result (Ok keys) = Ok (map key_shown keys.items)
+keys_result (Err error) = Err error
+
+abbrev pub are_other : Option ℕ → Option ℕ → Bool
+are_other None process = false
+are_other (Some layout) None = false
+are_other (Some layout) (Some process) = not (layout == process)
+
+-- the process says another number than the layout
+abbrev pub differs : KeyShown → Bool
+differs k = are_other k.layout k.process
+
+-- it is needed and not told
+abbrev pub lacks : KeyShown → Bool
+lacks k = k.needed && (is_none k.layout || is_none k.process)
+
+-- what is said of a layout of which needed numbers are not told
+abbrev pub unconfirmed : Bool → Verdict
+unconfirmed doubted = if doubted then Doubtful else Silent
+
+-- what is said of a layout by its numbers
+abbrev pub verdict_of : Bool → List KeyShown → Verdict
+verdict_of doubted keys =
+    if list_any differs keys then Differs
+    else (if list_any lacks keys then unconfirmed doubted else Agrees)
+
+abbrev pub untried : Types → Release → Option ℕ → Telling
+untried types release own = record { types = types; own = own; table = None; release = release }
+
+-- what tells the numbers, by what was read of `type` and of the table
+abbrev pub trust_of : Types → Option ℕ → Release → Option ℕ → Option ℕ → Option Table → Trust
+trust_of types runtime release own size table = record {
+  telling = record {
+    types = trusted types own size;
+    own = own;
+    table = address_if table runtime;
+    release = release;
+  };
+  build = build_of release own table;
+  doubted = is_doubted own size;
+}
+
+unfoldable pub trust_at : Memory → Types → Option ℕ → Release → Found Trust
+trust_at m types runtime release = do
+  own ← kept (own_place_at m types.metatype)
+  size ← kept (member_told m (untried types release own) Metatype (codes "__basicsize__") 8)
+  table ← kept (table_at m release runtime)
+  Ok (trust_of types runtime release own size table)
+
+-- a layout, beside what the process says
+pub record CheckShown : Type 0 where
+  pub verdict : Verdict
+  pub build : Option Build
+  pub keys : List KeyShown
+
+abbrev pub check_shown : LayoutCheck → CheckShown
+check_shown c = record { verdict = c.verdict; build = c.build; keys = map key_shown c.keys.items }
+
+abbrev pub check_result : Result LayoutCheck ReadFault → Result CheckShown ReadFault
+check_result (Ok check) = Ok (check_shown check)
+check_result (Err error) = Err error
+
+abbrev pub check_of : Trust → List KeyShown → CheckShown
+check_of trust keys = record { verdict = verdict_of trust.doubted keys; build = trust.build; keys = keys }
+
+-- the same of a version of which it is known what its types tell
+unfoldable pub described_at : Memory → Layout → Types → Option ℕ → Release → Found CheckShown
+described_at m l types runtime release = do
+  trust ← trust_at m types runtime release
+  keys ← keys_from m l trust.telling the_rows
+  Ok (check_of trust keys)
+
+abbrev pub not_described : CheckShown
+not_described = record { verdict = NotDescribed; build = None; keys = [] }
+
+abbrev pub check_if : Memory → Layout → Types → Option ℕ → Release → Bool → Found CheckShown
+check_if m l types runtime release true = described_at m l types runtime release
+check_if m l types runtime release false = Ok not_described
+
+-- a layout, beside what the process says of itself
+unfoldable pub check_at : Memory → Layout → Types → Option ℕ → Release → Found CheckShown
+check_at m l types runtime release = check_if m l types runtime release (is_described release)
+
+-- ---- what the answers say
+
+-- where both are told, they are one number; and both are told where it is needed
+pub record Agree (k : KeyShown) : Type 0 where
+  pub same : (layout process : ℕ) → k.layout ≡ Some layout → k.process ≡ Some process → layout ≡ process
+  pub told : k.needed ≡ true → (n : ℕ) × (k.layout ≡ Some n) × (k.process ≡ Some n)
+
+abbrev pub AllAgree : List KeyShown → Type 0
+AllAgree keys = AllByRecursion Agree keys
+
+-- both are told, and they are two numbers
+pub record Differ (k : KeyShown) : Type 0 where
+  pub layout : ℕ
+  pub process : ℕ
+  pub says : k.layout ≡ Some layout
+  pub tells : k.process ≡ Some process
+  pub other : layout ≢ process
+
+unfoldable pub OneDiffers : List KeyShown → Type 0
+OneDiffers [] = ⊥
+OneDiffers (k ∷ ks) = Differ k ⊎ OneDiffers ks
+
+-- what an answer says of each number
+pub record Says (c : CheckShown) : Type 0 where
+  pub agrees : c.verdict ≡ Agrees → AllAgree c.keys
+  pub differs : c.verdict ≡ Differs → OneDiffers c.keys

@@ -1,0 +1,65 @@
+-- The lines that say what a process says of a layout.
+use Rattle.std.specs.Prelude.{ℕ, ◌+◌, ◌++◌, ◌&&◌, Bool, true, false, if◌then◌else◌, List, [], ◌∷◌, codes}
+use Rattle.std.specs.Prelude.{Option, Some, None, is_none, is_some, decimal}
+use Rattle.py_selftest.specs.declared.checking.Verdict.{Verdict}
+use Rattle.py_selftest.specs.declared.checking.Verdict.TheVariants.{Agrees, Differs, Doubtful, Silent, NotDescribed}
+use Rattle.py_selftest.specs.declared.trusting.Build.{Build}
+use Rattle.py_selftest.specs.declared.trusting.Build.TheVariants.{FreeThreaded, TraceRefs}
+use Rattle.py_selftest.specs.Checking.{CheckShown, KeyShown, differs}
+
+abbrev pub is_as_asked : Bool → Option ℕ → Bool
+is_as_asked told process = if told then is_some process else is_none process
+
+-- a number that the layout has is told, or is not told
+abbrev pub is_told : Bool → KeyShown → Bool
+is_told told k = is_some k.layout && is_as_asked told k.process
+
+abbrev pub one_if : Bool → ℕ
+one_if true = 1
+one_if false = 0
+
+-- how many are
+unfoldable pub count_told : Bool → List KeyShown → ℕ
+count_told told [] = 0
+count_told told (k ∷ ks) = one_if (is_told told k) + count_told told ks
+
+abbrev pub told_text : ℕ → ℕ → List ℕ
+told_text told untold =
+    codes ": " ++ (decimal told ++ (codes " keys told, " ++ (decimal untold ++ codes " not told\n")))
+
+abbrev pub counts_text : List KeyShown → List ℕ
+counts_text keys = told_text (count_told true keys) (count_told false keys)
+
+abbrev pub numbers_text : List ℕ → ℕ → ℕ → List ℕ
+numbers_text name layout process = codes "Layout differs: " ++ (name ++ (codes " is " ++ (decimal layout
+    ++ (codes ", the process says " ++ (decimal process ++ codes "\n")))))
+
+abbrev pub numbers_of : List ℕ → Option ℕ → Option ℕ → List ℕ
+numbers_of name None process = []
+numbers_of name (Some layout) None = []
+numbers_of name (Some layout) (Some process) = numbers_text name layout process
+
+-- the line of a number, if the process says another one
+abbrev pub differ_text : KeyShown → List ℕ
+differ_text k = if differs k then numbers_of k.name k.layout k.process else []
+
+unfoldable pub differing_text : List KeyShown → List ℕ
+differing_text [] = []
+differing_text (k ∷ ks) = differ_text k ++ differing_text ks
+
+abbrev pub build_text : Option Build → List ℕ
+build_text None = []
+build_text (Some FreeThreaded) = codes "The process is of a free-threaded build\n"
+build_text (Some TraceRefs) = codes "The process is of a build with trace refs\n"
+
+-- what is said of a layout by its numbers
+abbrev pub verdict_text : Verdict → List KeyShown → List ℕ
+verdict_text Agrees keys = codes "Layout agrees" ++ counts_text keys
+verdict_text Differs keys = differing_text keys
+verdict_text Doubtful keys =
+    codes "Layout not confirmed, type's own table is none that is known" ++ counts_text keys
+verdict_text Silent keys = codes "Layout not confirmed" ++ counts_text keys
+verdict_text NotDescribed keys = codes "Layout not confirmed: this version's types are not known\n"
+
+abbrev pub check_text : CheckShown → List ℕ
+check_text c = build_text c.build ++ verdict_text c.verdict c.keys

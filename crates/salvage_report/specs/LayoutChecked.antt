@@ -1,0 +1,53 @@
+-- What a process says of its layout, by the symbols of its images. Which symbols name the built-in types and the runtime
+-- record is CPython's rule (Include/cpython, `PyAPI_DATA`).
+use Rattle.std.specs.Prelude.{◌≡◌, ℕ, ◌==◌, Bool, true, false, if◌then◌else◌, List, Option, Some, None, Ok, codes, option_map}
+use Rattle.image_memory.specs.Backed.{regions_of}
+use Rattle.process_memory.specs.Memory.{Found, Memory, byte_at}
+use Rattle.py_fields.specs.declared.layout.Layout.{Layout}
+use Rattle.py_fields.specs.declared.version.Version.{Version}
+use Rattle.py_process.specs.Facts.{Known, known_of, symbol_known}
+use Rattle.py_process.specs.Reports.{memory_in}
+use Rattle.py_selftest.specs.Checking.{CheckShown, check_at, check_shown}
+use Rattle.py_selftest.specs.declared.checking.LayoutCheck.{LayoutCheck}
+use Rattle.py_selftest.specs.declared.telling.Release.{Release}
+use Rattle.py_selftest.specs.declared.telling.Types.{Types}
+use Rattle.core_stacks.specs.Process.{OpenedProcess}
+use Rattle.core_stacks.specs.declared.process.Process.{Process}
+
+abbrev pub release_of : Version → Release
+release_of v = record { major = v.major; minor = v.minor }
+
+-- `bytes` is `str` in Python 2
+abbrev pub bytes_symbol : Version → List ℕ
+bytes_symbol v = if v.major == 2 then codes "PyString_Type" else codes "PyBytes_Type"
+
+-- where the built-in types stand
+abbrev pub types_of : Known → Version → Types
+types_of k v = record {
+  metatype = symbol_known k (codes "PyType_Type");
+  code = symbol_known k (codes "PyCode_Type");
+  frame = symbol_known k (codes "PyFrame_Type");
+  tuple = symbol_known k (codes "PyTuple_Type");
+  bytes = symbol_known k (bytes_symbol v);
+  long = symbol_known k (codes "PyLong_Type");
+}
+
+abbrev pub checked_by : Memory → Layout → Known → Version → Found CheckShown
+checked_by m l k v = check_at m l (types_of k v) (symbol_known k (codes "_PyRuntime")) (release_of v)
+
+-- the layout of an opened process, beside what the process says, over the memory of its core and images
+abbrev pub layout_checked : OpenedProcess → Found CheckShown
+layout_checked o = checked_by (memory_in o.dumped) o.layout o.known o.version
+
+-- the same of the code's own value of it
+abbrev pub process_checked : Process → Found CheckShown
+process_checked p = checked_by (byte_at (regions_of p.dump)) p.layout (known_of p.info) p.version
+
+-- it is told where it is asked for
+abbrev pub CheckIs : Bool → Found CheckShown → Option LayoutCheck → Type 0
+CheckIs false checked told = told ≡ None
+CheckIs true checked None = ⊥
+CheckIs true checked (Some told) = checked ≡ Ok (check_shown told)
+
+abbrev pub check_of : Option LayoutCheck → Option CheckShown
+check_of told = option_map check_shown told
