@@ -35,14 +35,7 @@ fn checked(alloc: Global, minor: u64) -> Result<LayoutCheck, Fail> {
         long: None,
     };
     let release = Release { major: 3, minor };
-    Ok(check_layout(
-        alloc,
-        &mut part,
-        &Layout::sample(),
-        &types,
-        None,
-        release,
-    )?)
+    Ok(check_layout(alloc, &mut part, &Layout::sample(), &types, None, release)?)
 }
 
 #[test]
@@ -51,7 +44,10 @@ fn what_is_not_told_confirms_nothing(rt: HostRuntime) -> Result<(), Fail> {
     assert!(rt; check.verdict == Verdict::Silent);
     let mut text = String::new(rt.alloc());
     push_check(&mut text, &check)?;
-    assert!(rt; text.as_str() == "Layout not confirmed: 1 keys told, 43 not told\n", "{text}");
+    assert!(rt;
+        text.as_str() == "Layout not confirmed: 1 keys told, 43 not told\n",
+        "{text}"
+    );
     Ok(())
 }
 
