@@ -6,7 +6,7 @@ core.
 
 Of each Python of 3.8 to 3.13 that is installed, or of the oldest and the newest of them without --all: a core of many threads,
 one with locals of what was written in files alone, one with sub-interpreters, and one whose records lie scattered in a heap of 60 MB,
-of which 30 may be read (with --all 2 GB, and 512). What is told is equal, but for what was missed, nothing is said, and what the tool
+of which 40 may be read (with --all 2 GB, and 512). What is told is equal, but for what was missed, nothing is said, and what the tool
 shows is the same. Of cores that are made: a chain that leads from segment to segment, a sub-interpreter in what is given last, a
 chain that is broken, a core that becomes shorter while it is read. With --all what the tool takes for a core of 8 GB is told too.
 The status is 0 exactly where nothing that was tried failed.
@@ -373,7 +373,7 @@ def main() -> int:
     try:
         names = core_names()
         found = words.python or some(pythons(), words.all)
-        sizes = (2000, 512) if words.all else (60, 30)
+        sizes = (2000, 512) if words.all else (60, 40)
         failed += tell_each("real_parts", lambda it: tried(salvage, it, names, sizes), found, (Skip, DeriveError))
         failed += try_large(program, salvage, found[-1], names) if words.all else 0
     except Skip as reason:
