@@ -1,6 +1,6 @@
 -- What status 0 tells where a core is asked for.
 use Rattle.std.proofs.Common.{◌≡◌, ◌≢◌, ℕ, List, [], ◌∷◌, ◌++◌, Ok, Err}
-use Rattle.std.proofs.Common.{Some, None, inl, inr, ap, sym, subst, true, ◌∙◌}
+use Rattle.std.proofs.Common.{Some, None, inl, inr, ap, sym, subst, true, false, refl, ◌∙◌}
 use Rattle.std.specs.Prelude.{Option, Bool, codes}
 use Rattle.std.specs.Io.KnownBytes.{Appends}
 use Rattle.std.proofs.lemmas.Option.{same_Some}
