@@ -19,7 +19,7 @@ use Rattle.py_selftest.specs.declared.telling.Telling.{Telling}
 use Rattle.py_selftest.specs.declared.telling.Types.{Types}
 use Rattle.py_selftest.specs.declared.trusting.Build.{Build}
 use Rattle.py_selftest.specs.declared.trusting.Table.{Table}
-use Rattle.py_selftest.specs.Keys.{number_in}
+use Rattle.py_selftest.specs.Keys.{key_name, number_in}
 use Rattle.py_selftest.specs.Rows.{Row, the_rows}
 use Rattle.py_selftest.specs.Telling.{applies, kept, member_told, row_told}
 use Rattle.py_selftest.specs.Trusting.{address_if, build_of, is_described, is_doubted, own_place_at, table_at, trusted}
@@ -33,11 +33,11 @@ pub record KeyShown : Type 0 where
 
 -- the same, as the code has it
 abbrev pub key_shown : KeyTold → KeyShown
-key_shown k = record { name = k.name.now; layout = k.layout; process = k.process; needed = k.needed }
+key_shown k = record { name = key_name k.key; layout = k.layout; process = k.process; needed = k.needed }
 
 abbrev pub key_told : Layout → Release → Row → Option ℕ → KeyShown
 key_told l release row process = record {
-  name = row.name;
+  name = key_name row.key;
   layout = number_in l row.key;
   process = process;
   needed = applies row.needed release;

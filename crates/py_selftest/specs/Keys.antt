@@ -1,5 +1,5 @@
 -- The numbers of a layout, by their keys (`Layout` of py_fields). Sizes are none of them: they are made of the others.
-use Rattle.std.specs.Prelude.{ℕ, Option, Some, option_map}
+use Rattle.std.specs.Prelude.{ℕ, codes, List, Option, Some, option_map}
 use Rattle.std.specs.Option.{option_and_then}
 use Rattle.py_fields.specs.declared.layout.Layout.{Layout}
 use Rattle.py_fields.specs.declared.layout.CframeAt.{CframeAt}
@@ -99,3 +99,71 @@ abbrev pub number_in : Layout → Key → Option ℕ
 number_in l (Record key) = record_number l key
 number_in l (Object key) = object_number l key
 number_in l (Free key) = free_number l key
+
+abbrev pub record_name : RecordKey → List ℕ
+record_name InterpreterThreads = codes "interpreter.threads"
+record_name InterpreterModules = codes "interpreter.modules"
+record_name InterpreterGil = codes "interpreter.gil"
+record_name ThreadNext = codes "thread.next"
+record_name ThreadInterp = codes "thread.interp"
+record_name ThreadId = codes "thread.id"
+record_name ThreadFrame = codes "thread.frame"
+record_name ThreadNativeId = codes "thread.native_id"
+record_name FrameCode = codes "frame.code"
+record_name FrameBack = codes "frame.back"
+record_name FrameInstr = codes "frame.instr"
+record_name FrameEntry = codes "frame.entry"
+record_name FrameLocals = codes "frame.locals"
+record_name FrameCodeTagBits = codes "frame.code_tag_bits"
+record_name CodeArgcount = codes "code.argcount"
+record_name CodeNlocals = codes "code.nlocals"
+record_name CodeFirstLine = codes "code.first_line"
+record_name CodeFilename = codes "code.filename"
+record_name CodeName = codes "code.name"
+record_name CodeTable = codes "code.table"
+record_name CodeVarnames = codes "code.varnames"
+record_name CodeStart = codes "code.start"
+
+abbrev pub object_name : ObjectKey → List ℕ
+object_name StringLength = codes "string.length"
+object_name StringState = codes "string.state"
+object_name StringPointer = codes "string.pointer"
+object_name StringShortAt = codes "string.short_at"
+object_name StringLongAt = codes "string.long_at"
+object_name StringKindShift = codes "string.kind_shift"
+object_name StringCompactBit = codes "string.compact_bit"
+object_name StringAsciiBit = codes "string.ascii_bit"
+object_name BytesLength = codes "bytes.length"
+object_name BytesAt = codes "bytes.at"
+object_name TupleCount = codes "tuple.count"
+object_name TupleAt = codes "tuple.at"
+object_name ListCount = codes "list.count"
+object_name ListItems = codes "list.items"
+object_name ObjectKlass = codes "object.klass"
+object_name KlassName = codes "klass.name"
+object_name KlassFlags = codes "klass.flags"
+object_name KlassDictOffset = codes "klass.dict_offset"
+object_name LongCount = codes "long.count"
+object_name LongDigits = codes "long.digits"
+object_name SmallValue = codes "small.value"
+object_name FloatValue = codes "float.value"
+
+abbrev pub free_name : FreeKey → List ℕ
+free_name CframeCurrent = codes "cframe.current"
+free_name DictKeys = codes "dict.keys"
+free_name DictValues = codes "dict.values"
+free_name KeysUsed = codes "keys.used"
+free_name KeysSlots = codes "keys.slots"
+free_name KeysLog2 = codes "keys.log2"
+free_name KeysKind = codes "keys.kind"
+free_name HeapCachedKeys = codes "heap.cached_keys"
+free_name HeapInline = codes "heap.inline"
+free_name GilLocked = codes "gil.locked"
+free_name GilHolder = codes "gil.holder"
+free_name OffsetsHead = codes "offsets.head"
+
+-- the name of a number in a layout file
+abbrev pub key_name : Key → List ℕ
+key_name (Record key) = record_name key
+key_name (Object key) = object_name key
+key_name (Free key) = free_name key

@@ -47,7 +47,6 @@ pub data Source : Type 0 where
 
 -- a number of a layout, and what tells it
 pub record Row : Type 0 where
-  pub name : List ℕ
   pub key : Key
   pub width : ℕ
   pub entry : Entry
@@ -64,7 +63,6 @@ source_of code.OwnPlace = Source.OwnPlace
 
 abbrev pub row_of : CodeRow → Row
 row_of r = record {
-  name = r.name.now;
   key = r.key;
   width = r.width;
   entry = r.entry;
@@ -72,9 +70,8 @@ row_of r = record {
   needed = r.needed;
 }
 
-abbrev row : List ℕ → Key → ℕ → Entry → Source → When → Row
-row name key width entry source needed = record {
-  name = name;
+abbrev row : Key → ℕ → Entry → Source → When → Row
+row key width entry source needed = record {
   key = key;
   width = width;
   entry = entry;
@@ -84,61 +81,61 @@ row name key width entry source needed = record {
 
 unfoldable pub the_rows : List Row
 the_rows =
-    row (codes "interpreter.threads") (Record InterpreterThreads) 8 (At 72) Source.Nothing Never
-    ∷ row (codes "interpreter.modules") (Record InterpreterModules) 8 (At 88) Source.Nothing Never
-    ∷ row (codes "interpreter.gil") (Record InterpreterGil) 8 (At 112) Source.Nothing Never
-    ∷ row (codes "thread.next") (Record ThreadNext) 8 (At 168) Source.Nothing Never
-    ∷ row (codes "thread.interp") (Record ThreadInterp) 8 (At 176) Source.Nothing Never
-    ∷ row (codes "thread.id") (Record ThreadId) 8 (At 192) Source.Nothing Never
-    ∷ row (codes "thread.frame") (Record ThreadFrame) 8 (At 184) Source.Nothing Never
-    ∷ row (codes "thread.native_id") (Record ThreadNativeId) 8 (At 200) Source.Nothing Never
-    ∷ row (codes "cframe.current") (Free CframeCurrent) 8 Absent Source.Nothing Never
-    ∷ row (codes "frame.code") (Record FrameCode) 8 (At 240) (Source.Member Frame (codes "f_code")) BeforeEleven
-    ∷ row (codes "frame.back") (Record FrameBack) 8 (At 232) (Source.Member Frame (codes "f_back")) BeforeEleven
-    ∷ row (codes "frame.instr") (Record FrameInstr) 4 (At 248) (Source.Member Frame (codes "f_lasti")) Never
-    ∷ row (codes "frame.entry") (Record FrameEntry) 8 Absent Source.Nothing Never
-    ∷ row (codes "frame.locals") (Record FrameLocals) 8 (At 256) (Source.BasicSize Frame 8 BeforeEleven) BeforeEleven
-    ∷ row (codes "frame.code_tag_bits") (Record FrameCodeTagBits) 8 Absent Source.Nothing Never
-    ∷ row (codes "code.argcount") (Record CodeArgcount) 4 (At 320) (Source.Member Code (codes "co_argcount")) Always
-    ∷ row (codes "code.nlocals") (Record CodeNlocals) 4 Absent (Source.Member Code (codes "co_nlocals")) Always
-    ∷ row (codes "code.first_line") (Record CodeFirstLine) 4 (At 312)
+    row (Record InterpreterThreads) 8 (At 72) Source.Nothing Never
+    ∷ row (Record InterpreterModules) 8 (At 88) Source.Nothing Never
+    ∷ row (Record InterpreterGil) 8 (At 112) Source.Nothing Never
+    ∷ row (Record ThreadNext) 8 (At 168) Source.Nothing Never
+    ∷ row (Record ThreadInterp) 8 (At 176) Source.Nothing Never
+    ∷ row (Record ThreadId) 8 (At 192) Source.Nothing Never
+    ∷ row (Record ThreadFrame) 8 (At 184) Source.Nothing Never
+    ∷ row (Record ThreadNativeId) 8 (At 200) Source.Nothing Never
+    ∷ row (Free CframeCurrent) 8 Absent Source.Nothing Never
+    ∷ row (Record FrameCode) 8 (At 240) (Source.Member Frame (codes "f_code")) BeforeEleven
+    ∷ row (Record FrameBack) 8 (At 232) (Source.Member Frame (codes "f_back")) BeforeEleven
+    ∷ row (Record FrameInstr) 4 (At 248) (Source.Member Frame (codes "f_lasti")) Never
+    ∷ row (Record FrameEntry) 8 Absent Source.Nothing Never
+    ∷ row (Record FrameLocals) 8 (At 256) (Source.BasicSize Frame 8 BeforeEleven) BeforeEleven
+    ∷ row (Record FrameCodeTagBits) 8 Absent Source.Nothing Never
+    ∷ row (Record CodeArgcount) 4 (At 320) (Source.Member Code (codes "co_argcount")) Always
+    ∷ row (Record CodeNlocals) 4 Absent (Source.Member Code (codes "co_nlocals")) Always
+    ∷ row (Record CodeFirstLine) 4 (At 312)
     (Source.Member Code (codes "co_firstlineno")) Always
-    ∷ row (codes "code.filename") (Record CodeFilename) 8 (At 280) (Source.Member Code (codes "co_filename")) Always
-    ∷ row (codes "code.name") (Record CodeName) 8 (At 288) (Source.Member Code (codes "co_name")) Always
-    ∷ row (codes "code.table") (Record CodeTable) 8 (At 304) Source.LineTable Always
-    ∷ row (codes "code.varnames") (Record CodeVarnames) 8 (At 328) (Source.Member Code (codes "co_varnames")) Never
-    ∷ row (codes "code.start") (Record CodeStart) 8 (At 344) (Source.BasicSize Code 0 FromEleven) Never
-    ∷ row (codes "string.length") (Object StringLength) 8 (At 552) Source.Nothing Never
-    ∷ row (codes "string.state") (Object StringState) 8 (At 544) Source.Nothing Never
-    ∷ row (codes "string.pointer") (Object StringPointer) 8 Absent Source.Nothing Never
-    ∷ row (codes "string.short_at") (Object StringShortAt) 8 (At 560) Source.Nothing Never
-    ∷ row (codes "string.long_at") (Object StringLongAt) 8 Absent Source.Nothing Never
-    ∷ row (codes "string.kind_shift") (Object StringKindShift) 8 Absent Source.Nothing Never
-    ∷ row (codes "string.compact_bit") (Object StringCompactBit) 8 Absent Source.Nothing Never
-    ∷ row (codes "string.ascii_bit") (Object StringAsciiBit) 8 Absent Source.Nothing Never
-    ∷ row (codes "bytes.length") (Object BytesLength) 8 (At 520) Source.Nothing Never
-    ∷ row (codes "bytes.at") (Object BytesAt) 8 (At 528) (Source.BasicSize Bytes 1 Always) Never
-    ∷ row (codes "tuple.count") (Object TupleCount) 8 (At 416) Source.Nothing Never
-    ∷ row (codes "tuple.at") (Object TupleAt) 8 (At 408) (Source.BasicSize Tuple 0 Always) Never
-    ∷ row (codes "list.count") (Object ListCount) 8 (At 440) Source.Nothing Never
-    ∷ row (codes "list.items") (Object ListItems) 8 (At 432) Source.Nothing Never
-    ∷ row (codes "object.klass") (Object ObjectKlass) 8 (At 360) Source.OwnPlace Never
-    ∷ row (codes "klass.name") (Object KlassName) 8 (At 376) Source.Nothing Never
-    ∷ row (codes "klass.flags") (Object KlassFlags) 8 (At 392) (Source.Member Metatype (codes "__flags__")) Never
-    ∷ row (codes "klass.dict_offset") (Object KlassDictOffset) 8 Absent
+    ∷ row (Record CodeFilename) 8 (At 280) (Source.Member Code (codes "co_filename")) Always
+    ∷ row (Record CodeName) 8 (At 288) (Source.Member Code (codes "co_name")) Always
+    ∷ row (Record CodeTable) 8 (At 304) Source.LineTable Always
+    ∷ row (Record CodeVarnames) 8 (At 328) (Source.Member Code (codes "co_varnames")) Never
+    ∷ row (Record CodeStart) 8 (At 344) (Source.BasicSize Code 0 FromEleven) Never
+    ∷ row (Object StringLength) 8 (At 552) Source.Nothing Never
+    ∷ row (Object StringState) 8 (At 544) Source.Nothing Never
+    ∷ row (Object StringPointer) 8 Absent Source.Nothing Never
+    ∷ row (Object StringShortAt) 8 (At 560) Source.Nothing Never
+    ∷ row (Object StringLongAt) 8 Absent Source.Nothing Never
+    ∷ row (Object StringKindShift) 8 Absent Source.Nothing Never
+    ∷ row (Object StringCompactBit) 8 Absent Source.Nothing Never
+    ∷ row (Object StringAsciiBit) 8 Absent Source.Nothing Never
+    ∷ row (Object BytesLength) 8 (At 520) Source.Nothing Never
+    ∷ row (Object BytesAt) 8 (At 528) (Source.BasicSize Bytes 1 Always) Never
+    ∷ row (Object TupleCount) 8 (At 416) Source.Nothing Never
+    ∷ row (Object TupleAt) 8 (At 408) (Source.BasicSize Tuple 0 Always) Never
+    ∷ row (Object ListCount) 8 (At 440) Source.Nothing Never
+    ∷ row (Object ListItems) 8 (At 432) Source.Nothing Never
+    ∷ row (Object ObjectKlass) 8 (At 360) Source.OwnPlace Never
+    ∷ row (Object KlassName) 8 (At 376) Source.Nothing Never
+    ∷ row (Object KlassFlags) 8 (At 392) (Source.Member Metatype (codes "__flags__")) Never
+    ∷ row (Object KlassDictOffset) 8 Absent
     (Source.Member Metatype (codes "__dictoffset__")) Never
-    ∷ row (codes "long.count") (Object LongCount) 8 (At 496) Source.Nothing Never
-    ∷ row (codes "long.digits") (Object LongDigits) 8 (At 504) (Source.BasicSize Long 0 Always) Never
-    ∷ row (codes "small.value") (Object SmallValue) 8 Absent Source.Nothing Never
-    ∷ row (codes "float.value") (Object FloatValue) 8 (At 480) Source.Nothing Never
-    ∷ row (codes "dict.keys") (Free DictKeys) 8 (At 456) Source.Nothing Never
-    ∷ row (codes "dict.values") (Free DictValues) 8 (At 464) Source.Nothing Never
-    ∷ row (codes "keys.used") (Free KeysUsed) 8 Absent Source.Nothing Never
-    ∷ row (codes "keys.slots") (Free KeysSlots) 8 Absent Source.Nothing Never
-    ∷ row (codes "keys.log2") (Free KeysLog2) 8 Absent Source.Nothing Never
-    ∷ row (codes "keys.kind") (Free KeysKind) 8 Absent Source.Nothing Never
-    ∷ row (codes "heap.cached_keys") (Free HeapCachedKeys) 8 Absent Source.Nothing Never
-    ∷ row (codes "heap.inline") (Free HeapInline) 8 Absent Source.Nothing Never
-    ∷ row (codes "gil.locked") (Free GilLocked) 8 (Behind 136 120) Source.Nothing Never
-    ∷ row (codes "gil.holder") (Free GilHolder) 8 (Behind 144 120) Source.Nothing Never
-    ∷ row (codes "offsets.head") (Free OffsetsHead) 8 Absent Source.Nothing Never ∷ []
+    ∷ row (Object LongCount) 8 (At 496) Source.Nothing Never
+    ∷ row (Object LongDigits) 8 (At 504) (Source.BasicSize Long 0 Always) Never
+    ∷ row (Object SmallValue) 8 Absent Source.Nothing Never
+    ∷ row (Object FloatValue) 8 (At 480) Source.Nothing Never
+    ∷ row (Free DictKeys) 8 (At 456) Source.Nothing Never
+    ∷ row (Free DictValues) 8 (At 464) Source.Nothing Never
+    ∷ row (Free KeysUsed) 8 Absent Source.Nothing Never
+    ∷ row (Free KeysSlots) 8 Absent Source.Nothing Never
+    ∷ row (Free KeysLog2) 8 Absent Source.Nothing Never
+    ∷ row (Free KeysKind) 8 Absent Source.Nothing Never
+    ∷ row (Free HeapCachedKeys) 8 Absent Source.Nothing Never
+    ∷ row (Free HeapInline) 8 Absent Source.Nothing Never
+    ∷ row (Free GilLocked) 8 (Behind 136 120) Source.Nothing Never
+    ∷ row (Free GilHolder) 8 (Behind 144 120) Source.Nothing Never
+    ∷ row (Free OffsetsHead) 8 Absent Source.Nothing Never ∷ []

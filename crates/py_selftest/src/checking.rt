@@ -8,7 +8,7 @@ ghost use Rattle.py_selftest.specs.Checking.{described_at, differs, key_shown, k
 ghost use Rattle.py_selftest.specs.Checking.{trust_at, trust_of, unconfirmed, untried, verdict_of};
 ghost use Rattle.py_selftest.specs.Rows.{row_of};
 
-use crate::keys::number_in;
+use crate::keys::{Key, key_name, number_in};
 use crate::rows::{BuiltIn, Row, rows};
 use crate::telling::{Release, Telling, Types, applies, kept, member_told, row_told};
 use crate::trusting::{
@@ -22,10 +22,10 @@ use std::alloc::Global;
 const SIZE_WIDTH: u64 = 8;
 
 /// A number of a layout, beside what the process says.
-#[derive(Debug, Drop)]
+#[derive(Drop)]
 pub struct KeyTold {
-    /// Its key, as in a layout file: `frame.locals`.
-    pub name: &'static str,
+    /// Its key.
+    pub(crate) key: Key,
     /// The layout's number; none where the layout has no such key.
     pub layout: Option<u32>,
     /// The process's number; none where nothing tells it.
@@ -50,7 +50,7 @@ pub enum Verdict {
 }
 
 /// A layout, beside what the process says.
-#[derive(Debug, Drop)]
+#[derive(Drop)]
 pub struct LayoutCheck {
     pub verdict: Verdict,
     /// The build, where it is none of the usual ones.
@@ -59,12 +59,21 @@ pub struct LayoutCheck {
     pub keys: Vec<KeyTold>,
 }
 
+impl KeyTold {
+    /// Its key, as in a layout file: `frame.locals`.
+    pub fn name(&self) -> &'static str
+        ensures { result.now ≡ (key_shown self.now).name }
+    {
+        key_name(self.key)
+    }
+}
+
 /// A row's number, beside what the process says.
 fn key_told(layout: &Layout, release: Release, row: &Row, process: Option<u64>) -> KeyTold
     ensures { key_shown result ≡ key_told layout.now release (row_of row.now) process }
 {
     KeyTold {
-        name: row.name,
+        key: row.key,
         layout: number_in(layout, row.key),
         process,
         needed: applies(row.needed, release),

@@ -1,6 +1,7 @@
 //! The numbers of a layout, by their keys. Sizes are none of them: they are made of the others.
 ghost use Rattle.std.specs.Prelude.{◌≡◌};
-ghost use Rattle.py_selftest.specs.Keys.{free_number, number_in, object_number, record_number};
+ghost use Rattle.py_selftest.specs.Keys.{free_name, free_number, key_name, number_in, object_name, object_number};
+ghost use Rattle.py_selftest.specs.Keys.{record_name, record_number};
 
 use py_fields::Layout;
 
@@ -188,5 +189,96 @@ pub(crate) fn number_in(layout: &Layout, key: Key) -> Option<u32>
         Key::Record(key) => record_number(layout, key),
         Key::Object(key) => object_number(layout, key),
         Key::Free(key) => free_number(layout, key),
+    }
+}
+
+/// Its name in a layout file.
+fn record_name(key: RecordKey) -> &'static str
+    ensures { result.now ≡ record_name key }
+{
+    match key {
+        RecordKey::InterpreterThreads => "interpreter.threads",
+        RecordKey::InterpreterModules => "interpreter.modules",
+        RecordKey::InterpreterGil => "interpreter.gil",
+        RecordKey::ThreadNext => "thread.next",
+        RecordKey::ThreadInterp => "thread.interp",
+        RecordKey::ThreadId => "thread.id",
+        RecordKey::ThreadFrame => "thread.frame",
+        RecordKey::ThreadNativeId => "thread.native_id",
+        RecordKey::FrameCode => "frame.code",
+        RecordKey::FrameBack => "frame.back",
+        RecordKey::FrameInstr => "frame.instr",
+        RecordKey::FrameEntry => "frame.entry",
+        RecordKey::FrameLocals => "frame.locals",
+        RecordKey::FrameCodeTagBits => "frame.code_tag_bits",
+        RecordKey::CodeArgcount => "code.argcount",
+        RecordKey::CodeNlocals => "code.nlocals",
+        RecordKey::CodeFirstLine => "code.first_line",
+        RecordKey::CodeFilename => "code.filename",
+        RecordKey::CodeName => "code.name",
+        RecordKey::CodeTable => "code.table",
+        RecordKey::CodeVarnames => "code.varnames",
+        RecordKey::CodeStart => "code.start",
+    }
+}
+
+/// Its name in a layout file.
+fn object_name(key: ObjectKey) -> &'static str
+    ensures { result.now ≡ object_name key }
+{
+    match key {
+        ObjectKey::StringLength => "string.length",
+        ObjectKey::StringState => "string.state",
+        ObjectKey::StringPointer => "string.pointer",
+        ObjectKey::StringShortAt => "string.short_at",
+        ObjectKey::StringLongAt => "string.long_at",
+        ObjectKey::StringKindShift => "string.kind_shift",
+        ObjectKey::StringCompactBit => "string.compact_bit",
+        ObjectKey::StringAsciiBit => "string.ascii_bit",
+        ObjectKey::BytesLength => "bytes.length",
+        ObjectKey::BytesAt => "bytes.at",
+        ObjectKey::TupleCount => "tuple.count",
+        ObjectKey::TupleAt => "tuple.at",
+        ObjectKey::ListCount => "list.count",
+        ObjectKey::ListItems => "list.items",
+        ObjectKey::ObjectKlass => "object.klass",
+        ObjectKey::KlassName => "klass.name",
+        ObjectKey::KlassFlags => "klass.flags",
+        ObjectKey::KlassDictOffset => "klass.dict_offset",
+        ObjectKey::LongCount => "long.count",
+        ObjectKey::LongDigits => "long.digits",
+        ObjectKey::SmallValue => "small.value",
+        ObjectKey::FloatValue => "float.value",
+    }
+}
+
+/// Its name in a layout file.
+fn free_name(key: FreeKey) -> &'static str
+    ensures { result.now ≡ free_name key }
+{
+    match key {
+        FreeKey::CframeCurrent => "cframe.current",
+        FreeKey::DictKeys => "dict.keys",
+        FreeKey::DictValues => "dict.values",
+        FreeKey::KeysUsed => "keys.used",
+        FreeKey::KeysSlots => "keys.slots",
+        FreeKey::KeysLog2 => "keys.log2",
+        FreeKey::KeysKind => "keys.kind",
+        FreeKey::HeapCachedKeys => "heap.cached_keys",
+        FreeKey::HeapInline => "heap.inline",
+        FreeKey::GilLocked => "gil.locked",
+        FreeKey::GilHolder => "gil.holder",
+        FreeKey::OffsetsHead => "offsets.head",
+    }
+}
+
+/// The name of a number in a layout file: `frame.locals`.
+pub(crate) fn key_name(key: Key) -> &'static str
+    ensures { result.now ≡ key_name key }
+{
+    match key {
+        Key::Record(key) => record_name(key),
+        Key::Object(key) => object_name(key),
+        Key::Free(key) => free_name(key),
     }
 }

@@ -96,7 +96,7 @@ fn push_differ(text: &mut String, key: &KeyTold) -> Result<(), AllocError>
 {
     let other = differs(key);
     if other {
-        return push_both(text, key.name, key.layout, key.process);
+        return push_both(text, key.name(), key.layout, key.process);
     }
     Ok(())
 }

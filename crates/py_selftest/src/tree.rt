@@ -39,7 +39,7 @@ fn key_value(alloc: Global, key: &KeyTold) -> Result<Value, AllocError>
     let layout = number_value(layout_number(key));
     let process = number_value(key.process);
     json!(in alloc; {
-        "key": key.name,
+        "key": key.name(),
         "layout": layout,
         "process": process
     })
@@ -74,7 +74,7 @@ fn listed_value(alloc: Global, listed: Listed, key: &KeyTold) -> Result<Value, A
     match listed {
         Listed::Told => key_value(alloc, key),
         Listed::Differing => key_value(alloc, key),
-        Listed::Untold => Value::try_from_str(alloc, key.name),
+        Listed::Untold => Value::try_from_str(alloc, key.name()),
     }
 }
 
