@@ -4,6 +4,7 @@ ghost use Rattle.py_process.specs.Facts.{known_of, symbol_known};
 ghost use Rattle.salvage_report.specs.LayoutChecked.{CheckIs, bytes_symbol, process_checked, release_of, types_of};
 
 use core_stacks::Process;
+use missed_reads::{Missed, Misses};
 use py_layout::Version;
 use py_selftest::{LayoutCheck, Release, Types, check_layout};
 use std::alloc::{AllocError, Global};
@@ -50,11 +51,11 @@ fn release_of(version: &Version) -> Release
     }
 }
 
-/// What the process says of its layout. The one error is want of memory.
-fn checked(alloc: Global, process: &Process) -> Result<LayoutCheck, AllocError>
+/// What the process says of its layout. Reads that are refused are kept. The one error is want of memory.
+fn checked(alloc: Global, process: &Process, misses: &mut Misses) -> Result<LayoutCheck, AllocError>
     ensures { IfOk result (λ check. CheckIs true (process_checked process.now) (Some check)) }
 {
-    let mut view = process.dump.view();
+    let mut view = Missed::new(process.dump.view(), misses);
     let types = types_of(process);
     let runtime = symbol_of(process, b"_PyRuntime");
     let release = release_of(&process.version);
@@ -69,12 +70,13 @@ pub(crate) fn check_section(
     alloc: Global,
     asked: bool,
     process: &Process,
+    misses: &mut Misses,
 ) -> Result<Option<LayoutCheck>, AllocError>
     ensures { IfOk result (CheckIs asked (process_checked process.now)) }
 {
     if !asked {
         return Ok(None);
     }
-    let check = checked(alloc, process)?;
+    let check = checked(alloc, process, misses)?;
     Ok(Some(check))
 }

@@ -101,7 +101,7 @@ fn shown_left(
     ensures { ShowsLeft (asked_salvage words.now) process crash result }
 {
     let salvaged = salvaged_of(alloc, words, &process, crash, misses)?;
-    let check = check_section(alloc, words.sections.check_layout, &process)?;
+    let check = check_section(alloc, words.sections.check_layout, &process, misses)?;
     let core = process.dump.core();
     let told = tell_sections(
         alloc,
