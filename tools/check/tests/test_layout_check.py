@@ -103,8 +103,8 @@ class Layouts(Case):
         self.programs(salvage(interpreter([ONE]), layout_check=layout_check("differs", [WRONG])), help_text="--check-layout")
         stand_ins.program(self.program, triage=text)
         said = f"{self.core}: dump_core: {LINE}: no stack is shown\n"
-        self.assertEqual(self.tool("--group"), (0, text, said))
-        shown = self.tool("--group", "--any-layout")
+        self.assertEqual(self.tool("--group", "--by=exact"), (0, text, said))
+        shown = self.tool("--group", "--by=exact", "--any-layout")
         self.assertEqual((shown[0], shown[2]), (0, ""))
         self.assertIn("        Thread 99 (gil) (crashed)\n", shown[1])
 
