@@ -167,10 +167,10 @@ def check_layouts(salvage: Path, core: Left, tables: Sequence[Table], room: Path
 
 
 def tool_on(program: Path, salvage: Path, core: Path, layouts: Path, *words: str) -> Tree:
-    """The JSON of the tool on a core. It has to show stacks, and to say nothing."""
+    """The JSON of the tool on a core. It has to show stacks, and to say nothing of the layout."""
     command = [sys.executable, "-B", TOOLS / "dump_core.py", core, "--program", program, "--salvage", salvage, "--layouts", layouts, "-j", *words]
     run = ran(command)
-    if run.status != 0 or run.err:
+    if run.status != 0 or "layout" in run.err:
         raise Failure(f"the tool ended with status {run.status}, and said {run.err!r}")
     return json.loads(run.out)
 
