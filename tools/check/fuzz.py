@@ -221,7 +221,7 @@ def core_named(words: Sequence[str]) -> str:
 
 def sections_asked(words: Sequence[str]) -> Sequence[str]:
     """The flags of sections of which `pysalvage` is asked."""
-    return [it for it in options_of(words) if it in ("--signal", "--registers", "--missing")]
+    return [it for it in options_of(words) if it in ("--signal", "--registers", "--missing", "--check-layout")]
 
 
 def fault_of_salvage(run: Run, out: bytes) -> Optional[str]:

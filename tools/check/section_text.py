@@ -81,9 +81,26 @@ def check_missing(tree: Tree) -> None:
         raise Failure(f"{tree!r} tells of no blocks")
 
 
+VERDICTS = ("agrees", "differs", "doubtful", "silent", "not described")
+"""What is said of a layout."""
+
+
+def check_layout(tree: Tree) -> None:
+    """Fails where an object isn't a layout beside what its process says of itself."""
+    check_keys(tree, "build", "differ", "known", "not_told", "told", "verdict")
+    if tree["verdict"] not in VERDICTS or tree["build"] not in (None, "free-threaded", "trace-refs") or tree["known"] is not None:
+        raise Failure(f"{tree['verdict']!r} of {tree['build']!r} is no verdict")
+    for it in (*tree["told"], *tree["differ"]):
+        check_keys(it, "key", "layout", "process")
+    others = [it for it in tree["told"] if it["layout"] != it["process"]]
+    if others != tree["differ"] or bool(others) != (tree["verdict"] == "differs"):
+        raise Failure(f"{tree['verdict']!r}, where {others} differ")
+
+
 def check_sections(tree: Tree, asked: Collection[str]) -> None:
     """Fails where a section isn't there by its flag, or has not what it has to have."""
-    for key, flag in (("signal_info", "--signal"), ("registers", "--registers"), ("missing", "--missing")):
+    for key, flag in (("signal_info", "--signal"), ("registers", "--registers"), ("missing", "--missing"),
+                      ("layout_check", "--check-layout")):
         if (tree[key] is not None) != (flag in asked):
             raise Failure(f"the section {key} is {tree[key]!r}, where {asked!r} are asked for")
     if tree["signal_info"] is not None:
@@ -92,6 +109,8 @@ def check_sections(tree: Tree, asked: Collection[str]) -> None:
         check_thread(it)
     if tree["missing"] is not None:
         check_missing(tree["missing"])
+    if tree["layout_check"] is not None:
+        check_layout(tree["layout_check"])
 
 
 def signal_lines(tree: Tree) -> List[str]:
@@ -122,3 +141,19 @@ def register_lines(tree: Tree) -> List[str]:
         cells = [f" {name:>8} {int(held[name], 16):016x}" for name in names]
         lines += ["   " + "".join(cells[at : at + 4]) for at in range(0, len(cells), 4)]
     return lines
+
+
+def layout_lines(tree: Tree) -> List[str]:
+    """The lines of what the process says of its layout, where that is asked for."""
+    check = tree["layout_check"]
+    if check is None:
+        return []
+    builds = {"free-threaded": "The process is of a free-threaded build", "trace-refs": "The process is of a build with trace refs"}
+    lines = [builds[check["build"]]] if check["build"] else []
+    if check["verdict"] == "differs":
+        return lines + [f"Layout differs: {it['key']} is {it['layout']}, the process says {it['process']}" for it in check["differ"]]
+    if check["verdict"] == "not described":
+        return [*lines, "Layout not confirmed: this version's types are not known"]
+    fronts = {"agrees": "Layout agrees", "silent": "Layout not confirmed",
+              "doubtful": "Layout not confirmed, type's own table is none that is known"}
+    return [*lines, f"{fronts[check['verdict']]}: {len(check['told'])} keys told, {len(check['not_told'])} not told"]

@@ -265,7 +265,7 @@ def left(random: Random, command: str) -> Told:
         # (the head, the word in front of its threads, those of the runtime section, and the bss' two)
         return Told(WORDS["pysalvage"], files, 1, f"no interpreter found: {4 + words} addresses looked at")
     tree = {"interpreters": list(whole.interpreters), "more": whole.more, "process": None,
-            "missing": None, "registers": None, "signal": 11 if notes else None, "signal_info": None, "version": "3.9.0"}
+            "layout_check": None, "missing": None, "registers": None, "signal": 11 if notes else None, "signal_info": None, "version": "3.9.0"}
     return told_of(random, files, tree, () if limit == 100 else ("-n", str(limit)))
 
 
@@ -277,7 +277,7 @@ def searched(random: Random, command: str) -> Told:
     if one["threads_end"] != WHOLE:
         return Told(WORDS["pysalvage"], files, 1, "no interpreter found: 2 addresses looked at")
     tree = {"interpreters": [with_marks({**one, "searched": True}, None, None)], "more": False, "process": None,
-            "missing": None, "registers": None, "signal": None, "signal_info": None, "version": "3.9.0"}
+            "layout_check": None, "missing": None, "registers": None, "signal": None, "signal_info": None, "version": "3.9.0"}
     return told_of(random, files, tree, ())
 
 
