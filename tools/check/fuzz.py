@@ -42,6 +42,7 @@ from child_cores import Failure
 from row import Row, row
 from sample_cores import walk_text
 from salvage_text import text_of, tree_of
+from section_text import check_missing
 from slim_reader import check_slim
 from told import TELLERS, Told, number_of
 from told_salvage import SALVAGE_TELLERS
@@ -294,13 +295,28 @@ def fault_of_text(run: Run, out: bytes) -> Optional[str]:
     return None if TEXTS[run.command].fullmatch(out) else "the text isn't one of its command"
 
 
+def is_told_of_missed(run: Run, status: int) -> bool:
+    """Whether an object that tells what was missed has to be there: under status 1, where it is asked for."""
+    return run.command == "pysalvage" and status == 1 and "--missing" in sections_asked(run.words)
+
+
+def is_missed_object(out: bytes) -> bool:
+    """Whether a text is an object that tells what was missed, and nothing else."""
+    tree = json.loads(out)
+    check_missing(tree["missing"])
+    return list(tree) == ["missing"]
+
+
 def fault_of(run: Run, answer: Answer) -> Optional[str]:
     """What is wrong with an answer, if anything is."""
     if answer.status not in STATUSES[run.command]:
         return f"status {answer.status}"
     if answer.status == 0:
         return "a line under status 0" if answer.said else fault_of_text(run, answer.out)
-    if answer.out:
+    if is_told_of_missed(run, answer.status):
+        if not is_missed_object(answer.out):
+            return f"what was missed is told as {answer.out!r}"
+    elif answer.out:
         return f"a text under status {answer.status}"
     lines = LINES["pysalvage" if run.command == "pysalvage" else "pystacks"][answer.status]
     return None if any(it.fullmatch(answer.said) for it in lines) else f"the line {answer.said!r}"
