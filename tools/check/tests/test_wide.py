@@ -62,7 +62,9 @@ class Wide(unittest.TestCase):
 
     def test_text(self):
         lines = self.tool("--stacks").splitlines()
-        self.assertEqual(lines[:4], ["Python v3.9.0", "", "200 threads", "    190 of 200: f (a.py)"])
+        # (a made core has no types that could confirm its layout)
+        told = "layout: unconfirmed, since the process tells too little"
+        self.assertEqual([it for it in lines if it != told][:4], ["Python v3.9.0", "", "200 threads", "    190 of 200: f (a.py)"])
         stacks = lines[lines.index("", 3) + 1 :]
         # (threads stand in the reverse of the interpreter's order)
         own = [line for number in reversed(range(OTHERS)) for line in (f"Thread 0x{0x1000 + EQUAL + number:X}", f"    own_{number} (a.py)", "    <module> (a.py)")]
