@@ -83,7 +83,7 @@ CHECKS = (
     Check("real/real_salvage", OF_BOTH),
     Check("real/real_parts", OF_BOTH, (*OF_BOTH, "--all")),
     Check("real/real_layout", OF_BOTH, (*OF_BOTH, "--all")),
-    Check("real/real_fleet", OF_PROGRAM, (*OF_PROGRAM, "--all", "--fleet")),
+    Check("real/real_fleet", OF_BOTH, (*OF_BOTH, "--all", "--fleet")),
     Check("real/real_sections", ("--salvage", SALVAGE), ("--salvage", SALVAGE, "--all")),
     Check("real/arm_core", OF_PROGRAM),
     Check("real/compare_elf", OF_LISTING),

@@ -1,7 +1,7 @@
 #!/usr/bin/env python3
 """Groups real cores of a service that dies by twelve bugs, by several Pythons, with other workers and requests each time.
 
-    tools/check/real/real_fleet.py --program crates/pystacks/out/pystacks [--all] [--fleet] [PYTHON..]
+    tools/check/real/real_fleet.py --program crates/pystacks/out/pystacks --salvage crates/pysalvage/out/pysalvage [--all] [--fleet] [PYTHON..]
 
 The groups by `crash` have to be the bugs, by each version; the lines that --keys writes have to give the same groups, byte by
 byte. With --all there are some 200 cores, else each bug twice by one Python. With --fleet the same cores are looked at by GNU
@@ -17,6 +17,7 @@ import sys
 import tempfile
 import time
 from concurrent.futures import ThreadPoolExecutor
+from dataclasses import dataclass
 from pathlib import Path
 from typing import Dict, List, Sequence, Set, Tuple
 
@@ -33,6 +34,19 @@ LEAST, LAST = 8, 13
 """The minor versions that are tried."""
 
 
+@dataclass(frozen=True)
+class Programs:
+    """The programs that the tool runs."""
+
+    pystacks: Path
+    pysalvage: Path
+
+    @property
+    def words(self) -> List[str]:
+        """The tool's words for them."""
+        return [f"--program={self.pystacks}", f"--salvage={self.pysalvage}"]
+
+
 def core_of(python: str, names: str, service: Path, room: Path, bug: str, seed: int) -> Path:
     """The core of one death, by a service that stands in one place."""
     room.mkdir(parents=True)
@@ -44,9 +58,9 @@ def core_of(python: str, names: str, service: Path, room: Path, bug: str, seed: 
     return kept
 
 
-def ran_tool(program: Path, *words: str, given: str = "") -> str:
+def ran_tool(program: Programs, *words: str, given: str = "") -> str:
     """What the tool prints."""
-    command = [sys.executable, "-B", str(TOOL), f"--program={program}", *words]
+    command = [sys.executable, "-B", str(TOOL), *program.words, *words]
     done = subprocess.run(command, input=given, capture_output=True, text=True, check=False)
     if done.returncode != 0:
         raise Failure(f"the tool ended with status {done.returncode}: {done.stderr.strip()[:300]}")
@@ -78,7 +92,7 @@ def check_groups(lines: Sequence[Dict[str, object]]) -> int:
     return len(by_key)
 
 
-def check_broken(program: Path, core: Path, room: Path) -> None:
+def check_broken(program: Programs, core: Path, room: Path) -> None:
     """A core that is cut to its front, one that is none and one that isn't there cost themselves alone."""
     cut, none = room / "core.cut.0", room / "core.none.0"
     cut.write_bytes(core.read_bytes()[:5000])
@@ -89,7 +103,7 @@ def check_broken(program: Path, core: Path, room: Path) -> None:
         raise Failure(f"of four cores, one of which is whole, the causes are {[it['cause'] for it in lines]}")
 
 
-def check_from(program: Path, text: str, cores: Sequence[Path], room: Path) -> None:
+def check_from(program: Programs, text: str, cores: Sequence[Path], room: Path) -> None:
     """Lines that were written give the groups that the cores give."""
     file = room / "keys"
     file.write_text(text)
@@ -102,15 +116,15 @@ def check_from(program: Path, text: str, cores: Sequence[Path], room: Path) -> N
             raise Failure(f"the lines of the standard input give other groups by {by} than the cores")
 
 
-def fleet_answers(program: Path, cores: Sequence[Path], room: Path) -> List[Tuple[str, str, float]]:
+def fleet_answers(program: Programs, cores: Sequence[Path], room: Path) -> List[Tuple[str, str, float]]:
     """The lines by GNU parallel and by dask.distributed, where these are there, each with its seconds."""
     names = room / "names"
     names.write_text("".join(f"{it}\n" for it in cores))
-    tool = f"{sys.executable} -B {TOOL} --program={program} --keys"
+    tool = f"{sys.executable} -B {TOOL} {' '.join(program.words)} --keys"
     found = []
     for what, command in (
         ("parallel", ["parallel", "--keep-order", "--retries", "2", "--joblog", str(room / "log"), "-n", "20", "-a", str(names), tool]),
-        ("dask", ["/usr/bin/python3", "-B", str(ROOT / "tools" / "core_fleet.py"), "--local", "2", "--program", str(program), "--names", str(names)]),
+        ("dask", ["/usr/bin/python3", "-B", str(ROOT / "tools" / "core_fleet.py"), "--local", "2", *program.words, "--names", str(names)]),
     ):
         start = time.monotonic()
         try:
@@ -127,7 +141,7 @@ def fleet_answers(program: Path, cores: Sequence[Path], room: Path) -> List[Tupl
     return found
 
 
-def check_fleet(program: Path, text: str, cores: Sequence[Path], room: Path) -> None:
+def check_fleet(program: Programs, text: str, cores: Sequence[Path], room: Path) -> None:
     """Each engine's lines give the groups of one machine, byte by byte."""
     wanted = ran_tool(program, "--group", "--from", "-", given=text)
     for what, lines, seconds in fleet_answers(program, cores, room):
@@ -151,7 +165,7 @@ def chosen_pythons(named: Sequence[str], is_all: bool) -> List[str]:
     return ordered if is_all else ordered[-1:]
 
 
-def tried(program: Path, found: Sequence[str], room: Path, times: int, is_fleet: bool) -> str:
+def tried(program: Programs, found: Sequence[str], room: Path, times: int, is_fleet: bool) -> str:
     """What comes of all of it."""
     names = core_names()
     service = room / "srv" / "service.py"
@@ -174,17 +188,21 @@ def tried(program: Path, found: Sequence[str], room: Path, times: int, is_fleet:
 def main() -> int:
     parser = argparse.ArgumentParser(description=__doc__.split("\n")[0])
     parser.add_argument("--program", required=True, type=Path)
+    parser.add_argument("--salvage", required=True, type=Path)
     parser.add_argument("--all", action="store_true")
     parser.add_argument("--fleet", action="store_true")
     parser.add_argument("python", nargs="*")
     words = parser.parse_args()
     found = chosen_pythons(words.python, words.all)
+    if not words.salvage.is_file():
+        print("real_fleet: skipped: pysalvage isn't built, which knows which thread got the signal")
+        return 0
     if not found:
         print(f"real_fleet: skipped: there is no Python from 3.{LEAST} to 3.{LAST}")
         return 0
     with tempfile.TemporaryDirectory(prefix="real-fleet-") as name:
         try:
-            print("real_fleet: " + tried(words.program.resolve(), found, Path(name), 3 if words.all else 2, words.fleet))
+            print("real_fleet: " + tried(Programs(words.program.resolve(), words.salvage.resolve()), found, Path(name), 3 if words.all else 2, words.fleet))
         except Skip as reason:
             print(f"real_fleet: skipped: {reason}")
         except Failure as reason:

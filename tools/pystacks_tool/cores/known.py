@@ -1,6 +1,7 @@
 """What the notes of a core tell of its process, whatever the programs say of it: so that a refusal says what is known."""
 
 import os
+import re
 import struct
 from dataclasses import dataclass
 from typing import IO, Optional, Set
@@ -19,10 +20,13 @@ OWN_ID, ARGUMENTS, ROOM = 24, 56, 80
 """Where the process's record has its id and its arguments, and how many bytes these have (elf_prpsinfo, of 64 bits)."""
 
 OTHERS = (
-    ("pypy", "PyPy"), ("libpypy", "PyPy"), ("graalpy", "GraalPy"), ("libjvm.so", "a Java machine"), ("node", "Node.js"), ("ruby", "Ruby"),
-    ("libruby", "Ruby"), ("perl", "Perl"), ("php", "PHP"),
+    ("pypy.*|libpypy.*", "PyPy"), ("graalpy.*", "GraalPy"), (r"libjvm\.so", "a Java machine"), ("node|nodejs", "Node.js"),
+    (r"ruby[0-9.]*|libruby[-0-9.]*\.so.*", "Ruby"), ("perl[0-9.]*", "Perl"), ("php[0-9.]*", "PHP"),
 )
-"""Other interpreters by how the names of their files begin."""
+"""Other interpreters by the names of their files."""
+
+MOST = 1 << 26
+"""How many bytes of notes are read at most: many note segments may stand over the same bytes."""
 
 
 @dataclass
@@ -48,8 +52,10 @@ class Known:
 
 def read_notes(file: IO[bytes], known: Known) -> None:
     """Adds what the notes tell: of the first record of a thread the signal."""
+    left = MOST
     for it in headers_of(file) or []:
-        if it.kind != NOTE:
+        left -= it.size if it.kind == NOTE else 0
+        if it.kind != NOTE or left < 0:
             continue
         for _, kind, data in notes_of(read_at(file, it.offset, it.size)):
             if kind == STATUS_RECORD and len(data) >= PID + 4:
@@ -66,7 +72,7 @@ def other_among(names: Set[bytes]) -> str:
     files = [os.path.basename(os.fsdecode(it)) for it in names]
     if any(it.startswith(("python", "libpython")) for it in files):
         return ""
-    return next((what for front, what in OTHERS for it in files if it.startswith(front)), "")
+    return next((what for names_of, what in OTHERS for it in files if re.fullmatch(names_of, it)), "")
 
 
 def known_of(file: IO[bytes]) -> Known:

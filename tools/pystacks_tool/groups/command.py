@@ -73,12 +73,15 @@ def group_by_key(options: Options) -> int:
 def page_of_gathered(options: Options, gathered_groups: List[Gathered]) -> str:
     """The page of such groups, each with the stacks of its first core."""
     groups, reports = [], {}
+    refused = Group(f"Without stacks: {sum(it.count for it in gathered_groups if not it.has_stacks)}", [], False)
     for number, it in enumerate(gathered_groups, 1):
         names = [os.fsencode(name) for name in it.cores]
-        groups.append(Group(title_of(number, it), names, it.has_stacks))
         if it.has_stacks:
+            groups.append(Group(title_of(number, it), names))
             reports[names[0]] = report_of(options, open_core(options, it.cores[0]))
-    return group_page(groups, reports, style_of(options))
+        else:
+            refused.cores += [name + b": " + str(it.line["cause"]).encode("utf-8", "backslashreplace") for name in names]
+    return group_page([*groups, *[refused] * bool(refused.cores)], reports, style_of(options))
 
 
 def report_of(options: Options, core: OpenedCore) -> Optional[Report]:

@@ -10,9 +10,11 @@ from concurrent.futures import ThreadPoolExecutor
 from pathlib import Path
 from typing import Dict, Iterator, List
 
+from pystacks_tool.faults import say
 from pystacks_tool.groups.lines import Line, line_of, refused_line, text_of
 from pystacks_tool.options import Options
 from pystacks_tool.output import written
+from pystacks_tool.places import salvage_program
 
 PACKAGES = Path(__file__).resolve().parents[2]
 """The folder of the package."""
@@ -85,6 +87,9 @@ def say_progress(done: int, all_of_them: int, refused: int) -> None:
 def lines_of(options: Options) -> Iterator[Line]:
     """The lines of all cores, in their order, as many at a time as are asked for."""
     refused = 0
+    if salvage_program(options.salvage, options.program) is None:
+        say("pysalvage isn't there, so it isn't known which thread got the signal: the one that held the lock stands for it",
+            "build pysalvage, or name it by --salvage")
     with ThreadPoolExecutor(options.jobs or os.cpu_count() or 1) as pool:
         for done, line in enumerate(pool.map(lambda name: line_by_process(options, name), options.cores), 1):
             refused += line["cause"] is not None

@@ -71,7 +71,7 @@ def told_line(options: Options, name: str, report: Report) -> Line:
     if one is None:
         return refused_line(options, name, "no thread has frames")
     frames = [brief(place_of(it)) for it in one.thread.frames[:10]]
-    process = report.process[1] if report.process else known_at(name).arguments
+    process = (report.process[1] if report.process else known_at(name).arguments).strip()
     return {
         **base_line(options, name), "signal": report.signal, "signal_name": signal_name(report.signal or 0),
         "told": in_line(report.signal_told), "process": brief(in_line(process)), "version": report.version,
