@@ -33,6 +33,7 @@ import changes
 import rows_dump
 import rows_frames
 import rows_merge
+import rows_names
 import rows_reach
 import rows_salvage
 import rows_slim
@@ -52,7 +53,7 @@ SECONDS, MEMORY = 10, 300 * 10 ** 6
 COMMANDS: Dict[str, Callable[[], List[Row]]] = {
     "dump": rows_dump.rows, "walk": rows_walk.rows, "triage": rows_triage.rows, "reach": rows_reach.rows,
     "merge": rows_merge.rows, "locate": rows_slim.rows, "slim": rows_slim.slim_rows, "sample": lambda: [],
-    "pysalvage": rows_salvage.rows, "frames": rows_frames.rows}
+    "pysalvage": lambda: [*rows_salvage.rows(), *rows_names.rows()], "frames": rows_frames.rows}
 """The commands, and whose rows the cases begin with. (`pysalvage` and `listing`, which has `frames`, are programs of their
 own. Those of `sample` begin with cores that it writes.)"""
 
@@ -222,7 +223,14 @@ def core_named(words: Sequence[str]) -> str:
 
 def sections_asked(words: Sequence[str]) -> Sequence[str]:
     """The flags of sections of which `pysalvage` is asked."""
-    return [it for it in options_of(words) if it in ("--signal", "--registers", "--missing", "--check-layout")]
+    return [it for it in options_of(words) if it in SECTIONS]
+
+
+SECTIONS = ("--signal", "--registers", "--missing", "--check-layout", "--names", "--exceptions", "--tasks", "--native")
+"""The flags of all sections."""
+
+OWN_TEXTS = ("--exceptions", "--tasks", "--native")
+"""Those whose text isn't made again from the JSON here."""
 
 
 def fault_of_salvage(run: Run, out: bytes) -> Optional[str]:
@@ -234,7 +242,10 @@ def fault_of_salvage(run: Run, out: bytes) -> Optional[str]:
     answer = run.again("-j", *run.words)
     if answer.status != 0 or answer.said:
         return f"status {answer.status} with -j: {answer.said!r}"
-    text = text_of(tree_of(answer.out, limit, sections), core_named(run.words))
+    tree = tree_of(answer.out, limit, sections)
+    if set(OWN_TEXTS) & set(sections):
+        return None
+    text = text_of(tree, core_named(run.words))
     return None if out == text.encode() else "the text isn't that of its JSON"
 
 

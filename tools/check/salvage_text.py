@@ -7,7 +7,7 @@ from typing import Any, Collection, Dict, Iterable, List, Optional, Sequence
 
 import rooms  # noqa: F401
 from child_cores import Failure
-from section_text import check_sections, layout_lines, register_lines, signal_lines
+from section_text import check_sections, layout_lines, name_lines, register_lines, signal_lines
 from pystacks_tool.ask.salvage import frames_end, locals_fault, threads_end, unreadable, why_of
 
 Tree = Dict[str, Any]
@@ -134,7 +134,8 @@ def check_interpreter(tree: object) -> None:
 def check_told(tree: object, limit: int, sections: Collection[str] = ()) -> None:
     """Fails where something is no JSON of this program, which shows so many frames at each end of a thread, and these
     sections."""
-    need_keys(tree, "interpreters", "layout_check", "missing", "more", "process", "registers", "signal", "signal_info", "version")
+    need_keys(tree, "exceptions", "interpreters", "layout_check", "missing", "more", "names", "native", "process", "registers", "signal",
+              "signal_info", "tasks", "version")
     check_sections(tree, sections)
     need_truths(tree["more"])
     need_texts(tree["version"])
@@ -225,6 +226,7 @@ def text_of(tree: Tree, core: str) -> str:
     lines += [f"Python v{tree['version']}", ""]
     lines += [line for it in interpreters for line in lines_of_interpreter(it, len(interpreters) > 1)]
     lines += ["... more than 16 interpreters"] if tree["more"] else []
+    lines += [front + escaped(name, False) for front, name in name_lines(tree)]
     lines += register_lines(tree)
     lines += layout_lines(tree)
     return "".join(f"{line}\n" for line in lines)

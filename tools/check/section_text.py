@@ -1,7 +1,7 @@
 """What the sections of `pysalvage` have to have in its JSON, and in its text, by docs/SALVAGE.md."""
 
 import re
-from typing import Any, Collection, Dict, List
+from typing import Any, Collection, Dict, List, Tuple
 
 import rooms  # noqa: F401
 from child_cores import Failure
@@ -100,7 +100,8 @@ def check_layout(tree: Tree) -> None:
 def check_sections(tree: Tree, asked: Collection[str]) -> None:
     """Fails where a section isn't there by its flag, or has not what it has to have."""
     for key, flag in (("signal_info", "--signal"), ("registers", "--registers"), ("missing", "--missing"),
-                      ("layout_check", "--check-layout")):
+                      ("layout_check", "--check-layout"), ("names", "--names"), ("exceptions", "--exceptions"), ("tasks", "--tasks"),
+                      ("native", "--native")):
         if (tree[key] is not None) != (flag in asked):
             raise Failure(f"the section {key} is {tree[key]!r}, where {asked!r} are asked for")
     if tree["signal_info"] is not None:
@@ -111,6 +112,31 @@ def check_sections(tree: Tree, asked: Collection[str]) -> None:
         check_missing(tree["missing"])
     if tree["layout_check"] is not None:
         check_layout(tree["layout_check"])
+    if tree["names"] is not None:
+        check_names(tree)
+
+
+def check_names(tree: Tree) -> None:
+    """Fails where the names aren't those of the threads of each interpreter that is shown."""
+    shown = {it["address"]: sorted(row["thread_id"] for row in it["threads"]) for it in tree["interpreters"]}
+    for names in tree["names"]:
+        check_keys(names, "fault", "interpreter", "threads")
+        if shown.pop(names["interpreter"], None) != sorted(it["thread_id"] for it in names["threads"]):
+            raise Failure(f"names of other threads: {names!r}")
+        if names["fault"] and any(it["name"] is not None for it in names["threads"]):
+            raise Failure(f"names under a fault: {names!r}")
+    if shown:
+        raise Failure(f"no names of {sorted(shown)}")
+
+
+def name_lines(tree: Tree) -> List[Tuple[str, str]]:
+    """The lines of names, where these are asked for: the front of each, and what is escaped behind it."""
+    lines = []
+    for it in tree["names"] or ():
+        if it["fault"]:
+            lines.append((f"No names of the interpreter at {it['interpreter']}: {it['fault']}", ""))
+        lines += [(f"Name of thread 0x{row['thread_id']:X}: ", row["name"]) for row in it["threads"] if row["name"] is not None]
+    return lines
 
 
 def signal_lines(tree: Tree) -> List[str]:

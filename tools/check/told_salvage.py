@@ -254,6 +254,10 @@ def told_of(random: Random, files: Files, tree: Tree, options: Sequence[str]) ->
     return Told((*words, *options, *(["-j"] if is_json else [])), files, 0, out=out.encode())
 
 
+NONE_TOLD = {"exceptions": None, "names": None, "native": None, "tasks": None}
+"""The sections that are read in memory, where none is asked for."""
+
+
 def left(random: Random, command: str) -> Told:
     """A process of one of these forms, whose interpreter the symbol of the runtime leads to."""
     limit = random.choice((1, 2, 3, 100, 4096))
@@ -265,7 +269,7 @@ def left(random: Random, command: str) -> Told:
         # (the head, the word in front of its threads, those of the runtime section, and the bss' two)
         return Told(WORDS["pysalvage"], files, 1, f"no interpreter found: {4 + words} addresses looked at")
     tree = {"interpreters": list(whole.interpreters), "more": whole.more, "process": None,
-            "layout_check": None, "missing": None, "registers": None, "signal": 11 if notes else None, "signal_info": None, "version": "3.9.0"}
+            **NONE_TOLD, "layout_check": None, "missing": None, "registers": None, "signal": 11 if notes else None, "signal_info": None, "version": "3.9.0"}
     return told_of(random, files, tree, () if limit == 100 else ("-n", str(limit)))
 
 
@@ -277,7 +281,7 @@ def searched(random: Random, command: str) -> Told:
     if one["threads_end"] != WHOLE:
         return Told(WORDS["pysalvage"], files, 1, "no interpreter found: 2 addresses looked at")
     tree = {"interpreters": [with_marks({**one, "searched": True}, None, None)], "more": False, "process": None,
-            "layout_check": None, "missing": None, "registers": None, "signal": None, "signal_info": None, "version": "3.9.0"}
+            **NONE_TOLD, "layout_check": None, "missing": None, "registers": None, "signal": None, "signal_info": None, "version": "3.9.0"}
     return told_of(random, files, tree, ())
 
 

@@ -101,6 +101,50 @@ class Registers:
 
 
 @dataclass(frozen=True)
+class NativeFrame:
+    """A native frame."""
+
+    pc: int
+    """Where it stood."""
+    function: Optional[str]
+    """Its function, where its file has a symbol for it."""
+    offset: Optional[int]
+    """How far behind that function's start."""
+    file: Optional[str]
+    """Its file; nothing where it is in none."""
+    address: Optional[int]
+    """Its address in that file."""
+    is_signal: bool = False
+    """Whether the system called it, by a signal."""
+    is_guess: bool = False
+    """Whether it follows from a guess."""
+
+
+@dataclass(frozen=True)
+class NativeStack:
+    """The native stack of a thread of the process."""
+
+    native: int
+    """The id that the system gave."""
+    number: Optional[int]
+    """The id of the Python thread that it is, where it is one."""
+    is_crashed: bool
+    frames: Tuple[NativeFrame, ...] = ()
+    """The first ones, the newest before others."""
+    between: int = 0
+    """How many frames aren't shown."""
+    last: Tuple[NativeFrame, ...] = ()
+    end: str = ""
+    """How it ends, where it doesn't end as a whole one does."""
+    is_told: bool = True
+    """Whether the thread's registers are known."""
+    guessed: Tuple[NativeFrame, ...] = ()
+    """What follows from a guess."""
+    guessed_between: int = 0
+    guessed_end: str = ""
+
+
+@dataclass(frozen=True)
 class Number:
     """A number of a layout that the dead process tells itself."""
 
@@ -147,6 +191,10 @@ class Report:
     """Those of each thread, where they are asked for."""
     layout: Tuple[str, ...] = ()
     """What is said of the layout: nothing where the process agrees with it."""
+    native: Tuple[NativeStack, ...] = ()
+    """Native stacks, where they are asked for."""
+    where: str = ""
+    """Where in native code the process died, if that is known."""
 
     @property
     def threads(self) -> List[Thread]:

@@ -22,7 +22,9 @@ use Rattle.salvage_report.specs.declared.cause.Cause.{Cause}
 use Rattle.salvage_report.specs.declared.cause.Cause.TheVariants.{Core, Layouts, NoInterpreter, OutOfMemory, Records}
 use Rattle.salvage_report.specs.declared.left.Left.{Left}
 use Rattle.py_records.specs.File.{IsRightFor as AreRightFor}
+use Rattle.py_records.specs.declared.table.RecordTable.{RecordTable}
 use Rattle.salvage_report.proofs.Recorded.{records_apart, records_exclude, records_flaw, records_own, records_within}
+use Rattle.salvage_report.proofs.Recorded.{tables_once}
 use Rattle.salvage_report.specs.Outcome.{IsCoreFaultless, IsCoreOutcome, IsFaultless, IsFaultlessBy, IsOutcomeBy}
 use Rattle.salvage_report.specs.Outcome.{IsLeft, IsLeftOf, IsOutcome, IsSalvagedBy, IsShowable, Outcome}
 use Rattle.salvage_report.specs.Outcome.{cause_status, left_at, looked_at}
@@ -105,14 +107,14 @@ some_shown : (is : List SalvagedInterpreter) (n : ℕ) (s : List ℕ) (cause : C
 some_shown [] n s cause some e = some refl
 some_shown (i ∷ is) n s cause some e = absurd (cc)
 
-module _ (s : Salvage) (bytes : List ℕ) where
+module _ (s : Salvage) (ts : List RecordTable) (bytes : List ℕ) (images : Pushed) where
   -- the interpreters that are shown don't depend on which thread got the signal
-  shown_of : (o : OpenedProcess) (left : Left) (crash : Option Crash) → IsLeft s bytes o left
+  shown_of : (o : OpenedProcess) (left : Left) (crash : Option Crash) → IsLeft s ts bytes images o left
       → map locked left.salvaged.interpreters.items ≡ (left_at s bytes o crash).interpreters
   unfolding salvaged_at
   shown_of o left crash h = ap (λ x. x.interpreters) h.salvaged
 
-  left_agree : (o : OpenedProcess) → AgreeIn (IsLeftOf s bytes o)
+  left_agree : (o : OpenedProcess) → AgreeIn (IsLeftOf s ts bytes images o)
   left_agree o a b (left, h, is) (other, k, also) na nb =
       ap outcome_status is
       ∙ same_kind left.salvaged.interpreters.items other.salvaged.interpreters.items
@@ -120,72 +122,74 @@ module _ (s : Salvage) (bytes : List ℕ) where
       (looked_at o) (looked_at o) (shown_left s left) (shown_left s other)
       ∙ sym (ap outcome_status also)
 
-  salvaged_agree : (images : Pushed) (layouts : List Layout) → ChoosesOnce layouts
-      → AgreeIn (IsSalvagedBy s bytes images layouts)
-  salvaged_agree images layouts once = steps_agree cause_status (λ n. n) (λ error. Core error)
-      (ProcessIs bytes images layouts) (IsLeftOf s bytes)
+  salvaged_agree : (layouts : List Layout) → ChoosesOnce layouts
+      → AgreeIn (IsSalvagedBy s ts bytes images layouts)
+  salvaged_agree layouts once = steps_agree cause_status (λ n. n) (λ error. Core error)
+      (ProcessIs bytes images layouts) (IsLeftOf s ts bytes images)
       (opened_excludes layouts once bytes images)
       (λ o p one other a b x y na nb. left_agree o a b x
-      (subst (λ q. IsLeftOf s bytes q b) (opened_once layouts once bytes images p o other one) y) na nb)
+      (subst (λ q. IsLeftOf s ts bytes images q b) (opened_once layouts once bytes images p o other one) y) na nb)
 
-  salvaged_sound : (images : Pushed) (layouts : List Layout) → ChoosesOnce layouts → IsShowable s bytes images layouts
-      → NoCause (IsSalvagedBy s bytes images layouts)
-  salvaged_sound images layouts once good = steps_sound cause_status (λ cause. ⊥) (λ error. Core error)
-      (ProcessIs bytes images layouts) (IsLeftOf s bytes)
+  salvaged_sound : (layouts : List Layout) → ChoosesOnce layouts → IsShowable s bytes images layouts
+      → NoCause (IsSalvagedBy s ts bytes images layouts)
+  salvaged_sound layouts once good = steps_sound cause_status (λ cause. ⊥) (λ error. Core error)
+      (ProcessIs bytes images layouts) (IsLeftOf s ts bytes images)
       (λ e error ne. opened_apart layouts once bytes images good.opened e good.is_opened error (core_one e ne).1)
       (λ o found cause ne h. some_shown h.0.salvaged.interpreters.items (looked_at o) (shown_left s h.0) cause
       (λ none. good.shown (sym (shown_of good.opened h.0 good.crash
-      (subst (λ q. IsLeft s bytes q h.0) (opened_once layouts once bytes images o good.opened found good.is_opened)
+      (subst (λ q. IsLeft s ts bytes images q h.0) (opened_once layouts once bytes images o good.opened found good.is_opened)
       h.1)) ∙ none)) h.2)
 
-core_outcomes_agree : (s : Salvage) (contents : List (List ℕ)) → AgreeIn (IsCoreOutcome s contents)
-core_outcomes_agree s [] a b one other na nb = absurd one
-core_outcomes_agree s (bytes ∷ []) a b one other na nb = absurd one
-core_outcomes_agree s (bytes ∷ text ∷ images) a b one other na nb =
+core_outcomes_agree : (s : Salvage) (ts : List RecordTable) (contents : List (List ℕ))
+    → AgreeIn (IsCoreOutcome s ts contents)
+core_outcomes_agree s ts [] a b one other na nb = absurd one
+core_outcomes_agree s ts (bytes ∷ []) a b one other na nb = absurd one
+core_outcomes_agree s ts (bytes ∷ text ∷ images) a b one other na nb =
     steps_agree cause_status (λ n. n) (λ error. Layouts error) (IsRightFor text)
-    (IsSalvagedBy s bytes (images_read s.images images))
+    (IsSalvagedBy s ts bytes (images_read s.images images))
     (layouts_exclude (IsRightFor text) (right-unique text) cause_status (λ error. Layouts error) (λ e. refl))
-    (λ l m says also a b x y na nb. salvaged_agree s bytes (images_read s.images images) l
+    (λ l m says also a b x y na nb. salvaged_agree s ts bytes (images_read s.images images) l
     (chooses_once l says.sound.apart) a b x
-    (subst (λ q. IsSalvagedBy s bytes (images_read s.images images) q b) (laid_once text m l also says) y) na nb)
+    (subst (λ q. IsSalvagedBy s ts bytes (images_read s.images images) q b) (laid_once text m l also says) y) na nb)
     a b one other na nb
 
-core_no_cause : (s : Salvage) (contents : List (List ℕ)) → IsCoreFaultless s contents
-    → NoCause (IsCoreOutcome s contents)
-core_no_cause s [] good cause ne is = absurd good
-core_no_cause s (bytes ∷ []) good cause ne is = absurd good
-core_no_cause s (bytes ∷ text ∷ images) (layouts, says, good) cause ne is =
+core_no_cause : (s : Salvage) (ts : List RecordTable) (contents : List (List ℕ)) → IsCoreFaultless s contents
+    → NoCause (IsCoreOutcome s ts contents)
+core_no_cause s ts [] good cause ne is = absurd good
+core_no_cause s ts (bytes ∷ []) good cause ne is = absurd good
+core_no_cause s ts (bytes ∷ text ∷ images) (layouts, says, good) cause ne is =
     steps_sound cause_status (λ cause. ⊥) (λ error. Layouts error) (IsRightFor text)
-    (IsSalvagedBy s bytes (images_read s.images images))
+    (IsSalvagedBy s ts bytes (images_read s.images images))
     (λ e error nm. flaw_apart (IsRightFor text) (right-unique text) layouts e (flaw_status e nm).1 says error)
-    (λ l other. subst (λ q. NoCause (IsSalvagedBy s bytes (images_read s.images images) q))
+    (λ l other. subst (λ q. NoCause (IsSalvagedBy s ts bytes (images_read s.images images) q))
     (laid_once text layouts l says other)
-    (salvaged_sound s bytes (images_read s.images images) layouts (chooses_once layouts says.sound.apart) good))
+    (salvaged_sound s ts bytes (images_read s.images images) layouts (chooses_once layouts says.sound.apart) good))
     cause ne is
 
 -- ---- records
 
 records_agree : (s : Salvage) (name : Option (List ℕ)) (contents : List (List ℕ))
     → AgreeIn (IsOutcomeBy name s contents)
-records_agree s None contents = core_outcomes_agree s contents
+records_agree s None contents = core_outcomes_agree s [] contents
 records_agree s (Some name) [] = λ a b one other na nb. absurd one
 records_agree s (Some name) (text ∷ contents) =
-    steps_agree cause_status (λ n. n) (λ error. Records error) (AreRightFor text) (λ tables. IsCoreOutcome s contents)
+    steps_agree cause_status (λ n. n) (λ error. Records error) (AreRightFor text) (λ tables. IsCoreOutcome s tables contents)
     (records_exclude cause_status (λ error. Records error) (λ e. refl) text)
-    (λ l m says also a b x y na nb. core_outcomes_agree s contents a b x y na nb)
+    (λ l m says also a b x y na nb. core_outcomes_agree s l contents a b x
+    (subst (λ q. IsCoreOutcome s q contents b) (tables_once text m l also says) y) na nb)
 
 pub outcomes_agree : (s : Salvage) (contents : List (List ℕ)) → AgreeIn (IsOutcome s contents)
 outcomes_agree s contents = records_agree s s.records contents
 
 no_cause_by : (s : Salvage) (name : Option (List ℕ)) (contents : List (List ℕ)) → IsFaultlessBy name s contents
     → NoCause (IsOutcomeBy name s contents)
-no_cause_by s None contents good = core_no_cause s contents good
+no_cause_by s None contents good = core_no_cause s [] contents good
 no_cause_by s (Some name) [] good = absurd good
 no_cause_by s (Some name) (text ∷ contents) (tables, says, good) =
     steps_sound cause_status (λ cause. ⊥) (λ error. Records error) (AreRightFor text)
-    (λ tables. IsCoreOutcome s contents)
+    (λ tables. IsCoreOutcome s tables contents)
     (λ e error nm. records_apart text tables e (records_flaw e nm).1 says error)
-    (λ l other. core_no_cause s contents good)
+    (λ l other. core_no_cause s l contents good)
 
 pub no_cause : (s : Salvage) (contents : List (List ℕ)) → IsFaultless s contents → NoCause (IsOutcome s contents)
 no_cause s contents good = no_cause_by s s.records contents good

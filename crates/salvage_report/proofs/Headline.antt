@@ -11,11 +11,14 @@ use Rattle.crash_signal.specs.Signals.{signal_told}
 use Rattle.thread_registers.specs.Threads.{threads_told}
 use Rattle.py_fields.specs.declared.layout.Layout.{Layout}
 use Rattle.py_layout.specs.File.{IsRightFor}
+use Rattle.py_records.specs.declared.table.RecordTable.{RecordTable}
 use Rattle.py_fronts.specs.declared.salvaged.SalvagedInterpreter.{SalvagedInterpreter}
 use Rattle.salvage_words.specs.Salvage.{Salvage, Wanted}
 use Rattle.salvage_words.specs.Salvage.Wanted.{salvage}
 use Rattle.salvage_report.specs.declared.cause.Cause.{Cause}
-use Rattle.salvage_report.specs.Headline.{HasSalvaged, SaysLayout, SaysRegisters, SaysSignal}
+use Rattle.salvage_report.specs.Headline.{AreTables, HasSalvaged, SaysLayout, SaysNames, SaysRegisters}
+use Rattle.salvage_report.specs.Headline.{SaysSignal}
+use Rattle.memory_sections.specs.Told.{ToldIf}
 use Rattle.salvage_report.specs.Outcome.{IsCoreOutcome, IsOutcomeBy, IsSalvagedBy, Outcome, looked_at, shown_or_none}
 use Rattle.named_images.specs.Named.{images_read}
 use Rattle.program_run.specs.Ends.{Reaches}
@@ -29,7 +32,8 @@ use Rattle.py_selftest.proofs.Verdicts.{check_says}
 use Rattle.salvage_report.specs.LayoutChecked.{CheckIs, layout_checked, release_of, types_of}
 use Rattle.py_process.specs.Facts.{symbol_known}
 use Rattle.py_process.specs.Reports.{memory_in}
-use Rattle.salvage_report.specs.Sections.{if_asked, own_id, python_threads}
+use Rattle.memory_sections.specs.Pythons.{python_threads}
+use Rattle.salvage_report.specs.Sections.{if_asked, own_id}
 use Rattle.salvage_report.specs.Texts.{shown_left}
 
 no_text : (s : List ℕ) (cause : Cause) → ◌≡◌ {A = Outcome} (Ok s) (Err cause) → ⊥
@@ -44,17 +48,19 @@ shows (i ∷ is) n t written same = (λ none. absurd (cc), cc)
 
 module _ (s : Salvage) (told : Told) (old new : SinkSeen) (written : List ℕ)
     (added : Appends old.written new.written written) where
-  by_left : (records : List (List ℕ)) (bytes text : List ℕ) (images : List (List ℕ)) (layouts : List Layout)
-      → AreRead told (files_of s) (records ++ bytes ∷ text ∷ images) → IsRightFor text (Ok layouts)
-      → IsSalvagedBy s bytes (images_read s.images images) layouts (Ok written) → HasSalvaged s told old new
-  by_left records bytes text images layouts read says (inl (e, is, h)) = absurd (no_text written _ is)
-  by_left records bytes text images layouts read says (inr (o, opened, (left, h, is))) =
+  by_left : (records : List (List ℕ)) (tables : List RecordTable) (bytes text : List ℕ) (images : List (List ℕ))
+      (layouts : List Layout) → AreTables records tables → AreRead told (files_of s) (records ++ bytes ∷ text ∷ images) → IsRightFor text (Ok layouts)
+      → IsSalvagedBy s tables bytes (images_read s.images images) layouts (Ok written) → HasSalvaged s told old new
+  by_left records tables bytes text images layouts judged read says (inl (e, is, h)) = absurd (no_text written _ is)
+  by_left records tables bytes text images layouts judged read says (inr (o, opened, (left, h, is))) =
       let shown = shows left.salvaged.interpreters.items (looked_at o) (shown_left s left) written is in
       record {
         records = records;
         core = bytes;
         text = text;
         images = images;
+        tables = tables;
+        judged = judged;
         read = read;
         layouts = layouts;
         says = says;
@@ -66,20 +72,21 @@ module _ (s : Salvage) (told : Told) (old new : SinkSeen) (written : List ℕ)
         written = subst (λ t. Appends old.written new.written t) shown.1 added;
       }
 
-  by_core : (records contents : List (List ℕ)) → AreRead told (files_of s) (records ++ contents)
-      → IsCoreOutcome s contents (Ok written) → HasSalvaged s told old new
-  by_core records [] read h = absurd h
-  by_core records (bytes ∷ []) read h = absurd h
-  by_core records (bytes ∷ text ∷ images) read (inl (e, is, h)) = absurd (no_text written _ is)
-  by_core records (bytes ∷ text ∷ images) read (inr (layouts, says, h)) =
-      by_left records bytes text images layouts read says h
+  by_core : (records : List (List ℕ)) (tables : List RecordTable) (contents : List (List ℕ)) → AreTables records tables
+      → AreRead told (files_of s) (records ++ contents) → IsCoreOutcome s tables contents (Ok written) → HasSalvaged s told old new
+  by_core records tables [] judged read h = absurd h
+  by_core records tables (bytes ∷ []) judged read h = absurd h
+  by_core records tables (bytes ∷ text ∷ images) judged read (inl (e, is, h)) = absurd (no_text written _ is)
+  by_core records tables (bytes ∷ text ∷ images) judged read (inr (layouts, says, h)) =
+      by_left records tables bytes text images layouts judged read says h
 
   by_contents : (name : Option (List ℕ)) (contents : List (List ℕ)) → AreRead told (files_of s) contents
       → IsOutcomeBy name s contents (Ok written) → HasSalvaged s told old new
-  by_contents None contents read h = by_core [] contents read h
+  by_contents None contents read h = by_core [] [] contents refl read h
   by_contents (Some name) [] read h = absurd h
   by_contents (Some name) (text ∷ contents) read (inl (e, is, h)) = absurd (no_text written _ is)
-  by_contents (Some name) (text ∷ contents) read (inr (tables, says, h)) = by_core (text ∷ []) contents read h
+  by_contents (Some name) (text ∷ contents) read (inr (tables, says, h)) =
+      by_core (text ∷ []) tables contents says read h
 
   comes : ComesTo told (salvage s) (Ok written) → HasSalvaged s told old new
   comes h = by_contents s.records h.contents h.read h.is
@@ -134,3 +141,16 @@ says_layout s told old new h asked =
       says = check_says (memory_in o.dumped) o.layout (types_of o.known o.version)
           (symbol_known o.known (codes "_PyRuntime")) (release_of o.version) (check_shown one.0) one.2;
     }
+
+-- what is read in memory is told where it is asked for
+told_one : {T : Type 0} (asked : Bool) (Is : T → Type 0) (told : Option T) → ToldIf asked Is told → asked ≡ true
+    → (one : T) × (told ≡ Some one) × Is one
+told_one false Is told is on = absurd (cc)
+told_one true Is None is on = absurd is
+told_one true Is (Some one) is on = (one, refl, is)
+
+pub says_names : (s : Salvage) (told : Told) (old new : SinkSeen) → HasSalvaged s told old new
+    → s.sections.names ≡ true → SaysNames s told old new
+says_names s told old new h asked =
+    let one = told_one s.sections.names _ h.left.memory.names h.is_left.memory.names asked in
+    record { has = h; names = one.0; is = one.1; are = one.2 }

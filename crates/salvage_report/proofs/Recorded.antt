@@ -110,6 +110,9 @@ Answer = Result (List RecordTable) RecordsError
 ok_err : (tables : List RecordTable) (e : RecordsError) → ◌≡◌ {A = Answer} (Ok tables) (Err e) → ⊥
 ok_err tables e is = cc
 
+ok_same : (a b : List RecordTable) → ◌≡◌ {A = Answer} (Ok a) (Ok b) → a ≡ b
+ok_same a b is = cc
+
 err_same : (a b : RecordsError) → ◌≡◌ {A = Answer} (Err a) (Err b) → a ≡ b
 err_same a b is = cc
 
@@ -117,6 +120,10 @@ pub records_apart : (text : List ℕ) (tables : List RecordTable) (e : RecordsEr
     → AreRightFor text (Ok tables) → AreRightFor text (Err e) → ⊥
 records_apart text tables e ne one other = ⊎_elim (ok_err tables e) (ok_err tables records.OutOfMemory)
     (right-unique text (Ok tables) (Err e) one other (λ is. ne (err_same e records.OutOfMemory is)))
+
+pub tables_once : (text : List ℕ) (a b : List RecordTable) → AreRightFor text (Ok a) → AreRightFor text (Ok b) → a ≡ b
+tables_once text a b one other = ⊎_elim (ok_same a b) (λ is. absurd (ok_err a records.OutOfMemory is))
+    (right-unique text (Ok a) (Ok b) one other (ok_err b records.OutOfMemory))
 
 pub records_exclude : {Cause : Type 0} (cause_status : Cause → ℕ) (as_cause : RecordsError → Cause)
     → ((e : RecordsError) → cause_status (as_cause e) ≡ records_status e) → (text : List ℕ)

@@ -12,6 +12,10 @@ use Rattle.py_fields.specs.declared.layout.Layout.{Layout}
 use Rattle.py_fields.specs.declared.version.Version.{Version}
 use Rattle.py_stacks.specs.declared.asked.Asked.{Asked}
 use Rattle.py_process.specs.Facts.{Known, known_of}
+use Rattle.py_records.specs.declared.table.RecordTable.{RecordTable}
+use Rattle.py_records.specs.Versions.{records_of}
+use Rattle.memory_sections.specs.Told.{AreMemoryTold}
+use Rattle.memory_sections.specs.declared.told.MemoryTold.{MemoryTold}
 use Rattle.py_fronts.specs.Salvaged.{SalvagedShown, salvaged_at}
 use Rattle.py_fronts.specs.declared.crash.Crash.{Crash}
 use Rattle.py_fronts.specs.declared.salvaged.Salvaged.{Salvaged}
@@ -46,12 +50,14 @@ something_shown : (is : List SalvagedInterpreter) (n : ℕ) (t : List ℕ) → i
 something_shown [] n t some = absurd (some refl)
 something_shown (i ∷ is) n t some = refl
 
-module _ (s : Salvage) (p : Process) (crash : Option Crash) (salvaged : Salvaged)
+module _ (s : Salvage) (ts : List RecordTable) (p : Process) (crash : Option Crash) (salvaged : Salvaged)
     (found : Salvages s p crash (Ok salvaged))
     (bytes : List ℕ) (images : Pushed) (layouts : List Layout) (is : IsProcess bytes images layouts p)
     (told : CrashTold bytes crash)
     (sections : Told) (are : AreTold s.sections p.dump.core p.notes.process salvaged.interpreters.items sections)
-    (check : Option LayoutCheck) (checks : CheckIs s.sections.check_layout (process_checked p) check) where
+    (check : Option LayoutCheck) (checks : CheckIs s.sections.check_layout (process_checked p) check)
+    (memory : MemoryTold) (reads : AreMemoryTold s.sections p.dump.core images p.layout (records_of ts p.version)
+    (byte_at (regions_of p.dump)) salvaged.interpreters.items memory) where
   abbrev opened : OpenedProcess
   opened = opened_of is.maps p
 
@@ -63,6 +69,7 @@ module _ (s : Salvage) (p : Process) (crash : Option Crash) (salvaged : Salvaged
     salvaged = salvaged;
     told = sections;
     check = check;
+    memory = memory;
   }
 
   abbrev over : (ℕ → Bool) → List ℕ → Option Crash → SalvagedShown
@@ -75,7 +82,7 @@ module _ (s : Salvage) (p : Process) (crash : Option Crash) (salvaged : Salvaged
       ∙ same_crash (tests p.info.maps) (machine_of p.dump.core) (known_of p.info) p.version p.layout
       (byte_at (regions_of p.dump)) (asked_of s) s.limit crash
 
-  is_left : IsLeft s bytes opened left
+  is_left : IsLeft s ts bytes images opened left
   is_left = record {
     version_is = refl;
     notes = is.notes;
@@ -84,10 +91,12 @@ module _ (s : Salvage) (p : Process) (crash : Option Crash) (salvaged : Salvaged
         ∙ ap (over (in_maps is.maps) bytes) (sym handed);
     told = subst (λ core. AreTold s.sections core p.notes.process salvaged.interpreters.items sections) is.same are;
     check = checks;
+    memory = subst (λ core. AreMemoryTold s.sections core images p.layout (records_of ts p.version)
+        (byte_at (regions_of p.dump)) salvaged.interpreters.items memory) is.same reads;
   }
 
   pub none_left : (n : ℕ) → salvaged.interpreters.items ≡ [] → n ≡ looked_at opened
-      → IsLeftOf s bytes opened (Err (NoInterpreter n))
+      → IsLeftOf s ts bytes images opened (Err (NoInterpreter n))
   none_left n none count = (
     left,
     is_left,
@@ -96,7 +105,7 @@ module _ (s : Salvage) (p : Process) (crash : Option Crash) (salvaged : Salvaged
   )
 
   pub some_left : (text : List ℕ) → salvaged.interpreters.items ≢ [] → text ≡ shown_left s left
-      → IsLeftOf s bytes opened (Ok text)
+      → IsLeftOf s ts bytes images opened (Ok text)
   some_left text some shown = (
     left,
     is_left,

@@ -1,5 +1,6 @@
 -- What a run that salvages a core promises under status 0.
-use Rattle.std.specs.Prelude.{◌≡◌, ◌≢◌, ◌∷◌, ◌++◌, [], ℕ, List, Ok, Some}
+use Rattle.std.specs.Prelude.{◌≡◌, ◌≢◌, ◌∷◌, ◌++◌, [], ℕ, List, Ok, Some, Vec}
+use Rattle.std.specs.Global.{Global}
 use Rattle.std.specs.Io.KnownBytes.{Appends}
 use Rattle.outside.specs.Files.{Told}
 use Rattle.outside.specs.Streams.{SinkSeen}
@@ -12,35 +13,49 @@ use Rattle.py_fields.specs.declared.layout.Layout.{Layout}
 use Rattle.py_selftest.specs.Checking.{Says, check_shown}
 use Rattle.py_selftest.specs.declared.checking.LayoutCheck.{LayoutCheck}
 use Rattle.py_layout.specs.File.{IsRightFor}
+use Rattle.py_records.specs.File.{IsRightFor as AreRightFor}
+use Rattle.py_records.specs.declared.table.RecordTable.{RecordTable}
 use Rattle.salvage_words.specs.Salvage.{Salvage}
 use Rattle.salvage_report.specs.declared.left.Left.{Left}
 use Rattle.core_stacks.specs.Process.{OpenedProcess, ProcessIs}
+use Rattle.py_process.specs.Reports.{memory_in}
+use Rattle.thread_names.specs.declared.names.InterpreterNames.{InterpreterNames}
+use Rattle.memory_sections.specs.Each.{EachTold}
+use Rattle.memory_sections.specs.Told.{AreNamesOf}
 use Rattle.salvage_report.specs.Outcome.{IsLeft}
 use Rattle.named_images.specs.Named.{images_read}
 use Rattle.program_run.specs.Reading.{AreRead}
 use Rattle.salvage_report.specs.Reading.{files_of}
 use Rattle.salvage_report.specs.LayoutChecked.{layout_checked}
-use Rattle.salvage_report.specs.Sections.{own_id, python_threads, registers_shown}
+use Rattle.memory_sections.specs.Pythons.{python_threads}
+use Rattle.salvage_report.specs.Sections.{own_id, registers_shown}
 use Rattle.salvage_report.specs.Texts.{shown_left}
+
+-- the tables that a file of records says, and none where there is no file
+abbrev pub AreTables : List (List ℕ) → List RecordTable → Type 0
+AreTables [] tables = tables ≡ []
+AreTables (text ∷ others) tables = AreRightFor text (Ok tables)
 
 -- The text of what is left of a process was written, or its JSON where the words ask for that: of at least one
 -- interpreter, and of the fronts over the memory of the core and its images, each interpreter with its own lock, and
 -- the thread that the core's first status record is of, and what is told in the sections that are asked for
--- (`IsLeft`): by the bytes that the files gave for the file of records, where one is named, for the core, by
--- the layouts that they gave, and by all the images, each under its path. Which bytes a file gave is said where the
+-- (`IsLeft`): by the tables that the file of records says, where one is named, by the bytes of the core, by
+-- the layouts that the files gave, and by all the images, each under its path. Which bytes a file gave is said where the
 -- files tell, and what was written where the stream tells.
 pub record HasSalvaged (s : Salvage) (told : Told) (old new : SinkSeen) : Type 0 where
   pub records : List (List ℕ)
   pub core : List ℕ
   pub text : List ℕ
   pub images : List (List ℕ)
+  pub tables : List RecordTable
+  pub judged : AreTables records tables
   pub read : AreRead told (files_of s) (records ++ core ∷ text ∷ images)
   pub layouts : List Layout
   pub says : IsRightFor text (Ok layouts)
   pub opened : OpenedProcess
   pub is_opened : ProcessIs core (images_read s.images images) layouts (Ok opened)
   pub left : Left
-  pub is_left : IsLeft s core opened left
+  pub is_left : IsLeft s tables core (images_read s.images images) opened left
   pub some : left.salvaged.interpreters.items ≢ []
   pub written : Appends old.written new.written (shown_left s left)
 
@@ -68,3 +83,13 @@ pub record SaysLayout (s : Salvage) (told : Told) (old new : SinkSeen) : Type 0 
   pub is : has.left.check ≡ Some check
   pub checked : layout_checked has.opened ≡ Ok (check_shown check)
   pub says : Says (check_shown check)
+
+-- ---- the sections that are read in the memory of the core and its images
+
+-- the names of the threads that are shown, as each interpreter's own module keeps them
+pub record SaysNames (s : Salvage) (told : Told) (old new : SinkSeen) : Type 0 where
+  pub has : HasSalvaged s told old new
+  pub names : Vec InterpreterNames Global
+  pub is : has.left.memory.names ≡ Some names
+  pub are : EachTold (AreNamesOf has.opened.layout (memory_in has.opened.dumped)) has.left.salvaged.interpreters.items
+      names.items

@@ -14,6 +14,8 @@ use Rattle.py_records.specs.File.{IsRightFor as AreRightFor}
 use Rattle.py_records.specs.declared.error.RecordsError.{RecordsError}
 use Rattle.py_records.specs.declared.error.RecordsError.TheVariants as records
 use Rattle.py_records.specs.declared.table.RecordTable.{RecordTable}
+use Rattle.py_records.specs.Versions.{records_of}
+use Rattle.memory_sections.specs.Told.{AreMemoryTold}
 use Rattle.py_fronts.specs.Candidates.{named_candidates, searched_candidates}
 use Rattle.py_fronts.specs.Salvaged.{SalvagedShown, locked, salvaged_at}
 use Rattle.py_fronts.specs.declared.crash.Crash.{Crash}
@@ -53,13 +55,16 @@ left_at s bytes o crash = salvaged_at (in_maps o.dumped.maps) (machine_of bytes)
     (memory_in o.dumped) (asked_of s) s.limit crash
 
 -- what is left of an opened process, with what the notes of its core tell, and the sections that are asked for
-pub record IsLeft (s : Salvage) (bytes : List ℕ) (o : OpenedProcess) (left : Left) : Type 0 where
+pub record IsLeft (s : Salvage) (ts : List RecordTable) (bytes : List ℕ) (images : Pushed) (o : OpenedProcess)
+    (left : Left) : Type 0 where
   pub version_is : left.version ≡ o.version
   pub notes : NotesTell bytes left.signal left.process
   pub crash : CrashTold bytes left.salvaged.crash
   pub salvaged : salvaged_of left.salvaged ≡ left_at s bytes o left.salvaged.crash
   pub told : AreTold s.sections bytes left.process left.salvaged.interpreters.items left.told
   pub check : CheckIs s.sections.check_layout (layout_checked o) left.check
+  pub memory : AreMemoryTold s.sections bytes images o.layout (records_of ts o.version) (memory_in o.dumped)
+      left.salvaged.interpreters.items left.memory
 
 -- how many addresses are looked at where no interpreter is shown, repeats included
 abbrev pub looked_at : OpenedProcess → ℕ
@@ -74,27 +79,27 @@ shown_or_none (i ∷ is) addresses text = Ok text
 abbrev pub left_outcome : Salvage → OpenedProcess → Left → Outcome
 left_outcome s o left = shown_or_none left.salvaged.interpreters.items (looked_at o) (shown_left s left)
 
-abbrev pub IsLeftOf : Salvage → List ℕ → OpenedProcess → Outcome → Type 0
-IsLeftOf s bytes o outcome = (left : Left) × IsLeft s bytes o left × (outcome ≡ left_outcome s o left)
+abbrev pub IsLeftOf : Salvage → List RecordTable → List ℕ → Pushed → OpenedProcess → Outcome → Type 0
+IsLeftOf s ts bytes images o outcome = (left : Left) × IsLeft s ts bytes images o left × (outcome ≡ left_outcome s o left)
 
 -- ---- over the contents of the files
 
--- a core and its images by these layouts
-abbrev pub IsSalvagedBy : Salvage → List ℕ → Pushed → List Layout → Outcome → Type 0
-IsSalvagedBy s bytes images layouts outcome =
-    OutcomeThen (λ error. Core error) (ProcessIs bytes images layouts) (IsLeftOf s bytes) outcome
+-- a core and its images by these layouts, and by these tables of records
+abbrev pub IsSalvagedBy : Salvage → List RecordTable → List ℕ → Pushed → List Layout → Outcome → Type 0
+IsSalvagedBy s ts bytes images layouts outcome =
+    OutcomeThen (λ error. Core error) (ProcessIs bytes images layouts) (IsLeftOf s ts bytes images) outcome
 
 -- by the files of the core: the layouts are judged, and then the process is opened, and its interpreters are looked for
-abbrev pub IsCoreOutcome : Salvage → List (List ℕ) → Outcome → Type 0
-IsCoreOutcome s (bytes ∷ text ∷ images) outcome =
-    OutcomeThen (λ error. Layouts error) (IsRightFor text) (IsSalvagedBy s bytes (images_read s.images images)) outcome
-IsCoreOutcome s _ outcome = ⊥
+abbrev pub IsCoreOutcome : Salvage → List RecordTable → List (List ℕ) → Outcome → Type 0
+IsCoreOutcome s ts (bytes ∷ text ∷ images) outcome = OutcomeThen (λ error. Layouts error) (IsRightFor text)
+    (IsSalvagedBy s ts bytes (images_read s.images images)) outcome
+IsCoreOutcome s ts _ outcome = ⊥
 
--- the records are judged first, where there is a file of them
+-- the records are judged first, where there is a file of them; else no record is told
 abbrev pub IsOutcomeWith : Option (List ℕ) → Salvage → List (List ℕ) → Outcome → Type 0
-IsOutcomeWith None s contents outcome = IsCoreOutcome s contents outcome
+IsOutcomeWith None s contents outcome = IsCoreOutcome s [] contents outcome
 IsOutcomeWith (Some text) s contents outcome =
-    OutcomeThen (λ error. Records error) (AreRightFor text) (λ tables. IsCoreOutcome s contents) outcome
+    OutcomeThen (λ error. Records error) (AreRightFor text) (λ tables. IsCoreOutcome s tables contents) outcome
 
 abbrev pub IsOutcomeBy : Option (List ℕ) → Salvage → List (List ℕ) → Outcome → Type 0
 IsOutcomeBy None s contents outcome = IsOutcomeWith None s contents outcome

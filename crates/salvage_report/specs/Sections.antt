@@ -2,39 +2,25 @@
 -- is left of its process. One that is asked for is there, also where it can't be had: then it tells why.
 use Rattle.std.specs.Prelude.{◌≡◌, ℕ, ℤ, Bool, true, false, List, map, Option, Some, None, option_map, Result, Vec}
 use Rattle.std.specs.Global.{Global}
-use Rattle.std.specs.List.{flat_map}
 use Rattle.elf64_core.specs.Header.{machine_of}
 use Rattle.elf64_core.specs.Notes.{Noted}
 use Rattle.image_memory.specs.Notes.{AreNotesOfCore}
 use Rattle.crash_signal.specs.Signals.{signal_told}
 use Rattle.crash_signal.specs.declared.told.CrashSignal.{CrashSignal}
 use Rattle.crash_signal.specs.declared.told.Untold.{Untold}
-use Rattle.py_fronts.specs.declared.thread_front.ThreadFront.{ThreadFront}
 use Rattle.py_fronts.specs.declared.salvaged.SalvagedInterpreter.{SalvagedInterpreter}
 use Rattle.thread_registers.specs.Threads.{ThreadShown, thread_shown, threads_told}
-use Rattle.thread_registers.specs.declared.threads.PythonThread.{PythonThread}
 use Rattle.thread_registers.specs.declared.threads.ThreadRegisters.{ThreadRegisters}
 use Rattle.salvage_words.specs.declared.asked.Sections.{Sections}
 use Rattle.missed_reads.specs.Told.{RefusedTold, blocks_told}
 use Rattle.missed_reads.specs.declared.told.MissedBlocks.{MissedBlocks}
+use Rattle.memory_sections.specs.Pythons.{python_threads}
 use Rattle.salvage_report.specs.declared.sections.Told.{Told}
 
 -- what is asked for is there, and nothing else
 abbrev pub if_asked : {T : Type 0} → Bool → T → Option T
 if_asked true value = Some value
 if_asked false value = None
-
--- ---- the threads of Python that are shown
-
-abbrev pub python_thread : ThreadFront → PythonThread
-python_thread t = record { thread_id = t.thread_id; native_id = t.os_thread_id }
-
-abbrev pub threads_of : SalvagedInterpreter → List PythonThread
-threads_of i = map python_thread i.front.threads.threads.items
-
--- those of each interpreter, in the order of the interpreters and of their chains
-abbrev pub python_threads : List SalvagedInterpreter → List PythonThread
-python_threads is = flat_map threads_of is
 
 -- ---- what is told
 

@@ -9,6 +9,7 @@ use Rattle.process_memory.specs.Memory.{byte_at}
 use Rattle.py_fields.specs.declared.layout.Layout.{Layout}
 use Rattle.py_stacks.specs.declared.error.StackError.{StackError}
 use Rattle.py_process.specs.Facts.{known_of}
+use Rattle.py_records.specs.declared.table.RecordTable.{RecordTable}
 use Rattle.py_fronts.specs.Answers.{IsOrNoMemory}
 use Rattle.py_fronts.specs.Candidates.{named_candidates, searched_candidates}
 use Rattle.py_fronts.specs.Salvaged.{salvaged_at, salvaged_result}
@@ -33,7 +34,8 @@ Counts p result = IsOrNoMemory
     + length (searched_candidates (known_of p.info) (byte_at (regions_of p.dump)))) result
 
 -- the text of what is left of it, or that no interpreter is shown
-abbrev pub ShowsLeft : Salvage → Process → Option Crash → Result (Vec ℕ Global) Cause → Type 0
-ShowsLeft s p crash result = (bytes : List ℕ) (images : Pushed) (layouts : List Layout)
+abbrev pub ShowsLeft : Salvage → List RecordTable → Pushed → Process → Option Crash
+    → Result (Vec ℕ Global) Cause → Type 0
+ShowsLeft s ts images p crash result = (bytes : List ℕ) (layouts : List Layout)
     (is : IsProcess bytes images layouts p) → CrashTold bytes crash
-    → IsAnswer (IsLeftOf s bytes (opened_of is.maps p)) result
+    → IsAnswer (IsLeftOf s ts bytes images (opened_of is.maps p)) result

@@ -9,6 +9,7 @@ use Rattle.crash_signal.specs.Text.{signal_text as info_text}
 use Rattle.thread_registers.specs.Text.{threads_text}
 use Rattle.salvage_texts.specs.Escape.{escaped}
 use Rattle.salvage_texts.specs.Salvaged.{salvaged_text}
+use Rattle.memory_sections.specs.Text.{memory_text}
 use Rattle.salvage_words.specs.Salvage.{Salvage}
 use Rattle.salvage_report.specs.Tree.{left_json}
 use Rattle.py_selftest.specs.Text.{check_text}
@@ -34,13 +35,13 @@ abbrev pub section_text : {T : Type 0} → (T → List ℕ) → Option T → Lis
 section_text text None = []
 section_text text (Some told) = text told
 
--- the signal, beside the core's name, and how it came about; the process, the version, and what is left; the registers,
--- and what the process says of the layout
+-- the signal, beside the core's name, and how it came about; the process, the version, and what is left; what is told in
+-- the sections that are read in memory; the registers, and what the process says of the layout
 abbrev pub left_text : List ℕ → Left → List ℕ
 left_text core left = signal_text (core_name core) left.signal ++ (section_text info_text left.told.signal
     ++ (process_text left.process ++ (version_line left.version ++ (salvaged_text left.salvaged
-    ++ (section_text threads_text (registers_shown left.told.registers)
-    ++ section_text check_text (check_of left.check))))))
+    ++ (memory_text left.memory ++ (section_text threads_text (registers_shown left.told.registers)
+    ++ section_text check_text (check_of left.check)))))))
 
 -- that, or JSON where it is asked for
 abbrev pub shown_left : Salvage → Left → List ℕ
@@ -49,7 +50,8 @@ shown_left s left =
 
 unfoldable pub help_text : List ℕ
 help_text = codes "pysalvage CORE --layouts FILE [--records FILE] [-n N] [-l].. [-j] [--signal] [--registers]\n"
-    ++ (codes "          [--missing] [--check-layout] [PATH=FILE]..\n\n"
+    ++ (codes "          [--missing] [--check-layout] [--names] [--exceptions] [--tasks] [--native [--strict]]\n"
+    ++ (codes "          [PATH=FILE]..\n\n"
     ++ (codes "What is left of the Python stacks in the core of a broken process, or in one that was cut: each chain "
     ++ (codes "of threads and\nframes as far as it goes. Where no mark stands a chain is whole.\n\n"
     ++ (codes "CORE            the core's file\n"
@@ -62,9 +64,14 @@ help_text = codes "pysalvage CORE --layouts FILE [--records FILE] [-n N] [-l].. 
     ++ (codes "--registers     the registers of each thread, and which of Python's threads it is\n"
     ++ (codes "--missing       in JSON, which ranges were asked for and are not in memory\n"
     ++ (codes "--check-layout  whether the process itself says that the layout is its own\n"
+    ++ (codes "--names         the names of the threads, of each interpreter\n"
+    ++ (codes "--exceptions    the exceptions that each thread raised or handled\n"
+    ++ (codes "--tasks         the tasks of asyncio, and what they wait for\n"
+    ++ (codes "--native        the native stack of each thread\n"
+    ++ (codes "--strict        native stacks without guesses\n"
     ++ (codes "PATH=FILE       FILE is read in place of the file that the process had mapped from PATH\n"
     ++ (codes "--help          this text\n"
-    ++ codes "--version       the version of the program\n")))))))))))))))
+    ++ codes "--version       the version of the program\n")))))))))))))))))))))
 
 abbrev pub program_version : List ℕ
 program_version = codes "pysalvage 1.0.0\n"

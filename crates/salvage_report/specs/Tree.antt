@@ -9,6 +9,7 @@ use Rattle.py_fields.specs.Version.{version_text}
 use Rattle.crash_signal.specs.Trees.{signal_tree as info_tree}
 use Rattle.thread_registers.specs.Trees.{threads_tree}
 use Rattle.salvage_json.specs.Salvaged.{interpreters_tree, process_tree, signal_tree}
+use Rattle.memory_sections.specs.Values.{names_tree_if}
 use Rattle.missed_reads.specs.Told.{RefusedTold, missed_tree}
 use Rattle.py_selftest.specs.Trees.{check_tree}
 use Rattle.salvage_report.specs.LayoutChecked.{check_of}
@@ -27,11 +28,12 @@ left_tree left = object (
     member (codes "layout_check") (section_tree check_tree (check_of left.check)) (
     member (codes "missing") (section_tree missed_tree (missing_shown left.told.missing)) (
     member (codes "more") (boolean left.salvaged.more) (
+    member (codes "names") (names_tree_if left.memory.names) (
     member (codes "process") (process_tree left.process) (
     member (codes "registers") (section_tree threads_tree (registers_shown left.told.registers)) (
     member (codes "signal") (signal_tree left.signal) (
     member (codes "signal_info") (section_tree info_tree left.told.signal) (
-    member (codes "version") (string (version_text left.version)) no_members)))))))))
+    member (codes "version") (string (version_text left.version)) no_members))))))))))
 
 -- the text of a tree: each item and member on a line of its own, two spaces deeper for each bracket
 abbrev pub pretty_text : Data → List ℕ

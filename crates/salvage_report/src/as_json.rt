@@ -14,6 +14,7 @@ ghost use Rattle.salvage_report.specs.Sections.{missing_shown, registers_shown};
 
 use crate::left::Left;
 use crash_signal::{CrashSignal, Untold};
+use memory_sections::names_value;
 use missed_reads::{MissedBlocks, Misses, missed_blocks, missed_value};
 use py_layout::Version;
 use py_selftest::{LayoutCheck, check_value};
@@ -78,6 +79,7 @@ fn left_value(alloc: Global, left: &Left) -> Result<Value, AllocError>
     let interpreters = interpreters_value(alloc, salvaged.crash, &salvaged.interpreters)?;
     let layout_check = layout_value(alloc, &left.check)?;
     let missing = missing_value(alloc, &left.told.missing)?;
+    let names = names_value(alloc, &left.memory)?;
     let process = process_value(alloc, &left.process)?;
     let registers = registers_value(alloc, &left.told.registers)?;
     let signal = signal_value(alloc, left.signal)?;
@@ -88,6 +90,7 @@ fn left_value(alloc: Global, left: &Left) -> Result<Value, AllocError>
         "layout_check": layout_check,
         "missing": missing,
         "more": salvaged.more,
+        "names": names,
         "process": process,
         "registers": registers,
         "signal": signal,

@@ -7,7 +7,8 @@ use std::alloc::{AllocError, Global};
 /// The help.
 const HELP: &str = "\
 pysalvage CORE --layouts FILE [--records FILE] [-n N] [-l].. [-j] [--signal] [--registers]
-          [--missing] [--check-layout] [PATH=FILE]..
+          [--missing] [--check-layout] [--names] [--exceptions] [--tasks] [--native [--strict]]
+          [PATH=FILE]..
 
 What is left of the Python stacks in the core of a broken process, or in one that was cut: each chain of threads and
 frames as far as it goes. Where no mark stands a chain is whole.
@@ -22,6 +23,11 @@ CORE            the core's file
 --registers     the registers of each thread, and which of Python's threads it is
 --missing       in JSON, which ranges were asked for and are not in memory
 --check-layout  whether the process itself says that the layout is its own
+--names         the names of the threads, of each interpreter
+--exceptions    the exceptions that each thread raised or handled
+--tasks         the tasks of asyncio, and what they wait for
+--native        the native stack of each thread
+--strict        native stacks without guesses
 PATH=FILE       FILE is read in place of the file that the process had mapped from PATH
 --help          this text
 --version       the version of the program

@@ -1,6 +1,10 @@
 //! What is left of the process of a core.
 ghost use Rattle.std.specs.Prelude.{◌≡◌, ◌≤◌, IfOk};
+ghost use Rattle.image_memory.specs.Backed.{regions_of};
+ghost use Rattle.process_memory.specs.Memory.{byte_at};
 ghost use Rattle.py_fields.specs.Sound.{IsSound};
+ghost use Rattle.py_records.specs.Versions.{records_of};
+ghost use Rattle.memory_sections.specs.Told.{AreMemoryTold};
 ghost use Rattle.salvage_words.specs.Seen.{asked_salvage};
 ghost use Rattle.salvage_report.specs.Outcome.{IsAnswer, IsCoreOutcome, IsSalvagedBy};
 ghost use Rattle.program_run.specs.Reading.{core_contents};
@@ -15,16 +19,18 @@ use crate::text::shown;
 use core_stacks::{Process, open};
 use elf64_core::Text;
 use image_memory::Images;
+use memory_sections::{MemoryTold, tell_memory};
 use missed_reads::{Missed, Misses};
 use named_images::image_list;
 use program_run::CoreFiles;
-use py_fronts::{Crash, Salvaged, named_candidates, salvage, searched_candidates};
+use py_fronts::{Crash, Salvaged, SalvagedInterpreter, named_candidates, salvage, searched_candidates};
 use py_layout::{Layouts, Version};
 use py_process::CoreError;
+use py_records::RecordTables;
 use py_selftest::LayoutCheck;
 use py_stacks::{Asked, LineNo, StackError};
-use salvage_words::SalvageWords;
-use std::alloc::Global;
+use salvage_words::{SalvageWords, Sections};
+use std::alloc::{AllocError, Global};
 
 /// What is left of a process: the signal that its core tells and the process, the version, what is left of its
 /// interpreters, and what is told in the sections that are asked for.
@@ -37,6 +43,8 @@ pub(crate) struct Left {
     pub(crate) told: Told,
     /// What the process says of its layout, where that is asked for.
     pub(crate) check: Option<LayoutCheck>,
+    /// What is told in the sections that are read in its memory.
+    pub(crate) memory: MemoryTold,
 }
 
 /// What is left of the interpreters of a process. Reads that are refused are kept.
@@ -88,20 +96,49 @@ fn count_addresses(alloc: Global, process: &Process) -> Result<u64, StackError>
     Ok(addresses.len() as u64)
 }
 
+/// What is told in the sections that are read in the process's memory. Reads that are refused are kept.
+fn memory_of(
+    alloc: Global,
+    asked: Sections,
+    tables: &RecordTables,
+    images: &Images,
+    process: &Process,
+    interpreters: &[SalvagedInterpreter],
+    misses: &mut Misses,
+) -> Result<MemoryTold, AllocError>
+    requires sound { IsSound process.now.layout }
+    ensures { IfOk result (AreMemoryTold asked process.now.dump.core images.now process.now.layout
+        (records_of tables.now process.now.version) (byte_at (regions_of process.now.dump)) interpreters.now) }
+{
+    let records = tables.records_of(&process.version);
+    tell_memory(alloc, asked, images, process, &records, interpreters, misses)
+}
+
 /// The text of what is left of an opened process, or that no interpreter is shown.
 fn shown_left(
     alloc: Global,
     words: &SalvageWords,
+    tables: &RecordTables,
+    images: &Images,
     process: Process,
     crash: Option<Crash>,
     misses: &mut Misses,
 ) -> Result<Vec<u8>, Cause>
     requires sound { IsSound process.layout }
     requires few { words.now.limit ≤ 4096 }
-    ensures { ShowsLeft (asked_salvage words.now) process crash result }
+    ensures { ShowsLeft (asked_salvage words.now) tables.now images.now process crash result }
 {
     let salvaged = salvaged_of(alloc, words, &process, crash, misses)?;
     let check = check_section(alloc, words.sections.check_layout, &process, misses)?;
+    let memory = memory_of(
+        alloc,
+        words.sections,
+        tables,
+        images,
+        &process,
+        &salvaged.interpreters,
+        misses,
+    )?;
     let core = process.dump.core();
     let told = tell_sections(
         alloc,
@@ -123,6 +160,7 @@ fn shown_left(
         salvaged,
         told,
         check,
+        memory,
     };
     Ok(shown(alloc, words, &left)?)
 }
@@ -150,32 +188,35 @@ fn open_keeping(
     opened
 }
 
-/// The text of what is left of the process of a core, by its images and some layouts.
+/// The text of what is left of the process of a core, by its images, some layouts and some tables of records.
 fn salvage_core(
     alloc: Global,
     words: &SalvageWords,
+    tables: &RecordTables,
     core: Vec<u8>,
     images: &Images,
     layouts: &Layouts,
     misses: &mut Misses,
 ) -> Result<Vec<u8>, Cause>
     requires few { words.now.limit ≤ 4096 }
-    ensures { IsAnswer (IsSalvagedBy (asked_salvage words.now) core.items images.now layouts.now) result }
+    ensures { IsAnswer
+        (IsSalvagedBy (asked_salvage words.now) tables.now core.items images.now layouts.now) result }
 {
     let process = open_keeping(alloc, core, images, layouts, misses)?;
     let crash = first_crash(alloc, process.dump.core())?;
-    shown_left(alloc, words, process, crash, misses)
+    shown_left(alloc, words, tables, images, process, crash, misses)
 }
 
-/// The text of what is left, over what the files hold. Reads that are refused are kept.
+/// The text of what is left, over what the files hold, by these tables of records. Reads that are refused are kept.
 pub(crate) fn salvage_over(
     alloc: Global,
     words: &SalvageWords,
+    tables: &RecordTables,
     files: CoreFiles,
     misses: &mut Misses,
 ) -> Result<Vec<u8>, Cause>
     requires few { words.now.limit ≤ 4096 }
-    ensures { IsAnswer (IsCoreOutcome (asked_salvage words.now) (core_contents files)) result }
+    ensures { IsAnswer (IsCoreOutcome (asked_salvage words.now) tables.now (core_contents files)) result }
 {
     let CoreFiles {
         core,
@@ -184,5 +225,5 @@ pub(crate) fn salvage_over(
     } = files;
     let layouts = Layouts::from_toml(alloc, &layouts)?;
     let images = image_list(alloc, &words.images, images)?;
-    salvage_core(alloc, words, core, &images, &layouts, misses)
+    salvage_core(alloc, words, tables, core, &images, &layouts, misses)
 }

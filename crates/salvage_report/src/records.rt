@@ -31,7 +31,8 @@ pub(crate) fn read_records<'a, F: Files>(
     }
 }
 
-/// The text of what is left, over what the files hold: the records are judged first, where there are some.
+/// The text of what is left, over what the files hold: the records are judged first, where there are some, and there is
+/// none where no file is named.
 pub(crate) fn salvage_with(
     alloc: Global,
     words: &SalvageWords,
@@ -44,9 +45,11 @@ pub(crate) fn salvage_with(
         (IsOutcomeWith (bytes_of_records records) (asked_salvage words.now) (core_contents files)) result }
 {
     let Some(text) = records else {
-        return salvage_over(alloc, words, files, misses);
+        let Ok(tables) = RecordTables::of(alloc, Vec::new(alloc)) else {
+            return Err(Cause::OutOfMemory);
+        };
+        return salvage_over(alloc, words, &tables, files, misses);
     };
-    // (no section needs them yet)
-    let _tables = RecordTables::from_toml(alloc, &text)?;
-    salvage_over(alloc, words, files, misses)
+    let tables = RecordTables::from_toml(alloc, &text)?;
+    salvage_over(alloc, words, &tables, files, misses)
 }

@@ -3,7 +3,8 @@ ghost use Rattle.std.specs.Prelude.{◌≡◌, IfOk, map, option_map};
 ghost use Rattle.elf64_core.specs.Notes.{noted};
 ghost use Rattle.crash_signal.specs.Signals.{signal_told};
 ghost use Rattle.thread_registers.specs.Threads.{threads_told};
-ghost use Rattle.salvage_report.specs.Sections.{AreTold, if_asked, own_id, python_thread, python_threads};
+ghost use Rattle.memory_sections.specs.Pythons.{python_threads};
+ghost use Rattle.salvage_report.specs.Sections.{AreTold, if_asked, own_id};
 ghost use Rattle.salvage_report.specs.Sections.{missing_shown, registers_shown};
 ghost use Rattle.missed_reads.specs.Told.{told_of};
 
@@ -11,11 +12,12 @@ use core_stacks::Notes;
 use crash_signal::{CrashSignal, Untold, read_signal};
 use elf64_core::{Machine, Note, Text};
 use image_memory::CoreDump;
+use memory_sections::python_threads;
 use missed_reads::{MissedBlocks, Misses, missed_blocks};
-use py_fronts::{SalvagedInterpreter, ThreadFront};
+use py_fronts::SalvagedInterpreter;
 use salvage_words::Sections;
 use std::alloc::{AllocError, Global};
-use thread_registers::{PythonThread, ThreadRegisters, read_threads};
+use thread_registers::{ThreadRegisters, read_threads};
 
 /// What is told in each section: none in one that isn't asked for.
 #[derive(Drop)]
@@ -51,42 +53,6 @@ fn signal_section(
     } else {
         None
     }
-}
-
-/// A thread of Python's, by its ids.
-fn python_thread(thread: &ThreadFront) -> PythonThread
-    ensures { result ≡ python_thread thread.now }
-{
-    PythonThread {
-        thread_id: thread.thread_id,
-        native_id: thread.os_thread_id,
-    }
-}
-
-/// The threads of a chain, by their ids.
-fn chain_threads(alloc: Global, threads: &[ThreadFront]) -> Result<Vec<PythonThread>, AllocError>
-    ensures { IfOk result (λ own. own.items ≡ map python_thread threads.now) }
-{
-    let mut own = Vec::new(alloc);
-    for thread in threads {
-        own.push(python_thread(thread))?;
-    }
-    Ok(own)
-}
-
-/// The threads of all interpreters that are shown.
-fn python_threads(
-    alloc: Global,
-    interpreters: &[SalvagedInterpreter],
-) -> Result<Vec<PythonThread>, AllocError>
-    ensures { IfOk result (λ threads. threads.items ≡ python_threads interpreters.now) }
-{
-    let mut threads = Vec::new(alloc);
-    for interpreter in interpreters {
-        let own = chain_threads(alloc, &interpreter.front.threads.threads)?;
-        threads.extend_from_slice(&own)?;
-    }
-    Ok(threads)
 }
 
 /// The threads of the status records, with their registers.

@@ -14,6 +14,7 @@ use crate::as_json::left_json;
 use crate::left::Left;
 use crash_signal::{CrashSignal, Untold};
 use elf64_core::{Name, Text};
+use memory_sections::push_memory;
 use py_layout::Version;
 use py_selftest::LayoutCheck;
 use salvage_texts::{push_escaped, salvaged_text};
@@ -110,6 +111,7 @@ fn left_text(alloc: Global, core: &Name, left: &Left) -> Result<Vec<u8>, AllocEr
     push_version(&mut text, &left.version)?;
     let salvaged = salvaged_text(alloc, &left.salvaged)?;
     text.push_str(salvaged.as_str())?;
+    push_memory(alloc, &mut text, &left.memory)?;
     push_registers(&mut text, &left.told.registers)?;
     push_check(&mut text, &left.check)?;
     Ok(text.into_bytes())

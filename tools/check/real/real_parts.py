@@ -49,7 +49,7 @@ from small_core import CALLER, CODE, FRAME, HEAP, heap
 FIRST = 1_000_000
 """How many bytes are given at first."""
 
-WORDS = ("-l", "--signal", "--registers", "--check-layout")
+WORDS = ("-l", "--signal", "--registers", "--check-layout", "--names")
 """What is asked for."""
 
 Tree = Dict[str, Any]
@@ -115,11 +115,22 @@ def text_of(tree: Tree) -> List[str]:
     return list(report_lines(report, Style(False, True, None)))
 
 
+def first_other(one: object, other: object, path: str = "") -> str:
+    """Where two trees differ first, and how: for whoever reads that a check failed."""
+    if isinstance(one, dict) and isinstance(other, dict) and one.keys() == other.keys():
+        return next((found for key in one for found in [first_other(one[key], other[key], f"{path}.{key}")] if found), "")
+    if isinstance(one, list) and isinstance(other, list) and len(one) == len(other):
+        rows = enumerate(zip(one, other))
+        return next((found for at, (a, b) in rows for found in [first_other(a, b, f"{path}[{at}]")] if found), "")
+    return "" if one == other else f"{path}: {str(one)[:300]} and of the whole core {str(other)[:300]}"
+
+
 def check_same(over: Over, whole: Tree) -> None:
     """Fails where over a part something else is told than of the whole core, or something is said."""
     tree = {**over.tree, "missing": whole["missing"]}
     if tree != whole:
-        raise Failure(f"over a part, after {over.line}, another report")
+        missed = over.tree["missing"]
+        raise Failure(f"over a part, after {over.line}, another report: {first_other(tree, whole)} (missed: {missed}, said: {over.said!r})")
     if text_of(tree) != text_of(whole):
         raise Failure("over a part another text")
     if over.said:

@@ -2,12 +2,13 @@
 
 import json
 import struct
-from typing import Callable, Dict, Iterator, List, Optional, Sequence, Union
+from typing import Callable, Dict, Iterator, List, Optional, Sequence
 
 from made import (
     AARCH64, EXAMPLE, READABLE, WRITABLE, Objects, Segment, Symbol, core_file, edited, image_file, layout_of, process_record,
     status_record,
 )
+from named_threads import named_threads
 from row import Row, row
 from small_core import (
     BSS, CALLER, CODE, FRAME, FUNCTION, GOOD, HEAP, IMAGE, PATH, TEXT, THREAD, bss, files_of, heap, mapped,
@@ -256,46 +257,8 @@ def cut_tables() -> Iterator[Row]:
 
 def names() -> Iterator[Row]:
     """The names of threads are those of the map of threading, if each part of it can be read."""
-
-    def named(keys: Sequence[Union[str, int]] = ("sys", "threading"), ids: Sequence[int] = (0x7F00, 0x7F01), own: int = 0x7F00) -> bytes:
-        """Modules of these names, or whose keys are texts of such a length or stand at such an address; and two threads of
-        these ids. The small core's thread has an id of its own."""
-        objects = heap()
-        objects.word(THREAD + 32, own)
-        place = {it: at for it, at in (("int", objects.klass("int", 24)), ("str", objects.klass("str", 28)),
-                                       ("dict", objects.klass("dict", 29)), ("object", objects.klass("object", 0)))}
-        module = objects.klass("module", 0)
-        objects.word(module + 40, 16)
-        objects.word(place["object"] + 40, 16)
-
-        def dict_of(*entries: Sequence[int]) -> int:
-            keys = objects.record("keys", None, used=len(entries), slots=8)
-            first = keys + 40 + 8
-            for number, (one, other) in enumerate(entries):
-                objects.write(first + 24 * number, struct.pack("<3Q", 0, one, other))
-            return objects.of_class(objects.record("dict", None, keys=keys), place["dict"])
-
-        def instance(klass: int, attributes: int) -> int:
-            at = objects.write(objects.free(), bytes(32))
-            objects.word(at + 16, attributes)
-            return objects.of_class(at, klass)
-
-        def text(text: str) -> int:
-            return objects.text(text, klass=place["str"])
-
-        def key_of(key: Union[str, int]) -> int:
-            if isinstance(key, str):
-                return text(key)
-            return key if key > 65535 else objects.record("string", None, length=key, state=100)
-
-        threads = [instance(place["object"], dict_of((0, 0), (text("_name"), text(name)), (text("_name"), text("sys"))))
-                   for name in ("MainThread", "Worker")]
-        active = dict_of(*((objects.number(number, place["int"]), thread) for number, thread in zip(ids, threads)))
-        threading = instance(module, dict_of((text("sys"), 0), (text("_active"), active)))
-        objects.word(HEAP + 16, dict_of((0, 0), *((key_of(key), threading) for key in keys)))
-        return core_file([objects.segment(6), mapped(), bss()])
-
-    for what, data, told in (
+    named = named_threads
+    for what, objects, told in (
         ("the name of a thread", named(), '0x7F00: "MainThread"'), ("the name of the second thread", named(own=0x7F01), '0x7F01: "Worker"'),
         ("the last thread of an id", named(ids=(0x7F00, 0x7F00)), '0x7F00: "Worker"'),
         ("the name of a thread of id -1", named(ids=(-1, 0x7F00), own=2 ** 64 - 1), '0xFFFFFFFFFFFFFFFF: "MainThread"'),
@@ -304,6 +267,7 @@ def names() -> Iterator[Row]:
         ("a key that is no text leaves all names out", named((5000, "threading")), "0x7F00"),
         ("a key that isn't in memory leaves all names out", named((0xDEAD0000, "threading")), "0x7F00"),
     ):
+        data = core_file([objects.segment(6), mapped(), bss()])
         yield row(f"dump: {what}", GOOD, files_of(data), TEXT.replace("0x7F00", told))
 
 

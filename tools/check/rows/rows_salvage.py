@@ -25,7 +25,8 @@ STRIPPED = image_file([Segment(0x400000, b"", 5, 0x1000)], (BSS, 16), [], [Secti
 
 HELP = """\
 pysalvage CORE --layouts FILE [--records FILE] [-n N] [-l].. [-j] [--signal] [--registers]
-          [--missing] [--check-layout] [PATH=FILE]..
+          [--missing] [--check-layout] [--names] [--exceptions] [--tasks] [--native [--strict]]
+          [PATH=FILE]..
 
 What is left of the Python stacks in the core of a broken process, or in one that was cut: each chain of threads and
 frames as far as it goes. Where no mark stands a chain is whole.
@@ -40,6 +41,11 @@ CORE            the core's file
 --registers     the registers of each thread, and which of Python's threads it is
 --missing       in JSON, which ranges were asked for and are not in memory
 --check-layout  whether the process itself says that the layout is its own
+--names         the names of the threads, of each interpreter
+--exceptions    the exceptions that each thread raised or handled
+--tasks         the tasks of asyncio, and what they wait for
+--native        the native stack of each thread
+--strict        native stacks without guesses
 PATH=FILE       FILE is read in place of the file that the process had mapped from PATH
 --help          this text
 --version       the version of the program
@@ -350,8 +356,9 @@ def trees() -> Iterator[Row]:
     thread = {"address": hex(THREAD), "crashed": True, "frames": frames, "gil": False, "os_thread_id": None, "thread_id": 0x7F00}
     interpreter = {"address": hex(HEAP), "lock": {"holder": 0, "kind": "read"}, "searched": False, "threads": [thread],
                    "threads_end": {"kind": "whole"}}
-    tree = {"interpreters": [interpreter], "layout_check": None, "missing": None, "more": False, "process": {"arguments": "p\n", "pid": 4}, "registers": None, "signal": 11,
-            "signal_info": None, "version": "3.9.0"}
+    tree = {"exceptions": None, "interpreters": [interpreter], "layout_check": None, "missing": None, "more": False, "names": None,
+            "native": None, "process": {"arguments": "p\n", "pid": 4}, "registers": None, "signal": 11, "signal_info": None, "tasks": None,
+            "version": "3.9.0"}
     notes = [status_record(11, 4, 0x7F00), process_record(4, b"p", b"p\n")]
     text = lambda it: json.dumps(it, indent=2, ensure_ascii=False) + "\n"
     yield salvage("JSON", f"{GOOD} -j", named(heap(), notes=notes), text(tree))
@@ -442,8 +449,8 @@ def broken_tree(back: int, blocks: Sequence[int]) -> Dict[str, object]:
     thread = {"address": hex(THREAD), "crashed": False, "frames": frames, "gil": False, "os_thread_id": None, "thread_id": 0x7F00}
     interpreter = {"address": hex(HEAP), "lock": {"holder": 0, "kind": "read"}, "searched": False, "threads": [thread],
                    "threads_end": {"kind": "whole"}}
-    return {"interpreters": [interpreter], "layout_check": None, **missed_object(blocks), "more": False, "process": None, "registers": None,
-            "signal": None, "signal_info": None, "version": "3.9.0"}
+    return {"exceptions": None, "interpreters": [interpreter], "layout_check": None, **missed_object(blocks), "more": False, "names": None,
+            "native": None, "process": None, "registers": None, "signal": None, "signal_info": None, "tasks": None, "version": "3.9.0"}
 
 
 def missed() -> Iterator[Row]:

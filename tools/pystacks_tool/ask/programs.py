@@ -12,6 +12,10 @@ from pystacks_tool.options import Options
 from pystacks_tool.places import NOT_RUN, PROGRAM, program_at
 
 
+NAMES = "--names"
+"""The flag of `pysalvage` for the names of threads."""
+
+
 def ask(core: OpenedCore, command: Sequence[bytes]) -> Answer:
     """What a program answers of a core."""
     try:
@@ -35,9 +39,9 @@ def dump_command(options: Options, core: OpenedCore, *more: str) -> List[bytes]:
 
 def salvage_command(options: Options, program: Path, core: OpenedCore) -> List[bytes]:
     """The words of `pysalvage`, which is asked for JSON by the layouts and the records of the core's machine, for the sections that are
-    shown, for what the process says of the layout, and over a part of a core for what it missed."""
+    shown, for what the process says of the layout, for the names of threads, and over a part of a core for what it missed."""
     sections = ["--signal"] * options.signal + ["--registers"] * options.registers + ["--missing"] * (core.part is not None)
-    sections += [FLAG] * knows(program, FLAG)
+    sections += [it for it in (FLAG, NAMES) if knows(program, it)]
     records = [f"--records={core.records}"] if core.records else []
     ends = [f"--frames={options.frames}"] if options.frames is not None else []
     asked = ["-j", *ends, *["-l"] * options.locals, *sections, "--", core.word]

@@ -1,8 +1,8 @@
 """The report on a core, by what the programs tell of it.
 
-Where `pysalvage` is there it is asked, since it shows what is left of a broken process. It tells neither names of
-threads nor values of locals, so these are those of `pystacks dump`, where that gives a report. Where `pysalvage` isn't
-there `pystacks dump` is asked alone.
+Where `pysalvage` is there it is asked, since it shows what is left of a broken process. It tells no values of locals, so
+where these are asked for they are those of `pystacks dump`, if that gives a report. Where `pysalvage` isn't there
+`pystacks dump` is asked alone.
 """
 
 import json
@@ -13,8 +13,8 @@ from typing import Optional
 from pystacks_tool.ask.dump import Tree, Unexpected, report_by_dump, tree_of
 from pystacks_tool.ask.layout import DIFFERS, layout_in, refusal
 from pystacks_tool.ask.parts import ask_over
-from pystacks_tool.ask.programs import ask, dump_command
-from pystacks_tool.ask.run import Answer
+from pystacks_tool.ask.programs import NAMES, ask, dump_command
+from pystacks_tool.ask.run import Answer, knows
 from pystacks_tool.ask.salvage import NamesAndValues, names_and_values, report_by_salvage
 from pystacks_tool.cores.opened import OpenedCore
 from pystacks_tool.faults import NO_PROGRAM, Fault
@@ -37,10 +37,11 @@ def decoded(text: bytes) -> str:
     return text.decode("utf-8", "replace")
 
 
-def ask_for_names_and_values(options: Options, core: OpenedCore) -> NamesAndValues:
-    """The names of threads, and with -l the values of locals, where `pystacks dump` has a report."""
+def ask_for_names_and_values(options: Options, core: OpenedCore, salvage: Path) -> NamesAndValues:
+    """With -l the values of locals, where `pystacks dump` has a report, and the names of threads; nothing where `pysalvage` tells all
+    that is asked for."""
     program = Path(options.program) if options.program else PROGRAM
-    if not program.is_file():
+    if not program.is_file() or knows(salvage, NAMES) and not options.locals:
         return NamesAndValues()
     answer = ask(core, dump_command(options, core, "-j", *["-l"] * options.locals))
     try:
@@ -57,7 +58,7 @@ def ask_salvage(options: Options, core: OpenedCore, program: Path) -> Outcome:
     told = layout_in(decoded(answer.out))
     if told is not None and told.verdict == DIFFERS and not options.any_layout:
         return Outcome(refusal(told))
-    tree, report = report_by_salvage(decoded(answer.out), core.name, ask_for_names_and_values(options, core))
+    tree, report = report_by_salvage(decoded(answer.out), core.name, ask_for_names_and_values(options, core, program))
     if core.part is not None:
         # (that is between the program and the tool)
         tree["missing"] = None

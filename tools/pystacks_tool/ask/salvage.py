@@ -1,6 +1,7 @@
 """What `pysalvage -j` told of a core. How chains end is worded as its own text has it.
 
-It tells neither names of threads nor values of locals: those of `pystacks dump` are added, where that has a report.
+It tells no values of locals: those of `pystacks dump` are added, where that has a report. Of a program that doesn't tell names of
+threads either they are that one's too.
 """
 
 import json
@@ -120,14 +121,23 @@ def names_and_values(threads: Iterable[Tree]) -> NamesAndValues:
     return found
 
 
+def names_told(tree: Tree) -> Dict[str, Dict[int, Optional[str]]]:
+    """The names that the program told itself, of each interpreter by its address."""
+    return {it["interpreter"]: {row["thread_id"]: row["name"] for row in it["threads"]} for it in tree.get("names") or ()}
+
+
 def add(tree: Tree, added: NamesAndValues) -> None:
-    """Adds names and values to the JSON of a core. A value that it has itself stays."""
-    for thread in (thread for it in tree["interpreters"] for thread in it["threads"]):
-        thread["thread_name"] = added.names.get(thread["thread_id"])
-        for member in thread["frames"]["first"] + thread["frames"]["last"]:
-            for row in member.get("locals") or ():
-                if row["repr"] is None:
-                    row["repr"] = added.values.get((row["name"], row["address"]))
+    """Gives each thread its name, of its own interpreter where the program told it, and adds values to the JSON of a core. A value
+    that it has itself stays."""
+    told = names_told(tree)
+    for one in tree["interpreters"]:
+        names = told.get(one["address"], added.names)
+        for thread in one["threads"]:
+            thread["thread_name"] = names.get(thread["thread_id"])
+            for member in thread["frames"]["first"] + thread["frames"]["last"]:
+                for row in member.get("locals") or ():
+                    if row["repr"] is None:
+                        row["repr"] = added.values.get((row["name"], row["address"]))
 
 
 def report_by_salvage(text: str, core: str, added: NamesAndValues) -> Tuple[Tree, Report]:

@@ -24,6 +24,6 @@ returns c =
     let bytes = c.core.ensures.same ∙ is.same in
     let told = subst (λ bs. CrashTold bs c.in_ok-crash.crash) bytes c.in_ok-crash.ensures in
     after (λ error. Core error) (ProcessIs c.args.core.items c.args.images.now c.args.layouts.now)
-    (IsLeftOf (asked_salvage c.args.words.now) c.args.core.items) (opened_of is.maps c.in_ok-process.process)
+    (IsLeftOf (asked_salvage c.args.words.now) c.args.tables.now c.args.core.items c.args.images.now) (opened_of is.maps c.in_ok-process.process)
     c.shown_left.result
     is.opened (c.shown_left.ensures c.args.core.items c.args.images.now c.args.layouts.now is told)

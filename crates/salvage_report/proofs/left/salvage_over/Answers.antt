@@ -27,7 +27,7 @@ returns c =
     let images = c.in_ok-images.ensures ∙ ap (λ w. images_read w (contents c.args.files.images.items))
     c.deref-2.ensures.value in
     after (λ error. Layouts error) (IsRightFor c.args.files.layouts.items)
-    (IsSalvagedBy s core (images_read s.images (contents c.args.files.images.items)))
+    (IsSalvagedBy s c.args.tables.now core (images_read s.images (contents c.args.files.images.items)))
     c.in_ok-layouts.layouts c.salvage_core.result says
-    (subst (λ i. IsAnswer (IsSalvagedBy s core i c.in_ok-layouts.layouts) c.salvage_core.result) images
+    (subst (λ i. IsAnswer (IsSalvagedBy s c.args.tables.now core i c.in_ok-layouts.layouts) c.salvage_core.result) images
     c.salvage_core.ensures)

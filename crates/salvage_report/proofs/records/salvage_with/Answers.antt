@@ -8,15 +8,15 @@ use Rattle.salvage_report.specs.declared.cause.Cause.TheVariants.{Records}
 use Rattle.salvage_report.proofs.Comes.{after}
 use Rattle.salvage_report.proofs.records.salvage_with.Goals as goal
 
-pub returns-in_err-_tables : goal.returns-in_err-_tables
-returns-in_err-_tables c =
+pub returns-in_err-tables : goal.returns-in_err-tables
+returns-in_err-tables c =
     let p = err_from_is_err_and c.from_residual.result c.from_residual.ensures.1 in
-    let right = rw c.deref.ensures.value at c.in_err-_tables.ensures.right in
-    rw (c.in-Some.is, p.1, p.2) (λ ne. inl (c.in_err-_tables.field-0.0, refl, right))
+    let right = rw c.deref.ensures.value at c.in_err-tables.ensures.right in
+    rw (c.in-Some.is, p.1, p.2) (λ ne. inl (c.in_err-tables.field-0.0, refl, right))
 
 pub returns : goal.returns
 returns c =
-    let says = rw c.deref.ensures.value at c.in_ok-_tables.ensures.right in
+    let says = rw c.deref.ensures.value at c.in_ok-tables.ensures.right in
     rw c.in-Some.is (after (λ error. Records error) (IsRightFor c.in-Some.text.items)
-    (λ tables. IsCoreOutcome (asked_salvage c.args.words.now) (core_contents c.args.files)) c.in_ok-_tables._tables
-    c.salvage_over-2.result says c.salvage_over-2.ensures)
+    (λ ts. IsCoreOutcome (asked_salvage c.args.words.now) ts (core_contents c.args.files))
+    c.in_ok-tables.tables c.salvage_over-2.result says c.salvage_over-2.ensures)

@@ -3,7 +3,8 @@ use Rattle.elf64_core.specs.Notes.{noted}
 use Rattle.crash_signal.specs.Signals.{signal_told}
 use Rattle.thread_registers.specs.Threads.{threads_told}
 use Rattle.missed_reads.specs.Told.{told_of}
-use Rattle.salvage_report.specs.Sections.{if_asked, own_id, python_threads}
+use Rattle.memory_sections.specs.Pythons.{python_threads}
+use Rattle.salvage_report.specs.Sections.{if_asked, own_id}
 use Rattle.salvage_report.proofs.sections.tell_sections.Goals as goal
 
 pub returns : goal.returns

@@ -3,8 +3,8 @@ use Rattle.std.specs.List.{flat_map}
 use Rattle.std.proofs.lemmas.Grind.{flat_map-append}
 use Rattle.std.proofs.lemmas.List.{append-nil, take_all, take_more}
 use Rattle.py_fronts.specs.declared.salvaged.SalvagedInterpreter.{SalvagedInterpreter}
-use Rattle.salvage_report.specs.Sections.{python_thread, python_threads, threads_of}
-use Rattle.salvage_report.proofs.sections.python_threads.Goals as goal
+use Rattle.memory_sections.specs.Pythons.{python_thread, python_threads, threads_of}
+use Rattle.memory_sections.proofs.pythons.python_threads.Goals as goal
 
 -- the threads of one interpreter more
 one_more : (is : List SalvagedInterpreter) (i : ℕ) (x d : SalvagedInterpreter) → i < length is → x ≡ get_or is i d

@@ -1,8 +1,8 @@
 use Rattle.std.proofs.Common.{◌≡◌, ◌<◌, ◌++◌, ◌∷◌, ◌+◌, ℕ, List, [], length, map, take, get_or, ap, sym, ◌∙◌}
 use Rattle.std.proofs.lemmas.List.{map-append, take_all, take_more}
 use Rattle.py_fronts.specs.declared.thread_front.ThreadFront.{ThreadFront}
-use Rattle.salvage_report.specs.Sections.{python_thread}
-use Rattle.salvage_report.proofs.sections.chain_threads.Goals as goal
+use Rattle.memory_sections.specs.Pythons.{python_thread}
+use Rattle.memory_sections.proofs.pythons.chain_threads.Goals as goal
 
 -- one thread more
 one_more : (ts : List ThreadFront) (i : ℕ) (t d : ThreadFront) → i < length ts → t ≡ get_or ts i d

@@ -1,0 +1,49 @@
+-- The lines of the sections that are read in a process's memory.
+use Rattle.std.specs.Prelude.{ℕ, ◌++◌, false, true, List, [], ◌∷◌, map, Option, Some, None, Vec, codes}
+use Rattle.std.specs.Fmt.{digits}
+use Rattle.std.specs.Global.{Global}
+use Rattle.std.specs.List.{concat}
+use Rattle.py_names.specs.declared.names_error.NamesError.{NamesError}
+use Rattle.salvage_texts.specs.Escape.{escaped}
+use Rattle.thread_names.specs.Trees.{fault_word}
+use Rattle.thread_names.specs.declared.names.InterpreterNames.{InterpreterNames}
+use Rattle.thread_names.specs.declared.names.ThreadName.{ThreadName}
+use Rattle.memory_sections.specs.declared.told.MemoryTold.{MemoryTold}
+
+-- what stands in front of a thread's name
+abbrev pub lead_text : ℕ → List ℕ
+lead_text id = codes "Name of thread 0x" ++ (digits 16 true id ++ codes ": ")
+
+-- a thread's name, where it has one, in which what could end the line is escaped
+abbrev pub name_text : ℕ → Option (List ℕ) → List ℕ
+name_text id None = []
+name_text id (Some name) = lead_text id ++ (escaped false name ++ codes "\n")
+
+abbrev pub threads_text : List ThreadName → List ℕ
+threads_text threads = concat (map (λ (t : ThreadName). name_text t.thread_id t.name) threads)
+
+-- what stands in front of why no name of an interpreter is told
+abbrev pub fault_lead : ℕ → List ℕ
+fault_lead interpreter = codes "No names of the interpreter at 0x" ++ (digits 16 false interpreter ++ codes ": ")
+
+-- why no name of an interpreter is told, where there is a fault
+abbrev pub fault_line : ℕ → Option NamesError → List ℕ
+fault_line interpreter None = []
+fault_line interpreter (Some e) = fault_lead interpreter ++ (fault_word e ++ codes "\n")
+
+abbrev pub fault_text : InterpreterNames → List ℕ
+fault_text i = fault_line i.interpreter i.fault
+
+abbrev pub interpreter_text : InterpreterNames → List ℕ
+interpreter_text i = fault_text i ++ threads_text i.threads.items
+
+abbrev pub all_names_text : List InterpreterNames → List ℕ
+all_names_text names = concat (map (λ i. interpreter_text i) names)
+
+abbrev pub names_text : Option (Vec InterpreterNames Global) → List ℕ
+names_text None = []
+names_text (Some names) = all_names_text names.items
+
+-- all of them, in order
+abbrev pub memory_text : MemoryTold → List ℕ
+memory_text told = names_text told.names

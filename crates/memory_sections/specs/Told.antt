@@ -1,0 +1,46 @@
+-- The sections that are read in a process's memory: each is asked for by a flag of its own, and is told of each
+-- interpreter, or of each thread, of those that are shown.
+use Rattle.std.specs.Prelude.{◌≡◌, ℕ, Bool, true, false, List, map, Option, Some, None, Vec}
+use Rattle.std.specs.Global.{Global}
+use Rattle.process_memory.specs.Memory.{Memory}
+use Rattle.py_fields.specs.declared.layout.Layout.{Layout}
+use Rattle.py_fronts.specs.declared.thread_front.ThreadFront.{ThreadFront}
+use Rattle.py_fronts.specs.declared.salvaged.SalvagedInterpreter.{SalvagedInterpreter}
+use Rattle.py_names.specs.Names.{names_at}
+use Rattle.image_memory.specs.Images.{Pushed}
+use Rattle.py_records.specs.declared.records.Records.{Records}
+use Rattle.salvage_words.specs.declared.asked.Sections.{Sections}
+use Rattle.thread_names.specs.Told.{NamesTold}
+use Rattle.thread_names.specs.declared.names.InterpreterNames.{InterpreterNames}
+use Rattle.memory_sections.specs.Each.{EachTold}
+use Rattle.memory_sections.specs.declared.told.MemoryTold.{MemoryTold}
+
+-- what is asked for is told, and nothing else
+abbrev pub ToldIf : {T : Type 0} → Bool → (T → Type 0) → Option T → Type 0
+ToldIf false Is told = told ≡ None
+ToldIf true Is None = ⊥
+ToldIf true Is (Some told) = Is told
+
+-- ---- names
+
+abbrev pub id_of : ThreadFront → ℕ
+id_of t = t.thread_id
+
+abbrev pub ids_of : SalvagedInterpreter → List ℕ
+ids_of i = map id_of i.front.threads.threads.items
+
+-- the names that an interpreter keeps for its threads that are shown
+abbrev pub AreNamesOf : Layout → Memory → SalvagedInterpreter → InterpreterNames → Type 0
+AreNamesOf l m i told = NamesTold i.front.address (ids_of i) (names_at l m i.front.address) told
+
+abbrev pub NamesAre : Bool → Layout → Memory → List SalvagedInterpreter → Option (Vec InterpreterNames Global) → Type 0
+NamesAre asked l m is told =
+    ToldIf asked (λ (names : Vec InterpreterNames Global). EachTold (AreNamesOf l m) is names.items) told
+
+-- ---- all of them
+
+-- What is told of a process whose core has these bytes and was opened with these images, by a layout and the records of
+-- its version, over this memory, and of whose interpreters these are shown.
+pub record AreMemoryTold (asked : Sections) (bytes : List ℕ) (images : Pushed) (l : Layout) (r : Records) (m : Memory)
+    (is : List SalvagedInterpreter) (told : MemoryTold) : Type 0 where
+  pub names : NamesAre asked.names l m is told.names

@@ -1,0 +1,112 @@
+//! The lines of these sections.
+ghost use Rattle.std.specs.Prelude.{◌≡◌, ◌++◌, OnOk, string_bytes};
+ghost use Rattle.memory_sections.specs.Text.{all_names_text, fault_lead, fault_text, interpreter_text, lead_text};
+ghost use Rattle.memory_sections.specs.Text.{memory_text, name_text, names_text, threads_text};
+
+use crate::told::MemoryTold;
+use elf64_core::Text;
+use salvage_texts::push_escaped;
+use std::alloc::{AllocError, Global};
+use thread_names::{InterpreterNames, ThreadName, fault_word};
+
+/// What stands in front of a thread's name.
+fn push_lead(text: &mut String, thread_id: u64) -> Result<(), AllocError>
+    ensures { OnOk result (string_bytes text.new ≡ string_bytes text.old ++ lead_text thread_id) }
+{
+    write!(text, "Name of thread 0x{thread_id:X}: ")
+}
+
+/// A thread's name, where it has one; what could end the line is escaped.
+fn push_name(
+    alloc: Global,
+    text: &mut String,
+    thread_id: u64,
+    name: &Option<Text>,
+) -> Result<(), AllocError>
+    ensures { OnOk result (string_bytes text.new ≡ string_bytes text.old ++ name_text thread_id name.now) }
+{
+    let Some(name) = name else {
+        return Ok(());
+    };
+    push_lead(text, thread_id)?;
+    push_escaped(alloc, text, false, name)?;
+    text.push_str("\n")
+}
+
+fn push_threads(
+    alloc: Global,
+    text: &mut String,
+    threads: &[ThreadName],
+) -> Result<(), AllocError>
+    ensures { OnOk result (string_bytes text.new ≡ string_bytes text.old ++ threads_text threads.now) }
+{
+    for thread in threads {
+        push_name(alloc, text, thread.thread_id, &thread.name)?;
+    }
+    Ok(())
+}
+
+/// What stands in front of why no name is told.
+fn push_fault_lead(text: &mut String, address: u64) -> Result<(), AllocError>
+    ensures { OnOk result (string_bytes text.new ≡ string_bytes text.old ++ fault_lead address) }
+{
+    write!(text, "No names of the interpreter at 0x{address:x}: ")
+}
+
+/// Why no name of an interpreter is told, where there is a fault.
+fn push_fault(text: &mut String, names: &InterpreterNames) -> Result<(), AllocError>
+    ensures { OnOk result (string_bytes text.new ≡ string_bytes text.old ++ fault_text names.now) }
+{
+    let Some(fault) = &names.fault else {
+        return Ok(());
+    };
+    push_fault_lead(text, names.interpreter)?;
+    text.push_str(fault_word(fault))?;
+    text.push_str("\n")
+}
+
+fn push_interpreter(
+    alloc: Global,
+    text: &mut String,
+    names: &InterpreterNames,
+) -> Result<(), AllocError>
+    ensures { OnOk result (string_bytes text.new ≡ string_bytes text.old ++ interpreter_text names.now) }
+{
+    push_fault(text, names)?;
+    push_threads(alloc, text, &names.threads)
+}
+
+fn push_all_names(
+    alloc: Global,
+    text: &mut String,
+    names: &[InterpreterNames],
+) -> Result<(), AllocError>
+    ensures { OnOk result (string_bytes text.new ≡ string_bytes text.old ++ all_names_text names.now) }
+{
+    for interpreter in names {
+        push_interpreter(alloc, text, interpreter)?;
+    }
+    Ok(())
+}
+
+/// The names, where they are asked for.
+fn push_names(
+    alloc: Global,
+    text: &mut String,
+    names: &Option<Vec<InterpreterNames>>,
+) -> Result<(), AllocError>
+    ensures { OnOk result (string_bytes text.new ≡ string_bytes text.old ++ names_text names.now) }
+{
+    match names {
+        Some(names) => push_all_names(alloc, text, names),
+        None => Ok(()),
+    }
+}
+
+/// Appends the lines of the sections that are asked for: of each thread with a name `Name of thread 0x7F..: NAME`, and
+/// of each interpreter of which none can be read why. The one error is want of memory.
+pub fn push_memory(alloc: Global, text: &mut String, told: &MemoryTold) -> Result<(), AllocError>
+    ensures { OnOk result (string_bytes text.new ≡ string_bytes text.old ++ memory_text told.now) }
+{
+    push_names(alloc, text, &told.names)
+}

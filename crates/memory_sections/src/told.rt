@@ -1,0 +1,44 @@
+//! All that is told in the sections that are read in a process's memory.
+ghost use Rattle.std.specs.Prelude.{◌≡◌, IfOk};
+ghost use Rattle.image_memory.specs.Backed.{regions_of};
+ghost use Rattle.process_memory.specs.Memory.{byte_at};
+ghost use Rattle.py_fields.specs.Sound.{IsSound};
+ghost use Rattle.memory_sections.specs.Told.{AreMemoryTold};
+
+use crate::names::names_section;
+use core_stacks::Process;
+use image_memory::Images;
+use missed_reads::Misses;
+use py_fronts::SalvagedInterpreter;
+use py_records::Records;
+use salvage_words::Sections;
+use std::alloc::{AllocError, Global};
+use thread_names::InterpreterNames;
+
+/// What is told in these sections: none in one that isn't asked for.
+#[derive(Drop)]
+pub struct MemoryTold {
+    /// The names of the threads, by interpreters.
+    pub names: Option<Vec<InterpreterNames>>,
+}
+
+/// What is told in the sections that are asked for of an opened process, of whose interpreters these are shown, by the
+/// records of its version and the images with which it was opened. Reads that are refused are kept.
+///
+/// What can't be had of a section is told in it. The one error is want of memory.
+pub fn tell_memory(
+    alloc: Global,
+    asked: Sections,
+    images: &Images,
+    process: &Process,
+    records: &Records,
+    interpreters: &[SalvagedInterpreter],
+    misses: &mut Misses,
+) -> Result<MemoryTold, AllocError>
+    requires sound { IsSound process.now.layout }
+    ensures { IfOk result (AreMemoryTold asked process.now.dump.core images.now process.now.layout records.now
+        (byte_at (regions_of process.now.dump)) interpreters.now) }
+{
+    let names = names_section(alloc, asked.names, process, misses, interpreters)?;
+    Ok(MemoryTold { names })
+}

@@ -1,0 +1,18 @@
+//! The values of these sections in JSON: null in one that isn't asked for.
+ghost use Rattle.std.specs.Prelude.{◌≡◌, IfOk};
+ghost use Rattle.serde_json.specs.View.{view};
+ghost use Rattle.memory_sections.specs.Values.{names_tree_if};
+
+use crate::told::MemoryTold;
+use serde_json::Value;
+use std::alloc::{AllocError, Global};
+
+/// The names, by interpreters (`thread_names::names_value`), or null. The one error is want of memory.
+pub fn names_value(alloc: Global, told: &MemoryTold) -> Result<Value, AllocError>
+    ensures { IfOk result (λ value. view value ≡ names_tree_if told.now.names) }
+{
+    match &told.names {
+        Some(names) => thread_names::names_value(alloc, names),
+        None => Ok(Value::Null),
+    }
+}

@@ -1,0 +1,43 @@
+-- The JSON of names. The keys of an object stand in the order of their bytes.
+use Rattle.std.specs.Prelude.{ℕ, ◌++◌, false, List, map, Option, Some, None, codes, encode_utf8_all}
+use Rattle.std.specs.Fmt.{digits}
+use Rattle.serde_json.specs.Data.{Data, array, member, no_members, null, number, object, string, unsigned}
+use Rattle.serde_json.specs.View.{items_of}
+use Rattle.py_names.specs.declared.names_error.NamesError.{NamesError}
+use Rattle.py_names.specs.declared.names_error.NamesError.TheVariants.{Entries, NoDicts, Object, OutOfMemory}
+use Rattle.thread_names.specs.declared.names.InterpreterNames.{InterpreterNames}
+use Rattle.thread_names.specs.declared.names.ThreadName.{ThreadName}
+
+abbrev pub name_tree : Option (List ℕ) → Data
+name_tree (Some name) = string (encode_utf8_all name)
+name_tree None = null
+
+abbrev pub thread_tree : ThreadName → Data
+thread_tree t = object (
+    member (codes "name") (name_tree t.name) (
+    member (codes "thread_id") (number (unsigned t.thread_id)) no_members))
+
+abbrev pub threads_tree : List ThreadName → Data
+threads_tree threads = array (items_of (map (λ t. thread_tree t) threads))
+
+abbrev pub fault_word : NamesError → List ℕ
+fault_word NoDicts = codes "no dicts"
+fault_word Entries = codes "more than 65536 slots"
+fault_word (Object e) = codes "unreadable"
+fault_word OutOfMemory = codes "out of memory"
+
+abbrev pub fault_tree : Option NamesError → Data
+fault_tree (Some e) = string (fault_word e)
+fault_tree None = null
+
+abbrev pub address_text : ℕ → List ℕ
+address_text n = codes "0x" ++ digits 16 false n
+
+abbrev pub interpreter_tree : InterpreterNames → Data
+interpreter_tree i = object (
+    member (codes "fault") (fault_tree i.fault) (
+    member (codes "interpreter") (string (address_text i.interpreter)) (
+    member (codes "threads") (threads_tree i.threads.items) no_members)))
+
+abbrev pub names_tree : List InterpreterNames → Data
+names_tree names = array (items_of (map (λ i. interpreter_tree i) names))

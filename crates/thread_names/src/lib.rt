@@ -1,0 +1,12 @@
+//! A section of what is told of a process: the names of an interpreter's threads, as its own module `threading` keeps
+//! them.
+//!
+//! They are read by the interpreter, not along its chain of threads or of frames: so a chain that is broken or long
+//! takes no name away, and one interpreter's names are never another's.
+#![tactic(auto)]
+
+mod names;
+mod tree;
+
+pub use names::{InterpreterNames, ThreadName, read_thread_names};
+pub use tree::{fault_word, names_value};

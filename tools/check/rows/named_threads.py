@@ -1,0 +1,46 @@
+"""A small core whose interpreter has modules, and in `threading` the names of two threads."""
+
+import struct
+from typing import Sequence, Union
+
+from made import Objects
+from small_core import HEAP, THREAD, heap
+
+
+def named_threads(keys: Sequence[Union[str, int]] = ("sys", "threading"), ids: Sequence[int] = (0x7F00, 0x7F01), own: int = 0x7F00) -> Objects:
+    """Modules of these names, or whose keys are texts of such a length or stand at such an address; and two threads of
+    these ids. The small core's thread has an id of its own."""
+    objects = heap()
+    objects.word(THREAD + 32, own)
+    place = {it: at for it, at in (("int", objects.klass("int", 24)), ("str", objects.klass("str", 28)),
+                                   ("dict", objects.klass("dict", 29)), ("object", objects.klass("object", 0)))}
+    module = objects.klass("module", 0)
+    objects.word(module + 40, 16)
+    objects.word(place["object"] + 40, 16)
+
+    def dict_of(*entries: Sequence[int]) -> int:
+        keys = objects.record("keys", None, used=len(entries), slots=8)
+        first = keys + 40 + 8
+        for number, (one, other) in enumerate(entries):
+            objects.write(first + 24 * number, struct.pack("<3Q", 0, one, other))
+        return objects.of_class(objects.record("dict", None, keys=keys), place["dict"])
+
+    def instance(klass: int, attributes: int) -> int:
+        at = objects.write(objects.free(), bytes(32))
+        objects.word(at + 16, attributes)
+        return objects.of_class(at, klass)
+
+    def text(text: str) -> int:
+        return objects.text(text, klass=place["str"])
+
+    def key_of(key: Union[str, int]) -> int:
+        if isinstance(key, str):
+            return text(key)
+        return key if key > 65535 else objects.record("string", None, length=key, state=100)
+
+    threads = [instance(place["object"], dict_of((0, 0), (text("_name"), text(name)), (text("_name"), text("sys"))))
+               for name in ("MainThread", "Worker")]
+    active = dict_of(*((objects.number(number, place["int"]), thread) for number, thread in zip(ids, threads)))
+    threading = instance(module, dict_of((text("sys"), 0), (text("_active"), active)))
+    objects.word(HEAP + 16, dict_of((0, 0), *((key_of(key), threading) for key in keys)))
+    return objects

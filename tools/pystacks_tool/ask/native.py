@@ -1,0 +1,54 @@
+"""What `pysalvage --native` told of native stacks: frames, guesses and ends."""
+
+import os
+from typing import Optional, Tuple
+
+from pystacks_tool.ask.dump import Tree
+from pystacks_tool.model import NativeFrame, NativeStack
+
+FLAG = "--native"
+"""The section's flag."""
+
+KEY = "native"
+"""Its key in the JSON."""
+
+ENDS = {
+    "no table": "{at} is in no table of its file", "no file": "{at} is in a file that isn't at hand", "unreadable": "unreadable at {at}",
+    "bad table": "its file's table is damaged", "bad record": "its file's table is damaged", "bad rules": "the rules for a frame are damaged",
+    "no frame address": "the frame's address can't be told", "no return address": "the return address can't be told",
+    "not above": "the next frame doesn't lie above", "cut at frames": "cut after 1048576 frames", "cut at signals": "cut after 64 signal frames",
+    "cut at rules": "cut, since rules are too long",
+}
+"""How a stack ends, by the kind of its end; nothing of a whole one."""
+
+
+def number_in(value: Optional[str]) -> Optional[int]:
+    """An address, where there is one."""
+    return None if value is None else int(value, 16)
+
+
+def frame_of(tree: Tree, is_guess: bool) -> NativeFrame:
+    """A frame."""
+    return NativeFrame(int(tree["pc"], 16), tree["function"], tree["offset"], tree["file"], number_in(tree["address"]), tree["signal"], is_guess)
+
+
+def end_of(tree: Tree) -> str:
+    """How a stack ends; nothing of a whole one."""
+    line = ENDS.get(tree["kind"], "").format(at=tree["at"])
+    return f"{line} ({os.path.basename(tree['file'])})" if line and tree["file"] else line
+
+
+def part_of(tree: Optional[Tree], is_guess: bool) -> Tuple[Tuple[NativeFrame, ...], int, Tuple[NativeFrame, ...], str]:
+    """The first frames of a part of a stack, how many aren't shown, the last ones, and how it ends."""
+    if tree is None:
+        return (), 0, (), ""
+    first, last = (tuple(frame_of(it, is_guess) for it in tree[part]) for part in ("frames", "last"))
+    return first, tree["between"], last, end_of(tree["end"])
+
+
+def stack_of(tree: Tree) -> NativeStack:
+    """The stack of a thread. What follows from a guess stands behind what is sure."""
+    first, between, last, end = part_of(tree["stack"], False)
+    guessed, more, rest, then = part_of(tree["guessed"], True)
+    return NativeStack(tree["system_id"], tree["python"].get("thread_id"), tree["crashed"], first, between, last, end, tree["stack"] is not None,
+                       guessed + rest, more, then)

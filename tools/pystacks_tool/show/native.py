@@ -1,0 +1,85 @@
+"""The lines of native stacks, and the line that says where in native code a process died."""
+
+import os
+import re
+from typing import Iterator, Optional, Sequence
+
+from pystacks_tool.model import NativeFrame, NativeStack, Report
+from pystacks_tool.show.escape import as_name
+
+LIBRARY = re.compile(r"(libc|libpthread|ld-linux[^/]*|libm|libdl|librt|ld-musl[^/]*|linux-vdso)[-.][^/]*$|\[vdso\]$")
+"""Files of the C library, and the system's own."""
+
+PYTHON = re.compile(r"(lib)?python[0-9.]*[a-z]*(\.so[0-9.]*)?$")
+"""Files of Python itself: the program and its library."""
+
+
+def base_of(frame: NativeFrame) -> str:
+    """The name of a frame's file, without its folder."""
+    return os.path.basename(frame.file or "")
+
+
+def place_of(frame: NativeFrame) -> str:
+    """Where a frame stands: its function, or else its address in its file, and the file."""
+    if frame.file is None:
+        return f"0x{frame.pc:x} (in no file)"
+    inside = f"{as_name(frame.function)}+0x{frame.offset or 0:x}" if frame.function else f"0x{frame.address or 0:x}"
+    return f"{inside} ({as_name(base_of(frame))})"
+
+
+def frame_line(frame: NativeFrame) -> str:
+    """A frame's line."""
+    return f"    {place_of(frame)}{' <signal>' if frame.is_signal else ''}{' <guess>' if frame.is_guess else ''}"
+
+
+def part_lines(first: Sequence[NativeFrame], between: int, last: Sequence[NativeFrame], end: str) -> Iterator[str]:
+    """The lines of a part of a stack."""
+    yield from map(frame_line, first)
+    if between:
+        yield f"    ... {between} more frames"
+    yield from map(frame_line, last)
+    if end:
+        yield f"    ... {end}"
+
+
+def stack_lines(stack: NativeStack, name: Optional[str]) -> Iterator[str]:
+    """The lines of a native stack, below a line that says whose it is."""
+    whose = "" if stack.number is None else f" (0x{stack.number:X}{'' if name is None else f' {chr(34)}{as_name(name)}{chr(34)}'})"
+    yield f"Native stack of thread {stack.native}{whose}{' (crashed)' if stack.is_crashed else ''}{'' if stack.is_told else ': no registers'}"
+    yield from part_lines(stack.frames, stack.between, stack.last, stack.end)
+    yield from part_lines(stack.guessed, stack.guessed_between, (), stack.guessed_end)
+
+
+def native_lines(report: Report) -> Iterator[str]:
+    """The lines of all native stacks, that of the thread that got the signal first."""
+    names = {it.number: it.name for it in report.threads}
+    for stack in sorted(report.native, key=lambda it: not it.is_crashed):
+        yield from stack_lines(stack, None if stack.number is None else names.get(stack.number))
+
+
+# ---- where it died
+
+
+def is_own(frame: NativeFrame) -> bool:
+    """Whether a frame is of the C library, or of the system."""
+    return frame.file is not None and LIBRARY.search(base_of(frame)) is not None
+
+
+def is_python(frame: NativeFrame) -> bool:
+    """Whether a frame is of Python itself."""
+    return frame.file is not None and PYTHON.match(base_of(frame)) is not None
+
+
+def where_line(report: Report) -> str:
+    """Where the thread that got the signal was in native code: its newest frame, and the newest of a file that is neither the C
+    library's nor Python's. Nothing where Python itself was what died, or called what did."""
+    found = next((it for it in report.native if it.is_crashed), None)
+    frames = [] if found is None else [it for it in (*found.frames, *found.guessed) if not it.is_signal]
+    if not frames or is_python(frames[0]):
+        return ""
+    caller = next((it for it in frames if not is_own(it)), None)
+    if caller is None or is_python(caller):
+        return ""
+    called = "" if caller is frames[0] else f", called by {place_of(caller)}"
+    mark = " <guess>" if caller.is_guess else ""
+    return f"In {place_of(frames[0])}{called}{mark}"
