@@ -145,6 +145,36 @@ class NativeStack:
 
 
 @dataclass(frozen=True)
+class Task:
+    """A task of asyncio."""
+
+    address: str
+    name: Optional[str]
+    """Nothing where it has none, or it can't be read."""
+    kind: str
+    """What it does, in a word: running, ready, not started, waiting, done."""
+    condition: str
+    """The same, with what it waits for, or the thread in which it runs."""
+    frames: Tuple[Frame, ...]
+    """Those of the coroutines that it awaits, the innermost first."""
+    end: str = ""
+    """How their chain breaks off, where it does."""
+
+
+@dataclass(frozen=True)
+class Tasks:
+    """The tasks of an interpreter."""
+
+    interpreter: str
+    """Its address."""
+    tasks: Tuple[Task, ...] = ()
+    others: Tuple[str, ...] = ()
+    """What is said of what is registered and no task, and of tasks that aren't told."""
+    fault: str = ""
+    """Why they aren't told, if they aren't."""
+
+
+@dataclass(frozen=True)
 class Number:
     """A number of a layout that the dead process tells itself."""
 
@@ -191,6 +221,8 @@ class Report:
     """Those of each thread, where they are asked for."""
     layout: Tuple[str, ...] = ()
     """What is said of the layout: nothing where the process agrees with it."""
+    tasks: Tuple[Tasks, ...] = ()
+    """The tasks of the interpreters that have asyncio, where they are asked for."""
     native: Tuple[NativeStack, ...] = ()
     """Native stacks, where they are asked for."""
     where: str = ""

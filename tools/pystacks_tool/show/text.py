@@ -11,7 +11,9 @@ from typing import Callable, Dict, Iterator, List, Optional, Sequence, Set, Tupl
 from pystacks_tool.model import Frame, Interpreter, Local, Report, Stack, Thread, stacks_of
 from pystacks_tool.show.escape import as_name, in_line, signal_name, with_decimals
 from pystacks_tool.show.folds import Fold, Item, folded
+from pystacks_tool.show.native import native_lines
 from pystacks_tool.show.sources import Sources
+from pystacks_tool.show.tasks import summary_of, task_blocks
 from pystacks_tool.show.widths import shortened
 
 MANY = 8
@@ -226,6 +228,8 @@ def head_lines(report: Report, style: Style, _: int) -> Iterator[str]:
         yield f"Process {report.process[0]}: {in_line(report.process[1])}"
     yield f"Python v{in_line(report.version)}"
     yield from (style.paint(in_line(it), RED) for it in report.layout)
+    if report.where:
+        yield style.paint(report.where, RED)
     if crash_line(report):
         yield style.paint(crash_line(report), RED)
     yield ""
@@ -372,6 +376,32 @@ def register_lines(report: Report, _: Style, __: int) -> Iterator[str]:
             yield "    " + "  ".join(f"{name:>8} {value:016x}" for name, value in rows[at : at + 4])
 
 
+def task_lines(report: Report, style: Style, _: int) -> Iterator[str]:
+    """The tasks of asyncio, those that stand at one place together: as many lines as a screen has, unless more is asked for."""
+    is_short = not (style.shows_all or style.shows_stacks)
+    for tasks in report.tasks:
+        if tasks.fault:
+            yield f"Tasks are not told: {in_line(tasks.fault)}"
+            continue
+        yield style.paint(summary_of(tasks), BOLD)
+        left, kept = LINES, list(task_blocks(tasks, not style.shows_all))
+        for at, (its, title) in enumerate(kept):
+            lines = [line for lines, _ in items_lines(its[0].frames, style) for line in lines]
+            end = [style.paint(f"    ... {in_line(its[0].end)}", RED)] if its[0].end else []
+            if is_short and at and left < len(lines) + len(end) + 1:
+                rest = kept[at:]
+                yield style.paint(f"... {sum(len(it) for it, _ in rest)} more tasks at {len(rest)} other places: --all shows each", DIM)
+                break
+            left -= len(lines) + len(end) + 1
+            yield from [title, *lines, *end]
+        yield from map(in_line, tasks.others)
+
+
+def native_stack_lines(report: Report, _: Style, __: int) -> Iterator[str]:
+    """The native stacks, where they are asked for."""
+    return native_lines(report)
+
+
 # ---- the whole
 
 
@@ -390,7 +420,8 @@ class Part:
 STACKS = (Part(crashed_lines, is_free=True), Part(table_lines), Part(others_lines))
 """What is shown of threads."""
 
-PARTS = (Part(head_lines), *STACKS, Part(register_lines, is_free=True))
+PARTS = (Part(head_lines), *STACKS, Part(task_lines, is_free=True), Part(native_stack_lines, is_free=True),
+         Part(register_lines, is_free=True))
 """What the text has, in order. A further section is a line here."""
 
 

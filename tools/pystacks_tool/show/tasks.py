@@ -1,0 +1,50 @@
+"""The lines of asyncio's tasks: how many there are, and where each one stands. Equal ones stand once."""
+
+from typing import Dict, Iterator, List, Sequence, Tuple
+
+from pystacks_tool.model import Task, Tasks
+from pystacks_tool.show.escape import as_name, in_line
+
+NAMED = 2
+"""How many tasks that stand at one place are named, where there are more."""
+
+COUNTED = ("running", "ready", "not started", "waiting")
+"""What is counted of tasks that aren't done."""
+
+
+def name_of(task: Task) -> str:
+    """A task's name, or its address."""
+    return task.address if task.name is None else f'"{as_name(task.name)}"'
+
+
+def summary_of(tasks: Tasks) -> str:
+    """How many tasks there are, by what they do."""
+    counts = {it: sum(task.kind == it for task in tasks.tasks) for it in COUNTED}
+    parts = ", ".join(f"{count} {kind}" for kind, count in counts.items() if count) or "none that isn't done"
+    done = len(tasks.tasks) - sum(counts.values())
+    aren = f"; {done} finished {'is' if done == 1 else 'are'}n't shown" if done else ""
+    return f"Tasks {sum(counts.values())} ({parts}{aren})"
+
+
+def title_of(tasks: Sequence[Task]) -> str:
+    """The line of the tasks that stand at one place."""
+    first = tasks[0]
+    if len(tasks) == 1:
+        return f"Task {name_of(first)} ({in_line(first.condition)})"
+    more = f" and {len(tasks) - NAMED} more" if len(tasks) > NAMED else ""
+    return f"{len(tasks)} tasks ({in_line(first.condition)}): {', '.join(name_of(it) for it in tasks[:NAMED])}{more}"
+
+
+def together(tasks: Tasks, is_merged: bool) -> List[List[Task]]:
+    """The tasks that aren't done: those that stand at one place together, in the order of the first of each; running ones first."""
+    found: Dict[object, List[Task]] = {}
+    for at, task in enumerate(tasks.tasks):
+        if task.kind in COUNTED:
+            key: Tuple[object, ...] = (task.condition, tuple(it.place for it in task.frames), task.end)
+            found.setdefault(key if is_merged and task.kind != "running" else at, []).append(task)
+    return sorted(found.values(), key=lambda its: COUNTED.index(its[0].kind) > 0)
+
+
+def task_blocks(tasks: Tasks, is_merged: bool) -> Iterator[Tuple[List[Task], str]]:
+    """The tasks that stand at one place, with their line."""
+    return ((its, title_of(its)) for its in together(tasks, is_merged))
