@@ -3,6 +3,7 @@
 import argparse
 import os
 import re
+import sys
 from pathlib import Path
 from typing import List, Sequence
 
@@ -10,7 +11,7 @@ from pystacks_tool.command import run
 from pystacks_tool.faults import NO_ROOM, Fault, say
 from pystacks_tool.options import ALL_FRAMES, BY, Options
 from pystacks_tool.output import written
-from pystacks_tool.pages import with_places
+from pystacks_tool.pages import ROOT, with_places
 from pystacks_tool.places import LAYOUTS, MACHINES, PROGRAM, SALVAGE, version_line
 
 LARGEST = 1 << 26
@@ -54,6 +55,8 @@ def add_many(parser: argparse.ArgumentParser) -> None:
     parser.add_argument("--from", metavar="FILE", nargs="+", dest="lines", default=(), help="with --group: group such lines, from anywhere; - is the standard input")
     parser.add_argument("--timeout", metavar="SECONDS", type=seconds, default=60, help="how long one core of --group and --keys may take (default: 60)")
     parser.add_argument("--jobs", metavar="N", type=processes, default=0, help="how many cores are looked at at a time (default: as many as there are processors)")
+    parser.add_argument("--list", metavar="FOLDER", default="", help="list the crashes that the kernel's handler kept in this folder")
+    parser.add_argument("--show", metavar="ID", default="", help="show the report of one of them, by its name, or its path")
     parser.add_argument("--host", metavar="NAME", default="", help="the host that the lines of --keys name")
     parser.add_argument("--key-line", action="store_true", help=argparse.SUPPRESS)
 
@@ -123,7 +126,7 @@ def options_of(words: argparse.Namespace) -> Options:
         collapsed=words.collapsed, html=words.html, group=words.group, plain=words.plain, root=words.root, maps=words.maps,
         keep=words.keep, memory=words.memory, any_layout=words.any_layout, layouts=words.layouts, records=words.records, program=words.program, salvage=words.salvage,
         version=words.version, by=words.by or ("exact" if words.plain else "crash"), keys=words.keys, key_line=words.key_line,
-        lines=tuple(words.lines), timeout=words.timeout, jobs=words.jobs, host=words.host)
+        lines=tuple(words.lines), timeout=words.timeout, jobs=words.jobs, host=words.host, kept_list=words.list, kept_one=words.show)
 
 
 def clash_of_many(options: Options) -> str:
@@ -146,6 +149,8 @@ def clash_of_many(options: Options) -> str:
 
 def clash(options: Options) -> str:
     """What is wrong with the words, if anything is."""
+    if options.kept_list or options.kept_one:
+        return "--list and --show take no cores, and one of them is taken" if options.cores or options.kept_list and options.kept_one else ""
     forms = [it for it in ("json", "collapsed", "html", "plain") if getattr(options, it)]
     fault = clash_of_many(options) if options.group or options.keys else "--from is taken with --group" if options.lines else ""
     if fault:
@@ -195,6 +200,9 @@ def version_lines() -> List[str]:
 
 def main(name: str, given: Sequence[str]) -> int:
     """The command by its name and words. Returns the status."""
+    if given[:1] == ["--handle"]:
+        # (the kernel's program, which runs by itself)
+        os.execv(sys.executable, [sys.executable, "-I", os.fspath(ROOT / "tools" / "core_handle.py"), *given[1:]])
     options = read_options(name, given)
     try:
         return written(version_lines()) if options.version else run(options)

@@ -69,11 +69,23 @@ def refused_among(name: str, found: Outcome) -> int:
     return found.answer.status
 
 
+def show_kept(options: Options) -> int:
+    """Shows what the kernel's handler kept, and returns the status."""
+    from pystacks_tool.handler.listing import list_lines, show_lines
+
+    if options.kept_list:
+        return written(list_lines(options.kept_list))
+    lines, status = show_lines(options.kept_one)
+    return written(lines) or status
+
+
 # ---- the whole
 
 
 def run(options: Options) -> int:
     """Does what the words ask for, and returns the status."""
+    if options.kept_list or options.kept_one:
+        return show_kept(options)
     program = program_at(options.program, PROGRAM)
     for folder, option in ((options.root, "--root"), (options.source, "--source")):
         if folder and not os.path.isdir(folder):

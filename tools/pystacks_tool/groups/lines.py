@@ -50,12 +50,17 @@ def base_line(options: Options, name: str) -> Line:
     }
 
 
+def line_without_stacks(line: Line, signal: Optional[int], process: str, cause: str) -> Line:
+    """A line, as of a core without stacks."""
+    key = cause_key(cause, process)
+    own = {"signal": signal, "signal_name": signal_name(signal or 0), "process": brief(in_line(process))}
+    return {**line, **own, "cause": brief(in_line(cause)), "keys": {"crash": key, "stacks": key}}
+
+
 def refused_line(options: Options, name: str, cause: str) -> Line:
     """The line of a core without stacks."""
     known = known_at(name)
-    key = cause_key(cause, known.arguments)
-    own = {"signal": known.signal, "signal_name": signal_name(known.signal or 0), "process": brief(in_line(known.arguments))}
-    return {**base_line(options, name), **own, "cause": brief(in_line(cause)), "keys": {"crash": key, "stacks": key}}
+    return line_without_stacks(base_line(options, name), known.signal, known.arguments, cause)
 
 
 def stack_of(one: Chosen) -> List[str]:
