@@ -325,8 +325,8 @@ os.chdir(box)
 assert libc.mount(b'.', b'/', None, 1 << 13, None) == 0
 os.chroot('.')
 """
-    prepare = f"""
-{{}}
+    prepare = """
+{}
 its = [mmap.mmap(os.open('/lib/' + it, os.O_RDONLY), 8192, prot=mmap.PROT_READ) for it in ('kept', 'linked', 'blocked')]
 for it in ('linked', 'blocked'):
     os.unlink('/lib/' + it)

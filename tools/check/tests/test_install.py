@@ -70,7 +70,7 @@ class Installed(Case):
     def test_files(self):
         self.install()
         to = self.folder / "to"
-        self.assertEqual(sorted(it.name for it in (to / "bin").iterdir()), ["pysalvage", "pystacks", "pystacks-core", "pystacks-layout", "pystacks-native", "pystacks-slim"])
+        self.assertEqual(sorted(it.name for it in (to / "bin").iterdir()), ["pysalvage", "pystacks", "pystacks-core", "pystacks-core-handle", "pystacks-layout", "pystacks-native", "pystacks-slim"])
         self.assertEqual(sorted(it.name for it in (to / "layouts").iterdir()), ["cpython-aarch64.toml", "cpython-x86_64.toml", "records-aarch64.toml", "records-x86_64.toml"])
         self.assertTrue({"dump_core.py", "slim_core.py"} <= {it.name for it in (to / "tools").iterdir()})
         self.assertTrue({"MESSAGES.md", "CORES.md", "DUMP.md", "SLIM.md"} <= {it.name for it in (to / "docs").iterdir()})
@@ -245,7 +245,7 @@ class Bare(Case):
 class Package(Case):
     """The Debian package."""
 
-    PROGRAMS = ["pysalvage", "pystacks", "pystacks-core", "pystacks-layout", "pystacks-native", "pystacks-slim"]
+    PROGRAMS = ["pysalvage", "pystacks", "pystacks-core", "pystacks-core-handle", "pystacks-layout", "pystacks-native", "pystacks-slim"]
 
     def setUp(self):
         super().setUp()

@@ -212,12 +212,12 @@ def own_line(it: Kept, cause: str) -> bytes:
     from pystacks_tool.groups.keys import cause_key
 
     name, key, when = it.entry.name, cause_key(cause, it.process.executable), it.crash.when
-    line = {
+    tree = {
         "core": name, "host": it.record["host"], "time": f"{when[:4]}-{when[4:6]}-{when[6:11]}:{when[11:13]}:{when[13:]}",
         "signal": it.crash.signal, "signal_name": None, "told": "", "process": brief(it.process.executable), "version": "", "thread": None,
         "frames": [], "stack": [], "cause": cause, "keys": {"crash": key, "stacks": key},
     }
-    return json.dumps(line, sort_keys=True).encode("ascii") + b"\n"
+    return json.dumps(tree, sort_keys=True).encode("ascii") + b"\n"
 
 
 def has_line(it: Kept, name: str) -> bool:
