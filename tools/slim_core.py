@@ -22,7 +22,7 @@ from pystacks_tool.ask.programs import command_of
 from pystacks_tool.ask.run import write_all
 from pystacks_tool.ask.slim import located, written
 from pystacks_tool.cores.opened import OpenedCore, open_core
-from pystacks_tool.faults import BAD_WORDS, CANNOT_WRITE, Fault, say, shown
+from pystacks_tool.faults import BAD_WORDS, CANNOT_WRITE, Fault, call, say, shown
 from pystacks_tool.options import Options
 from pystacks_tool.places import PROGRAM, program_at, version_line
 
@@ -83,7 +83,7 @@ def run(options: Options, name: str, out: str) -> int:
     command = command_of([program, core.word, core.layouts], [core.name])
     version, interpreter, lock = located(command, core)
     length = slimmed(command, core, options.locals, out)
-    say(f"{shown(os.fsencode(out))} has {length} bytes", who="slim_core")
+    say(f"{shown(os.fsencode(out))} has {length} bytes")
     put([program, "walk", out, core.layouts, version, interpreter, lock])
     return 0
 
@@ -100,6 +100,7 @@ def main() -> int:
     parser.add_argument("--maps", metavar="FILE", default="", help="the process's maps, for a core without a file table")
     parser.add_argument("--version", action="version", version=version_line(), help="the project's version, and its commit")
     words = parser.parse_args()
+    call(sys.argv[0])
     if words.root and not os.path.isdir(words.root):
         parser.error(f"there is no folder {words.root}")
     try:
@@ -107,7 +108,7 @@ def main() -> int:
             (words.core,), words.locals, root=words.root, maps=words.maps, whole=True, layouts=words.layouts, program=words.program)
         return run(options, words.core, words.out or f"{words.core}.slim")
     except Fault as fault:
-        say(str(fault), fault.then, "slim_core")
+        say(str(fault), fault.then)
         return fault.status
     except KeyboardInterrupt:
         return 130

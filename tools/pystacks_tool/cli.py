@@ -8,7 +8,7 @@ from pathlib import Path
 from typing import List, Sequence
 
 from pystacks_tool.command import run
-from pystacks_tool.faults import NO_ROOM, Fault, say
+from pystacks_tool.faults import NO_ROOM, Fault, call, say
 from pystacks_tool.options import ALL_FRAMES, BY, Options
 from pystacks_tool.output import written
 from pystacks_tool.pages import ROOT, with_places
@@ -111,7 +111,7 @@ def parser_for(name: str) -> argparse.ArgumentParser:
     """The parser of the tool's words."""
     parser = argparse.ArgumentParser(
         prog=name, description=WHAT, epilog=with_places(EXAMPLES.format(name)), formatter_class=argparse.RawDescriptionHelpFormatter)
-    parser.add_argument("core", metavar="CORE", nargs="*", help="the core's file; several with --group, --keys and --collapsed")
+    parser.add_argument("core", metavar="CORE", nargs="*", help="the core's file, or - for the standard input; several with --group, --keys and --collapsed")
     add_shown(parser)
     add_many(parser)
     add_taken(parser)
@@ -122,7 +122,7 @@ def parser_for(name: str) -> argparse.ArgumentParser:
 def options_of(words: argparse.Namespace) -> Options:
     """The words, each with its type."""
     return Options(
-        cores=tuple(words.core), locals=words.locals, signal=not words.no_signal, registers=words.registers, shows_all=words.all, shows_stacks=words.stacks, frames=words.frames, source=words.source, json=words.json,
+        cores=tuple("/dev/stdin" if it == "-" else it for it in words.core), locals=words.locals, signal=not words.no_signal, registers=words.registers, shows_all=words.all, shows_stacks=words.stacks, frames=words.frames, source=words.source, json=words.json,
         collapsed=words.collapsed, html=words.html, group=words.group, plain=words.plain, root=words.root, maps=words.maps,
         keep=words.keep, memory=words.memory, any_layout=words.any_layout, layouts=words.layouts, records=words.records, program=words.program, salvage=words.salvage,
         version=words.version, by=words.by or ("exact" if words.plain else "crash"), keys=words.keys, key_line=words.key_line,
@@ -164,6 +164,8 @@ def clash(options: Options) -> str:
     if not options.cores and not options.lines:
         hint = f": --source took {options.source} for its folder, so name it behind the core" if options.source else ""
         return f"no core is named{hint}"
+    if "/dev/stdin" in options.cores and (len(options.cores) > 1 or options.group or options.keys):
+        return "- is one core, and taken alone"
     if len(options.cores) > 1 and not (options.group or options.keys or options.collapsed and not options.keep):
         return "several cores are taken with --group, --keys and --collapsed alone"
     return ""
@@ -200,6 +202,7 @@ def version_lines() -> List[str]:
 
 def main(name: str, given: Sequence[str]) -> int:
     """The command by its name and words. Returns the status."""
+    call(name.split()[-1])
     if given[:1] == ["--handle"]:
         # (the kernel's program, which runs by itself)
         os.execv(sys.executable, [sys.executable, "-I", os.fspath(ROOT / "tools" / "core_handle.py"), *given[1:]])

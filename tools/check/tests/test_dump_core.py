@@ -269,9 +269,11 @@ class Faults(Case):
             self.assertEqual(self.handed(data), ([], ""))
 
     def test_no_file(self):
-        for core in ("none", "."):
+        then = "dump_core: next: name the core's file; `ls -l` says who may read it\n"
+        (self.folder / "dangling").symlink_to("elsewhere")
+        for core, line in (("none", "there is no file none"), (".", ". is a folder"), ("dangling", "dangling is a link to elsewhere, which isn't there")):
             status, out, said = self.tool(core, program=self.fake("pystacks: cannot read it\n", "sys.exit(3)"))
-            self.assertEqual((status, said), (3, "pystacks: cannot read it\n"))
+            self.assertEqual((status, said), (3, f"dump_core: {line}\n{then}"))
             _, out, _ = self.tool(core, "--plain")
             self.assertEqual(out.split(b"\0"), [b"dump", b"--core=" + core.encode(), b"--layouts=" + os.fsencode(LAYOUTS)])
 

@@ -118,7 +118,7 @@ class Installed(Case):
         stand_ins.program(self.folder / "to/bin/pystacks", status=1, said=said)
         stand_ins.program(self.folder / "to/bin/pysalvage", status=1, said=said)
         then = self.ran(sys.executable, self.folder / "to/bin/pystacks-core", "core")[2].splitlines()[1]
-        page = re.fullmatch(r"dump_core: next: (\S+) has the usual causes, and how to tell them, below `No interpreter found`", then).group(1)
+        page = re.fullmatch(r"pystacks-core: next: (\S+) has the usual causes, and how to tell them, below `No interpreter found`", then).group(1)
         self.assertEqual(page, str(self.folder / "to/docs/MESSAGES.md"))
         self.assertTrue(Path(page).is_file())
 

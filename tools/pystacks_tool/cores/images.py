@@ -55,6 +55,20 @@ def path_of(root: Root, name: bytes) -> bytes:
     return root[name]
 
 
+def trouble_of(path: bytes) -> str:
+    """Why what has a name can't be read; nothing where it can, or where there is none."""
+    try:
+        if os.path.islink(path) and not os.path.exists(path):
+            return f"{shown(path)} is a link to {shown(os.readlink(path))}, which isn't there"
+        if os.path.isdir(path):
+            return f"{shown(path)} is a folder"
+        if os.path.exists(path) and not os.access(path, os.R_OK):
+            return f"{shown(path)} may not be read by this user"
+    except OSError:
+        pass
+    return ""
+
+
 def path_below(root: bytes, name: bytes) -> bytes:
     """The same below this folder, if one is given."""
     path = name[: -len(DELETED)] if name.endswith(DELETED) else name
@@ -62,6 +76,9 @@ def path_below(root: bytes, name: bytes) -> bytes:
         raise Missing("that is no path")
     path = os.path.join(root, path[1:]) if root else path
     if not os.path.isfile(path):
+        trouble = trouble_of(path)
+        if trouble:
+            raise Missing(trouble)
         if root:
             raise Missing(f"there is no file {shown(path)}", "copy it there, or name by --root where the process's files are")
         raise Missing(f"there is no file {shown(path)}; --root FOLDER looks below FOLDER", "")
@@ -88,8 +105,9 @@ def check_file(path: bytes, wanted: Wanted, machine: Optional[int]) -> None:
         raise Missing(f"{shown(path)} is no ELF file")
     if own_machine is not None and own_machine != machine:
         raise Missing(f"{shown(path)} is of another machine, {machine_name(own_machine)}")
-    if own and wanted.builds - {own}:
-        raise Missing(f"{shown(path)} is of another build")
+    others = sorted(it for it in wanted.builds if it != own)
+    if own and others:
+        raise Missing(f"{shown(path)} is of another build: its id is {own.hex()}, and {others[0].hex()} was mapped")
 
 
 def image_word(wanted: Wanted, root: Root, machine: Optional[int], budget: Optional[int] = None) -> bytes:

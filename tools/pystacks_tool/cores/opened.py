@@ -8,7 +8,7 @@ from typing import IO, Iterable, List, Optional, Tuple
 
 from pystacks_tool.ask.run import tells_missed
 from pystacks_tool.cores.headers import headers_of
-from pystacks_tool.cores.images import Root, finder_below, image_words, maps_in, opened, read_core, size_of
+from pystacks_tool.cores.images import Root, finder_below, image_words, maps_in, opened, read_core, size_of, trouble_of
 from pystacks_tool.cores.kinds import check_kind
 from pystacks_tool.cores.known import Known, known_at
 from pystacks_tool.cores.maps import Use, Wanted, is_text
@@ -16,7 +16,7 @@ from pystacks_tool.cores.parts import BLOCK, Part, Shrunk
 from pystacks_tool.cores.prepare import SHRUNK, Prepared, Unprepared, Wishes, available, prepared
 from pystacks_tool.cores.progress import shown_for
 from pystacks_tool.cores.tables import Entry, entries_of
-from pystacks_tool.faults import BAD_WORDS, NO_ROOM, NO_STACKS, Fault, say, shown
+from pystacks_tool.faults import BAD_WORDS, CANNOT_READ, NO_ROOM, NO_STACKS, Fault, say, shown
 from pystacks_tool.options import Options
 from pystacks_tool.places import layouts_of, records_of, salvage_program
 
@@ -150,6 +150,10 @@ def prepare_core(options: Options, name: str, core: Optional[IO[bytes]]) -> Opti
 def open_core(options: Options, name: str) -> OpenedCore:
     """A core with its images, of which the missing ones have a line."""
     core = opened(name)
+    if core is None and not options.plain:
+        path = os.fsencode(name)
+        check_text([path])
+        raise Fault(trouble_of(path) or f"there is no file {shown(path)}", CANNOT_READ, "name the core's file; `ls -l` says who may read it")
     new = prepare_core(options, name, core)
     machine, files = read_core(new.file if new else core)
     layouts = os.fspath(options.layouts or layouts_of(machine))
