@@ -36,7 +36,9 @@ ROOT = Path(__file__).resolve().parents[3]
 CHILD = Path(__file__).with_name("handler_child.py")
 USER = "nobody"
 UNLIMITED = str((1 << 64) - 1)
-SECONDS = 60
+SECONDS = 300
+"""How long anything may take, however slow the machine is."""
+
 NEW_NAMES = 0x4000000
 """The namespace of a host's name (CLONE_NEWUTS)."""
 
@@ -98,7 +100,8 @@ class Room:
 
     def installed(self, name, program, salvage):
         """Installs the tool with these programs."""
-        command = [sys.executable, "-B", ROOT / "tools" / "install.py", "--to", self.folder / name, "--program", program, "--salvage", salvage]
+        command = [sys.executable, "-B", ROOT / "tools" / "install.py", "--to", self.folder / name, "--program", program]
+        command += ["--salvage", salvage] if Path(salvage).is_file() else []
         subprocess.run([str(it) for it in command], check=True, stdout=subprocess.DEVNULL)
         return self.folder / name
 
@@ -114,7 +117,7 @@ class Room:
         """A file of settings, with an empty folder of crashes."""
         shutil.rmtree(self.cores, ignore_errors=True)
         self.cores.mkdir(mode=0o700)
-        own = {"folder": self.cores, "user": USER, "namespaces": "yes" if self.is_apart else "no", **more}
+        own = {"folder": self.cores, "user": USER, "namespaces": "yes" if self.is_apart else "no", "seconds": SECONDS // 2, "file_seconds": 60, **more}
         path = self.folder / "settings"
         path.write_text("".join(f"{key} = {value}\n" for key, value in own.items()))
         path.chmod(0o644)
@@ -195,6 +198,11 @@ def size_below(folder):
     return sum(it.stat().st_size for it in folder.rglob("*") if it.is_file())
 
 
+def said_in(path):
+    """What the tool said of a crash."""
+    return (path / "said").read_text() if (path / "said").exists() else ""
+
+
 # ---- what is kept
 
 
@@ -203,12 +211,13 @@ def whole(room, pid, core):
     status, said = room.handled(room.settings(), pid, core)
     expect(status == 0, f"the handler ended with status {status}: {said}")
     path, record, line = room.only()
+    expect(line["cause"] is None and (path / "report.txt").exists(), f"there is no report: {line['cause']}; {record['said']}; {said_in(path)}")
     text, report = (path / "report.txt").read_text(), json.loads((path / "report.json").read_text())
     expect("fall (" in text and "child.py:" in text, f"the report is {text[:300]!r}")
     expect(report["interpreters"][0]["threads"][0]["frames"]["first"], "the JSON has no frames")
     expect(line["cause"] is None and line["frames"][0].startswith("fall ("), f"the line is {line}")
     expect(line["core"] == path.name and record["ended"] == "by itself" and record["files"] > 2, f"the record is {record}")
-    expect((path / "slim").stat().st_size > 1000, "there is no small core")
+    expect((path / "slim").exists() and (path / "slim").stat().st_size > 1000, f"there is no small core: {said_in(path)}")
     modes = {(it.name, it.stat().st_uid, stat.S_IMODE(it.stat().st_mode)) for it in path.iterdir()}
     expect(all(it[1:] == (0, 0o600) for it in modes), f"files are {modes}")
     door = room.opt / "bin" / "pystacks-core"
@@ -239,7 +248,7 @@ def breaks_off(room, pid, core):
     status, said = room.handled(room.settings(), pid, half)
     path, record, line = room.only()
     expect(status == 0 and record["length"] == half.stat().st_size, f"{status}, {said}, {record}")
-    expect("core is cut" in (path / "said").read_text() and line["signal"] == 6, f"{line}")
+    expect("core is cut" in said_in(path) and line["signal"] == 6, f"{line}")
     room.handled(room.settings(), pid, "/dev/null")
     expect(room.only()[2]["cause"], "an empty core has no line with its cause")
 
@@ -467,7 +476,7 @@ def odd_host(room, pid, core):
 def runs_into_limits(room, pid, core):
     """Programs that use up their memory, their time or the disk: the line and the rest are there, and nothing runs on."""
     for text, more in (
-        ("x=$(tr '\\0' x </dev/zero)\nexit 1", {"memory": 400}), ("while :; do :; done", {"seconds": 2}),
+        ("x=$(tr '\\0' x </dev/zero)\nexit 1", {"memory": 400, "seconds": 20}), ("while :; do :; done", {"seconds": 2}),
         ("setsid sh -c 'while :; do sleep 1; done' &\nsleep 1000", {"seconds": 2}), ("exec cat /dev/zero", {"space": 50}),
     ):
         program = room.script(f"case \"$*\" in *--help*) exit 0;; esac\n{text}")
@@ -486,7 +495,7 @@ def waits_for_nothing(room, pid, core):
     program = room.script(f"case \"$*\" in *--help*) exit 0;; esac\nwhile [ ! -e {go} ]; do sleep 0.05; done\nexit 1")
     for is_ended in (False, True):
         go.unlink() if go.exists() else None
-        process, reader = room.started(room.settings(program=program, salvage=program, seconds=50), pid, core)
+        process, reader = room.started(room.settings(program=program, salvage=program), pid, core)
         # (with the worker beside it, it has a folder that isn't whole, with a core that was taken)
         wait_until(process, lambda: any(json.loads(it.read_text())["ended"] == "taken" for it in room.cores.glob(".new-*/crash")))
         expect(os.readlink(f"/proc/{process.pid}/fd/0") == "/dev/null", "the pipe is still open")
@@ -674,9 +683,9 @@ def tried(words):
                     done += 1
                 except Skip as reason:
                     print(f"real_handler: skipped: {call.__name__}: {reason}")
-                except Failure as reason:
+                except (Failure, OSError, ValueError, KeyError, IndexError) as reason:
                     wrong += 1
-                    print(f"real_handler: {call.__name__}: {reason}")
+                    print(f"real_handler: {call.__name__}: {reason!r}")
     print(f"real_handler: {done} situations are right, {wrong} wrong")
     return 1 if wrong else 0
 
