@@ -619,15 +619,20 @@ def live(room):
     try:
         limit.write_text("4")
         pattern.write_text(f"|{door} {PATTERN}")
-        subprocess.run([sys.executable, "-c", "import os\ndef fall(): os.abort()\nfall()"], stderr=subprocess.DEVNULL, preexec_fn=raise_core_limit)
+        process = subprocess.Popen([sys.executable, "-c", "import os\ndef fall(): os.abort()\nfall()"], stderr=subprocess.DEVNULL, preexec_fn=raise_core_limit)
+        process.wait()
     finally:
         pattern.write_text(before[0])
         limit.write_text(before[1])
+    # (the handler may be at work still, and other processes may have died in that moment)
     deadline = time.monotonic() + SECONDS
-    while not [it for it in room.cores.iterdir() if it.name[0] != "." and it.name != "storms"] and time.monotonic() < deadline:
+    while not list(room.cores.glob(f"2*-{process.pid}-*")) and time.monotonic() < deadline:
         time.sleep(0.05)
-    record, line = room.only()[1:]
-    expect(record["ended"] == "by itself" and line["frames"][0].startswith("fall ("), f"{record}, {line}")
+    found = list(room.cores.glob(f"2*-{process.pid}-*"))
+    expect(len(found) == 1, f"{len(found)} crashes of the process are kept")
+    record, line = (json.loads((found[0] / it).read_text()) for it in ("crash", "line"))
+    expect(record["ended"] == "by itself" and line["frames"] and line["frames"][0].startswith("fall ("), f"{record}, {line}")
+    shutil.rmtree(door.parent)
     print("real_handler: the kernel itself started it, and the line is right")
 
 
