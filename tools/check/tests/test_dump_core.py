@@ -270,7 +270,7 @@ class Faults(Case):
 
     def test_no_file(self):
         (self.folder / "dangling").symlink_to("elsewhere")
-        for core, line in (("none", "there is no file none"), (".", ". is a folder"), ("dangling", "dangling is a link to elsewhere, which isn't there")):
+        for core, line in (("none", "there is no file none"), (".", ". is a folder"), (str(self.folder / "dangling"), f"{self.folder}/dangling is a link to elsewhere, which isn't there")):
             status, out, said = self.tool(core, program=self.fake("pystacks: cannot read it\n", "sys.exit(3)"))
             self.assertEqual((status, said), (3, f"dump_core: {line}\n"))
             _, out, _ = self.tool(core, "--plain")
