@@ -25,7 +25,7 @@ from pystacks_tool.faults import BAD_WORDS, CANNOT_WRITE, Fault, say, shown
 from pystacks_tool.pages import ROOT
 from pystacks_tool.places import LAYOUTS, MACHINES, PROGRAM, SALVAGE, commit, program_at, salvage_at, version_line
 
-PAGES = ("CORES", "DIFFERENCES", "DUMP", "FLEET", "HOSTILE", "LAYOUTS", "MERGE", "MESSAGES", "REACH", "SALVAGE", "SAMPLE", "SLIM", "SPEED", "TOOL",
+PAGES = ("CORES", "DIFFERENCES", "DUMP", "FLEET", "HANDLER", "HOSTILE", "LAYOUTS", "MERGE", "MESSAGES", "REACH", "SALVAGE", "SAMPLE", "SLIM", "SPEED", "TOOL",
          "TRIAGE", "WALK")
 """The pages of docs for users."""
 
@@ -36,7 +36,7 @@ LAYOUT_TOOLS = ("derive_layout", "layout_from_core", "layout_plan", "layout_sour
                 "join_layouts", "carry_layouts", "find_pythons", "probe_*")
 """The modules of the tools that derive and join layouts and records."""
 
-TOOLS = ("dump_core.py", "core_fleet.py", "slim_core.py", "native_addresses.py", "pystacks_tool/**/*.py", *(f"layouts/{it}.py" for it in LAYOUT_TOOLS))
+TOOLS = ("dump_core.py", "core_handle.py", "core_fleet.py", "slim_core.py", "native_addresses.py", "pystacks_tool/**/*.py", *(f"layouts/{it}.py" for it in LAYOUT_TOOLS))
 
 MARK = "COMMIT"
 """The file by which an installed folder is known. It has the commit, where that is known."""
@@ -49,17 +49,20 @@ class Door:
     name: str
     module: str
     what: str
+    python: str = "/usr/bin/env python3"
+    """By which Python it is run."""
 
 
 DOORS = (
     Door("pystacks-core", "dump_core", "Shows where a Python process stood when it died, by its core"),
     Door("pystacks-slim", "slim_core", "Makes a small core of a large one, with what its Python stacks need"),
     Door("pystacks-layout", "derive_layout", "Writes the layout of an installed CPython, by which pystacks reads its cores"),
+    Door("pystacks-core-handle", "core_handle", "The program that the kernel starts for each core, and sets that up", "/usr/bin/python3 -I"),
     Door("pystacks-native", "native_addresses", "Prints the native addresses of a thread of a core, as pystacks merge takes them"),
 )
 
 DOOR = '''\
-#!/usr/bin/env python3
+#!{it.python}
 """{it.what}. The tool itself stands in ../tools."""
 
 import os

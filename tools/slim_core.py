@@ -11,53 +11,23 @@ It has some kilobytes for each thread, and the same signal and process; names an
 
 import argparse
 import os
-import re
 import shlex
-import subprocess
 import sys
 import tempfile
-from typing import List, Tuple
+from typing import List
 
 sys.dont_write_bytecode = True
 
-from pystacks_tool.ask.programs import ask, command_of
-from pystacks_tool.ask.run import Answer, write_all
+from pystacks_tool.ask.programs import command_of
+from pystacks_tool.ask.run import write_all
+from pystacks_tool.ask.slim import located, written
 from pystacks_tool.cores.opened import OpenedCore, open_core
-from pystacks_tool.faults import BAD_WORDS, CANNOT_WRITE, NO_PROGRAM, Fault, say, shown
+from pystacks_tool.faults import BAD_WORDS, CANNOT_WRITE, Fault, call, say, shown
 from pystacks_tool.options import Options
 from pystacks_tool.places import PROGRAM, program_at, version_line
 
-LOCATED = re.compile(r"Python v(\d+\.\d+\.\d+)\S*\nInterpreter (0x[0-9a-f]+)\nLock (0x[0-9a-f]+)\n")
-"""What `pystacks locate` prints: of a version `walk` takes the numbers."""
-
 SMALL = b"\x7fELF\2\1".ljust(18, b"\0")
 """How a small core begins, whose type is 0. A file that begins otherwise is never written over."""
-
-
-def fault_of(answer: Answer) -> Fault:
-    """The program's own line and status."""
-    line = shown(answer.said.strip()) or f"the program ended with status {answer.status}"
-    return Fault(line, answer.status if answer.status > 0 else NO_PROGRAM)
-
-
-def located(command: List[bytes], core: OpenedCore) -> Tuple[str, str, str]:
-    """The version, the interpreter's address and the lock's."""
-    answer = ask(core, [command[0], b"locate", *command[1:], *core.images])
-    if answer.status:
-        raise fault_of(answer)
-    found = LOCATED.fullmatch(answer.out.decode("ascii", "replace"))
-    if not found:
-        raise Fault(f"the program says {answer.out!r} of where the interpreter is", NO_PROGRAM)
-    version, interpreter, lock = found.groups()
-    return version, interpreter, lock
-
-
-def written(command: List[bytes], core: OpenedCore, level: int, part: int) -> None:
-    """Writes the small core into an open file."""
-    words = [command[0], b"slim", *command[1:], b"%d" % level, *core.images]
-    done = subprocess.run(words, stdin=subprocess.DEVNULL, stdout=part, stderr=subprocess.PIPE, pass_fds=core.fds, check=False)
-    if done.returncode:
-        raise fault_of(Answer(done.returncode, b"", done.stderr.replace(os.fsencode(core.word), os.fsencode(core.name))))
 
 
 def check_free(out: str) -> None:
@@ -113,7 +83,7 @@ def run(options: Options, name: str, out: str) -> int:
     command = command_of([program, core.word, core.layouts], [core.name])
     version, interpreter, lock = located(command, core)
     length = slimmed(command, core, options.locals, out)
-    say(f"{shown(os.fsencode(out))} has {length} bytes", who="slim_core")
+    say(f"{shown(os.fsencode(out))} has {length} bytes")
     put([program, "walk", out, core.layouts, version, interpreter, lock])
     return 0
 
@@ -130,6 +100,7 @@ def main() -> int:
     parser.add_argument("--maps", metavar="FILE", default="", help="the process's maps, for a core without a file table")
     parser.add_argument("--version", action="version", version=version_line(), help="the project's version, and its commit")
     words = parser.parse_args()
+    call(sys.argv[0])
     if words.root and not os.path.isdir(words.root):
         parser.error(f"there is no folder {words.root}")
     try:
@@ -137,7 +108,7 @@ def main() -> int:
             (words.core,), words.locals, root=words.root, maps=words.maps, whole=True, layouts=words.layouts, program=words.program)
         return run(options, words.core, words.out or f"{words.core}.slim")
     except Fault as fault:
-        say(str(fault), fault.then, "slim_core")
+        say(str(fault), fault.then)
         return fault.status
     except KeyboardInterrupt:
         return 130

@@ -17,7 +17,7 @@ from rooms import TOOLS
 FIRST = "3.8"
 """The first Python that the tool runs by."""
 
-SCRIPTS = ("dump_core", "slim_core", "native_addresses", "install", "debian_package", "derive_layout", "layout_from_core", "join_layouts", "carry_layouts",
+SCRIPTS = ("dump_core", "core_handle", "slim_core", "native_addresses", "install", "debian_package", "derive_layout", "layout_from_core", "join_layouts", "carry_layouts",
            "derive_records", "join_records", "carry_records")
 
 FOR_WHAT_IT_DOES = "'rooms' imported but unused"

@@ -3,14 +3,15 @@
 import argparse
 import os
 import re
+import sys
 from pathlib import Path
 from typing import List, Sequence
 
 from pystacks_tool.command import run
-from pystacks_tool.faults import NO_ROOM, Fault, say
+from pystacks_tool.faults import NO_ROOM, Fault, call, say
 from pystacks_tool.options import ALL_FRAMES, BY, Options
 from pystacks_tool.output import written
-from pystacks_tool.pages import with_places
+from pystacks_tool.pages import ROOT, with_places
 from pystacks_tool.places import LAYOUTS, MACHINES, PROGRAM, SALVAGE, version_line
 
 LARGEST = 1 << 26
@@ -54,6 +55,8 @@ def add_many(parser: argparse.ArgumentParser) -> None:
     parser.add_argument("--from", metavar="FILE", nargs="+", dest="lines", default=(), help="with --group: group such lines, from anywhere; - is the standard input")
     parser.add_argument("--timeout", metavar="SECONDS", type=seconds, default=60, help="how long one core of --group and --keys may take (default: 60)")
     parser.add_argument("--jobs", metavar="N", type=processes, default=0, help="how many cores are looked at at a time (default: as many as there are processors)")
+    parser.add_argument("--list", metavar="FOLDER", default="", help="list the crashes that the kernel's handler kept in this folder")
+    parser.add_argument("--show", metavar="ID", default="", help="show the report of one of them, by its name, or its path")
     parser.add_argument("--host", metavar="NAME", default="", help="the host that the lines of --keys name")
     parser.add_argument("--key-line", action="store_true", help=argparse.SUPPRESS)
 
@@ -108,7 +111,7 @@ def parser_for(name: str) -> argparse.ArgumentParser:
     """The parser of the tool's words."""
     parser = argparse.ArgumentParser(
         prog=name, description=WHAT, epilog=with_places(EXAMPLES.format(name)), formatter_class=argparse.RawDescriptionHelpFormatter)
-    parser.add_argument("core", metavar="CORE", nargs="*", help="the core's file; several with --group, --keys and --collapsed")
+    parser.add_argument("core", metavar="CORE", nargs="*", help="the core's file, or - for the standard input; several with --group, --keys and --collapsed")
     add_shown(parser)
     add_many(parser)
     add_taken(parser)
@@ -119,11 +122,11 @@ def parser_for(name: str) -> argparse.ArgumentParser:
 def options_of(words: argparse.Namespace) -> Options:
     """The words, each with its type."""
     return Options(
-        cores=tuple(words.core), locals=words.locals, signal=not words.no_signal, registers=words.registers, shows_all=words.all, shows_stacks=words.stacks, frames=words.frames, source=words.source, json=words.json,
+        cores=tuple("/dev/stdin" if it == "-" else it for it in words.core), locals=words.locals, signal=not words.no_signal, registers=words.registers, shows_all=words.all, shows_stacks=words.stacks, frames=words.frames, source=words.source, json=words.json,
         collapsed=words.collapsed, html=words.html, group=words.group, plain=words.plain, root=words.root, maps=words.maps,
         keep=words.keep, memory=words.memory, any_layout=words.any_layout, layouts=words.layouts, records=words.records, program=words.program, salvage=words.salvage,
         version=words.version, by=words.by or ("exact" if words.plain else "crash"), keys=words.keys, key_line=words.key_line,
-        lines=tuple(words.lines), timeout=words.timeout, jobs=words.jobs, host=words.host)
+        lines=tuple(words.lines), timeout=words.timeout, jobs=words.jobs, host=words.host, kept_list=words.list, kept_one=words.show)
 
 
 def clash_of_many(options: Options) -> str:
@@ -146,6 +149,8 @@ def clash_of_many(options: Options) -> str:
 
 def clash(options: Options) -> str:
     """What is wrong with the words, if anything is."""
+    if options.kept_list or options.kept_one:
+        return "--list and --show take no cores, and one of them is taken" if options.cores or options.kept_list and options.kept_one else ""
     forms = [it for it in ("json", "collapsed", "html", "plain") if getattr(options, it)]
     fault = clash_of_many(options) if options.group or options.keys else "--from is taken with --group" if options.lines else ""
     if fault:
@@ -159,6 +164,8 @@ def clash(options: Options) -> str:
     if not options.cores and not options.lines:
         hint = f": --source took {options.source} for its folder, so name it behind the core" if options.source else ""
         return f"no core is named{hint}"
+    if "/dev/stdin" in options.cores and (len(options.cores) > 1 or options.group or options.keys):
+        return "- is one core, and taken alone"
     if len(options.cores) > 1 and not (options.group or options.keys or options.collapsed and not options.keep):
         return "several cores are taken with --group, --keys and --collapsed alone"
     return ""
@@ -195,6 +202,10 @@ def version_lines() -> List[str]:
 
 def main(name: str, given: Sequence[str]) -> int:
     """The command by its name and words. Returns the status."""
+    call(name.split()[-1])
+    if given[:1] == ["--handle"]:
+        # (the kernel's program, which runs by itself)
+        os.execv(sys.executable, [sys.executable, "-I", os.fspath(ROOT / "tools" / "core_handle.py"), *given[1:]])
     options = read_options(name, given)
     try:
         return written(version_lines()) if options.version else run(options)

@@ -200,6 +200,16 @@ class LayoutTold:
     """How many of the answers that are known are right, and how many there are."""
 
 
+LONGEST = 79
+"""The most bytes of the arguments that Linux keeps in a core (ELF_PRARGSZ, less a nul)."""
+
+
+def whole_or_cut(arguments: str) -> str:
+    """The arguments as they are shown: where the kernel cut them off two dots say so. (Those that it kept whole end with a blank.)"""
+    is_cut = len(arguments.encode("utf-8", "replace")) >= LONGEST and not arguments.endswith(" ")
+    return arguments + ".." if is_cut else arguments
+
+
 @dataclass(frozen=True)
 class Report:
     """What is left of a process."""

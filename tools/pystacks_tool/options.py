@@ -1,7 +1,8 @@
 """What the tool is asked for: its words, each with its type. They are made once, by `cli`."""
 
+import os
 from dataclasses import dataclass
-from typing import Optional, Tuple
+from typing import Mapping, Optional, Tuple, Union
 
 
 ALL_FRAMES = 4096
@@ -55,6 +56,10 @@ class Options:
     """Whether the program's own text and status are passed on."""
     root: str = ""
     """The folder below which the files of the process are looked for."""
+    images: Optional[Mapping[bytes, bytes]] = None
+    """The files of the process by its names for them, where these alone are taken."""
+    handed: Tuple[int, ...] = ()
+    """The files, by their descriptors, that a program inherits."""
     maps: str = ""
     """A copy of the process's /proc/PID/maps, if one is named."""
     keep: str = ""
@@ -70,6 +75,15 @@ class Options:
     program: Optional[str] = None
     salvage: Optional[str] = None
     version: bool = False
+    kept_list: str = ""
+    """The folder of crashes that are listed."""
+    kept_one: str = ""
+    """The crash whose report is shown."""
+
+    @property
+    def files(self) -> Union[bytes, Mapping[bytes, bytes]]:
+        """Where the files of the process are looked for."""
+        return os.fsencode(self.root) if self.images is None else self.images
 
     @property
     def groups_exactly(self) -> bool:

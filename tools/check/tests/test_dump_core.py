@@ -269,9 +269,10 @@ class Faults(Case):
             self.assertEqual(self.handed(data), ([], ""))
 
     def test_no_file(self):
-        for core in ("none", "."):
+        (self.folder / "dangling").symlink_to("elsewhere")
+        for core, line in (("none", "there is no file none"), (".", ". is a folder"), (str(self.folder / "dangling"), f"{self.folder}/dangling is a link to elsewhere, which isn't there")):
             status, out, said = self.tool(core, program=self.fake("pystacks: cannot read it\n", "sys.exit(3)"))
-            self.assertEqual((status, said), (3, "pystacks: cannot read it\n"))
+            self.assertEqual((status, said), (3, f"dump_core: {line}\n"))
             _, out, _ = self.tool(core, "--plain")
             self.assertEqual(out.split(b"\0"), [b"dump", b"--core=" + core.encode(), b"--layouts=" + os.fsencode(LAYOUTS)])
 

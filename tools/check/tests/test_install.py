@@ -70,7 +70,7 @@ class Installed(Case):
     def test_files(self):
         self.install()
         to = self.folder / "to"
-        self.assertEqual(sorted(it.name for it in (to / "bin").iterdir()), ["pysalvage", "pystacks", "pystacks-core", "pystacks-layout", "pystacks-native", "pystacks-slim"])
+        self.assertEqual(sorted(it.name for it in (to / "bin").iterdir()), ["pysalvage", "pystacks", "pystacks-core", "pystacks-core-handle", "pystacks-layout", "pystacks-native", "pystacks-slim"])
         self.assertEqual(sorted(it.name for it in (to / "layouts").iterdir()), ["cpython-aarch64.toml", "cpython-x86_64.toml", "records-aarch64.toml", "records-x86_64.toml"])
         self.assertTrue({"dump_core.py", "slim_core.py"} <= {it.name for it in (to / "tools").iterdir()})
         self.assertTrue({"MESSAGES.md", "CORES.md", "DUMP.md", "SLIM.md"} <= {it.name for it in (to / "docs").iterdir()})
@@ -118,7 +118,7 @@ class Installed(Case):
         stand_ins.program(self.folder / "to/bin/pystacks", status=1, said=said)
         stand_ins.program(self.folder / "to/bin/pysalvage", status=1, said=said)
         then = self.ran(sys.executable, self.folder / "to/bin/pystacks-core", "core")[2].splitlines()[1]
-        page = re.fullmatch(r"dump_core: next: (\S+) has the usual causes, and how to tell them, below `No interpreter found`", then).group(1)
+        page = re.fullmatch(r"pystacks-core: next: (\S+) has the usual causes, and how to tell them, below `No interpreter found`", then).group(1)
         self.assertEqual(page, str(self.folder / "to/docs/MESSAGES.md"))
         self.assertTrue(Path(page).is_file())
 
@@ -245,7 +245,7 @@ class Bare(Case):
 class Package(Case):
     """The Debian package."""
 
-    PROGRAMS = ["pysalvage", "pystacks", "pystacks-core", "pystacks-layout", "pystacks-native", "pystacks-slim"]
+    PROGRAMS = ["pysalvage", "pystacks", "pystacks-core", "pystacks-core-handle", "pystacks-layout", "pystacks-native", "pystacks-slim"]
 
     def setUp(self):
         super().setUp()

@@ -68,10 +68,10 @@ class Case(unittest.TestCase):
         threads = threads if threads is not None else [it for one in (tree or {"interpreters": []})["interpreters"] for it in one["threads"]]
         stand_ins.program(self.program, stand_ins.dump_json(threads, names), stand_ins.text_of(threads, names=names), **more)
 
-    def tool(self, *words, core=None, environment=None):
+    def tool(self, *words, core=None, environment=None, stdin=subprocess.DEVNULL):
         """What the tool comes to."""
         command = [sys.executable, "-B", str(TOOL), f"--program={self.program}", *([] if core == () else core or [self.core]), *words]
-        streams = {"stdin": subprocess.DEVNULL, "stdout": subprocess.PIPE, "stderr": subprocess.PIPE}
+        streams = {"stdin": stdin, "stdout": subprocess.PIPE, "stderr": subprocess.PIPE}
         ran = subprocess.run([str(it) for it in command], timeout=60, env=environment, **streams)
         return ran.returncode, ran.stdout.decode("utf-8"), ran.stderr.decode("utf-8")
 
@@ -113,11 +113,36 @@ class Kinds(Case):
         self.assertEqual(self.tool(core=[self.put("slim", whole[:16] + b"\0\0" + whole[18:])])[0], 0)
 
     def test_program_own(self):
-        # (a file that can't be read, and one of --plain, are the program's to refuse)
+        # (what --plain is asked for is the program's to refuse)
         self.programs(threads=[], status=3, said=b"pystacks: cannot read it\n")
-        line, then = "pystacks: cannot read it\n", "dump_core: next: see by `ls -l` who may read it\n"
-        for words, core, more in (((), [self.folder / "none"], then), (("--plain",), [self.put("odd", b"text")], "")):
-            self.assertEqual(self.tool(*words, core=core), (3, "", line + more))
+        for core in (self.folder / "none", self.put("odd", b"text")):
+            self.assertEqual(self.tool("--plain", core=[core]), (3, "", "pystacks: cannot read it\n"))
+
+    def test_files_that_are_none(self):
+        # (each has a line of its own)
+        self.programs(salvage(interpreter([CRASHED])))
+        (self.folder / "dangling").symlink_to("elsewhere")
+        then = "dump_core: next: name the core's file; `ls -l` says who may read it\n"
+        for name, line in (("none", "there is no file {0}"), ("dangling", "{0} is a link to elsewhere, which isn't there"), ("", "{0} is a folder")):
+            path = os.path.normpath(self.folder / name)
+            self.assertEqual(self.tool(core=[path]), (3, "", f"dump_core: {line.format(path)}\n{then}"))
+        zipped, tarred = self.put("zipped", b"PK\3\4" + bytes(600)), self.put("tarred", bytes(257) + b"ustar" + bytes(300))
+        for path, kind in ((zipped, "a zip"), (tarred, "a tar")):
+            status, _, said = self.tool(core=[path])
+            self.assertEqual((status, said.splitlines()[0]), (1, f"dump_core: {path} is {kind} archive, and no core"))
+
+    def test_standard_input(self):
+        # (- is one, from a file or a pipe)
+        self.programs(salvage(interpreter([CRASHED])))
+        with open(self.core, "rb") as file:
+            status, out, _ = self.tool(core=["-"], stdin=file)
+        self.assertEqual((status, "boom (a.py:5)" in out), (0, True))
+
+    def test_cut_arguments(self):
+        # (Linux keeps 79 bytes of them, of which the last is a blank where they are whole)
+        for arguments, shown in (("x" * 79, "x" * 79 + ".."), ("x" * 78 + " ", "x" * 78 + " "), ("x" * 78, "x" * 78)):
+            self.programs(salvage(interpreter([CRASHED]), arguments=arguments))
+            self.assertIn(f"Process 4711: {shown}\n", self.tool()[1])
 
 
 class Shown(Case):

@@ -1,5 +1,7 @@
 """What to do next where a program refuses a core, by the front of its line. docs/MESSAGES.md says more of each."""
 
+from pystacks_tool.faults import Called
+
 NEXT = {
     "no interpreter found": "docs/MESSAGES.md has the usual causes, and how to tell them, below `No interpreter found`",
     "no layout for Python": "docs/LAYOUTS.md says how a layout is derived from that build; --layouts names it",
@@ -35,6 +37,6 @@ def next_by_core(line: str, is_cut: bool, other: str) -> str:
 def next_of(said: str, is_cut: bool = False, other: str = "") -> str:
     """What to do behind the line of a program; nothing where the line says it, or the tool's own line before it."""
     name, _, line = said.partition(": ")
-    if name not in ("pystacks", "pysalvage", "dump_core"):
+    if name not in ("pystacks", "pysalvage", Called.name):
         return ""
     return next_by_core(line, is_cut, other) or next((then for front, then in NEXT.items() if line.startswith(front)), "")

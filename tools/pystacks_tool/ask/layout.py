@@ -9,7 +9,7 @@ from typing import List, Optional
 
 from pystacks_tool.ask.dump import Tree, Unexpected
 from pystacks_tool.ask.run import Answer
-from pystacks_tool.faults import NO_STACKS
+from pystacks_tool.faults import NO_STACKS, Called
 from pystacks_tool.model import LayoutTold, Number
 
 FLAG = "--check-layout"
@@ -77,4 +77,4 @@ def refusal(told: LayoutTold) -> Answer:
     number = line_of(told.differ[0]) if told.differ else "it is another one"
     more = f", and {count - 1} more number{'s differ' if count > 2 else ' differs'}" if count > 1 else ""
     line = f"layout: {build}{number}{more}: no stack is shown"
-    return Answer(NO_STACKS, b"", f"dump_core: {line}\n".encode("utf-8", "replace"))
+    return Answer(NO_STACKS, b"", f"{Called.name}: {line}\n".encode("utf-8", "replace"))

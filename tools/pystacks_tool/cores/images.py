@@ -6,7 +6,7 @@ out; each under the path that the core has for it, and none of another build or 
 
 import os
 from pathlib import Path
-from typing import IO, Callable, Dict, List, Optional, Tuple
+from typing import IO, Callable, Dict, List, Mapping, Optional, Tuple, Union
 
 from pystacks_tool.cores.gaps import entries_in
 from pystacks_tool.cores.maps import Use, Wanted, build_id, builds_in, is_text, machine_of, maps_of, wanted_files
@@ -30,6 +30,9 @@ OTHER_FILE = "of a container or another host: --root FOLDER, below which its fil
 MORE = "--memory MB lets more be read"
 """What to do where something was left out for memory."""
 
+Root = Union[bytes, Mapping[bytes, bytes]]
+"""Where files are: below this folder, which is the system's where it is empty; or by name those that were handed over, and no others."""
+
 
 class Missing(Exception):
     """Why there is no image under a name, and what to do next."""
@@ -43,13 +46,39 @@ class TooLong(Missing):
     """That an image is longer than may be read."""
 
 
+def path_of(root: Root, name: bytes) -> bytes:
+    """The file of a name that a core has."""
+    if isinstance(root, bytes):
+        return path_below(root, name)
+    if name not in root:
+        raise Missing("the process itself could not read it, or it is no regular file", "")
+    return root[name]
+
+
+def trouble_of(path: bytes) -> str:
+    """Why what has a name can't be read; nothing where it can, or where there is none."""
+    try:
+        if os.path.islink(path) and not os.path.exists(path):
+            return f"{shown(path)} is a link to {shown(os.readlink(path))}, which isn't there"
+        if os.path.isdir(path):
+            return f"{shown(path)} is a folder"
+        if os.path.exists(path) and not os.access(path, os.R_OK):
+            return f"{shown(path)} may not be read by this user"
+    except OSError:
+        pass
+    return ""
+
+
 def path_below(root: bytes, name: bytes) -> bytes:
-    """The file of a name that a core has: below this folder, if one is given."""
+    """The same below this folder, if one is given."""
     path = name[: -len(DELETED)] if name.endswith(DELETED) else name
     if not path.startswith(b"/"):
         raise Missing("that is no path")
     path = os.path.join(root, path[1:]) if root else path
     if not os.path.isfile(path):
+        trouble = trouble_of(path)
+        if trouble:
+            raise Missing(trouble)
         if root:
             raise Missing(f"there is no file {shown(path)}", "copy it there, or name by --root where the process's files are")
         raise Missing(f"there is no file {shown(path)}; --root FOLDER looks below FOLDER", "")
@@ -76,15 +105,16 @@ def check_file(path: bytes, wanted: Wanted, machine: Optional[int]) -> None:
         raise Missing(f"{shown(path)} is no ELF file")
     if own_machine is not None and own_machine != machine:
         raise Missing(f"{shown(path)} is of another machine, {machine_name(own_machine)}")
-    if own and wanted.builds - {own}:
-        raise Missing(f"{shown(path)} is of another build")
+    others = sorted(it for it in wanted.builds if it != own)
+    if own and others:
+        raise Missing(f"{shown(path)} is of another build: its id is {own.hex()}, and {others[0].hex()} was mapped")
 
 
-def image_word(wanted: Wanted, root: bytes, machine: Optional[int], budget: Optional[int] = None) -> bytes:
+def image_word(wanted: Wanted, root: Root, machine: Optional[int], budget: Optional[int] = None) -> bytes:
     """The program's word for an image. One that is longer than may be read isn't handed over."""
     if b"=" in wanted.name:
         raise Missing("a path with an equals sign can't be handed over")
-    path = path_below(root, wanted.name)
+    path = path_of(root, wanted.name)
     if budget is not None and os.path.getsize(path) > budget:
         raise TooLong(f"{shown(path)} has {os.path.getsize(path)} bytes, and is left out for memory")
     word = wanted.name + b"=" + path
@@ -99,7 +129,7 @@ def size_of(word: bytes) -> int:
     return os.path.getsize(word.partition(b"=")[2])
 
 
-def image_words(files: List[Wanted], root: bytes, machine: Optional[int], budget: Optional[int] = None) -> List[bytes]:
+def image_words(files: List[Wanted], root: Root, machine: Optional[int], budget: Optional[int] = None) -> List[bytes]:
     """The words for the images that are there and of the core's machine, in the order of the maps, after the line that
     names those that the program looks into and that are not, and after one for each that is longer than what may still be read."""
     words, left = [], MOST
@@ -142,7 +172,7 @@ def opened(path: str) -> Optional[IO[bytes]]:
         return None
 
 
-def finder_below(root: bytes) -> Callable[[IO[bytes]], Callable[[bytes], Optional[bytes]]]:
+def finder_below(root: Root) -> Callable[[IO[bytes]], Callable[[bytes], Optional[bytes]]]:
     """What finds the files of a core that are there, and of its machine and build."""
 
     def finder(file: IO[bytes]) -> Callable[[bytes], Optional[bytes]]:
@@ -150,7 +180,7 @@ def finder_below(root: bytes) -> Callable[[IO[bytes]], Callable[[bytes], Optiona
 
         def find(name: bytes) -> Optional[bytes]:
             try:
-                path = path_below(root, name)
+                path = path_of(root, name)
                 check_file(path, Wanted(name, frozenset(builds.get(name, ())), Use.LOOKED_INTO), machine)
             except Missing:
                 return None

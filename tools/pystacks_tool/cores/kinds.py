@@ -17,6 +17,12 @@ KINDS = {1: "an object file", 2: "a program", 3: "a program or a library"}
 
 CORE = 4
 
+ARCHIVES = ((b"PK\3\4", 0, "a zip"), (b"ustar", 257, "a tar"), (b"7z\xbc\xaf\x27\x1c", 0, "a 7z"))
+"""How archives are known, and where that stands in them."""
+
+HEAD = 512
+"""How many bytes at the front of a file tell what it is."""
+
 OTHER_READERS = "gdb reads such a core: gdb PROGRAM CORE"
 
 
@@ -29,9 +35,12 @@ class NoCore:
 
 
 def no_core(head: bytes) -> Optional[NoCore]:
-    """What the first 64 bytes tell of a file that isn't read; nothing of one that may be a core."""
+    """What the first bytes tell of a file that isn't read; nothing of one that may be a core."""
     if not head:
         return NoCore("is empty", "see that the disk has room, and that `ulimit -c` is unlimited, before the next one")
+    for mark, place, archive in ARCHIVES:
+        if head[place : place + len(mark)] == mark:
+            return NoCore(f"is {archive} archive, and no core", "unpack it, and name the core that is in it")
     if not head.startswith(ELF):
         return NoCore("is no ELF file, and so no core", "`file` says what it is; cores packed by gzip, xz, bzip2, zstd and lz4 are taken")
     if len(head) < 20:
@@ -54,7 +63,7 @@ def check_kind(file: Optional[IO[bytes]], name: bytes) -> None:
     if file is None:
         return
     try:
-        found = no_core(read_at(file, 0, 64))
+        found = no_core(read_at(file, 0, HEAD))
     except OSError:
         return
     if found:

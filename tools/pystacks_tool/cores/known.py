@@ -8,6 +8,7 @@ from typing import IO, Optional, Set
 
 from pystacks_tool.cores.headers import headers_of
 from pystacks_tool.cores.maps import NOTE, maps_of, notes_of, read_at
+from pystacks_tool.model import whole_or_cut
 from pystacks_tool.show.escape import in_line, signal_name
 
 STATUS_RECORD, PROCESS_RECORD = 1, 3
@@ -45,7 +46,7 @@ class Known:
         """The same in a line; nothing where nothing is known."""
         name = signal_name(self.signal) if self.signal else None
         signal = f"signal {self.signal}{f' ({name})' if name else ''}" if self.signal else ""
-        process = f"process {self.pid}: {in_line(self.arguments)}" if self.pid is not None else ""
+        process = f"process {self.pid}: {in_line(whole_or_cut(self.arguments))}" if self.pid is not None else ""
         threads = f"{self.threads} thread{'s' if self.threads > 1 else ''}" if self.threads else ""
         return ", ".join(it for it in (threads, signal, process) if it)
 

@@ -8,7 +8,7 @@ from typing import IO, Iterable, List, Optional, Tuple
 
 from pystacks_tool.ask.run import tells_missed
 from pystacks_tool.cores.headers import headers_of
-from pystacks_tool.cores.images import finder_below, image_words, maps_in, opened, read_core, size_of
+from pystacks_tool.cores.images import Root, finder_below, image_words, maps_in, opened, read_core, size_of, trouble_of
 from pystacks_tool.cores.kinds import check_kind
 from pystacks_tool.cores.known import Known, known_at
 from pystacks_tool.cores.maps import Use, Wanted, is_text
@@ -16,7 +16,7 @@ from pystacks_tool.cores.parts import BLOCK, Part, Shrunk
 from pystacks_tool.cores.prepare import SHRUNK, Prepared, Unprepared, Wishes, available, prepared
 from pystacks_tool.cores.progress import shown_for
 from pystacks_tool.cores.tables import Entry, entries_of
-from pystacks_tool.faults import BAD_WORDS, NO_ROOM, NO_STACKS, Fault, say, shown
+from pystacks_tool.faults import BAD_WORDS, CANNOT_READ, NO_ROOM, NO_STACKS, Fault, say, shown
 from pystacks_tool.options import Options
 from pystacks_tool.places import layouts_of, records_of, salvage_program
 
@@ -43,12 +43,14 @@ class OpenedCore:
     """Files that are handed over once an address in them was missed."""
     entries: List[Entry] = field(default_factory=list)
     """Where files were mapped."""
-    root: bytes = b""
+    root: Root = b""
     machine: Optional[int] = None
     records: str = ""
     """The file of records, where there is one."""
     done: Tuple[str, ...] = ()
     """What was done to prepare it."""
+    handed: Tuple[int, ...] = ()
+    """The files that were handed to the tool, which a program inherits."""
     read: int = 0
     """How many bytes the files have that were handed over once they were missed."""
 
@@ -68,7 +70,7 @@ class OpenedCore:
     @property
     def fds(self) -> List[int]:
         """The files that a program inherits."""
-        return [self.prepared.fileno()] if self.prepared else []
+        return [*self.handed, *([self.prepared.fileno()] if self.prepared else [])]
 
     def give(self, blocks: List[int], run: int) -> bool:
         """Gives what a run missed, as far as the core and the files have it. Whether anything was given."""
@@ -114,7 +116,7 @@ def check_text(words: Iterable[bytes]) -> None:
 def wishes_of(options: Options) -> Wishes:
     """How a core is to be prepared. Of a long one a part is made where `pysalvage` is asked, which tells what it missed; else it
     is cut at its zero pages where it is longer than half of the free memory."""
-    maps, finder = maps_in(options.maps), finder_below(os.fsencode(options.root))
+    maps, finder = maps_in(options.maps), finder_below(options.files)
     program = None if options.plain or options.groups_exactly or options.whole else salvage_program(options.salvage, options.program)
     if program is None:
         free = free_memory()
@@ -148,18 +150,22 @@ def prepare_core(options: Options, name: str, core: Optional[IO[bytes]]) -> Opti
 def open_core(options: Options, name: str) -> OpenedCore:
     """A core with its images, of which the missing ones have a line."""
     core = opened(name)
+    if core is None and not options.plain:
+        path = os.fsencode(name)
+        check_text([path])
+        raise Fault(trouble_of(path) or f"there is no file {shown(path)}", CANNOT_READ, "name the core's file; `ls -l` says who may read it")
     new = prepare_core(options, name, core)
     machine, files = read_core(new.file if new else core)
     layouts = os.fspath(options.layouts or layouts_of(machine))
     wanted = [it for it in files if options.locals or it.use is not Use.MEMORY]
     records = os.fspath(options.records or records_of(machine) or "")
     check_text(os.fsencode(it) for it in (name, layouts, records))
-    root = os.fsencode(options.root)
+    root = options.files
     if new is None or new.part is None:
         done = new.said if new else ()
         return OpenedCore(name, new.file if new else None, layouts, image_words(wanted, root, machine),
-                          machine=machine, records=records, done=done)
+                          machine=machine, records=records, done=done, handed=options.handed)
     images = image_words([it for it in wanted if it.use is not Use.MEMORY], root, machine)
     rest = [it for it in wanted if it.use is Use.MEMORY]
     entries = entries_of(new.file, headers_of(new.file) or [])
-    return OpenedCore(name, new.file, layouts, images, new.part, rest, entries, root, machine, records, new.said)
+    return OpenedCore(name, new.file, layouts, images, new.part, rest, entries, root, machine, records, new.said, options.handed)

@@ -6,17 +6,18 @@ What is done is said in a line. Where a core needs nothing there is no other fil
 
 import os
 import re
+import stat
 import tempfile
 from dataclasses import dataclass, field, replace
 from typing import IO, Callable, List, Optional, Tuple
 
 from pystacks_tool.cores.gaps import READABLE, Find, at_maps, table_note, with_gaps
 from pystacks_tool.cores.headers import Header, Piece, copy, headers_of, stretches, written
+from pystacks_tool.cores.kinds import ELF
 from pystacks_tool.cores.maps import LOAD, NOTE, WRITABLE, notes_of, read_at
 from pystacks_tool.cores.parts import FIRST, Part, Shrunk
 from pystacks_tool.cores.sparse import Cuts, cut_pieces, cuts_of
 from pystacks_tool.cores.tables import Entry, entries_of
-from pystacks_tool.cores.unpack import NoSpace, NoUnpacker, unpacked
 
 LEAST = 64 << 20
 """How many zero bytes make it worth writing a core anew, if they are half of it."""
@@ -226,14 +227,26 @@ def cut_zeros(work: Work, wishes: Wishes) -> None:
 # ---- the whole
 
 
-def prepared(file: IO[bytes], wishes: Wishes) -> Optional[Prepared]:
-    """What a core comes to, or nothing where it is read as it is. What is no core is the program's to refuse."""
+def plain_of(file: IO[bytes]) -> Tuple[IO[bytes], List[str]]:
+    """The file of a core that is neither packed nor a pipe, and what was done. (What unpacks isn't imported for a core as it is usually.)"""
     try:
-        plain, said = unpacked(file)
+        if stat.S_ISREG(os.fstat(file.fileno()).st_mode) and read_at(file, 0, len(ELF)) == ELF:
+            return file, []
+    except OSError:
+        pass
+    from pystacks_tool.cores.unpack import NoSpace, NoUnpacker, unpacked
+
+    try:
+        return unpacked(file)
     except NoUnpacker as reason:
         raise Unprepared(str(reason), NO_PROGRAM) from None
     except NoSpace as reason:
         raise Unprepared(str(reason)) from None
+
+
+def prepared(file: IO[bytes], wishes: Wishes) -> Optional[Prepared]:
+    """What a core comes to, or nothing where it is read as it is. What is no core is the program's to refuse."""
+    plain, said = plain_of(file)
     work = mended(plain, wishes)
     if work:
         work.said = said + work.said

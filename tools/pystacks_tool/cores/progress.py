@@ -5,6 +5,8 @@ import time
 from contextlib import contextmanager
 from typing import Iterator, Optional
 
+from pystacks_tool.faults import Called
+
 LARGE = 500_000_000
 """The least bytes of a core at which there is such a line."""
 
@@ -30,7 +32,7 @@ class Progress:
 
     def write(self, text: str) -> None:
         """Writes a text in place of the last one. (What was longer is cleared.)"""
-        sys.stderr.write(f"\rdump_core: {text}\x1b[K")
+        sys.stderr.write(f"\r{Called.name}: {text}\x1b[K")
         sys.stderr.flush()
         self.is_written = True
 

@@ -1,7 +1,7 @@
 """Cores grouped by `pystacks triage`, with the stacks of each group's first core."""
 
 import os
-from typing import Dict, Iterable, List, Optional
+from typing import Dict, Iterable, Iterator, List, Optional
 
 from pystacks_tool.ask.programs import command_of
 from pystacks_tool.ask.reports import report_on
@@ -11,6 +11,7 @@ from pystacks_tool.cores.opened import OpenedCore, open_core, prepare_core
 from pystacks_tool.faults import BAD_WORDS, Fault, shown
 from pystacks_tool.groups.gathered import Counted, Gathered, gathered, lines_from, say_counted
 from pystacks_tool.groups.jobs import lines_of
+from pystacks_tool.groups.lines import Line
 from pystacks_tool.groups.shown import json_of, title_of
 from pystacks_tool.groups.shown import lines_of as text_lines
 from pystacks_tool.groups.triage import Apart, Core, Group, group_answer, groups_of, read_core_of_group, renamed_text, shared_files, shared_machine
@@ -63,11 +64,22 @@ def group(options: Options) -> int:
 def group_by_key(options: Options) -> int:
     """Groups cores, or lines of cores, by one of their keys, and returns the status."""
     counted = Counted()
-    groups = gathered(lines_from(options.lines, counted) if options.lines else lines_of(options), options.by)
+    groups = gathered(lines_from(options.lines, counted) if options.lines else lines_by(options), options.by)
     say_counted(counted)
     if options.html:
         return page_written(options.html, page_of_gathered(options, groups))
     return written(json_of(groups) if options.json else text_lines(groups))
+
+
+def lines_by(options: Options) -> Iterator[Line]:
+    """The lines of cores, or of the crashes that the kernel's handler kept in a folder."""
+    if len(options.cores) == 1 and os.path.isdir(options.cores[0]):
+        from pystacks_tool.handler.listing import kept_lines
+
+        if options.html:
+            raise Fault("a page of groups is made of cores, and not of a folder of crashes", BAD_WORDS, "--group FOLDER shows them as text, with -j as JSON")
+        return kept_lines(options.cores[0])
+    return lines_of(options)
 
 
 def page_of_gathered(options: Options, gathered_groups: List[Gathered]) -> str:

@@ -41,7 +41,8 @@ class Gathered:
 
     def add(self, line: Line) -> None:
         """Adds a core."""
-        self.count += 1
+        more = line.get("more")
+        self.count += 1 + (more if isinstance(more, int) else 0)
         when = str(line.get("time") or "")
         if when:
             self.first = min(self.first, when) if self.first else when

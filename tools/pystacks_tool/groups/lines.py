@@ -11,9 +11,9 @@ from typing import Dict, List, Optional
 from pystacks_tool.ask.reports import Outcome, decoded, report_on
 from pystacks_tool.cores.known import known_at
 from pystacks_tool.cores.opened import open_core
-from pystacks_tool.faults import Fault
+from pystacks_tool.faults import Called, Fault
 from pystacks_tool.groups.keys import Chosen, cause_key, chosen, crash_key, stacks_key
-from pystacks_tool.model import Report
+from pystacks_tool.model import Report, whole_or_cut
 from pystacks_tool.options import Options
 from pystacks_tool.show.escape import in_line, signal_name
 from pystacks_tool.show.text import Style, name_of, place_of, stack_lines
@@ -50,12 +50,17 @@ def base_line(options: Options, name: str) -> Line:
     }
 
 
+def line_without_stacks(line: Line, signal: Optional[int], process: str, cause: str) -> Line:
+    """A line, as of a core without stacks."""
+    key = cause_key(cause, process)
+    own = {"signal": signal, "signal_name": signal_name(signal or 0), "process": brief(in_line(process))}
+    return {**line, **own, "cause": brief(in_line(cause)), "keys": {"crash": key, "stacks": key}}
+
+
 def refused_line(options: Options, name: str, cause: str) -> Line:
     """The line of a core without stacks."""
     known = known_at(name)
-    key = cause_key(cause, known.arguments)
-    own = {"signal": known.signal, "signal_name": signal_name(known.signal or 0), "process": brief(in_line(known.arguments))}
-    return {**base_line(options, name), **own, "cause": brief(in_line(cause)), "keys": {"crash": key, "stacks": key}}
+    return line_without_stacks(base_line(options, name), known.signal, known.arguments, cause)
 
 
 def stack_of(one: Chosen) -> List[str]:
@@ -71,7 +76,7 @@ def told_line(options: Options, name: str, report: Report) -> Line:
     if one is None:
         return refused_line(options, name, "no thread has frames")
     frames = [brief(place_of(it)) for it in one.thread.frames[:10]]
-    process = (report.process[1] if report.process else known_at(name).arguments).strip()
+    process = whole_or_cut(report.process[1] if report.process else known_at(name).arguments).strip()
     return {
         **base_line(options, name), "signal": report.signal, "signal_name": signal_name(report.signal or 0),
         "told": in_line(report.signal_told), "process": brief(in_line(process)), "version": report.version,
@@ -84,7 +89,7 @@ def cause_of(found: Outcome) -> str:
     """Why there is no report, by the program's line."""
     said = decoded(found.answer.said).split("\n")[0]
     name, colon, line = said.partition(": ")
-    return line if colon and name in ("pystacks", "pysalvage", "dump_core") else said or f"the program ended with status {found.answer.status}"
+    return line if colon and name in ("pystacks", "pysalvage", Called.name) else said or f"the program ended with status {found.answer.status}"
 
 
 def line_of(options: Options, name: str) -> Line:

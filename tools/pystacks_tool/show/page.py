@@ -10,7 +10,7 @@ from html import escape
 from typing import Dict, Iterator, List, Mapping, Optional, Sequence
 
 from pystacks_tool.groups.triage import Group
-from pystacks_tool.model import Frame, Interpreter, Local, Report, Stack, Thread, stacks_of
+from pystacks_tool.model import Frame, Interpreter, Local, Report, Stack, Thread, stacks_of, whole_or_cut
 from pystacks_tool.show.collapse import places
 from pystacks_tool.show.escape import as_name, in_page, signal_name, with_decimals
 from pystacks_tool.show.flame import Flame, counted, flame_of
@@ -207,7 +207,7 @@ def head_part(report: Report) -> str:
         how = f"; {text(report.signal_told)}" if report.signal_told else ""
         rows.append(("Signal", f"<b class=\"bad\">{signal_of(report)}</b>{how}"))
     if report.process is not None:
-        rows.append(("Process", f"{report.process[0]}: {text(report.process[1])}"))
+        rows.append(("Process", f"{report.process[0]}: {text(whole_or_cut(report.process[1]))}"))
     rows.append(("Python", "<br>".join([text(report.version), *(f"<b class=\"bad\">{text(it)}</b>" for it in report.layout)])))
     crashed = [f"{text(it.label)} {name_of(it)} in {text(newest_of(it))}" for it in report.threads if it.is_crashed]
     told = [", ".join(crashed), text(crash_line(report))]

@@ -8,7 +8,7 @@ what is left out has its number. Of many threads all but the first stacks and wh
 from dataclasses import dataclass
 from typing import Callable, Dict, Iterator, List, Optional, Sequence, Set, Tuple
 
-from pystacks_tool.model import Frame, Interpreter, Local, Report, Stack, Thread, stacks_of
+from pystacks_tool.model import Frame, Interpreter, Local, Report, Stack, Thread, stacks_of, whole_or_cut
 from pystacks_tool.show.escape import as_name, in_line, signal_name, with_decimals
 from pystacks_tool.show.folds import Fold, Item, folded
 from pystacks_tool.show.native import native_lines
@@ -225,7 +225,7 @@ def head_lines(report: Report, style: Style, _: int) -> Iterator[str]:
     if report.signal_told:
         yield style.paint(in_line(report.signal_told), RED)
     if report.process is not None:
-        yield f"Process {report.process[0]}: {in_line(report.process[1])}"
+        yield f"Process {report.process[0]}: {in_line(whole_or_cut(report.process[1]))}"
     yield f"Python v{in_line(report.version)}"
     yield from (style.paint(in_line(it), RED) for it in report.layout)
     if report.where:
