@@ -234,9 +234,9 @@ class Report:
     tasks: Tuple[Tasks, ...] = ()
     """The tasks of the interpreters that have asyncio, where they are asked for."""
     native: Tuple[NativeStack, ...] = ()
-    """Native stacks, where they are asked for."""
-    where: str = ""
-    """Where in native code the process died, if that is known."""
+    """Native stacks, where they were asked for, or may tell where the process died."""
+    shows_native: bool = False
+    """Whether they are shown."""
 
     @property
     def threads(self) -> List[Thread]:

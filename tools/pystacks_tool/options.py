@@ -25,6 +25,16 @@ class Options:
     """Whether it is asked how the signal came about."""
     registers: bool = False
     """Whether the registers of each thread are."""
+    tasks: bool = True
+    """Whether the tasks of asyncio are."""
+    exceptions: bool = True
+    """Whether the exceptions that threads raised or handled are."""
+    native: bool = False
+    """Whether native stacks are."""
+    strict: bool = False
+    """Whether no native frame is shown that follows from a guess."""
+    where: bool = True
+    """Whether it is said where in native code a process died."""
     shows_all: bool = False
     """Whether each thread has its own stack, however many there are."""
     shows_stacks: bool = False

@@ -5,6 +5,8 @@ from pathlib import Path
 from typing import List, Sequence
 
 from pystacks_tool.ask.layout import FLAG
+from pystacks_tool.ask.native import FLAG as NATIVE
+from pystacks_tool.ask.tasks import FLAG as TASKS
 from pystacks_tool.ask.run import Answer, answer_of, knows
 from pystacks_tool.cores.opened import OpenedCore, check_text
 from pystacks_tool.faults import NO_PROGRAM, Fault, shown
@@ -12,8 +14,8 @@ from pystacks_tool.options import Options
 from pystacks_tool.places import NOT_RUN, PROGRAM, program_at
 
 
-NAMES = "--names"
-"""The flag of `pysalvage` for the names of threads."""
+NAMES, EXCEPTIONS = "--names", "--exceptions"
+"""The flags of `pysalvage` for the names of threads, and for exceptions."""
 
 
 def ask(core: OpenedCore, command: Sequence[bytes]) -> Answer:
@@ -41,9 +43,17 @@ def salvage_command(options: Options, program: Path, core: OpenedCore) -> List[b
     """The words of `pysalvage`, which is asked for JSON by the layouts and the records of the core's machine, for the sections that are
     shown, for what the process says of the layout, for the names of threads, and over a part of a core for what it missed."""
     sections = ["--signal"] * options.signal + ["--registers"] * options.registers + ["--missing"] * (core.part is not None)
-    sections += [it for it in (FLAG, NAMES) if knows(program, it)]
+    wanted = (FLAG, NAMES, *[TASKS] * options.tasks, *[EXCEPTIONS] * options.exceptions)
+    sections += [it for it in wanted if knows(program, it)]
     records = [f"--records={core.records}"] if core.records else []
     ends = [f"--frames={options.frames}"] if options.frames is not None else []
     asked = ["-j", *ends, *["-l"] * options.locals, *sections, "--", core.word]
     words = [os.fspath(program), f"--layouts={core.layouts}", *records, *asked]
     return [*command_of(words, [core.name]), *core.images]
+
+
+def native_command(options: Options, program: Path, core: OpenedCore) -> List[bytes]:
+    """The words of `pysalvage` for native stacks alone, with each file that the process had mapped: any may be on a stack."""
+    ends = [f"--frames={options.frames}"] if options.frames is not None else []
+    words = [os.fspath(program), f"--layouts={core.layouts}", "-j", *ends, NATIVE, *["--strict"] * options.strict, "--", core.word]
+    return [*command_of(words, [core.name]), *core.images, *core.other_images()]

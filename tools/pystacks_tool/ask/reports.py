@@ -6,14 +6,15 @@ where these are asked for they are those of `pystacks dump`, if that gives a rep
 """
 
 import json
-from dataclasses import dataclass
+from dataclasses import dataclass, replace
 from pathlib import Path
 from typing import Optional
 
 from pystacks_tool.ask.dump import Tree, Unexpected, report_by_dump, tree_of
 from pystacks_tool.ask.layout import DIFFERS, layout_in, refusal
+from pystacks_tool.ask.native import FLAG as NATIVE, KEY as NATIVE_KEY, stack_of
 from pystacks_tool.ask.parts import ask_over
-from pystacks_tool.ask.programs import NAMES, ask, dump_command
+from pystacks_tool.ask.programs import NAMES, ask, dump_command, native_command
 from pystacks_tool.ask.run import Answer, knows
 from pystacks_tool.ask.salvage import NamesAndValues, names_and_values, report_by_salvage
 from pystacks_tool.cores.opened import OpenedCore
@@ -62,7 +63,25 @@ def ask_salvage(options: Options, core: OpenedCore, program: Path) -> Outcome:
     if core.part is not None:
         # (that is between the program and the tool)
         tree["missing"] = None
-    return Outcome(answer, arranged(report), tree)
+    return Outcome(answer, arranged(with_native(options, core, program, report, tree)), tree)
+
+
+DEATHS = {4, 5, 6, 7, 8, 11, 31}
+"""The signals of faults and of `abort`: native code may be where the process died."""
+
+
+def with_native(options: Options, core: OpenedCore, program: Path, report: Report, tree: Tree) -> Report:
+    """The report with native stacks, where these are asked for or may tell where the process died. Where they can't be had it is as it
+    was: they are told beside the stacks."""
+    if not (options.native or options.where and report.signal in DEATHS) or not knows(program, NATIVE):
+        return report
+    answer = ask(core, native_command(options, program, core))
+    if answer.status != 0:
+        return report
+    told = json.loads(decoded(answer.out))[NATIVE_KEY]
+    if options.native:
+        tree[NATIVE_KEY] = told
+    return replace(report, native=tuple(stack_of(it) for it in told), shows_native=options.native)
 
 
 def ask_dump(options: Options, core: OpenedCore) -> Outcome:

@@ -53,6 +53,14 @@ class OpenedCore:
     """The files that were handed to the tool, which a program inherits."""
     read: int = 0
     """How many bytes the files have that were handed over once they were missed."""
+    others: List[Wanted] = field(default_factory=list)
+    """Files that may be on a native stack, beside those that are handed over in any case."""
+
+    def other_images(self) -> List[bytes]:
+        """The words for these files."""
+        budget = None if self.part is None else self.part.budget - self.read
+        had = {it.partition(b"=")[0] for it in self.images}
+        return image_words([it for it in self.others if it.name not in had], self.root, self.machine, budget)
 
     @property
     def known(self) -> Known:
@@ -160,12 +168,12 @@ def open_core(options: Options, name: str) -> OpenedCore:
     wanted = [it for it in files if options.locals or it.use is not Use.MEMORY]
     records = os.fspath(options.records or records_of(machine) or "")
     check_text(os.fsencode(it) for it in (name, layouts, records))
-    root = options.files
+    root, others = options.files, [it for it in files if it.use is Use.MEMORY]
     if new is None or new.part is None:
         done = new.said if new else ()
         return OpenedCore(name, new.file if new else None, layouts, image_words(wanted, root, machine),
-                          machine=machine, records=records, done=done, handed=options.handed)
+                          root=root, machine=machine, records=records, done=done, handed=options.handed, others=others)
     images = image_words([it for it in wanted if it.use is not Use.MEMORY], root, machine)
     rest = [it for it in wanted if it.use is Use.MEMORY]
     entries = entries_of(new.file, headers_of(new.file) or [])
-    return OpenedCore(name, new.file, layouts, images, new.part, rest, entries, root, machine, records, new.said, options.handed)
+    return OpenedCore(name, new.file, layouts, images, new.part, rest, entries, root, machine, records, new.said, options.handed, others=others)

@@ -11,7 +11,7 @@ from typing import Callable, Dict, Iterator, List, Optional, Sequence, Set, Tupl
 from pystacks_tool.model import Frame, Interpreter, Local, Report, Stack, Thread, stacks_of, whole_or_cut
 from pystacks_tool.show.escape import as_name, in_line, signal_name, with_decimals
 from pystacks_tool.show.folds import Fold, Item, folded
-from pystacks_tool.show.native import native_lines
+from pystacks_tool.show.native import native_lines, where_line
 from pystacks_tool.show.sources import Sources
 from pystacks_tool.show.tasks import summary_of, task_blocks
 from pystacks_tool.show.widths import shortened
@@ -228,8 +228,9 @@ def head_lines(report: Report, style: Style, _: int) -> Iterator[str]:
         yield f"Process {report.process[0]}: {in_line(whole_or_cut(report.process[1]))}"
     yield f"Python v{in_line(report.version)}"
     yield from (style.paint(in_line(it), RED) for it in report.layout)
-    if report.where:
-        yield style.paint(report.where, RED)
+    where = where_line(report)
+    if where:
+        yield style.paint(where, RED)
     if crash_line(report):
         yield style.paint(crash_line(report), RED)
     yield ""
@@ -399,7 +400,7 @@ def task_lines(report: Report, style: Style, _: int) -> Iterator[str]:
 
 def native_stack_lines(report: Report, _: Style, __: int) -> Iterator[str]:
     """The native stacks, where they are asked for."""
-    return native_lines(report)
+    return native_lines(report) if report.shows_native else iter(())
 
 
 # ---- the whole
