@@ -1,0 +1,13 @@
+pub mod Gathering
+pub mod Discoveries
+pub mod ChainSizes
+pub mod Wording
+pub mod ThreadSteps
+pub mod Steps
+pub mod WhatSteps
+pub mod Groupings
+pub mod Repeats
+pub mod Sorted
+pub mod ChainLaws
+pub mod Follows
+pub mod FollowLaws
