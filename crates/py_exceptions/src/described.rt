@@ -3,8 +3,8 @@ ghost use Rattle.std.specs.Prelude.{◌+◌, ◌≤◌, ◌↔◌, IfSome, IsTru
 ghost use Rattle.py_exceptions.specs.Described.{IsSoundEntry, IsSoundTrace};
 
 use py_fields::Layout;
-use py_records::{ExceptionGroupRecord, ExceptionRecords, FrameObjectRecord, Records, TracebackRecord};
-use thread_exceptions::{ExceptionPlaces, GroupPlaces, Places, RaisedPlaces, is_sound};
+use py_records::{FrameObjectRecord, Records, TracebackRecord};
+use thread_exceptions::{Places, is_sound};
 
 /// Where the parts of threads, exceptions and tracebacks stand.
 #[derive(Clone, Copy)]
@@ -15,72 +15,6 @@ pub struct TracePlaces {
     pub entry: TracebackRecord,
     /// Where a frame object names its frame, from 3.11 on; before that it is the frame.
     pub frame: Option<u32>,
-}
-
-/// How a thread names what is raised.
-fn raised_of(records: &ExceptionRecords) -> Option<RaisedPlaces> {
-    match records.raised {
-        Some(at) => Some(RaisedPlaces::Exception { at: at.exception }),
-        None => match records.raised_parts {
-            Some(at) => Some(RaisedPlaces::Parts {
-                klass: at.klass,
-                value: at.value,
-            }),
-            None => None,
-        },
-    }
-}
-
-/// Groups, where a version has them.
-fn group_of(layout: &Layout, group: Option<ExceptionGroupRecord>) -> Option<GroupPlaces> {
-    match group {
-        Some(at) => Some(GroupPlaces {
-            members: at.excs,
-            count: layout.tuple.count,
-            items: layout.tuple.at,
-        }),
-        None => None,
-    }
-}
-
-/// An exception.
-fn exception_of(records: &ExceptionRecords) -> Option<ExceptionPlaces> {
-    match records.exception {
-        Some(at) => Some(ExceptionPlaces {
-            size: at.size,
-            dict: at.dict,
-            args: at.args,
-            traceback: at.traceback,
-            context: at.context,
-            cause: at.cause,
-            suppress_context: at.suppress_context,
-        }),
-        None => None,
-    }
-}
-
-/// Threads and exceptions; none where a group that is needed is not described.
-fn thread_of(layout: &Layout, records: &Records) -> Option<Places> {
-    let klass = records.types.klass?;
-    let raised = raised_of(&records.exceptions)?;
-    let handled = records.exceptions.handled?;
-    let item = records.exceptions.item?;
-    let inside = records.coroutines.generator_handled?;
-    let exception = exception_of(&records.exceptions)?;
-    Some(Places {
-        klass: layout.object.klass,
-        flags: layout.klass.flags,
-        name: layout.klass.name,
-        base: klass.base,
-        raised,
-        newest: handled.newest,
-        oldest: handled.oldest,
-        inside: inside.item,
-        value: item.value,
-        previous: item.previous,
-        exception,
-        group: group_of(layout, records.exceptions.exception_group),
-    })
 }
 
 fn frame_of(frame: Option<FrameObjectRecord>) -> Option<u32> {
@@ -118,12 +52,11 @@ fn is_sound_trace(places: &TracePlaces) -> bool
 /// Where all stands that is read, by a layout and the records of its version; none where a group that is needed is not
 /// described, or what is read of a record would not lie inside it.
 ///
-/// The groups are `klass`, `exception`, `item`, `handled`, `generator_handled`, `traceback`, and `raised` or
-/// `raised_parts`; from 3.11 on `frame_object` and `exception_group` too.
+/// The groups are those of `thread_exceptions`, `traceback`, and from 3.11 on `frame_object`.
 pub fn places_of(layout: &Layout, records: &Records) -> Option<TracePlaces>
     ensures sound { IfSome result IsSoundTrace }
 {
-    let thread = thread_of(layout, records)?;
+    let thread = thread_exceptions::places_of(layout, records)?;
     let entry = records.frames.traceback?;
     let frame = frame_of(records.frames.frame_object);
     let places = TracePlaces {

@@ -17,7 +17,7 @@ use std::alloc::Global;
 use thread_exceptions::ExceptionsError;
 
 /// An entry of a traceback.
-#[derive(Debug, Drop)]
+#[derive(Drop)]
 pub enum Entry {
     /// What its frame shows.
     Frame(EntryFrame),

@@ -20,7 +20,7 @@ use std::alloc::Global;
 const LAZY: u32 = 1 << 31;
 
 /// What the frame of an entry shows.
-#[derive(Debug, Drop)]
+#[derive(Drop)]
 pub struct EntryFrame {
     /// The name of its function; none where it is no text, or is not in memory.
     pub function: Option<Text>,

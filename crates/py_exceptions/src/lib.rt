@@ -12,7 +12,6 @@ mod named;
 mod said;
 mod text;
 mod traceback;
-mod tree;
 mod value;
 
 pub use described::{TracePlaces, places_of};
@@ -21,4 +20,3 @@ pub use frame::EntryFrame;
 pub use said::{Said, ThreadTold, read_exceptions};
 pub use text::push_exceptions;
 pub use traceback::Traceback;
-pub use tree::exceptions_value;

@@ -20,7 +20,7 @@ use thread_exceptions::{
 };
 
 /// What an exception says.
-#[derive(Debug, Drop)]
+#[derive(Drop)]
 pub struct Said {
     /// The name of its type, as the type has it; none where it is no text, or is not in memory.
     pub name: Option<Text>,
@@ -31,7 +31,7 @@ pub struct Said {
 }
 
 /// What a thread raises and handles, and what the exceptions say.
-#[derive(Debug, Drop)]
+#[derive(Drop)]
 pub struct ThreadTold {
     pub thread: ThreadExceptions,
     /// Of each object that is met, in the same order, what it says, where it is an exception.

@@ -1,15 +1,16 @@
 //! The lines of a thread's exceptions.
 ghost use Rattle.std.specs.Prelude.{◌≡◌, ◌++◌, OnOk, map, string_bytes};
 ghost use Rattle.thread_exceptions.specs.Discovery.{met_of};
-ghost use Rattle.thread_exceptions.specs.Exceptions.{what_of};
 ghost use Rattle.thread_exceptions.specs.Groups.{members_of};
-ghost use Rattle.thread_exceptions.specs.Thread.{handled_of, raised_of, value_of};
+ghost use Rattle.thread_exceptions.specs.Thread.{handled_of, raised_of};
 ghost use Rattle.thread_exceptions.specs.Turns.{end_of};
-ghost use Rattle.py_exceptions.specs.Text.{address_text, context_text, end_text, entries_text, entry_text};
-ghost use Rattle.py_exceptions.specs.Text.{exceptions_text, frame_text, handled_text, head_text, left_out_text, link_text};
-ghost use Rattle.py_exceptions.specs.Text.{members_text, met_text, mets_text, name_text, owner_text, parts_text};
-ghost use Rattle.py_exceptions.specs.Text.{raised_text, traceback_text, value_text, addresses_text};
-ghost use Rattle.py_exceptions.specs.Told.{said_if, told_of};
+ghost use Rattle.thread_exceptions.specs.Thread.Value.{At};
+ghost use Rattle.py_exceptions.specs.Text.{address_text, addresses_text, all_handled_text, context_text, end_text};
+ghost use Rattle.py_exceptions.specs.Text.{entries_text, entry_text, exceptions_text, frame_text, handled_text};
+ghost use Rattle.py_exceptions.specs.Text.{head_text, left_out_text, link_text, members_text, met_text, mets_text};
+ghost use Rattle.py_exceptions.specs.Text.{name_text, owner_text, parts_text, raised_text, said_text, traceback_text};
+ghost use Rattle.py_exceptions.specs.Text.{value_text};
+ghost use Rattle.py_exceptions.specs.Told.{said_if, said_of, told_of};
 ghost use Rattle.py_exceptions.specs.Tracebacks.{traceback_of};
 
 use crate::entry::Entry;
@@ -19,6 +20,7 @@ use crate::traceback::Traceback;
 use elf64_core::Text;
 use salvage_texts::push_escaped;
 use std::alloc::{AllocError, Global};
+use std::cmp::min;
 use thread_exceptions::{Handled, LinkEnd, Members, Met, Owner, Parts, Raised, Value, What};
 
 /// An address, as JSON has it.
@@ -162,4 +164,135 @@ fn push_head(alloc: Global, text: &mut String, said: &Said) -> Result<(), AllocE
     push_escaped(alloc, text, false, &said.args)?;
     text.push_str("\n")?;
     push_traceback(alloc, text, &said.traceback)
+}
+
+/// What an exception says, where that was read.
+fn push_said(alloc: Global, text: &mut String, said: &Option<Said>) -> Result<(), AllocError>
+    ensures { OnOk result (string_bytes text.new ≡ string_bytes text.old ++ said_text (said_if said.now)) }
+{
+    match said {
+        Some(said) => push_head(alloc, text, said),
+        None => text.push_str("?\n"),
+    }
+}
+
+/// The lines of an object that was met.
+fn push_met(
+    alloc: Global,
+    text: &mut String,
+    met: &Met,
+    said: &Option<Said>,
+) -> Result<(), AllocError>
+    ensures { OnOk result (string_bytes text.new
+        ≡ string_bytes text.old ++ met_text (met_of met.now) (said_if said.now)) }
+{
+    text.push_str("    ")?;
+    push_address(text, met.addr)?;
+    text.push_str(" ")?;
+    match &met.what {
+        What::Exception { parts, members } => {
+            push_said(alloc, text, said)?;
+            push_parts(text, parts, members)
+        }
+        What::Other => text.push_str("is no exception\n"),
+        What::Unreadable(_) => text.push_str("?\n"),
+    }
+}
+
+/// The lines of objects that were met.
+fn push_mets(
+    alloc: Global,
+    text: &mut String,
+    met: &[Met],
+    said: &[Option<Said>],
+) -> Result<(), AllocError>
+    ensures { OnOk result (string_bytes text.new ≡ string_bytes text.old
+        ++ mets_text (map (λ x. met_of x) met.now) (map (λ s. said_if s) said.now)) }
+{
+    let count = min(met.len(), said.len());
+    for number in 0..count {
+        push_met(alloc, text, &met[number], &said[number])?;
+    }
+    Ok(())
+}
+
+/// The line of what is raised.
+fn push_raised(text: &mut String, raised: Raised) -> Result<(), AllocError>
+    ensures { OnOk result (string_bytes text.new ≡ string_bytes text.old ++ raised_text (raised_of raised)) }
+{
+    match raised {
+        Raised::Nothing => Ok(()),
+        Raised::Exception { addr } => write!(text, "    Raised: 0x{addr:x}\n"),
+        Raised::Parts { class, value } => {
+            write!(text, "    Raised: 0x{value:x} of the type 0x{class:x}\n")
+        }
+        Raised::Unreadable(_) => text.push_str("    Raised: ?\n"),
+    }
+}
+
+/// Whose an item is, where it isn't the thread's.
+fn push_owner(text: &mut String, owner: Owner) -> Result<(), AllocError>
+    ensures { OnOk result (string_bytes text.new ≡ string_bytes text.old ++ owner_text owner) }
+{
+    match owner {
+        Owner::Thread => text.push_str("\n"),
+        Owner::Running { addr } => write!(text, " by the generator 0x{addr:x}\n"),
+    }
+}
+
+/// The line of what is handled at an address, where it is no 0.
+fn push_named(text: &mut String, addr: u64, owner: Owner) -> Result<(), AllocError>
+    ensures { OnOk result (string_bytes text.new ≡ string_bytes text.old ++ value_text (At addr) owner) }
+{
+    if addr == 0 {
+        return Ok(());
+    }
+    write!(text, "    Handling: 0x{addr:x}")?;
+    push_owner(text, owner)
+}
+
+/// The line of what is handled, where an item names something.
+fn push_handled(text: &mut String, handled: Handled) -> Result<(), AllocError>
+    ensures { OnOk result (string_bytes text.new ≡ string_bytes text.old ++ handled_text (handled_of handled)) }
+{
+    match handled.value {
+        Value::At(addr) => push_named(text, addr, handled.owner),
+        Value::Unreadable(_) => {
+            text.push_str("    Handling: ?")?;
+            push_owner(text, handled.owner)
+        }
+    }
+}
+
+/// The lines of what is handled.
+fn push_all_handled(text: &mut String, handled: &[Handled]) -> Result<(), AllocError>
+    ensures { OnOk result (string_bytes text.new
+        ≡ string_bytes text.old ++ all_handled_text (map (λ h. handled_of h) handled.now)) }
+{
+    for number in 0..handled.len() {
+        push_handled(text, handled[number])?;
+    }
+    Ok(())
+}
+
+/// Appends the lines of what a thread raises and handles.
+///
+/// `Raised: 0x..`, the address of the exception, where there is one, and of each item that names one `Handling: 0x..`,
+/// with ` by the generator 0x..` where it isn't the thread's own; a chain of items that breaks off has a line. Below,
+/// in order of discovery, each exception once, by its address, with its type's name and its arguments, as in `0x7f..
+/// KeyError("outer")`; its traceback, the oldest call first, a line for each entry, `function (file:line)`, with `?` for
+/// what can't be read and how many are left out; and `raised from 0x..`, `raised while handling 0x..` and `with the
+/// member 0x..`, for what it leads to. Names and arguments are escaped, so that each line is one line. A thread with
+/// nothing raised or handled has no line. The one error is want of memory.
+pub fn push_exceptions(
+    alloc: Global,
+    text: &mut String,
+    told: &ThreadTold,
+) -> Result<(), AllocError>
+    ensures { OnOk result (string_bytes text.new ≡ string_bytes text.old ++ exceptions_text (told_of told.now)) }
+{
+    push_raised(text, told.thread.raised)?;
+    push_all_handled(text, &told.thread.handled)?;
+    push_end(text, "chain of what is handled", told.thread.end)?;
+    push_mets(alloc, text, &told.thread.met, &told.said)
 }

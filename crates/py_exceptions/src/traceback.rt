@@ -19,7 +19,7 @@ const ENTRY_LIMIT: usize = 65536;
 const TOLD: usize = 64;
 
 /// The traceback of an exception, the oldest call first.
-#[derive(Debug, Drop)]
+#[derive(Drop)]
 pub struct Traceback {
     /// The first entries: at most 64.
     pub first: Vec<Entry>,

@@ -26,6 +26,6 @@ chain_few turn met (suc left) a = by (λ n. chain_few turn (met ++ a ∷ []) lef
     by rest false (Last why) e f = rw (e, f) (omega arith)
     by rest false (Before why) e f = rw (e, f) (omega arith)
 
-pub links_few : {n limit head : ℕ} {s0 s1 : Seen} (turn : Memory → ℕ → Turn) (links : Links)
+pub links_few : {n limit : ℕ} {s0 s1 : Seen} (turn : Memory → ℕ → Turn) (head : ℕ) (links : Links)
     → Reading n s0 s1 (λ m. chain_of links ≡ chain_from (turn m) [] limit head) → length links.members.items ≤ limit
-links_few {limit = limit} {head = head} {s0 = s0} turn links r = rw (ap (λ (c : Chain). length c.members) (reading_here r)) (chain_few _ [] limit head)
+links_few {limit = limit} turn head links r = rw (ap (λ (c : Chain). length c.members) (reading_here r)) (chain_few _ [] limit head)

@@ -7,9 +7,11 @@ use Rattle.std.proofs.lemmas.List.{length-map, map-append, take-append-le, take_
 use Rattle.process_memory.specs.Memory.{Memory}
 use Rattle.process_memory.specs.Seen.{Reading, Seen}
 use Rattle.process_memory.proofs.Reading.{reading_gives, reading_none, reading_then}
-use Rattle.thread_exceptions.specs.Discovery.{AreMet, Met, addr_of, found_by, gather, met_at, met_leads}
-use Rattle.thread_exceptions.specs.Exceptions.{What, leads}
-use Rattle.thread_exceptions.proofs.Gathering.{gather_append, gather_grows}
+use Rattle.thread_exceptions.specs.declared.discovery.Met as read
+use Rattle.thread_exceptions.specs.declared.exception.What as read_what
+use Rattle.thread_exceptions.specs.Discovery.{AreMet, Met, addr_of, found_by, gather, met_at, met_leads, met_of}
+use Rattle.thread_exceptions.specs.Exceptions.{What, leads, what_of}
+use Rattle.thread_exceptions.proofs.Gathering.{Grows, gather_append, gather_grows}
 
 abbrev addrs : List Met → List ℕ
 addrs all = map (λ x. addr_of x) all
@@ -72,7 +74,7 @@ module _ {what : Memory → ℕ → What} {limit : ℕ} {roots : List ℕ} {s0 s
       one : Met
       one = record { addr = a; what = w }
 
-      grown : _
+      grown : Grows limit found (gather limit found (leads w))
       grown = gather_grows limit found (leads w)
 
       is_more : more ≡ found ++ grown.added
@@ -105,3 +107,28 @@ module _ {what : Memory → ℕ → What} {limit : ℕ} {roots : List ℕ} {s0 s
   pub discovering_lost : {n : ℕ} {s2 : Seen} {P : Memory → Type 0} (Q : Memory → Type 0) → Discovering what limit roots s0 s1 found all
       → length all < length found → Reading n s1 s2 P → n ≤ 263 → ((m : Memory) → Q m) → Reading (263 * limit) s0 s2 Q
   discovering_lost Q d lt r few q = reading_gives _ _ (reading_then Q d.reading r (λ m a b. q m)) (omega (arith, d.within, lt, few)) (λ m h. h)
+
+-- ---- the same of objects as they are read
+
+same_length : (all : List read.Met) → length (map (λ x. met_of x) all) ≡ length all
+same_length all = length-map all (λ x. met_of x)
+
+module _ {what : Memory → ℕ → What} {limit : ℕ} {roots : List ℕ} {s0 s1 : Seen} {found : List ℕ} (all : List read.Met) where
+  pub discovering_push : {s2 : Seen} (more : List ℕ) (longer : List read.Met) (a : ℕ) (w : read_what.What) (n : ℕ)
+      → Discovering what limit roots s0 s1 found (map (λ x. met_of x) all)
+      → length all < length found → n ≡ length all → a ≡ get_or found n 0 → more ≡ gather limit found (leads (what_of w))
+      → Reading 263 s1 s2 (λ m. what_of w ≡ what m a) → longer ≡ all ++ record { addr = a; what = w } ∷ []
+      → Discovering what limit roots s0 s2 more (map (λ x. met_of x) longer)
+  discovering_push more longer a w n d lt count at e r is =
+      rw (ap (map (λ x. met_of x)) is ∙ map-append (λ x. met_of x) all (record { addr = a; what = w } ∷ []))
+      (discovering_more more a (what_of w) d (rw (same_length all) lt)
+      (at ∙ ap (λ k. get_or found k 0) (count ∙ sym (same_length all))) e r)
+
+  pub discovering_end : Discovering what limit roots s0 s1 found (map (λ x. met_of x) all) → length found ≤ length all
+      → Reading (263 * limit) s0 s1 (λ m. AreMet (what m) limit roots (map (λ x. met_of x) all))
+  discovering_end d full = discovering_done d (rw (same_length all) full)
+
+  pub discovering_fails : {n : ℕ} {s2 : Seen} {P : Memory → Type 0} (Q : Memory → Type 0)
+      → Discovering what limit roots s0 s1 found (map (λ x. met_of x) all)
+      → length all < length found → Reading n s1 s2 P → n ≤ 263 → ((m : Memory) → Q m) → Reading (263 * limit) s0 s2 Q
+  discovering_fails Q d lt r few q = discovering_lost Q d (rw (same_length all) lt) r few q

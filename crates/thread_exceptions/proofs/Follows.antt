@@ -50,31 +50,31 @@ module _ {turn : Memory → ℕ → Turn} {limit head : ℕ} {s0 s1 : Seen} {mem
       }
 
   pub following_met : Following turn limit head s0 s1 members met at → has members at ≡ true
-      → Reading (length members + 1) s0 s1 (λ m. record { members = members; end = Cycle at } ≡ chain_from (turn m) [] limit head)
-  following_met w met = reading_gives _ _ w.reading (omega arith)
+      → Reading (limit + 1) s0 s1 (λ m. record { members = members; end = Cycle at } ≡ chain_from (turn m) [] limit head)
+  following_met w met = reading_gives _ _ w.reading (omega (arith, w.within))
       (λ m p. ends_bare members _ (chain_from (turn m) members (limit - length members) at) (Cycle at) p (from_met (turn m) members (limit - length members) at met))
 
   pub following_full : Following turn limit head s0 s1 members met at → has members at ≡ false → length members ≡ limit
-      → Reading (length members + 1) s0 s1 (λ m. record { members = members; end = Cut at } ≡ chain_from (turn m) [] limit head)
-  following_full w new full = reading_gives _ _ w.reading (omega arith)
+      → Reading (limit + 1) s0 s1 (λ m. record { members = members; end = Cut at } ≡ chain_from (turn m) [] limit head)
+  following_full w new full = reading_gives _ _ w.reading (omega (arith, w.within))
       (λ m p. ends_bare members _ (chain_from (turn m) members (limit - length members) at) (Cut at) p (from_cut (turn m) members (limit - length members) at new (omega (arith, full))))
 
   pub following_before : {s2 : Seen} (why : Stop) → Following turn limit head s0 s1 members met at → has members at ≡ false → length members ≢ limit → Reading 1 s1 s2 (λ m. Before why ≡ turn m at)
-      → Reading (length members + 1) s0 s2 (λ m. record { members = members; end = Stops why } ≡ chain_from (turn m) [] limit head)
+      → Reading (limit + 1) s0 s2 (λ m. record { members = members; end = Stops why } ≡ chain_from (turn m) [] limit head)
   following_before why w new some r =
       let left : limit - length members ≢ 0 = omega (arith, w.within) in
       reading_gives _ _ (reading_then (λ m. record { members = members; end = Stops why } ≡ chain_from (turn m) [] limit head) w.reading r
       (λ m p q. ends_bare members _ (chain_from (turn m) members (limit - length members) at) (Stops why) p (from_before (turn m) members (limit - length members) at why new left (sym q))))
-      (omega arith) (λ m h. h)
+      (omega (arith, w.within)) (λ m h. h)
 
   pub following_last : {s2 : Seen} {more : List ℕ} (why : Stop) → Following turn limit head s0 s1 members met at → has members at ≡ false → length members ≢ limit → Reading 1 s1 s2 (λ m. Last why ≡ turn m at)
-      → more ≡ members ++ at ∷ [] → Reading (length more + 1) s0 s2 (λ m. record { members = more; end = Stops why } ≡ chain_from (turn m) [] limit head)
+      → more ≡ members ++ at ∷ [] → Reading (limit + 1) s0 s2 (λ m. record { members = more; end = Stops why } ≡ chain_from (turn m) [] limit head)
   following_last {more = more} why w new some r is =
       let left : limit - length members ≢ 0 = omega (arith, w.within) in
       reading_gives _ _ (reading_then (λ m. record { members = more; end = Stops why } ≡ chain_from (turn m) [] limit head) w.reading r
       (λ m p q. ap (λ (ms : List ℕ). record { members = ms; end = Stops why }) is
       ∙ ends_behind members (at ∷ []) _ (chain_from (turn m) members (limit - length members) at) (Stops why) p (from_last (turn m) members (limit - length members) at why new left (sym q))))
-      (omega (arith, ap length is, length-append members (at ∷ []))) (λ m h. h)
+      (omega (arith, w.within)) (λ m h. h)
 
   -- memory was wanting
   pub following_lost : {n : ℕ} {s2 : Seen} {P : Memory → Type 0} (Q : Memory → Type 0) → Following turn limit head s0 s1 members met at → length members ≢ limit → Reading n s1 s2 P → n ≤ 1 → ((m : Memory) → Q m)

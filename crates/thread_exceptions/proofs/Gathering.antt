@@ -1,9 +1,12 @@
 -- What is found from some addresses on, one after another.
 use Rattle.std.proofs.Common.{◌≡◌, ◌≢◌, ℕ, ◌+◌, ◌<◌, ◌≤◌, Bool, true, false, List, [], ◌∷◌, ◌++◌, length, refl, sym, ◌∙◌, ap}
-use Rattle.std.proofs.Common.{arith, append_assoc, append-nil, length-append, nat_eq, take, ltb}
+use Rattle.std.proofs.Common.{arith, append_assoc, append-nil, length-append, nat_eq, get_or, drop, inl, inr, ◌↔◌, ◌⊎◌}
 use Rattle.std.specs.Prelude.{◌||◌, nat_le}
+use Rattle.std.specs.List.{Contains}
 use Rattle.std.proofs.lemmas.Bool.Decides.{nat_tests}
-use Rattle.thread_exceptions.specs.Discovery.{add_one, gather}
+use Rattle.std.proofs.lemmas.List.{drop_more, drop_all}
+use Rattle.std.proofs.lemmas.List.Elements.{Contains-append_left, Contains-push, Contains-push_cases}
+use Rattle.thread_exceptions.specs.Discovery.{AreSame, add_one, gather}
 use Rattle.thread_exceptions.specs.Links.{has}
 
 pub gather_append : (limit : ℕ) (found xs ys : List ℕ)
@@ -47,3 +50,54 @@ gather_grows limit found (x ∷ xs) =
       is = rest.is ∙ ap (λ f. f ++ rest.added) one.is ∙ append_assoc found one.added rest.added;
       within = λ le. rest.within (one.within le);
     }
+
+-- ---- one address
+
+pub one_zero : (limit : ℕ) (found : List ℕ) (a : ℕ) → a ≡ 0 → found ≡ add_one limit found a
+one_zero limit found a z = rw z refl
+
+pub one_full : (limit : ℕ) (found : List ℕ) (a : ℕ) → a ≢ 0 → limit ≤ length found → found ≡ add_one limit found a
+one_full limit found a some full =
+    let z : nat_eq a 0 ≡ false = grind (arith, nat_tests) in
+    let f : nat_le limit (length found) ≡ true = grind (arith, nat_tests) in
+    rw (z, f) refl
+
+pub one_met : (limit : ℕ) (found : List ℕ) (a : ℕ) → a ≢ 0 → length found < limit → has found a ≡ true
+    → found ≡ add_one limit found a
+one_met limit found a some room h =
+    let z : nat_eq a 0 ≡ false = grind (arith, nat_tests) in
+    let f : nat_le limit (length found) ≡ false = grind (arith, nat_tests) in
+    rw (z, f, h) refl
+
+pub one_new : (limit : ℕ) (found : List ℕ) (a : ℕ) → a ≢ 0 → length found < limit → has found a ≡ false
+    → found ++ a ∷ [] ≡ add_one limit found a
+one_new limit found a some room h =
+    let z : nat_eq a 0 ≡ false = grind (arith, nat_tests) in
+    let f : nat_le limit (length found) ≡ false = grind (arith, nat_tests) in
+    rw (z, f, h) refl
+
+-- a set and a list after one more
+pub same_more : (set more found longer : List ℕ) (a : ℕ) → AreSame set found
+    → ((b : ℕ) → Contains more b ↔ (Contains set b ⊎ (b ≡ a))) → longer ≡ found ++ a ∷ [] → AreSame more longer
+same_more set more found longer a same adds is = rw is (λ b. (
+  λ h. elim ((adds b).0 h) [ inl e ↦ Contains-append_left found (a ∷ []) b ((same b).0 e) | inr e ↦ rw e (Contains-push found a) ],
+  λ h. (adds b).1 (elim (Contains-push_cases found a b h) [ inl e ↦ inl ((same b).1 e) | inr e ↦ inr (sym e) ]),
+))
+
+-- ---- each of some addresses
+
+pub gather_next : (limit : ℕ) (found more xs total : List ℕ) (i : ℕ) → i < length xs → more ≡ add_one limit found (get_or xs i 0)
+    → gather limit found (drop i xs) ≡ total → gather limit more (drop (i + 1) xs) ≡ total
+unfolding gather
+gather_next limit found more xs total i lt e h =
+    ap (λ f. gather limit f (drop (i + 1) xs)) e ∙ sym (ap (gather limit found) (drop_more xs i 0 lt)) ∙ h
+
+pub gather_done : (limit : ℕ) (found xs total : List ℕ) (i : ℕ) → length xs ≤ i → gather limit found (drop i xs) ≡ total → found ≡ total
+unfolding gather
+gather_done limit found xs total i all h = sym (ap (gather limit found) (drop_all i xs all)) ∙ h
+
+pub gather_parts : (limit : ℕ) (f0 f1 f2 f3 xs ys : List ℕ) (a : ℕ) → f1 ≡ add_one limit f0 a → f2 ≡ gather limit f1 xs
+    → f3 ≡ gather limit f2 ys → f3 ≡ gather limit f0 (a ∷ (xs ++ ys))
+unfolding gather
+gather_parts limit f0 f1 f2 f3 xs ys a e1 e2 e3 =
+    e3 ∙ ap (λ f. gather limit f ys) e2 ∙ sym (gather_append limit f1 xs ys) ∙ ap (λ f. gather limit f (xs ++ ys)) e1

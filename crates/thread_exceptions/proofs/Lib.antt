@@ -3,6 +3,10 @@ pub mod Discoveries
 pub mod ChainSizes
 pub mod Wording
 pub mod ThreadSteps
+pub mod Holding
+pub mod Eaching
+pub mod Roots
+pub mod Telling
 pub mod Steps
 pub mod WhatSteps
 pub mod Groupings

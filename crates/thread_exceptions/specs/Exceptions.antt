@@ -67,9 +67,13 @@ members_in Members.NoGroup = []
 members_in (Members.Group members left_out) = members
 members_in (Members.Lost f) = []
 
--- the objects that it leads to: an exception to its cause, its context unless that is suppressed, and its members
+-- what an exception leads to: its cause, its context unless that is suppressed, and its members
+abbrev pub parts_leads : Parts → Members → List ℕ
+parts_leads parts members = parts.cause ∷ (context_of parts ++ members_in members)
+
+-- the objects that an object leads to
 abbrev pub leads : What → List ℕ
-leads (Exception parts members) = parts.cause ∷ (context_of parts ++ members_in members)
+leads (Exception parts members) = parts_leads parts members
 leads Other = []
 leads (Lost f) = []
 

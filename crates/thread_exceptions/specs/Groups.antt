@@ -72,14 +72,20 @@ abbrev pub group_by : ℕ → Found (List ℕ) → Members
 group_by count (Ok bytes) = Group (words_in (min count 4096) bytes 0) (count - min count 4096)
 group_by count (Err f) = Lost f
 
+abbrev pub listed_at : Memory → Row → Members
+listed_at m row = group_by row.count (record_at m row.first (8 * min row.count 4096))
+
 abbrev pub told_members : Found Row → Memory → Members
-told_members (Ok row) m = group_by row.count (record_at m row.first (8 * min row.count 4096))
+told_members (Ok row) m = listed_at m row
 told_members (Err f) m = Lost f
+
+abbrev pub members_if : GroupPlaces → Bool → Memory → ℕ → Members
+members_if group false m a = NoGroup
+members_if group true m a = told_members (row_at group m a) m
 
 abbrev pub members_by : Option GroupPlaces → Bool → Memory → ℕ → Members
 members_by None is m a = NoGroup
-members_by (Some group) false m a = NoGroup
-members_by (Some group) true m a = told_members (row_at group m a) m
+members_by (Some group) is m a = members_if group is m a
 
 -- the members of the exception of a type at an address
 unfoldable pub members_at : Places → Memory → ℕ → ℕ → Members

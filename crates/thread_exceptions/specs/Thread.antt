@@ -1,6 +1,7 @@
 -- What a thread raises and handles (`PyThreadState`: `curexc_type` and `curexc_value` up to 3.11, `current_exception`
 -- from 3.12 on; `exc_info` and `exc_state`; `_PyErr_StackItem`: Include/cpython/pystate.h).
-use Rattle.std.specs.Prelude.{ℕ, ◌≡◌, ◌+◌, ◌-◌, nat_eq, List, [], ◌∷◌, map, Result, Ok, Err, if◌then◌else◌}
+use Rattle.std.specs.Prelude.{ℕ, ◌≡◌, ◌+◌, ◌-◌, nat_eq, List, [], ◌∷◌, map, Result, Ok, Err, Bool, true, false, not}
+use Rattle.std.specs.Prelude.{if◌then◌else◌}
 use Rattle.process_memory.specs.Memory.{Fault, Found, Memory, ◌>>=◌, word_at}
 use Rattle.process_memory.specs.Memory.Fault.{Missing}
 use Rattle.thread_exceptions.specs.declared.places.Places.{Places}
@@ -15,7 +16,7 @@ use Rattle.thread_exceptions.specs.declared.thread.ThreadExceptions.{ThreadExcep
 use Rattle.thread_exceptions.specs.declared.thread.Value as read_value
 use Rattle.thread_exceptions.specs.declared.thread.Value.TheVariants as values
 use Rattle.thread_exceptions.specs.Discovery.{AreMet, Met, met_of}
-use Rattle.thread_exceptions.specs.Exceptions.{what_at}
+use Rattle.thread_exceptions.specs.Exceptions.{is_exception, what_at}
 use Rattle.thread_exceptions.specs.Links.{Chain, End, chain_from}
 use Rattle.thread_exceptions.specs.Links.End.{Stops}
 use Rattle.thread_exceptions.specs.Links.{Stop as stop}
@@ -28,7 +29,7 @@ pub data Raised : Type 0 where
   Parts : (class value : ℕ) → Raised
   Lost : Fault → Raised
 
--- what an item names: the object at an address, none at 0; or which one is not in memory
+-- what an item names: the object at an address, which is not known to be no exception, none at 0; or which one is not in memory
 pub data Value : Type 0 where
   At : (address : ℕ) → Value
   Lost : Fault → Value
@@ -52,14 +53,22 @@ raised_exception addr = if nat_eq addr 0 then Raised.Nothing else Raised.Excepti
 abbrev pub raised_parts : ℕ → ℕ → Raised
 raised_parts class value = if nat_eq class 0 then Raised.Nothing else Raised.Parts class value
 
-unfoldable pub raised_word_at : RaisedPlaces → Memory → ℕ → Found Raised
-raised_word_at (places.Exception at) m thread = do
+-- from 3.12 on: the address of the exception
+unfoldable pub current_at : ℕ → Memory → ℕ → Found Raised
+current_at at m thread = do
   addr ← word_at m (thread + at)
   Ok (raised_exception addr)
-raised_word_at (places.Parts klass value) m thread = do
+
+-- up to 3.11: those of the type and of the value
+unfoldable pub pair_at : ℕ → ℕ → Memory → ℕ → Found Raised
+pair_at klass value m thread = do
   class ← word_at m (thread + klass)
   named ← word_at m (thread + value)
   Ok (raised_parts class named)
+
+unfoldable pub raised_word_at : RaisedPlaces → Memory → ℕ → Found Raised
+raised_word_at (places.Exception at) m thread = current_at at m thread
+raised_word_at (places.Parts klass value) m thread = pair_at klass value m thread
 
 abbrev pub raised_by : Found Raised → Raised
 raised_by (Ok r) = r
@@ -83,13 +92,31 @@ items_at p m thread = items_by p m (word_at m (thread + p.newest))
 unfoldable pub owner_of : Places → ℕ → ℕ → Owner
 owner_of p thread item = if nat_eq (thread + p.oldest) item then owner.Thread else owner.Running (item - p.inside)
 
-abbrev pub value_by : Found ℕ → Value
-value_by (Ok addr) = Value.At addr
-value_by (Err f) = Value.Lost f
+-- the flags of an object's type
+unfoldable pub flags_at : Places → Memory → ℕ → Found ℕ
+flags_at p m a = do
+  class ← word_at m (a + p.klass)
+  word_at m (class + p.flags)
+
+abbrev pub is_other_by : Found ℕ → Bool
+is_other_by (Ok flags) = not (is_exception flags)
+is_other_by (Err f) = false
+
+-- an object is known to be no exception, as `None`
+abbrev pub is_other_at : Places → Memory → ℕ → Bool
+is_other_at p m a = is_other_by (flags_at p m a)
+
+-- an item that names no exception names nothing
+abbrev pub named : ℕ → Bool → Value
+named addr is_other = if is_other then Value.At 0 else Value.At addr
+
+abbrev pub value_by : Places → Memory → Found ℕ → Value
+value_by p m (Ok addr) = named addr (is_other_at p m addr)
+value_by p m (Err f) = Value.Lost f
 
 -- what an item names
 abbrev pub value_at : Places → Memory → ℕ → Value
-value_at p m item = value_by (word_at m (item + p.value))
+value_at p m item = value_by p m (word_at m (item + p.value))
 
 abbrev pub handled_at : Places → Memory → ℕ → ℕ → Handled
 handled_at p m thread item = record { owner = owner_of p thread item; value = value_at p m item }
@@ -122,7 +149,7 @@ pub record IsThread (p : Places) (m : Memory) (thread : ℕ) (told : Thread) : T
 
 -- how many reads a thread takes at most
 abbrev pub thread_reads : ℕ
-thread_reads = 277508
+thread_reads = 285700
 
 -- ---- as they are read
 

@@ -56,11 +56,6 @@ abbrev pub IsLost : ReadFault → Result Lost ExceptionsError → Type 0
 IsLost (fault.Unreadable a n) result = result ≡ Ok (record { addr = a; len = n })
 IsLost fault.OutOfMemory result = (e : ExceptionsError) × (result ≡ Err e)
 
--- the reads of a chain: one of each record, and one more
-abbrev pub chain_reads : ℕ → Result Links ExceptionsError → ℕ
-chain_reads limit (Ok c) = length c.members.items + 1
-chain_reads limit (Err e) = limit + 1
-
 -- a chain of which these records were met so far, each of which is in a set; the last of them names the one at `at`.
 -- What stands at an address is given
 pub record Following (turn : Memory → ℕ → known.Turn) (limit head : ℕ) (old new : Seen) (members met : List ℕ)

@@ -2,7 +2,7 @@
 ghost use Rattle.std.specs.Prelude.{◌≡◌, ◌*◌, ◌≤◌, [], IfOk, OnOk, length, map};
 ghost use Rattle.process_memory.specs.Seen.{Reading};
 ghost use Rattle.thread_exceptions.specs.Discovery.{AreMet, AreSame, add_one, gather, met_of};
-ghost use Rattle.thread_exceptions.specs.Exceptions.{context_of, leads, members_in, what_at, what_of};
+ghost use Rattle.thread_exceptions.specs.Exceptions.{context_of, leads, members_in, parts_leads, what_at, what_of};
 ghost use Rattle.thread_exceptions.specs.Groups.{members_of};
 ghost use Rattle.thread_exceptions.specs.Places.{IsSound};
 
@@ -14,7 +14,7 @@ use std::alloc::Global;
 use std::collections::BTreeSet;
 
 /// An object that was met, and what it is.
-#[derive(Debug, Drop)]
+#[derive(Drop)]
 pub struct Met {
     pub addr: u64,
     pub what: What,
@@ -33,7 +33,13 @@ fn add(found: &mut Found, limit: usize, addr: u64) -> Result<(), ExceptionsError
     ensures same { OnOk result (AreSame found.new.set.keys found.new.addrs.items) }
     ensures added { OnOk result (found.new.addrs.items ≡ add_one limit found.old.addrs.items addr) }
 {
-    if addr == 0 || found.addrs.len() >= limit || found.set.contains(&addr) {
+    if addr == 0 {
+        return Ok(());
+    }
+    if found.addrs.len() >= limit {
+        return Ok(());
+    }
+    if found.set.contains(&addr) {
         return Ok(());
     }
     found.addrs.push(addr)?;
@@ -54,6 +60,7 @@ fn add_all(found: &mut Found, limit: usize, addrs: &[u64]) -> Result<(), Excepti
 }
 
 /// The same of the members of an exception.
+#[tactic(auto, unfolding(crate::specs::Discovery::gather))]
 fn add_members(found: &mut Found, limit: usize, members: &Members) -> Result<(), ExceptionsError>
     requires same { AreSame found.old.set.keys found.old.addrs.items }
     ensures same { OnOk result (AreSame found.new.set.keys found.new.addrs.items) }
@@ -68,6 +75,7 @@ fn add_members(found: &mut Found, limit: usize, members: &Members) -> Result<(),
 }
 
 /// The same of the context of an exception, unless it is suppressed.
+#[tactic(auto, unfolding(crate::specs::Discovery::gather))]
 fn add_context(found: &mut Found, limit: usize, parts: &Parts) -> Result<(), ExceptionsError>
     requires same { AreSame found.old.set.keys found.old.addrs.items }
     ensures same { OnOk result (AreSame found.new.set.keys found.new.addrs.items) }
@@ -80,7 +88,26 @@ fn add_context(found: &mut Found, limit: usize, parts: &Parts) -> Result<(), Exc
     add(found, limit, parts.context)
 }
 
+/// The same of all that an exception leads to.
+fn add_parts(
+    found: &mut Found,
+    limit: usize,
+    parts: &Parts,
+    members: &Members,
+) -> Result<(), ExceptionsError>
+    requires same { AreSame found.old.set.keys found.old.addrs.items }
+    ensures same { OnOk result (AreSame found.new.set.keys found.new.addrs.items) }
+    ensures added { OnOk result (found.new.addrs.items
+        ≡ gather limit found.old.addrs.items (parts_leads parts.now (members_of members.now))) }
+{
+    add(found, limit, parts.cause)?;
+    add_context(found, limit, parts)?;
+    add_members(found, limit, members)?;
+    Ok(())
+}
+
 /// The same of all that an object leads to.
+#[tactic(auto, unfolding(crate::specs::Discovery::gather))]
 fn add_leads(found: &mut Found, limit: usize, what: &What) -> Result<(), ExceptionsError>
     requires same { AreSame found.old.set.keys found.old.addrs.items }
     ensures same { OnOk result (AreSame found.new.set.keys found.new.addrs.items) }
@@ -88,11 +115,7 @@ fn add_leads(found: &mut Found, limit: usize, what: &What) -> Result<(), Excepti
         ≡ gather limit found.old.addrs.items (leads (what_of what.now))) }
 {
     match what {
-        What::Exception { parts, members } => {
-            add(found, limit, parts.cause)?;
-            add_context(found, limit, parts)?;
-            add_members(found, limit, members)
-        }
+        What::Exception { parts, members } => add_parts(found, limit, parts, members),
         What::Other => Ok(()),
         What::Unreadable(_) => Ok(()),
     }

@@ -1,7 +1,7 @@
 //! Why there is no answer.
 ghost use Rattle.std.specs.Prelude.{◌≡◌, ⊤};
 
-use std::alloc::AllocFailed;
+use std::alloc::{AllocError, AllocFailed};
 use thiserror::Error;
 
 /// Why there is no answer.
@@ -18,6 +18,16 @@ impl<T: Drop> From<AllocFailed<T>> for ExceptionsError {
     ghost from_gives = { λ _ _. ⊤ };
 
     fn from(_e: AllocFailed<T>) -> ExceptionsError {
+        ExceptionsError::OutOfMemory
+    }
+}
+
+impl From<AllocError> for ExceptionsError {
+    ghost use Rattle.std.specs.Prelude.{⊤};
+
+    ghost from_gives = { λ _ _. ⊤ };
+
+    fn from(_e: AllocError) -> ExceptionsError {
         ExceptionsError::OutOfMemory
     }
 }

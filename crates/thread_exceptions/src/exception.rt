@@ -1,7 +1,7 @@
 //! What stands at an address: an exception, or another object.
-ghost use Rattle.std.specs.Prelude.{◌≡◌, IfOk, length};
+ghost use Rattle.std.specs.Prelude.{◌≡◌, IfOk, Ok, length, true};
 ghost use Rattle.process_memory.specs.Seen.{Reading, Reads, read_fault};
-ghost use Rattle.thread_exceptions.specs.Exceptions.{is_exception, parts_at, parts_in, what_at, what_of};
+ghost use Rattle.thread_exceptions.specs.Exceptions.{is_exception, parts_at, parts_if, parts_in, what_at, what_by, what_of};
 ghost use Rattle.thread_exceptions.specs.Places.{IsSound, IsSoundException};
 
 use crate::groups::{Members, read_group};
@@ -15,7 +15,7 @@ use std::alloc::Global;
 const PY_TPFLAGS_BASE_EXC_SUBCLASS: u64 = 1 << 30;
 
 /// What the record of an exception says.
-#[derive(Debug, Clone, Copy)]
+#[derive(Clone, Copy)]
 pub struct Parts {
     /// The address of its type.
     pub class: u64,
@@ -34,7 +34,7 @@ pub struct Parts {
 }
 
 /// What stands at an address.
-#[derive(Debug, Drop)]
+#[derive(Drop)]
 pub enum What {
     /// An exception: its type says so.
     Exception { parts: Parts, members: Members },
@@ -45,7 +45,8 @@ pub enum What {
 }
 
 /// Whether objects of a type of these flags are exceptions.
-fn is_exception(flags: u64) -> bool
+#[tactic(auto, unfolding(crate::specs::Exceptions::is_exception))]
+pub(crate) fn is_exception(flags: u64) -> bool
     ensures { result ≡ is_exception flags }
 {
     flags / PY_TPFLAGS_BASE_EXC_SUBCLASS % 2 == 1
@@ -69,6 +70,22 @@ fn parts_in(at: &ExceptionPlaces, class: u64, bytes: &[u8]) -> Parts
     }
 }
 
+/// What the record of the exception of a type at an address says. One read.
+fn read_record<P: ProcessMemory>(
+    alloc: Global,
+    process: &mut P,
+    places: &Places,
+    at: u64,
+    class: u64,
+) -> Result<Option<Parts>, ReadFault>
+    requires sound { IsSound places.now }
+    ensures { Reads read_fault 1 (P.seen process.old) (P.seen process.new)
+        (λ m. parts_if places.now m at class true) result }
+{
+    let bytes = record(alloc, process, at, places.exception.size as u64)?;
+    Ok(Some(parts_in(&places.exception, class, &bytes)))
+}
+
 /// What the record of the exception at an address says; none of another object. At most 3 reads.
 fn read_parts<P: ProcessMemory>(
     alloc: Global,
@@ -82,11 +99,30 @@ fn read_parts<P: ProcessMemory>(
     let class = word_past(process, at, places.klass as u64)?;
     let flags = word_past(process, class, places.flags as u64)?;
     let is = is_exception(flags);
-    if !is {
-        return Ok(None);
+    if is {
+        return read_record(alloc, process, places, at, class);
     }
-    let bytes = record(alloc, process, at, places.exception.size as u64)?;
-    Ok(Some(parts_in(&places.exception, class, &bytes)))
+    Ok(None)
+}
+
+/// What stands at an address, by its record. At most 260 reads.
+fn read_by_parts<P: ProcessMemory>(
+    alloc: Global,
+    process: &mut P,
+    places: &Places,
+    at: u64,
+    parts: Option<Parts>,
+) -> Result<What, ExceptionsError>
+    ensures { Reading 260 (P.seen process.old) (P.seen process.new)
+        (λ m. IfOk result (λ what. what_of what ≡ what_by places.now m at (Ok parts))) }
+{
+    match parts {
+        None => Ok(What::Other),
+        Some(parts) => {
+            let members = read_group(alloc, process, places, at, parts.class)?;
+            Ok(What::Exception { parts, members })
+        }
+    }
 }
 
 /// What stands at an address. At most 263 reads.
@@ -101,11 +137,7 @@ pub(crate) fn read_what<P: ProcessMemory>(
         (λ m. IfOk result (λ what. what_of what ≡ what_at places.now m at)) }
 {
     match read_parts(alloc, process, places, at) {
-        Ok(Some(parts)) => {
-            let members = read_group(alloc, process, places, at, parts.class)?;
-            Ok(What::Exception { parts, members })
-        }
-        Ok(None) => Ok(What::Other),
+        Ok(parts) => read_by_parts(alloc, process, places, at, parts),
         Err(error) => Ok(What::Unreadable(lost_range(error)?)),
     }
 }

@@ -1,9 +1,10 @@
 //! Whether an exception is a group, and its members.
-ghost use Rattle.std.specs.Prelude.{◌≡◌, ◌*◌, ◌≤◌, IfOk, length};
+ghost use Rattle.std.specs.Prelude.{◌≡◌, ◌*◌, ◌≤◌, IfOk, Ok, length, min};
 ghost use Rattle.process_memory.specs.Seen.{Reading, Reads, read_fault};
 ghost use Rattle.thread_exceptions.specs.Groups.{group_class_at, grouped_at, is_builtin, is_group_at, is_group_named};
 ghost use Rattle.thread_exceptions.specs.Groups.{is_group_type};
-ghost use Rattle.thread_exceptions.specs.Groups.{members_at, members_of, row_at, told_members, words_in};
+ghost use Rattle.thread_exceptions.specs.Groups.{group_by, listed_at, members_at, members_if, members_of, row_at};
+ghost use Rattle.thread_exceptions.specs.Groups.{told_members, words_in};
 
 use crate::links::{Lost, lost_range, read_links};
 use crate::{ExceptionsError, GroupPlaces, Places};
@@ -25,7 +26,7 @@ const GROUP_NAME: [u8; 19] = *b"BaseExceptionGroup\0";
 const PY_TPFLAGS_HEAPTYPE: u64 = 512;
 
 /// The first members of a group.
-#[derive(Debug, Drop)]
+#[derive(Drop)]
 pub struct Group {
     /// Their addresses, in order: at most 4,096.
     pub members: Vec<u64>,
@@ -34,7 +35,7 @@ pub struct Group {
 }
 
 /// The members of an exception.
-#[derive(Debug, Drop)]
+#[derive(Drop)]
 pub enum Members {
     /// It is no group.
     NoGroup,
@@ -158,6 +159,40 @@ fn read_row<P: ProcessMemory>(
     Ok(Row { first, count })
 }
 
+/// How many of so many members are told.
+fn told_count(count: u64) -> u64
+    ensures { result ≡ min count 4096 }
+{
+    min(count, MEMBER_LIMIT)
+}
+
+/// The members of a group that says that it has so many, by the bytes of the first ones.
+fn listed(alloc: Global, count: u64, bytes: &[u8]) -> Result<Members, ExceptionsError>
+    requires there { 8 * min count 4096 ≤ length bytes.now }
+    ensures { IfOk result (λ members. members_of members ≡ group_by count (Ok bytes.now)) }
+{
+    let told = told_count(count);
+    let members = words_in(alloc, told, bytes)?;
+    let left_out = count - told;
+    Ok(Members::Group(Group { members, left_out }))
+}
+
+/// The members of a group, where they stand. At most one read.
+fn read_listed<P: ProcessMemory>(
+    alloc: Global,
+    process: &mut P,
+    row: Row,
+) -> Result<Members, ExceptionsError>
+    ensures { Reading 1 (P.seen process.old) (P.seen process.new)
+        (λ m. IfOk result (λ members. members_of members ≡ listed_at m row)) }
+{
+    let told = told_count(row.count);
+    match record_wide(alloc, process, row.first, 8 * told) {
+        Ok(bytes) => listed(alloc, row.count, &bytes),
+        Err(error) => Ok(Members::Unreadable(lost_range(error)?)),
+    }
+}
+
 /// The members of a group. At most 3 reads.
 fn read_members<P: ProcessMemory>(
     alloc: Global,
@@ -168,18 +203,30 @@ fn read_members<P: ProcessMemory>(
     ensures { Reading 3 (P.seen process.old) (P.seen process.new)
         (λ m. IfOk result (λ members. members_of members ≡ told_members (row_at places.now m at) m)) }
 {
-    let row = match read_row(process, places, at) {
-        Ok(row) => row,
-        Err(error) => return Ok(Members::Unreadable(lost_range(error)?)),
-    };
-    let count = min(row.count, MEMBER_LIMIT);
-    let bytes = match record_wide(alloc, process, row.first, 8 * count) {
-        Ok(bytes) => bytes,
-        Err(error) => return Ok(Members::Unreadable(lost_range(error)?)),
-    };
-    let members = words_in(alloc, count, &bytes)?;
-    let left_out = row.count - count;
-    Ok(Members::Group(Group { members, left_out }))
+    match read_row(process, places, at) {
+        Ok(row) => read_listed(alloc, process, row),
+        Err(error) => Ok(Members::Unreadable(lost_range(error)?)),
+    }
+}
+
+/// The members of an exception of a type, where a version has groups. At most 260 reads.
+fn read_if_group<P: ProcessMemory>(
+    alloc: Global,
+    process: &mut P,
+    places: &Places,
+    group: &GroupPlaces,
+    at: u64,
+    class: u64,
+) -> Result<Members, ExceptionsError>
+    ensures { Reading 260 (P.seen process.old) (P.seen process.new)
+        (λ m. IfOk result (λ members. members_of members
+        ≡ members_if group.now (is_group_at places.now m class) m at)) }
+{
+    let is = is_group(alloc, process, places, class)?;
+    if is {
+        return read_members(alloc, process, group, at);
+    }
+    Ok(Members::NoGroup)
 }
 
 /// The members of an exception of a type. At most 260 reads.
@@ -193,12 +240,8 @@ pub(crate) fn read_group<P: ProcessMemory>(
     ensures { Reading 260 (P.seen process.old) (P.seen process.new)
         (λ m. IfOk result (λ members. members_of members ≡ members_at places.now m at class)) }
 {
-    let Some(group) = places.group else {
-        return Ok(Members::NoGroup);
-    };
-    let is = is_group(alloc, process, places, class)?;
-    if !is {
-        return Ok(Members::NoGroup);
+    match places.group {
+        None => Ok(Members::NoGroup),
+        Some(group) => read_if_group(alloc, process, places, &group, at, class),
     }
-    read_members(alloc, process, &group, at)
 }

@@ -5,6 +5,7 @@
 //! members; each is told once, by its address. What can't be read on keeps what came before, and says so.
 #![tactic(auto)]
 
+mod described;
 mod discovery;
 mod error;
 mod exception;
@@ -13,6 +14,7 @@ mod links;
 mod places;
 mod thread;
 
+pub use described::places_of;
 pub use discovery::{Met, read_closure};
 pub use error::ExceptionsError;
 pub use exception::{Parts, What};

@@ -1,9 +1,9 @@
 //! Chains of records to null, each of which names the next one.
-ghost use Rattle.std.specs.Prelude.{◌≡◌, IfOk, []};
+ghost use Rattle.std.specs.Prelude.{◌≡◌, ◌+◌, IfOk, []};
 ghost use Rattle.process_memory.specs.Seen.{Reading};
 ghost use Rattle.thread_exceptions.specs.Links.{Chain, IsLinks, chain_from};
 ghost use Rattle.thread_exceptions.specs.Links.End.{Stops};
-ghost use Rattle.thread_exceptions.specs.Turns.{IsLost, chain_of, chain_reads, end_of, stop_of, turn_at, turn_of};
+ghost use Rattle.thread_exceptions.specs.Turns.{IsLost, chain_of, end_of, stop_of, turn_at, turn_of};
 
 use crate::ExceptionsError;
 use process_memory::{ProcessMemory, ReadFault, word_past};
@@ -11,7 +11,7 @@ use std::alloc::Global;
 use std::collections::BTreeSet;
 
 /// A range that is not in memory.
-#[derive(Debug, Clone, Copy, PartialEq, Eq)]
+#[derive(Clone, Copy)]
 pub struct Lost {
     pub addr: u64,
     pub len: u64,
@@ -36,7 +36,7 @@ pub enum Turn {
 }
 
 /// How a chain ends.
-#[derive(Debug, Clone, Copy, PartialEq, Eq)]
+#[derive(Clone, Copy)]
 pub enum LinkEnd {
     /// The last record names none.
     Null,
@@ -49,7 +49,7 @@ pub enum LinkEnd {
 }
 
 /// The records of a chain, and how it ends.
-#[derive(Debug, Drop)]
+#[derive(Drop)]
 pub struct Links {
     /// The addresses: each record names the one after it.
     pub members: Vec<u64>,
@@ -103,7 +103,7 @@ fn follow<P: ProcessMemory>(
     limit: usize,
     head: u64,
 ) -> Result<Links, ExceptionsError>
-    ensures { Reading (chain_reads limit result) (P.seen process.old) (P.seen process.new)
+    ensures { Reading (limit + 1) (P.seen process.old) (P.seen process.new)
         (λ m. IfOk result (λ chain. chain_of chain ≡ chain_from (turn_at offset m) [] limit head)) }
 {
     let mut members = Vec::new(alloc);
@@ -148,11 +148,11 @@ pub fn read_links<P: ProcessMemory>(
     limit: usize,
     head: u64,
 ) -> Result<Links, ExceptionsError>
-    ensures answer { Reading (chain_reads limit result) (P.seen process.old) (P.seen process.new)
+    ensures answer { Reading (limit + 1) (P.seen process.old) (P.seen process.new)
         (λ m. IfOk result (λ chain. chain_of chain ≡ chain_from (turn_at offset m) [] limit head)) }
-    ensures right { Reading (chain_reads limit result) (P.seen process.old) (P.seen process.new)
+    ensures right { Reading (limit + 1) (P.seen process.old) (P.seen process.new)
         (λ m. IfOk result (λ chain. IsLinks (turn_at offset m) limit head (chain_of chain))) }
-    ensures only { Reading (chain_reads limit result) (P.seen process.old) (P.seen process.new)
+    ensures only { Reading (limit + 1) (P.seen process.old) (P.seen process.new)
         (λ m. (other : Chain) → IsLinks (turn_at offset m) limit head other
         → IfOk result (λ chain. chain_of chain ≡ other)) }
 {

@@ -3,7 +3,7 @@ ghost use Rattle.std.specs.Prelude.{◌+◌, ◌≤◌, ◌↔◌, IsTrue};
 ghost use Rattle.thread_exceptions.specs.Places.{IsSound, IsSoundException};
 
 /// How a thread names the exception that is raised.
-#[derive(Debug, Clone, Copy)]
+#[derive(Clone, Copy)]
 pub enum RaisedPlaces {
     /// From 3.12 on: the address of the exception (`current_exception`).
     Exception { at: u32 },
@@ -12,7 +12,7 @@ pub enum RaisedPlaces {
 }
 
 /// An exception (`PyBaseExceptionObject`, Include/cpython/pyerrors.h): offsets in its record, of so many bytes.
-#[derive(Debug, Clone, Copy)]
+#[derive(Clone, Copy)]
 pub struct ExceptionPlaces {
     pub size: u32,
     pub dict: u32,
@@ -25,7 +25,7 @@ pub struct ExceptionPlaces {
 }
 
 /// A group of exceptions (`PyBaseExceptionGroupObject`, Include/cpython/pyerrors.h), and tuples.
-#[derive(Debug, Clone, Copy)]
+#[derive(Clone, Copy)]
 pub struct GroupPlaces {
     /// Where a group names the tuple of its members.
     pub members: u32,
@@ -35,7 +35,7 @@ pub struct GroupPlaces {
 }
 
 /// Where the parts of threads, items, exceptions and types stand.
-#[derive(Debug, Clone, Copy)]
+#[derive(Clone, Copy)]
 pub struct Places {
     /// Where an object names its type, a type its flags, its name and the type that it is based on.
     pub klass: u32,

@@ -1,13 +1,15 @@
 //! What a thread raises and handles.
-ghost use Rattle.std.specs.Prelude.{◌≡◌, ◌*◌, IfOk, length, map};
+ghost use Rattle.std.specs.Prelude.{◌≡◌, ◌*◌, IfOk, Ok, length, map};
 ghost use Rattle.process_memory.specs.Seen.{Reading, Reads, read_fault};
 ghost use Rattle.thread_exceptions.specs.Places.{IsSound};
-ghost use Rattle.thread_exceptions.specs.Thread.{IsThread, handled_at, handled_of, items_at, owner_of, raised_address};
-ghost use Rattle.thread_exceptions.specs.Thread.{raised_at, raised_of, raised_of_result, raised_word_at, roots_of};
-ghost use Rattle.thread_exceptions.specs.Thread.{thread_of, thread_reads, value_address, value_at, value_of};
+ghost use Rattle.thread_exceptions.specs.Thread.{IsThread, current_at, flags_at, handled_at, handled_of, items_at, owner_of, pair_at};
+ghost use Rattle.thread_exceptions.specs.Thread.{raised_address, raised_at, raised_exception, raised_of, raised_of_result, raised_parts};
+ghost use Rattle.thread_exceptions.specs.Thread.{raised_word_at, roots_of};
+ghost use Rattle.thread_exceptions.specs.Thread.{is_other_at, named, thread_of, thread_reads, value_address, value_at, value_by, value_of};
 ghost use Rattle.thread_exceptions.specs.Turns.{chain_of};
 
 use crate::discovery::{Met, read_closure};
+use crate::exception::is_exception;
 use crate::links::{LinkEnd, Links, Lost, lost_range, read_links};
 use crate::{ExceptionsError, Places, RaisedPlaces};
 use process_memory::{ProcessMemory, ReadFault, word_past};
@@ -20,7 +22,7 @@ const ITEM_LIMIT: usize = 4096;
 const OBJECT_LIMIT: usize = 1024;
 
 /// What is raised in a thread: C code has set it, and Python has not yet seen it.
-#[derive(Debug, Clone, Copy, PartialEq, Eq)]
+#[derive(Clone, Copy)]
 pub enum Raised {
     /// Nothing.
     Nothing,
@@ -33,16 +35,16 @@ pub enum Raised {
 }
 
 /// What an item names.
-#[derive(Debug, Clone, Copy, PartialEq, Eq)]
+#[derive(Clone, Copy)]
 pub enum Value {
-    /// The object at this address; none at 0.
+    /// The object at this address, which is not known to be no exception; none at 0.
     At(u64),
     /// Which one is not in memory.
     Unreadable(Lost),
 }
 
 /// Whose an item is.
-#[derive(Debug, Clone, Copy, PartialEq, Eq)]
+#[derive(Clone, Copy)]
 pub enum Owner {
     /// The thread's own.
     Thread,
@@ -51,7 +53,7 @@ pub enum Owner {
 }
 
 /// An item: what it names is handled, where it is an exception.
-#[derive(Debug, Clone, Copy, PartialEq, Eq)]
+#[derive(Clone, Copy)]
 pub struct Handled {
     /// Whose it is.
     pub owner: Owner,
@@ -60,7 +62,7 @@ pub struct Handled {
 }
 
 /// What a thread raises and handles.
-#[derive(Debug, Drop)]
+#[derive(Drop)]
 pub struct ThreadExceptions {
     pub raised: Raised,
     /// Its items, the newest one first.
@@ -84,7 +86,56 @@ fn owner_of(places: &Places, thread: u64, item: u64) -> Owner
     }
 }
 
+/// What is raised, by the address of an exception.
+fn raised_exception(addr: u64) -> Raised
+    ensures { raised_of result ≡ raised_exception addr }
+{
+    if addr == 0 {
+        return Raised::Nothing;
+    }
+    Raised::Exception { addr }
+}
+
+/// What is raised, by the addresses of a type and a value.
+fn raised_parts(class: u64, value: u64) -> Raised
+    ensures { raised_of result ≡ raised_parts class value }
+{
+    if class == 0 {
+        return Raised::Nothing;
+    }
+    Raised::Parts { class, value }
+}
+
+/// What a thread raises that names an exception. One read.
+fn read_current<P: ProcessMemory>(
+    process: &mut P,
+    at: u32,
+    thread: u64,
+) -> Result<Raised, ReadFault>
+    ensures { Reads read_fault 2 (P.seen process.old) (P.seen process.new)
+        (λ m. current_at at m thread) (raised_of_result result) }
+{
+    let addr = word_past(process, thread, at as u64)?;
+    Ok(raised_exception(addr))
+}
+
+/// What a thread raises that names a type and a value. At most 2 reads.
+fn read_pair<P: ProcessMemory>(
+    process: &mut P,
+    klass: u32,
+    value: u32,
+    thread: u64,
+) -> Result<Raised, ReadFault>
+    ensures { Reads read_fault 2 (P.seen process.old) (P.seen process.new)
+        (λ m. pair_at klass value m thread) (raised_of_result result) }
+{
+    let class = word_past(process, thread, klass as u64)?;
+    let named = word_past(process, thread, value as u64)?;
+    Ok(raised_parts(class, named))
+}
+
 /// What a thread raises, by what its record says. At most 2 reads.
+#[tactic(auto, unfolding(crate::specs::Thread::raised_word_at))]
 fn read_raised_word<P: ProcessMemory>(
     process: &mut P,
     places: RaisedPlaces,
@@ -94,21 +145,8 @@ fn read_raised_word<P: ProcessMemory>(
         (λ m. raised_word_at places m thread) (raised_of_result result) }
 {
     match places {
-        RaisedPlaces::Exception { at } => {
-            let addr = word_past(process, thread, at as u64)?;
-            if addr == 0 {
-                return Ok(Raised::Nothing);
-            }
-            Ok(Raised::Exception { addr })
-        }
-        RaisedPlaces::Parts { klass, value } => {
-            let class = word_past(process, thread, klass as u64)?;
-            let value = word_past(process, thread, value as u64)?;
-            if class == 0 {
-                return Ok(Raised::Nothing);
-            }
-            Ok(Raised::Parts { class, value })
-        }
+        RaisedPlaces::Exception { at } => read_current(process, at, thread),
+        RaisedPlaces::Parts { klass, value } => read_pair(process, klass, value, thread),
     }
 }
 
@@ -147,22 +185,72 @@ fn read_items<P: ProcessMemory>(
     }
 }
 
-/// What an item names. At most one read.
+/// The flags of an object's type. At most 2 reads.
+fn read_flags<P: ProcessMemory>(process: &mut P, places: &Places, at: u64) -> Result<u64, ReadFault>
+    ensures { Reads read_fault 2 (P.seen process.old) (P.seen process.new) (λ m. flags_at places.now m at) result }
+{
+    let class = word_past(process, at, places.klass as u64)?;
+    word_past(process, class, places.flags as u64)
+}
+
+/// Whether an object is known to be no exception. At most 2 reads.
+fn is_other<P: ProcessMemory>(
+    process: &mut P,
+    places: &Places,
+    at: u64,
+) -> Result<bool, ExceptionsError>
+    ensures { Reading 2 (P.seen process.old) (P.seen process.new)
+        (λ m. IfOk result (λ is. is ≡ is_other_at places.now m at)) }
+{
+    match read_flags(process, places, at) {
+        Ok(flags) => Ok(!is_exception(flags)),
+        Err(error) => {
+            lost_range(error)?;
+            Ok(false)
+        }
+    }
+}
+
+/// What an item names, by the address that it has.
+fn named(addr: u64, is_other: bool) -> Value
+    ensures { value_of result ≡ named addr is_other }
+{
+    if is_other {
+        Value::At(0)
+    } else {
+        Value::At(addr)
+    }
+}
+
+/// What an item names that has an address. At most 2 reads.
+fn read_named<P: ProcessMemory>(
+    process: &mut P,
+    places: &Places,
+    addr: u64,
+) -> Result<Value, ExceptionsError>
+    ensures { Reading 2 (P.seen process.old) (P.seen process.new)
+        (λ m. IfOk result (λ value. value_of value ≡ value_by places.now m (Ok addr))) }
+{
+    let is = is_other(process, places, addr)?;
+    Ok(named(addr, is))
+}
+
+/// What an item names. At most 3 reads.
 fn read_value<P: ProcessMemory>(
     process: &mut P,
     places: &Places,
     item: u64,
 ) -> Result<Value, ExceptionsError>
-    ensures { Reading 1 (P.seen process.old) (P.seen process.new)
+    ensures { Reading 3 (P.seen process.old) (P.seen process.new)
         (λ m. IfOk result (λ value. value_of value ≡ value_at places.now m item)) }
 {
     match word_past(process, item, places.value as u64) {
-        Ok(value) => Ok(Value::At(value)),
+        Ok(addr) => read_named(process, places, addr),
         Err(error) => Ok(Value::Unreadable(lost_range(error)?)),
     }
 }
 
-/// What each of some items of a thread says. At most one read each.
+/// What each of some items of a thread says. At most 3 reads each.
 fn read_handled<P: ProcessMemory>(
     alloc: Global,
     process: &mut P,
@@ -170,7 +258,7 @@ fn read_handled<P: ProcessMemory>(
     thread: u64,
     items: &[u64],
 ) -> Result<Vec<Handled>, ExceptionsError>
-    ensures { Reading (length items.now) (P.seen process.old) (P.seen process.new)
+    ensures { Reading (3 * length items.now) (P.seen process.old) (P.seen process.new)
         (λ m. IfOk result (λ handled. map (λ h. handled_of h) handled.items
         ≡ map (λ a. handled_at places.now m thread a) items.now)) }
 {
@@ -207,11 +295,7 @@ fn value_address(value: Value) -> u64
 
 /// The addresses that a thread raises and handles.
 #[tactic(auto, unfolding(crate::specs::Thread::roots_of))]
-fn roots_of(
-    alloc: Global,
-    raised: Raised,
-    handled: &[Handled],
-) -> Result<Vec<u64>, ExceptionsError>
+fn roots_of(alloc: Global, raised: Raised, handled: &[Handled]) -> Result<Vec<u64>, ExceptionsError>
     ensures { IfOk result (λ roots. roots.items ≡ roots_of (raised_of raised) (map (λ h. handled_of h) handled.now)) }
 {
     let mut roots = Vec::new(alloc);
@@ -236,7 +320,7 @@ pub fn read_thread<P: ProcessMemory>(
     thread: u64,
 ) -> Result<ThreadExceptions, ExceptionsError>
     requires sound { IsSound places.now }
-    ensures right { Reading thread_reads (P.seen process.old) (P.seen process.new)
+    ensures { Reading thread_reads (P.seen process.old) (P.seen process.new)
         (λ m. IfOk result (λ told. IsThread places.now m thread (thread_of told))) }
 {
     let raised = read_raised(process, places, thread)?;

@@ -1,4 +1,4 @@
-use Rattle.std.proofs.Common.{◌≡◌, ◌×◌, drop}
+use Rattle.std.proofs.Common.{◌≡◌, drop}
 use Rattle.thread_exceptions.specs.Discovery.{AreSame, gather}
 use Rattle.thread_exceptions.proofs.discovery.add_all.Given as goal
 

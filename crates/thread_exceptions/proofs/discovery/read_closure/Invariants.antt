@@ -1,4 +1,4 @@
-use Rattle.std.proofs.Common.{◌-◌, ◌×◌, length, map}
+use Rattle.std.proofs.Common.{◌-◌, length, map}
 use Rattle.thread_exceptions.specs.Discovery.{AreSame, met_of}
 use Rattle.thread_exceptions.specs.Exceptions.{what_at}
 use Rattle.thread_exceptions.proofs.Discoveries.{Discovering}
