@@ -1,6 +1,8 @@
 -- Discovery, one object after another.
 use Rattle.std.proofs.Common.{◌≡◌, ◌≢◌, ℕ, ◌+◌, ◌*◌, ◌-◌, ◌<◌, ◌≤◌, ◌⊎◌, List, [], ◌∷◌, ◌++◌, length, map, refl, sym, ◌∙◌, ap}
-use Rattle.std.proofs.Common.{arith, append_assoc, append-nil, length-append, take, get_or, inl, inr}
+use Rattle.std.proofs.Common.{arith, append_assoc, append-nil, length-append, take, get_or, inl, inr, Bool, true, false}
+use Rattle.std.specs.Prelude.{nat_le}
+use Rattle.std.proofs.lemmas.Bool.Decides.{nat_tests}
 use Rattle.std.specs.List.{concat}
 use Rattle.std.proofs.lemmas.Grind.{take_at_read}
 use Rattle.std.proofs.lemmas.List.{length-map, map-append, take-append-le, take_all}
@@ -30,6 +32,13 @@ found_push : (limit : ℕ) (roots : List ℕ) (all : List Met) (x : Met)
 found_push limit roots all x = ap (gather limit []) (leads_push roots all x)
     ∙ gather_append limit [] (roots ++ concat (map (λ y. met_leads y) all)) (met_leads x)
 
+split : (n k : ℕ) → k < n + 1 → (k < n) ⊎ (k ≡ n)
+split n k below = by (nat_le n k) refl
+  where
+    by : (b : Bool) → nat_le n k ≡ b → (k < n) ⊎ (k ≡ n)
+    by true e = let le : n ≤ k = grind (arith, nat_tests) in inr (omega (arith, le, below))
+    by false e = inl (grind (arith, nat_tests))
+
 -- some objects are met, and what these lead to is found
 pub record Discovering (what : Memory → ℕ → What) (limit : ℕ) (roots : List ℕ) (s0 s1 : Seen) (found : List ℕ)
     (all : List Met) : Type 0 where
@@ -52,15 +61,15 @@ discovering_init what limit roots found s e = record {
 }
 
 module _ {what : Memory → ℕ → What} {limit : ℕ} {roots : List ℕ} {s0 s1 : Seen} {found : List ℕ} {all : List Met} where
-  pub discovering_more : {s2 : Seen} (more : List ℕ) (a : ℕ) (w : What) → Discovering what limit roots s0 s1 found all
-      → length all < length found → a ≡ get_or found (length all) 0 → more ≡ gather limit found (leads w)
+  pub discovering_more : {s2 : Seen} (more : List ℕ) (a e0 : ℕ) (w : What) → Discovering what limit roots s0 s1 found all
+      → length all < length found → a ≡ get_or found (length all) e0 → more ≡ gather limit found (leads w)
       → Reading 263 s1 s2 (λ m. w ≡ what m a)
       → Discovering what limit roots s0 s2 more (all ++ record { addr = a; what = w } ∷ [])
-  discovering_more {s2 = s2} more a w d lt at e r = record {
+  discovering_more {s2 = s2} more a e0 w d lt at e r = record {
     within = rw e (grown.within d.within);
     fewer = omega (arith, lt, long, ap length is_more, length-append found grown.added);
     done = rw count (ap (take (length all + 1)) is_more ∙ take-append-le (length all + 1) found grown.added (omega (arith, lt))
-        ∙ (take_at_read found (length all) 0 lt).1 ∙ ap (λ t. t ++ get_or found (length all) 0 ∷ []) d.done
+        ∙ (take_at_read found (length all) e0 lt).1 ∙ ap (λ t. t ++ get_or found (length all) e0 ∷ []) d.done
         ∙ ap (λ y. addrs all ++ y ∷ []) (sym at) ∙ sym (map-append (λ x. addr_of x) all (one ∷ [])));
     is = e ∙ ap (λ f. gather limit f (leads w)) d.is ∙ sym (found_push limit roots all one);
     reached = reached;
@@ -87,13 +96,10 @@ module _ {what : Memory → ℕ → What} {limit : ℕ} {roots : List ℕ} {s0 s
       count = long
 
       reached : (k : ℕ) → k < length (all ++ one ∷ []) → k < length (found_by limit roots (take k (all ++ one ∷ [])))
-      reached k below = elim (split k (omega (arith, long, below))) [
+      reached k below = elim (split (length all) k (omega (arith, long, below))) [
         | inl less ↦ rw (take-append-le k all (one ∷ []) (omega (arith, less))) (d.reached k less)
         | inr same ↦ rw same (rw (take-append-le (length all) all (one ∷ []) (omega arith), take_all (length all) all (omega arith), ← d.is) lt)
       ]
-        where
-          split : (k : ℕ) → k < length all + 1 → (k < length all) ⊎ (k ≡ length all)
-          split k below = omega (arith, below)
 
   pub discovering_done : Discovering what limit roots s0 s1 found all → length found ≤ length all
       → Reading (263 * limit) s0 s1 (λ m. AreMet (what m) limit roots all)
@@ -114,15 +120,15 @@ same_length : (all : List read.Met) → length (map (λ x. met_of x) all) ≡ le
 same_length all = length-map all (λ x. met_of x)
 
 module _ {what : Memory → ℕ → What} {limit : ℕ} {roots : List ℕ} {s0 s1 : Seen} {found : List ℕ} (all : List read.Met) where
-  pub discovering_push : {s2 : Seen} (more : List ℕ) (longer : List read.Met) (a : ℕ) (w : read_what.What) (n : ℕ)
+  pub discovering_push : {s2 : Seen} (more : List ℕ) (longer : List read.Met) (a e0 : ℕ) (w : read_what.What) (n : ℕ)
       → Discovering what limit roots s0 s1 found (map (λ x. met_of x) all)
-      → length all < length found → n ≡ length all → a ≡ get_or found n 0 → more ≡ gather limit found (leads (what_of w))
+      → length all < length found → n ≡ length all → a ≡ get_or found n e0 → more ≡ gather limit found (leads (what_of w))
       → Reading 263 s1 s2 (λ m. what_of w ≡ what m a) → longer ≡ all ++ record { addr = a; what = w } ∷ []
       → Discovering what limit roots s0 s2 more (map (λ x. met_of x) longer)
-  discovering_push more longer a w n d lt count at e r is =
+  discovering_push more longer a e0 w n d lt count at e r is =
       rw (ap (map (λ x. met_of x)) is ∙ map-append (λ x. met_of x) all (record { addr = a; what = w } ∷ []))
-      (discovering_more more a (what_of w) d (rw (same_length all) lt)
-      (at ∙ ap (λ k. get_or found k 0) (count ∙ sym (same_length all))) e r)
+      (discovering_more more a e0 (what_of w) d (rw (same_length all) lt)
+      (at ∙ ap (λ k. get_or found k e0) (count ∙ sym (same_length all))) e r)
 
   pub discovering_end : Discovering what limit roots s0 s1 found (map (λ x. met_of x) all) → length found ≤ length all
       → Reading (263 * limit) s0 s1 (λ m. AreMet (what m) limit roots (map (λ x. met_of x) all))

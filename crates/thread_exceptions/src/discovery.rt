@@ -142,7 +142,8 @@ pub fn read_closure<P: ProcessMemory>(
     add_all(&mut found, limit, roots)?;
     let mut all: Vec<Met> = Vec::new(alloc);
     'all: while all.len() < found.addrs.len() {
-        let addr = found.addrs[all.len()];
+        let number = all.len();
+        let addr = found.addrs[number];
         let what = read_what(alloc, process, places, addr)?;
         add_leads(&mut found, limit, &what)?;
         all.push(Met { addr, what })?;

@@ -1,4 +1,4 @@
-use Rattle.std.proofs.Common.{◌<◌, ◌≡◌, ◌+◌, ◌∷◌, [], ◌∙◌, ap, arith, length, length-append, refl}
+use Rattle.std.proofs.Common.{◌<◌, ◌≡◌, ◌+◌, ◌∷◌, [], ◌∙◌, ap, arith, length, length-append}
 use Rattle.std.proofs.lemmas.Result.{err_from_is_err_and}
 use Rattle.process_memory.proofs.Reading.{reading_none}
 use Rattle.thread_exceptions.specs.Exceptions.{what_at}
@@ -24,9 +24,11 @@ all-smaller g c =
 
 pub all-preserved : goal.all-preserved
 all-preserved g c =
-    let lt : length c.all.all.items < length c.all.found.addrs.items = omega (arith, c.all.all.ok.0, c.all.found.addrs.ok.0) in
-    (c.in_ok-add_leads.ensures.same, discovering_push c.all.all.items _ _ _ _ _ c.all.invariant.1 lt (omega (arith, c.all.all.ok.0)) refl
-    c.in_ok-add_leads.ensures.added c.in_ok-what.ensures c.in_ok-push.ensures.items)
+    let lt : length c.all.all.items < length c.all.found.addrs.items = omega (arith, c.all.all.ok.0, c.all.found.addrs.ok.0) in (
+      c.in_ok-add_leads.ensures.same,
+      discovering_push c.all.all.items _ _ _ c.index-addr.result.now _ c.len-number.result c.all.invariant.1 lt (omega (arith, c.all.all.ok.0)) c.index-addr.ensures
+          c.in_ok-add_leads.ensures.added c.in_ok-what.ensures c.in_ok-push.ensures.items,
+    )
 
 pub returns-in_err-what : goal.returns-in_err-what
 returns-in_err-what g c =
