@@ -1,11 +1,11 @@
 //! What a task's coroutine awaits.
-ghost use Rattle.std.specs.Prelude.{◌≡◌, ◌≤◌, ◌+◌, ◌*◌, length};
+ghost use Rattle.std.specs.Prelude.{◌≡◌, ◌+◌, ◌*◌, length};
 ghost use Rattle.process_memory.specs.Seen.{Reads, items_of};
 ghost use Rattle.py_coroutines.specs.Places.{IsSound as IsSoundPlaces, IsSoundFamily};
 ghost use Rattle.py_fields.specs.Sound.{IsSound};
 ghost use Rattle.py_names.specs.NamesError.{names_fault};
-ghost use Rattle.py_tasks.specs.Chains.{IsFrame, awaits_result, awaits_at, chain_at, chain_result, frame_at, frame_by};
-ghost use Rattle.py_tasks.specs.Chains.{kind_at, member_at, members_of};
+ghost use Rattle.py_tasks.specs.Chains.{IsFrame, awaits_at, awaits_result, chain_at, chain_result, frame_by};
+ghost use Rattle.py_tasks.specs.Chains.{kind_at, known_kind_at, member_at, members_of};
 ghost use Rattle.task_sets.specs.Gathered.{gathered};
 
 use crate::fault::or_none;
@@ -30,6 +30,18 @@ fn read_own_kind<P: ProcessMemory>(
     Ok(kind)
 }
 
+/// The same; none where that is not in memory. At most one read.
+fn read_known_kind<P: ProcessMemory>(
+    process: &mut P,
+    places: &Places,
+    at: u64,
+) -> Result<Option<Kind>, NamesError>
+    ensures { Reads names_fault 1 (P.seen process.old) (P.seen process.new)
+        (λ m. known_kind_at places.now m at) result }
+{
+    or_none(read_own_kind(process, places, at))
+}
+
 /// A frame, where it was read; want of memory is handed on.
 fn frame_or_none(
     frame: Result<Option<CoroutineFrame>, StackError>,
@@ -39,7 +51,12 @@ fn frame_or_none(
     match frame {
         Ok(frame) => Ok(frame),
         Err(StackError::OutOfMemory) => Err(NamesError::OutOfMemory),
-        Err(_) => Ok(None),
+        Err(StackError::Unreadable { .. }) => Ok(None),
+        Err(StackError::BadValue { .. }) => Ok(None),
+        Err(StackError::LocalsLimit { .. }) => Ok(None),
+        Err(StackError::ThreadLimit) => Ok(None),
+        Err(StackError::FrameLimit) => Ok(None),
+        Err(StackError::ChainLimit) => Ok(None),
     }
 }
 
@@ -76,7 +93,7 @@ fn read_member<P: ProcessMemory>(
     ensures { Reads names_fault 10 (P.seen process.old) (P.seen process.new)
         (λ m. member_at layout.now places.now m address) result }
 {
-    let kind = or_none(read_own_kind(process, places, address))?;
+    let kind = read_known_kind(process, places, address)?;
     let frame = read_own_frame(alloc, process, layout, &places.family, kind, address)?;
     Ok(Member {
         address,
@@ -124,8 +141,8 @@ fn read_addresses<P: ProcessMemory>(
     }
 }
 
-/// What awaits what, from an address on, of which so many members are met at most, and what the frame of each shows. At
-/// most 17 reads for each, and 7 more.
+/// What awaits what, from an address on, of which so many members are met at most, the last one first, and what the frame
+/// of each shows. At most 17 reads for each, and 7 more.
 pub(crate) fn read_chain<P: ProcessMemory>(
     alloc: Global,
     process: &mut P,
@@ -140,7 +157,8 @@ pub(crate) fn read_chain<P: ProcessMemory>(
         (λ m. chain_at layout.now places.now m limit head) (chain_result result) }
 {
     let awaits = read_addresses(alloc, process, places, limit, head)?;
-    let members = read_members(alloc, process, layout, places, &awaits.members)?;
+    let mut members = read_members(alloc, process, layout, places, &awaits.members)?;
+    members.reverse();
     Ok(Chain {
         members,
         end: awaits.end,

@@ -1,6 +1,6 @@
 //! Where the parts of tasks stand, and which types they have.
 ghost use Rattle.std.specs.Prelude.{◌≡◌};
-ghost use Rattle.py_tasks.specs.Described.{name_of, task_places_of};
+ghost use Rattle.py_tasks.specs.Described.{name_of, places_with, task_places_of};
 
 use py_coroutines::Places;
 use py_records::{FutureRecord, KlassRecord, Records, TaskNameRecord, TaskRecord};

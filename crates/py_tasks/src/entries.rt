@@ -1,12 +1,12 @@
 //! The registered objects, each as a task or as what it is.
-ghost use Rattle.std.specs.Prelude.{◌≡◌, ◌≤◌, ◌+◌, ◌*◌, length};
+ghost use Rattle.std.specs.Prelude.{◌≡◌, ◌+◌, ◌*◌, ◌++◌, OnOk, length, option_to_list};
 ghost use Rattle.process_memory.specs.Seen.{Reads};
 ghost use Rattle.py_coroutines.specs.Places.{IsSound as IsSoundPlaces};
 ghost use Rattle.py_fields.specs.Sound.{IsSound};
 ghost use Rattle.py_names.specs.NamesError.{names_fault};
 ghost use Rattle.task_sets.specs.Gathered.{gathered};
-ghost use Rattle.py_tasks.specs.Entries.{IsLostEntry, entries_of, entries_result, entry_at, entry_result, found_at};
-ghost use Rattle.py_tasks.specs.Entries.{is_none, is_task_at, known_at, other_at, other_by};
+ghost use Rattle.py_tasks.specs.Entries.{IsLostEntry, entries_of, entries_result, entry_at, entry_result};
+ghost use Rattle.py_tasks.specs.Entries.{entry_shown_of, is_none, is_task_at, known_at, other_at, other_by, some_task_at};
 
 use crate::Entry;
 use crate::bases::leads_to;
@@ -48,12 +48,45 @@ fn is_none(class: &Option<Text>) -> bool
 
 /// An object that is no task, by its type; `None` is left out.
 fn other_by(address: u64, class: Option<Text>) -> Option<Entry>
-    ensures { result ≡ other_by address class }
+    ensures { entry_shown_of result ≡ other_by address class }
 {
     if is_none(&class) {
         return None;
     }
     Some(Entry::Other { address, class })
+}
+
+/// A registered object that is no task. At most 3 reads.
+fn read_other<P: ProcessMemory>(
+    alloc: Global,
+    process: &mut P,
+    layout: &Layout,
+    address: u64,
+) -> Result<Option<Entry>, NamesError>
+    requires sound { IsSound layout.now }
+    ensures { Reads names_fault 3 (P.seen process.old) (P.seen process.new)
+        (λ m. other_at layout.now m address) (entry_result result) }
+{
+    let class = read_class(alloc, process, layout, address)?;
+    Ok(other_by(address, class))
+}
+
+/// A registered object that is a task. At most 16503 reads, and 17 for each member of its chain.
+fn read_some_task<P: ProcessMemory>(
+    alloc: Global,
+    process: &mut P,
+    layout: &Layout,
+    described: &Described,
+    limit: usize,
+    address: u64,
+) -> Result<Option<Entry>, NamesError>
+    requires sound { IsSound layout.now }
+    requires places { IsSoundPlaces described.now.awaits }
+    ensures { Reads names_fault (16503 + 17 * limit) (P.seen process.old) (P.seen process.new)
+        (λ m. some_task_at layout.now described.now m limit address) (entry_result result) }
+{
+    let task = read_task(alloc, process, layout, described, limit, address)?;
+    Ok(Some(Entry::Task(task)))
 }
 
 /// What a registered object is, where that can be told. At most 16568 reads, and 17 for each member of its chain.
@@ -72,16 +105,14 @@ fn read_known<P: ProcessMemory>(
 {
     let is_task = read_is_task(process, layout, described, address)?;
     if is_task {
-        let task = read_task(alloc, process, layout, described, limit, address)?;
-        return Ok(Some(Entry::Task(task)));
+        return read_some_task(alloc, process, layout, described, limit, address);
     }
-    let class = read_class(alloc, process, layout, address)?;
-    Ok(other_by(address, class))
+    read_other(alloc, process, layout, address)
 }
 
 /// One of which something is not told; want of memory is handed on.
 fn lost_entry(address: u64, error: NamesError) -> Result<Option<Entry>, NamesError>
-    ensures { IsLostEntry address (names_fault error) result }
+    ensures { IsLostEntry address (names_fault error) (entry_result result) }
 {
     let fault = fault_by(error)?;
     Ok(Some(Entry::Lost { address, fault }))

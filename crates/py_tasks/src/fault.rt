@@ -1,6 +1,7 @@
 //! Why tasks are not told.
 ghost use Rattle.std.specs.Prelude.{◌≡◌};
-ghost use Rattle.py_tasks.specs.Faults.{IsLostBy};
+ghost use Rattle.py_names.specs.NamesError.{names_fault};
+ghost use Rattle.py_tasks.specs.Faults.{IsLostBy, IsOrNone};
 
 use py_builtins::ObjectError;
 use py_names::NamesError;
@@ -28,7 +29,14 @@ pub(crate) fn fault_by(error: NamesError) -> Result<TasksFault, NamesError>
         NamesError::Object(ObjectError::Unreadable { addr, len }) => {
             Ok(TasksFault::Unreadable { addr, len })
         }
-        NamesError::Object(_) => Ok(TasksFault::Malformed),
+        NamesError::Object(ObjectError::NoText) => Ok(TasksFault::Malformed),
+        NamesError::Object(ObjectError::TooLong { .. }) => Ok(TasksFault::Malformed),
+        NamesError::Object(ObjectError::BadDict) => Ok(TasksFault::Malformed),
+        NamesError::Object(ObjectError::BadType) => Ok(TasksFault::Malformed),
+        NamesError::Object(ObjectError::Visits) => Ok(TasksFault::Malformed),
+        NamesError::Object(ObjectError::Depth) => Ok(TasksFault::Malformed),
+        NamesError::Object(ObjectError::BadCount { .. }) => Ok(TasksFault::Malformed),
+        NamesError::Object(ObjectError::BadBool { .. }) => Ok(TasksFault::Malformed),
     }
 }
 
@@ -40,9 +48,9 @@ pub(crate) fn or_none<T: Drop>(
 {
     match found {
         Ok(value) => Ok(value),
-        Err(error) => {
-            fault_by(error)?;
-            Ok(None)
-        }
+        Err(error) => match fault_by(error) {
+            Ok(_) => Ok(None),
+            Err(error) => Err(error),
+        },
     }
 }

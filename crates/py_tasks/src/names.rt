@@ -3,7 +3,8 @@ ghost use Rattle.std.specs.Prelude.{◌≡◌, IfOk};
 ghost use Rattle.process_memory.specs.Seen.{Reads};
 ghost use Rattle.py_fields.specs.Sound.{IsSound};
 ghost use Rattle.py_names.specs.NamesError.{names_fault};
-ghost use Rattle.py_tasks.specs.Names.{class_at, class_name, class_text_at, name_at, number_at, own_name_at, text_name_at, typed_name_at};
+ghost use Rattle.py_tasks.specs.Names.{class_at, class_name, class_text_at, name_at, number_at, number_or, own_name_at};
+ghost use Rattle.py_tasks.specs.Names.{text_name_at, typed_name_at};
 
 use crate::fault::or_none;
 use crate::{TaskName, TaskPlaces};
@@ -17,9 +18,9 @@ use std::str;
 
 /// The flags of types that are `int` or `str`, or derive from it: CPython's `Py_TPFLAGS_LONG_SUBCLASS` and
 /// `Py_TPFLAGS_UNICODE_SUBCLASS`.
-const PY_TPFLAGS_LONG_SUBCLASS: u64 = 1 << 24;
+const PY_TPFLAGS_LONG_SUBCLASS: u64 = 16_777_216;
 
-const PY_TPFLAGS_UNICODE_SUBCLASS: u64 = 1 << 28;
+const PY_TPFLAGS_UNICODE_SUBCLASS: u64 = 268_435_456;
 
 /// How many bytes of a type's name are read.
 const NAME_LIMIT: u64 = 128;
@@ -83,6 +84,17 @@ fn read_text<P: ProcessMemory>(
     Ok(Some(TaskName::Text(text)))
 }
 
+/// A number as a name; none of one that is too long.
+fn number_or(number: u64, is_long: bool) -> Option<TaskName>
+    ensures { result ≡ number_or is_long number }
+{
+    if is_long {
+        None
+    } else {
+        Some(TaskName::Number(number))
+    }
+}
+
 /// A name that is a number; none of one that is too long. At most 2 reads.
 fn read_number<P: ProcessMemory>(
     process: &mut P,
@@ -94,13 +106,11 @@ fn read_number<P: ProcessMemory>(
         (λ m. number_at layout.now m at) result }
 {
     let (number, is_long) = copy_long(process, layout, at)?;
-    if is_long {
-        return Ok(None);
-    }
-    Ok(Some(TaskName::Number(number)))
+    Ok(number_or(number.cast_unsigned(), is_long))
 }
 
 /// A name by the flags of its type. At most 2 reads.
+#[tactic(auto, unfolding(crate::specs::Names::typed_name_at))]
 fn read_typed<P: ProcessMemory>(
     alloc: Global,
     process: &mut P,
@@ -112,10 +122,10 @@ fn read_typed<P: ProcessMemory>(
     ensures { Reads names_fault 2 (P.seen process.old) (P.seen process.new)
         (λ m. typed_name_at layout.now m flags at) result }
 {
-    if flags & PY_TPFLAGS_UNICODE_SUBCLASS != 0 {
+    if flags / PY_TPFLAGS_UNICODE_SUBCLASS % 2 == 1 {
         return read_text(alloc, process, layout, at);
     }
-    if flags & PY_TPFLAGS_LONG_SUBCLASS != 0 {
+    if flags / PY_TPFLAGS_LONG_SUBCLASS % 2 == 1 {
         return read_number(process, layout, at);
     }
     Ok(None)

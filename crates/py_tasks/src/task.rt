@@ -1,6 +1,6 @@
 //! What is told of tasks.
 ghost use Rattle.std.specs.Prelude.{◌≡◌};
-ghost use Rattle.py_tasks.specs.Shown.{chain_shown, condition_of, is_done, is_settled, task_shown, waits_by};
+ghost use Rattle.py_tasks.specs.Shown.{condition_of, ended_by, is_settled, stopped_by, task_shown, waits_by};
 
 use crate::TasksFault;
 use coroutine_frames::CoroutineFrame;
@@ -23,7 +23,7 @@ pub enum TaskName {
     /// A text.
     Text(Text),
     /// The number of a task that was given no name, from 3.12 on.
-    Number(i64),
+    Number(u64),
 }
 
 /// What a task waits for.
@@ -49,6 +49,7 @@ pub struct Member {
 /// What awaits what, from a task's coroutine on, and how that ends.
 #[derive(Debug, Drop)]
 pub struct Chain {
+    /// The members, the last one first: each is awaited by the one behind it.
     pub members: Vec<Member>,
     pub end: AwaitEnd,
 }
@@ -113,7 +114,9 @@ fn is_settled(state: Option<TaskState>) -> bool
     match state {
         Some(TaskState::Cancelled) => true,
         Some(TaskState::Finished) => true,
-        _ => false,
+        Some(TaskState::Pending) => false,
+        Some(TaskState::Other(_)) => false,
+        None => false,
     }
 }
 
@@ -133,16 +136,41 @@ fn waits_by(waiter: &Option<Waiter>) -> Condition
     }
 }
 
+/// What a pending task does whose chain ends by itself.
+fn stopped_by(stop: Stop, waiter: &Option<Waiter>) -> Condition
+    ensures { result ≡ stopped_by stop waiter.now }
+{
+    match stop {
+        Stop::Running => Condition::Running,
+        Stop::Created => Condition::NotStarted,
+        Stop::Future { .. }
+        | Stop::Yielding
+        | Stop::Finished
+        | Stop::NoTop
+        | Stop::Other { .. }
+        | Stop::Unreadable { .. } => waits_by(waiter),
+    }
+}
+
+/// What a pending task does, by how its chain ends and what it waits for.
+fn ended_by(end: AwaitEnd, waiter: &Option<Waiter>) -> Condition
+    ensures { result ≡ ended_by end waiter.now }
+{
+    match end {
+        AwaitEnd::Stops(stop) => stopped_by(stop, waiter),
+        AwaitEnd::Cycle { .. } => waits_by(waiter),
+        AwaitEnd::Cut { .. } => waits_by(waiter),
+    }
+}
+
 /// What a task does, by its state, how its chain ends and what it waits for.
 pub fn condition_of(task: &Task) -> Condition
     ensures { result ≡ condition_of (task_shown task.now) }
 {
     match task.state {
-        TaskState::Pending => match task.chain.end {
-            AwaitEnd::Stops(Stop::Running) => Condition::Running,
-            AwaitEnd::Stops(Stop::Created) => Condition::NotStarted,
-            _ => waits_by(&task.waiter),
-        },
-        _ => Condition::Done,
+        TaskState::Pending => ended_by(task.chain.end, &task.waiter),
+        TaskState::Cancelled => Condition::Done,
+        TaskState::Finished => Condition::Done,
+        TaskState::Other(_) => Condition::Done,
     }
 }

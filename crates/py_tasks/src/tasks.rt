@@ -227,7 +227,7 @@ fn read_all<P: ProcessMemory>(
 
 /// None that are told; want of memory is handed on.
 fn lost_tasks(error: NamesError) -> Result<TasksOf, NamesError>
-    ensures { IsLostTasks (names_fault error) result }
+    ensures { IsLostTasks (names_fault error) (tasks_result result) }
 {
     let fault = fault_by(error)?;
     Ok(TasksOf::Lost(fault))

@@ -4,8 +4,8 @@ ghost use Rattle.process_memory.specs.Seen.{Reads};
 ghost use Rattle.py_coroutines.specs.Places.{IsSound as IsSoundPlaces};
 ghost use Rattle.py_fields.specs.Sound.{IsSound};
 ghost use Rattle.py_names.specs.NamesError.{names_fault};
-ghost use Rattle.py_tasks.specs.Described.{IsDescribed};
-ghost use Rattle.py_tasks.specs.Told.{is_running, loop_thread_at, task_at, task_result, thread_at, thread_number_at};
+ghost use Rattle.py_tasks.specs.Told.{ends_running, is_running, loop_thread_at, stops_running, task_at, task_result};
+ghost use Rattle.py_tasks.specs.Told.{thread_at, thread_number_at};
 
 use crate::TaskState;
 use crate::chain::read_chain;
@@ -58,13 +58,41 @@ fn read_loop_thread<P: ProcessMemory>(
     read_id(process, layout, number)
 }
 
+/// Whether a chain ends at a coroutine that runs.
+fn stops_running(stop: Stop) -> bool
+    ensures { result ≡ stops_running stop }
+{
+    match stop {
+        Stop::Running => true,
+        Stop::Created
+        | Stop::Future { .. }
+        | Stop::Yielding
+        | Stop::Finished
+        | Stop::NoTop
+        | Stop::Other { .. }
+        | Stop::Unreadable { .. } => false,
+    }
+}
+
+fn ends_running(end: AwaitEnd) -> bool
+    ensures { result ≡ ends_running end }
+{
+    match end {
+        AwaitEnd::Stops(stop) => stops_running(stop),
+        AwaitEnd::Cycle { .. } => false,
+        AwaitEnd::Cut { .. } => false,
+    }
+}
+
 /// Whether a task runs, by its state and how its chain ends.
 fn is_running(state: TaskState, end: AwaitEnd) -> bool
     ensures { result ≡ is_running state end }
 {
-    match (state, end) {
-        (TaskState::Pending, AwaitEnd::Stops(Stop::Running)) => true,
-        _ => false,
+    match state {
+        TaskState::Pending => ends_running(end),
+        TaskState::Cancelled => false,
+        TaskState::Finished => false,
+        TaskState::Other(_) => false,
     }
 }
 

@@ -3,7 +3,7 @@ ghost use Rattle.std.specs.Prelude.{◌≡◌};
 ghost use Rattle.process_memory.specs.Seen.{Reads};
 ghost use Rattle.py_fields.specs.Sound.{IsSound};
 ghost use Rattle.py_names.specs.NamesError.{names_fault};
-ghost use Rattle.py_tasks.specs.Waiters.{future_state_at, state_if, waiter_at, waiter_state_at};
+ghost use Rattle.py_tasks.specs.Waiters.{future_state_at, known_state_at, some_waiter_at, state_if, waiter_at};
 
 use crate::bases::leads_to;
 use crate::fault::or_none;
@@ -51,7 +51,44 @@ fn read_future<P: ProcessMemory>(
     state_if(process, places, is_future, at)
 }
 
+/// The same; none where something of that is not in memory. At most 66 reads.
+fn read_known_state<P: ProcessMemory>(
+    process: &mut P,
+    layout: &Layout,
+    places: &TaskPlaces,
+    types: TaskTypes,
+    at: u64,
+) -> Result<Option<TaskState>, NamesError>
+    ensures { Reads names_fault 66 (P.seen process.old) (P.seen process.new)
+        (λ m. known_state_at layout.now places.now types m at) result }
+{
+    or_none(read_future(process, layout, places, types, at))
+}
+
+/// The object at an address, for which a task waits. At most 69 reads.
+fn read_some<P: ProcessMemory>(
+    alloc: Global,
+    process: &mut P,
+    layout: &Layout,
+    places: &TaskPlaces,
+    types: TaskTypes,
+    address: u64,
+) -> Result<Option<Waiter>, NamesError>
+    requires sound { IsSound layout.now }
+    ensures { Reads names_fault 69 (P.seen process.old) (P.seen process.new)
+        (λ m. some_waiter_at layout.now places.now types m address) result }
+{
+    let class = read_class(alloc, process, layout, address)?;
+    let state = read_known_state(process, layout, places, types, address)?;
+    Ok(Some(Waiter {
+        address,
+        class,
+        state,
+    }))
+}
+
 /// What a task waits for that names its waiter; 0 is none. At most 69 reads.
+#[tactic(auto, unfolding(crate::specs::Waiters::waiter_at))]
 pub(crate) fn read_waiter<P: ProcessMemory>(
     alloc: Global,
     process: &mut P,
@@ -67,11 +104,5 @@ pub(crate) fn read_waiter<P: ProcessMemory>(
     if address == 0 {
         return Ok(None);
     }
-    let class = read_class(alloc, process, layout, address)?;
-    let state = or_none(read_future(process, layout, places, types, address))?;
-    Ok(Some(Waiter {
-        address,
-        class,
-        state,
-    }))
+    read_some(alloc, process, layout, places, types, address)
 }

@@ -27,8 +27,8 @@ data_at l p m (Some a) = attribute_at l p m (codes "data") a
 -- the objects of a `WeakSet`, where there is one
 unfoldable pub weak_at : Layout → RootPlaces → Memory → Option ℕ → Found (List ℕ)
 weak_at l p m root = do
-  data ← data_at l p m root
-  members_at p Weak m data
+  set ← data_at l p m root
+  members_at p Weak m set
 
 abbrev pub value_of : Attribute → ℕ
 value_of a = a.value

@@ -2,6 +2,7 @@
 ghost use Rattle.std.specs.Prelude.{◌≡◌, ◌*◌, length};
 ghost use Rattle.process_memory.specs.Seen.{Reads, items_of};
 ghost use Rattle.py_fields.specs.Sound.{IsSound};
+ghost use Rattle.py_builtins.specs.Consulted.{Consults};
 ghost use Rattle.py_names.specs.NamesError.{names_fault};
 ghost use Rattle.task_sets.specs.Gathered.{gathered};
 ghost use Rattle.task_sets.specs.Named.{attribute_at, first_of, named_by, value_if_named};
@@ -28,7 +29,7 @@ fn value_if_named<P: ProcessMemory>(
     attribute: Attribute,
 ) -> Result<Option<u64>, NamesError>
     requires sound { IsSound layout.now }
-    ensures { Reads names_fault 2 (P.seen process.old) (P.seen process.new)
+    ensures { Consults layout.now names_fault 2 (P.seen process.old) (P.seen process.new)
         (λ m. value_if_named layout.now m name.now attribute) result }
 {
     let text = copy_string(alloc, process, layout, attribute.name)?;

@@ -130,9 +130,9 @@ fn read_object<P: ProcessMemory>(
     ensures { Reads names_fault 3 (P.seen process.old) (P.seen process.new)
         (λ m. object_at places.now kind m table number) result }
 {
-    let entry = u128::from(table) + u128::from(number) * u128::from(places.step);
-    let key = word_wide(process, entry + u128::from(places.key))?;
-    let hash = word_wide(process, entry + u128::from(places.hash))?;
+    let entry = table as u128 + number as u128 * places.step as u128;
+    let key = word_wide(process, entry + places.key as u128)?;
+    let hash = word_wide(process, entry + places.hash as u128)?;
     let member = member_of(key, hash);
     read_led(process, places, kind, member)
 }
