@@ -107,11 +107,14 @@ abbrev pub by_size : Layout → Records → Memory → TaskPlaces → RootPlaces
 by_size l records m p r modules roots task size =
     if nat_eq size p.size then typed_at l records m p r modules roots task else Ok (TasksShown.Resized size)
 
-abbrev pub by_task : Layout → Records → Memory → TaskPlaces → RootPlaces → ℕ → Roots → Option ℕ → Found TasksShown
-by_task l records m p r modules roots None = typed_at l records m p r modules roots 0
-by_task l records m p r modules roots (Some task) = do
+unfoldable pub checked_at : Layout → Records → Memory → TaskPlaces → RootPlaces → ℕ → Roots → ℕ → Found TasksShown
+checked_at l records m p r modules roots task = do
   size ← word_at m (task + p.basic_size)
   by_size l records m p r modules roots task size
+
+abbrev pub by_task : Layout → Records → Memory → TaskPlaces → RootPlaces → ℕ → Roots → Option ℕ → Found TasksShown
+by_task l records m p r modules roots None = typed_at l records m p r modules roots 0
+by_task l records m p r modules roots (Some task) = checked_at l records m p r modules roots task
 
 -- the module's type of tasks has to have the size that the records tell
 unfoldable pub sized_at : Layout → Records → Memory → TaskPlaces → RootPlaces → ℕ → Roots → Found TasksShown

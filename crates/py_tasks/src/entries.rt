@@ -114,8 +114,10 @@ fn read_known<P: ProcessMemory>(
 fn lost_entry(address: u64, error: NamesError) -> Result<Option<Entry>, NamesError>
     ensures { IsLostEntry address (names_fault error) (entry_result result) }
 {
-    let fault = fault_by(error)?;
-    Ok(Some(Entry::Lost { address, fault }))
+    match fault_by(error) {
+        Ok(fault) => Ok(Some(Entry::Lost { address, fault })),
+        Err(error) => Err(error),
+    }
 }
 
 /// What a registered object is. At most 16568 reads, and 17 for each member of its chain.

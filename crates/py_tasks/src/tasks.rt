@@ -1,11 +1,14 @@
 //! The tasks of an interpreter.
-ghost use Rattle.std.specs.Prelude.{◌≡◌, ◌≤◌, ◌*◌, ◌^◌};
+ghost use Rattle.std.specs.Prelude.{◌≡◌, ◌≤◌, ◌*◌, ◌^◌, length};
 ghost use Rattle.process_memory.specs.Seen.{Reads};
 ghost use Rattle.py_coroutines.specs.Places.{IsSound as IsSoundPlaces};
 ghost use Rattle.py_fields.specs.Sound.{IsSound};
 ghost use Rattle.py_names.specs.NamesError.{names_fault};
-ghost use Rattle.py_tasks.specs.Tasks.{IsLostTasks, all_at, by_roots_at, chain_limit, described_at, few_at, listed_at};
-ghost use Rattle.py_tasks.specs.Tasks.{sized_at, tasks_at, tasks_result, typed_at};
+ghost use Rattle.py_tasks.specs.Described.{task_places_of};
+ghost use Rattle.py_tasks.specs.Tasks.{IsLostTasks, all_at, by_described, by_roots_at, chain_limit, checked_at};
+ghost use Rattle.py_tasks.specs.Tasks.{described_at, few_at, listed_at};
+ghost use Rattle.task_sets.specs.Places.{places_of};
+ghost use Rattle.py_tasks.specs.Tasks.{read_at, sized_at, tasks_at, tasks_result, typed_at};
 
 use crate::described::{Described, task_places_of};
 use crate::entries::read_entries;
@@ -42,7 +45,27 @@ fn chain_limit(count: usize) -> usize
     MEMBERS_LIMIT / count
 }
 
-/// What some registered objects are, where these are few enough. At most 1103626240 reads.
+/// What some registered objects are. At most 1103626240 reads.
+fn read_within<P: ProcessMemory>(
+    alloc: Global,
+    process: &mut P,
+    layout: &Layout,
+    described: &Described,
+    addresses: &[u64],
+) -> Result<TasksOf, NamesError>
+    requires sound { IsSound layout.now }
+    requires places { IsSoundPlaces described.now.awaits }
+    requires few { length addresses.now ≤ 65536 }
+    ensures { Reads names_fault 1103626240 (P.seen process.old) (P.seen process.new)
+        (λ m. read_at layout.now described.now m addresses.now) (tasks_result result) }
+{
+    let limit = chain_limit(addresses.len());
+    let entries = read_entries(alloc, process, layout, described, limit, addresses)?;
+    Ok(TasksOf::Read(entries))
+}
+
+/// The same, where these are few enough. At most 1103626240 reads.
+#[tactic(auto, unfolding(crate::specs::Tasks::few_at))]
 fn read_few<P: ProcessMemory>(
     alloc: Global,
     process: &mut P,
@@ -58,9 +81,7 @@ fn read_few<P: ProcessMemory>(
     if addresses.len() > TASK_LIMIT {
         return Ok(TasksOf::Lost(TasksFault::TooMany));
     }
-    let limit = chain_limit(addresses.len());
-    let entries = read_entries(alloc, process, layout, described, limit, addresses)?;
-    Ok(TasksOf::Read(entries))
+    read_within(alloc, process, layout, described, addresses)
 }
 
 /// The tasks of an interpreter, by what its module has and where their parts stand. At most 1113227291 reads.
@@ -147,7 +168,33 @@ fn read_typed<P: ProcessMemory>(
     )
 }
 
-/// The same, where the module's type of tasks has the size that the records tell. At most 1114275908 reads.
+/// The same, where the type at an address has the size that the records tell. At most 1114275908 reads.
+fn read_checked<P: ProcessMemory>(
+    alloc: Global,
+    process: &mut P,
+    layout: &Layout,
+    records: &Records,
+    places: &TaskPlaces,
+    root_places: &RootPlaces,
+    modules: u64,
+    roots: &Roots,
+    task: u64,
+) -> Result<TasksOf, NamesError>
+    requires sound { IsSound layout.now }
+    ensures { Reads names_fault 1114275908 (P.seen process.old) (P.seen process.new)
+        (λ m. checked_at layout.now records.now m places.now root_places.now modules roots.now task)
+        (tasks_result result) }
+{
+    let size = word_past(process, task, places.basic_size as u64)?;
+    if size == places.size as u64 {
+        return read_typed(
+            alloc, process, layout, records, places, root_places, modules, roots, task,
+        );
+    }
+    Ok(TasksOf::Resized { size })
+}
+
+/// The same, by the module's type of tasks. At most 1114275908 reads.
 fn read_sized<P: ProcessMemory>(
     alloc: Global,
     process: &mut P,
@@ -163,21 +210,49 @@ fn read_sized<P: ProcessMemory>(
         (λ m. sized_at layout.now records.now m places.now root_places.now modules roots.now)
         (tasks_result result) }
 {
-    let Some(task) = roots.task else {
-        return read_typed(
+    match roots.task {
+        None => read_typed(
             alloc, process, layout, records, places, root_places, modules, roots, 0,
-        );
-    };
-    let size = word_past(process, task, places.basic_size as u64)?;
-    if size != u64::from(places.size) {
-        return Ok(TasksOf::Resized { size });
+        ),
+        Some(task) => read_checked(
+            alloc, process, layout, records, places, root_places, modules, roots, task,
+        ),
     }
-    read_typed(
-        alloc, process, layout, records, places, root_places, modules, roots, task,
-    )
 }
 
 /// The same, where the parts of tasks are described. At most 1114275908 reads.
+fn read_by_places<P: ProcessMemory>(
+    alloc: Global,
+    process: &mut P,
+    layout: &Layout,
+    records: &Records,
+    modules: u64,
+    roots: &Roots,
+) -> Result<TasksOf, NamesError>
+    requires sound { IsSound layout.now }
+    ensures { Reads names_fault 1114275908 (P.seen process.old) (P.seen process.new)
+        (λ m. by_described layout.now records.now m modules roots.now (task_places_of records.now)
+        (places_of layout.now records.now)) (tasks_result result) }
+{
+    let Some(places) = task_places_of(records) else {
+        return Ok(TasksOf::NotDescribed);
+    };
+    let Some(root_places) = places_of(layout, records) else {
+        return Ok(TasksOf::NotDescribed);
+    };
+    read_sized(
+        alloc,
+        process,
+        layout,
+        records,
+        &places,
+        &root_places,
+        modules,
+        roots,
+    )
+}
+
+/// The same, by what the module `asyncio.tasks` has, if there is one. At most 1114275908 reads.
 fn read_by_roots<P: ProcessMemory>(
     alloc: Global,
     process: &mut P,
@@ -190,21 +265,9 @@ fn read_by_roots<P: ProcessMemory>(
     ensures { Reads names_fault 1114275908 (P.seen process.old) (P.seen process.new)
         (λ m. by_roots_at layout.now records.now m modules found) (tasks_result result) }
 {
-    let Some(roots) = found else {
-        return Ok(TasksOf::Without);
-    };
-    match (task_places_of(records), places_of(layout, records)) {
-        (Some(places), Some(root_places)) => read_sized(
-            alloc,
-            process,
-            layout,
-            records,
-            &places,
-            &root_places,
-            modules,
-            &roots,
-        ),
-        _ => Ok(TasksOf::NotDescribed),
+    match found {
+        None => Ok(TasksOf::Without),
+        Some(roots) => read_by_places(alloc, process, layout, records, modules, &roots),
     }
 }
 
@@ -229,8 +292,10 @@ fn read_all<P: ProcessMemory>(
 fn lost_tasks(error: NamesError) -> Result<TasksOf, NamesError>
     ensures { IsLostTasks (names_fault error) (tasks_result result) }
 {
-    let fault = fault_by(error)?;
-    Ok(TasksOf::Lost(fault))
+    match fault_by(error) {
+        Ok(fault) => Ok(TasksOf::Lost(fault)),
+        Err(error) => Err(error),
+    }
 }
 
 /// The tasks of the interpreter at an address.

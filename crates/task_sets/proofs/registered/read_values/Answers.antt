@@ -1,9 +1,9 @@
-use Rattle.std.proofs.Common.{◌+◌, ◌*◌, ap, arith, refl, sym}
+use Rattle.std.proofs.Common.{◌∙◌, ◌+◌, ◌*◌, ap, map, arith, refl, sym}
 use Rattle.std.proofs.lemmas.Result.{err_from_is_err_and}
 use Rattle.process_memory.proofs.Reading.{reading_short, reads_end, reads_halt, reads_known, reads_next, reads_within}
 use Rattle.py_builtins.proofs.Consulted.{consulting_short, fields_short}
 use Rattle.py_names.specs.NamesError.{names_fault}
-use Rattle.task_sets.specs.Registered.{values_at}
+use Rattle.task_sets.specs.Registered.{value_of, values_at}
 use Rattle.std.specs.Prelude.{Some}
 use Rattle.task_sets.proofs.registered.read_values.Goals as goal
 
@@ -28,4 +28,4 @@ pub returns-in_ok-values-in-Some : goal.returns-in_ok-values-in-Some
 unfolding values_at
 returns-in_ok-values-in-Some g c =
     rw c.in-Some.is (reads_next {k = 0} 131075 _ (consulting_short c.in_ok-told-in-Some.ensures)
-    (reads_end 0 (sym c.in_ok-values-in-Some.ensures)) (omega arith))
+    (reads_end 0 (sym (c.in_ok-values-in-Some.ensures ∙ ap (λ xs. map value_of xs) c.deref.ensures.value))) (omega arith))

@@ -20,4 +20,4 @@ returns-in_err-hash g c =
 
 pub returns : goal.returns
 unfolding object_at
-returns g c = (reads_next 3 _ (reading_short c.in_ok-key.ensures.answer) (reads_next 2 _ (reading_short c.in_ok-hash.ensures.answer) (rw c.member_of.ensures at c.read_led.ensures) (omega arith)) (omega arith))
+returns g c = (reads_next 3 _ (reading_short c.in_ok-key.ensures.answer) (reads_next 2 _ (reading_short c.in_ok-hash.ensures.answer) (rw c.member_of-member.ensures at c.read_led.ensures) (omega arith)) (omega arith))
