@@ -1,0 +1,4 @@
+pub mod Few
+pub mod Gathering
+pub mod Onces
+pub mod SetSteps

@@ -1,0 +1,15 @@
+use Rattle.std.proofs.Common.{◌+◌, ◌*◌, ap, arith, refl, sym}
+use Rattle.std.proofs.lemmas.Result.{err_from_is_err_and}
+use Rattle.process_memory.proofs.Reading.{reading_short, reads_end, reads_halt, reads_known, reads_next, reads_within}
+use Rattle.py_builtins.proofs.Consulted.{consulting_short, fields_short}
+use Rattle.py_names.specs.NamesError.{names_fault}
+use Rattle.task_sets.specs.Registered.{members_at}
+use Rattle.task_sets.proofs.registered.read_members.Goals as goal
+
+pub returns-in-None : goal.returns-in-None
+unfolding members_at
+returns-in-None g c = rw c.in-None.is (reads_end 3145730 (sym c.new.ensures.items))
+
+pub returns-in-Some : goal.returns-in-Some
+unfolding members_at
+returns-in-Some g c = rw c.in-Some.is c.read_set.ensures

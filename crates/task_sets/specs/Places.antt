@@ -1,0 +1,55 @@
+-- Where the parts of sets, weak references and instances stand, by a layout and the records of its version.
+use Rattle.std.specs.Prelude.{Option, Some, None, is_some, if◌then◌else◌}
+use Rattle.py_fields.specs.declared.layout.Layout.{Layout}
+use Rattle.py_records.specs.declared.records.Records.{Records}
+use Rattle.py_records.specs.declared.types.TypeRecords.{TypeRecords}
+use Rattle.py_records.specs.declared.types.KlassRecord.{KlassRecord}
+use Rattle.py_records.specs.declared.types.HeapTypeRecord.{HeapTypeRecord}
+use Rattle.py_records.specs.declared.containers.SetRecord.{SetRecord}
+use Rattle.py_records.specs.declared.containers.SetEntryRecord.{SetEntryRecord}
+use Rattle.py_records.specs.declared.callables.WeakrefRecord.{WeakrefRecord}
+use Rattle.instance_dicts.specs.declared.forms.DictForm.{DictForm}
+use Rattle.instance_dicts.specs.declared.forms.DictForm.TheVariants.{Pointer, ValuesAndDict, OneWord, Embedded}
+use Rattle.instance_dicts.specs.declared.forms.InstanceFields.{InstanceFields}
+use Rattle.task_sets.specs.declared.places.RootPlaces.{RootPlaces}
+use Rattle.task_sets.specs.declared.places.SetPlaces.{SetPlaces}
+
+-- how instances have their dicts: each form has a group of its own, and the first has none
+abbrev pub form_of : TypeRecords → DictForm
+form_of t =
+    if is_some t.instance_inline then Embedded
+    else if is_some t.instance_tagged then OneWord
+    else if is_some t.instance_split then ValuesAndDict
+    else Pointer
+
+abbrev pub instance_of : Layout → KlassRecord → HeapTypeRecord → InstanceFields
+instance_of l k h = record {
+  basic_size = k.basicsize;
+  item_size = k.itemsize;
+  cached_keys = h.cached_keys;
+  count = l.list.count;
+}
+
+abbrev pub sets_of : SetRecord → SetEntryRecord → WeakrefRecord → SetPlaces
+sets_of s e w = record {
+  mask = s.mask;
+  table = s.table;
+  step = e.size;
+  key = e.key;
+  hash = e.hash;
+  referent = w.object;
+}
+
+abbrev pub sets_by : Option SetRecord → Option SetEntryRecord → Option WeakrefRecord → Option SetPlaces
+sets_by (Some s) (Some e) (Some w) = Some (sets_of s e w)
+sets_by _ _ _ = None
+
+abbrev pub described_by : Layout → TypeRecords → Option SetPlaces → Option KlassRecord → Option HeapTypeRecord
+    → Option RootPlaces
+described_by l t (Some sets) (Some k) (Some h) =
+    Some (record { sets = sets; instance = instance_of l k h; form = form_of t })
+described_by l t _ _ _ = None
+
+abbrev pub places_of : Layout → Records → Option RootPlaces
+places_of l r = described_by l r.types (sets_by r.containers.set r.containers.set_entry r.callables.weakref)
+    r.types.klass r.types.heap_type

@@ -1,0 +1,5 @@
+pub mod Counts
+pub mod Heads
+pub mod Members
+pub mod Text
+pub mod Trees
