@@ -1,7 +1,9 @@
 pub mod Evaluating
 pub mod FileLaws
 pub mod Filling
+pub mod GuessLaws
 pub mod Listing
+pub mod Looking
 pub mod ReadSteps
 pub mod StackLaws
 pub mod StepLaws

@@ -35,10 +35,9 @@ leads_more step s (g ∷ fs) a b f l here = (l.0, l.1, leads_more step l.0 fs a 
 stack_here : (step : State → Turn → Type 0) (limit : ℕ) (s : State) (fs : List Frame) (a : State) (f : Frame) (next
     : Next)
     (end : End) → Leads step s fs a → step a (turned f next) → length fs < limit → EndsBy next (length fs + 1) limit end
-    → IsStack step limit s (record { frames = fs ++ f ∷ []; end = end })
+    → IsStack step limit s (record { frames = fs ++ f ∷ []; last = a; end = end })
 stack_here step limit s fs a f next end leads here within ends = record {
   callees = fs;
-  at = a;
   leads = leads;
   last = f;
   next = next;
@@ -74,11 +73,11 @@ module _ {step : Memory → State → Turn → Type 0} {limit : ℕ} {first : St
   pub following_stops : {s2 : Seen} {more : List Frame} (f : Frame) (next : Next) (end : End)
       → Following step limit first s0 s1 frames at → Reading 8480 s1 s2 (λ m. step m at (turned f next))
       → more ≡ frames ++ f ∷ [] → EndsBy next (length more) limit end
-      → Reading (8480 * length more) s0 s2 (λ m. IsStack (step m) limit first (record { frames = more; end = end }))
+      → Reading (8480 * length more) s0 s2 (λ m. IsStack (step m) limit first (record { frames = more; last = at; end = end }))
   following_stops {more = more} f next end w r is ends =
       let long : length more ≡ length frames + 1 = ap length is ∙ length-append frames (f ∷ []) in
       reading_gives (8480 * length more) _
-      (reading_then (λ m. IsStack (step m) limit first (record { frames = more; end = end })) w.reading r
+      (reading_then (λ m. IsStack (step m) limit first (record { frames = more; last = at; end = end })) w.reading r
       (λ m p q. rw is (stack_here (step m) limit first frames at f next end p q w.within (rw long at ends))))
       (omega (arith, long)) (λ m h. h)
 
@@ -116,14 +115,14 @@ module _ (step : State → Turn → Type 0) (once : (s : State) (x y : Turn) →
     within : count + length fs < limit
     ends : EndsBy next (count + (length fs + 1)) limit end
 
-  both_end : (count : ℕ) (s : State) (l k : Frame) (d e : End) → Ended count s [] l d → Ended count s [] k e
-      → (l ∷ [] ≡ k ∷ []) × (d ≡ e)
+  both_end : (count : ℕ) (s : State) (l k : Frame) (d e : End) (p : Ended count s [] l d) (q : Ended count s [] k e)
+      → (l ∷ [] ≡ k ∷ []) × (d ≡ e) × (p.at ≡ q.at)
   unfolding Leads
   both_end count s l k d e p q =
       let same = same_turn l k p.next q.next (once s (turned l p.next) (turned k q.next)
       (subst (λ (x : State). step x (turned l p.next)) (sym p.leads) p.turns)
       (subst (λ (x : State). step x (turned k q.next)) (sym q.leads) q.turns)) in
-      (ap (λ f. f ∷ []) same.0, same_end q.next (count + 1) limit d e (rw same.1 at p.ends) q.ends)
+      (ap (λ f. f ∷ []) same.0, same_end q.next (count + 1) limit d e (rw same.1 at p.ends) q.ends, sym p.leads ∙ q.leads)
 
   one_ends : (count : ℕ) (s : State) (l g k : Frame) (gs : List Frame) (d e : End) → Ended count s [] l d
       → Ended count s (g ∷ gs) k e → ⊥
@@ -147,9 +146,9 @@ module _ (step : State → Turn → Type 0) (once : (s : State) (x y : Turn) →
         ends = subst (λ (n : ℕ). EndsBy p.next n limit end) same p.ends;
       }
 
-  frames_once : (count : ℕ) (s : State) (fs gs : List Frame) (l k : Frame) (d e : End) → Ended count s fs l d
-      → Ended count s gs k e → (fs ++ l ∷ [] ≡ gs ++ k ∷ []) × (d ≡ e)
-  unfolding Leads
+  frames_once : (count : ℕ) (s : State) (fs gs : List Frame) (l k : Frame) (d e : End) (p : Ended count s fs l d)
+      (q : Ended count s gs k e) → (fs ++ l ∷ [] ≡ gs ++ k ∷ []) × (d ≡ e) × (p.at ≡ q.at)
+  unfolding Leads next_ended
   frames_once count s [] [] l k d e p q = both_end count s l k d e p q
   frames_once count s [] (g ∷ gs) l k d e p q = absurd (one_ends count s l g k gs d e p q)
   frames_once count s (f ∷ fs) [] l k d e p q = absurd (one_ends count s k f l fs e d q p)
@@ -159,11 +158,11 @@ module _ (step : State → Turn → Type 0) (once : (s : State) (x y : Turn) →
       let caller : q.leads.0 ≡ p.leads.0 = sym (same_caller p.leads.0 q.leads.0 same.1) in
       let rest = frames_once (count + 1) p.leads.0 fs gs l k d e (next_ended count s f l fs d p.leads.0 p p.leads.2)
       (next_ended count s g k gs e p.leads.0 q (subst (λ (x : State). Leads step x gs q.at) caller q.leads.2)) in
-      (ap (λ x. x ∷ (fs ++ l ∷ [])) same.0 ∙ ap (λ xs. g ∷ xs) rest.0, rest.1)
+      (ap (λ x. x ∷ (fs ++ l ∷ [])) same.0 ∙ ap (λ xs. g ∷ xs) rest.0, rest.1, rest.2)
 
   ended_of : (first : State) (x : Chain) → (p : IsStack step limit first x) → Ended 0 first p.callees p.last x.end
   ended_of first x p = record {
-    at = p.at;
+    at = x.last;
     next = p.next;
     leads = p.leads;
     turns = p.turns;
@@ -172,12 +171,14 @@ module _ (step : State → Turn → Type 0) (once : (s : State) (x y : Turn) →
   }
 
   pub stack_once : (first : State) (x y : Chain) → IsStack step limit first x → IsStack step limit first y → x ≡ y
+  unfolding ended_of
   stack_once first x y p q =
       let same = frames_once 0 first p.callees q.callees p.last q.last x.end y.end (ended_of first x p) (ended_of
       first y q)
       in
-      ap (λ (fs : List Frame). record { frames = fs; end = x.end }) (p.frames ∙ same.0 ∙ sym q.frames)
-      ∙ ap (λ (e : End). record { frames = y.frames; end = e }) same.1
+      ap (λ (fs : List Frame). record { frames = fs; last = x.last; end = x.end }) (p.frames ∙ same.0 ∙ sym q.frames)
+      ∙ ap (λ (e : End). record { frames = y.frames; last = x.last; end = e }) same.1
+      ∙ ap (λ (s : State). record { frames = y.frames; last = s; end = y.end }) same.2
 
 pub stack_only : (step : State → Turn → Type 0) (once : (s : State) (x y : Turn) → step s x → step s y → x ≡ y)
     (limit : ℕ)

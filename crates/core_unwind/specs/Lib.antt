@@ -1,5 +1,7 @@
+pub mod CodeMaps
 pub mod Ends
 pub mod Expressions
+pub mod Guesses
 pub mod Places
 pub mod Registers
 pub mod Stacks

@@ -16,9 +16,10 @@ use Rattle.core_unwind.specs.declared.state.State.{State}
 use Rattle.core_unwind.specs.declared.walk.NativeStack.{NativeStack}
 use Rattle.core_unwind.specs.Places.{IsSpot, Site}
 
--- frames, and how they end
+-- frames, where the last of them stands, and how they end
 pub record Chain : Type 0 where
   pub frames : List Frame
+  pub last : State
   pub end : End
 
 -- from a state on, each frame is that of a step, which leads to the next one's state, and the last one to the state
@@ -37,12 +38,11 @@ EndsBy (Caller s) count limit e = (count ≡ limit) × (e ≡ Cut Frames)
 pub record IsStack (step : State → Turn → Type 0) (limit : ℕ) (first : State) (stack : Chain) : Type 0 where
   -- the frames whose caller is told
   pub callees : List Frame
-  pub at : State
-  pub leads : Leads step first callees at
+  pub leads : Leads step first callees stack.last
   -- and the last one
   pub last : Frame
   pub next : Next
-  pub turns : step at (record { frame = last; next = next })
+  pub turns : step stack.last (record { frame = last; next = next })
   pub frames : stack.frames ≡ callees ++ last ∷ []
   pub within : length callees < limit
   pub ends : EndsBy next (length callees + 1) limit stack.end
@@ -54,7 +54,7 @@ AllAscend mappings = (at : ℕ) (site : Site) → IsSpot mappings at (Ok site) �
 -- ---- as it is read
 
 abbrev pub chain_of : NativeStack → Chain
-chain_of s = record { frames = s.frames.items; end = s.end }
+chain_of s = record { frames = s.frames.items; last = s.last; end = s.end }
 
 -- the reads of a stack: so many for each frame
 abbrev pub stack_reads : ℕ → Result NativeStack UnwindError → ℕ

@@ -1,6 +1,6 @@
 -- What follows a frame, by the rules there: DWARF 5, section 6.4.4, and this project's rules of what is no caller.
 use Rattle.std.specs.Prelude.{ℕ, ◌+◌, ◌-◌, nat_le, ◌==◌, ◌||◌, Bool, true, false, List, Option, Some, None}
-use Rattle.std.specs.Prelude.{if◌then◌else◌, bit_and, ◌%◌, ◌^◌}
+use Rattle.std.specs.Prelude.{if◌then◌else◌, bit_and, ◌%◌, ◌^◌, ◌&&◌, not}
 use Rattle.process_memory.specs.Memory.{Memory}
 use Rattle.frame_rows.specs.declared.row.Row.{Row}
 use Rattle.frame_rows.specs.declared.row.Rule.{Rule}
@@ -80,8 +80,10 @@ caller_of s rules cfa pc registers = record {
   bytes = s.bytes - instruction_bytes rules.entry;
 }
 
+-- 0 is no return address, but a signal may have interrupted a thread that had jumped there
 abbrev pub next_at : State → Rules → (cfa : ℕ) → List (Option ℕ) → (pc : ℕ) → Next
-next_at s rules cfa registers pc = if pc == 0 then Stops Whole else Caller (caller_of s rules cfa pc registers)
+next_at s rules cfa registers pc =
+    if pc == 0 && not rules.entry.is_signal then Stops Whole else Caller (caller_of s rules cfa pc registers)
 
 abbrev pub next_by : (code_bits : ℕ) → State → Rules → (cfa : ℕ) → List (Option ℕ) → Option ℕ → Next
 next_by code_bits s rules cfa registers None = Stops (unknown_return rules cfa)

@@ -6,6 +6,7 @@ ghost use Rattle.elf64_core.specs.Rest.{segments_left};
 ghost use Rattle.core_unwind.specs.Places.{holds, holds_code, IsCodeAddress, IsOpened, IsSpot, moved};
 ghost use Rattle.core_unwind.specs.Places.{spot_of};
 
+use crate::code_map::CodeMap;
 use crate::end::End;
 use elf64_core::{Elf64, ElfError, LOAD, Segment, Segments};
 
@@ -42,24 +43,11 @@ pub(crate) struct Spot<'a> {
 }
 
 /// Whether a mapping holds an address.
-fn holds(mapping: &Mapping<'_>, address: u64) -> bool
+pub(crate) fn holds(mapping: &Mapping<'_>, address: u64) -> bool
     ensures is { result ≡ holds address mapping.now }
     ensures begins { IsTrue result → mapping.now.start ≤ address }
 {
     mapping.start <= address && address < mapping.end
-}
-
-/// The first mapping that holds an address.
-fn mapping_at<'m, 'a>(mappings: &'m [Mapping<'a>], address: u64) -> Option<&'m Mapping<'a>>
-    ensures is { option_copied result ≡ find (holds address) mappings.now }
-    ensures begins { IfSome result (λ mapping. mapping.now.start ≤ address) }
-{
-    for mapping in mappings {
-        if holds(mapping, address) {
-            return Some(mapping);
-        }
-    }
-    None
 }
 
 /// Whether the file bytes of a segment of code hold a place.
@@ -117,10 +105,10 @@ fn code_address(file: &[u8], place: u64) -> Option<u64>
 }
 
 /// Where an address stands, by the first mapping that holds it: in code of the file that is mapped there.
-pub(crate) fn spot_at<'a>(mappings: &[Mapping<'a>], at: u64) -> Result<Spot<'a>, End>
+pub(crate) fn spot_at<'a>(mappings: &CodeMap<'a>, at: u64) -> Result<Spot<'a>, End>
     ensures { IsSpot mappings.now at (spot_of result) }
 {
-    let Some(mapping) = mapping_at(mappings, at) else {
+    let Some(mapping) = mappings.mapping_at(at) else {
         return Err(End::NoFile { at });
     };
     let Some(bytes) = mapping.bytes else {

@@ -6,9 +6,10 @@ ghost use Rattle.frame_tables.specs.Tables.{Covers};
 ghost use Rattle.core_unwind.specs.Places.{site_of};
 ghost use Rattle.core_unwind.specs.Steps.{cut_by, IsStep, IsStepBy, IsStepFrom, IsStepIn, IsStepTo};
 
+use crate::code_map::CodeMap;
 use crate::end::{End, Limit, Refusal, UnwindError, table_end};
 use crate::frame::Turn;
-use crate::place::{CodePlace, Mapping, Spot, spot_at};
+use crate::place::{CodePlace, Spot, spot_at};
 use crate::state::State;
 use crate::turn::{instruction_bytes, read_turn, stopped};
 use crate::value::Rules;
@@ -124,7 +125,7 @@ fn step_in<P: ProcessMemory>(
 /// One step from a state: the frame there, and the state of its caller, or how the stack ends. At most 8480 reads.
 pub fn read_step<P: ProcessMemory>(
     process: &mut P,
-    mappings: &[Mapping<'_>],
+    mappings: &CodeMap<'_>,
     code_bits: u64,
     room: &mut Room,
     state: &State,

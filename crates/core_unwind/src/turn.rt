@@ -125,7 +125,7 @@ fn next_of(
     match register_in(&registers, rules.entry.return_register) {
         Some(word) => {
             let pc = address_of(&rules.row, code_bits, word);
-            if pc == 0 {
+            if pc == 0 && !rules.entry.is_signal {
                 Next::Stops(End::Whole)
             } else {
                 Next::Caller(caller_of(state, rules, cfa, pc, registers))

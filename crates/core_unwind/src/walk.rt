@@ -4,9 +4,9 @@ ghost use Rattle.process_memory.specs.Seen.{Reading};
 ghost use Rattle.core_unwind.specs.Stacks.{AllAscend, Chain, IsStack, chain_of, stack_reads};
 ghost use Rattle.core_unwind.specs.Steps.{IsStep};
 
+use crate::code_map::CodeMap;
 use crate::end::{End, Limit, UnwindError};
 use crate::frame::{Frame, Next};
-use crate::place::Mapping;
 use crate::state::State;
 use crate::step::read_step;
 use frame_tables::Room;
@@ -18,6 +18,8 @@ use std::alloc::Global;
 pub struct NativeStack {
     /// The frames, each with its caller behind it.
     pub frames: Vec<Frame>,
+    /// Where the last of them stands.
+    pub last: State,
     /// How they end.
     pub end: End,
 }
@@ -26,7 +28,7 @@ pub struct NativeStack {
 fn follow<P: ProcessMemory>(
     alloc: Global,
     process: &mut P,
-    mappings: &[Mapping<'_>],
+    mappings: &CodeMap<'_>,
     code_bits: u64,
     limit: usize,
     first: &State,
@@ -42,11 +44,21 @@ fn follow<P: ProcessMemory>(
         let turn = read_step(process, mappings, code_bits, &mut room, &state)?;
         frames.push(turn.frame)?;
         match turn.next {
-            Next::Stops(end) => return Ok(NativeStack { frames, end }),
+            Next::Stops(end) => {
+                return Ok(NativeStack {
+                    frames,
+                    last: state,
+                    end,
+                });
+            }
             Next::Caller(caller) => {
                 if frames.len() == limit {
                     let end = End::Cut(Limit::Frames);
-                    return Ok(NativeStack { frames, end });
+                    return Ok(NativeStack {
+                        frames,
+                        last: state,
+                        end,
+                    });
                 }
                 state = caller;
             }
@@ -60,7 +72,7 @@ fn follow<P: ProcessMemory>(
 pub fn read_stack<P: ProcessMemory>(
     alloc: Global,
     process: &mut P,
-    mappings: &[Mapping<'_>],
+    mappings: &CodeMap<'_>,
     code_bits: u64,
     limit: usize,
     first: &State,

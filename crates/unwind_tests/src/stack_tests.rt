@@ -1,7 +1,7 @@
 //! The stack of a thread in a small file, which is written down here.
 use core_unwind::{
-    CodePlace, End, Frame, Limit, Mapping, NativeStack, Next, State, read_stack, read_step,
-    thread_state,
+    CodeMap, CodePlace, End, Frame, Limit, Mapping, NativeStack, Next, State, read_guess,
+    read_stack, read_step, thread_state,
 };
 use frame_rows::Machine;
 use frame_tables::Room;
@@ -14,7 +14,7 @@ use std::test::Fail;
 /// 0x400000 to 0x40000f and of 0x400020 to 0x40003f. The CFA of the first is rsp + 8, and behind an instruction of
 /// one byte rsp + 16, with rbp saved at the CFA less 16; that of the second is rsp + 8, and from 0x400024 on rsp +
 /// 32. The return address is saved at the CFA less 8.
-const FILE: [u8; 276] = [
+static FILE: [u8; 276] = [
     127, 69, 76, 70, 2, 1, 1, 0, 0, 0, 0, 0, 0, 0, 0, 0, 3, 0, 62, 0, 1, 0, 0, 0, 0, 0, 0, 0, 0, 0,
     0, 0, 64, 0, 0, 0, 0, 0, 0, 0, 0, 0, 0, 0, 0, 0, 0, 0, 0, 0, 0, 0, 64, 0, 56, 0, 2, 0, 0, 0, 0,
     0, 0, 0, 1, 0, 0, 0, 5, 0, 0, 0, 0, 0, 0, 0, 0, 0, 0, 0, 0, 0, 64, 0, 0, 0, 0, 0, 0, 0, 64, 0,
@@ -61,6 +61,19 @@ fn thread_at(pc: u64) -> State {
     }
 }
 
+/// The one mapping.
+fn map_of(alloc: Global) -> Result<CodeMap<'static>, AllocError> {
+    let mut mappings = Vec::new(alloc);
+    mappings.push(Mapping {
+        start: CODE,
+        end: CODE + 276,
+        offset: 0,
+        file: 5,
+        bytes: Some(&FILE),
+    })?;
+    CodeMap::of(alloc, mappings)
+}
+
 /// The stack of such a thread, of at most `limit` frames, over these words.
 fn stack_of(
     alloc: Global,
@@ -68,13 +81,7 @@ fn stack_of(
     limit: usize,
     pc: u64,
 ) -> Result<Option<NativeStack>, AllocError> {
-    let mappings = [Mapping {
-        start: CODE,
-        end: CODE + 276,
-        offset: 0,
-        file: 5,
-        bytes: Some(&FILE),
-    }];
+    let mappings = map_of(alloc)?;
     let mut part = memory_of(alloc, words)?;
     if limit == 0 {
         return Ok(None);
@@ -164,13 +171,7 @@ fn an_end_says_why(rt: HostRuntime) -> Result<(), Fail> {
 
 #[test]
 fn a_step_gives_the_callers_registers(rt: HostRuntime) -> Result<(), Fail> {
-    let mappings = [Mapping {
-        start: CODE,
-        end: CODE + 276,
-        offset: 0,
-        file: 5,
-        bytes: Some(&FILE),
-    }];
+    let mappings = map_of(rt.alloc())?;
     let mut part = memory_of(rt.alloc(), &[0x33, CODE + 0x30])?;
     let mut room = Room::new();
     let turn = read_step(
@@ -193,6 +194,39 @@ fn a_step_gives_the_callers_registers(rt: HostRuntime) -> Result<(), Fail> {
         Err(_) => false,
     };
     assert!(rt; is);
+    Ok(())
+}
+
+/// The state behind the guess of a thread that stands at an address, over these words.
+fn guess_of(alloc: Global, words: &[u64], pc: u64) -> Result<Option<State>, AllocError> {
+    let mappings = map_of(alloc)?;
+    let mut part = memory_of(alloc, words)?;
+    let Some(stack) = stack_of(alloc, words, 9, pc)? else {
+        return Ok(None);
+    };
+    match read_guess(&mut part, &mappings, Machine::X86_64, &stack) {
+        Ok(guess) => Ok(guess),
+        Err(_) => Ok(None),
+    }
+}
+
+#[test]
+fn a_jump_to_no_code_was_a_call(rt: HostRuntime) -> Result<(), Fail> {
+    let guess = guess_of(rt.alloc(), &[CODE + 0x30, 0], 0)?;
+    let is = match guess {
+        Some(caller) => {
+            caller.pc == CODE + 0x30 && !caller.is_exact && caller.registers[7] == Some(STACK + 8)
+        }
+        None => false,
+    };
+    assert!(rt; is);
+    Ok(())
+}
+
+#[test]
+fn what_returns_to_no_code_is_no_guess(rt: HostRuntime) -> Result<(), Fail> {
+    assert!(rt; guess_of(rt.alloc(), &[7, 0], 0)?.is_none());
+    assert!(rt; guess_of(rt.alloc(), &[CODE + 0x30, 0], CODE + 0x12)?.is_none());
     Ok(())
 }
 

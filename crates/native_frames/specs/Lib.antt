@@ -1,0 +1,10 @@
+pub mod Escape
+pub mod Kept
+pub mod Limits
+pub mod Mapped
+pub mod Naming
+pub mod Tables
+pub mod Text
+pub mod Threads
+pub mod Trees
+pub mod Vdsos

@@ -1,0 +1,117 @@
+-- The lines of a native stack.
+use Rattle.std.specs.Prelude.{ℕ, zero, ◌+◌, ◌-◌, ◌++◌, ◌==◌, min, max, if◌then◌else◌, Bool, true, false, List, [], ◌∷◌}
+use Rattle.std.specs.Prelude.{length, map, take, drop, Option, Some, None, slice_get, codes, decimal}
+use Rattle.std.specs.Fmt.{digits}
+use Rattle.std.specs.List.{concat}
+use Rattle.bstr.specs.Utf8.{lossy_chars}
+use Rattle.core_unwind.specs.declared.end.End.{End}
+use Rattle.core_unwind.specs.declared.end.End.TheVariants as how
+use Rattle.core_unwind.specs.declared.end.Limit.{Limit}
+use Rattle.core_unwind.specs.declared.end.Limit.TheVariants as most
+use Rattle.core_unwind.specs.declared.end.Refusal.{Refusal}
+use Rattle.core_unwind.specs.declared.end.Refusal.TheVariants as why
+use Rattle.core_unwind.specs.declared.place.CodePlace.{CodePlace}
+use Rattle.native_frames.specs.declared.stacks.Function.{Function}
+use Rattle.native_frames.specs.declared.stacks.NativeFrame.{NativeFrame}
+use Rattle.native_frames.specs.Escape.{escaped}
+use Rattle.native_frames.specs.Threads.{StackShown}
+
+-- an address, as in 0x1f
+abbrev pub address_text : ℕ → List ℕ
+address_text n = codes "0x" ++ digits 16 false n
+
+-- what stands behind the last slash of a path, of which the part behind the last one so far is `base`
+unfoldable pub base_from : (base path : List ℕ) → List ℕ
+base_from base [] = base
+base_from base (byte ∷ path) = base_from (if byte == 47 then path else base) path
+
+abbrev pub base_name : List ℕ → List ℕ
+base_name path = base_from path path
+
+-- a name, in which nothing ends the line
+abbrev pub name_text : List ℕ → List ℕ
+name_text name = escaped true (lossy_chars name)
+
+abbrev pub file_text : Option (List ℕ) → List ℕ
+file_text (Some path) = codes " (" ++ (name_text (base_name path) ++ codes ")")
+file_text None = []
+
+abbrev pub function_text : Function → List ℕ
+function_text f = name_text f.name ++ (codes "+0x" ++ digits 16 false f.offset)
+
+-- the function, or else the address in the file
+abbrev pub where_text : Option Function → CodePlace → List ℕ
+where_text (Some f) place = function_text f
+where_text None place = address_text place.address
+
+-- where a frame stands
+abbrev pub place_text : List (List ℕ) → NativeFrame → Option CodePlace → List ℕ
+place_text files f (Some place) = where_text f.function place ++ file_text (slice_get files place.file)
+place_text files f None = codes "(in no file)"
+
+abbrev pub mark_text : Bool → List ℕ → List ℕ
+mark_text true mark = mark
+mark_text false mark = []
+
+-- the line of a frame
+abbrev pub frame_text : List (List ℕ) → (is_guess : Bool) → NativeFrame → List ℕ
+frame_text files is_guess f =
+    codes "    0x" ++ (digits 16 false f.frame.pc ++ (codes " " ++ (place_text files f f.frame.place
+    ++ (mark_text f.frame.is_signal (codes " <signal>") ++ (mark_text is_guess (codes " <guess>") ++ codes "\n")))))
+
+abbrev pub frames_text : List (List ℕ) → (is_guess : Bool) → List NativeFrame → List ℕ
+frames_text files is_guess frames = concat (map (λ f. frame_text files is_guess f) frames)
+
+-- the frames that stand between the first and the last
+abbrev pub more_text : ℕ → List ℕ
+more_text between = if between == 0 then [] else codes "    ... " ++ (decimal between ++ codes " more frames\n")
+
+-- ---- ends
+
+-- at an address whose file is not at hand, or that is in none
+abbrev pub no_file_text : List (List ℕ) → (at : ℕ) → Option ℕ → List ℕ
+no_file_text files at (Some file) =
+    codes "    ... 0x" ++ (digits 16 false at ++ (codes " is in a file that is not at hand"
+    ++ (file_text (slice_get files file) ++ codes "\n")))
+no_file_text files at None = codes "    ... 0x" ++ (digits 16 false at ++ codes " is in no file\n")
+
+abbrev pub refusal_text : Refusal → List ℕ
+refusal_text (why.Table error) = codes "the table of its file can't be read"
+refusal_text (why.Record error) = codes "its record can't be read"
+refusal_text (why.Row error) = codes "its rules can't be read"
+refusal_text why.Cfa = codes "its canonical frame address is not known"
+refusal_text why.ReturnAddress = codes "its return address is not known"
+
+abbrev pub limit_text : Limit → List ℕ
+limit_text most.Frames = codes "cut: no more frames are read"
+limit_text most.Signals = codes "cut: no more frames of signals are read"
+limit_text most.Bytes = codes "cut: no more rules are read"
+
+-- nothing is said of a whole stack
+abbrev pub end_text : List (List ℕ) → Option ℕ → End → List ℕ
+end_text files missing how.Whole = []
+end_text files missing (how.NoTable at) = codes "    ... no table covers 0x" ++ (digits 16 false at ++ codes "\n")
+end_text files missing (how.NoFile at) = no_file_text files at missing
+end_text files missing (how.Unreadable at) =
+    codes "    ... unreadable at 0x" ++ (digits 16 false at ++ codes ", 8 bytes\n")
+end_text files missing (how.Refused refusal) = codes "    ... " ++ (refusal_text refusal ++ codes "\n")
+end_text files missing how.NotAbove = codes "    ... its caller's frame is not above it\n"
+end_text files missing (how.Cut limit) = codes "    ... " ++ (limit_text limit ++ codes "\n")
+
+-- ---- a stack
+
+-- the first frames, at most so many
+abbrev pub first_frames : (limit : ℕ) → List NativeFrame → List NativeFrame
+first_frames limit frames = take (min limit (length frames)) frames
+
+-- the last of those behind them, at most so many
+abbrev pub last_frames : (limit : ℕ) → List NativeFrame → List NativeFrame
+last_frames limit frames = drop (min (max limit (length frames - limit)) (length frames)) frames
+
+abbrev pub frames_between : (limit : ℕ) → List NativeFrame → ℕ
+frames_between limit frames = (length frames - limit) - limit
+
+abbrev pub stack_text : List (List ℕ) → (is_guess : Bool) → (limit : ℕ) → StackShown → List ℕ
+stack_text files is_guess limit s =
+    frames_text files is_guess (first_frames limit s.frames) ++ (more_text (frames_between limit s.frames)
+    ++ (frames_text files is_guess (last_frames limit s.frames) ++ end_text files s.missing s.end))

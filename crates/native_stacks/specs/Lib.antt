@@ -1,0 +1,4 @@
+pub mod Stacks
+pub mod Text
+pub mod Threads
+pub mod Trees

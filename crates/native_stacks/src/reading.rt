@@ -1,0 +1,210 @@
+//! The native stacks of all threads.
+ghost use Rattle.std.specs.Prelude.{◌≡◌, ◌≤◌, IfOk, length, map};
+ghost use Rattle.elf64_core.specs.Notes.{noted};
+ghost use Rattle.process_memory.specs.Seen.{Reading};
+ghost use Rattle.native_frames.specs.Kept.{AreKept};
+ghost use Rattle.native_frames.specs.Limits.{frame_machine, most_reads, thread_most};
+ghost use Rattle.native_frames.specs.Threads.{stack_shown_if};
+ghost use Rattle.thread_registers.specs.Threads.{thread_noted, thread_shown as known_shown};
+ghost use Rattle.native_stacks.specs.Stacks.{AreNativeStacks, known_shown_if, stacks_shown};
+ghost use Rattle.native_stacks.specs.Threads.{AreThreads, HasStacks, IsThread, count_of, frame_count, is_crash};
+ghost use Rattle.native_stacks.specs.Threads.{state_by, thread_shown};
+
+use crate::stacks::{NativeStacks, NativeThread};
+use core_unwind::{CodeMap, State, thread_state};
+use elf64_core::{Machine, Note, u16_in};
+use frame_rows::Machine as FrameMachine;
+use image_memory::{CoreDump, Images};
+use native_frames::{Kept, Mapped, ThreadStack, frame_machine, mapped_files, stack_parts};
+use process_memory::ProcessMemory;
+use std::alloc::{AllocError, Global};
+use std::collections::BTreeMap;
+use thread_registers::{PythonThread, ThreadRegisters, read_threads};
+
+/// How many frames all threads of a process have together at most, beside two of each.
+const MOST_FRAMES: usize = 4_194_304;
+
+/// A thread's stack, and what follows that by a guess.
+#[derive(Drop)]
+struct Halves {
+    stack: Option<ThreadStack>,
+    guessed: Option<ThreadStack>,
+}
+
+/// Where a thread stands by its record, on a machine whose registers are told.
+fn state_by(machine: Option<FrameMachine>, status: &[u8]) -> Option<(FrameMachine, State)>
+    ensures { result ≡ state_by machine status.now }
+{
+    match machine {
+        Some(machine) => match thread_state(machine, status) {
+            Some(state) => Some((machine, state)),
+            None => None,
+        },
+        None => None,
+    }
+}
+
+/// Whether a record is that of the thread that got the signal: the first one, and it names a signal.
+fn is_crash(is_first: bool, status: &[u8]) -> bool
+    requires { 112 ≤ length status.now }
+    ensures { result ≡ is_crash is_first status.now }
+{
+    is_first && u16_in(status, 12) != 0
+}
+
+/// The stacks of a thread that stands where its record tells.
+fn halves_of<'a, P: ProcessMemory>(
+    alloc: Global,
+    process: &mut P,
+    mappings: &CodeMap<'a>,
+    kept: &mut Kept<'a>,
+    strict: bool,
+    left: usize,
+    standing: Option<(FrameMachine, State)>,
+) -> Result<Halves, AllocError>
+    requires kept { AreKept mappings.now kept.old }
+    ensures is { Reading thread_most (P.seen process.old) (P.seen process.new) (λ m. IfOk result (λ halves.
+        HasStacks mappings.now m strict left standing (stack_shown_if halves.stack) (stack_shown_if halves.guessed))) }
+    ensures kept { AreKept mappings.now kept.new }
+{
+    match standing {
+        Some((machine, state)) => {
+            let parts = stack_parts(
+                alloc, process, mappings, kept, machine, strict, left, &state,
+            )?;
+            Ok(Halves {
+                stack: Some(parts.stack),
+                guessed: parts.guessed,
+            })
+        }
+        None => Ok(Halves {
+            stack: None,
+            guessed: None,
+        }),
+    }
+}
+
+/// The thread of a status record, of which so much is known.
+fn thread_of<'a, P: ProcessMemory>(
+    alloc: Global,
+    process: &mut P,
+    mappings: &CodeMap<'a>,
+    kept: &mut Kept<'a>,
+    machine: Machine,
+    strict: bool,
+    is_first: bool,
+    left: usize,
+    known: &ThreadRegisters,
+    status: &[u8],
+) -> Result<NativeThread, AllocError>
+    requires whole { 112 ≤ length status.now }
+    requires kept { AreKept mappings.now kept.old }
+    ensures is { Reading thread_most (P.seen process.old) (P.seen process.new) (λ m. IfOk result (λ thread.
+        IsThread machine mappings.now m strict is_first left (known_shown known.now) status.now
+        (thread_shown thread))) }
+    ensures kept { AreKept mappings.now kept.new }
+{
+    let standing = state_by(frame_machine(machine), status);
+    let halves = halves_of(alloc, process, mappings, kept, strict, left, standing)?;
+    let is_crashed = is_crash(is_first, status);
+    Ok(NativeThread {
+        system_id: known.system_id,
+        whose: known.whose,
+        is_crashed,
+        stack: halves.stack,
+        guessed: halves.guessed,
+    })
+}
+
+/// What is known of the thread of a note, if that is a status record.
+fn known_of(
+    alloc: Global,
+    machine: Machine,
+    pythons: &[PythonThread],
+    note: &Note<'_>,
+) -> Result<Option<ThreadRegisters>, AllocError>
+    ensures { IfOk result (λ known. known_shown_if known ≡ thread_noted machine pythons.now (noted note.now)) }
+{
+    let notes = [*note];
+    let mut known = read_threads(alloc, machine, &notes, pythons)?;
+    Ok(known.pop())
+}
+
+/// How many frames a thread has.
+fn frame_count(thread: &NativeThread) -> usize
+    ensures { result ≡ frame_count (thread_shown thread.now) }
+{
+    count_of(&thread.stack).saturating_add(count_of(&thread.guessed))
+}
+
+/// How many frames a stack has.
+fn count_of(stack: &Option<ThreadStack>) -> usize
+    ensures { result ≡ count_of (stack_shown_if stack.now) }
+{
+    match stack {
+        Some(stack) => stack.frames.len(),
+        None => 0,
+    }
+}
+
+/// The threads of the status records among notes.
+fn threads_of<'a, P: ProcessMemory>(
+    alloc: Global,
+    process: &mut P,
+    mappings: &CodeMap<'a>,
+    machine: Machine,
+    notes: &[Note<'_>],
+    pythons: &[PythonThread],
+    strict: bool,
+) -> Result<Vec<NativeThread>, AllocError>
+    ensures { Reading (most_reads (length notes.now)) (P.seen process.old) (P.seen process.new) (λ m. IfOk result
+        (λ threads. AreThreads machine pythons.now mappings.now m strict (map noted notes.now) true 4194304
+        (map thread_shown threads.items))) }
+{
+    let mut threads = Vec::new(alloc);
+    let mut kept = BTreeMap::new(alloc);
+    let mut left = MOST_FRAMES;
+    let mut is_first = true;
+    for note in notes {
+        let known = known_of(alloc, machine, pythons, note)?;
+        if let Some(known) = known {
+            let thread = thread_of(
+                alloc, process, mappings, &mut kept, machine, strict, is_first, left, &known,
+                note.desc,
+            )?;
+            left = left.saturating_sub(frame_count(&thread));
+            is_first = false;
+            threads.push(thread)?;
+        }
+    }
+    Ok(threads)
+}
+
+/// The native stacks of the threads of a core: one for each status record among its notes in table order, by the files
+/// of its file tables and the vdso.
+///
+/// `images` has the files that are at hand, each under its path; `process` is the memory of the core, and `pythons` are
+/// the Python threads that are known: a record is of one of them as `thread_registers::read_threads` has it. With
+/// `strict` nothing is guessed. A stack is that of `core_unwind::read_stack`; each frame has the function that covers
+/// it (`covering_symbols`). A thread has at most 2^20 frames, and behind the 2^22nd of the process each thread its
+/// newest one. Memory is read at most 8480 times for a frame.
+///
+/// The one error is want of memory, as which a file table counts that is none, which those of a core are not.
+pub fn read_native_stacks<P: ProcessMemory>(
+    alloc: Global,
+    core: &CoreDump,
+    notes: &[Note<'_>],
+    images: &Images,
+    process: &mut P,
+    pythons: &[PythonThread],
+    strict: bool,
+) -> Result<NativeStacks, AllocError>
+    ensures right { Reading (most_reads (length notes.now)) (P.seen process.old) (P.seen process.new)
+        (λ m. IfOk result (λ stacks. AreNativeStacks core.now (map noted notes.now) images.now m pythons.now strict
+        (stacks_shown stacks))) }
+{
+    let Mapped { files, mappings } = mapped_files(alloc, core, notes, images)?;
+    let machine = core.machine();
+    let threads = threads_of(alloc, process, &mappings, machine, notes, pythons, strict)?;
+    Ok(NativeStacks { files, threads })
+}
