@@ -27,8 +27,6 @@ class Options:
     """Whether the registers of each thread are."""
     tasks: bool = True
     """Whether the tasks of asyncio are."""
-    exceptions: bool = True
-    """Whether the exceptions that threads raised or handled are."""
     native: bool = False
     """Whether native stacks are."""
     strict: bool = False

@@ -30,7 +30,6 @@
 
 mod built;
 mod coroutines_file;
-mod exceptions_file;
 mod elf_file;
 mod footprint;
 mod frames_file;
@@ -40,7 +39,6 @@ mod types_file;
 
 use built::list_built;
 use coroutines_file::list_coroutines;
-use exceptions_file::list_exceptions;
 use elf_file::list_elf;
 use footprint::list_footprint;
 use frames_file::list_frames;
@@ -97,7 +95,6 @@ fn run<R: Env + Files + Print + Alloc<A = Global>>(rt: &R) -> io::Result<()> {
         "reads" => list_reads(&mut out, rt, &bytes, rest)?,
         "types" => list_types(&mut out, rt, &bytes, rest)?,
         "coroutines" => list_coroutines(&mut out, rt, &bytes, rest)?,
-        "exceptions" => list_exceptions(&mut out, rt, &bytes, rest)?,
         "built" => list_built(&mut out, rt.alloc(), &bytes, rest)?,
         _ => writeln!(out, "refused")?,
     }

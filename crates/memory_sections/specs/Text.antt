@@ -5,6 +5,12 @@ use Rattle.std.specs.Global.{Global}
 use Rattle.std.specs.List.{concat}
 use Rattle.py_names.specs.declared.names_error.NamesError.{NamesError}
 use Rattle.salvage_texts.specs.Escape.{escaped}
+use Rattle.native_stacks.specs.Stacks.{stacks_shown}
+use Rattle.native_stacks.specs.Text.{stacks_text}
+use Rattle.native_stacks.specs.declared.stacks.NativeStacks.{NativeStacks}
+use Rattle.py_tasks.specs.Shown.{tasks_shown}
+use Rattle.task_texts.specs.Text.{tasks_text as one_tasks_text}
+use Rattle.memory_sections.specs.declared.tasks.InterpreterTasks.{InterpreterTasks}
 use Rattle.thread_names.specs.Trees.{fault_word}
 use Rattle.thread_names.specs.declared.names.InterpreterNames.{InterpreterNames}
 use Rattle.thread_names.specs.declared.names.ThreadName.{ThreadName}
@@ -44,6 +50,21 @@ abbrev pub names_text : Option (Vec InterpreterNames Global) → List ℕ
 names_text None = []
 names_text (Some names) = all_names_text names.items
 
+-- ---- tasks
+
+abbrev pub all_tasks_text : List InterpreterTasks → List ℕ
+all_tasks_text tasks = concat (map (λ (i : InterpreterTasks). one_tasks_text (tasks_shown i.tasks)) tasks)
+
+abbrev pub tasks_text : Option (Vec InterpreterTasks Global) → List ℕ
+tasks_text None = []
+tasks_text (Some tasks) = all_tasks_text tasks.items
+
+-- ---- native stacks
+
+abbrev pub native_text : (limit : ℕ) → Option NativeStacks → List ℕ
+native_text limit None = []
+native_text limit (Some stacks) = stacks_text limit (stacks_shown stacks)
+
 -- all of them, in order
-abbrev pub memory_text : MemoryTold → List ℕ
-memory_text told = names_text told.names
+abbrev pub memory_text : (limit : ℕ) → MemoryTold → List ℕ
+memory_text limit told = names_text told.names ++ (tasks_text told.tasks ++ native_text limit told.native)

@@ -6,9 +6,12 @@ ghost use Rattle.py_fields.specs.Sound.{IsSound};
 ghost use Rattle.memory_sections.specs.Told.{AreMemoryTold};
 
 use crate::names::names_section;
+use crate::native::native_section;
+use crate::tasks::{InterpreterTasks, tasks_section};
 use core_stacks::Process;
 use image_memory::Images;
 use missed_reads::Misses;
+use native_stacks::NativeStacks;
 use py_fronts::SalvagedInterpreter;
 use py_records::Records;
 use salvage_words::Sections;
@@ -20,6 +23,10 @@ use thread_names::InterpreterNames;
 pub struct MemoryTold {
     /// The names of the threads, by interpreters.
     pub names: Option<Vec<InterpreterNames>>,
+    /// The tasks, by interpreters.
+    pub tasks: Option<Vec<InterpreterTasks>>,
+    /// The native stacks of the threads of the process.
+    pub native: Option<NativeStacks>,
 }
 
 /// What is told in the sections that are asked for of an opened process, of whose interpreters these are shown, by the
@@ -40,5 +47,11 @@ pub fn tell_memory(
         (byte_at (regions_of process.now.dump)) interpreters.now) }
 {
     let names = names_section(alloc, asked.names, process, misses, interpreters)?;
-    Ok(MemoryTold { names })
+    let tasks = tasks_section(alloc, asked.tasks, process, misses, records, interpreters)?;
+    let native = native_section(alloc, asked.native, asked.strict, images, process, interpreters, misses)?;
+    Ok(MemoryTold {
+        names,
+        tasks,
+        native,
+    })
 }

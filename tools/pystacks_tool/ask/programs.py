@@ -14,8 +14,8 @@ from pystacks_tool.options import Options
 from pystacks_tool.places import NOT_RUN, PROGRAM, program_at
 
 
-NAMES, EXCEPTIONS = "--names", "--exceptions"
-"""The flags of `pysalvage` for the names of threads, and for exceptions."""
+NAMES = "--names"
+"""The flag of `pysalvage` for the names of threads."""
 
 
 def ask(core: OpenedCore, command: Sequence[bytes]) -> Answer:
@@ -43,7 +43,7 @@ def salvage_command(options: Options, program: Path, core: OpenedCore) -> List[b
     """The words of `pysalvage`, which is asked for JSON by the layouts and the records of the core's machine, for the sections that are
     shown, for what the process says of the layout, for the names of threads, and over a part of a core for what it missed."""
     sections = ["--signal"] * options.signal + ["--registers"] * options.registers + ["--missing"] * (core.part is not None)
-    wanted = (FLAG, NAMES, *[TASKS] * options.tasks, *[EXCEPTIONS] * options.exceptions)
+    wanted = (FLAG, NAMES, *[TASKS] * options.tasks)
     sections += [it for it in wanted if knows(program, it)]
     records = [f"--records={core.records}"] if core.records else []
     ends = [f"--frames={options.frames}"] if options.frames is not None else []
