@@ -1,0 +1,17 @@
+pub mod Gathering
+pub mod Discoveries
+pub mod ChainSizes
+pub mod Wording
+pub mod ThreadSteps
+pub mod Holding
+pub mod Eaching
+pub mod Roots
+pub mod Telling
+pub mod Steps
+pub mod WhatSteps
+pub mod Groupings
+pub mod Repeats
+pub mod Sorted
+pub mod ChainLaws
+pub mod Follows
+pub mod FollowLaws
