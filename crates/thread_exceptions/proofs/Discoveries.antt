@@ -29,7 +29,7 @@ leads_push roots (y ∷ ys) x =
     ∙ leads_push (roots ++ met_leads y) ys x
     ∙ ap (λ t. t ++ met_leads x) (append_assoc roots (met_leads y) (concat (map (λ z. met_leads z) ys)))
 
-found_push : (limit : ℕ) (roots : List ℕ) (all : List Met) (x : Met)
+pub found_push : (limit : ℕ) (roots : List ℕ) (all : List Met) (x : Met)
     → found_by limit roots (all ++ x ∷ []) ≡ gather limit (found_by limit roots all) (met_leads x)
 found_push limit roots all x = ap (gather limit []) (leads_push roots all x)
     ∙ gather_append limit [] (roots ++ concat (map (λ y. met_leads y) all)) (met_leads x)

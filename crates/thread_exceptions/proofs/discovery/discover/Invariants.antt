@@ -2,7 +2,7 @@ use Rattle.std.proofs.Common.{◌-◌, length, map}
 use Rattle.thread_exceptions.specs.Discovery.{AreSame, met_of}
 use Rattle.thread_exceptions.specs.Exceptions.{what_at}
 use Rattle.thread_exceptions.proofs.Discoveries.{Discovering}
-use Rattle.thread_exceptions.proofs.discovery.read_closure.Given as goal
+use Rattle.thread_exceptions.proofs.discovery.discover.Given as goal
 
 abbrev pub invariant-all : goal.invariant-all
 invariant-all g l = AreSame l.found.set.keys l.found.addrs.items × Discovering
