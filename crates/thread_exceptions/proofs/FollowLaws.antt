@@ -7,10 +7,14 @@ use Rattle.thread_exceptions.specs.Links.{Chain, IsLinks, Turn, chain_from}
 use Rattle.thread_exceptions.specs.Turns.{chain_of}
 use Rattle.thread_exceptions.proofs.ChainLaws.{awaits_found, awaits_unique}
 
-pub is_right : (turn : ℕ → Turn) (limit head : ℕ) (r : Result Links ExceptionsError) → IfOk r (λ chain. chain_of chain ≡ chain_from turn [] limit head) → IfOk r (λ chain. IsLinks turn limit head (chain_of chain))
+pub is_right : (turn : ℕ → Turn) (limit head : ℕ) (r : Result Links ExceptionsError)
+    → IfOk r (λ chain. chain_of chain ≡ chain_from turn [] limit head)
+    → IfOk r (λ chain. IsLinks turn limit head (chain_of chain))
 is_right turn limit head (Ok chain) h = rw h (awaits_found turn limit head)
 is_right turn limit head (Err e) h = tt
 
-pub is_only : (turn : ℕ → Turn) (limit head : ℕ) (r : Result Links ExceptionsError) → IfOk r (λ chain. chain_of chain ≡ chain_from turn [] limit head) → (other : Chain) → IsLinks turn limit head other → IfOk r (λ chain. chain_of chain ≡ other)
+pub is_only : (turn : ℕ → Turn) (limit head : ℕ) (r : Result Links ExceptionsError)
+    → IfOk r (λ chain. chain_of chain ≡ chain_from turn [] limit head) → (other : Chain)
+    → IsLinks turn limit head other → IfOk r (λ chain. chain_of chain ≡ other)
 is_only turn limit head (Ok chain) h other is = h ∙ awaits_unique turn limit head other is
 is_only turn limit head (Err e) h other is = tt

@@ -1,5 +1,6 @@
 -- What is found from some addresses on, one after another.
-use Rattle.std.proofs.Common.{◌≡◌, ◌≢◌, ℕ, ◌+◌, ◌<◌, ◌≤◌, Bool, true, false, List, [], ◌∷◌, ◌++◌, length, refl, sym, ◌∙◌, ap}
+use Rattle.std.proofs.Common.{◌≡◌, ◌≢◌, ℕ, ◌+◌, ◌<◌, ◌≤◌, Bool, true, false, List, [], ◌∷◌, ◌++◌, length, refl, sym}
+use Rattle.std.proofs.Common.{◌∙◌, ap}
 use Rattle.std.proofs.Common.{arith, append_assoc, append-nil, length-append, nat_eq, get_or, drop, inl, inr, ◌↔◌, ◌⊎◌}
 use Rattle.std.specs.Prelude.{◌||◌, nat_le}
 use Rattle.std.specs.List.{Contains}
@@ -36,7 +37,8 @@ one_grows limit found a = by (nat_eq a 0) (nat_le limit (length found)) (has fou
     by false false false ez ef eh = record {
       added = a ∷ [];
       is = rw (ez, ef, eh) refl;
-      within = λ le. rw (ez, ef, eh) (let lt : length found < limit = grind (arith, nat_tests) in omega (arith, lt, length-append found (a ∷ [])));
+      within = λ le. rw (ez, ef, eh) (let lt : length found < limit = grind (arith, nat_tests) in omega
+          (arith, lt, length-append found (a ∷ [])));
     }
 
 pub gather_grows : (limit : ℕ) (found xs : List ℕ) → Grows limit found (gather limit found xs)
@@ -80,19 +82,25 @@ one_new limit found a some room h =
 pub same_more : (set more found longer : List ℕ) (a : ℕ) → AreSame set found
     → ((b : ℕ) → Contains more b ↔ (Contains set b ⊎ (b ≡ a))) → longer ≡ found ++ a ∷ [] → AreSame more longer
 same_more set more found longer a same adds is = rw is (λ b. (
-  λ h. elim ((adds b).0 h) [ inl e ↦ Contains-append_left found (a ∷ []) b ((same b).0 e) | inr e ↦ rw e (Contains-push found a) ],
+  λ h. elim ((adds b).0 h) [
+    | inl e ↦ Contains-append_left found (a ∷ []) b ((same b).0 e)
+    | inr e ↦ rw e
+        (Contains-push found a)
+  ],
   λ h. (adds b).1 (elim (Contains-push_cases found a b h) [ inl e ↦ inl ((same b).1 e) | inr e ↦ inr (sym e) ]),
 ))
 
 -- ---- each of some addresses
 
-pub gather_next : (limit : ℕ) (found more xs total : List ℕ) (i : ℕ) → i < length xs → more ≡ add_one limit found (get_or xs i 0)
+pub gather_next : (limit : ℕ) (found more xs total : List ℕ) (i : ℕ) → i < length xs
+    → more ≡ add_one limit found (get_or xs i 0)
     → gather limit found (drop i xs) ≡ total → gather limit more (drop (i + 1) xs) ≡ total
 unfolding gather
 gather_next limit found more xs total i lt e h =
     ap (λ f. gather limit f (drop (i + 1) xs)) e ∙ sym (ap (gather limit found) (drop_more xs i 0 lt)) ∙ h
 
-pub gather_done : (limit : ℕ) (found xs total : List ℕ) (i : ℕ) → length xs ≤ i → gather limit found (drop i xs) ≡ total → found ≡ total
+pub gather_done : (limit : ℕ) (found xs total : List ℕ) (i : ℕ) → length xs ≤ i
+    → gather limit found (drop i xs) ≡ total → found ≡ total
 unfolding gather
 gather_done limit found xs total i all h = sym (ap (gather limit found) (drop_all i xs all)) ∙ h
 

@@ -7,6 +7,8 @@ pub mod Holding
 pub mod Eaching
 pub mod Roots
 pub mod Telling
+pub mod Uniqueness
+pub mod OneThread
 pub mod Steps
 pub mod WhatSteps
 pub mod Groupings

@@ -51,7 +51,8 @@ AreNew met (x ∷ xs) = (has met x ≡ false) × AreNew (met ++ x ∷ []) xs
 pub new_pairs : (met xs : List ℕ) → AllPairs (λ x y. x ≢ y) met → AreNew met xs → AllPairs (λ x y. x ≢ y) (met ++ xs)
 new_pairs met [] h new = rw (append-nil met) h
 new_pairs met (x ∷ xs) h new =
-    rw (← append_assoc met (x ∷ []) xs) (new_pairs (met ++ x ∷ []) xs (all_pairs_push (λ a b. a ≢ b) met x h other) new.1)
+    rw (← append_assoc met (x ∷ []) xs) (new_pairs (met ++ x ∷ []) xs
+    (all_pairs_push (λ a b. a ≢ b) met x h other) new.1)
   where
     other : (k d : ℕ) → k < length met → get_or met k d ≢ x
     other k d lt e = no_contains met x new.0 (k, lt, get_or_default met k x d lt ∙ e)

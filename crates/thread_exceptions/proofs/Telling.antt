@@ -9,7 +9,8 @@ use Rattle.thread_exceptions.specs.declared.places.Places.{Places}
 use Rattle.thread_exceptions.specs.Discovery.{AreMet, Met}
 use Rattle.thread_exceptions.specs.Exceptions.{what_at}
 use Rattle.thread_exceptions.specs.Links.{Chain}
-use Rattle.thread_exceptions.specs.Thread.{Handled, IsThread, Raised, Thread, handled_at, items_at, items_by, raised_at, roots_of}
+use Rattle.thread_exceptions.specs.Thread.{Handled, IsThread, Raised, Thread, handled_at, items_at, items_by}
+use Rattle.thread_exceptions.specs.Thread.{raised_at, roots_of}
 use Rattle.thread_exceptions.specs.Turns.{chain_of, turn_at}
 use Rattle.thread_exceptions.proofs.ChainSizes.{chain_few}
 
@@ -25,7 +26,8 @@ pub items_limit : {n : ℕ} {s0 s1 : Seen} (p : Places) (thread : ℕ) (links : 
     → Reading n s0 s1 (λ m. chain_of links ≡ items_at p m thread) → length links.members.items ≤ 4096
 items_limit p thread links r = rw (ap (λ (c : Chain). length c.members) (reading_here r)) (items_few p _ thread)
 
-pub thread_told : (p : Places) (m : Memory) (thread : ℕ) (raised : Raised) (items : Chain) (handled : List Handled) (roots : List ℕ)
+pub thread_told : (p : Places) (m : Memory) (thread : ℕ) (raised : Raised) (items : Chain) (handled : List Handled)
+    (roots : List ℕ)
     (met : List Met) → raised ≡ raised_at p m thread → items ≡ items_at p m thread
     → handled ≡ map (λ a. handled_at p m thread a) items.members → roots ≡ roots_of raised handled
     → AreMet (what_at p m) 1024 roots met

@@ -11,6 +11,7 @@ words_more words more bytes total x at left rest e pushed is h =
     ∙ ap (λ y. words ++ (y ∷ words_in rest bytes (at + 8))) is
     ∙ ap (λ n. words ++ words_in n bytes at) (sym e) ∙ h
 
-pub words_done : (words bytes total : List ℕ) (at left : ℕ) → left ≡ 0 → words ++ words_in left bytes at ≡ total → words ≡ total
+pub words_done : (words bytes total : List ℕ) (at left : ℕ) → left ≡ 0 → words ++ words_in left bytes at ≡ total
+    → words ≡ total
 unfolding words_in
 words_done words bytes total at left e h = sym (append-nil words) ∙ ap (λ n. words ++ words_in n bytes at) (sym e) ∙ h

@@ -12,6 +12,9 @@ pub record Met : Type 0 where
   pub addr : ℕ
   pub what : What
 
+abbrev pub Mets : Type 0
+Mets = List Met
+
 -- one more address, unless it is 0, is there, or no more may be there
 abbrev pub add_one : ℕ → List ℕ → ℕ → List ℕ
 add_one limit found a = if nat_eq a 0 || nat_le limit (length found) || has found a then found else found ++ a ∷ []

@@ -29,7 +29,8 @@ pub data Raised : Type 0 where
   Parts : (class value : ℕ) → Raised
   Lost : Fault → Raised
 
--- what an item names: the object at an address, which is not known to be no exception, none at 0; or which one is not in memory
+-- what an item names: the object at an address, which is not known to be no exception, none at 0; or which one is not
+-- in memory
 pub data Value : Type 0 where
   At : (address : ℕ) → Value
   Lost : Fault → Value

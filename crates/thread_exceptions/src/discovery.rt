@@ -1,7 +1,7 @@
 //! All that some objects lead to, each once.
 ghost use Rattle.std.specs.Prelude.{◌≡◌, ◌*◌, ◌≤◌, [], IfOk, OnOk, length, map};
 ghost use Rattle.process_memory.specs.Seen.{Reading};
-ghost use Rattle.thread_exceptions.specs.Discovery.{AreMet, AreSame, add_one, gather, met_of};
+ghost use Rattle.thread_exceptions.specs.Discovery.{AreMet, AreSame, Mets, add_one, gather, met_of};
 ghost use Rattle.thread_exceptions.specs.Exceptions.{context_of, leads, members_in, parts_leads, what_at, what_of};
 ghost use Rattle.thread_exceptions.specs.Groups.{members_of};
 ghost use Rattle.thread_exceptions.specs.Places.{IsSound};
@@ -121,10 +121,8 @@ fn add_leads(found: &mut Found, limit: usize, what: &What) -> Result<(), Excepti
     }
 }
 
-/// All objects that are met from some addresses on, in order of discovery, each once, at most `limit` of them: those at
-/// the addresses, and behind them what each exception leads to, in turn: its cause, its context unless that is
-/// suppressed, and its members. An address of 0 is none. The one error is want of memory. At most 263 reads for each.
-pub fn read_closure<P: ProcessMemory>(
+/// See `read_closure`.
+fn discover<P: ProcessMemory>(
     alloc: Global,
     process: &mut P,
     places: &Places,
@@ -133,7 +131,7 @@ pub fn read_closure<P: ProcessMemory>(
 ) -> Result<Vec<Met>, ExceptionsError>
     requires sound { IsSound places.now }
     ensures { Reading (263 * limit) (P.seen process.old) (P.seen process.new)
-        (λ m. IfOk result (λ all. AreMet (what_at places.now m) limit roots.now (map met_of all.items))) }
+        (λ m. IfOk result (λ all. AreMet (what_at places.now m) limit roots.now (map (λ x. met_of x) all.items))) }
 {
     let mut found = Found {
         addrs: Vec::new(alloc),
@@ -149,4 +147,25 @@ pub fn read_closure<P: ProcessMemory>(
         all.push(Met { addr, what })?;
     }
     Ok(all)
+}
+
+/// All objects that are met from some addresses on, in order of discovery, each once, at most `limit` of them: those at
+/// the addresses, and behind them what each exception leads to, in turn: its cause, its context unless that is
+/// suppressed, and its members. An address of 0 is none. There is one such list
+/// alone, and it is the answer. The one error is want of memory. At most 263 reads for each.
+pub fn read_closure<P: ProcessMemory>(
+    alloc: Global,
+    process: &mut P,
+    places: &Places,
+    limit: usize,
+    roots: &[u64],
+) -> Result<Vec<Met>, ExceptionsError>
+    requires sound { IsSound places.now }
+    ensures right { Reading (263 * limit) (P.seen process.old) (P.seen process.new)
+        (λ m. IfOk result (λ all. AreMet (what_at places.now m) limit roots.now (map (λ x. met_of x) all.items))) }
+    ensures only { Reading (263 * limit) (P.seen process.old) (P.seen process.new)
+        (λ m. (other : Mets) → AreMet (what_at places.now m) limit roots.now other
+        → IfOk result (λ all. map (λ x. met_of x) all.items ≡ other)) }
+{
+    discover(alloc, process, places, limit, roots)
 }

@@ -1,7 +1,8 @@
 //! What stands at an address: an exception, or another object.
 ghost use Rattle.std.specs.Prelude.{◌≡◌, IfOk, Ok, length, true};
 ghost use Rattle.process_memory.specs.Seen.{Reading, Reads, read_fault};
-ghost use Rattle.thread_exceptions.specs.Exceptions.{is_exception, parts_at, parts_if, parts_in, what_at, what_by, what_of};
+ghost use Rattle.thread_exceptions.specs.Exceptions.{is_exception, parts_at, parts_if, parts_in, what_at, what_by};
+ghost use Rattle.thread_exceptions.specs.Exceptions.{what_of};
 ghost use Rattle.thread_exceptions.specs.Places.{IsSound, IsSoundException};
 
 use crate::groups::{Members, read_group};

@@ -1,8 +1,8 @@
 //! The exceptions of a thread: which one is raised, which are handled, and all that these lead to.
 //!
-//! A thread names the exception that C code has set and Python has not yet seen, and the newest of a chain of items, each
-//! of which holds an exception that is handled. An exception names its cause, its context and, where it is a group, its
-//! members; each is told once, by its address. What can't be read on keeps what came before, and says so.
+//! A thread names the exception that C code has set and Python has not yet seen, and the newest of a chain of items,
+//! each of which holds an exception that is handled. An exception names its cause, its context and, where it is a
+//! group, its members; each is told once, by its address. What can't be read on keeps what came before, and says so.
 #![tactic(auto)]
 
 mod described;

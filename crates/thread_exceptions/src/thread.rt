@@ -2,10 +2,14 @@
 ghost use Rattle.std.specs.Prelude.{◌≡◌, ◌*◌, IfOk, Ok, length, map};
 ghost use Rattle.process_memory.specs.Seen.{Reading, Reads, read_fault};
 ghost use Rattle.thread_exceptions.specs.Places.{IsSound};
-ghost use Rattle.thread_exceptions.specs.Thread.{IsThread, current_at, flags_at, handled_at, handled_of, items_at, owner_of, pair_at};
-ghost use Rattle.thread_exceptions.specs.Thread.{raised_address, raised_at, raised_exception, raised_of, raised_of_result, raised_parts};
+ghost use Rattle.thread_exceptions.specs.Thread.{IsThread, Thread, current_at, flags_at, handled_at, handled_of};
+ghost use Rattle.thread_exceptions.specs.Thread.{items_at};
+ghost use Rattle.thread_exceptions.specs.Thread.{owner_of, pair_at};
+ghost use Rattle.thread_exceptions.specs.Thread.{raised_address, raised_at, raised_exception, raised_of};
+ghost use Rattle.thread_exceptions.specs.Thread.{raised_of_result, raised_parts};
 ghost use Rattle.thread_exceptions.specs.Thread.{raised_word_at, roots_of};
-ghost use Rattle.thread_exceptions.specs.Thread.{is_other_at, named, thread_of, thread_reads, value_address, value_at, value_by, value_of};
+ghost use Rattle.thread_exceptions.specs.Thread.{is_other_at, named, thread_of, thread_reads, value_address};
+ghost use Rattle.thread_exceptions.specs.Thread.{value_at, value_by, value_of};
 ghost use Rattle.thread_exceptions.specs.Turns.{chain_of};
 
 use crate::discovery::{Met, read_closure};
@@ -28,7 +32,7 @@ pub enum Raised {
     Nothing,
     /// The exception at this address.
     Exception { addr: u64 },
-    /// An exception of the type at `class`, with the value at `value`, or 0: an exception, or what one is to be made of.
+    /// An exception of the type at `class`, with the value at `value`, or 0: an exception, or what one is made of.
     Parts { class: u64, value: u64 },
     /// Whether there is one is not in memory.
     Unreadable(Lost),
@@ -306,14 +310,8 @@ fn roots_of(alloc: Global, raised: Raised, handled: &[Handled]) -> Result<Vec<u6
     Ok(roots)
 }
 
-/// What the thread with the record at an address raises and handles, and all that this leads to.
-///
-/// Raised is what its record says. Its items are those from the newest one on, each with what it names, and whose it
-/// is: the last is the thread's own, each other one that of a generator or a coroutine that runs. What is met are the
-/// objects that these name, and what they lead to, in order of discovery, each once, as `read_closure` tells them; an
-/// object that is no exception leads nowhere. What is not in memory is told where it was looked for, and takes nothing
-/// from the rest. The one error is want of memory.
-pub fn read_thread<P: ProcessMemory>(
+/// See `read_thread`.
+fn tell<P: ProcessMemory>(
     alloc: Global,
     process: &mut P,
     places: &Places,
@@ -335,4 +333,27 @@ pub fn read_thread<P: ProcessMemory>(
         end,
         met,
     })
+}
+
+/// What the thread with the record at an address raises and handles, and all that this leads to.
+///
+/// Raised is what its record says. Its items are those from the newest one on, each with what it names, and whose it
+/// is: the last is the thread's own, each other one that of a generator or a coroutine that runs. What is met are the
+/// objects that these name, and what they lead to, in order of discovery, each once, as `read_closure` tells them; an
+/// object that is no exception leads nowhere. What is not in memory is told where it was looked for, and takes nothing
+/// from the rest. There is one such answer alone. The one error is want of memory.
+pub fn read_thread<P: ProcessMemory>(
+    alloc: Global,
+    process: &mut P,
+    places: &Places,
+    thread: u64,
+) -> Result<ThreadExceptions, ExceptionsError>
+    requires sound { IsSound places.now }
+    ensures right { Reading thread_reads (P.seen process.old) (P.seen process.new)
+        (λ m. IfOk result (λ told. IsThread places.now m thread (thread_of told))) }
+    ensures only { Reading thread_reads (P.seen process.old) (P.seen process.new)
+        (λ m. (other : Thread) → IsThread places.now m thread other
+        → IfOk result (λ told. thread_of told ≡ other)) }
+{
+    tell(alloc, process, places, thread)
 }

@@ -13,4 +13,5 @@ returns-in_err-members-in-Some g c =
     rw p.1 (reading_gives _ _ c.in_err-members-in-Some.ensures (omega arith) (λ m h. tt))
 
 pub returns-in_ok-members-in-Some : goal.returns-in_ok-members-in-Some
-returns-in_ok-members-in-Some g c = rw c.in-Some.is (reading_gives _ _ c.in_ok-members-in-Some.ensures (omega arith) (λ m h. ap (What.Exception c.in-Some.parts) h))
+returns-in_ok-members-in-Some g c = rw c.in-Some.is (reading_gives _ _ c.in_ok-members-in-Some.ensures (omega arith)
+    (λ m h. ap (What.Exception c.in-Some.parts) h))

@@ -24,7 +24,8 @@ returns-then-is g c =
     let is = sym c.is_exception-is.ensures ∙ c.if-is.true in
     reads_next 3 _ (reading_short c.in_ok-class.ensures.answer)
     (reads_next 2 _ (reading_short c.in_ok-flags.ensures.answer)
-    (reads_same _ _ (λ m. ap (parts_if c.args.places.now m c.args.at c.in_ok-class.class) is) c.read_record.ensures) (omega arith)) (omega arith)
+    (reads_same _ _ (λ m. ap (parts_if c.args.places.now m c.args.at c.in_ok-class.class) is) c.read_record.ensures)
+    (omega arith)) (omega arith)
 
 pub returns : goal.returns
 unfolding parts_at
@@ -32,4 +33,5 @@ returns g c =
     let is = sym c.is_exception-is.ensures ∙ c.if-is.false in
     reads_next {k = 1} 3 _ (reading_short c.in_ok-class.ensures.answer)
     (reads_next {k = 0} 1 _ (reading_short c.in_ok-flags.ensures.answer)
-    (reads_same _ _ (λ m. ap (parts_if c.args.places.now m c.args.at c.in_ok-class.class) is) (reads_end 0 refl)) (omega arith)) (omega arith)
+    (reads_same _ _ (λ m. ap (parts_if c.args.places.now m c.args.at c.in_ok-class.class) is) (reads_end 0 refl))
+    (omega arith)) (omega arith)

@@ -13,5 +13,6 @@ returns-in_err-bytes g c =
 
 pub returns : goal.returns
 returns g c =
-    let parts = ap (λ b. Some (parts_in c.args.places.now.exception c.args.class b)) (sym c.deref.ensures.value) ∙ ap Some (sym c.parts_in.ensures) in
+    let parts = ap (λ b. Some (parts_in c.args.places.now.exception c.args.class b)) (sym c.deref.ensures.value)
+    ∙ ap Some (sym c.parts_in.ensures) in
     reads_next 1 _ (reading_short c.in_ok-bytes.ensures.answer) (reads_end 0 parts) (omega arith)

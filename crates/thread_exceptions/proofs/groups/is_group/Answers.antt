@@ -6,7 +6,8 @@ use Rattle.thread_exceptions.specs.Groups.{grouped_at, is_group_at}
 use Rattle.thread_exceptions.specs.Turns.{turn_at}
 use Rattle.thread_exceptions.specs.Links.{Chain}
 use Rattle.thread_exceptions.proofs.ChainSizes.{links_few}
-use Rattle.thread_exceptions.proofs.Groupings.{searching_done, searching_found, searching_init, searching_lost, searching_more}
+use Rattle.thread_exceptions.proofs.Groupings.{searching_done, searching_found, searching_init, searching_lost}
+use Rattle.thread_exceptions.proofs.Groupings.{searching_more}
 use Rattle.thread_exceptions.proofs.groups.is_group.Goals as goal
 
 pub returns-in_err-lineage : goal.returns-in_err-lineage
@@ -23,18 +24,28 @@ loop-base-init g c = searching_init (reading_gives _ _ c.in_ok-lineage.ensures.a
 pub returns-in_err-is : goal.returns-in_err-is
 returns-in_err-is g c =
     let p = err_from_is_err_and c.from_residual-in_err-is.result c.from_residual-in_err-is.ensures.1 in
-    let few : length c.deref-base-items.result.now ≤ 64 = rw c.deref-base-items.ensures.value (links_few (turn_at c.args.places.now.base) c.args.class c.in_ok-lineage.lineage c.in_ok-lineage.ensures.answer) in
-    rw p.1 (reading_gives _ _ (searching_lost c.loop-base.invariant c.loop-base-test.true c.in_err-is.ensures (omega arith)) (omega (arith, few)) (λ m h. tt))
+    let few : length c.deref-base-items.result.now ≤ 64 = rw c.deref-base-items.ensures.value
+    (links_few
+    (turn_at c.args.places.now.base) c.args.class c.in_ok-lineage.lineage c.in_ok-lineage.ensures.answer) in
+    rw p.1 (reading_gives _ _ (searching_lost c.loop-base.invariant c.loop-base-test.true c.in_err-is.ensures
+    (omega arith)) (omega (arith, few)) (λ m h. tt))
 
 pub returns-then-is : goal.returns-then-is
 returns-then-is g c =
-    let few : length c.deref-base-items.result.now ≤ 64 = rw c.deref-base-items.ensures.value (links_few (turn_at c.args.places.now.base) c.args.class c.in_ok-lineage.lineage c.in_ok-lineage.ensures.answer) in
-    reading_gives _ _ (searching_found _ c.loop-base.invariant c.loop-base-test.true refl (rw c.if-is.true at c.in_ok-is.ensures)) (omega (arith, few)) (λ m h. h)
+    let few : length c.deref-base-items.result.now ≤ 64 = rw c.deref-base-items.ensures.value
+    (links_few
+    (turn_at c.args.places.now.base) c.args.class c.in_ok-lineage.lineage c.in_ok-lineage.ensures.answer) in
+    reading_gives _ _ (searching_found _ c.loop-base.invariant c.loop-base-test.true refl
+    (rw c.if-is.true at c.in_ok-is.ensures)) (omega (arith, few)) (λ m h. h)
 
 pub loop-base-preserved : goal.loop-base-preserved
-loop-base-preserved g c = searching_more _ c.loop-base.invariant c.loop-base-test.true refl (rw c.if-is.false at c.in_ok-is.ensures)
+loop-base-preserved g c = searching_more _ c.loop-base.invariant c.loop-base-test.true refl
+    (rw c.if-is.false at c.in_ok-is.ensures)
 
 pub returns : goal.returns
 returns g c =
-    let few : length c.deref-base-items.result.now ≤ 64 = rw c.deref-base-items.ensures.value (links_few (turn_at c.args.places.now.base) c.args.class c.in_ok-lineage.lineage c.in_ok-lineage.ensures.answer) in
-    reading_gives _ _ (searching_done c.loop-base.invariant (omega (arith, c.loop-base-test.false))) (omega (arith, few)) (λ m h. h)
+    let few : length c.deref-base-items.result.now ≤ 64 = rw c.deref-base-items.ensures.value
+    (links_few
+    (turn_at c.args.places.now.base) c.args.class c.in_ok-lineage.lineage c.in_ok-lineage.ensures.answer) in
+    reading_gives _ _ (searching_done c.loop-base.invariant (omega (arith, c.loop-base-test.false)))
+    (omega (arith, few)) (λ m h. h)

@@ -10,4 +10,8 @@ returns-in-Ok g c = reading_gives 3 _ c.in-Ok.ensures (omega arith) (λ m p. sym
 
 pub returns-in_ok-lost_range-in-Err : goal.returns-in_ok-lost_range-in-Err
 returns-in_ok-lost_range-in-Err g c = reading_gives 3 _ c.in-Err.ensures (omega arith)
-    (λ m p. sym (ap known (is_lost (group_class_at c.args.places.now m c.args.class) c.in-Err.error c.in_ok-lost_range-in-Err.field-0 p c.in_ok-lost_range-in-Err.ensures)))
+    (λ m p. sym
+    (ap known
+    (is_lost
+    (group_class_at c.args.places.now m c.args.class) c.in-Err.error c.in_ok-lost_range-in-Err.field-0 p
+    c.in_ok-lost_range-in-Err.ensures)))

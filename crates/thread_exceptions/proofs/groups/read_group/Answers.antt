@@ -8,4 +8,5 @@ returns-in-None g c = reading_none 260 _ _ (λ m. members_none c.args.places.now
 
 pub returns-in-Some : goal.returns-in-Some
 returns-in-Some g c = reading_gives _ _ c.read_if_group.ensures (omega arith)
-    (λ m h. members_some c.args.places.now m c.args.at c.args.class c.in-Some.group c.read_if_group.result c.in-Some.is h)
+    (λ m h. members_some c.args.places.now m c.args.at c.args.class c.in-Some.group c.read_if_group.result
+    c.in-Some.is h)

@@ -24,7 +24,8 @@ returns-in_err-name g c =
     let p = err_from_is_err_and c.from_residual-in_err-name.result c.from_residual-in_err-name.ensures.1 in
     rw p.1 (reads_next 3 _ (reading_short c.in_ok-flags.ensures.answer)
     (reads_next 2 _ (reading_short c.in_ok-at.ensures.answer)
-    (reads_halt 1 p.0 _ (reading_short c.in_err-name.ensures.answer) (ap read_fault p.2) (omega arith)) (omega arith)) (omega arith))
+    (reads_halt 1 p.0 _ (reading_short c.in_err-name.ensures.answer) (ap read_fault p.2) (omega arith)) (omega arith))
+    (omega arith))
 
 pub returns : goal.returns
 unfolding group_class_at
@@ -32,4 +33,5 @@ returns g c =
     let is = ap (is_group_type c.in_ok-flags.flags) (sym c.deref.ensures.value) ∙ sym c.is_group_type.ensures in
     reads_next 3 _ (reading_short c.in_ok-flags.ensures.answer)
     (reads_next 2 _ (reading_short c.in_ok-at.ensures.answer)
-    (reads_next 1 _ (reading_short c.in_ok-name.ensures.answer) (reads_end 0 is) (omega arith)) (omega arith)) (omega arith)
+    (reads_next 1 _ (reading_short c.in_ok-name.ensures.answer) (reads_end 0 is) (omega arith)) (omega arith))
+    (omega arith)

@@ -10,7 +10,8 @@ returns-in_err-is g c =
     rw p.1 (reading_gives _ _ c.in_err-is.ensures (omega arith) (λ m h. tt))
 
 pub returns-then-is : goal.returns-then-is
-returns-then-is g c = reading_gives 260 _ (reading_then _ c.in_ok-is.ensures c.read_members.ensures (λ m p q. rw (sym p ∙ c.if-is.true) q)) (omega arith) (λ m h. h)
+returns-then-is g c = reading_gives 260 _ (reading_then _ c.in_ok-is.ensures c.read_members.ensures
+    (λ m p q. rw (sym p ∙ c.if-is.true) q)) (omega arith) (λ m h. h)
 
 pub returns : goal.returns
 returns g c = reading_gives 260 _ c.in_ok-is.ensures (omega arith) (λ m p. rw (sym p ∙ c.if-is.false) refl)

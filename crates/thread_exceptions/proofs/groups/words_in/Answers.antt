@@ -9,7 +9,8 @@ pub loop-k-preserved : goal.loop-k-preserved
 loop-k-preserved c = (
   omega (arith, c.loop-k.invariant.0),
   omega (arith, c.loop-k-test.true),
-  words_more c.loop-k.words.items _ _ _ _ _ _ _ (omega (arith, c.loop-k-test.true)) c.in_ok-push.ensures.items c.u64_in.ensures c.loop-k.invariant.2,
+  words_more c.loop-k.words.items _ _ _ _ _ _ _
+      (omega (arith, c.loop-k-test.true)) c.in_ok-push.ensures.items c.u64_in.ensures c.loop-k.invariant.2,
 )
 
 pub returns : goal.returns

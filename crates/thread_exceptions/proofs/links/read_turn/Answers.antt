@@ -13,4 +13,5 @@ returns-in-Ok g c = reading_gives 1 _ (reading_short c.in-Ok.ensures.answer) (om
 
 pub returns-in_ok-lost_range-in-Err : goal.returns-in_ok-lost_range-in-Err
 returns-in_ok-lost_range-in-Err g c = reading_gives 1 _ (reading_short c.in-Err.ensures.answer) (omega arith)
-    (λ m p. turn_lost c.args.offset m c.args.at c.in-Err.error (Ok c.in_ok-lost_range-in-Err.field-0) c.if-at-eq0.false p c.in_ok-lost_range-in-Err.ensures)
+    (λ m p. turn_lost c.args.offset m c.args.at c.in-Err.error
+    (Ok c.in_ok-lost_range-in-Err.field-0) c.if-at-eq0.false p c.in_ok-lost_range-in-Err.ensures)

@@ -11,4 +11,5 @@ returns-in-Ok g c = reading_gives 2 _ c.in-Ok.ensures (omega arith)
 
 pub returns-in_ok-lost_range-in-Err : goal.returns-in_ok-lost_range-in-Err
 returns-in_ok-lost_range-in-Err g c = reading_gives 2 _ c.in-Err.ensures (omega arith)
-    (λ m p. other_lost (flags_at c.args.places.now m c.args.at) c.in-Err.error c.in_ok-lost_range-in-Err.field-0 p c.in_ok-lost_range-in-Err.ensures)
+    (λ m p. other_lost (flags_at c.args.places.now m c.args.at) c.in-Err.error c.in_ok-lost_range-in-Err.field-0 p
+    c.in_ok-lost_range-in-Err.ensures)

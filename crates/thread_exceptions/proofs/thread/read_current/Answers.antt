@@ -13,4 +13,5 @@ returns-in_err-addr g c =
 
 pub returns : goal.returns
 unfolding current_at
-returns g c = reads_next 2 _ (reading_short c.in_ok-addr.ensures.answer) (reads_end 0 (sym c.raised_exception.ensures)) (omega arith)
+returns g c = reads_next 2 _ (reading_short c.in_ok-addr.ensures.answer)
+    (reads_end 0 (sym c.raised_exception.ensures)) (omega arith)

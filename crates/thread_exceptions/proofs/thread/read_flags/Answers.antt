@@ -13,4 +13,5 @@ returns-in_err-class g c =
 
 pub returns : goal.returns
 unfolding flags_at
-returns g c = reads_next 2 _ (reading_short c.in_ok-class.ensures.answer) (reading_short c.word_past-2.ensures.answer) (omega arith)
+returns g c = reads_next 2 _ (reading_short c.in_ok-class.ensures.answer) (reading_short c.word_past-2.ensures.answer)
+    (omega arith)

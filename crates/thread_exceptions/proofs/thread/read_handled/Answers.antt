@@ -18,16 +18,19 @@ loop-item-init g c = eaching_init _ _ _ _ _ _ c.new-handled.ensures.items
 pub returns-in_err-value : goal.returns-in_err-value
 returns-in_err-value g c =
     let p = err_from_is_err_and c.from_residual.result c.from_residual.ensures.1 in
-    rw p.1 (reading_gives _ _ (eaching_lost c.loop-item.invariant c.loop-item-test.true c.in_err-value.ensures (omega arith)) (omega arith) (λ m h. tt))
+    rw p.1 (reading_gives _ _ (eaching_lost c.loop-item.invariant c.loop-item-test.true c.in_err-value.ensures
+    (omega arith)) (omega arith) (λ m h. tt))
 
 pub returns-in_err-push : goal.returns-in_err-push
 returns-in_err-push g c =
     let p = err_from_is_err_and c.from_residual-in_err-push.result c.from_residual-in_err-push.ensures.1 in
-    rw p.1 (reading_gives _ _ (eaching_lost c.loop-item.invariant c.loop-item-test.true c.in_ok-value.ensures (omega arith)) (omega arith) (λ m h. tt))
+    rw p.1 (reading_gives _ _ (eaching_lost c.loop-item.invariant c.loop-item-test.true c.in_ok-value.ensures
+    (omega arith)) (omega arith) (λ m h. tt))
 
 pub loop-item-preserved : goal.loop-item-preserved
 loop-item-preserved g c = eaching_more _ _ 0 c.loop-item.invariant c.loop-item-test.true refl
-    (reading_gives _ _ c.in_ok-value.ensures (omega arith) (λ m h. handled_is c.owner_of-owner.ensures h)) c.in_ok-push.ensures.items
+    (reading_gives _ _ c.in_ok-value.ensures (omega arith)
+    (λ m h. handled_is c.owner_of-owner.ensures h)) c.in_ok-push.ensures.items
 
 pub returns : goal.returns
 returns g c = eaching_done c.loop-item.invariant (omega (arith, c.loop-item-test.false))

@@ -21,4 +21,5 @@ returns-in_err-named g c =
 pub returns : goal.returns
 unfolding pair_at
 returns g c = reads_next 2 _ (reading_short c.in_ok-class.ensures.answer)
-    (reads_next 1 _ (reading_short c.in_ok-named.ensures.answer) (reads_end 0 (sym c.raised_parts.ensures)) (omega arith)) (omega arith)
+    (reads_next 1 _ (reading_short c.in_ok-named.ensures.answer) (reads_end 0 (sym c.raised_parts.ensures))
+    (omega arith)) (omega arith)

@@ -9,4 +9,6 @@ returns-in-Ok g c = reading_gives 2 _ c.in-Ok.ensures (omega arith) (λ m p. sym
 
 pub returns-in_ok-lost_range-in-Err : goal.returns-in_ok-lost_range-in-Err
 returns-in_ok-lost_range-in-Err g c = reading_gives 2 _ c.in-Err.ensures (omega arith)
-    (λ m p. raised_lost (raised_word_at c.args.places.now.raised m c.args.thread) c.in-Err.error c.in_ok-lost_range-in-Err.field-0 p c.in_ok-lost_range-in-Err.ensures)
+    (λ m p. raised_lost
+    (raised_word_at c.args.places.now.raised m c.args.thread) c.in-Err.error c.in_ok-lost_range-in-Err.field-0 p
+    c.in_ok-lost_range-in-Err.ensures)
