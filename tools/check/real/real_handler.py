@@ -680,7 +680,7 @@ def tried(words):
             for call, more in (
                 (whole, (pid, core)), (whole_core_kept, (pid, core)), (limit_of_nothing, (pid, core)), (breaks_off, (pid, core)),
                 (is_long, (16_800 if words.all else 1_000,)), (of_a_user, ()), (links_out, ()), (not_its_own, ()), (dead_server, ()),
-                (folder_is_a_link, (pid, core)), (disk_is_full, (pid, core)), (storm, (pid, 200 if words.all else 40)), (odd_host, (pid, core)),
+                (folder_is_a_link, (pid, core)), (disk_is_full, (pid, core)), (storm, (pid, 200 if words.all else 20)), (odd_host, (pid, core)),
                 (runs_into_limits, (pid, core)), (waits_for_nothing, (pid, core)), (worker_is_refused, ()), (live, ()),
             ):
                 if words.only not in call.__name__:
