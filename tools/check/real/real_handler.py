@@ -208,7 +208,8 @@ def said_in(path):
 
 def whole(room, pid, core):
     """A whole core: the report, its JSON, the line and the small core are kept, root's alone."""
-    status, said = room.handled(room.settings(), pid, core)
+    # (the kernel gives it the pipe, and neither standard output nor standard error)
+    status, said = room.handled(room.settings(), pid, core, preexec=lambda: os.closerange(1, 3))
     expect(status == 0, f"the handler ended with status {status}: {said}")
     path, record, line = room.only()
     expect(line["cause"] is None and (path / "report.txt").exists(), f"there is no report: {line['cause']}; {record['said']}; {said_in(path)}")
@@ -322,7 +323,7 @@ def links_out(room):
     secret, box = room.folder / "secret", room.folder / "box"
     secret.write_text("a secret")
     (box / "lib").mkdir(parents=True, exist_ok=True)
-    for name in ("kept", "linked", "blocked"):
+    for name in ("kept", "linked", "blocked", "swapped"):
         (box / "lib" / name).write_bytes(bytes(8192))
     own_root = f"""
 libc = ctypes.CDLL(None)
@@ -336,16 +337,17 @@ os.chroot('.')
 """
     prepare = """
 {}
-its = [mmap.mmap(os.open('/lib/' + it, os.O_RDONLY), 8192, prot=mmap.PROT_READ) for it in ('kept', 'linked', 'blocked')]
-for it in ('linked', 'blocked'):
+its = [mmap.mmap(os.open('/lib/' + it, os.O_RDONLY), 8192, prot=mmap.PROT_READ) for it in ('kept', 'linked', 'blocked', 'swapped')]
+for it in ('linked', 'blocked', 'swapped'):
     os.unlink('/lib/' + it)
+open('/lib/swapped (deleted)', 'w').write('another file')
 os.symlink('../../secret', '/lib/linked (deleted)')
 os.mkfifo('/lib/blocked (deleted)')
 """
     for root, has_map_files in ((own_root, True), (own_root, False), (f"os.chroot({str(box)!r})", True), (f"os.chroot({str(box)!r})", False)):
         for it in (box / "lib").glob("*(deleted)"):
             it.unlink()
-        for name in ("linked", "blocked"):
+        for name in ("linked", "blocked", "swapped"):
             (box / "lib" / name).write_bytes(bytes(8192))
         files = mapped_by(room, prepare.format(root), has_map_files)
         expect(b"/lib/kept" in files, f"a mapped file is lost: {sorted(files)}")
@@ -678,7 +680,7 @@ def tried(words):
             for call, more in (
                 (whole, (pid, core)), (whole_core_kept, (pid, core)), (limit_of_nothing, (pid, core)), (breaks_off, (pid, core)),
                 (is_long, (16_800 if words.all else 1_000,)), (of_a_user, ()), (links_out, ()), (not_its_own, ()), (dead_server, ()),
-                (folder_is_a_link, (pid, core)), (disk_is_full, (pid, core)), (storm, (pid, 200 if words.all else 40)), (odd_host, (pid, core)),
+                (folder_is_a_link, (pid, core)), (disk_is_full, (pid, core)), (storm, (pid, 200 if words.all else 20)), (odd_host, (pid, core)),
                 (runs_into_limits, (pid, core)), (waits_for_nothing, (pid, core)), (worker_is_refused, ()), (live, ()),
             ):
                 if words.only not in call.__name__:

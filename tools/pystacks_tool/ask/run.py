@@ -14,6 +14,7 @@ from pathlib import Path
 from typing import IO, List, Sequence
 
 from pystacks_tool.faults import CANNOT_WRITE, NO_ROOM, Fault
+from pystacks_tool.places import SALVAGE
 
 CHUNK = 1 << 16
 
@@ -89,8 +90,8 @@ def help_of(program: str) -> bytes:
 
 
 def knows(program: Path, flag: str) -> bool:
-    """Whether a program has a flag. (An older one that is named may not.)"""
-    return flag.encode("ascii") in help_of(os.fspath(program))
+    """Whether a program has a flag. (The tool's own does; an older one that is named may not.)"""
+    return program == SALVAGE or flag.encode("ascii") in help_of(os.fspath(program))
 
 
 def tells_missed(program: Path) -> bool:

@@ -5,6 +5,7 @@ import os
 import re
 import signal
 import socket
+import sys
 import time
 from dataclasses import dataclass, field
 from types import FrameType
@@ -322,8 +323,19 @@ def handle(words: Sequence[str], settings: Settings, source: int = 0) -> int:
     return status
 
 
+def open_streams() -> None:
+    """Opens the standard streams that aren't: the kernel gives its handler the pipe alone, and no file may have their numbers."""
+    fd = os.open("/dev/null", os.O_RDWR)
+    while fd <= 2:
+        fd = os.open("/dev/null", os.O_RDWR)
+    os.close(fd)
+    if sys.stderr is None:
+        sys.stderr = open(2, "w", encoding="utf-8", errors="backslashreplace", buffering=1, closefd=False)
+
+
 def run(words: Sequence[str], path: str) -> int:
     """The command by the kernel's words, and the file of settings. Returns the status."""
+    open_streams()
     if os.geteuid() != 0:
         say("the kernel starts this as root", "docs/HANDLER.md says how it is set up", WHO)
         return BAD_WORDS

@@ -40,7 +40,7 @@ class Settings:
     keep_space: int = 4000
     """How much is kept in all."""
     keep_days: int = 30
-    memory: int = 2000
+    memory: int = 3000
     """How much memory the worker and the programs may have, each."""
     seconds: int = 60
     """How long the worker may take."""
