@@ -1,5 +1,5 @@
 -- The native stacks of the threads of status records.
-use Rattle.std.specs.Prelude.{◌≡◌, ℕ, ◌-◌, ◌&&◌, nat_eq, nat_le, not, Bool, true, false, List, [], ◌∷◌, length, Option, Some}
+use Rattle.std.specs.Prelude.{◌≡◌, ℕ, ◌-◌, ◌&&◌, nat_eq, nat_le, not, Bool, false, List, [], ◌∷◌, length, Option, Some}
 use Rattle.std.specs.Prelude.{None, option_map}
 use Rattle.elf64_core.specs.Fields.{u16_in}
 use Rattle.elf64_core.specs.Notes.{Noted}

@@ -1,5 +1,5 @@
 //! The native stacks of all threads.
-ghost use Rattle.std.specs.Prelude.{◌≡◌, ◌++◌, IfOk, OnOk, length, map, option_to_list};
+ghost use Rattle.std.specs.Prelude.{◌≡◌, ◌++◌, IfOk, OnOk, length, map, option_to_list, true};
 ghost use Rattle.elf64_core.specs.Notes.{noted};
 ghost use Rattle.process_memory.specs.Seen.{Reading};
 ghost use Rattle.native_frames.specs.Kept.{AreKept};
@@ -193,7 +193,7 @@ fn first_after(is_first: bool, thread: &Option<NativeThread>) -> bool
 /// Adds a thread, if there is one.
 fn push_if(threads: &mut Vec<NativeThread>, thread: Option<NativeThread>) -> Result<(), AllocError>
     ensures { OnOk result (map thread_shown threads.new.items ≡ map thread_shown threads.old.items
-        ++ option_to_list (thread_shown_if thread.entry)) }
+        ++ option_to_list (thread_shown_if thread)) }
 {
     if let Some(thread) = thread {
         threads.push(thread)?;
