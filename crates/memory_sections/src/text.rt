@@ -35,11 +35,7 @@ fn push_name(
     text.push_str("\n")
 }
 
-fn push_threads(
-    alloc: Global,
-    text: &mut String,
-    threads: &[ThreadName],
-) -> Result<(), AllocError>
+fn push_threads(alloc: Global, text: &mut String, threads: &[ThreadName]) -> Result<(), AllocError>
     ensures { OnOk result (string_bytes text.new ≡ string_bytes text.old ++ threads_text threads.now) }
 {
     for thread in threads {

@@ -44,9 +44,14 @@ pub fn tell_memory(
         (byte_at (regions_of process.now.dump)) interpreters.now) }
 {
     let names = names_section(alloc, asked.names, process, misses, interpreters)?;
-    let native = native_section(alloc, asked.native, asked.strict, images, process, interpreters, misses)?;
-    Ok(MemoryTold {
-        names,
-        native,
-    })
+    let native = native_section(
+        alloc,
+        asked.native,
+        asked.strict,
+        images,
+        process,
+        interpreters,
+        misses,
+    )?;
+    Ok(MemoryTold { names, native })
 }

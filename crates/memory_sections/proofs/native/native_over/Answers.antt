@@ -1,9 +1,7 @@
-use Rattle.std.proofs.Common.{map, subst}
-use Rattle.std.specs.Prelude.{IfOk}
+use Rattle.std.proofs.Common.{map}
 use Rattle.elf64_core.specs.Notes.{noted}
 use Rattle.process_memory.specs.Memory.{byte_at}
 use Rattle.process_memory.proofs.Reading.{reading_here}
-use Rattle.native_stacks.specs.Stacks.{AreNativeStacks, stacks_shown}
 use Rattle.memory_sections.proofs.Noting.{with_notes}
 use Rattle.memory_sections.proofs.native.native_over.Goals as goal
 
