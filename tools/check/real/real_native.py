@@ -140,7 +140,7 @@ def tried_with(program: Path, ways: Sequence[str], library: Path) -> Callable[[s
 
     def tried(python: str) -> str:
         build = build_of(python)
-        if build.version < (3, 8):
+        if build.version < (3, 6):
             raise Skip("pysalvage knows no layout of it")
         names = core_names()
         with tempfile.TemporaryDirectory(prefix="real-native-") as name:

@@ -1,5 +1,6 @@
 """The lines of asyncio's tasks: how many there are, and where each one stands. Equal ones stand once."""
 
+import re
 from typing import Dict, Iterator, List, Sequence, Tuple
 
 from pystacks_tool.model import Task, Tasks
@@ -15,6 +16,12 @@ COUNTED = ("running", "ready", "not started", "waiting")
 def name_of(task: Task) -> str:
     """A task's name, or its address."""
     return task.address if task.name is None else f'"{as_name(task.name)}"'
+
+
+def name_key(task: Task) -> List[Tuple[int, str]]:
+    """What names are in order by: numbers in them by how much they are."""
+    parts = re.split(r"([0-9]{1,18})", task.address if task.name is None else task.name)
+    return [(int(it), "") if at % 2 else (0, it) for at, it in enumerate(parts)]
 
 
 def summary_of(tasks: Tasks) -> str:
@@ -36,13 +43,15 @@ def title_of(tasks: Sequence[Task]) -> str:
 
 
 def together(tasks: Tasks, is_merged: bool) -> List[List[Task]]:
-    """The tasks that aren't done: those that stand at one place together, in the order of the first of each; running ones first."""
+    """The tasks that aren't done, those that stand at one place together by their names: running ones first, and then those of the place
+    at which most are."""
     found: Dict[object, List[Task]] = {}
     for at, task in enumerate(tasks.tasks):
         if task.kind in COUNTED:
             key: Tuple[object, ...] = (task.condition, tuple(it.place for it in task.frames), task.end)
             found.setdefault(key if is_merged and task.kind != "running" else at, []).append(task)
-    return sorted(found.values(), key=lambda its: COUNTED.index(its[0].kind) > 0)
+    its = [sorted(one, key=name_key) for one in found.values()]
+    return sorted(its, key=lambda one: (COUNTED.index(one[0].kind) > 0, -len(one)))
 
 
 def task_blocks(tasks: Tasks, is_merged: bool) -> Iterator[Tuple[List[Task], str]]:
