@@ -6,8 +6,8 @@
 For each Python of 3.7 to 3.13 that is installed: processes die in a running task, and in a callback, with tasks of two loops in
 two threads that wait in all kinds of ways, are done, ready, or never ran (tasks_child.py), and say before of each its name,
 its state, what it waits for, and the chain of its coroutines with functions, files and lines. Exactly that is to be told, of
-exactly these tasks. Of some Pythons one with 20,000 tasks is told too, within 20 seconds. The layouts and the records are the
-stored ones. The status is 0 exactly where nothing that was tried failed.
+exactly these tasks; and of a core as cores are usually written the tool is to tell the same. Of some Pythons one with 20,000 tasks
+is told too, within 20 seconds. The layouts and the records are the stored ones. The status is 0 exactly where nothing that was tried failed.
 """
 
 import argparse
@@ -18,9 +18,9 @@ import time
 from pathlib import Path
 from typing import Any, Callable, Dict, List
 
-from rooms import ROOT  # (first: it makes the other rooms known)
+from rooms import ROOT, TOOLS  # (first: it makes the other rooms known)
 
-from child_cores import ALL_PRIVATE, Failure, Skip, aborted, core_names
+from child_cores import ALL_PRIVATE, USUAL, Failure, Skip, aborted, core_names
 from derive_layout import Build, DeriveError, build_of
 from each_python import tell_each
 from find_pythons import pythons
@@ -28,7 +28,9 @@ from pystacks_tool.ask.run import knows
 from real_core import images_of, ran
 
 CHILD = Path(__file__).with_name("tasks_child.py")
-WAYS = ("running", "callback")
+WAYS = {"running": ALL_PRIVATE, "callback": USUAL}
+"""How processes die, and what their cores hold."""
+
 MANY, MANY_IN, MOST_SECONDS = 20000, ((3, 9), (3, 13)), 20
 """How many tasks one process has, of which Pythons, and how long it may take to tell them."""
 
@@ -72,12 +74,26 @@ def check_tasks(told: List[Tree], wanted: List[Tree]) -> None:
         raise Failure(f"told is what isn't there: {more[0]}")
 
 
+def check_tool(salvage: Path, core: Path, told: List[Tree]) -> None:
+    """Fails where the tool, which picks the files that it hands over, tells other tasks."""
+    words = [sys.executable, "-B", TOOLS / "dump_core.py", core, f"--salvage={salvage}", f"--program={salvage}", "-j"]
+    run = ran(words)
+    if run.status != 0:
+        raise Failure(f"the tool: status {run.status}: {run.err}")
+    line = first_other([it["tasks"]["entries"] for it in json.loads(run.out)["tasks"] if it["tasks"] is not None], [told])
+    if line:
+        raise Failure(f"by the tool {line}")
+
+
 def in_way(salvage: Path, build: Build, names: str, room: Path, way: str) -> str:
     """All kinds of tasks, of a process that dies in one way."""
     room.mkdir()
-    child = aborted([build.executable, *build.alone, "-B", "-W", "ignore", str(CHILD), ALL_PRIVATE, way, "0"], room)
+    child = aborted([build.executable, *build.alone, "-B", "-W", "ignore", str(CHILD), WAYS[way], way, "0"], room)
     core, wanted = child.core(names), json.loads(child.out)["tasks"]
-    check_tasks(entries_in(salvage, core, build), wanted)
+    told = entries_in(salvage, core, build)
+    check_tasks(told, wanted)
+    if WAYS[way] == USUAL:
+        check_tool(salvage, core, told)
     core.unlink()
     return f"{len(wanted)} tasks with {sum(len(it['chain']['members']) for it in wanted if it['kind'] == 'task')} members ({way})"
 

@@ -155,6 +155,12 @@ def prepare_core(options: Options, name: str, core: Optional[IO[bytes]]) -> Opti
     return new
 
 
+def is_asked_for(options: Options, wanted: Wanted) -> bool:
+    """Whether a file is handed over for the bytes that the core leaves out: with locals each, and for the tasks of asyncio its module,
+    where the names of its types stand."""
+    return options.locals > 0 or options.tasks and not options.plain and os.path.basename(wanted.name).startswith(b"_asyncio.")
+
+
 def open_core(options: Options, name: str) -> OpenedCore:
     """A core with its images, of which the missing ones have a line."""
     core = opened(name)
@@ -165,7 +171,7 @@ def open_core(options: Options, name: str) -> OpenedCore:
     new = prepare_core(options, name, core)
     machine, files = read_core(new.file if new else core)
     layouts = os.fspath(options.layouts or layouts_of(machine))
-    wanted = [it for it in files if options.locals or it.use is not Use.MEMORY]
+    wanted = [it for it in files if it.use is not Use.MEMORY or is_asked_for(options, it)]
     records = os.fspath(options.records or records_of(machine) or "")
     check_text(os.fsencode(it) for it in (name, layouts, records))
     root, others = options.files, [it for it in files if it.use is Use.MEMORY]

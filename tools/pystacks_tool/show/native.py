@@ -5,7 +5,7 @@ import re
 from typing import Dict, Iterator, List, Optional, Sequence
 
 from pystacks_tool.model import NativeFrame, NativeStack, Report
-from pystacks_tool.show.escape import as_name
+from pystacks_tool.show.escape import as_function, as_name, in_line
 
 LIBRARY = re.compile(r"(libc|libffi|libpthread|ld-linux[^/]*|libm|libdl|librt|ld-musl[^/]*|linux-vdso)[-.][^/]*$|\[vdso\]$")
 """Files of the C library, the system's own, and libffi, which passes the calls of ctypes on."""
@@ -23,7 +23,7 @@ def place_of(frame: NativeFrame) -> str:
     """Where a frame stands: its function, or else its address in its file, and the file."""
     if frame.file is None:
         return f"0x{frame.pc:x} (in no file)"
-    inside = f"{as_name(frame.function)}+0x{frame.offset or 0:x}" if frame.function else f"0x{frame.address or 0:x}"
+    inside = f"{as_function(frame.function)}+0x{frame.offset or 0:x}" if frame.function else f"0x{frame.address or 0:x}"
     return f"{inside} ({as_name(base_of(frame))})"
 
 
@@ -39,7 +39,7 @@ def part_lines(first: Sequence[NativeFrame], between: int, last: Sequence[Native
         yield f"    ... {between} more frames"
     yield from map(frame_line, last)
     if end:
-        yield f"    ... {end}"
+        yield f"    ... {in_line(end)}"
 
 
 def stack_title(stack: NativeStack, name: Optional[str]) -> str:
@@ -87,14 +87,13 @@ def is_python(frame: NativeFrame) -> bool:
 
 def where_line(report: Report) -> str:
     """Where the thread that got the signal was in native code: its newest frame, and the newest of another file than the C library's
-    and libffi's. Nothing where Python itself was what died, or called what did."""
+    and libffi's. Nothing where Python itself was what died, or called what did, unless that is in no file."""
     found = next((it for it in report.native if it.is_crashed), None)
     frames = [] if found is None else [it for it in (*found.frames, *found.guessed) if not it.is_signal]
-    if not frames or is_python(frames[0]):
+    caller = next((it for it in frames if it.file is not None and not is_own(it)), None)
+    is_nowhere = bool(frames) and frames[0].file is None
+    if not is_nowhere and (caller is None or is_python(caller)):
         return ""
-    caller = next((it for it in frames if not is_own(it)), None)
-    if caller is None or is_python(caller):
-        return ""
-    called = "" if caller is frames[0] else f", called by {place_of(caller)}"
-    mark = " <guess>" if caller.is_guess else ""
+    called = "" if caller is None or caller is frames[0] else f", called by {place_of(caller)}"
+    mark = " <guess>" if caller is not None and caller.is_guess else ""
     return f"In {place_of(frames[0])}{called}{mark}"

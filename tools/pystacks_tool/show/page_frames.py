@@ -4,9 +4,9 @@ from html import escape
 from typing import Iterator, Sequence
 
 from pystacks_tool.model import Frame, Local
-from pystacks_tool.show.escape import as_name, in_page, with_decimals
+from pystacks_tool.show.escape import as_function, as_name, in_page, with_decimals
 from pystacks_tool.show.folds import Fold
-from pystacks_tool.show.text import Style, function_of, place_of
+from pystacks_tool.show.text import Style, place_of
 
 
 def text(value: str) -> str:
@@ -26,7 +26,7 @@ def frame_item(frame: Frame, style: Style) -> str:
         return f"<li class=\"end\">{text(place_of(frame))}"
     place = f"({as_name(frame.filename)}{f':{frame.line}' if frame.line else ''})"
     source = style.sources.line(frame.filename, frame.line) if style.sources else None
-    parts = [f"<li>{text(function_of(frame))} <i>{text(place)}</i>"]
+    parts = [f"<li>{text(as_function(frame.name))} <i>{text(place)}</i>"]
     if source:
         parts.append(f"<pre>{text(source)}</pre>")
     if frame.locals:

@@ -54,12 +54,10 @@ def task_section(anchor: str, tasks: Sequence[Task], title: str, style: Style, i
     return foldable(anchor, text(title), names_part(tasks) + frames, is_open)
 
 
-def tasks_of(tasks: Tasks, front: str, style: Style) -> Iterator[str]:
+def tasks_of(tasks: Tasks, front: str, is_titled: bool, style: Style) -> Iterator[str]:
     """The tasks of an interpreter, those of one place together."""
-    if tasks.fault:
-        yield f"<p class=\"end\">Tasks are not told: {text(tasks.fault)}</p>"
-        return
-    yield f"<p>{text(summary_of(tasks))}</p>"
+    mark = " class=\"end\"" if tasks.fault else ""
+    yield f"<p{mark}>{text(summary_of(tasks, is_titled))}</p>"
     for at, (its, title) in enumerate(task_blocks(tasks, not style.shows_all)):
         yield task_section(f"{front}{at}", its, title, style, at < OPEN)
     yield from (f"<p class=\"end\">{text(in_line(it))}</p>" for it in tasks.others)
@@ -94,7 +92,7 @@ def sections_of(report: Report, style: Style) -> List[Section]:
     """The further sections of a page: none of what isn't there, or isn't asked for."""
     found = []
     if report.tasks:
-        rows = [row for at, it in enumerate(report.tasks) for row in tasks_of(it, f"t{at}x", style)]
+        rows = [row for at, it in enumerate(report.tasks) for row in tasks_of(it, f"t{at}x", len(report.tasks) > 1, style)]
         found.append(Section("tasks", "Tasks", "\n".join(rows)))
     if report.shows_native and report.native:
         found.append(Section("native", "Native stacks", "\n".join(native_of(report))))

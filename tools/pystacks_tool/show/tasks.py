@@ -24,13 +24,16 @@ def name_key(task: Task) -> List[Tuple[int, str]]:
     return [(int(it), "") if at % 2 else (0, it) for at, it in enumerate(parts)]
 
 
-def summary_of(tasks: Tasks) -> str:
-    """How many tasks there are, by what they do."""
+def summary_of(tasks: Tasks, is_titled: bool = False) -> str:
+    """How many tasks there are, by what they do, or why they aren't told; with the interpreter, where there are several."""
+    front = f"Interpreter {tasks.interpreter}: " if is_titled else ""
+    if tasks.fault:
+        return f"{front}Tasks are not told: {in_line(tasks.fault)}"
     counts = {it: sum(task.kind == it for task in tasks.tasks) for it in COUNTED}
     parts = ", ".join(f"{count} {kind}" for kind, count in counts.items() if count) or "none that isn't done"
     done = len(tasks.tasks) - sum(counts.values())
     aren = f"; {done} finished {'is' if done == 1 else 'are'}n't shown" if done else ""
-    return f"Tasks {sum(counts.values())} ({parts}{aren})"
+    return f"{front}Tasks {sum(counts.values())} ({parts}{aren})"
 
 
 def title_of(tasks: Sequence[Task]) -> str:
