@@ -461,6 +461,18 @@ class Tasks(Case):
         self.assertEqual(len(self.shown(tasks(*rows), words=["--stacks"])), 81)
 
 
+    def test_files(self):
+        # (the names of asyncio's types may stand in its module alone; for native stacks each file is handed over)
+        paths = [os.fsencode(self.put(name, elf_file(3, []))) for name in ("bin/python3.11", "lib/_asyncio.cpython-311-x86_64-linux-gnu.so", "lib/_json.so")]
+        self.core = self.put("core", core_file([Segment(0x1000 * (1 + at), b"", 4 if at else 5, None, path) for at, path in enumerate(paths)]))
+        words = [os.fsdecode(it + b"=" + it) for it in paths]
+        for help_text, more, count in ((KNOWN[:KNOWN.index(" --native")], (), 2), (KNOWN[:KNOWN.index(" --native")], ("--no-tasks",), 1), (KNOWN, ("--native",), 3)):
+            self.programs(salvage(interpreter([CRASHED]), native=[]), help_text=help_text)
+            self.assertEqual(self.tool(*more)[0], 0)
+            said = (self.folder / "pysalvage.said" / "words").read_text().split("\n")
+            self.assertEqual([it for it in words if it in said], words[:count])
+
+
 class Native(Case):
     """Native stacks, and where a process died."""
 
