@@ -55,5 +55,6 @@ def salvage_command(options: Options, program: Path, core: OpenedCore) -> List[b
 def native_command(options: Options, program: Path, core: OpenedCore) -> List[bytes]:
     """The words of `pysalvage` for native stacks alone, with each file that the process had mapped: any may be on a stack."""
     ends = [f"--frames={options.frames}"] if options.frames is not None else []
-    words = [os.fspath(program), f"--layouts={core.layouts}", "-j", *ends, NATIVE, *["--strict"] * options.strict, "--", core.word]
+    sections = [NATIVE, *["--strict"] * options.strict, *["--missing"] * (core.part is not None)]
+    words = [os.fspath(program), f"--layouts={core.layouts}", "-j", *ends, *sections, "--", core.word]
     return [*command_of(words, [core.name]), *core.images, *core.other_images()]

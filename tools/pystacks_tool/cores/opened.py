@@ -57,10 +57,10 @@ class OpenedCore:
     """Files that may be on a native stack, beside those that are handed over in any case."""
 
     def other_images(self) -> List[bytes]:
-        """The words for these files."""
+        """The words for these files. (A stack that goes on in a file which is left out says so itself.)"""
         budget = None if self.part is None else self.part.budget - self.read
         had = {it.partition(b"=")[0] for it in self.images}
-        return image_words([it for it in self.others if it.name not in had], self.root, self.machine, budget)
+        return image_words([it for it in self.others if it.name not in had], self.root, self.machine, budget, is_told=False)
 
     @property
     def known(self) -> Known:
