@@ -1,20 +1,19 @@
-//! The sections of what is told of a process that are read in its memory: the names of its threads, the tasks of asyncio,
+//! The sections of what is told of a process that are read in its memory: the names of its threads,
 //! and native stacks. Each is asked for by itself.
 //!
 //! What each one reads, and what it owes, is its own crate's; here they are asked of an opened process, of whose
 //! interpreters this is left.
 #![tactic(auto)]
 
+mod keeping;
 mod names;
 mod native;
 mod pythons;
-mod tasks;
 mod text;
 mod told;
 mod values;
 
 pub use pythons::python_threads;
-pub use tasks::InterpreterTasks;
 pub use text::push_memory;
 pub use told::{MemoryTold, tell_memory};
-pub use values::{names_value, native_value, tasks_value};
+pub use values::{names_value, native_value};

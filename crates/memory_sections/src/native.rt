@@ -2,17 +2,37 @@
 ghost use Rattle.std.specs.Prelude.{◌≡◌, IfOk};
 ghost use Rattle.image_memory.specs.Backed.{regions_of};
 ghost use Rattle.process_memory.specs.Memory.{byte_at};
+ghost use Rattle.memory_sections.specs.Pythons.{python_threads};
 ghost use Rattle.memory_sections.specs.Told.{AreNative, NativeAre};
 
+use crate::keeping::Keeping;
 use crate::pythons::python_threads;
 use core_stacks::Process;
-use image_memory::Images;
-use missed_reads::{Missed, Misses};
+use image_memory::{CoreDump, Images};
+use missed_reads::Misses;
 use native_stacks::{NativeStacks, read_native_stacks};
+use process_memory::ProcessMemory;
 use py_fronts::SalvagedInterpreter;
 use std::alloc::{AllocError, Global};
+use thread_registers::PythonThread;
 
-/// The native stacks of all threads that the core's notes tell. Reads that are refused are kept.
+/// The native stacks of all threads that the core's notes tell, over a memory.
+fn native_over<P: ProcessMemory>(
+    alloc: Global,
+    strict: bool,
+    core: &CoreDump,
+    images: &Images,
+    process: &mut P,
+    pythons: &[PythonThread],
+) -> Result<NativeStacks, AllocError>
+    ensures { IfOk result
+        (AreNative strict core.now images.now (byte_at (P.seen process.old).pieces) pythons.now) }
+{
+    let notes = core.notes(alloc)?;
+    read_native_stacks(alloc, core, &notes, images, process, pythons, strict)
+}
+
+/// The same, over the memory of an opened process. Reads that are refused are kept.
 fn native_of(
     alloc: Global,
     strict: bool,
@@ -22,13 +42,12 @@ fn native_of(
     misses: &mut Misses,
 ) -> Result<NativeStacks, AllocError>
     ensures { IfOk result (AreNative strict process.now.dump.core images.now
-        (byte_at (regions_of process.now.dump)) interpreters.now) }
+        (byte_at (regions_of process.now.dump)) (python_threads interpreters.now)) }
 {
-    let core = process.dump.core();
-    let notes = core.notes(alloc)?;
     let pythons = python_threads(alloc, interpreters)?;
-    let mut view = Missed::new(process.dump.view(), misses);
-    read_native_stacks(alloc, core, &notes, images, &mut view, &pythons, strict)
+    let mut view = Keeping::new(process.dump.view(), misses);
+    let core = process.dump.core();
+    native_over(alloc, strict, core, images, &mut view, &pythons)
 }
 
 /// The same, where they are asked for.

@@ -7,7 +7,6 @@ ghost use Rattle.memory_sections.specs.Told.{AreMemoryTold};
 
 use crate::names::names_section;
 use crate::native::native_section;
-use crate::tasks::{InterpreterTasks, tasks_section};
 use core_stacks::Process;
 use image_memory::Images;
 use missed_reads::Misses;
@@ -23,8 +22,6 @@ use thread_names::InterpreterNames;
 pub struct MemoryTold {
     /// The names of the threads, by interpreters.
     pub names: Option<Vec<InterpreterNames>>,
-    /// The tasks, by interpreters.
-    pub tasks: Option<Vec<InterpreterTasks>>,
     /// The native stacks of the threads of the process.
     pub native: Option<NativeStacks>,
 }
@@ -47,11 +44,9 @@ pub fn tell_memory(
         (byte_at (regions_of process.now.dump)) interpreters.now) }
 {
     let names = names_section(alloc, asked.names, process, misses, interpreters)?;
-    let tasks = tasks_section(alloc, asked.tasks, process, misses, records, interpreters)?;
     let native = native_section(alloc, asked.native, asked.strict, images, process, interpreters, misses)?;
     Ok(MemoryTold {
         names,
-        tasks,
         native,
     })
 }

@@ -1,13 +1,10 @@
 //! The values of these sections in JSON: null in one that isn't asked for.
-ghost use Rattle.std.specs.Prelude.{◌≡◌, IfOk, string_bytes};
+ghost use Rattle.std.specs.Prelude.{◌≡◌, IfOk};
 ghost use Rattle.serde_json.specs.View.{view};
-ghost use Rattle.thread_names.specs.Trees.{address_text};
-ghost use Rattle.memory_sections.specs.Values.{all_tasks_tree, interpreter_tree, names_tree_if, native_tree_if};
-ghost use Rattle.memory_sections.specs.Values.{tasks_tree_if};
+ghost use Rattle.memory_sections.specs.Values.{names_tree_if, native_tree_if};
 
-use crate::tasks::InterpreterTasks;
 use crate::told::MemoryTold;
-use serde_json::{Value, json};
+use serde_json::Value;
 use std::alloc::{AllocError, Global};
 
 /// The names, by interpreters (`thread_names::names_value`), or null. The one error is want of memory.
@@ -16,45 +13,6 @@ pub fn names_value(alloc: Global, told: &MemoryTold) -> Result<Value, AllocError
 {
     match &told.names {
         Some(names) => thread_names::names_value(alloc, names),
-        None => Ok(Value::Null),
-    }
-}
-
-/// An address: `0x` and lower-case hexadecimal digits.
-fn address_text(alloc: Global, address: u64) -> Result<String, AllocError>
-    ensures { IfOk result (λ text. string_bytes text ≡ address_text address) }
-{
-    format!(in alloc; "0x{address:x}")
-}
-
-fn interpreter_value(alloc: Global, tasks: &InterpreterTasks) -> Result<Value, AllocError>
-    ensures { IfOk result (λ value. view value ≡ interpreter_tree tasks.now) }
-{
-    let address = address_text(alloc, tasks.interpreter)?;
-    let own = task_texts::tasks_value(alloc, &tasks.tasks)?;
-    json!(in alloc; {
-        "interpreter": address.as_str(),
-        "tasks": own
-    })
-}
-
-fn all_tasks_value(alloc: Global, tasks: &[InterpreterTasks]) -> Result<Value, AllocError>
-    ensures { IfOk result (λ value. view value ≡ all_tasks_tree tasks.now) }
-{
-    let mut values = Vec::new(alloc);
-    for interpreter in tasks {
-        values.push(interpreter_value(alloc, interpreter)?)?;
-    }
-    Ok(Value::Array(values))
-}
-
-/// The tasks: an array of an object for each interpreter, in order, with its address and its tasks
-/// (`task_texts::tasks_value`); or null. The one error is want of memory.
-pub fn tasks_value(alloc: Global, told: &MemoryTold) -> Result<Value, AllocError>
-    ensures { IfOk result (λ value. view value ≡ tasks_tree_if told.now.tasks) }
-{
-    match &told.tasks {
-        Some(tasks) => all_tasks_value(alloc, tasks),
         None => Ok(Value::Null),
     }
 }

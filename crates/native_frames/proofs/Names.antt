@@ -2,6 +2,8 @@
 use Rattle.std.proofs.Common.{◌≡◌, ℕ, ◌+◌, ◌<◌, List, [], ◌∷◌, ◌++◌, length, drop, get_or, refl, sym, ap, ◌∙◌, subst}
 use Rattle.std.proofs.Common.{append_assoc, append-nil}
 use Rattle.native_frames.specs.Naming.{Each}
+use Rattle.native_frames.specs.Text.{base_behind, base_from}
+use Rattle.native_frames.proofs.Rest.{next}
 
 -- where the rest are related to more, all are to those so far and then these
 abbrev pub SoFar : {X Y : Type 0} → (X → Y → Type 0) → (all rest : List X) → List Y → Type 0
@@ -18,3 +20,10 @@ pub far_end : {X Y : Type 0} (R : X → Y → Type 0) (all rest : List X) (ys : 
     → Each R all ys
 unfolding Each
 far_end R all rest ys is inv = subst (Each R all) (append-nil ys) (inv [] (rw is refl))
+
+-- ---- the part of a path behind its last slash, byte by byte
+
+pub base_more : (base path : List ℕ) (i : ℕ) → i < length path
+    → base_from base (drop i path) ≡ base_from (base_behind base path i) (drop (i + 1) path)
+unfolding base_from
+base_more base path i lt = ap (base_from base) (next path i (get_or path i 0) 0 lt refl)

@@ -1,5 +1,5 @@
 -- What is left of a list, as a loop goes through it.
-use Rattle.std.proofs.Common.{◌≡◌, ℕ, ◌+◌, ◌<◌, List, [], ◌∷◌, ◌++◌, length, drop, get_or, map, refl, sym, ap, ◌∙◌}
+use Rattle.std.proofs.Common.{◌≡◌, ℕ, ◌+◌, ◌<◌, List, [], ◌∷◌, ◌++◌, length, drop, get_or, map, sym, ap, ◌∙◌}
 use Rattle.std.proofs.Common.{append_assoc, drop-cons, add-one, suc}
 use Rattle.std.proofs.lemmas.List.{map-append}
 

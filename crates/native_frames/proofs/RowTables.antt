@@ -1,12 +1,12 @@
 -- The entries of file tables, so far.
-use Rattle.std.proofs.Common.{◌≡◌, ℕ, ◌+◌, List, [], ◌∷◌, ◌++◌, length, refl, sym, ap, subst, ◌∙◌, arith, add-zero}
+use Rattle.std.proofs.Common.{◌≡◌, ℕ, ◌+◌, List, [], ◌∷◌, ◌++◌, length, refl, sym, ap, subst, ◌∙◌, arith}
 use Rattle.std.proofs.Common.{append_assoc}
 use Rattle.std.proofs.lemmas.List.{append-nil, map-append}
 use Rattle.std.specs.Prelude.{Bool, true, false, map}
 use Rattle.elf64_core.specs.Notes.{Noted}
 use Rattle.image_memory.specs.Notes.{is_table}
 use Rattle.native_frames.specs.declared.table.FileRow.{FileRow}
-use Rattle.native_frames.specs.Tables.{IsRowTable, Row, RowsNext, RowsSay, row_at, rows_from}
+use Rattle.native_frames.specs.Tables.{AddsRows, IsRowTable, Row, RowsSay, row_at, row_of, rows_from}
 
 abbrev pub name_of : FileRow → List ℕ
 name_of row = row.name.now
@@ -44,6 +44,28 @@ rows_add all note rest rows own after one table is inv = λ more h.
     subst (RowsSay all) (sym (append_assoc rows own more) ∙ ap (λ t. t ++ more) (sym is))
     (inv (own ++ more) (rw one ((own, more, table, h, refl))))
 
-pub rows_end : (all : List Noted) (rows : List Row) → RowsSoFar all [] rows → RowsSay all rows
+pub rows_more : (all : List Noted) (rest : List Noted) (note : Noted) (behind : List Noted) (rows after : List Row)
+    → rest ≡ note ∷ behind → AddsRows (is_table note) note.desc rows after → RowsSoFar all rest rows
+    → RowsSoFar all behind after
+rows_more all rest note behind rows after next adds inv =
+    by (is_table note) refl adds (subst (λ (ns : List Noted). RowsSoFar all ns rows) next inv)
+  where
+    by : (b : Bool) → is_table note ≡ b → AddsRows b note.desc rows after → RowsSoFar all (note ∷ behind) rows
+        → RowsSoFar all behind after
+    by true is added far = rows_add all note behind rows added.0 after is added.1 added.2 far
+    by false is added far =
+        subst (λ (rs : List Row). RowsSoFar all behind rs) (sym added) (rows_skip all note behind rows is far)
+
+pub adds_none : (note : Noted) (rows : List Row) → is_table note ≡ false
+    → AddsRows (is_table note) note.desc rows rows
+adds_none note rows e = rw e refl
+
+pub adds_own : (note : Noted) (old own new : List FileRow) → is_table note ≡ true
+    → IsRowTable note.desc (map row_of own) → new ≡ old ++ own
+    → AddsRows (is_table note) note.desc (map row_of old) (map row_of new)
+adds_own note old own new e table is =
+    rw e ((map row_of own, table, ap (map row_of) is ∙ map-append row_of old own))
+
+pub rows_end : (all rest : List Noted) (rows : List Row) → rest ≡ [] → RowsSoFar all rest rows → RowsSay all rows
 unfolding RowsSay
-rows_end all rows inv = subst (RowsSay all) (append-nil rows) (inv [] refl)
+rows_end all rest rows is inv = subst (RowsSay all) (append-nil rows) (inv [] (rw is refl))

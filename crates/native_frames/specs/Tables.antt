@@ -43,6 +43,11 @@ RowsNext false desc behind rows = behind rows
 RowsNext true desc behind rows =
     (own others : List Row) × IsRowTable desc own × behind others × (rows ≡ own ++ others)
 
+-- to some entries those of a note are added, if it is a file table
+abbrev pub AddsRows : (is_table : Bool) → List ℕ → (old new : List Row) → Type 0
+AddsRows false desc old new = new ≡ old
+AddsRows true desc old new = (own : List Row) × IsRowTable desc own × (new ≡ old ++ own)
+
 -- the file tables among some notes, in order, have these entries together
 unfoldable pub RowsSay : List Noted → List Row → Type 0
 RowsSay [] rows = rows ≡ []

@@ -1,6 +1,6 @@
 -- The lines of a native stack.
-use Rattle.std.specs.Prelude.{ℕ, zero, ◌+◌, ◌-◌, ◌++◌, ◌==◌, min, max, if◌then◌else◌, Bool, true, false, List, [], ◌∷◌}
-use Rattle.std.specs.Prelude.{length, map, take, drop, Option, Some, None, slice_get, codes, decimal}
+use Rattle.std.specs.Prelude.{ℕ, ◌+◌, ◌-◌, ◌++◌, ◌==◌, min, max, if◌then◌else◌, Bool, true, false, List, [], ◌∷◌}
+use Rattle.std.specs.Prelude.{length, map, take, drop, Option, Some, None, slice_get, slice_index_or, codes, decimal}
 use Rattle.std.specs.Fmt.{digits}
 use Rattle.std.specs.List.{concat}
 use Rattle.bstr.specs.Utf8.{lossy_chars}
@@ -24,6 +24,10 @@ address_text n = codes "0x" ++ digits 16 false n
 unfoldable pub base_from : (base path : List ℕ) → List ℕ
 base_from base [] = base
 base_from base (byte ∷ path) = base_from (if byte == 47 then path else base) path
+
+-- the same, by one byte alone
+abbrev pub base_behind : (base path : List ℕ) → (index : ℕ) → List ℕ
+base_behind base path index = if slice_index_or path index 0 == 47 then drop (index + 1) path else base
 
 abbrev pub base_name : List ℕ → List ℕ
 base_name path = base_from path path

@@ -1,7 +1,6 @@
 -- The JSON of a native stack. The keys of an object stand in the order of their bytes. Addresses are texts: a number of
 -- JSON is exact up to 2^53 alone.
-use Rattle.std.specs.Prelude.{ℕ, Bool, List, [], ◌∷◌, map, Option, Some, None, slice_get, codes, encode_utf8_all}
-use Rattle.std.specs.Prelude.{option_and_then, option_map}
+use Rattle.std.specs.Prelude.{ℕ, List, map, Option, Some, None, slice_get, codes, encode_utf8_all}
 use Rattle.bstr.specs.Utf8.{lossy_chars}
 use Rattle.serde_json.specs.Data.{Data, array, boolean, member, no_members, null, number, object, string, unsigned}
 use Rattle.serde_json.specs.View.{items_of}

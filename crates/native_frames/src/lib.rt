@@ -6,6 +6,7 @@
 #![tactic(auto)]
 
 mod escape;
+mod files;
 mod limits;
 mod mapped;
 mod naming;

@@ -1,9 +1,10 @@
 //! The files that a process had mapped, with their bytes where they are at hand.
-ghost use Rattle.std.specs.Prelude.{◌≡◌, ◌++◌, ◌∷◌, [], IfOk, OnOk, map, option_copied, length};
+ghost use Rattle.std.specs.Prelude.{◌≡◌, ◌++◌, IfOk, OnOk, map, option_copied};
 ghost use Rattle.elf64_core.specs.Notes.{noted};
 ghost use Rattle.native_frames.specs.Mapped.{AreMapped, bytes_under, mapping_shown, mappings_from, names_of, row_mapping};
 ghost use Rattle.native_frames.specs.Mapped.{vdso_mappings, vdso_names};
-ghost use Rattle.native_frames.specs.Tables.{RowsSay, row_of};
+ghost use Rattle.image_memory.specs.Notes.{is_table};
+ghost use Rattle.native_frames.specs.Tables.{AddsRows, RowsSay, row_of};
 ghost use Rattle.native_frames.specs.Vdsos.{vdso_shown};
 
 use crate::table::{FileRow, table_rows};
@@ -20,16 +21,37 @@ pub struct Mapped<'a> {
     pub mappings: CodeMap<'a>,
 }
 
+/// Whether a note is a file table.
+fn is_table(note: &Note<'_>) -> bool
+    ensures { result ≡ is_table (noted note.now) }
+{
+    note.kind == NT_FILE
+}
+
+/// Adds the entries of a note, if it is a file table.
+fn add_rows<'a>(
+    alloc: Global,
+    rows: &mut Vec<FileRow<'a>>,
+    note: &Note<'a>,
+) -> Result<(), AllocError>
+    ensures { OnOk result (AddsRows (is_table (noted note.now)) note.now.desc.now (map row_of rows.old.items)
+        (map row_of rows.new.items)) }
+{
+    if !is_table(note) {
+        return Ok(());
+    }
+    let own = table_rows(alloc, note.desc)?;
+    rows.extend_from_slice(&own)?;
+    Ok(())
+}
+
 /// The entries of the file tables among notes, in order. The error is want of memory, or that one is no file table.
 fn rows_in<'a>(alloc: Global, notes: &[Note<'a>]) -> Result<Vec<FileRow<'a>>, AllocError>
     ensures { IfOk result (λ rows. RowsSay (map noted notes.now) (map row_of rows.items)) }
 {
     let mut rows = Vec::new(alloc);
     for note in notes {
-        if note.kind == NT_FILE {
-            let own = table_rows(alloc, note.desc)?;
-            rows.extend_from_slice(&own)?;
-        }
+        add_rows(alloc, &mut rows, note)?;
     }
     Ok(rows)
 }

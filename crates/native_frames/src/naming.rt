@@ -54,6 +54,21 @@ fn made<'a>(
     Ok(Some(symbols))
 }
 
+/// Keeps the symbols of the file of a number.
+fn keep<'a>(
+    mappings: &CodeMap<'a>,
+    kept: &mut Kept<'a>,
+    file: usize,
+    symbols: FileSymbols<'a>,
+) -> Result<(), AllocError>
+    requires kept { AreKept mappings.now kept.old }
+    requires own { IsKept mappings.now file symbols }
+    ensures { AreKept mappings.now kept.new }
+{
+    kept.insert(file, symbols)?;
+    Ok(())
+}
+
 /// The function at an address of the file of a number.
 fn function_in<'a>(
     alloc: Global,
@@ -74,7 +89,7 @@ fn function_in<'a>(
         return Ok(None);
     };
     let function = symbols.function_at(alloc, address, more)?;
-    kept.insert(file, symbols)?;
+    keep(mappings, kept, file, symbols)?;
     Ok(function)
 }
 
@@ -134,7 +149,7 @@ pub(crate) fn named_frames<'a>(
     ensures is { IfOk result (λ named. AreNamed mappings.now frames.now named.items) }
     ensures kept { AreKept mappings.now kept.new }
 {
-    let mut named = Vec::with_capacity(alloc, frames.len())?;
+    let mut named = Vec::new(alloc);
     for frame in frames {
         let one = named_frame(alloc, mappings, kept, frame)?;
         named.push(one)?;

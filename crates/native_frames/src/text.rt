@@ -1,26 +1,36 @@
 //! The lines of a native stack.
-ghost use Rattle.std.specs.Prelude.{◌≡◌, ◌++◌, IfOk, OnOk, map, option_copied, slice_get, string_bytes};
-ghost use Rattle.native_frames.specs.Text.{base_name, end_text, file_text, first_frames, frame_text, frames_text};
+ghost use Rattle.std.specs.Prelude.{◌≡◌, ◌<◌, ◌++◌, OnOk, length, slice_get, string_bytes};
+ghost use Rattle.native_frames.specs.Text.{base_behind, base_name, end_text, file_text, first_frames, frame_text, frames_text};
 ghost use Rattle.native_frames.specs.Text.{function_text, last_frames, limit_text, mark_text, more_text, name_text};
 ghost use Rattle.native_frames.specs.Text.{no_file_text, place_text, refusal_text, stack_text, where_text};
 ghost use Rattle.native_frames.specs.Text.{frames_between};
 ghost use Rattle.native_frames.specs.Threads.{stack_shown};
 
 use crate::escape::push_escaped;
+use crate::files::path_of;
 use crate::stacks::{Function, NativeFrame, ThreadStack};
 use core_unwind::{CodePlace, End, Limit, Refusal};
 use elf64_core::Name;
 use std::alloc::{AllocError, Global};
+
+/// The part of a path behind a byte, if that is a slash; else what is taken for that so far.
+fn base_behind<'a>(base: &'a [u8], path: &'a [u8], index: usize) -> &'a [u8]
+    requires { index < length path.now }
+    ensures { result.now ≡ base_behind base.now path.now index }
+{
+    if path[index] == 47 {
+        return &path[index + 1..];
+    }
+    base
+}
 
 /// The part of a path behind its last slash.
 fn base_name(path: &[u8]) -> &[u8]
     ensures { result.now ≡ base_name path.now }
 {
     let mut base = path;
-    for (index, byte) in path.iter().enumerate() {
-        if *byte == 47 {
-            base = &path[index + 1..];
-        }
+    for index in 0..path.len() {
+        base = base_behind(base, path, index);
     }
     base
 }
@@ -44,7 +54,7 @@ fn push_file(
     ensures { OnOk result (string_bytes text.new ≡ string_bytes text.old
         ++ file_text (slice_get files.now file)) }
 {
-    match files.get(file) {
+    match path_of(files, file) {
         Some(path) => {
             text.push_str(" (")?;
             push_name(alloc, text, base_name(path.as_bytes()))?;

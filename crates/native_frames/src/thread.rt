@@ -1,5 +1,5 @@
 //! The stack of one thread.
-ghost use Rattle.std.specs.Prelude.{◌≡◌, IfOk};
+ghost use Rattle.std.specs.Prelude.{◌≡◌, ◌-◌, IfOk, length};
 ghost use Rattle.process_memory.specs.Seen.{Reading};
 ghost use Rattle.core_unwind.specs.Stacks.{chain_of};
 ghost use Rattle.native_frames.specs.Kept.{AreKept};
@@ -142,6 +142,13 @@ fn guessed_stack<'a, P: ProcessMemory>(
     }
 }
 
+/// How many frames are left to the process behind a stack.
+fn left_after(left: usize, chain: &NativeStack) -> usize
+    ensures { result ≡ left - length chain.now.frames.items }
+{
+    left.saturating_sub(chain.frames.len())
+}
+
 /// The stack of a thread that stands at a state, and what follows that by a guess, unless `strict`.
 pub fn stack_parts<'a, P: ProcessMemory>(
     alloc: Global,
@@ -161,8 +168,8 @@ pub fn stack_parts<'a, P: ProcessMemory>(
     let followed = named_stack(alloc, process, mappings, kept, machine, left, first)?;
     let chain = followed.chain;
     let guess = guess_unless(process, mappings, machine, strict, &chain)?;
-    let left = left.saturating_sub(chain.frames.len());
-    let guessed = guessed_stack(alloc, process, mappings, kept, machine, left, guess)?;
+    let rest = left_after(left, &chain);
+    let guessed = guessed_stack(alloc, process, mappings, kept, machine, rest, guess)?;
     Ok(StackParts {
         stack: followed.told,
         guessed,

@@ -1,13 +1,13 @@
 //! A native stack as a JSON value.
-ghost use Rattle.std.specs.Prelude.{◌≡◌, IfOk, false, map, slice_get, string_bytes, encode_utf8_all};
+ghost use Rattle.std.specs.Prelude.{◌≡◌, IfOk, option_copied, string_bytes};
 ghost use Rattle.serde_json.specs.View.{view};
-ghost use Rattle.serde_json.specs.Written.{has_float};
 ghost use Rattle.native_frames.specs.Text.{address_text};
 ghost use Rattle.native_frames.specs.Threads.{stack_shown};
 ghost use Rattle.native_frames.specs.Trees.{address_tree, end_address, end_kind, file_tree, frame_tree, frames_tree};
 ghost use Rattle.native_frames.specs.Trees.{end_tree, function_name_tree, missing_tree, name_tree, offset_tree};
 ghost use Rattle.native_frames.specs.Trees.{place_address, place_file, stack_tree};
 
+use crate::files::path_of;
 use crate::stacks::{Function, NativeFrame, ThreadStack};
 use crate::text::{first_frames, frames_between, last_frames};
 use core_unwind::{CodePlace, End, Limit, Refusal};
@@ -43,15 +43,22 @@ fn name_value(alloc: Global, name: &Name) -> Result<Value, AllocError>
     Value::try_from_str(alloc, text.as_str())
 }
 
+/// A path, or null.
+fn path_value(alloc: Global, path: Option<&Name>) -> Result<Value, AllocError>
+    ensures { IfOk result (λ value. view value ≡ missing_tree (option_copied path.entry)) }
+{
+    match path {
+        Some(path) => name_value(alloc, path),
+        None => Ok(Value::Null),
+    }
+}
+
 /// The path of the file of a number, or null.
 fn file_value(alloc: Global, files: &[Name], file: Option<usize>) -> Result<Value, AllocError>
     ensures { IfOk result (λ value. view value ≡ file_tree files.now file) }
 {
     match file {
-        Some(file) => match files.get(file) {
-            Some(path) => name_value(alloc, path),
-            None => Ok(Value::Null),
-        },
+        Some(file) => path_value(alloc, path_of(files, file)),
         None => Ok(Value::Null),
     }
 }

@@ -1,5 +1,5 @@
 -- The native stacks of a process.
-use Rattle.std.specs.Prelude.{◌≡◌, ℕ, Bool, true, List, map, Option, Some, None, option_map}
+use Rattle.std.specs.Prelude.{ℕ, Bool, true, List, map, Option, option_map}
 use Rattle.elf64_core.specs.Header.{machine_of}
 use Rattle.elf64_core.specs.Notes.{Noted}
 use Rattle.image_memory.specs.Images.{Pushed}
@@ -9,7 +9,7 @@ use Rattle.thread_registers.specs.Threads.{ThreadShown, thread_shown as known_sh
 use Rattle.thread_registers.specs.declared.threads.PythonThread.{PythonThread}
 use Rattle.thread_registers.specs.declared.threads.ThreadRegisters.{ThreadRegisters}
 use Rattle.native_stacks.specs.declared.stacks.NativeStacks.{NativeStacks}
-use Rattle.native_stacks.specs.Mapped.{AreMapped}
+use Rattle.native_frames.specs.Mapped.{AreMapped}
 use Rattle.native_stacks.specs.Threads.{AreThreads, NativeShown, thread_shown}
 
 -- what is told: the paths of the files, and the threads

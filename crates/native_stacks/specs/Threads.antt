@@ -1,5 +1,5 @@
 -- The native stacks of the threads of status records.
-use Rattle.std.specs.Prelude.{◌≡◌, ℕ, ◌+◌, ◌-◌, ◌&&◌, nat_eq, not, Bool, true, false, List, [], ◌∷◌, length, Option, Some}
+use Rattle.std.specs.Prelude.{◌≡◌, ℕ, ◌-◌, ◌&&◌, nat_eq, nat_le, not, Bool, false, List, [], ◌∷◌, length, Option, Some}
 use Rattle.std.specs.Prelude.{None, option_map}
 use Rattle.elf64_core.specs.Fields.{u16_in}
 use Rattle.elf64_core.specs.Notes.{Noted}
@@ -39,7 +39,7 @@ HasStacks mappings m strict left (Some s) stack guessed =
 
 -- the first status record is that of the thread that got the signal, where it names one
 abbrev pub is_crash : (is_first : Bool) → List ℕ → Bool
-is_crash is_first status = is_first && not (nat_eq (u16_in status 12) 0)
+is_crash is_first status = is_first && (nat_le 14 (length status) && not (nat_eq (u16_in status 12) 0))
 
 -- a thread by its record, of which so much is known
 pub record IsThread (machine : ElfMachine) (mappings : List Mapping) (m : Memory) (strict is_first : Bool) (left : ℕ)
@@ -54,8 +54,9 @@ abbrev pub count_of : Option StackShown → ℕ
 count_of None = 0
 count_of (Some s) = length s.frames
 
-abbrev pub frame_count : NativeShown → ℕ
-frame_count t = count_of t.stack + count_of t.guessed
+-- how many frames are left to the process behind a thread
+abbrev pub left_behind : (left : ℕ) → NativeShown → ℕ
+left_behind left t = (left - count_of t.stack) - count_of t.guessed
 
 -- the thread of a record, and then those of the records behind it
 abbrev pub ThreadThen : Option ThreadShown → (ThreadShown → NativeShown → Type 0)
@@ -63,7 +64,7 @@ abbrev pub ThreadThen : Option ThreadShown → (ThreadShown → NativeShown → 
 ThreadThen None here behind is_first left threads = behind is_first left threads
 ThreadThen (Some known) here behind is_first left threads =
     (t : NativeShown) × (others : List NativeShown) × (threads ≡ t ∷ others) × here known t
-    × behind false (left - frame_count t) others
+    × behind false (left_behind left t) others
 
 -- the threads of a process: one for each status record, in the order of the notes
 unfoldable pub AreThreads : ElfMachine → List PythonThread → List Mapping → Memory → (strict : Bool) → List Noted
@@ -76,6 +77,21 @@ AreThreads machine pythons mappings m strict (note ∷ notes) is_first left thre
 
 -- ---- as it is read
 
+-- the thread of a note, if that is a status record
+abbrev pub IsThreadOf : ElfMachine → List Mapping → Memory → (strict is_first : Bool) → (left : ℕ) → List ℕ
+    → Option ThreadShown → Option NativeShown → Type 0
+IsThreadOf machine mappings m strict is_first left status None thread = thread ≡ None
+IsThreadOf machine mappings m strict is_first left status (Some known) thread =
+    (t : NativeShown) × (thread ≡ Some t) × IsThread machine mappings m strict is_first left known status t
+
+abbrev pub first_after : (is_first : Bool) → Option NativeShown → Bool
+first_after is_first None = is_first
+first_after is_first (Some t) = false
+
+abbrev pub left_after : (left : ℕ) → Option NativeShown → ℕ
+left_after left None = left
+left_after left (Some t) = left_behind left t
+
 abbrev pub thread_shown : NativeThread → NativeShown
 thread_shown t = record {
   system_id = t.system_id;
@@ -84,3 +100,6 @@ thread_shown t = record {
   stack = stack_shown_if t.stack;
   guessed = stack_shown_if t.guessed;
 }
+
+abbrev pub thread_shown_if : Option NativeThread → Option NativeShown
+thread_shown_if t = option_map thread_shown t

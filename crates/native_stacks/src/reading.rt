@@ -1,5 +1,5 @@
 //! The native stacks of all threads.
-ghost use Rattle.std.specs.Prelude.{◌≡◌, ◌≤◌, IfOk, length, map};
+ghost use Rattle.std.specs.Prelude.{◌≡◌, ◌++◌, IfOk, OnOk, length, map, option_to_list, true};
 ghost use Rattle.elf64_core.specs.Notes.{noted};
 ghost use Rattle.process_memory.specs.Seen.{Reading};
 ghost use Rattle.native_frames.specs.Kept.{AreKept};
@@ -7,8 +7,8 @@ ghost use Rattle.native_frames.specs.Limits.{frame_machine, most_reads, thread_m
 ghost use Rattle.native_frames.specs.Threads.{stack_shown_if};
 ghost use Rattle.thread_registers.specs.Threads.{thread_noted, thread_shown as known_shown};
 ghost use Rattle.native_stacks.specs.Stacks.{AreNativeStacks, known_shown_if, stacks_shown};
-ghost use Rattle.native_stacks.specs.Threads.{AreThreads, HasStacks, IsThread, count_of, frame_count, is_crash};
-ghost use Rattle.native_stacks.specs.Threads.{state_by, thread_shown};
+ghost use Rattle.native_stacks.specs.Threads.{AreThreads, HasStacks, IsThread, IsThreadOf, count_of, first_after};
+ghost use Rattle.native_stacks.specs.Threads.{is_crash, left_after, state_by, thread_shown, thread_shown_if};
 
 use crate::stacks::{NativeStacks, NativeThread};
 use core_unwind::{CodeMap, State, thread_state};
@@ -46,10 +46,9 @@ fn state_by(machine: Option<FrameMachine>, status: &[u8]) -> Option<(FrameMachin
 
 /// Whether a record is that of the thread that got the signal: the first one, and it names a signal.
 fn is_crash(is_first: bool, status: &[u8]) -> bool
-    requires { 112 ≤ length status.now }
     ensures { result ≡ is_crash is_first status.now }
 {
-    is_first && u16_in(status, 12) != 0
+    is_first && status.len() >= 14 && u16_in(status, 12) != 0
 }
 
 /// The stacks of a thread that stands where its record tells.
@@ -97,7 +96,6 @@ fn thread_of<'a, P: ProcessMemory>(
     known: &ThreadRegisters,
     status: &[u8],
 ) -> Result<NativeThread, AllocError>
-    requires whole { 112 ≤ length status.now }
     requires kept { AreKept mappings.now kept.old }
     ensures is { Reading thread_most (P.seen process.old) (P.seen process.new) (λ m. IfOk result (λ thread.
         IsThread machine mappings.now m strict is_first left (known_shown known.now) status.now
@@ -130,13 +128,6 @@ fn known_of(
     Ok(known.pop())
 }
 
-/// How many frames a thread has.
-fn frame_count(thread: &NativeThread) -> usize
-    ensures { result ≡ frame_count (thread_shown thread.now) }
-{
-    count_of(&thread.stack).saturating_add(count_of(&thread.guessed))
-}
-
 /// How many frames a stack has.
 fn count_of(stack: &Option<ThreadStack>) -> usize
     ensures { result ≡ count_of (stack_shown_if stack.now) }
@@ -145,6 +136,69 @@ fn count_of(stack: &Option<ThreadStack>) -> usize
         Some(stack) => stack.frames.len(),
         None => 0,
     }
+}
+
+/// The thread of a note, if that is a status record.
+fn thread_noted<'a, P: ProcessMemory>(
+    alloc: Global,
+    process: &mut P,
+    mappings: &CodeMap<'a>,
+    kept: &mut Kept<'a>,
+    machine: Machine,
+    pythons: &[PythonThread],
+    strict: bool,
+    is_first: bool,
+    left: usize,
+    note: &Note<'_>,
+) -> Result<Option<NativeThread>, AllocError>
+    requires kept { AreKept mappings.now kept.old }
+    ensures is { Reading thread_most (P.seen process.old) (P.seen process.new) (λ m. IfOk result (λ thread.
+        IsThreadOf machine mappings.now m strict is_first left (noted note.now).desc
+        (thread_noted machine pythons.now (noted note.now)) (thread_shown_if thread))) }
+    ensures kept { AreKept mappings.now kept.new }
+{
+    match known_of(alloc, machine, pythons, note)? {
+        Some(known) => {
+            let thread = thread_of(
+                alloc, process, mappings, kept, machine, strict, is_first, left, &known, note.desc,
+            )?;
+            Ok(Some(thread))
+        }
+        None => Ok(None),
+    }
+}
+
+/// How many frames are left to the process behind a thread.
+fn left_after(left: usize, thread: &Option<NativeThread>) -> usize
+    ensures { result ≡ left_after left (thread_shown_if thread.now) }
+{
+    match thread {
+        Some(thread) => left
+            .saturating_sub(count_of(&thread.stack))
+            .saturating_sub(count_of(&thread.guessed)),
+        None => left,
+    }
+}
+
+/// Whether the thread behind is the first one.
+fn first_after(is_first: bool, thread: &Option<NativeThread>) -> bool
+    ensures { result ≡ first_after is_first (thread_shown_if thread.now) }
+{
+    match thread {
+        Some(_) => false,
+        None => is_first,
+    }
+}
+
+/// Adds a thread, if there is one.
+fn push_if(threads: &mut Vec<NativeThread>, thread: Option<NativeThread>) -> Result<(), AllocError>
+    ensures { OnOk result (map thread_shown threads.new.items ≡ map thread_shown threads.old.items
+        ++ option_to_list (thread_shown_if thread)) }
+{
+    if let Some(thread) = thread {
+        threads.push(thread)?;
+    }
+    Ok(())
 }
 
 /// The threads of the status records among notes.
@@ -166,16 +220,12 @@ fn threads_of<'a, P: ProcessMemory>(
     let mut left = MOST_FRAMES;
     let mut is_first = true;
     for note in notes {
-        let known = known_of(alloc, machine, pythons, note)?;
-        if let Some(known) = known {
-            let thread = thread_of(
-                alloc, process, mappings, &mut kept, machine, strict, is_first, left, &known,
-                note.desc,
-            )?;
-            left = left.saturating_sub(frame_count(&thread));
-            is_first = false;
-            threads.push(thread)?;
-        }
+        let thread = thread_noted(
+            alloc, process, mappings, &mut kept, machine, pythons, strict, is_first, left, note,
+        )?;
+        left = left_after(left, &thread);
+        is_first = first_after(is_first, &thread);
+        push_if(&mut threads, thread)?;
     }
     Ok(threads)
 }

@@ -21,7 +21,8 @@ use Rattle.core_stacks.specs.Process.{OpenedProcess, ProcessIs}
 use Rattle.py_process.specs.Reports.{memory_in}
 use Rattle.thread_names.specs.declared.names.InterpreterNames.{InterpreterNames}
 use Rattle.memory_sections.specs.Each.{EachTold}
-use Rattle.memory_sections.specs.Told.{AreNamesOf}
+use Rattle.memory_sections.specs.Told.{AreNamesOf, AreNative}
+use Rattle.native_stacks.specs.declared.stacks.NativeStacks.{NativeStacks}
 use Rattle.salvage_report.specs.Outcome.{IsLeft}
 use Rattle.named_images.specs.Named.{images_read}
 use Rattle.program_run.specs.Reading.{AreRead}
@@ -93,3 +94,11 @@ pub record SaysNames (s : Salvage) (told : Told) (old new : SinkSeen) : Type 0 w
   pub is : has.left.memory.names ≡ Some names
   pub are : EachTold (AreNamesOf has.opened.layout (memory_in has.opened.dumped)) has.left.salvaged.interpreters.items
       names.items
+
+-- the native stacks of the threads that the core's notes tell, without guesses where that is asked for
+pub record SaysNative (s : Salvage) (told : Told) (old new : SinkSeen) : Type 0 where
+  pub has : HasSalvaged s told old new
+  pub stacks : NativeStacks
+  pub is : has.left.memory.native ≡ Some stacks
+  pub are : AreNative s.sections.strict has.core (images_read s.images has.images) (memory_in has.opened.dumped)
+      (python_threads has.left.salvaged.interpreters.items) stacks

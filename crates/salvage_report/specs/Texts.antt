@@ -37,20 +37,20 @@ section_text text (Some told) = text told
 
 -- the signal, beside the core's name, and how it came about; the process, the version, and what is left; what is told in
 -- the sections that are read in memory; the registers, and what the process says of the layout
-abbrev pub left_text : List ℕ → Left → List ℕ
-left_text core left = signal_text (core_name core) left.signal ++ (section_text info_text left.told.signal
+abbrev pub left_text : List ℕ → (limit : ℕ) → Left → List ℕ
+left_text core limit left = signal_text (core_name core) left.signal ++ (section_text info_text left.told.signal
     ++ (process_text left.process ++ (version_line left.version ++ (salvaged_text left.salvaged
-    ++ (memory_text left.memory ++ (section_text threads_text (registers_shown left.told.registers)
+    ++ (memory_text limit left.memory ++ (section_text threads_text (registers_shown left.told.registers)
     ++ section_text check_text (check_of left.check)))))))
 
 -- that, or JSON where it is asked for
 abbrev pub shown_left : Salvage → Left → List ℕ
 shown_left s left =
-    if s.json then left_json left else left_text s.core left
+    if s.json then left_json s.limit left else left_text s.core s.limit left
 
 unfoldable pub help_text : List ℕ
 help_text = codes "pysalvage CORE --layouts FILE [--records FILE] [-n N] [-l].. [-j] [--signal] [--registers]\n"
-    ++ (codes "          [--missing] [--check-layout] [--names] [--tasks] [--native [--strict]] [PATH=FILE]..\n\n"
+    ++ (codes "          [--missing] [--check-layout] [--names] [--native [--strict]] [PATH=FILE]..\n\n"
     ++ (codes "What is left of the Python stacks in the core of a broken process, or in one that was cut: each chain "
     ++ (codes "of threads and\nframes as far as it goes. Where no mark stands a chain is whole.\n\n"
     ++ (codes "CORE            the core's file\n"
@@ -64,12 +64,11 @@ help_text = codes "pysalvage CORE --layouts FILE [--records FILE] [-n N] [-l].. 
     ++ (codes "--missing       in JSON, which ranges were asked for and are not in memory\n"
     ++ (codes "--check-layout  whether the process itself says that the layout is its own\n"
     ++ (codes "--names         the names of the threads, of each interpreter\n"
-    ++ (codes "--tasks         the tasks of asyncio, and what they wait for\n"
     ++ (codes "--native        the native stack of each thread\n"
     ++ (codes "--strict        native stacks without guesses\n"
     ++ (codes "PATH=FILE       FILE is read in place of the file that the process had mapped from PATH\n"
     ++ (codes "--help          this text\n"
-    ++ codes "--version       the version of the program\n")))))))))))))))))))
+    ++ codes "--version       the version of the program\n"))))))))))))))))))
 
 abbrev pub program_version : List ℕ
 program_version = codes "pysalvage 1.0.0\n"

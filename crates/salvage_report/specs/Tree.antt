@@ -9,7 +9,7 @@ use Rattle.py_fields.specs.Version.{version_text}
 use Rattle.crash_signal.specs.Trees.{signal_tree as info_tree}
 use Rattle.thread_registers.specs.Trees.{threads_tree}
 use Rattle.salvage_json.specs.Salvaged.{interpreters_tree, process_tree, signal_tree}
-use Rattle.memory_sections.specs.Values.{names_tree_if}
+use Rattle.memory_sections.specs.Values.{names_tree_if, native_tree_if}
 use Rattle.missed_reads.specs.Told.{RefusedTold, missed_tree}
 use Rattle.py_selftest.specs.Trees.{check_tree}
 use Rattle.salvage_report.specs.LayoutChecked.{check_of}
@@ -22,25 +22,26 @@ section_tree tree None = null
 section_tree tree (Some told) = tree told
 
 -- the keys stand in the order of their bytes
-abbrev pub left_tree : Left → Data
-left_tree left = object (
+abbrev pub left_tree : (limit : ℕ) → Left → Data
+left_tree limit left = object (
     member (codes "interpreters") (interpreters_tree left.salvaged.crash left.salvaged.interpreters.items) (
     member (codes "layout_check") (section_tree check_tree (check_of left.check)) (
     member (codes "missing") (section_tree missed_tree (missing_shown left.told.missing)) (
     member (codes "more") (boolean left.salvaged.more) (
     member (codes "names") (names_tree_if left.memory.names) (
+    member (codes "native") (native_tree_if limit left.memory.native) (
     member (codes "process") (process_tree left.process) (
     member (codes "registers") (section_tree threads_tree (registers_shown left.told.registers)) (
     member (codes "signal") (signal_tree left.signal) (
     member (codes "signal_info") (section_tree info_tree left.told.signal) (
-    member (codes "version") (string (version_text left.version)) no_members))))))))))
+    member (codes "version") (string (version_text left.version)) no_members)))))))))))
 
 -- the text of a tree: each item and member on a line of its own, two spaces deeper for each bracket
 abbrev pub pretty_text : Data → List ℕ
 pretty_text d = pretty (json_tokens (outline d))
 
-abbrev pub left_json : Left → List ℕ
-left_json left = pretty_text (left_tree left) ++ codes "\n"
+abbrev pub left_json : (limit : ℕ) → Left → List ℕ
+left_json limit left = pretty_text (left_tree limit left) ++ codes "\n"
 
 -- which reads were refused, where nothing else is told: an object of its own
 abbrev pub missing_tree : RefusedTold → Data

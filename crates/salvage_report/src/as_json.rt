@@ -14,7 +14,7 @@ ghost use Rattle.salvage_report.specs.Sections.{missing_shown, registers_shown};
 
 use crate::left::Left;
 use crash_signal::{CrashSignal, Untold};
-use memory_sections::names_value;
+use memory_sections::{names_value, native_value};
 use missed_reads::{MissedBlocks, Misses, missed_blocks, missed_value};
 use py_layout::Version;
 use py_selftest::{LayoutCheck, check_value};
@@ -72,14 +72,15 @@ fn version_of(alloc: Global, version: &Version) -> Result<String, AllocError>
     format!(in alloc; "{version}")
 }
 
-fn left_value(alloc: Global, left: &Left) -> Result<Value, AllocError>
-    ensures { IfOk result (λ value. view value ≡ left_tree left.now) }
+fn left_value(alloc: Global, limit: usize, left: &Left) -> Result<Value, AllocError>
+    ensures { IfOk result (λ value. view value ≡ left_tree limit left.now) }
 {
     let salvaged = &left.salvaged;
     let interpreters = interpreters_value(alloc, salvaged.crash, &salvaged.interpreters)?;
     let layout_check = layout_value(alloc, &left.check)?;
     let missing = missing_value(alloc, &left.told.missing)?;
     let names = names_value(alloc, &left.memory)?;
+    let native = native_value(alloc, limit, &left.memory)?;
     let process = process_value(alloc, &left.process)?;
     let registers = registers_value(alloc, &left.told.registers)?;
     let signal = signal_value(alloc, left.signal)?;
@@ -91,6 +92,7 @@ fn left_value(alloc: Global, left: &Left) -> Result<Value, AllocError>
         "missing": missing,
         "more": salvaged.more,
         "names": names,
+        "native": native,
         "process": process,
         "registers": registers,
         "signal": signal,
@@ -108,11 +110,12 @@ fn pretty(alloc: Global, value: &Value) -> Result<String, AllocError>
 }
 
 /// All of it as one object, on lines, with a line feed at the end. The keys stand in the order of their bytes. The key
-/// of a section that isn't asked for is null. The one error is want of memory.
-pub(crate) fn left_json(alloc: Global, left: &Left) -> Result<String, AllocError>
-    ensures { IfOk result (λ text. string_bytes text ≡ left_json left.now) }
+/// of a section that isn't asked for is null. Of a native stack the first and the last `limit` frames are there. The one
+/// error is want of memory.
+pub(crate) fn left_json(alloc: Global, limit: usize, left: &Left) -> Result<String, AllocError>
+    ensures { IfOk result (λ text. string_bytes text ≡ left_json limit left.now) }
 {
-    let value = left_value(alloc, left)?;
+    let value = left_value(alloc, limit, left)?;
     let mut text = pretty(alloc, &value)?;
     text.push_str("\n")?;
     Ok(text)

@@ -6,7 +6,8 @@ ghost use Rattle.core_words.specs.Words.{texts};
 ghost use Rattle.salvage_words.specs.Salvage.{Salvage, Wanted, salvage as salvages, words_asked};
 ghost use Rattle.salvage_words.specs.Seen.{asked_by};
 ghost use Rattle.salvage_report.specs.declared.cause.Cause.{Cause as Why};
-ghost use Rattle.salvage_report.specs.Headline.{HasSalvaged, SaysLayout, SaysNames, SaysRegisters, SaysSignal};
+ghost use Rattle.salvage_report.specs.Headline.{HasSalvaged, SaysLayout, SaysNames, SaysNative, SaysRegisters};
+ghost use Rattle.salvage_report.specs.Headline.{SaysSignal};
 ghost use Rattle.salvage_report.specs.Missing.{TellsRefused};
 ghost use Rattle.salvage_report.specs.Outcome.{IsFaultless, IsOutcome, cause_status};
 ghost use Rattle.salvage_report.specs.Run.{HasRunAfter, IsFew, TellsContents, pysalvage};
@@ -118,9 +119,12 @@ pub fn run<F: Files, S: Sink, E: Sink>(
         → s.sections.check_layout ≡ true
         → result ≡ 0 → SaysLayout s (F.seen files.old).told (S.seen out.old) (S.seen out.new) }
 
-    // so is one that is read in the memory of the core and its images
+    // so is one that is read in the memory of the core and its images, or of its files
     ensures names { (s : Salvage) → words_asked (texts words.now) ≡ Some (salvages s) → s.sections.names ≡ true
         → result ≡ 0 → SaysNames s (F.seen files.old).told (S.seen out.old) (S.seen out.new) }
+
+    ensures native { (s : Salvage) → words_asked (texts words.now) ≡ Some (salvages s) → s.sections.native ≡ true
+        → result ≡ 0 → SaysNative s (F.seen files.old).told (S.seen out.old) (S.seen out.new) }
 
     // where it is asked for, which reads were refused is told under status 1 too
     ensures missing { (s : Salvage) → words_asked (texts words.now) ≡ Some (salvages s) → s.sections.missing ≡ true

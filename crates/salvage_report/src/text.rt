@@ -101,8 +101,13 @@ fn push_check(text: &mut String, check: &Option<LayoutCheck>) -> Result<(), Allo
 }
 
 /// The head lines, what is left, and the sections, each at its place.
-fn left_text(alloc: Global, core: &Name, left: &Left) -> Result<Vec<u8>, AllocError>
-    ensures { IfOk result (λ text. text.items ≡ left_text core.now left.now) }
+fn left_text(
+    alloc: Global,
+    core: &Name,
+    limit: usize,
+    left: &Left,
+) -> Result<Vec<u8>, AllocError>
+    ensures { IfOk result (λ text. text.items ≡ left_text core.now limit left.now) }
 {
     let mut text = String::new(alloc);
     push_signal(alloc, &mut text, core, left.signal)?;
@@ -111,7 +116,7 @@ fn left_text(alloc: Global, core: &Name, left: &Left) -> Result<Vec<u8>, AllocEr
     push_version(&mut text, &left.version)?;
     let salvaged = salvaged_text(alloc, &left.salvaged)?;
     text.push_str(salvaged.as_str())?;
-    push_memory(alloc, &mut text, &left.memory)?;
+    push_memory(alloc, &mut text, limit, &left.memory)?;
     push_registers(&mut text, &left.told.registers)?;
     push_check(&mut text, &left.check)?;
     Ok(text.into_bytes())
@@ -122,8 +127,8 @@ pub(crate) fn shown(alloc: Global, words: &SalvageWords, left: &Left) -> Result<
     ensures { IfOk result (λ text. text.items ≡ shown_left (asked_salvage words.now) left.now) }
 {
     if words.json {
-        let json = left_json(alloc, left)?;
+        let json = left_json(alloc, words.limit, left)?;
         return Ok(json.into_bytes());
     }
-    left_text(alloc, &words.core, left)
+    left_text(alloc, &words.core, words.limit, left)
 }

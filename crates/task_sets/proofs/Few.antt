@@ -1,7 +1,7 @@
 -- How many attributes there are, among so many slots.
-use Rattle.std.proofs.Common.{◌≡◌, ℕ, zero, suc, ◌+◌, ◌-◌, ◌≤◌, List, [], ◌∷◌, ◌++◌, length, refl, ap, sym, ◌∙◌, arith, length-append}
-use Rattle.std.specs.Prelude.{Result, Ok, Err, if◌then◌else◌, nat_lt, Bool, true, false}
-use Rattle.process_memory.specs.Memory.{Memory, Found, Fault, ◌>>=◌}
+use Rattle.std.proofs.Common.{◌≡◌, ℕ, zero, suc, ◌+◌, ◌-◌, ◌≤◌, List, [], ◌++◌, length, refl, arith, length-append}
+use Rattle.std.specs.Prelude.{Ok, Err}
+use Rattle.process_memory.specs.Memory.{Memory, Found, ◌>>=◌}
 use Rattle.py_fields.specs.declared.layout.Layout.{Layout}
 use Rattle.py_builtins.specs.declared.keys.Slots.{Slots}
 use Rattle.py_builtins.specs.declared.dicts.Slot.{Slot}
@@ -12,7 +12,17 @@ use Rattle.instance_dicts.specs.declared.attributes.Attribute.{Attribute}
 use Rattle.instance_dicts.specs.declared.forms.DictForm.{DictForm}
 use Rattle.instance_dicts.specs.declared.forms.InstanceDict.{InstanceDict}
 use Rattle.instance_dicts.specs.declared.forms.InstanceDict.TheVariants.{None as NoDict, Dict, Values}
-use Rattle.instance_dicts.specs.Attributes.{Told, at_most, attribute_of, attributes_from, dict_attributes_at, slots_by_form, told, told_by, valued}
+use Rattle.instance_dicts.specs.Attributes.{
+  Told,
+  at_most,
+  attribute_of,
+  attributes_from,
+  dict_attributes_at,
+  slots_by_form,
+  told,
+  told_by,
+  valued,
+}
 
 abbrev found : {T : Type 0} → T → Found T
 found x = Ok x

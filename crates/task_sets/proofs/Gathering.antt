@@ -1,7 +1,7 @@
 -- What is found at one place after another.
 use Rattle.std.proofs.Common.{◌≡◌, ℕ, suc, ◌+◌, ◌*◌, ◌-◌, ◌<◌, ◌≤◌, List, [], ◌++◌, refl, ◌∙◌, ap, arith, append-nil}
 use Rattle.std.proofs.Math.Nat.{sub-zero}
-use Rattle.std.specs.Prelude.{Option, Some, None, Result, Ok, Err, ⊤, option_to_list}
+use Rattle.std.specs.Prelude.{Option, Some, None, Ok, Err, ⊤, option_to_list}
 use Rattle.process_memory.specs.Memory.{Memory, Found, Fault, ◌>>=◌}
 use Rattle.process_memory.specs.Seen.{Seen, FaultIs, Reading, Reads}
 use Rattle.process_memory.specs.Walk.{after_all}
@@ -37,7 +37,8 @@ gathering_init f cost seen count = record {
   reading = reading_none _ seen _ (λ m. rw sub-zero (after_all_none (gathered (f m) count 0)));
 }
 
-module _ {T : Type 0} {f : Memory → ℕ → Found (Option T)} {cost : ℕ} {s0 s1 : Seen} {count number : ℕ} {list : List T} where
+module _ {T : Type 0} {f : Memory → ℕ → Found (Option T)} {cost : ℕ} {s0 s1 : Seen} {count number : ℕ} {list : List
+    T} where
   pub gathering_more : {E : Type 0} {fault : E → Option Fault} {k : ℕ} {s2 : Seen} (x : Option T)
       → Gathering f cost s0 s1 count number list → number < count
       → Reads {E = E} fault k s1 s2 (λ m. f m number) (Ok x) → cost * number + k ≤ cost * (number + 1)

@@ -1,10 +1,9 @@
 -- Each of some addresses once, one after another.
-use Rattle.std.proofs.Common.{◌≡◌, ℕ, suc, ◌+◌, ◌<◌, ◌⊎◌, ◌↔◌, true, false, cond, List, [], ◌∷◌, ◌++◌, length, drop, get_or}
+use Rattle.std.proofs.Common.{◌≡◌, ℕ, ◌+◌, ◌<◌, ◌⊎◌, ◌↔◌, true, false, cond, List, [], ◌∷◌, ◌++◌, length, drop, get_or}
 use Rattle.std.proofs.Common.{refl, sym, ◌∙◌, ap, append_assoc, append-nil, drop-cons, add-one, inl, inr}
 use Rattle.std.specs.BTreeSet.{BTreeSet, contains}
 use Rattle.std.specs.List.{Contains}
 use Rattle.std.specs.Ordering.{nat_cmp}
-use Rattle.std.proofs.lemmas.List.{at_drop_all}
 use Rattle.std.proofs.lemmas.List.Elements.{Contains-append_left, Contains-push, Contains-push_cases}
 use Rattle.py_coroutines.specs.Awaits.{has}
 use Rattle.py_coroutines.proofs.Repeats.{contains_has, has_no}
@@ -47,8 +46,16 @@ module _ {xs : List ℕ} {i : ℕ} {list met : List ℕ} where
       let x = get_or xs i 0 in
       record {
         same = λ a. (
-          λ h. elim ((adds a).0 h) [ inl e ↦ Contains-append_left list (x ∷ []) a ((k.same a).0 e) | inr e ↦ rw e (Contains-push list x) ],
-          λ h. (adds a).1 (elim (Contains-push_cases list x a h) [ inl e ↦ inl ((k.same a).1 e) | inr e ↦ inr (sym e) ]),
+          λ h. elim ((adds a).0 h) [
+            | inl e ↦ Contains-append_left list (x ∷ []) a ((k.same a).0 e)
+            | inr e ↦ rw e
+                (Contains-push list x)
+          ],
+          λ h. (adds a).1 (elim (Contains-push_cases list x a h) [
+            | inl e ↦ inl ((k.same a).1 e)
+            | inr e ↦ inr (sym
+                e)
+          ]),
         );
         rest = append_assoc list (x ∷ []) (firsts (list ++ x ∷ []) (drop (i + 1) xs))
             ∙ ap (λ ys. list ++ ys) (sym (ap (firsts list) (next xs i lt) ∙ firsts_new list x (drop (i + 1) xs) new))

@@ -1,7 +1,8 @@
 -- Sets and weak references: CPython's `setobject` (Include/setobject.h, Objects/setobject.c) and `PyWeakReference`
--- (Include/weakrefobject.h). That a set has 2^20 entries at most, and that a reference which is not in memory stands for
+-- (Include/weakrefobject.h). That a set has 2^20 entries at most, and that a reference which is not in memory
+-- stands for
 -- itself, is this project's rule.
-use Rattle.std.specs.Prelude.{◌≡◌, ℕ, ◌+◌, ◌-◌, ◌*◌, ◌^◌, nat_lt, nat_eq, ◌||◌, Bool, Option, Some, None, List}
+use Rattle.std.specs.Prelude.{◌≡◌, ℕ, ◌+◌, ◌-◌, ◌*◌, ◌^◌, nat_lt, nat_eq, ◌||◌, Option, Some, None, List}
 use Rattle.std.specs.Prelude.{Result, Ok, Err, if◌then◌else◌}
 use Rattle.process_memory.specs.Memory.{Memory, Found, ◌>>=◌, word_at}
 use Rattle.process_memory.specs.Memory.Fault.{Entries as ManyEntries}
@@ -17,7 +18,8 @@ use Rattle.task_sets.specs.Gathered.{gathered}
 
 -- the entries of a set, by their number less 1
 unfoldable pub entries_of : ℕ → ℕ → Found Entries
-entries_of mask table = if nat_lt mask (2 ^ 20) then Ok (record { table = table; count = mask + 1 }) else Err ManyEntries
+entries_of mask table = if nat_lt mask (2 ^ 20) then Ok (record { table = table; count = mask + 1 }) else Err
+    ManyEntries
 
 unfoldable pub entries_at : SetPlaces → Memory → ℕ → Found Entries
 entries_at p m a = do

@@ -76,11 +76,7 @@ fn sets_of(set: &SetRecord, entry: &SetEntryRecord, weakref: &WeakrefRecord) -> 
 }
 
 /// The places, by sets' and the types' groups.
-fn described_by(
-    layout: &Layout,
-    types: &TypeRecords,
-    sets: Option<SetPlaces>,
-) -> Option<RootPlaces>
+fn described_by(layout: &Layout, types: &TypeRecords, sets: Option<SetPlaces>) -> Option<RootPlaces>
     ensures { result ≡ described_by layout.now types.now sets types.now.klass types.now.heap_type }
 {
     match (sets, types.klass, types.heap_type) {
@@ -99,7 +95,11 @@ pub fn places_of(layout: &Layout, records: &Records) -> Option<RootPlaces>
     ensures { result ≡ places_of layout.now records.now }
 {
     let containers = &records.containers;
-    let sets = match (containers.set, containers.set_entry, records.callables.weakref) {
+    let sets = match (
+        containers.set,
+        containers.set_entry,
+        records.callables.weakref,
+    ) {
         (Some(set), Some(entry), Some(weakref)) => Some(sets_of(&set, &entry, &weakref)),
         _ => None,
     };

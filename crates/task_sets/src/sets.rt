@@ -138,10 +138,7 @@ fn read_object<P: ProcessMemory>(
 }
 
 /// Adds an address, where there is one.
-pub(crate) fn add_address(
-    list: &mut Vec<u64>,
-    address: Option<u64>,
-) -> Result<(), AllocFailed<u64>>
+pub(crate) fn add_address(list: &mut Vec<u64>, address: Option<u64>) -> Result<(), AllocFailed<u64>>
     ensures { OnOk result (list.new.items ≡ list.old.items ++ option_to_list address) }
 {
     match address {

@@ -77,7 +77,7 @@ def interpreter(threads: Sequence[Tree], address: int = 0x10000, searched: bool 
 def salvage(
     *interpreters: Tree, signal: Optional[int] = 11, arguments: Optional[str] = "python3 a.py", more: bool = False,
     info: Optional[Tree] = None, registers: Optional[List[Tree]] = None, layout_check: Optional[Tree] = None,
-    names: Optional[List[Tree]] = None, tasks: Optional[List[Tree]] = None,
+    names: Optional[List[Tree]] = None,
     native: Optional[List[Tree]] = None,
 ) -> Tree:
     """All of a core."""
@@ -85,7 +85,7 @@ def salvage(
     return {
         "interpreters": list(interpreters), "layout_check": layout_check, "missing": None, "more": more,
         "names": names, "native": native, "process": process, "registers": registers, "signal": signal, "signal_info": info,
-        "tasks": tasks, "version": "3.11.7",
+        "version": "3.11.7",
     }
 
 

@@ -1,5 +1,4 @@
 use Rattle.std.proofs.Common.{◌/◌, ◌∙◌, arith, length, sym}
-use Rattle.std.proofs.lemmas.Bool.Decides.{nat_tests}
 use Rattle.native_frames.proofs.Bases.{base_more}
 use Rattle.native_frames.proofs.vdso.base_in.Goals as goal
 

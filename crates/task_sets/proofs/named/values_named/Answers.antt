@@ -8,25 +8,29 @@ use Rattle.task_sets.proofs.named.values_named.Goals as goal
 
 pub loop-attribute-init : goal.loop-attribute-init
 loop-attribute-init g c =
-    rw c.new-values.ensures.items (gathering_init (λ m. named_by c.args.layout.now m c.args.name.now c.args.attributes.now) 2 _
+    rw c.new-values.ensures.items (gathering_init (λ m. named_by c.args.layout.now m c.args.name.now
+    c.args.attributes.now) 2 _
     (length c.args.attributes.now))
 
 pub returns-in_err-value : goal.returns-in_err-value
 returns-in_err-value g c =
     let p = err_from_is_err_and c.from_residual.result c.from_residual.ensures.1 in
-    rw p.1 (gathering_stop (2 * length c.args.attributes.now) p.0 c.loop-attribute.invariant c.loop-attribute-test.true (consulting_short c.in_err-value.ensures)
+    rw p.1 (gathering_stop (2 * length c.args.attributes.now) p.0 c.loop-attribute.invariant
+    c.loop-attribute-test.true (consulting_short c.in_err-value.ensures)
     (ap names_fault p.2) (omega (arith, c.loop-attribute-test.true)))
 
 pub returns-in_err-add_address : goal.returns-in_err-add_address
 returns-in_err-add_address g c =
     let p = err_from_is_err_and c.from_residual-in_err-add_address.result
     c.from_residual-in_err-add_address.ensures.1 in
-    rw p.1 (gathering_lost (2 * length c.args.attributes.now) p.0 c.loop-attribute.invariant (consulting_short c.in_ok-value.ensures) (ap names_fault p.2)
+    rw p.1 (gathering_lost (2 * length c.args.attributes.now) p.0 c.loop-attribute.invariant (consulting_short
+    c.in_ok-value.ensures) (ap names_fault p.2)
     (omega (arith, c.loop-attribute-test.true)))
 
 pub loop-attribute-preserved : goal.loop-attribute-preserved
 loop-attribute-preserved g c =
-    rw c.in_ok-add_address.ensures (gathering_more c.in_ok-value.value c.loop-attribute.invariant c.loop-attribute-test.true
+    rw c.in_ok-add_address.ensures (gathering_more c.in_ok-value.value c.loop-attribute.invariant
+    c.loop-attribute-test.true
     (consulting_short c.in_ok-value.ensures) (omega arith))
 
 pub returns : goal.returns

@@ -1,8 +1,5 @@
-use Rattle.std.proofs.Common.{◌+◌, ◌*◌, ap, arith, refl, sym}
-use Rattle.std.proofs.lemmas.Result.{err_from_is_err_and}
-use Rattle.process_memory.proofs.Reading.{reading_short, reads_end, reads_halt, reads_known, reads_next, reads_within}
-use Rattle.py_builtins.proofs.Consulted.{consulting_short, fields_short}
-use Rattle.py_names.specs.NamesError.{names_fault}
+use Rattle.std.proofs.Common.{refl}
+use Rattle.process_memory.proofs.Reading.{reads_end}
 use Rattle.task_sets.specs.Registered.{data_at}
 use Rattle.task_sets.proofs.registered.read_data.Goals as goal
 

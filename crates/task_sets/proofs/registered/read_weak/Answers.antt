@@ -1,7 +1,6 @@
-use Rattle.std.proofs.Common.{◌+◌, ◌*◌, ap, arith, refl, sym}
+use Rattle.std.proofs.Common.{ap, arith}
 use Rattle.std.proofs.lemmas.Result.{err_from_is_err_and}
-use Rattle.process_memory.proofs.Reading.{reading_short, reads_end, reads_halt, reads_known, reads_next, reads_within}
-use Rattle.py_builtins.proofs.Consulted.{consulting_short, fields_short}
+use Rattle.process_memory.proofs.Reading.{reads_halt, reads_next}
 use Rattle.py_names.specs.NamesError.{names_fault}
 use Rattle.task_sets.specs.Registered.{weak_at}
 use Rattle.task_sets.proofs.registered.read_weak.Goals as goal

@@ -1,7 +1,7 @@
-use Rattle.std.proofs.Common.{◌+◌, ◌*◌, ap, arith, refl, sym}
+use Rattle.std.proofs.Common.{ap, arith, refl}
 use Rattle.std.proofs.lemmas.Result.{err_from_is_err_and}
-use Rattle.process_memory.proofs.Reading.{reading_short, reads_end, reads_halt, reads_known, reads_next, reads_within}
-use Rattle.py_builtins.proofs.Consulted.{consulting_short, fields_short}
+use Rattle.process_memory.proofs.Reading.{reads_end, reads_halt, reads_next}
+use Rattle.py_builtins.proofs.Consulted.{consulting_short}
 use Rattle.py_names.specs.NamesError.{names_fault}
 use Rattle.task_sets.specs.Roots.{entry_at}
 use Rattle.process_memory.specs.Memory.{byte_at}
@@ -13,12 +13,15 @@ unfolding entry_at
 returns-in_err-search g c =
     let p = err_from_is_err_and c.from_residual.result c.from_residual.ensures.1 in
     let slots = c.args.dict.now.slots in
-    let few = find_most c.args.layout.now (byte_at (g.P.ProcessMemory.seen c.args.process.now).pieces) c.args.name.now slots slots.count 0 65536 in
-    rw p.1 (reads_halt 262144 p.0 _ (consulting_short c.in_err-search.ensures.answer) (ap names_fault p.2) (omega (arith, few)))
+    let few = find_most c.args.layout.now (byte_at (g.P.ProcessMemory.seen c.args.process.now).pieces)
+    c.args.name.now slots slots.count 0 65536 in
+    rw p.1 (reads_halt 262144 p.0 _ (consulting_short c.in_err-search.ensures.answer) (ap names_fault p.2) (omega
+    (arith, few)))
 
 pub returns : goal.returns
 unfolding entry_at
 returns g c =
     let slots = c.args.dict.now.slots in
-    let few = find_most c.args.layout.now (byte_at (g.P.ProcessMemory.seen c.args.process.now).pieces) c.args.name.now slots slots.count 0 65536 in
+    let few = find_most c.args.layout.now (byte_at (g.P.ProcessMemory.seen c.args.process.now).pieces)
+    c.args.name.now slots slots.count 0 65536 in
     reads_next {k = 0} 262144 _ (consulting_short c.in_ok-search.ensures.answer) (reads_end 0 refl) (omega (arith, few))

@@ -1,7 +1,7 @@
-use Rattle.std.proofs.Common.{◌+◌, ◌*◌, ap, arith, refl, sym}
+use Rattle.std.proofs.Common.{ap, arith}
 use Rattle.std.proofs.lemmas.Result.{err_from_is_err_and}
-use Rattle.process_memory.proofs.Reading.{reading_short, reads_end, reads_halt, reads_known, reads_next, reads_within}
-use Rattle.py_builtins.proofs.Consulted.{consulting_short, fields_short}
+use Rattle.process_memory.proofs.Reading.{reads_halt, reads_next}
+use Rattle.py_builtins.proofs.Consulted.{consulting_short}
 use Rattle.py_names.specs.NamesError.{names_fault}
 use Rattle.task_sets.specs.Roots.{roots_at}
 use Rattle.task_sets.proofs.roots.read_roots.Goals as goal
@@ -16,8 +16,10 @@ pub returns-in_err-found : goal.returns-in_err-found
 unfolding roots_at
 returns-in_err-found g c =
     let p = err_from_is_err_and c.from_residual-in_err-found.result c.from_residual-in_err-found.ensures.1 in
-    rw p.1 (reads_next 1572871 _ (consulting_short c.in_ok-dict.ensures.answer) (reads_halt 1572869 p.0 _ c.in_err-found.ensures (ap names_fault p.2) (omega arith)) (omega arith))
+    rw p.1 (reads_next 1572871 _ (consulting_short c.in_ok-dict.ensures.answer) (reads_halt 1572869 p.0 _
+    c.in_err-found.ensures (ap names_fault p.2) (omega arith)) (omega arith))
 
 pub returns : goal.returns
 unfolding roots_at
-returns g c = (reads_next 1572871 _ (consulting_short c.in_ok-dict.ensures.answer) (reads_next 1572869 _ c.in_ok-found.ensures c.read_module.ensures (omega arith)) (omega arith))
+returns g c = (reads_next 1572871 _ (consulting_short c.in_ok-dict.ensures.answer) (reads_next 1572869 _
+    c.in_ok-found.ensures c.read_module.ensures (omega arith)) (omega arith))

@@ -1,10 +1,8 @@
-use Rattle.std.proofs.Common.{◌+◌, ◌*◌, ap, arith, refl, sym}
+use Rattle.std.proofs.Common.{ap, arith, refl}
 use Rattle.std.proofs.lemmas.Result.{err_from_is_err_and}
-use Rattle.process_memory.proofs.Reading.{reading_short, reads_end, reads_halt, reads_known, reads_next, reads_within}
-use Rattle.py_builtins.proofs.Consulted.{consulting_short, fields_short}
+use Rattle.process_memory.proofs.Reading.{reads_end, reads_halt, reads_next}
 use Rattle.py_names.specs.NamesError.{names_fault}
 use Rattle.task_sets.specs.Sets.{led_at}
-use Rattle.std.specs.Prelude.{Some}
 use Rattle.task_sets.proofs.sets.read_led.Goals as goal
 
 pub returns-in-None : goal.returns-in-None
@@ -19,9 +17,11 @@ pub returns-in_err-object-in-Weak : goal.returns-in_err-object-in-Weak
 unfolding led_at
 returns-in_err-object-in-Weak g c =
     let p = err_from_is_err_and c.from_residual.result c.from_residual.ensures.1 in
-    rw (c.in-Some.is, c.in-Weak.is, p.1) (reads_halt 1 p.0 _ c.in_err-object-in-Weak.ensures (ap names_fault p.2) (omega arith))
+    rw (c.in-Some.is, c.in-Weak.is, p.1) (reads_halt 1 p.0 _ c.in_err-object-in-Weak.ensures (ap names_fault p.2)
+    (omega arith))
 
 pub returns-in_ok-object-in-Weak : goal.returns-in_ok-object-in-Weak
 unfolding led_at
 returns-in_ok-object-in-Weak g c =
-    rw (c.in-Some.is, c.in-Weak.is) (reads_next {k = 0} 1 _ c.in_ok-object-in-Weak.ensures (reads_end 0 refl) (omega arith))
+    rw (c.in-Some.is, c.in-Weak.is) (reads_next {k = 0} 1 _ c.in_ok-object-in-Weak.ensures (reads_end 0 refl)
+    (omega arith))

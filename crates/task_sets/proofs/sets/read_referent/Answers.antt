@@ -1,17 +1,16 @@
-use Rattle.std.proofs.Common.{◌+◌, ◌*◌, ap, arith, refl, sym}
-use Rattle.std.proofs.lemmas.Result.{err_from_is_err_and}
-use Rattle.process_memory.proofs.Reading.{reading_short, reads_end, reads_halt, reads_known, reads_next, reads_within}
-use Rattle.py_builtins.proofs.Consulted.{consulting_short, fields_short}
-use Rattle.py_names.specs.NamesError.{names_fault}
+use Rattle.std.proofs.Common.{arith, refl}
+use Rattle.process_memory.proofs.Reading.{reading_short}
 use Rattle.task_sets.specs.Sets.{referent_at}
-use Rattle.std.specs.Prelude.{Ok}
 use Rattle.process_memory.proofs.Reading.{reading_gives}
 use Rattle.task_sets.proofs.SetSteps.{unread_known}
 use Rattle.task_sets.proofs.sets.read_referent.Goals as goal
 
 pub returns-in-Ok : goal.returns-in-Ok
 unfolding referent_at
-returns-in-Ok g c = reading_gives 1 _ (reading_short c.in-Ok.ensures.answer) (omega arith) (λ m a. record { is = rw a.is refl })
+returns-in-Ok g c = reading_gives 1 _ (reading_short c.in-Ok.ensures.answer) (omega arith) (λ m a. record {
+  is = rw
+      a.is refl;
+})
 
 pub returns-in-Err : goal.returns-in-Err
 unfolding referent_at

@@ -1,7 +1,6 @@
-use Rattle.std.proofs.Common.{◌+◌, ◌*◌, ap, arith, refl, sym}
+use Rattle.std.proofs.Common.{ap, arith}
 use Rattle.std.proofs.lemmas.Result.{err_from_is_err_and}
-use Rattle.process_memory.proofs.Reading.{reading_short, reads_end, reads_halt, reads_known, reads_next, reads_within}
-use Rattle.py_builtins.proofs.Consulted.{consulting_short, fields_short}
+use Rattle.process_memory.proofs.Reading.{reads_halt, reads_next, reads_within}
 use Rattle.py_names.specs.NamesError.{names_fault}
 use Rattle.task_sets.specs.Sets.{set_at}
 use Rattle.task_sets.proofs.sets.read_set.Goals as goal
@@ -14,4 +13,5 @@ returns-in_err-entries g c =
 
 pub returns : goal.returns
 unfolding set_at
-returns g c = (reads_next 3145730 _ c.in_ok-entries.ensures.answer (reads_within 3145728 c.objects_in.ensures (omega (arith, c.in_ok-entries.ensures.few))) (omega arith))
+returns g c = (reads_next 3145730 _ c.in_ok-entries.ensures.answer (reads_within 3145728 c.objects_in.ensures
+    (omega (arith, c.in_ok-entries.ensures.few))) (omega arith))

@@ -1,0 +1,7 @@
+use Rattle.std.proofs.Common.{refl}
+use Rattle.process_memory.proofs.Reading.{reading_none}
+use Rattle.native_frames.specs.Limits.{thread_most}
+use Rattle.native_stacks.proofs.reading.halves_of.Goals as goal
+
+pub returns-in-None-clause-is : goal.returns-in-None-clause-is
+returns-in-None-clause-is g c = reading_none thread_most _ _ (λ m. rw c.in-None.is (refl, refl))

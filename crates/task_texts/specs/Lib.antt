@@ -1,5 +1,0 @@
-pub mod Counts
-pub mod Heads
-pub mod Members
-pub mod Text
-pub mod Trees
