@@ -78,12 +78,13 @@ def salvage(
     *interpreters: Tree, signal: Optional[int] = 11, arguments: Optional[str] = "python3 a.py", more: bool = False,
     info: Optional[Tree] = None, registers: Optional[List[Tree]] = None, layout_check: Optional[Tree] = None,
     names: Optional[List[Tree]] = None,
-    native: Optional[List[Tree]] = None,
+    native: Optional[List[Tree]] = None, tasks: Optional[List[Tree]] = None,
 ) -> Tree:
-    """All of a core."""
+    """All of a core. (A program that tells no tasks has no key for them.)"""
     process = None if arguments is None else {"arguments": arguments, "pid": 4711}
+    told = {} if tasks is None else {"tasks": tasks}
     return {
-        "interpreters": list(interpreters), "layout_check": layout_check, "missing": None, "more": more,
+        **told, "interpreters": list(interpreters), "layout_check": layout_check, "missing": None, "more": more,
         "names": names, "native": native, "process": process, "registers": registers, "signal": signal, "signal_info": info,
         "version": "3.11.7",
     }
