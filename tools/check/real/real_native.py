@@ -141,7 +141,7 @@ def tried_with(program: Path, ways: Sequence[str], library: Path) -> Callable[[s
     def tried(python: str) -> str:
         build = build_of(python)
         if build.version < (3, 6):
-            raise Skip("pysalvage knows no layout of it")
+            raise Skip("native_child.py is none of its programs")
         names = core_names()
         with tempfile.TemporaryDirectory(prefix="real-native-") as name:
             room = Path(name)
