@@ -27,6 +27,7 @@ LISTING = str(ROOT / "crates" / "listing" / "out" / "listing")
 OF_PROGRAM = ("--program", PROGRAM)
 OF_BOTH = ("--program", PROGRAM, "--salvage", SALVAGE)
 OF_LISTING = ("--program", LISTING)
+OF_SALVAGE = ("--salvage", SALVAGE)
 
 
 @dataclass(frozen=True)
@@ -86,13 +87,16 @@ CHECKS = (
     Check("real/real_layout", OF_BOTH, (*OF_BOTH, "--all")),
     Check("real/real_fleet", OF_BOTH, (*OF_BOTH, "--all", "--fleet")),
     Check("real/real_handler", OF_BOTH, (*OF_BOTH, "--all")),
-    Check("real/real_sections", ("--salvage", SALVAGE), ("--salvage", SALVAGE, "--all")),
+    Check("real/real_sections", OF_SALVAGE, (*OF_SALVAGE, "--all")),
     Check("real/arm_core", OF_PROGRAM),
     Check("real/compare_elf", OF_LISTING),
     Check("real/compare_frames", OF_LISTING, (*OF_LISTING, "--all")),
     Check("real/compare_maps", OF_LISTING),
     Check("real/real_types", OF_LISTING),
     Check("real/real_coroutines", OF_LISTING),
+    Check("real/real_names", OF_SALVAGE),
+    Check("real/real_native", OF_SALVAGE, (*OF_SALVAGE, "--all")),
+    Check("real/real_tasks", OF_SALVAGE),
 )
 """What is run, in order."""
 

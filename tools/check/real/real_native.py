@@ -140,8 +140,8 @@ def tried_with(program: Path, ways: Sequence[str], library: Path) -> Callable[[s
 
     def tried(python: str) -> str:
         build = build_of(python)
-        if build.version < (3, 8):
-            raise Skip("pysalvage knows no layout of it")
+        if build.version < (3, 6):
+            raise Skip("native_child.py is none of its programs")
         names = core_names()
         with tempfile.TemporaryDirectory(prefix="real-native-") as name:
             room = Path(name)

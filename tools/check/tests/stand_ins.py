@@ -78,15 +78,58 @@ def salvage(
     *interpreters: Tree, signal: Optional[int] = 11, arguments: Optional[str] = "python3 a.py", more: bool = False,
     info: Optional[Tree] = None, registers: Optional[List[Tree]] = None, layout_check: Optional[Tree] = None,
     names: Optional[List[Tree]] = None,
-    native: Optional[List[Tree]] = None,
+    native: Optional[List[Tree]] = None, tasks: Optional[List[Tree]] = None,
 ) -> Tree:
-    """All of a core."""
+    """All of a core. (A program that tells no tasks has no key for them.)"""
     process = None if arguments is None else {"arguments": arguments, "pid": 4711}
+    told = {} if tasks is None else {"tasks": tasks}
     return {
-        "interpreters": list(interpreters), "layout_check": layout_check, "missing": None, "more": more,
+        **told, "interpreters": list(interpreters), "layout_check": layout_check, "missing": None, "more": more,
         "names": names, "native": native, "process": process, "registers": registers, "signal": signal, "signal_info": info,
         "version": "3.11.7",
     }
+
+
+def task(name: Optional[str], frames: Sequence[Tree], condition: str = "waiting", waiter: Optional[str] = "_asyncio.Future",
+         end: Optional[Tree] = None, must_cancel: bool = False, number: int = 0) -> Tree:
+    """A task, with the frames of what it awaits, the innermost first."""
+    members = [{"address": "0x10", "frame": it, "kind": "coroutine"} for it in frames]
+    own = None if waiter is None else {"address": "0x20", "state": None, "type": waiter}
+    return {
+        "address": hex(0x5000 + number), "chain": {"end": end or {"address": "0x20", "kind": "future"}, "members": members}, "condition": condition,
+        "kind": "task", "loop": "0x30", "must_cancel": must_cancel, "name": name, "state": "finished" if condition == "done" else "pending",
+        "thread_id": 0x7F00 if condition == "running" else None, "waiter": own,
+    }
+
+
+def coroutine(name: str, line: int = 1, filename: str = "a.py") -> Tree:
+    """The frame of a coroutine."""
+    return {"filename": filename, "line": line, "name": name}
+
+
+def tasks(*entries: Tree, address: int = 0x10000) -> Tree:
+    """The tasks of an interpreter."""
+    return {"interpreter": hex(address), "tasks": {"entries": list(entries), "kind": "read"}}
+
+
+def native_frame(function: Optional[str], file: Optional[str], offset: int = 0x46, signal: bool = False, address: int = 0x1000) -> Tree:
+    """A native frame."""
+    return {
+        "address": None if file is None else hex(address), "cfa": None, "exact": False, "file": file, "function": function,
+        "offset": None if function is None else offset, "pc": hex(0x7F0000 + address), "signal": signal,
+    }
+
+
+def native_stack(*frames: Tree, last: Sequence[Tree] = (), between: int = 0, end: str = "whole", at: Optional[str] = None,
+                 file: Optional[str] = None) -> Tree:
+    """A part of a native stack."""
+    return {"between": between, "end": {"at": at, "file": file, "kind": end}, "frames": list(frames), "last": list(last)}
+
+
+def native_thread(system: int, stack: Optional[Tree], thread_id: Optional[int] = None, crashed: bool = False, guessed: Optional[Tree] = None) -> Tree:
+    """The native stack of a thread of the process."""
+    python = {"kind": "none"} if thread_id is None else {"kind": "thread", "thread_id": thread_id}
+    return {"crashed": crashed, "guessed": guessed, "python": python, "stack": stack, "system_id": system}
 
 
 def number(key: str, layout: int, process: Optional[int] = None) -> Tree:

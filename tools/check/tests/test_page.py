@@ -14,7 +14,7 @@ from pathlib import Path
 import rooms  # (first: it makes the other rooms known)
 
 from pystacks_tool.groups.triage import groups_of
-from pystacks_tool.model import Frame, Interpreter, Local, Report, Thread
+from pystacks_tool.model import Frame, Interpreter, Local, NativeFrame, NativeStack, Report, Task, Tasks, Thread
 from pystacks_tool.show.collapse import places
 from pystacks_tool.show.flame import WIDTH, fitted, flame_of
 from pystacks_tool.show.page import LARGEST, group_page, report_page
@@ -152,6 +152,66 @@ class Pages(unittest.TestCase):
             Path(path).write_text("if a < b:\n", encoding="utf-8")
             page = report_page(report(Thread(1, (Frame("f", path, 1),))), Style(sources=Sources()))
             self.assertIn("<pre>if a &lt; b:</pre>", page)
+
+
+def tasks(count, *frames, name="worker", kind="waiting", end=""):
+    """Tasks of one place."""
+    return tuple(Task(hex(at), f"{name} {at}", kind, kind, frames, end) for at in range(count))
+
+
+class Sections(unittest.TestCase):
+    """What stands beside the stacks of Python: tasks, and native stacks."""
+
+    def test_tasks(self):
+        own = Tasks("0x1", (*tasks(3, F, MAIN), *tasks(1, G, name="odd", end="awaits an object at 0x9"), *tasks(2, kind="done")), ("Registered, and no task: <T at 0x2>",))
+        page = report_page(report(Thread(1, (F,)), tasks=(own,)), Style())
+        reader = Reader(page)
+        self.assertEqual((reader.faults, reader.stack, page.count('href="#tasks"'), page.count('href="#native"')), ([], [], 1, 0))
+        self.assertIn("Tasks 4 (4 waiting; 2 finished aren't shown)", reader.text("p"))
+        self.assertIn('3 tasks (waiting): "worker 0", "worker 1" and 1 moreTask "odd 0" (waiting)', reader.text("b"))
+        self.assertIn('"worker 0", "worker 1", "worker 2"', reader.text("p"))
+        self.assertEqual((page.count("<summary>all of them</summary>"), reader.text("li").count("... awaits an object at 0x9")), (1, 1))
+        self.assertEqual(page.count('<p class="end">Registered, and no task: &lt;T at 0x2&gt;</p>'), 1)
+        each = report_page(report(Thread(1, (F,)), tasks=(own,)), Style(shows_all=True))
+        self.assertEqual(each.count("<summary><b>Task "), 4)
+
+    def test_faults(self):
+        page = report_page(report(Thread(1, (F,)), tasks=(Tasks("0x1", fault="not <b>"), Tasks("0x2"))), Style())
+        self.assertIn('<p class="end">Interpreter 0x1: Tasks are not told: not &lt;b&gt;</p>', page)
+        self.assertIn("<p>Interpreter 0x2: Tasks 0 (none that isn&#x27;t done)</p>", page)
+
+    def test_many(self):
+        # (those of one place once, and of them not each name; only the first places are open)
+        own = Tasks("0x1", (*tasks(20000, F, MAIN), *(it for at in range(20) for it in tasks(1, Frame(f"f{at}", "a.py", 1)))))
+        page = report_page(report(Thread(1, (F,)), tasks=(own,)), Style())
+        self.assertLess(len(page), 100_000)
+        self.assertIn(" and 19000 more</p>", page)
+        self.assertEqual((page.count("<details open>"), page.count("<details>")), (8, 13 + 1))
+
+    def test_native(self):
+        frames = (NativeFrame(1, "memset", 0x46, "/lib/libc.so.6", 9), NativeFrame(2, None, None, "/lib/fast.so", 0x77, is_signal=True), NativeFrame(3, None, None, None, None))
+        guess = (NativeFrame(4, "f", 1, "/lib/fast.so", 5, is_guess=True),)
+        stacks = (NativeStack(8, None, False, frames, 7, frames[:1], "unreadable at 0x8"), NativeStack(9, 1, True, frames, guessed=guess), NativeStack(10, None, False, is_told=False))
+        whole = report(Thread(1, (F,), 9, "Main"), native=stacks, shows_native=True)
+        page = report_page(whole, Style())
+        reader = Reader(page)
+        self.assertEqual((reader.faults, reader.stack, page.count('href="#native"')), ([], [], 1))
+        self.assertIn('Native stack of thread 9 (0x1 "Main") (crashed)Native stack of thread 8Native stack of thread 10: no registers', reader.text("b"))
+        shown = reader.text("li")
+        for it in ("memset+0x46 (libc.so.6)", "0x77 (fast.so) <signal>", "0x3 (in no file)", "f+0x1 (fast.so) <guess>", "... 7 more frames", "... unreadable at 0x8"):
+            self.assertIn(it, shown)
+        self.assertIn("In memset+0x46 (libc.so.6), called by f+0x1 (fast.so) <guess>", reader.text("dd"))
+        self.assertNotIn("Native stacks", report_page(report(Thread(1, (F,)), native=stacks), Style()))
+
+    def test_escapes(self):
+        frame = NativeFrame(1, HOSTILE, 1, f"/{HOSTILE}", 2)
+        native = (NativeStack(9, 1, True, (frame,), 1, (frame,), HOSTILE, guessed=(frame,), guessed_end=HOSTILE),)
+        own = Tasks(HOSTILE, (Task("0x1", HOSTILE, "waiting", HOSTILE, (Frame(HOSTILE, HOSTILE, 1), Frame(why=HOSTILE)), HOSTILE),), (HOSTILE,))
+        odd = report(Thread(1, (F,), name=HOSTILE), native=native, shows_native=True, tasks=(own, Tasks(HOSTILE, fault=HOSTILE)))
+        reader = Reader(report_page(odd, Style()))
+        self.assertEqual((reader.faults, reader.stack, len(reader.of("script")), reader.of("img")), ([], [], 1, []))
+        self.assertFalse([it for _, it, _ in reader.elements if any(key.startswith("on") for key in it)])
+        self.assertNotRegex(reader.text("li", "b", "p", "dd", "td", "summary"), "[\x00\u202e]")
 
 
 class Escapes(unittest.TestCase):

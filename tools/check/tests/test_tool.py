@@ -21,7 +21,7 @@ import stand_ins
 from pystacks_tool.ask.advice import NEXT, next_of
 from pystacks_tool.cores.progress import Progress
 from made import AARCH64, Segment, core_file, elf_file
-from stand_ins import frame, interpreter, local, salvage, thread
+from stand_ins import coroutine, frame, interpreter, local, native_frame, native_stack, native_thread, salvage, task, tasks, thread
 
 TOOL = TOOLS / "dump_core.py"
 
@@ -388,6 +388,174 @@ class Shown(Case):
         ran = subprocess.run(["bash", "-c", command], stdin=subprocess.DEVNULL, stdout=subprocess.PIPE, stderr=subprocess.PIPE)
         # (quietly: who reads has what it wanted)
         self.assertEqual((ran.returncode, ran.stderr), (4, b""))
+
+
+KNOWN = "pysalvage --names --tasks --native [--strict]"
+"""The help of a program that tells these sections."""
+
+LIBC, OWN, PYTHON = "/lib/libc.so.6", "/srv/fast.so", "/usr/lib/libpython3.11.so.1.0"
+
+CALLED = native_stack(native_frame("memset", LIBC), native_frame(None, "/lib/libffi.so.8.1.2"), native_frame("fill", OWN, 3), native_frame("call", PYTHON))
+"""What dies in the C library, called by a library of the program's own, which ctypes called."""
+
+
+class Tasks(Case):
+    """The tasks of asyncio."""
+
+    def shown(self, *all_of, words=()):
+        """The lines of tasks."""
+        self.programs(salvage(interpreter([CRASHED]), tasks=list(all_of)), help_text=KNOWN)
+        status, out, said = self.tool(*words)
+        self.assertEqual((status, said), (0, ""))
+        return out.split("    <module> (a.py:9)\n", 1)[1].splitlines()
+
+    def test_equal_ones_once(self):
+        pool = [task(f"worker-{at}", [coroutine("get", 7, "queues.py"), coroutine("work", 3)], number=at) for at in (10, 2, 1)]
+        others = [task("late", [coroutine("quick", 2)], "not started", None, {"kind": "created"}), task("next", [coroutine("quick", 2)], "ready", None),
+                  task("main", [coroutine("main", 9)], "running", None, {"kind": "running"}), task("gone", [], "done", None, {"kind": "finished"})]
+        front = ["Tasks 6 (1 running, 1 ready, 1 not started, 3 waiting; 1 finished isn't shown)",
+                 'Task "main" (running in thread 0x7F00)', "    main (a.py:9)"]
+        frames = ["    get (queues.py:7)", "    work (a.py:3)"]
+        rest = ['Task "late" (not started)', "    quick (a.py:2)", 'Task "next" (ready)', "    quick (a.py:2)"]
+        self.assertEqual(self.shown(tasks(*others, *pool)), [
+            *front, '3 tasks (waits for _asyncio.Future): "worker-1", "worker-2" and 1 more', *frames, *rest])
+        each = [line for name in ("worker-10", "worker-2", "worker-1") for line in (f'Task "{name}" (waits for _asyncio.Future)', *frames)]
+        self.assertEqual(self.shown(tasks(*others, *pool), words=["--all"]), [*front, *rest, *each])
+        self.assertEqual(self.shown(tasks(*others, *pool), words=["--no-tasks"])[:1], front[:1])
+        self.assertNotIn("--tasks", (self.folder / "pysalvage.said" / "words").read_text().split("\n"))
+
+    def test_others(self):
+        lost = {"address": "0x5000", "fault": {"address": "0x8", "kind": "unreadable", "length": 8}, "kind": "lost"}
+        other = {"address": "0x6000", "kind": "other", "type": "Task"}
+        nameless = task(None, [coroutine("f")], must_cancel=True, waiter=None, end={"address": "0x99", "kind": "cycle"})
+        broken = task("broken", [{"filename": None, "line": 0, "name": None}, None], end={"kind": "not stored"})
+        self.assertEqual(self.shown(tasks(nameless, broken, lost, other)), [
+            "Tasks 2 (2 waiting)", "Task 0x5000 (waiting, to be cancelled)", "    f (a.py:1)", "    ... awaits the one at 0x99 again",
+            'Task "broken" (waits for _asyncio.Future)', "    ? a name that can't be read", "    ? a coroutine without a frame",
+            "    ... what it awaits is not stored", "Task 0x5000 is not told: unreadable at 0x8, 8 bytes", "Registered, and no task: <Task at 0x6000>"])
+
+    def test_faults(self):
+        for told, line in (({"kind": "not described"}, "not described for this version"), ({"kind": "too many"}, "there are more than are looked at"),
+                           ({"kind": "another size", "size": 168}, "they have 168 bytes, which is not described"),
+                           ({"kind": "malformed"}, "something on the way is not what it has to be"),
+                           ({"address": "0x8", "kind": "unreadable", "length": 24}, "unreadable at 0x8, 24 bytes")):
+            self.assertEqual(self.shown({"interpreter": "0x10000", "tasks": told}), [f"Tasks are not told: {line}"])
+        self.assertEqual(self.shown({"interpreter": "0x10000", "tasks": None}), [])
+        self.assertEqual(self.shown(tasks(), tasks(task("a", [coroutine("f")]), address=0x20000)), [
+            "Interpreter 0x10000: Tasks 0 (none that isn't done)", "Interpreter 0x20000: Tasks 1 (1 waiting)",
+            'Task "a" (waits for _asyncio.Future)', "    f (a.py:1)"])
+
+    def test_a_name_forges_no_line(self):
+        name = "a\"\n    forged (a.py:1)\nTask \u202e"
+        lines = self.shown(tasks(task(name, [coroutine("...\n5 more frames")], waiter="\nTask \"x\" (ready)", end={"address": "0x9", "kind": "object"})))
+        self.assertEqual(lines, [
+            "Tasks 1 (1 waiting)", 'Task "a\\u{22}\\u{a}    forged (a.py:1)\\u{a}Task \\u{202e}" (waits for \\u{a}Task "x" (ready))',
+            "    \\u{2e}..\\u{a}5 more frames (a.py:1)", "    ... awaits an object at 0x9"])
+
+    def test_many(self):
+        # (a screen has so many lines: those of most tasks are shown, and the others counted)
+        rows = [task(f"{place} {at}", [coroutine(f"f{place}")], number=100 * place + at) for place in range(40) for at in range(1 + place % 7)]
+        lines = self.shown(tasks(*rows))
+        self.assertEqual((lines[1], len(lines)), ('7 tasks (waits for _asyncio.Future): "6 0", "6 1" and 5 more', 42))
+        self.assertEqual(lines[-1], "... 44 more tasks at 20 other places: --all shows each")
+        self.assertEqual(len(self.shown(tasks(*rows), words=["--stacks"])), 81)
+
+
+    def test_files(self):
+        # (the names of asyncio's types may stand in its module alone; for native stacks each file is handed over)
+        paths = [os.fsencode(self.put(name, elf_file(3, []))) for name in ("bin/python3.11", "lib/_asyncio.cpython-311-x86_64-linux-gnu.so", "lib/_json.so")]
+        self.core = self.put("core", core_file([Segment(0x1000 * (1 + at), b"", 4 if at else 5, None, path) for at, path in enumerate(paths)]))
+        words = [os.fsdecode(it + b"=" + it) for it in paths]
+        for help_text, more, count in ((KNOWN[:KNOWN.index(" --native")], (), 2), (KNOWN[:KNOWN.index(" --native")], ("--no-tasks",), 1), (KNOWN, ("--native",), 3)):
+            self.programs(salvage(interpreter([CRASHED]), native=[]), help_text=help_text)
+            self.assertEqual(self.tool(*more)[0], 0)
+            said = (self.folder / "pysalvage.said" / "words").read_text().split("\n")
+            self.assertEqual([it for it in words if it in said], words[:count])
+
+
+class Native(Case):
+    """Native stacks, and where a process died."""
+
+    def shown(self, *stacks, words=(), help_text=KNOWN, **more):
+        """The lines of a report."""
+        names = [{"fault": None, "interpreter": "0x10000", "threads": [{"name": "Main", "thread_id": 0x7F00}]}]
+        self.programs(salvage(interpreter([CRASHED]), native=list(stacks), names=names, **more), help_text=help_text)
+        status, out, said = self.tool(*words)
+        self.assertEqual((status, said), (0, ""))
+        return out.splitlines()
+
+    def where(self, stack, **more):
+        """The line that says where it died, if there is one."""
+        lines = self.shown(native_thread(99, stack, 0x7F00, True, more.pop("guessed", None)), **more)
+        return lines[3:lines.index("")]
+
+    def test_where(self):
+        line = "In memset+0x46 (libc.so.6), called by fill+0x3 (fast.so)"
+        self.assertEqual(self.where(CALLED), [line])
+        self.assertEqual(self.where(CALLED, signal=6), [line])
+        self.assertEqual(self.where(native_stack(native_frame(None, OWN, address=0x77), native_frame("call", PYTHON))), ["In 0x77 (fast.so)"])
+        guessed = native_stack(native_frame("fill", OWN, 3))
+        nowhere = native_stack(native_frame(None, None), end="no file", at="0x0")
+        self.assertEqual(self.where(nowhere, guessed=guessed), ["In 0x7f1000 (in no file), called by fill+0x3 (fast.so) <guess>"])
+        guessed = native_stack(native_frame("call", PYTHON))
+        self.assertEqual(self.where(nowhere, guessed=guessed), ["In 0x7f1000 (in no file), called by call+0x46 (libpython3.11.so.1.0) <guess>"])
+        self.assertEqual(self.where(nowhere), ["In 0x7f1000 (in no file)"])
+        handler = native_stack(native_frame(None, LIBC, signal=True), *CALLED["frames"])
+        self.assertEqual(self.where(handler), [line])
+
+    def test_where_python_died(self):
+        for stack in (native_stack(native_frame("f", PYTHON), native_frame("fill", OWN)), native_stack(native_frame("abort", LIBC), native_frame("os_abort", PYTHON)),
+                      native_stack(native_frame("abort", LIBC), native_frame("main", "/usr/bin/python3.11"), native_frame("fill", OWN)),
+                      native_stack(native_frame("abort", LIBC)), native_stack(), None):
+            self.assertEqual(self.where(stack), [])
+        self.assertEqual(self.where(CALLED, signal=15), [])
+        self.assertEqual(self.where(CALLED, words=["--no-where"]), [])
+        self.assertEqual(self.where(CALLED, help_text="pysalvage --names"), [])
+        self.assertEqual(self.shown(native_thread(98, CALLED))[3], "")
+
+    def test_stacks(self):
+        deep = native_stack(native_frame("read", LIBC), native_frame(None, LIBC, signal=True), last=[native_frame("main", PYTHON)], between=7,
+                            end="no file", at="0x99", file="/opt/lib(x).so")
+        guess = native_stack(native_frame("f", OWN), end="unreadable", at="0x8")
+        stacks = [native_thread(7, deep), native_thread(8, None), native_thread(99, CALLED, 0x7F00, True, guess)]
+        lines = self.shown(*stacks, words=["--native"])
+        self.assertEqual(lines[lines.index("    <module> (a.py:9)") + 1:], [
+            'Native stack of thread 99 (0x7F00 "Main") (crashed)', "    memset+0x46 (libc.so.6)", "    0x1000 (libffi.so.8.1.2)", "    fill+0x3 (fast.so)",
+            "    call+0x46 (libpython3.11.so.1.0)", "    f+0x46 (fast.so) <guess>", "    ... unreadable at 0x8", "Native stack of thread 7",
+            "    read+0x46 (libc.so.6)", "    0x1000 (libc.so.6) <signal>", "    ... 7 more frames", "    main+0x46 (libpython3.11.so.1.0)",
+            "    ... 0x99 is in a file that isn't at hand (lib(x).so)", "Native stack of thread 8: no registers"])
+        self.assertNotIn("Native stack of thread 7", self.shown(*stacks))
+        self.shown(*stacks, words=["--native", "--strict"])
+        self.assertIn("--strict", (self.folder / "pysalvage.said" / "words").read_text().split("\n"))
+
+    def test_json(self):
+        stacks = [native_thread(99, CALLED, 0x7F00, True)]
+        tree = json.loads("\n".join(self.shown(*stacks, words=["-j", "--native"])))
+        self.assertEqual((tree["native"], sorted(tree)), (stacks, sorted(salvage())))
+
+    def test_a_name_forges_no_line(self):
+        odd = native_stack(native_frame("...\nThread 1\"", "/lib/a\nb.so"), end="no file", at="0x9", file="/x/\nThread 1")
+        lines = self.shown(native_thread(99, odd, 0x7F00, True), words=["--native"])
+        self.assertEqual(lines[3], "In \\u{2e}..\\u{a}Thread 1\\u{22}+0x46 (a\\u{a}b.so)")
+        self.assertEqual(lines[-2:], ["    \\u{2e}..\\u{a}Thread 1\\u{22}+0x46 (a\\u{a}b.so)",
+                                      "    ... 0x9 is in a file that isn't at hand (\\u{a}Thread 1)"])
+
+    def test_not_had(self):
+        # (where native stacks can't be had what is told without them stays)
+        self.assertEqual(self.shown({"odd": 1})[:3], self.shown()[:3])
+        self.programs(salvage(interpreter([CRASHED]), native=[{"odd": 1}]), help_text=KNOWN)
+        self.assertEqual(self.tool("--native")[0], 127)
+
+    def test_page(self):
+        stacks = [native_thread(99, CALLED, 0x7F00, True)]
+        self.programs(salvage(interpreter([CRASHED]), native=stacks, tasks=[tasks(task("<b>", [coroutine("f")]))]), help_text=KNOWN)
+        page = self.folder / "page.html"
+        self.assertEqual(self.tool(f"--html={page}", "--native")[0], 0)
+        text = page.read_text(encoding="utf-8")
+        for it in ("<dd>In memset+0x46 (libc.so.6), called by fill+0x3 (fast.so)</dd>", "<h2>Native stacks</h2>", "<h2>Tasks</h2>", "&lt;b&gt;"):
+            self.assertIn(it, text)
+        self.assertEqual(self.tool(f"--html={page}", "--no-tasks")[0], 0)
+        self.assertNotIn("<h2>Native stacks</h2>", page.read_text(encoding="utf-8"))
 
 
 class Groups(Case):

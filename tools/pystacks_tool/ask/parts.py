@@ -5,7 +5,7 @@ A run over a part is a run over a memory, whole: what is answered last is shown,
 
 import json
 from pathlib import Path
-from typing import List, Sequence, Tuple
+from typing import Callable, List, Sequence, Tuple
 
 from pystacks_tool.ask.programs import ask, salvage_command
 from pystacks_tool.ask.run import Answer
@@ -38,9 +38,10 @@ def say_left_out(core: OpenedCore, blocks: Sequence[int], above: int) -> None:
         say(f"{ranges} {lie} in parts that were left out for memory", MORE)
 
 
-def ask_over(options: Options, core: OpenedCore, program: Path) -> Answer:
-    """What `pysalvage` answers of a core, or of the largest part of it that was given."""
-    answer = ask(core, salvage_command(options, program, core))
+def ask_growing(core: OpenedCore, command: Callable[[], List[bytes]], is_told: bool = True) -> Answer:
+    """What `pysalvage` answers of a core, or of the largest part of it that was given, by the words as they are for the files that are
+    handed over so far. Whether it is told what is left out is said."""
+    answer = ask(core, command())
     if core.part is None:
         return answer
     blocks, above = missed_in(answer)
@@ -48,7 +49,13 @@ def ask_over(options: Options, core: OpenedCore, program: Path) -> Answer:
         if not core.give(blocks, run):
             break
         core.part.runs += 1
-        answer = ask(core, salvage_command(options, program, core))
+        answer = ask(core, command())
         blocks, above = missed_in(answer)
-    say_left_out(core, blocks, above)
+    if is_told:
+        say_left_out(core, blocks, above)
     return answer
+
+
+def ask_over(options: Options, core: OpenedCore, program: Path) -> Answer:
+    """What `pysalvage` answers of a core, with the sections that are asked for but native stacks."""
+    return ask_growing(core, lambda: salvage_command(options, program, core))

@@ -7,7 +7,7 @@ from typing import List, Sequence
 from pystacks_tool.ask.layout import FLAG
 from pystacks_tool.ask.native import FLAG as NATIVE
 from pystacks_tool.ask.tasks import FLAG as TASKS
-from pystacks_tool.ask.run import Answer, answer_of, knows
+from pystacks_tool.ask.run import Answer, answer_of, knows, tells_tasks
 from pystacks_tool.cores.opened import OpenedCore, check_text
 from pystacks_tool.faults import NO_PROGRAM, Fault, shown
 from pystacks_tool.options import Options
@@ -43,8 +43,8 @@ def salvage_command(options: Options, program: Path, core: OpenedCore) -> List[b
     """The words of `pysalvage`, which is asked for JSON by the layouts and the records of the core's machine, for the sections that are
     shown, for what the process says of the layout, for the names of threads, and over a part of a core for what it missed."""
     sections = ["--signal"] * options.signal + ["--registers"] * options.registers + ["--missing"] * (core.part is not None)
-    wanted = (FLAG, NAMES, *[TASKS] * options.tasks)
-    sections += [it for it in wanted if knows(program, it)]
+    sections += [it for it in (FLAG, NAMES) if knows(program, it)]
+    sections += [TASKS] * (options.tasks and tells_tasks(program))
     records = [f"--records={core.records}"] if core.records else []
     ends = [f"--frames={options.frames}"] if options.frames is not None else []
     asked = ["-j", *ends, *["-l"] * options.locals, *sections, "--", core.word]
@@ -55,5 +55,6 @@ def salvage_command(options: Options, program: Path, core: OpenedCore) -> List[b
 def native_command(options: Options, program: Path, core: OpenedCore) -> List[bytes]:
     """The words of `pysalvage` for native stacks alone, with each file that the process had mapped: any may be on a stack."""
     ends = [f"--frames={options.frames}"] if options.frames is not None else []
-    words = [os.fspath(program), f"--layouts={core.layouts}", "-j", *ends, NATIVE, *["--strict"] * options.strict, "--", core.word]
+    sections = [NATIVE, *["--strict"] * options.strict, *["--missing"] * (core.part is not None)]
+    words = [os.fspath(program), f"--layouts={core.layouts}", "-j", *ends, *sections, "--", core.word]
     return [*command_of(words, [core.name]), *core.images, *core.other_images()]

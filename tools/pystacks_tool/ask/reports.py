@@ -13,7 +13,7 @@ from typing import Optional
 from pystacks_tool.ask.dump import Tree, Unexpected, report_by_dump, tree_of
 from pystacks_tool.ask.layout import DIFFERS, layout_in, refusal
 from pystacks_tool.ask.native import FLAG as NATIVE, KEY as NATIVE_KEY, stack_of
-from pystacks_tool.ask.parts import ask_over
+from pystacks_tool.ask.parts import ask_growing, ask_over
 from pystacks_tool.ask.programs import NAMES, ask, dump_command, native_command
 from pystacks_tool.ask.run import Answer, knows
 from pystacks_tool.ask.salvage import NamesAndValues, names_and_values, report_by_salvage
@@ -75,13 +75,19 @@ def with_native(options: Options, core: OpenedCore, program: Path, report: Repor
     was: they are told beside the stacks."""
     if not (options.native or options.where and report.signal in DEATHS) or not knows(program, NATIVE):
         return report
-    answer = ask(core, native_command(options, program, core))
-    if answer.status != 0:
+    try:
+        answer = ask_growing(core, lambda: native_command(options, program, core), options.native)
+        if answer.status != 0:
+            return report
+        told = json.loads(decoded(answer.out))[NATIVE_KEY]
+        stacks = tuple(stack_of(it) for it in told)
+    except (Fault, ValueError, KeyError, TypeError) as error:
+        if options.native:
+            raise error if isinstance(error, Fault) else Unexpected(f"its JSON: {error!r}") from None
         return report
-    told = json.loads(decoded(answer.out))[NATIVE_KEY]
     if options.native:
         tree[NATIVE_KEY] = told
-    return replace(report, native=tuple(stack_of(it) for it in told), shows_native=options.native)
+    return replace(report, native=stacks, shows_native=options.native)
 
 
 def ask_dump(options: Options, core: OpenedCore) -> Outcome:

@@ -10,7 +10,6 @@ from typing import Callable, Dict, Iterable, Optional, Tuple
 
 from pystacks_tool.ask.dump import Tree, Unexpected, local_of
 from pystacks_tool.ask.layout import KEY, layout_lines, layout_told
-from pystacks_tool.ask.native import KEY as NATIVE, stack_of
 from pystacks_tool.ask.tasks import KEY as TASKS, all_tasks
 from pystacks_tool.model import Frame, Interpreter, Registers, Report, Thread
 
@@ -153,8 +152,7 @@ def report_by_salvage(text: str, core: str, added: NamesAndValues) -> Tuple[Tree
         registers = tuple(registers_of(it) for it in tree["registers"] or ())
         signal = signal_told(tree["signal_info"])
         layout = tuple(layout_lines(layout_told(tree.get(KEY))))
-        tasks, native = all_tasks(tree.get(TASKS)), tuple(stack_of(it) for it in tree.get(NATIVE) or ())
         return tree, Report(interpreters, tree["version"], tree["signal"], told, tree["more"], True, core, signal, registers, layout,
-                            tasks, native)
+                            all_tasks(tree.get(TASKS)))
     except (ValueError, KeyError, TypeError) as error:
         raise Unexpected(f"its JSON: {error!r}") from None

@@ -129,9 +129,10 @@ def size_of(word: bytes) -> int:
     return os.path.getsize(word.partition(b"=")[2])
 
 
-def image_words(files: List[Wanted], root: Root, machine: Optional[int], budget: Optional[int] = None) -> List[bytes]:
+def image_words(files: List[Wanted], root: Root, machine: Optional[int], budget: Optional[int] = None, is_told: bool = True) -> List[bytes]:
     """The words for the images that are there and of the core's machine, in the order of the maps, after the line that
-    names those that the program looks into and that are not, and after one for each that is longer than what may still be read."""
+    names those that the program looks into and that are not, and after one for each that is longer than what may still be read, where
+    it is said that this is told."""
     words, left = [], MOST
     missing: Dict[Use, str] = {}
     then = ""
@@ -143,7 +144,8 @@ def image_words(files: List[Wanted], root: Root, machine: Optional[int], budget:
             words.append(image_word(wanted, root, machine, budget))
             budget = None if budget is None else budget - size_of(words[-1])
         except TooLong as reason:
-            say(str(reason), MORE)
+            if is_told:
+                say(str(reason), MORE)
         except Missing as reason:
             if wanted.use is not Use.MEMORY:
                 missing[wanted.use] = f"{shown(wanted.name)} ({wanted.use.value}; {reason})"

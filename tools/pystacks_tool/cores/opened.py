@@ -6,7 +6,7 @@ from dataclasses import dataclass, field
 from pathlib import Path
 from typing import IO, Iterable, List, Optional, Tuple
 
-from pystacks_tool.ask.run import tells_missed
+from pystacks_tool.ask.run import tells_missed, tells_tasks
 from pystacks_tool.cores.headers import headers_of
 from pystacks_tool.cores.images import Root, finder_below, image_words, maps_in, opened, read_core, size_of, trouble_of
 from pystacks_tool.cores.kinds import check_kind
@@ -57,10 +57,10 @@ class OpenedCore:
     """Files that may be on a native stack, beside those that are handed over in any case."""
 
     def other_images(self) -> List[bytes]:
-        """The words for these files."""
+        """The words for these files. (A stack that goes on in a file which is left out says so itself.)"""
         budget = None if self.part is None else self.part.budget - self.read
         had = {it.partition(b"=")[0] for it in self.images}
-        return image_words([it for it in self.others if it.name not in had], self.root, self.machine, budget)
+        return image_words([it for it in self.others if it.name not in had], self.root, self.machine, budget, is_told=False)
 
     @property
     def known(self) -> Known:
@@ -155,6 +155,15 @@ def prepare_core(options: Options, name: str, core: Optional[IO[bytes]]) -> Opti
     return new
 
 
+def is_asked_for(options: Options, wanted: Wanted) -> bool:
+    """Whether a file is handed over for the bytes that the core leaves out: with locals each, and for the tasks of asyncio its module,
+    where the names of its types stand."""
+    if options.locals or options.plain or not options.tasks or not os.path.basename(wanted.name).startswith(b"_asyncio."):
+        return options.locals > 0
+    program = salvage_program(options.salvage, options.program)
+    return program is not None and tells_tasks(program)
+
+
 def open_core(options: Options, name: str) -> OpenedCore:
     """A core with its images, of which the missing ones have a line."""
     core = opened(name)
@@ -165,7 +174,7 @@ def open_core(options: Options, name: str) -> OpenedCore:
     new = prepare_core(options, name, core)
     machine, files = read_core(new.file if new else core)
     layouts = os.fspath(options.layouts or layouts_of(machine))
-    wanted = [it for it in files if options.locals or it.use is not Use.MEMORY]
+    wanted = [it for it in files if it.use is not Use.MEMORY or is_asked_for(options, it)]
     records = os.fspath(options.records or records_of(machine) or "")
     check_text(os.fsencode(it) for it in (name, layouts, records))
     root, others = options.files, [it for it in files if it.use is Use.MEMORY]

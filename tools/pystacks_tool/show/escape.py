@@ -43,6 +43,12 @@ def as_name(text: str) -> str:
     return NAME.sub(escaped, text)
 
 
+def as_function(text: str) -> str:
+    """The name of a function at the front of a frame's line: no such line begins as one does that tells a gap."""
+    name = as_name(text)
+    return f"\\u{{2e}}{name[1:]}" if name.startswith("...") else name
+
+
 def decimal(found: "re.Match[str]") -> str:
     """A float in decimal beside its bits."""
     digits = found.group(1)

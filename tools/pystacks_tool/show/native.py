@@ -2,13 +2,13 @@
 
 import os
 import re
-from typing import Iterator, Optional, Sequence
+from typing import Dict, Iterator, List, Optional, Sequence
 
 from pystacks_tool.model import NativeFrame, NativeStack, Report
-from pystacks_tool.show.escape import as_name
+from pystacks_tool.show.escape import as_function, as_name, in_line
 
-LIBRARY = re.compile(r"(libc|libpthread|ld-linux[^/]*|libm|libdl|librt|ld-musl[^/]*|linux-vdso)[-.][^/]*$|\[vdso\]$")
-"""Files of the C library, and the system's own."""
+LIBRARY = re.compile(r"(libc|libffi|libpthread|ld-linux[^/]*|libm|libdl|librt|ld-musl[^/]*|linux-vdso)[-.][^/]*$|\[vdso\]$")
+"""Files of the C library, the system's own, and libffi, which passes the calls of ctypes on."""
 
 PYTHON = re.compile(r"(lib)?python[0-9.]*[a-z]*(\.so[0-9.]*)?$")
 """Files of Python itself: the program and its library."""
@@ -23,7 +23,7 @@ def place_of(frame: NativeFrame) -> str:
     """Where a frame stands: its function, or else its address in its file, and the file."""
     if frame.file is None:
         return f"0x{frame.pc:x} (in no file)"
-    inside = f"{as_name(frame.function)}+0x{frame.offset or 0:x}" if frame.function else f"0x{frame.address or 0:x}"
+    inside = f"{as_function(frame.function)}+0x{frame.offset or 0:x}" if frame.function else f"0x{frame.address or 0:x}"
     return f"{inside} ({as_name(base_of(frame))})"
 
 
@@ -39,29 +39,44 @@ def part_lines(first: Sequence[NativeFrame], between: int, last: Sequence[Native
         yield f"    ... {between} more frames"
     yield from map(frame_line, last)
     if end:
-        yield f"    ... {end}"
+        yield f"    ... {in_line(end)}"
+
+
+def stack_title(stack: NativeStack, name: Optional[str]) -> str:
+    """The line that says whose a native stack is."""
+    whose = "" if stack.number is None else f" (0x{stack.number:X}{'' if name is None else f' {chr(34)}{as_name(name)}{chr(34)}'})"
+    return f"Native stack of thread {stack.native}{whose}{' (crashed)' if stack.is_crashed else ''}{'' if stack.is_told else ': no registers'}"
 
 
 def stack_lines(stack: NativeStack, name: Optional[str]) -> Iterator[str]:
-    """The lines of a native stack, below a line that says whose it is."""
-    whose = "" if stack.number is None else f" (0x{stack.number:X}{'' if name is None else f' {chr(34)}{as_name(name)}{chr(34)}'})"
-    yield f"Native stack of thread {stack.native}{whose}{' (crashed)' if stack.is_crashed else ''}{'' if stack.is_told else ': no registers'}"
+    """The lines of a native stack, below the one that says whose it is."""
+    yield stack_title(stack, name)
     yield from part_lines(stack.frames, stack.between, stack.last, stack.end)
     yield from part_lines(stack.guessed, stack.guessed_between, (), stack.guessed_end)
 
 
+def crashed_first(report: Report) -> List[NativeStack]:
+    """All native stacks, that of the thread that got the signal first."""
+    return sorted(report.native, key=lambda it: not it.is_crashed)
+
+
+def thread_names(report: Report) -> Dict[Optional[int], Optional[str]]:
+    """The names of Python's threads, by their ids."""
+    return {it.number: it.name for it in report.threads}
+
+
 def native_lines(report: Report) -> Iterator[str]:
-    """The lines of all native stacks, that of the thread that got the signal first."""
-    names = {it.number: it.name for it in report.threads}
-    for stack in sorted(report.native, key=lambda it: not it.is_crashed):
-        yield from stack_lines(stack, None if stack.number is None else names.get(stack.number))
+    """The lines of all native stacks."""
+    names = thread_names(report)
+    for stack in crashed_first(report):
+        yield from stack_lines(stack, names.get(stack.number))
 
 
 # ---- where it died
 
 
 def is_own(frame: NativeFrame) -> bool:
-    """Whether a frame is of the C library, or of the system."""
+    """Whether a frame is of the C library, of the system, or of libffi."""
     return frame.file is not None and LIBRARY.search(base_of(frame)) is not None
 
 
@@ -71,15 +86,14 @@ def is_python(frame: NativeFrame) -> bool:
 
 
 def where_line(report: Report) -> str:
-    """Where the thread that got the signal was in native code: its newest frame, and the newest of a file that is neither the C
-    library's nor Python's. Nothing where Python itself was what died, or called what did."""
+    """Where the thread that got the signal was in native code: its newest frame, and the newest of another file than the C library's
+    and libffi's. Nothing where Python itself was what died, or called what did, unless that is in no file."""
     found = next((it for it in report.native if it.is_crashed), None)
     frames = [] if found is None else [it for it in (*found.frames, *found.guessed) if not it.is_signal]
-    if not frames or is_python(frames[0]):
+    caller = next((it for it in frames if it.file is not None and not is_own(it)), None)
+    is_nowhere = bool(frames) and frames[0].file is None
+    if not is_nowhere and (caller is None or is_python(caller)):
         return ""
-    caller = next((it for it in frames if not is_own(it)), None)
-    if caller is None or is_python(caller):
-        return ""
-    called = "" if caller is frames[0] else f", called by {place_of(caller)}"
-    mark = " <guess>" if caller.is_guess else ""
+    called = "" if caller is None or caller is frames[0] else f", called by {place_of(caller)}"
+    mark = " <guess>" if caller is not None and caller.is_guess else ""
     return f"In {place_of(frames[0])}{called}{mark}"

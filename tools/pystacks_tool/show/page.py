@@ -6,17 +6,18 @@ but its own.
 import base64
 import hashlib
 from dataclasses import replace
-from html import escape
 from typing import Dict, Iterator, List, Mapping, Optional, Sequence
 
 from pystacks_tool.groups.triage import Group
-from pystacks_tool.model import Frame, Interpreter, Local, Report, Stack, Thread, stacks_of, whole_or_cut
+from pystacks_tool.model import Interpreter, Report, Stack, Thread, stacks_of, whole_or_cut
 from pystacks_tool.show.collapse import places
-from pystacks_tool.show.escape import as_name, in_page, signal_name, with_decimals
+from pystacks_tool.show.escape import as_name, signal_name
 from pystacks_tool.show.flame import Flame, counted, flame_of
-from pystacks_tool.show.folds import Fold
+from pystacks_tool.show.native import where_line
+from pystacks_tool.show.page_frames import items_of, text
 from pystacks_tool.show.page_parts import SCRIPT, STYLE
-from pystacks_tool.show.text import Style, crash_line, function_of, newest_of, place_of, titles_of
+from pystacks_tool.show.page_sections import Section, sections_of
+from pystacks_tool.show.text import Style, crash_line, newest_of, titles_of
 
 LARGEST = 1_000_000
 """How many bytes a page should have at most. Where it would have more, source lines and the upper levels of the graph are
@@ -27,11 +28,6 @@ LEAST_GRAPH = 50_000
 
 NOT_ALL = "For want of room the upper levels are left out."
 NO_SOURCES = "For want of room the source lines are left out."
-
-
-def text(value: str) -> str:
-    """A text of a core within the page."""
-    return escape(in_page(value))
 
 
 def digest(part: str) -> str:
@@ -49,40 +45,7 @@ def page_of(title: str, body: str) -> str:
         f"<title>{text(title)}</title>\n<style>{STYLE}</style>\n</head>\n<body>\n{body}\n<script>{SCRIPT}</script>\n</body>\n</html>\n")
 
 
-# ---- frames
-
-
-def local_row(it: Local) -> str:
-    """A local."""
-    value = "?" if it.value is None else with_decimals(it.value)
-    return f"<dt>{text(as_name(it.name))}{' (argument)' if it.is_argument else ''}</dt><dd>{text(value)}</dd>"
-
-
-def frame_item(frame: Frame, style: Style) -> str:
-    """A frame, its source line and its locals, which are folded."""
-    if frame.why:
-        return f"<li class=\"end\">{text(place_of(frame))}"
-    place = f"({as_name(frame.filename)}{f':{frame.line}' if frame.line else ''})"
-    source = style.sources.line(frame.filename, frame.line) if style.sources else None
-    parts = [f"<li>{text(function_of(frame))} <i>{text(place)}</i>"]
-    if source:
-        parts.append(f"<pre>{text(source)}</pre>")
-    if frame.locals:
-        rows = "".join(local_row(it) for it in frame.locals)
-        parts.append(f"<details><summary>{len(frame.locals)} locals</summary><dl>{rows}</dl></details>")
-    if frame.fault:
-        parts.append(f"<br><span class=\"end\">... {text(frame.fault)}</span>")
-    return "".join(parts)
-
-
-def items_of(frames: Sequence[Frame], style: Style) -> Iterator[str]:
-    """Some frames; those of a recursion below one line, which opens."""
-    for it in style.items(frames):
-        if isinstance(it, Fold):
-            rows = "\n".join(frame_item(frame, style) for frame in it.frames)
-            yield f"<li class=\"fold\"><details><summary>{text(it.line)}</summary><ol>\n{rows}\n</ol></details>"
-        else:
-            yield frame_item(it, style)
+# ---- stacks
 
 
 def frame_items(thread: Thread, style: Style) -> Iterator[str]:
@@ -213,6 +176,9 @@ def head_part(report: Report) -> str:
     told = [", ".join(crashed), text(crash_line(report))]
     if any(told):
         rows.append(("Crashed", "; ".join(it for it in told if it)))
+    where = where_line(report)
+    if where:
+        rows.append(("Native", text(where)))
     rows.append(("Core", text(report.core)))
     return "<dl class=\"head\">\n" + "\n".join(f"<dt>{key}</dt><dd>{value}</dd>" for key, value in rows) + "\n</dl>"
 
@@ -234,18 +200,25 @@ def graph_part(flame: Flame) -> str:
         f"shows these threads; arrows go from bar to bar.</p>\n{more}{flame.svg}\n<p id=\"picked\" role=\"status\"></p>")
 
 
+def section_part(it: Section) -> str:
+    """A further section."""
+    return f"<section id=\"{it.anchor}\">\n<h2>{it.title}</h2>\n{it.body}\n</section>\n"
+
+
 def report_body(report: Report, style: Style, note: str, largest: int) -> str:
     """The body of a core's page, whose graph may have so many bytes."""
-    stacks = stacks_part(report, "s", style)
-    flame = flame_of([places(it, True) for it in report.threads], max(LEAST_GRAPH, largest - len(stacks.encode("utf-8", "replace"))))
+    stacks, sections = stacks_part(report, "s", style), sections_of(report, style)
+    more = "".join(map(section_part, sections))
+    links = "".join(f" · <a href=\"#{it.anchor}\">{it.title}</a>" for it in sections)
+    flame = flame_of([places(it, True) for it in report.threads], max(LEAST_GRAPH, largest - len((stacks + more).encode("utf-8", "replace"))))
     overview = overview_part(report, flame, anchors_of(report, "s", style))
     notes = f"<p>{note}</p>\n" if note else ""
     return (
         f"<header>\n<h1>{text(title_of(report))}</h1>\n{head_part(report)}\n</header>\n"
-        "<nav><p><a href=\"#overview\">Threads</a> · <a href=\"#flame\">Flame graph</a> · <a href=\"#stacks\">Stacks</a></p></nav>\n<main>\n"
+        f"<nav><p><a href=\"#overview\">Threads</a> · <a href=\"#flame\">Flame graph</a> · <a href=\"#stacks\">Stacks</a>{links}</p></nav>\n<main>\n"
         f"<section id=\"overview\">\n<h2>Threads</h2>\n{overview}\n</section>\n"
         f"<section id=\"flame\">\n<h2>Flame graph</h2>\n{graph_part(flame)}\n</section>\n"
-        f"<section id=\"stacks\">\n<h2>Stacks</h2>\n{notes}{stacks}\n</section>\n</main>")
+        f"<section id=\"stacks\">\n<h2>Stacks</h2>\n{notes}{stacks}\n</section>\n{more}</main>")
 
 
 def report_page(report: Report, style: Style) -> str:

@@ -30,6 +30,8 @@ li.fold > details { margin-left: 0; }
 li.fold li { color: var(--ink); }
 details { margin: .1rem 0 .1rem 1rem; }
 summary { cursor: pointer; }
+section > details { margin: .4rem 0; }
+section > details > summary { overflow-wrap: anywhere; }
 details dl { display: grid; grid-template-columns: max-content 1fr; gap: 0 1rem; margin: .1rem 0 .4rem; }
 details dd { margin: 0; }
 svg { width: 100%; height: auto; background: var(--soft); }
@@ -75,7 +77,7 @@ SCRIPT = """\
     });
     var find = document.getElementById("find"), word = document.getElementById("word"), count = document.getElementById("count");
     find.hidden = false;
-    var parts = Array.prototype.slice.call(document.querySelectorAll("#stacks section, main > section[id^=g], #refused"));
+    var parts = Array.prototype.slice.call(document.querySelectorAll("#stacks section, #tasks section, #native section, main > section[id^=g], #refused"));
     function lower(it) { return it.textContent.toLowerCase(); }
     function part(row) { return document.getElementById(row.querySelector("a").getAttribute("href").slice(1)); }
     var texts = null;

@@ -1,5 +1,6 @@
 """The lines of asyncio's tasks: how many there are, and where each one stands. Equal ones stand once."""
 
+import re
 from typing import Dict, Iterator, List, Sequence, Tuple
 
 from pystacks_tool.model import Task, Tasks
@@ -17,13 +18,22 @@ def name_of(task: Task) -> str:
     return task.address if task.name is None else f'"{as_name(task.name)}"'
 
 
-def summary_of(tasks: Tasks) -> str:
-    """How many tasks there are, by what they do."""
+def name_key(task: Task) -> List[Tuple[int, str]]:
+    """What names are in order by: numbers in them by how much they are."""
+    parts = re.split(r"([0-9]{1,18})", task.address if task.name is None else task.name)
+    return [(int(it), "") if at % 2 else (0, it) for at, it in enumerate(parts)]
+
+
+def summary_of(tasks: Tasks, is_titled: bool = False) -> str:
+    """How many tasks there are, by what they do, or why they aren't told; with the interpreter, where there are several."""
+    front = f"Interpreter {tasks.interpreter}: " if is_titled else ""
+    if tasks.fault:
+        return f"{front}Tasks are not told: {in_line(tasks.fault)}"
     counts = {it: sum(task.kind == it for task in tasks.tasks) for it in COUNTED}
     parts = ", ".join(f"{count} {kind}" for kind, count in counts.items() if count) or "none that isn't done"
     done = len(tasks.tasks) - sum(counts.values())
     aren = f"; {done} finished {'is' if done == 1 else 'are'}n't shown" if done else ""
-    return f"Tasks {sum(counts.values())} ({parts}{aren})"
+    return f"{front}Tasks {sum(counts.values())} ({parts}{aren})"
 
 
 def title_of(tasks: Sequence[Task]) -> str:
@@ -36,13 +46,15 @@ def title_of(tasks: Sequence[Task]) -> str:
 
 
 def together(tasks: Tasks, is_merged: bool) -> List[List[Task]]:
-    """The tasks that aren't done: those that stand at one place together, in the order of the first of each; running ones first."""
+    """The tasks that aren't done, those that stand at one place together by their names: running ones first, and then those of the place
+    at which most are."""
     found: Dict[object, List[Task]] = {}
     for at, task in enumerate(tasks.tasks):
         if task.kind in COUNTED:
             key: Tuple[object, ...] = (task.condition, tuple(it.place for it in task.frames), task.end)
             found.setdefault(key if is_merged and task.kind != "running" else at, []).append(task)
-    return sorted(found.values(), key=lambda its: COUNTED.index(its[0].kind) > 0)
+    its = [sorted(one, key=name_key) for one in found.values()]
+    return sorted(its, key=lambda one: (COUNTED.index(one[0].kind) > 0, -len(one)))
 
 
 def task_blocks(tasks: Tasks, is_merged: bool) -> Iterator[Tuple[List[Task], str]]:

@@ -9,7 +9,7 @@ from dataclasses import dataclass
 from typing import Callable, Dict, Iterator, List, Optional, Sequence, Set, Tuple
 
 from pystacks_tool.model import Frame, Interpreter, Local, Report, Stack, Thread, stacks_of, whole_or_cut
-from pystacks_tool.show.escape import as_name, in_line, signal_name, with_decimals
+from pystacks_tool.show.escape import as_function, as_name, in_line, signal_name, with_decimals
 from pystacks_tool.show.folds import Fold, Item, folded
 from pystacks_tool.show.native import native_lines, where_line
 from pystacks_tool.show.sources import Sources
@@ -65,18 +65,12 @@ class Style:
 # ---- parts of lines
 
 
-def function_of(frame: Frame) -> str:
-    """A frame's function. No frame's begins as a line does that tells a gap."""
-    name = as_name(frame.name)
-    return f"\\u{{2e}}{name[1:]}" if name.startswith("...") else name
-
-
 def place_of(frame: Frame, style: Style = Style(), before: int = 4) -> str:
     """A frame's function, file and line, or why there are none: this doesn't end in a parenthesis, as each frame does. So many
     characters stand before it in its line."""
     if frame.why:
         return f"? {in_line(frame.why)}"
-    name, file, line = function_of(frame), as_name(frame.filename), f":{frame.line}" if frame.line else ""
+    name, file, line = as_function(frame.name), as_name(frame.filename), f":{frame.line}" if frame.line else ""
     if style.width:
         file = shortened(file, f"{name} ({line})", style.width - before)
     return f"{style.paint(name, BOLD)} ({file}{line})"
@@ -381,10 +375,7 @@ def task_lines(report: Report, style: Style, _: int) -> Iterator[str]:
     """The tasks of asyncio, those that stand at one place together: as many lines as a screen has, unless more is asked for."""
     is_short = not (style.shows_all or style.shows_stacks)
     for tasks in report.tasks:
-        if tasks.fault:
-            yield f"Tasks are not told: {in_line(tasks.fault)}"
-            continue
-        yield style.paint(summary_of(tasks), BOLD)
+        yield style.paint(summary_of(tasks, len(report.tasks) > 1), RED if tasks.fault else BOLD)
         left, kept = LINES, list(task_blocks(tasks, not style.shows_all))
         for at, (its, title) in enumerate(kept):
             lines = [line for lines, _ in items_lines(its[0].frames, style) for line in lines]

@@ -1,0 +1,99 @@
+"""What a page shows beside the stacks of Python: the tasks of asyncio, and native stacks. Everything from the core is escaped."""
+
+from dataclasses import dataclass
+from typing import Iterator, List, Sequence
+
+from pystacks_tool.model import NativeFrame, NativeStack, Report, Task, Tasks
+from pystacks_tool.show.escape import in_line
+from pystacks_tool.show.native import crashed_first, frame_line, part_lines, stack_title, thread_names
+from pystacks_tool.show.page_frames import items_of, text
+from pystacks_tool.show.tasks import name_of, summary_of, task_blocks
+from pystacks_tool.show.text import Style
+
+NAMED = 1000
+"""The most tasks of one place that are named."""
+
+OPEN = 8
+"""How many places of tasks are open from the first on, and how many native stacks."""
+
+
+@dataclass(frozen=True)
+class Section:
+    """A section of a page."""
+
+    anchor: str
+    title: str
+    body: str
+
+
+def foldable(anchor: str, title: str, body: str, is_open: bool) -> str:
+    """A section that opens by its title."""
+    opened = " open" if is_open else ""
+    return f"<section id=\"{anchor}\">\n<details{opened}><summary><b>{title}</b></summary>\n{body}\n</details>\n</section>"
+
+
+# ---- tasks
+
+
+def names_part(tasks: Sequence[Task]) -> str:
+    """The names of the tasks of one place, which are folded."""
+    if len(tasks) == 1:
+        return ""
+    more = f" and {len(tasks) - NAMED} more" if len(tasks) > NAMED else ""
+    names = ", ".join(text(name_of(it)) for it in tasks[:NAMED])
+    return f"<details><summary>all of them</summary><p>{names}{more}</p></details>\n"
+
+
+def task_section(anchor: str, tasks: Sequence[Task], title: str, style: Style, is_open: bool) -> str:
+    """The tasks of one place, and the frames of what they await."""
+    items = list(items_of(tasks[0].frames, style))
+    if tasks[0].end:
+        items.append(f"<li class=\"end\">... {text(tasks[0].end)}")
+    rows = "\n".join(items)
+    frames = f"<ol>\n{rows}\n</ol>" if items else "<p>no frames</p>"
+    return foldable(anchor, text(title), names_part(tasks) + frames, is_open)
+
+
+def tasks_of(tasks: Tasks, front: str, is_titled: bool, style: Style) -> Iterator[str]:
+    """The tasks of an interpreter, those of one place together."""
+    mark = " class=\"end\"" if tasks.fault else ""
+    yield f"<p{mark}>{text(summary_of(tasks, is_titled))}</p>"
+    for at, (its, title) in enumerate(task_blocks(tasks, not style.shows_all)):
+        yield task_section(f"{front}{at}", its, title, style, at < OPEN)
+    yield from (f"<p class=\"end\">{text(in_line(it))}</p>" for it in tasks.others)
+
+
+# ---- native stacks
+
+
+def native_items(frames: Sequence[NativeFrame], between: int, last: Sequence[NativeFrame], end: str) -> List[str]:
+    """The frames of a part of a stack, and how it ends."""
+    lines = [it.strip() for it in part_lines(frames, between, last, end)]
+    shown = {frame_line(it).strip() for it in (*frames, *last)}
+    return [f"<li>{text(it)}" if it in shown else f"<li class=\"end\">{text(it)}" for it in lines]
+
+
+def native_section(anchor: str, stack: NativeStack, title: str, is_open: bool) -> str:
+    """The native stack of a thread."""
+    items = native_items(stack.frames, stack.between, stack.last, stack.end)
+    items += native_items(stack.guessed, stack.guessed_between, (), stack.guessed_end)
+    rows = "\n".join(items)
+    return foldable(anchor, text(title), f"<ol>\n{rows}\n</ol>" if items else "<p>no frames</p>", is_open)
+
+
+def native_of(report: Report) -> Iterator[str]:
+    """All native stacks, that of the thread that got the signal first."""
+    names = thread_names(report)
+    for at, it in enumerate(crashed_first(report)):
+        yield native_section(f"n{at}", it, stack_title(it, names.get(it.number)), at < OPEN)
+
+
+def sections_of(report: Report, style: Style) -> List[Section]:
+    """The further sections of a page: none of what isn't there, or isn't asked for."""
+    found = []
+    if report.tasks:
+        rows = [row for at, it in enumerate(report.tasks) for row in tasks_of(it, f"t{at}x", len(report.tasks) > 1, style)]
+        found.append(Section("tasks", "Tasks", "\n".join(rows)))
+    if report.shows_native and report.native:
+        found.append(Section("native", "Native stacks", "\n".join(native_of(report))))
+    return found
