@@ -1,0 +1,10 @@
+pub mod Adding
+pub mod Awaiting
+pub mod Chaining
+pub mod Costs
+pub mod Leading
+pub mod Listing
+pub mod Losts
+pub mod Members
+pub mod Nones
+pub mod Utf

@@ -1,0 +1,12 @@
+pub mod Bases
+pub mod Chains
+pub mod Described
+pub mod Entries
+pub mod Faults
+pub mod Fields
+pub mod Names
+pub mod Shown
+pub mod Tasks
+pub mod Told
+pub mod Types
+pub mod Waiters
