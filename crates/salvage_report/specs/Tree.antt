@@ -3,7 +3,7 @@
 use Rattle.std.specs.Prelude.{ℕ, ◌++◌, List, map, Option, Some, None, codes}
 use Rattle.json.specs.Layout.{pretty}
 use Rattle.json.specs.Tree.{json_tokens}
-use Rattle.serde_json.specs.Data.{Data, boolean, member, no_members, null, object, string}
+use Rattle.serde_json.specs.Data.{Data, Members, boolean, member, no_members, null, object, string}
 use Rattle.serde_json.specs.Written.{outline}
 use Rattle.py_fields.specs.Version.{version_text}
 use Rattle.crash_signal.specs.Trees.{signal_tree as info_tree}
@@ -20,6 +20,16 @@ use Rattle.salvage_report.specs.declared.left.Left.{Left}
 abbrev pub section_tree : {T : Type 0} → (T → Data) → Option T → Data
 section_tree tree None = null
 section_tree tree (Some told) = tree told
+
+-- the members whose keys stand first in the order of their bytes
+abbrev pub first_members : (limit : ℕ) → Left → Members
+first_members limit left =
+    member (codes "interpreters") (interpreters_tree left.salvaged.crash left.salvaged.interpreters.items) (
+    member (codes "layout_check") (section_tree check_tree (check_of left.check)) (
+    member (codes "missing") (section_tree missed_tree (missing_shown left.told.missing)) (
+    member (codes "more") (boolean left.salvaged.more) (
+    member (codes "names") (names_tree_if left.memory.names) (
+    member (codes "native") (native_tree_if limit left.memory.native) no_members)))))
 
 -- the keys stand in the order of their bytes
 abbrev pub left_tree : (limit : ℕ) → Left → Data

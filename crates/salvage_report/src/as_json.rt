@@ -1,6 +1,6 @@
 //! What is left of a process, and what is told in its sections, as JSON.
 ghost use Rattle.std.specs.Prelude.{◌≡◌, false, IfOk, string_bytes};
-ghost use Rattle.serde_json.specs.View.{view};
+ghost use Rattle.serde_json.specs.View.{members_view, view};
 ghost use Rattle.serde_json.specs.Written.{has_float};
 ghost use Rattle.py_fields.specs.Version.{version_text};
 ghost use Rattle.crash_signal.specs.Trees.{signal_tree as info_tree};
@@ -8,8 +8,8 @@ ghost use Rattle.thread_registers.specs.Trees.{threads_tree};
 ghost use Rattle.missed_reads.specs.Told.{missed_tree, told_of};
 ghost use Rattle.py_selftest.specs.Trees.{check_tree};
 ghost use Rattle.salvage_report.specs.LayoutChecked.{check_of};
-ghost use Rattle.salvage_report.specs.Tree.{left_json, left_tree, missing_json, missing_tree};
-ghost use Rattle.salvage_report.specs.Tree.{pretty_text, section_tree};
+ghost use Rattle.salvage_report.specs.Tree.{first_members, left_json, left_tree, missing_json};
+ghost use Rattle.salvage_report.specs.Tree.{missing_tree, pretty_text, section_tree};
 ghost use Rattle.salvage_report.specs.Sections.{missing_shown, registers_shown};
 
 use crate::left::Left;
@@ -19,7 +19,7 @@ use missed_reads::{MissedBlocks, Misses, missed_blocks, missed_value};
 use py_layout::Version;
 use py_selftest::{LayoutCheck, check_value};
 use salvage_json::{interpreters_value, process_value, signal_value};
-use serde_json::{Value, json};
+use serde_json::{Map, Value, json, put};
 use std::alloc::{AllocError, Global};
 use thread_registers::{ThreadRegisters, threads_value};
 
@@ -72,8 +72,9 @@ fn version_of(alloc: Global, version: &Version) -> Result<String, AllocError>
     format!(in alloc; "{version}")
 }
 
-fn left_value(alloc: Global, limit: usize, left: &Left) -> Result<Value, AllocError>
-    ensures { IfOk result (λ value. view value ≡ left_tree limit left.now) }
+/// The members whose keys stand first in the order of their bytes.
+fn first_members(alloc: Global, limit: usize, left: &Left) -> Result<Map<String, Value>, AllocError>
+    ensures { IfOk result (λ map. members_view map.entries ≡ first_members limit left.now) }
 {
     let salvaged = &left.salvaged;
     let interpreters = interpreters_value(alloc, salvaged.crash, &salvaged.interpreters)?;
@@ -81,24 +82,31 @@ fn left_value(alloc: Global, limit: usize, left: &Left) -> Result<Value, AllocEr
     let missing = missing_value(alloc, &left.told.missing)?;
     let names = names_value(alloc, &left.memory)?;
     let native = native_value(alloc, limit, &left.memory)?;
+    let mut map = Map::new(alloc);
+    put(&mut map, alloc, "interpreters", interpreters)?;
+    put(&mut map, alloc, "layout_check", layout_check)?;
+    put(&mut map, alloc, "missing", missing)?;
+    put(&mut map, alloc, "more", Value::Bool(salvaged.more))?;
+    put(&mut map, alloc, "names", names)?;
+    put(&mut map, alloc, "native", native)?;
+    Ok(map)
+}
+
+fn left_value(alloc: Global, limit: usize, left: &Left) -> Result<Value, AllocError>
+    ensures { IfOk result (λ value. view value ≡ left_tree limit left.now) }
+{
+    let mut map = first_members(alloc, limit, left)?;
     let process = process_value(alloc, &left.process)?;
     let registers = registers_value(alloc, &left.told.registers)?;
     let signal = signal_value(alloc, left.signal)?;
     let signal_info = info_value(alloc, &left.told.signal)?;
     let version = version_of(alloc, &left.version)?;
-    json!(in alloc; {
-        "interpreters": interpreters,
-        "layout_check": layout_check,
-        "missing": missing,
-        "more": salvaged.more,
-        "names": names,
-        "native": native,
-        "process": process,
-        "registers": registers,
-        "signal": signal,
-        "signal_info": signal_info,
-        "version": version.as_str()
-    })
+    put(&mut map, alloc, "process", process)?;
+    put(&mut map, alloc, "registers", registers)?;
+    put(&mut map, alloc, "signal", signal)?;
+    put(&mut map, alloc, "signal_info", signal_info)?;
+    put(&mut map, alloc, "version", Value::String(version))?;
+    Ok(Value::Object(map))
 }
 
 /// The text of a value that has no float.

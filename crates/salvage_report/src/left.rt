@@ -23,7 +23,9 @@ use memory_sections::{MemoryTold, tell_memory};
 use missed_reads::{Missed, Misses};
 use named_images::image_list;
 use program_run::CoreFiles;
-use py_fronts::{Crash, Salvaged, SalvagedInterpreter, named_candidates, salvage, searched_candidates};
+use py_fronts::{
+    Crash, Salvaged, SalvagedInterpreter, named_candidates, salvage, searched_candidates,
+};
 use py_layout::{Layouts, Version};
 use py_process::CoreError;
 use py_records::RecordTables;
@@ -111,7 +113,15 @@ fn memory_of(
         (records_of tables.now process.now.version) (byte_at (regions_of process.now.dump)) interpreters.now) }
 {
     let records = tables.records_of(&process.version);
-    tell_memory(alloc, asked, images, process, &records, interpreters, misses)
+    tell_memory(
+        alloc,
+        asked,
+        images,
+        process,
+        &records,
+        interpreters,
+        misses,
+    )
 }
 
 /// The text of what is left of an opened process, or that no interpreter is shown.

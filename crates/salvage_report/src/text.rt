@@ -101,12 +101,7 @@ fn push_check(text: &mut String, check: &Option<LayoutCheck>) -> Result<(), Allo
 }
 
 /// The head lines, what is left, and the sections, each at its place.
-fn left_text(
-    alloc: Global,
-    core: &Name,
-    limit: usize,
-    left: &Left,
-) -> Result<Vec<u8>, AllocError>
+fn left_text(alloc: Global, core: &Name, limit: usize, left: &Left) -> Result<Vec<u8>, AllocError>
     ensures { IfOk result (λ text. text.items ≡ left_text core.now limit left.now) }
 {
     let mut text = String::new(alloc);

@@ -26,4 +26,4 @@ returns c =
     after (λ error. Core error) (ProcessIs c.args.core.items c.args.images.now c.args.layouts.now)
     (IsLeftOf (asked_salvage c.args.words.now) c.args.tables.now c.args.core.items c.args.images.now) (opened_of is.maps c.in_ok-process.process)
     c.shown_left.result
-    is.opened (c.shown_left.ensures c.args.core.items c.args.images.now c.args.layouts.now is told)
+    is.opened (c.shown_left.ensures c.args.core.items c.args.layouts.now is told)

@@ -1,4 +1,4 @@
-use Rattle.std.proofs.Common.{inl, refl}
+use Rattle.std.proofs.Common.{◌≡◌, [], inl, refl, subst, ◌∙◌}
 use Rattle.std.proofs.lemmas.Result.{err_from_is_err_and}
 use Rattle.py_records.specs.File.{IsRightFor}
 use Rattle.program_run.specs.Reading.{core_contents}
@@ -20,3 +20,9 @@ returns c =
     rw c.in-Some.is (after (λ error. Records error) (IsRightFor c.in-Some.text.items)
     (λ ts. IsCoreOutcome (asked_salvage c.args.words.now) ts (core_contents c.args.files))
     c.in_ok-tables.tables c.salvage_over-2.result says c.salvage_over-2.ensures)
+
+pub returns-in_default : goal.returns-in_default
+returns-in_default c =
+    let empty : c.in-Ok.tables.items ≡ [] = c.in-Ok.ensures.value ∙ c.new.ensures.items in
+    rw c.in_default.is (subst (λ ts. IsCoreOutcome (asked_salvage c.args.words.now) ts (core_contents c.args.files)
+    c.salvage_over.result) empty c.salvage_over.ensures)
