@@ -44,12 +44,12 @@ returns-then-is_empty c = λ bytes layouts is crashed ne.
     let asked = c.args.words.now.sections in
     let process = c.args.process.notes.process in
     let told = c.in_ok-told.told in
-    let core = subst (λ core. AreTold asked core process c.deref.result.now told) c.core-core.ensures.same
+    let core = subst (λ core. AreTold asked core process c.deref-2.result.now told) c.core-core.ensures.same
     c.in_ok-told.ensures in
-    let sections = subst (λ xs. AreTold asked c.args.process.dump.core process xs told) c.deref.ensures.value core in
+    let sections = subst (λ xs. AreTold asked c.args.process.dump.core process xs told) c.deref-2.ensures.value core in
     let memory = subst (λ xs. AreMemoryTold asked c.args.process.dump.core c.args.images.now c.args.process.layout
     (records_of c.args.tables.now c.args.process.version) (byte_at (regions_of c.args.process.dump)) xs
-    c.in_ok-memory.memory) c.deref-2.ensures.value c.in_ok-memory.ensures in
+    c.in_ok-memory.memory) c.deref.ensures.value c.in_ok-memory.ensures in
     let none : salvaged.interpreters.items ≡ [] = empty salvaged.interpreters.items (search rules) in
     none_left (asked_salvage c.args.words.now) c.args.tables.now c.args.process c.args.crash salvaged c.in_ok-salvaged.ensures bytes
     c.args.images.now layouts is crashed told sections c.in_ok-check.check c.in_ok-check.ensures c.in_ok-memory.memory
@@ -66,12 +66,12 @@ returns c = λ bytes layouts is crashed.
     let asked = c.args.words.now.sections in
     let process = c.args.process.notes.process in
     let told = c.in_ok-told.told in
-    let core = subst (λ core. AreTold asked core process c.deref.result.now told) c.core-core.ensures.same
+    let core = subst (λ core. AreTold asked core process c.deref-2.result.now told) c.core-core.ensures.same
     c.in_ok-told.ensures in
-    let sections = subst (λ xs. AreTold asked c.args.process.dump.core process xs told) c.deref.ensures.value core in
+    let sections = subst (λ xs. AreTold asked c.args.process.dump.core process xs told) c.deref-2.ensures.value core in
     let memory = subst (λ xs. AreMemoryTold asked c.args.process.dump.core c.args.images.now c.args.process.layout
     (records_of c.args.tables.now c.args.process.version) (byte_at (regions_of c.args.process.dump)) xs
-    c.in_ok-memory.memory) c.deref-2.ensures.value c.in_ok-memory.ensures in
+    c.in_ok-memory.memory) c.deref.ensures.value c.in_ok-memory.ensures in
     let full : length salvaged.interpreters.items ≢ 0 = search rules in
     let some : salvaged.interpreters.items ≢ [] = λ none. full (ap length none) in
     some_left (asked_salvage c.args.words.now) c.args.tables.now c.args.process c.args.crash salvaged c.in_ok-salvaged.ensures bytes

@@ -1,9 +1,9 @@
-use Rattle.std.proofs.Common.{◌≡◌, [], inl, refl, subst, ◌∙◌}
+use Rattle.std.proofs.Common.{inl, refl, subst, ◌∙◌}
 use Rattle.std.proofs.lemmas.Result.{err_from_is_err_and}
 use Rattle.py_records.specs.File.{IsRightFor}
 use Rattle.program_run.specs.Reading.{core_contents}
 use Rattle.salvage_words.specs.Seen.{asked_salvage}
-use Rattle.salvage_report.specs.Outcome.{IsCoreOutcome}
+use Rattle.salvage_report.specs.Outcome.{IsAnswer, IsCoreOutcome}
 use Rattle.salvage_report.specs.declared.cause.Cause.TheVariants.{Records}
 use Rattle.salvage_report.proofs.Comes.{after}
 use Rattle.salvage_report.proofs.records.salvage_with.Goals as goal
@@ -23,6 +23,7 @@ returns c =
 
 pub returns-in_default : goal.returns-in_default
 returns-in_default c =
-    let empty : c.in-Ok.tables.items ≡ [] = c.in-Ok.ensures.value ∙ c.new.ensures.items in
-    rw c.in_default.is (subst (λ ts. IsCoreOutcome (asked_salvage c.args.words.now) ts (core_contents c.args.files)
-    c.salvage_over.result) empty c.salvage_over.ensures)
+    let empty = c.in-Ok.ensures.value ∙ c.new.ensures.items in
+    rw c.in_default.is (subst
+    (λ ts. IsAnswer (IsCoreOutcome (asked_salvage c.args.words.now) ts (core_contents c.args.files)) c.salvage_over.result)
+    empty c.salvage_over.ensures)
