@@ -236,7 +236,9 @@ class Bare(Case):
         (self.root / "layout.toml").write_text(EXAMPLE)
         words = ("core", "--root", "/container", "--layouts", "/layout.toml")
         status, out, said = self.in_root(self.python, "/opt/pystacks/bin/pystacks-core", *words)
-        self.assertEqual((status, out, said), (0, TEXT, ""))
+        # (this core has none of the interpreter's own tables)
+        told = TEXT.replace("\n\n", "\nlayout: unconfirmed, since the process tells too little\n\n", 1) if SALVAGE.is_file() else TEXT
+        self.assertEqual((status, out, said), (0, told, ""))
         self.assertEqual(self.in_root(self.python, "/opt/pystacks/bin/pystacks-core", *words, "--plain"), (0, TEXT, ""))
 
 
