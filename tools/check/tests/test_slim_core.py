@@ -184,7 +184,8 @@ class BuiltProgram(Case):
         (self.folder / "usr/bin/python3.9").write_bytes(b"text")
         status, out, said = self.ran()
         self.assertEqual((status, out, said), (1, "", "slim_core: pystacks: bad image: /usr/bin/python3.9\n"))
-        self.assertEqual(self.ran(core="none"), (3, "", "slim_core: pystacks: cannot read none\n"))
+        then = "slim_core: next: name the core's file; `ls -l` says who may read it\n"
+        self.assertEqual(self.ran(core="none"), (3, "", f"slim_core: there is no file none\n{then}"))
         self.assertEqual(self.names(), self.before)
 
 
