@@ -5,7 +5,6 @@ threads either they are that one's too.
 """
 
 import json
-from dataclasses import dataclass, field
 from typing import Callable, Dict, Iterable, Optional, Tuple
 
 from pystacks_tool.ask.dump import Tree, Unexpected, local_of
@@ -100,14 +99,14 @@ def interpreter_of(tree: Tree) -> Interpreter:
     return Interpreter(threads, int(tree["address"], 16), tree["searched"], fault, threads_end(tree["threads_end"]))
 
 
-@dataclass
 class NamesAndValues:
     """What `pystacks dump` told that `pysalvage` doesn't."""
 
-    names: Dict[int, Optional[str]] = field(default_factory=dict)
-    """The names of threads, by the interpreters' ids of them."""
-    values: Dict[Tuple[str, str], str] = field(default_factory=dict)
-    """The values that are shown, by the local's name and the value's address."""
+    def __init__(self) -> None:
+        self.names: Dict[int, Optional[str]] = {}
+        """The names of threads, by the interpreters' ids of them."""
+        self.values: Dict[Tuple[str, str], str] = {}
+        """The values that are shown, by the local's name and the value's address."""
 
 
 def names_and_values(threads: Iterable[Tree]) -> NamesAndValues:
