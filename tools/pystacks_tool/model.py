@@ -53,11 +53,15 @@ class Thread(NamedTuple):
     """How many frames aren't shown."""
     end: str = ""
     """How its chain ends, where it doesn't end as a whole one does."""
+    kept: Optional[int] = None
+    """The system's id for it that Python kept, where that is another one: a process that was forked has it of its parent."""
 
     @property
     def label(self) -> str:
         """Its id: the system's in decimal, or else the interpreter's."""
-        return f"0x{self.number:X}" if self.native is None else str(self.native)
+        if self.native is None:
+            return f"0x{self.number:X}"
+        return str(self.native) if self.kept is None else f"{self.native} ({self.kept} by Python)"
 
     @property
     def marks(self) -> Tuple[str, ...]:
@@ -224,6 +228,8 @@ class Report(NamedTuple):
     """Native stacks, where they were asked for, or may tell where the process died."""
     shows_native: bool = False
     """Whether they are shown."""
+    other: Optional[int] = None
+    """The system's id of the thread that got the signal, where that is none of Python's."""
 
     @property
     def threads(self) -> List[Thread]:

@@ -179,6 +179,25 @@ class Shown(Case):
             self.programs(salvage(interpreter([CRASHED]), info=info))
             self.assertEqual(self.tool()[1].splitlines()[1], "Process 4711: python3 a.py")
 
+    def test_ids(self):
+        # (the system's ids are those of the status records; one that Python kept, of the process that was forked, stands behind)
+        def row(number, system):
+            return {"python": {"kind": "thread", "thread_id": number}, "registers": {}, "system_id": system}
+
+        names = [thread(1, [frame("f")]), thread(2, [frame("f")], 50, crashed=True), thread(3, [frame("f")], 12), thread(4, [frame("f")])]
+        self.programs(salvage(interpreter(names), registers=[row(2, 11), row(1, 10), row(3, 12)]))
+        out = self.tool("--all")[1]
+        self.assertEqual([it for it in out.splitlines() if it.startswith("Thread ")], ["Thread 11 (50 by Python) (crashed)", "Thread 10", "Thread 12", "Thread 0x4"])
+        self.assertNotIn("Registers", out)
+        self.assertIsNone(json.loads(self.tool("--json")[1])["registers"])
+
+    def test_another_thread(self):
+        rows = [{"python": {"kind": "none"}, "registers": {}, "system_id": 77}, {"python": {"kind": "thread", "thread_id": 1}, "registers": {}, "system_id": 10}]
+        self.programs(salvage(interpreter([thread(1, [frame("f")])]), registers=rows))
+        self.assertIn("\nNo Python thread got the signal: thread 77 of the process did\n", self.tool()[1])
+        self.programs(salvage(interpreter([thread(1, [frame("f")])])))
+        self.assertIn("\nNo Python thread got the signal: another thread of the process did, or its record is lost\n", self.tool()[1])
+
     def test_registers(self):
         values = {"cs": "0x33", "r8": "0x8", "rbp": "0x3", "rip": "0x401000", "rsp": "0x7fff0000"}
         rows = [{"python": {"kind": "thread", "thread_id": 0x7F00}, "registers": values, "system_id": 99},

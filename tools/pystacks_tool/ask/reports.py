@@ -16,7 +16,7 @@ from pystacks_tool.ask.native import FLAG as NATIVE, KEY as NATIVE_KEY, stack_of
 from pystacks_tool.ask.parts import ask_growing, ask_over
 from pystacks_tool.ask.programs import NAMES, ask, dump_command, native_command
 from pystacks_tool.ask.run import Answer, knows
-from pystacks_tool.ask.salvage import NamesAndValues, names_and_values, report_by_salvage
+from pystacks_tool.ask.salvage import NamesAndValues, names_and_values, report_by_salvage, with_system_ids
 from pystacks_tool.cores.opened import OpenedCore
 from pystacks_tool.faults import NO_PROGRAM, Fault, say
 from pystacks_tool.model import Report, arranged
@@ -59,6 +59,10 @@ def ask_salvage(options: Options, core: OpenedCore, program: Path) -> Outcome:
     if told is not None and told.verdict == DIFFERS and not options.any_layout:
         return Outcome(refusal(told))
     tree, report = report_by_salvage(decoded(answer.out), core.name, ask_for_names_and_values(options, core, program))
+    report = with_system_ids(report)
+    if not options.registers:
+        # (they were asked for the ids of threads alone)
+        tree["registers"], report = None, report._replace(registers=())
     if core.part is not None:
         # (that is between the program and the tool)
         tree["missing"] = None

@@ -73,6 +73,24 @@ def registers_of(tree: Tree) -> Registers:
     return Registers(tree["system_id"], tree["python"].get("thread_id"), tuple((name, int(value, 16)) for name, value in rows.items()))
 
 
+def with_system_id(thread: Thread, ids: Dict[int, int]) -> Thread:
+    """A thread with the system's id by its status record, where it has one."""
+    own = ids.get(thread.number)
+    if own is None or own == thread.native:
+        return thread
+    return thread._replace(native=own, kept=thread.native)
+
+
+def with_system_ids(report: Report) -> Report:
+    """A report in which each thread has the system's id by its status record, and of which is told which other thread got the signal, where none of
+    Python's did: the first record is that thread's."""
+    ids = {it.number: it.native for it in report.registers if it.number is not None}
+    first = report.registers[0] if report.registers else None
+    other = first.native if first and first.number is None and report.signal and not any(it.is_crashed for it in report.threads) else None
+    its = tuple(one._replace(threads=tuple(with_system_id(it, ids) for it in one.threads)) for one in report.interpreters)
+    return report._replace(interpreters=its, other=other)
+
+
 def member_of(tree: Tree) -> Frame:
     """A frame, or a member without names."""
     if "why" in tree:

@@ -156,8 +156,8 @@ def table_part(caption: str, heads: Sequence[str], rows: Sequence[str]) -> str:
 
 def signal_of(report: Report) -> str:
     """The signal, by number and name; nothing where none is told."""
-    if report.signal is None:
-        return ""
+    if not report.signal:
+        return "" if report.signal is None else "none: `gcore` took the core of a living process"
     name = signal_name(report.signal)
     return f"{report.signal}{f' ({name})' if name else ''}"
 

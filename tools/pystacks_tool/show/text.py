@@ -110,7 +110,10 @@ def crash_line(report: Report) -> str:
     if count > 1:
         why = "in other interpreters a thread keeps the id of the one that made it"
         return f"One of {count} threads got the signal: {why}"
-    return "" if count else "No Python thread got the signal: another thread of the process did, or its record is lost"
+    if count:
+        return ""
+    other = "another thread of the process did, or its record is lost" if report.other is None else f"thread {report.other} of the process did"
+    return f"No Python thread got the signal: {other}"
 
 
 def is_many(report: Report) -> bool:
@@ -208,12 +211,16 @@ def fault_lines(it: Interpreter, style: Style) -> List[str]:
 # ---- the parts of the text
 
 
+def signal_line(signal: int) -> str:
+    """A signal in words. (A debugger's `gcore` writes the core of a process that lives on, with none.)"""
+    name = signal_name(signal)
+    return f"Signal {signal}{f' ({name})' if name else ''}" if signal else "No signal, as a core has that `gcore` took of a living process"
+
+
 def told_lines(report: Report, style: Style) -> Iterator[str]:
     """The signal, the process, the version, and what is said of its layout."""
     if report.signal is not None:
-        name = signal_name(report.signal)
-        told = f" ({name})" if name else ""
-        yield style.paint(f"Signal {report.signal}{told}", BOLD) + f": {in_line(report.core)}"
+        yield style.paint(signal_line(report.signal), BOLD) + f": {in_line(report.core)}"
     if report.signal_told:
         yield style.paint(in_line(report.signal_told), RED)
     if report.process is not None:
