@@ -50,6 +50,24 @@ Description: Python stacks from core dumps
  pystacks-core finds the files that a core needs, prepares it and shows both.
 """
 
+SCRIPTS = {
+    "postinst": """\
+#!/bin/sh
+set -e
+if [ "$1" = configure ] && [ -z "$DPKG_ROOT" ] && command -v py3compile >/dev/null 2>&1; then
+    py3compile -p pystacks /usr/lib/pystacks/tools
+fi
+""",
+    "prerm": """\
+#!/bin/sh
+set -e
+if [ -z "$DPKG_ROOT" ] && command -v py3clean >/dev/null 2>&1; then
+    py3clean -p pystacks /usr/lib/pystacks/tools
+fi
+""",
+}
+"""What dpkg runs: Debian's own way to compile modules, and to leave none of that behind."""
+
 WHATS = {
     "pystacks": "Shows the Python stacks in the core dump of a 64-bit Linux process",
     "pysalvage": "Shows what is left of the Python stacks in the core of a broken process",
@@ -203,6 +221,9 @@ def put_control(root: Path, architecture: str, maintainer: str) -> None:
     words: Dict[str, object] = {"version": VERSION, "architecture": architecture, "maintainer": maintainer, "size": size}
     (root / "DEBIAN/control").write_text(CONTROL.format(**words), encoding="utf-8")
     (root / "DEBIAN/md5sums").write_text(sums, encoding="utf-8")
+    for name, text in SCRIPTS.items():
+        (root / "DEBIAN" / name).write_text(text, encoding="ascii")
+        (root / "DEBIAN" / name).chmod(0o755)
 
 
 def set_rights(root: Path) -> None:

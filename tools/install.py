@@ -11,12 +11,14 @@ folder that has other files is not written into.
 """
 
 import argparse
+import compileall
 import os
 import re
 import shutil
 import sys
 from dataclasses import dataclass
 from pathlib import Path
+from py_compile import PycInvalidationMode
 from typing import List, Optional
 
 sys.dont_write_bytecode = True
@@ -37,6 +39,9 @@ LAYOUT_TOOLS = ("derive_layout", "layout_from_core", "layout_plan", "layout_sour
 """The modules of the tools that derive and join layouts and records."""
 
 TOOLS = ("dump_core.py", "core_handle.py", "core_fleet.py", "slim_core.py", "native_addresses.py", "pystacks_tool/**/*.py", *(f"layouts/{it}.py" for it in LAYOUT_TOOLS))
+
+PACKAGE = "pystacks_tool"
+"""The package of the tool, below tools/."""
 
 MARK = "COMMIT"
 """The file by which an installed folder is known. It has the commit, where that is known."""
@@ -153,12 +158,20 @@ def put(folder: Path, program: Path, salvage: Optional[Path]) -> List[str]:
     return [*none, f"{folder / 'bin' / 'pystacks-core'} is the tool"]
 
 
+def compile_tools(folder: Path) -> None:
+    """Compiles the tool's modules, which would otherwise be half of a run. What is compiled names its source by a hash, so that it is as good on another
+    host; a Python of another minor version takes none of it."""
+    compileall.compile_dir(os.fspath(folder / "tools" / PACKAGE), quiet=2, invalidation_mode=PycInvalidationMode.CHECKED_HASH)
+
+
 def installed(to: str, program: Path, salvage: Optional[Path]) -> List[str]:
     """Makes the folder."""
     folder = Path(os.path.abspath(to))
     check_folder(folder)
     folder.mkdir(parents=True, exist_ok=True)
-    return put(folder, program, salvage)
+    said = put(folder, program, salvage)
+    compile_tools(folder)
+    return said
 
 
 def main(given: Optional[List[str]] = None) -> int:

@@ -2,12 +2,10 @@
 shows is made of this, and of nothing else.
 """
 
-from dataclasses import dataclass, field, replace
-from typing import Dict, List, Optional, Sequence, Tuple
+from typing import Dict, List, NamedTuple, Optional, Sequence, Tuple
 
 
-@dataclass(frozen=True)
-class Local:
+class Local(NamedTuple):
     """A local of a frame."""
 
     name: str
@@ -16,8 +14,7 @@ class Local:
     is_argument: bool = False
 
 
-@dataclass(frozen=True)
-class Frame:
+class Frame(NamedTuple):
     """A frame, or a member of the chain that has no names."""
 
     name: str = ""
@@ -37,8 +34,7 @@ class Frame:
         return self.name, self.filename, self.line, self.why
 
 
-@dataclass(frozen=True)
-class Thread:
+class Thread(NamedTuple):
     """A thread, with its newest frame first."""
 
     number: int
@@ -57,11 +53,15 @@ class Thread:
     """How many frames aren't shown."""
     end: str = ""
     """How its chain ends, where it doesn't end as a whole one does."""
+    kept: Optional[int] = None
+    """The system's id for it that Python kept, where that is another one: a process that was forked has it of its parent."""
 
     @property
     def label(self) -> str:
         """Its id: the system's in decimal, or else the interpreter's."""
-        return f"0x{self.number:X}" if self.native is None else str(self.native)
+        if self.native is None:
+            return f"0x{self.number:X}"
+        return str(self.native) if self.kept is None else f"{self.native} ({self.kept} by Python)"
 
     @property
     def marks(self) -> Tuple[str, ...]:
@@ -74,8 +74,7 @@ class Thread:
         return not (self.frames or self.between or self.end or self.marks)
 
 
-@dataclass(frozen=True)
-class Interpreter:
+class Interpreter(NamedTuple):
     """An interpreter, with its threads in the order in which they are shown."""
 
     threads: Tuple[Thread, ...]
@@ -88,8 +87,7 @@ class Interpreter:
     """How its chain of threads ends, where it doesn't end as a whole one does."""
 
 
-@dataclass(frozen=True)
-class Registers:
+class Registers(NamedTuple):
     """The registers of a thread of the process."""
 
     native: int
@@ -100,8 +98,7 @@ class Registers:
     """Each by its name; none where they aren't told."""
 
 
-@dataclass(frozen=True)
-class NativeFrame:
+class NativeFrame(NamedTuple):
     """A native frame."""
 
     pc: int
@@ -120,8 +117,7 @@ class NativeFrame:
     """Whether it follows from a guess."""
 
 
-@dataclass(frozen=True)
-class NativeStack:
+class NativeStack(NamedTuple):
     """The native stack of a thread of the process."""
 
     native: int
@@ -144,8 +140,7 @@ class NativeStack:
     guessed_end: str = ""
 
 
-@dataclass(frozen=True)
-class Task:
+class Task(NamedTuple):
     """A task of asyncio."""
 
     address: str
@@ -161,8 +156,7 @@ class Task:
     """How their chain breaks off, where it does."""
 
 
-@dataclass(frozen=True)
-class Tasks:
+class Tasks(NamedTuple):
     """The tasks of an interpreter."""
 
     interpreter: str
@@ -174,8 +168,7 @@ class Tasks:
     """Why they aren't told, if they aren't."""
 
 
-@dataclass(frozen=True)
-class Number:
+class Number(NamedTuple):
     """A number of a layout that the dead process tells itself."""
 
     key: str
@@ -184,8 +177,7 @@ class Number:
     process: int
 
 
-@dataclass(frozen=True)
-class LayoutTold:
+class LayoutTold(NamedTuple):
     """What the dead process told of the layout by which it was read."""
 
     verdict: str
@@ -210,8 +202,7 @@ def whole_or_cut(arguments: str) -> str:
     return arguments + ".." if is_cut else arguments
 
 
-@dataclass(frozen=True)
-class Report:
+class Report(NamedTuple):
     """What is left of a process."""
 
     interpreters: Tuple[Interpreter, ...]
@@ -237,6 +228,8 @@ class Report:
     """Native stacks, where they were asked for, or may tell where the process died."""
     shows_native: bool = False
     """Whether they are shown."""
+    other: Optional[int] = None
+    """The system's id of the thread that got the signal, where that is none of Python's."""
 
     @property
     def threads(self) -> List[Thread]:
@@ -244,11 +237,11 @@ class Report:
         return [thread for it in self.interpreters for thread in it.threads]
 
 
-@dataclass
 class Stack:
     """Threads of one stack, of which the first has its frames."""
 
-    threads: List[Thread] = field(default_factory=list)
+    def __init__(self, threads: Sequence[Thread] = ()) -> None:
+        self.threads = list(threads)
 
     @property
     def one(self) -> Thread:
@@ -292,7 +285,7 @@ def frame_of_all(frames: Sequence[Frame]) -> Frame:
             turn = turns[row.name, row.is_argument] = turns.get((row.name, row.is_argument), -1) + 1
             found.setdefault((row.name, row.is_argument, turn), []).append(row.value)
     rows = tuple(Local(name, told_by(values, len(frames)), is_argument) for (name, is_argument, _), values in found.items())
-    return replace(frames[0], locals=rows) if rows else frames[0]
+    return frames[0]._replace(locals=rows) if rows else frames[0]
 
 
 def one_of(threads: Sequence[Thread]) -> Thread:
@@ -300,7 +293,7 @@ def one_of(threads: Sequence[Thread]) -> Thread:
     first = threads[0]
     if len(threads) == 1 or not any(frame.locals for it in threads for frame in it.frames):
         return first
-    return replace(first, frames=tuple(frame_of_all(frames) for frames in zip(*(it.frames for it in threads))))
+    return first._replace(frames=tuple(frame_of_all(frames) for frames in zip(*(it.frames for it in threads))))
 
 
 # ---- the order in which they are shown
@@ -313,9 +306,9 @@ def arranged(report: Report) -> Report:
     crashed, holders = ({it.number for it in report.threads if it.frames and getattr(it, mark)} for mark in ("is_crashed", "is_holder"))
     found = []
     for one in report.interpreters:
-        threads = [it if it.frames else replace(it, is_crashed=it.is_crashed and it.number not in crashed,
+        threads = [it if it.frames else it._replace(is_crashed=it.is_crashed and it.number not in crashed,
                                                 is_holder=it.is_holder and it.number not in holders) for it in one.threads]
         threads.sort(key=lambda it: it.is_empty)
-        found.append(replace(one, threads=tuple(threads)))
+        found.append(one._replace(threads=tuple(threads)))
     found.sort(key=lambda one: not any(it.frames for it in one.threads))
-    return replace(report, interpreters=tuple(found))
+    return report._replace(interpreters=tuple(found))

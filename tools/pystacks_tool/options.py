@@ -1,8 +1,7 @@
 """What the tool is asked for: its words, each with its type. They are made once, by `cli`."""
 
 import os
-from dataclasses import dataclass
-from typing import Mapping, Optional, Tuple, Union
+from typing import Mapping, NamedTuple, Optional, Tuple, Union
 
 
 ALL_FRAMES = 4096
@@ -13,8 +12,7 @@ BY = ("crash", "stacks", "exact")
 """What cores are grouped by: the signal and the stack of the thread that got it; all threads' stacks; `pystacks triage`."""
 
 
-@dataclass(frozen=True)
-class Options:
+class Options(NamedTuple):
     """The words of a run."""
 
     cores: Tuple[str, ...] = ()

@@ -36,7 +36,7 @@ class Heads(unittest.TestCase):
     def test_parts(self):
         self.assertEqual(text(threads()), HEAD + "\n")
         self.assertEqual(text(threads(), signal=None, process=None), "Python v3.11.7\n\n")
-        self.assertTrue(text(threads(), signal=0).startswith("Signal 0: core\n"))
+        self.assertTrue(text(threads(), signal=0).startswith("No signal, as a core has that `gcore` took of a living process: core\n"))
         odd = text(threads(), core="a\nThread 1", process=(7, "x\x1b[2J \"y\""))
         self.assertTrue(odd.startswith("Signal 11 (SIGSEGV): a\\u{a}Thread 1\nProcess 7: x\\u{1b}[2J \"y\"\n"), odd)
 

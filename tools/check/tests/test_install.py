@@ -80,7 +80,11 @@ class Installed(Case):
         self.assertTrue(all(os.access(it, os.X_OK) for it in (to / "bin").iterdir()))
         self.assertTrue({"README.md", "LICENSE", "NOTICE", "SECURITY.md", "CHANGELOG.md"} <= {it.name for it in to.iterdir()})
         self.links(to)
-        self.assertFalse([it for it in to.rglob("*") if "check" in it.parts or it.suffix in (".antt", ".rt", ".pyc")])
+        self.assertFalse([it for it in to.rglob("*") if "check" in it.parts or it.suffix in (".antt", ".rt")])
+        # (the tool's modules are compiled, each by a hash of its source, and nothing else is)
+        compiled = list(to.rglob("*.pyc"))
+        self.assertEqual({it.name.split(".")[0] for it in compiled}, {it.stem for it in (to / "tools/pystacks_tool").rglob("*.py")})
+        self.assertEqual({it.read_bytes()[4:8] for it in compiled}, {b"\3\0\0\0"})
 
     def test_moved(self):
         self.install()
@@ -97,6 +101,7 @@ class Installed(Case):
 
     def test_doors(self):
         self.install()
+        compiled = sorted((self.folder / "to").rglob("*.pyc"))
         for it in ("core", "slim", "layout", "native"):
             door = self.folder / "to/bin" / f"pystacks-{it}"
             status, out, said = self.ran(sys.executable, door, "--version")
@@ -110,7 +115,7 @@ class Installed(Case):
             self.assertIn(f"usage: {it}.py ", self.ran(sys.executable, "-B", tool, "--help")[1])
         door = self.folder / "to/bin/pystacks-native"
         self.assertEqual(self.ran(sys.executable, door, "none", "1")[0], 2)
-        self.assertFalse(list((self.folder / "to").rglob("*.pyc")))
+        self.assertEqual(sorted((self.folder / "to").rglob("*.pyc")), compiled)
 
     def test_places_of_pages(self):
         self.install()

@@ -1,16 +1,9 @@
-"""What `pystacks dump` told of a core: its threads by the JSON, and the head of its text."""
+"""What `pystacks dump` told of a core, by its JSON, where `pysalvage` isn't there."""
 
-import json
-import re
 from typing import Any, Dict, List, Optional, Tuple
 
+from pystacks_tool.cores.known import Known
 from pystacks_tool.model import Frame, Interpreter, Local, Report, Thread
-
-HEAD = re.compile(
-    r"(?:Signal (?P<signal>-?[0-9]+): [^\n]*\n)?(?:Process (?P<pid>-?[0-9]+): (?P<arguments>.*)\n)?Python v(?P<version>[^\n]*)\n\n",
-    re.DOTALL)
-"""The lines before the threads, of which the last is that of the version: the arguments may have any."""
-
 
 Tree = Dict[str, Any]
 """JSON as a program wrote it."""
@@ -49,38 +42,16 @@ def thread_of(tree: Tree, most: Optional[int]) -> Thread:
     return Thread(tree["thread_id"], frames, tree["os_thread_id"], tree["thread_name"], is_holder(tree), False, len(first), between)
 
 
-def text_of(tree: Tree) -> str:
-    """A thread in the program's text without locals, which has names as they are."""
-    native, name = tree["os_thread_id"], tree["thread_name"]
-    label = f"0x{tree['thread_id']:X}" if native is None else native
-    lines = [f"Thread {label}{' (gil)' * tree['owns_gil']}" + ("" if name is None else f': "{name}"')]
-    for it in tree["frames"]:
-        line = f":{it['line']}" if it["line"] else ""
-        lines.append(f"    {it['name']} ({it['filename']}{line})")
-    return "".join(f"{line}\n" for line in lines)
-
-
-def number_of(text: Optional[str]) -> Optional[int]:
-    """A number that may be missing."""
-    return None if text is None else int(text)
-
-
-def report_by_dump(tree: str, text: str, word: str, core: str, most: Optional[int] = None) -> Report:
-    """The report by the JSON and the text of one core, for which the program had this word. The text's threads stand in
-    the reverse of the JSON's order, and so they do here; its head is what stands before them. So many frames are shown at each
+def report_by_dump(trees: List[Tree], known: Known, core: str, most: Optional[int] = None) -> Report:
+    """The report by the JSON of one core, which has no head: the signal and the process are what the core's notes tell, and which Python
+    it was isn't known. The text's threads stand in the reverse of the JSON's order, and so they do here. So many frames are shown at each
     end of a stack, where that is said."""
     try:
-        trees = list(reversed(json.loads(tree)))
-        threads, rest = tuple(thread_of(it, most) for it in trees), "".join(text_of(it) for it in trees)
-    except (ValueError, KeyError, TypeError) as error:
+        threads = tuple(thread_of(it, most) for it in reversed(trees))
+    except (KeyError, TypeError) as error:
         raise Unexpected(f"its JSON: {error!r}") from None
-    front = text[: len(text) - len(rest)].replace(f": {word}\n", ": \n", 1)
-    head = HEAD.fullmatch(front) if text.endswith(rest) else None
-    if not head:
-        raise Unexpected("the head of its text")
-    pid = number_of(head["pid"])
-    process = None if pid is None else (pid, head["arguments"])
-    return Report((Interpreter(threads),), head["version"], number_of(head["signal"]), process, core=core)
+    process = None if known.pid is None else (known.pid, known.arguments)
+    return Report((Interpreter(threads),), "", known.signal, process, core=core)
 
 
 # ---- as `pysalvage` has it
@@ -117,5 +88,5 @@ def tree_of(report: Report, threads: List[Tree], most: Optional[int] = None) -> 
     return {
         "interpreters": [interpreter], "layout_check": None, "missing": None, "more": None, "names": None, "native": None,
         "process": process, "registers": None, "signal": report.signal,
-        "signal_info": None, "version": report.version,
+        "signal_info": None, "version": report.version or None,
     }

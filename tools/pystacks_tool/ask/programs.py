@@ -17,6 +17,9 @@ from pystacks_tool.places import NOT_RUN, PROGRAM, program_at
 NAMES = "--names"
 """The flag of `pysalvage` for the names of threads."""
 
+REGISTERS = "--registers"
+"""Its flag for the threads of the process, by their status records: their ids, whose they are, and their registers."""
+
 
 def ask(core: OpenedCore, command: Sequence[bytes]) -> Answer:
     """What a program answers of a core."""
@@ -41,9 +44,9 @@ def dump_command(options: Options, core: OpenedCore, *more: str) -> List[bytes]:
 
 def salvage_command(options: Options, program: Path, core: OpenedCore) -> List[bytes]:
     """The words of `pysalvage`, which is asked for JSON by the layouts and the records of the core's machine, for the sections that are
-    shown, for what the process says of the layout, for the names of threads, and over a part of a core for what it missed."""
-    sections = ["--signal"] * options.signal + ["--registers"] * options.registers + ["--missing"] * (core.part is not None)
-    sections += [it for it in (FLAG, NAMES) if knows(program, it)]
+    shown, for what the process says of the layout, for the names and the system's ids of threads, and over a part of a core for what it missed."""
+    sections = ["--signal"] * options.signal + ["--missing"] * (core.part is not None)
+    sections += [it for it in (REGISTERS, FLAG, NAMES) if knows(program, it)]
     sections += [TASKS] * (options.tasks and tells_tasks(program))
     records = [f"--records={core.records}"] if core.records else []
     ends = [f"--frames={options.frames}"] if options.frames is not None else []

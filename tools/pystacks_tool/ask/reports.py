@@ -6,9 +6,9 @@ where these are asked for they are those of `pystacks dump`, if that gives a rep
 """
 
 import json
-from dataclasses import dataclass, replace
+from functools import lru_cache
 from pathlib import Path
-from typing import Optional
+from typing import NamedTuple, Optional
 
 from pystacks_tool.ask.dump import Tree, Unexpected, report_by_dump, tree_of
 from pystacks_tool.ask.layout import DIFFERS, layout_in, refusal
@@ -16,16 +16,15 @@ from pystacks_tool.ask.native import FLAG as NATIVE, KEY as NATIVE_KEY, stack_of
 from pystacks_tool.ask.parts import ask_growing, ask_over
 from pystacks_tool.ask.programs import NAMES, ask, dump_command, native_command
 from pystacks_tool.ask.run import Answer, knows
-from pystacks_tool.ask.salvage import NamesAndValues, names_and_values, report_by_salvage
+from pystacks_tool.ask.salvage import NamesAndValues, names_and_values, report_by_salvage, with_system_ids
 from pystacks_tool.cores.opened import OpenedCore
-from pystacks_tool.faults import NO_PROGRAM, Fault
+from pystacks_tool.faults import NO_PROGRAM, Fault, say
 from pystacks_tool.model import Report, arranged
 from pystacks_tool.options import Options
 from pystacks_tool.places import PROGRAM, salvage_program
 
 
-@dataclass(frozen=True)
-class Outcome:
+class Outcome(NamedTuple):
     """What came of a core: a report with its JSON, or the program's answer where there is none."""
 
     answer: Answer
@@ -60,6 +59,10 @@ def ask_salvage(options: Options, core: OpenedCore, program: Path) -> Outcome:
     if told is not None and told.verdict == DIFFERS and not options.any_layout:
         return Outcome(refusal(told))
     tree, report = report_by_salvage(decoded(answer.out), core.name, ask_for_names_and_values(options, core, program))
+    report = with_system_ids(report)
+    if not options.registers:
+        # (they were asked for the ids of threads alone)
+        tree["registers"], report = None, report._replace(registers=())
     if core.part is not None:
         # (that is between the program and the tool)
         tree["missing"] = None
@@ -87,19 +90,28 @@ def with_native(options: Options, core: OpenedCore, program: Path, report: Repor
         return report
     if options.native:
         tree[NATIVE_KEY] = told
-    return replace(report, native=stacks, shows_native=options.native)
+    return report._replace(native=stacks, shows_native=options.native)
+
+
+@lru_cache(maxsize=1)
+def say_what_is_missing() -> None:
+    """Says once that `pystacks dump` is shown alone."""
+    say("pysalvage isn't there, so that the stacks are whole or missing, and neither the version of Python nor how the signal came about is told",
+        "tools/build makes it")
 
 
 def ask_dump(options: Options, core: OpenedCore) -> Outcome:
-    """What `pystacks dump` tells: the threads by its JSON, and the head by its text."""
+    """What `pystacks dump` tells."""
     answer = ask(core, dump_command(options, core, "-j", *["-l"] * options.locals))
     if answer.status != 0:
         return Outcome(answer)
-    text = ask(core, dump_command(options, core))
-    if text.status != 0:
-        return Outcome(text)
-    report = report_by_dump(decoded(answer.out), decoded(text.out), core.word, core.name, options.frames)
-    return Outcome(answer, arranged(report), tree_of(report, json.loads(decoded(answer.out)), options.frames))
+    say_what_is_missing()
+    try:
+        trees = json.loads(decoded(answer.out))
+    except ValueError as error:
+        raise Unexpected(f"its JSON: {error!r}") from None
+    report = report_by_dump(trees, core.known, core.name, options.frames)
+    return Outcome(answer, arranged(report), tree_of(report, trees, options.frames))
 
 
 def report_on(options: Options, core: OpenedCore) -> Outcome:

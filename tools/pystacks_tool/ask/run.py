@@ -7,14 +7,13 @@ import os
 import resource
 import signal
 import subprocess
-import tempfile
-from dataclasses import dataclass
 from functools import lru_cache
 from pathlib import Path
-from typing import IO, List, Sequence
+from typing import IO, List, NamedTuple, Sequence
 
 from pystacks_tool.faults import CANNOT_WRITE, NO_ROOM, Fault
 from pystacks_tool.places import SALVAGE
+from pystacks_tool.spare import spare_file
 
 CHUNK = 1 << 16
 
@@ -58,7 +57,7 @@ def run_over(command: List[bytes], fd: int, name: bytes) -> int:
     own = b"/proc/self/fd/%d" % fd
     # (the program ends by the same key)
     signal.signal(signal.SIGINT, signal.SIG_DFL)
-    with tempfile.TemporaryFile() as lines:
+    with spare_file() as lines:
         process = subprocess.Popen(command, pass_fds=[fd], stdout=subprocess.PIPE, stderr=lines)
         assert process.stdout is not None
         is_written = True
@@ -108,8 +107,7 @@ TOLD = (0, 1)
 """The statuses under which what the program wrote is kept: under 1 it may be what it missed."""
 
 
-@dataclass(frozen=True)
-class Answer:
+class Answer(NamedTuple):
     """What the program answered."""
 
     status: int
@@ -120,7 +118,7 @@ class Answer:
 
 def answer_of(command: Sequence[bytes], fds: Sequence[int], own: bytes, name: bytes) -> Answer:
     """Runs the program over a core, of which it has the word `own` and the user another name, and keeps what it writes."""
-    with tempfile.TemporaryFile() as out, tempfile.TemporaryFile() as lines:
+    with spare_file() as out, spare_file() as lines:
         status = subprocess.call(list(command), pass_fds=list(fds), stdout=out, stderr=lines)
         length = out.seek(0, 2)
         if status in TOLD and length > LONGEST_ANSWER:

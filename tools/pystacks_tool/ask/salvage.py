@@ -5,7 +5,6 @@ threads either they are that one's too.
 """
 
 import json
-from dataclasses import dataclass, field
 from typing import Callable, Dict, Iterable, Optional, Tuple
 
 from pystacks_tool.ask.dump import Tree, Unexpected, local_of
@@ -74,6 +73,24 @@ def registers_of(tree: Tree) -> Registers:
     return Registers(tree["system_id"], tree["python"].get("thread_id"), tuple((name, int(value, 16)) for name, value in rows.items()))
 
 
+def with_system_id(thread: Thread, ids: Dict[int, int]) -> Thread:
+    """A thread with the system's id by its status record, where it has one."""
+    own = ids.get(thread.number)
+    if own is None or own == thread.native:
+        return thread
+    return thread._replace(native=own, kept=thread.native)
+
+
+def with_system_ids(report: Report) -> Report:
+    """A report in which each thread has the system's id by its status record, and of which is told which other thread got the signal, where none of
+    Python's did: the first record is that thread's."""
+    ids = {it.number: it.native for it in report.registers if it.number is not None}
+    first = report.registers[0] if report.registers else None
+    other = first.native if first and first.number is None and report.signal and not any(it.is_crashed for it in report.threads) else None
+    its = tuple(one._replace(threads=tuple(with_system_id(it, ids) for it in one.threads)) for one in report.interpreters)
+    return report._replace(interpreters=its, other=other)
+
+
 def member_of(tree: Tree) -> Frame:
     """A frame, or a member without names."""
     if "why" in tree:
@@ -100,14 +117,14 @@ def interpreter_of(tree: Tree) -> Interpreter:
     return Interpreter(threads, int(tree["address"], 16), tree["searched"], fault, threads_end(tree["threads_end"]))
 
 
-@dataclass
 class NamesAndValues:
     """What `pystacks dump` told that `pysalvage` doesn't."""
 
-    names: Dict[int, Optional[str]] = field(default_factory=dict)
-    """The names of threads, by the interpreters' ids of them."""
-    values: Dict[Tuple[str, str], str] = field(default_factory=dict)
-    """The values that are shown, by the local's name and the value's address."""
+    def __init__(self) -> None:
+        self.names: Dict[int, Optional[str]] = {}
+        """The names of threads, by the interpreters' ids of them."""
+        self.values: Dict[Tuple[str, str], str] = {}
+        """The values that are shown, by the local's name and the value's address."""
 
 
 def names_and_values(threads: Iterable[Tree]) -> NamesAndValues:

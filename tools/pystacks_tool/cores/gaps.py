@@ -8,7 +8,6 @@ order of addresses among the others.
 import re
 import struct
 from bisect import bisect_right
-from dataclasses import dataclass, replace
 from typing import AbstractSet, Callable, Dict, Iterator, List, Optional, Sequence
 
 from pystacks_tool.cores.headers import LAST, PAGE, Header, headers_of
@@ -38,12 +37,12 @@ def floor(number: int) -> int:
 # ---- maps that no segment covers
 
 
-@dataclass
 class Image:
     """The load segments of a file that was mapped, and how far from their own addresses they lie."""
 
-    loads: List[Header]
-    bias: Optional[int] = None
+    def __init__(self, loads: List[Header]) -> None:
+        self.loads = loads
+        self.bias: Optional[int] = None
 
     def flags_of(self, entry: Entry) -> int:
         """The flags of a mapping: those of the load segment at its address. The mapping of the first segment's first
@@ -156,7 +155,7 @@ def split(it: Header, places: AbstractSet[int]) -> Iterator[Header]:
     for start, end in zip([0, *cuts], [*cuts, it.memory]):
         size = max(0, min(it.size, end) - start)
         offset = it.offset + min(start, it.size)
-        yield replace(it, offset=offset, start=it.start + start, size=size, memory=end - start)
+        yield it._replace(offset=offset, start=it.start + start, size=size, memory=end - start)
 
 
 def at_maps(headers: Sequence[Header], entries: Sequence[Entry]) -> List[Header]:

@@ -6,8 +6,7 @@ own, or from the one block of zero bytes to which all runs of zero pages point.
 
 import os
 import struct
-from dataclasses import dataclass, replace
-from typing import IO, Iterator, List, Optional, Sequence, Tuple
+from typing import IO, Iterator, List, NamedTuple, Optional, Sequence, Tuple
 
 from pystacks_tool.cores.maps import EXTENDED, LOAD, NOTE, header_of, read_at
 from pystacks_tool.cores.progress import count_read
@@ -21,8 +20,7 @@ LAST = 1 << 64
 ROW = "<2I6Q"
 
 
-@dataclass(frozen=True)
-class Header:
+class Header(NamedTuple):
     """A program header."""
 
     kind: int
@@ -47,8 +45,7 @@ class Header:
         return self.kind in (LOAD, NOTE)
 
 
-@dataclass(frozen=True)
-class Piece:
+class Piece(NamedTuple):
     """A header that is to be written. Its offset is that in the core that is read."""
 
     header: Header
@@ -117,10 +114,10 @@ def laid(pieces: Sequence[Piece]) -> Tuple[List[Header], int, int]:
     end = 64 + 56 * len(pieces)
     placed: List[Header] = []
     for it in pieces:
-        placed.append(replace(it.header, offset=end, align=1))
+        placed.append(it.header._replace(offset=end, align=1))
         end += 0 if it.is_zero or not it.header.has_bytes else it.header.size
     zeros = max((it.header.size for it in pieces if it.is_zero), default=0)
-    placed = [replace(new, offset=end) if it.is_zero else new for it, new in zip(pieces, placed)]
+    placed = [new._replace(offset=end) if it.is_zero else new for it, new in zip(pieces, placed)]
     return placed, end, end + zeros
 
 

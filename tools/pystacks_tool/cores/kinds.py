@@ -1,8 +1,7 @@
 """What a file is that is no core of a 64-bit little-endian process: so that its user needn't guess."""
 
 import struct
-from dataclasses import dataclass
-from typing import IO, Optional
+from typing import IO, NamedTuple, Optional
 
 from pystacks_tool.cores.maps import read_at
 from pystacks_tool.faults import NO_STACKS, Fault, shown
@@ -26,8 +25,7 @@ HEAD = 512
 OTHER_READERS = "gdb reads such a core: gdb PROGRAM CORE"
 
 
-@dataclass(frozen=True)
-class NoCore:
+class NoCore(NamedTuple):
     """What a file is that isn't read, and what to do next."""
 
     line: str

@@ -3,7 +3,6 @@
 import os
 import re
 import struct
-from dataclasses import dataclass
 from typing import IO, Optional, Set
 
 from pystacks_tool.cores.headers import headers_of
@@ -30,16 +29,16 @@ MOST = 1 << 26
 """How many bytes of notes are read at most: many note segments may stand over the same bytes."""
 
 
-@dataclass
 class Known:
     """What is known of a process."""
 
-    signal: Optional[int] = None
-    pid: Optional[int] = None
-    arguments: str = ""
-    threads: int = 0
-    other: str = ""
-    """The interpreter that it is, where that is another one than CPython."""
+    def __init__(self) -> None:
+        self.signal: Optional[int] = None
+        self.pid: Optional[int] = None
+        self.arguments = ""
+        self.threads = 0
+        self.other = ""
+        """The interpreter that it is, where that is another one than CPython."""
 
     @property
     def line(self) -> str:

@@ -7,9 +7,8 @@ tables gives to its start. What is no core tells no maps here; the program has a
 import io
 import re
 import struct
-from dataclasses import dataclass
 from enum import Enum
-from typing import IO, Dict, FrozenSet, Iterator, List, Optional, Tuple
+from typing import IO, Dict, FrozenSet, Iterator, List, NamedTuple, Optional, Tuple
 
 LOAD, NOTE = 1, 4
 EXECUTABLE, WRITABLE = 1, 2
@@ -25,8 +24,7 @@ LIBRARY = re.compile(r"/libpython[0-9].[0-9][0-9]?[mdu]?.so")
 """The name of Python's library, as `is_python_lib` of the crate py_process has it."""
 
 
-@dataclass(frozen=True)
-class Segment:
+class Segment(NamedTuple):
     """A program header."""
 
     kind: int
@@ -37,8 +35,7 @@ class Segment:
     """How many bytes the file has of it."""
 
 
-@dataclass(frozen=True)
-class Map:
+class Map(NamedTuple):
     """A load segment with its file's name."""
 
     segment: Segment
@@ -58,8 +55,7 @@ class Use(Enum):
     """It reads bytes there that the core leaves out."""
 
 
-@dataclass(frozen=True)
-class Wanted:
+class Wanted(NamedTuple):
     """A file that the program makes use of."""
 
     name: bytes

@@ -1,10 +1,8 @@
 """A core as it is handed to a program: prepared where it has to be, with its images and layouts."""
 
 import os
-import tempfile
-from dataclasses import dataclass, field
 from pathlib import Path
-from typing import IO, Iterable, List, Optional, Tuple
+from typing import IO, Iterable, List, Optional, Sequence, Tuple
 
 from pystacks_tool.ask.run import tells_missed, tells_tasks
 from pystacks_tool.cores.headers import headers_of
@@ -19,6 +17,7 @@ from pystacks_tool.cores.tables import Entry, entries_of
 from pystacks_tool.faults import BAD_WORDS, CANNOT_READ, NO_ROOM, NO_STACKS, Fault, say, shown
 from pystacks_tool.options import Options
 from pystacks_tool.places import layouts_of, records_of, salvage_program
+from pystacks_tool.spare import spare_folder
 
 STILL = "copy it first, once nothing writes it"
 """What to do where a core became shorter."""
@@ -27,34 +26,34 @@ ROOM = "make room, or name another folder by TMPDIR, or another file by --keep"
 """What to do where a core that is prepared can't be written."""
 
 
-@dataclass
 class OpenedCore:
     """A core that a program is asked of."""
 
-    name: str
-    """The user's name for it."""
-    prepared: Optional[IO[bytes]]
-    """The file that was prepared of it, if one was."""
-    layouts: str
-    images: List[bytes]
-    part: Optional[Part] = None
-    """What the prepared file is of the core, where it is a part of it."""
-    rest: List[Wanted] = field(default_factory=list)
-    """Files that are handed over once an address in them was missed."""
-    entries: List[Entry] = field(default_factory=list)
-    """Where files were mapped."""
-    root: Root = b""
-    machine: Optional[int] = None
-    records: str = ""
-    """The file of records, where there is one."""
-    done: Tuple[str, ...] = ()
-    """What was done to prepare it."""
-    handed: Tuple[int, ...] = ()
-    """The files that were handed to the tool, which a program inherits."""
-    read: int = 0
-    """How many bytes the files have that were handed over once they were missed."""
-    others: List[Wanted] = field(default_factory=list)
-    """Files that may be on a native stack, beside those that are handed over in any case."""
+    def __init__(self, name: str, prepared: Optional[IO[bytes]], layouts: str, images: List[bytes], part: Optional[Part] = None,
+                 rest: Sequence[Wanted] = (), entries: Sequence[Entry] = (), root: Root = b"", machine: Optional[int] = None,
+                 records: str = "", done: Tuple[str, ...] = (), handed: Tuple[int, ...] = (), others: Sequence[Wanted] = ()) -> None:
+        self.name = name
+        """The user's name for it."""
+        self.prepared = prepared
+        """The file that was prepared of it, if one was."""
+        self.layouts, self.images = layouts, images
+        self.part = part
+        """What the prepared file is of the core, where it is a part of it."""
+        self.rest = list(rest)
+        """Files that are handed over once an address in them was missed."""
+        self.entries = list(entries)
+        """Where files were mapped."""
+        self.root, self.machine = root, machine
+        self.records = records
+        """The file of records, where there is one."""
+        self.done = done
+        """What was done to prepare it."""
+        self.handed = handed
+        """The files that were handed to the tool, which a program inherits."""
+        self.others = list(others)
+        """Files that may be on a native stack, beside those that are handed over in any case."""
+        self.read = 0
+        """How many bytes the files have that were handed over once they were missed."""
 
     def other_images(self) -> List[bytes]:
         """The words for these files. (A stack that goes on in a file which is left out says so itself.)"""
@@ -86,7 +85,7 @@ class OpenedCore:
         try:
             grew = self.part.grow(blocks, run)
         except OSError as error:
-            line = f"cannot write a file in {tempfile.gettempdir()} (TMPDIR names another folder): {error.strerror}"
+            line = f"cannot write a file in {spare_folder()} (TMPDIR names another folder): {error.strerror}"
             raise Fault(line, NO_ROOM, ROOM) from None
         except Shrunk:
             raise Fault(SHRUNK, NO_STACKS, STILL) from None

@@ -7,8 +7,7 @@ bytes: it has the write flag, so that no image stands in for what is left out.
 import os
 import struct
 from bisect import bisect_right, insort
-from dataclasses import dataclass, field, replace
-from typing import IO, AbstractSet, Dict, Iterable, Iterator, List, Sequence, Tuple
+from typing import IO, AbstractSet, Dict, Iterable, Iterator, List, NamedTuple, Sequence, Tuple
 
 from pystacks_tool.cores.headers import PAGE, ROW, Header, Piece, copy, write_at
 from pystacks_tool.cores.maps import HEAD, LOAD, NOTE, WRITABLE, notes_of, read_at
@@ -44,8 +43,7 @@ class Shrunk(Exception):
     """The core became shorter while it was read."""
 
 
-@dataclass(order=True)
-class Given:
+class Given(NamedTuple):
     """Some bytes of a segment that the part has."""
 
     start: int
@@ -54,14 +52,14 @@ class Given:
     """Where they stand in the part's file."""
 
 
-@dataclass
 class Segment:
     """A header of the core, and what the part has of it."""
 
-    piece: Piece
-    is_cut: bool
-    """Whether the part may have less than all of it."""
-    given: List[Given] = field(default_factory=list)
+    def __init__(self, piece: Piece, is_cut: bool) -> None:
+        self.piece = piece
+        self.is_cut = is_cut
+        """Whether the part may have less than all of it."""
+        self.given: List[Given] = []
 
     @property
     def header(self) -> Header:
@@ -83,16 +81,16 @@ class Segment:
         """Its headers in the part."""
         it, at = self.header, 0
         if not it.has_bytes:
-            yield replace(it, offset=0)
+            yield it._replace(offset=0)
             return
         for given in self.given:
             if given.start > at:
-                yield replace(part_of(it, at, given.start), size=0, flags=it.flags | WRITABLE)
-            yield replace(part_of(it, given.start, given.end), offset=given.place)
+                yield part_of(it, at, given.start)._replace(size=0, flags=it.flags | WRITABLE)
+            yield part_of(it, given.start, given.end)._replace(offset=given.place)
             at = given.end
         if at < it.size or not self.given:
             flags = it.flags | WRITABLE if it.size else it.flags
-            yield replace(part_of(it, at, it.size), size=0, flags=flags)
+            yield part_of(it, at, it.size)._replace(size=0, flags=flags)
 
 
 def alone(headers: Sequence[Header]) -> List[bool]:

@@ -7,9 +7,7 @@ What is done is said in a line. Where a core needs nothing there is no other fil
 import os
 import re
 import stat
-import tempfile
-from dataclasses import dataclass, field, replace
-from typing import IO, Callable, List, Optional, Tuple
+from typing import IO, Callable, List, NamedTuple, Optional, Tuple
 
 from pystacks_tool.cores.gaps import READABLE, Find, at_maps, table_note, with_gaps
 from pystacks_tool.cores.headers import Header, Piece, copy, headers_of, stretches, written
@@ -18,6 +16,7 @@ from pystacks_tool.cores.maps import LOAD, NOTE, WRITABLE, notes_of, read_at
 from pystacks_tool.cores.parts import FIRST, Part, Shrunk
 from pystacks_tool.cores.sparse import Cuts, cut_pieces, cuts_of
 from pystacks_tool.cores.tables import Entry, entries_of
+from pystacks_tool.spare import spare_file, spare_folder
 
 LEAST = 64 << 20
 """How many zero bytes make it worth writing a core anew, if they are half of it."""
@@ -41,8 +40,7 @@ class Unprepared(Exception):
         self.status = status
 
 
-@dataclass(frozen=True)
-class Wishes:
+class Wishes(NamedTuple):
     """How a core is to be prepared."""
 
     keep: str = ""
@@ -63,19 +61,19 @@ class Wishes:
     """What finds the files that a core names."""
 
 
-@dataclass
 class Work:
     """A core at work."""
 
-    file: IO[bytes]
-    headers: List[Header]
-    maps: Tuple[Entry, ...] = ()
-    """The mappings of a file table that is written beside those of the core."""
-    pieces: List[Piece] = field(default_factory=list)
-    said: List[str] = field(default_factory=list)
-    """What was done."""
-    is_part: bool = False
-    """Whether a part of it is to be made."""
+    def __init__(self, file: IO[bytes], headers: List[Header]) -> None:
+        self.file = file
+        self.headers = headers
+        self.maps: Tuple[Entry, ...] = ()
+        """The mappings of a file table that is written beside those of the core."""
+        self.pieces: List[Piece] = []
+        self.said: List[str] = []
+        """What was done."""
+        self.is_part = False
+        """Whether a part of it is to be made."""
 
     @property
     def length(self) -> int:
@@ -97,8 +95,7 @@ class Work:
         return [*pieces, Piece(Header(NOTE, READABLE, 0, 0, 0, len(table), 0), data=table)]
 
 
-@dataclass(frozen=True)
-class Prepared:
+class Prepared(NamedTuple):
     """A core that was prepared, and what was done."""
 
     file: IO[bytes]
@@ -126,14 +123,14 @@ def available(text: str) -> Optional[int]:
 def new_file(keep: str) -> IO[bytes]:
     """The file that is written. One that is there is never written over; one without a name is gone with the tool."""
     try:
-        return open(keep, "x+b") if keep else tempfile.TemporaryFile(prefix="dump-core-")
+        return open(keep, "x+b") if keep else spare_file()
     except OSError as error:
-        raise Unprepared(f"cannot write {keep or 'a file in ' + tempfile.gettempdir()}: {error.strerror}") from None
+        raise Unprepared(f"cannot write {keep or 'a file in ' + spare_folder()}: {error.strerror}") from None
 
 
 def unwritten(keep: str, error: OSError) -> Unprepared:
     """That a core can't be written."""
-    where = keep or f"a file in {tempfile.gettempdir()} (TMPDIR names another folder)"
+    where = keep or f"a file in {spare_folder()} (TMPDIR names another folder)"
     return Unprepared(f"cannot write {where}: {error.strerror}")
 
 
@@ -157,8 +154,8 @@ def shortened(work: Work, it: Header) -> Header:
     size = max(0, min(it.size, work.length - it.offset))
     offset = min(it.offset, work.length)
     if it.kind == NOTE:
-        return replace(it, offset=offset, size=whole_notes(read_at(work.file, offset, size)))
-    return replace(it, offset=offset, size=size, flags=it.flags | WRITABLE)
+        return it._replace(offset=offset, size=whole_notes(read_at(work.file, offset, size)))
+    return it._replace(offset=offset, size=size, flags=it.flags | WRITABLE)
 
 
 def mend_cut(work: Work) -> None:

@@ -6,8 +6,7 @@ each address has the byte that it had; and no piece begins where the core's file
 stands where it stood.
 """
 
-from dataclasses import dataclass, replace
-from typing import AbstractSet, Dict, Iterator, List, Sequence, Tuple
+from typing import AbstractSet, Dict, Iterator, List, NamedTuple, Sequence, Tuple
 
 from pystacks_tool.cores.headers import BLOCK, PAGE, Header, Piece, blocks, stretches
 from pystacks_tool.cores.maps import EXECUTABLE, LOAD, WRITABLE
@@ -30,8 +29,7 @@ Run = Tuple[int, int]
 """Where some pages of a segment begin and end, counted from its start."""
 
 
-@dataclass(frozen=True)
-class Cuts:
+class Cuts(NamedTuple):
     """The runs at which segments are cut, by the segments' numbers."""
 
     runs: Dict[int, List[Run]]
@@ -133,7 +131,7 @@ def shares(run: Run, block: int, it: Header, named: AbstractSet[int]) -> List[Ru
 def part_of(it: Header, start: int, end: int) -> Header:
     """The header of a part of a segment; the last part has the addresses without bytes too."""
     memory = it.memory - start if end == it.size else end - start
-    return replace(it, offset=it.offset + start, start=it.start + start, size=end - start, memory=memory)
+    return it._replace(offset=it.offset + start, start=it.start + start, size=end - start, memory=memory)
 
 
 def pieces_of(it: Header, runs: Sequence[Run], block: int, named: AbstractSet[int]) -> List[Piece]:

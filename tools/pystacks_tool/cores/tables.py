@@ -1,15 +1,13 @@
 """The entries of a core's file tables."""
 
 import struct
-from dataclasses import dataclass
-from typing import IO, Iterator, List, Sequence
+from typing import IO, Iterator, List, NamedTuple, Sequence
 
 from pystacks_tool.cores.headers import Header
 from pystacks_tool.cores.maps import FILE_TABLE, NOTE, notes_of, read_at
 
 
-@dataclass(frozen=True)
-class Entry:
+class Entry(NamedTuple):
     """A mapping of a file."""
 
     start: int

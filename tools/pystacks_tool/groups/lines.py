@@ -6,7 +6,6 @@ Lines of many machines are grouped by `--group --from`. A core that can't be rea
 import datetime
 import json
 import os
-from dataclasses import replace
 from typing import Dict, List, Optional
 
 from pystacks_tool.ask.reports import Outcome, decoded, report_on
@@ -97,7 +96,7 @@ def line_of(options: Options, name: str) -> Line:
     """A core's line, whatever comes of it."""
     try:
         # (what a line has none of isn't asked for)
-        found = report_on(replace(options, tasks=False, native=False, where=False), open_core(options, name))
+        found = report_on(options._replace(tasks=False, native=False, where=False), open_core(options, name))
     except Fault as fault:
         return refused_line(options, name, str(fault))
     except OSError as error:

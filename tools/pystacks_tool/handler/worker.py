@@ -5,7 +5,7 @@ import os
 import shutil
 import tempfile
 import traceback
-from dataclasses import dataclass, replace
+from dataclasses import dataclass
 from typing import Dict, Iterator, Mapping, NoReturn, Tuple
 
 from pystacks_tool.ask.programs import command_of
@@ -99,7 +99,7 @@ def put_report(task: Task, found: Outcome) -> None:
     if found.report is None:
         os.write(task.out[SAID], found.answer.said[: 1 << 16])
         return
-    report = replace(found.report, core=task.name)
+    report = found.report._replace(core=task.name)
     put(task.out[TEXT], "".join(f"{it}\n" for it in report_lines(report, Style())))
     put(task.out[JSON], json.dumps(found.tree, indent=2, sort_keys=True, ensure_ascii=False) + "\n")
 
@@ -115,7 +115,7 @@ def put_line(task: Task, line: Line) -> None:
 def put_slim(task: Task, options: Options) -> None:
     """Writes the small core, where one can be made."""
     program = os.fspath(program_at(options.program, PROGRAM))
-    core = open_core(replace(options, whole=True), options.cores[0])
+    core = open_core(options._replace(whole=True), options.cores[0])
     command = command_of([program, core.word, core.layouts], [core.name])
     located(command, core)
     written(command, core, 0, task.out[SLIM])

@@ -7,17 +7,18 @@ import struct
 from typing import Optional
 
 ODD = "\x00-\x1f\x7f-\x9f\u061c\u200e\u200f\u2028-\u202e\u2066-\u2069\ud800-\udfff"
-"""What no text is shown with: control characters, what ends a line, and what turns the direction of the text around it."""
+"""What no text is shown with: control characters, what ends a line, and what turns the direction of the text around it. None of it is
+printable, so that most texts need no pattern; patterns are compiled where they are first used."""
 
-CONTROL = re.compile(f"[{ODD}]")
-NAME = re.compile(f'["\\\\{ODD}]')
-PLACE = re.compile(f"[;\\\\{ODD}]")
+CONTROL = f"[{ODD}]"
+NAME = f'["\\\\{ODD}]'
+PLACE = f"[;\\\\{ODD}]"
 """What would end a place of a collapsed stack, too."""
 
-FLOAT = re.compile(r"(?<![^\[({ ])float 0x([0-9a-f]{16}|[0-9a-f]{8})(?![^\])},:])")
+FLOAT = r"(?<![^\[({ ])float 0x([0-9a-f]{16}|[0-9a-f]{8})(?![^\])},:])"
 """A float by its bits, within a value."""
 
-QUOTED = re.compile(r'"[^"]*"(?=$|[\])},:])')
+QUOTED = r'"[^"]*"(?=$|[\])},:])'
 """A text within a value. One with quotes of its own can't be told from several."""
 
 SIGNALS = (
@@ -35,12 +36,13 @@ def escaped(found: "re.Match[str]") -> str:
 
 def in_line(text: str) -> str:
     """A value or an argument within a line."""
-    return CONTROL.sub(escaped, text)
+    return text if text.isprintable() else re.sub(CONTROL, escaped, text)
 
 
 def as_name(text: str) -> str:
     """A name within a line: it has neither quotes nor backslashes of its own."""
-    return NAME.sub(escaped, text)
+    is_plain = text.isprintable() and '"' not in text and "\\" not in text
+    return text if is_plain else re.sub(NAME, escaped, text)
 
 
 def as_function(text: str) -> str:
@@ -58,17 +60,17 @@ def decimal(found: "re.Match[str]") -> str:
 
 def in_place(text: str) -> str:
     """A text within a place of a collapsed stack."""
-    return PLACE.sub(escaped, text)
+    return re.sub(PLACE, escaped, text)
 
 
 def with_decimals(value: str) -> str:
     """A value with its floats in decimal beside their bits. Texts within it stay as they are; and so does all of it where
     they can't be told from what is around them."""
-    parts = QUOTED.split(value)
+    parts = re.split(QUOTED, value)
     if any('"' in it for it in parts):
         return value
-    texts = QUOTED.findall(value)
-    plain = [FLOAT.sub(decimal, it) for it in parts]
+    texts = re.findall(QUOTED, value)
+    plain = [re.sub(FLOAT, decimal, it) for it in parts]
     return plain[0] + "".join(text + part for text, part in zip(texts, plain[1:]))
 
 
@@ -81,10 +83,10 @@ def signal_name(number: int) -> Optional[str]:
     return None
 
 
-HIDDEN = re.compile(f"[{ODD}\ufdd0-\ufdef\ufffe\uffff]")
+HIDDEN = f"[{ODD}\ufdd0-\ufdef\ufffe\uffff]"
 """What a page shows escaped: also what is no character of HTML."""
 
 
 def in_page(text: str) -> str:
     """A text of a core as a page shows it, before its markup is escaped."""
-    return HIDDEN.sub(escaped, text)
+    return re.sub(HIDDEN, escaped, text)

@@ -2,9 +2,8 @@
 as the number of threads that have it.
 """
 
-from dataclasses import dataclass, field
 from html import escape
-from typing import Dict, List, Sequence, Tuple
+from typing import Dict, List, NamedTuple, Sequence, Tuple
 
 from pystacks_tool.show.escape import in_page
 
@@ -24,21 +23,20 @@ LARGEST = 400_000
 """The most bytes of a picture, if nothing else is said."""
 
 
-@dataclass
 class Bar:
     """A place of some stacks."""
 
-    label: str
-    start: int = 0
-    """How many threads stand left of it."""
-    count: int = 0
-    """How many threads have it."""
-    below: Dict[str, "Bar"] = field(default_factory=dict)
-    """The places that it called."""
+    def __init__(self, label: str, count: int = 0) -> None:
+        self.label = label
+        self.start = 0
+        """How many threads stand left of it."""
+        self.count = count
+        """How many threads have it."""
+        self.below: Dict[str, "Bar"] = {}
+        """The places that it called."""
 
 
-@dataclass(frozen=True)
-class Flame:
+class Flame(NamedTuple):
     """A picture, and the order of threads in it."""
 
     svg: str
@@ -50,7 +48,7 @@ class Flame:
 
 def tree_of(stacks: Sequence[Tuple[str, ...]]) -> Bar:
     """All places, below one that stands for all threads."""
-    top = Bar("all threads", 0, sum(bool(it) for it in stacks))
+    top = Bar("all threads", sum(bool(it) for it in stacks))
     for stack in stacks:
         bar = top
         for label in stack:

@@ -4,8 +4,7 @@ The newest of a run stands as it is, above that line, so that nothing is lost bu
 (lines 9, 10)` stands for 451 more times these two frames. With locals the line counts those that it leaves out.
 """
 
-from dataclasses import dataclass
-from typing import Iterator, List, Optional, Sequence, Tuple, Union
+from typing import Iterator, List, NamedTuple, Optional, Sequence, Tuple, Union
 
 from pystacks_tool.model import Frame
 from pystacks_tool.show.escape import as_name
@@ -17,8 +16,7 @@ LEAST = 4
 """How often it has to stand there."""
 
 
-@dataclass(frozen=True)
-class Fold:
+class Fold(NamedTuple):
     """Frames that stand for a line."""
 
     unit: Tuple[Frame, ...]

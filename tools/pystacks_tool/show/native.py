@@ -7,10 +7,10 @@ from typing import Dict, Iterator, List, Optional, Sequence
 from pystacks_tool.model import NativeFrame, NativeStack, Report
 from pystacks_tool.show.escape import as_function, as_name, in_line
 
-LIBRARY = re.compile(r"(libc|libffi|libpthread|ld-linux[^/]*|libm|libdl|librt|ld-musl[^/]*|linux-vdso)[-.][^/]*$|\[vdso\]$")
+LIBRARY = r"(libc|libffi|libpthread|ld-linux[^/]*|libm|libdl|librt|ld-musl[^/]*|linux-vdso)[-.][^/]*$|\[vdso\]$"
 """Files of the C library, the system's own, and libffi, which passes the calls of ctypes on."""
 
-PYTHON = re.compile(r"(lib)?python[0-9.]*[a-z]*(\.so[0-9.]*)?$")
+PYTHON = r"(lib)?python[0-9.]*[a-z]*(\.so[0-9.]*)?$"
 """Files of Python itself: the program and its library."""
 
 
@@ -77,12 +77,12 @@ def native_lines(report: Report) -> Iterator[str]:
 
 def is_own(frame: NativeFrame) -> bool:
     """Whether a frame is of the C library, of the system, or of libffi."""
-    return frame.file is not None and LIBRARY.search(base_of(frame)) is not None
+    return frame.file is not None and re.search(LIBRARY, base_of(frame)) is not None
 
 
 def is_python(frame: NativeFrame) -> bool:
     """Whether a frame is of Python itself."""
-    return frame.file is not None and PYTHON.match(base_of(frame)) is not None
+    return frame.file is not None and re.match(PYTHON, base_of(frame)) is not None
 
 
 def where_line(report: Report) -> str:

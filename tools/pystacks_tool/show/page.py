@@ -5,7 +5,6 @@ but its own.
 
 import base64
 import hashlib
-from dataclasses import replace
 from typing import Dict, Iterator, List, Mapping, Optional, Sequence
 
 from pystacks_tool.groups.triage import Group
@@ -157,8 +156,8 @@ def table_part(caption: str, heads: Sequence[str], rows: Sequence[str]) -> str:
 
 def signal_of(report: Report) -> str:
     """The signal, by number and name; nothing where none is told."""
-    if report.signal is None:
-        return ""
+    if not report.signal:
+        return "" if report.signal is None else "none: `gcore` took the core of a living process"
     name = signal_name(report.signal)
     return f"{report.signal}{f' ({name})' if name else ''}"
 
@@ -171,7 +170,8 @@ def head_part(report: Report) -> str:
         rows.append(("Signal", f"<b class=\"bad\">{signal_of(report)}</b>{how}"))
     if report.process is not None:
         rows.append(("Process", f"{report.process[0]}: {text(whole_or_cut(report.process[1]))}"))
-    rows.append(("Python", "<br>".join([text(report.version), *(f"<b class=\"bad\">{text(it)}</b>" for it in report.layout)])))
+    if report.version:
+        rows.append(("Python", "<br>".join([text(report.version), *(f"<b class=\"bad\">{text(it)}</b>" for it in report.layout)])))
     crashed = [f"{text(it.label)} {name_of(it)} in {text(newest_of(it))}" for it in report.threads if it.is_crashed]
     told = [", ".join(crashed), text(crash_line(report))]
     if any(told):
@@ -223,11 +223,11 @@ def report_body(report: Report, style: Style, note: str, largest: int) -> str:
 
 def report_page(report: Report, style: Style) -> str:
     """The page of a core."""
-    plain = replace(style, has_colours=False)
+    plain = style._replace(has_colours=False)
     room = LARGEST - len(STYLE) - len(SCRIPT) - 300 * len(report.threads) - 4000
     page = page_of(title_of(report), report_body(report, plain, "", room))
     if style.sources and len(page.encode("utf-8", "replace")) > LARGEST:
-        page = page_of(title_of(report), report_body(report, replace(plain, sources=None), NO_SOURCES, room))
+        page = page_of(title_of(report), report_body(report, plain._replace(sources=None), NO_SOURCES, room))
     return page
 
 
@@ -255,7 +255,7 @@ def group_section(number: int, it: Group, report: Optional[Report], style: Style
 
 def group_page(groups: Sequence[Group], reports: Mapping[bytes, Optional[Report]], style: Style) -> str:
     """The page of groups of cores."""
-    plain = replace(style, has_colours=False)
+    plain = style._replace(has_colours=False)
     pairs = [(it, reports.get(it.first)) for it in groups if it.is_group]
     rows = [group_row(number, it, report) for number, (it, report) in enumerate(pairs, 1)]
     sections = [group_section(number, it, report, plain) for number, (it, report) in enumerate(pairs, 1)]

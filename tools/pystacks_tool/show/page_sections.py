@@ -1,7 +1,6 @@
 """What a page shows beside the stacks of Python: the tasks of asyncio, and native stacks. Everything from the core is escaped."""
 
-from dataclasses import dataclass
-from typing import Iterator, List, Sequence
+from typing import Iterator, List, NamedTuple, Sequence
 
 from pystacks_tool.model import NativeFrame, NativeStack, Report, Task, Tasks
 from pystacks_tool.show.escape import in_line
@@ -17,8 +16,7 @@ OPEN = 8
 """How many places of tasks are open from the first on, and how many native stacks."""
 
 
-@dataclass(frozen=True)
-class Section:
+class Section(NamedTuple):
     """A section of a page."""
 
     anchor: str

@@ -5,8 +5,7 @@ It has what the program told: no frame is added, dropped or moved. Equal stacks 
 what is left out has its number. Of many threads all but the first stacks and what is asked for is at most LINES long.
 """
 
-from dataclasses import dataclass
-from typing import Callable, Dict, Iterator, List, Optional, Sequence, Set, Tuple
+from typing import Callable, Dict, Iterator, List, NamedTuple, Optional, Sequence, Set, Tuple
 
 from pystacks_tool.model import Frame, Interpreter, Local, Report, Stack, Thread, stacks_of, whole_or_cut
 from pystacks_tool.show.escape import as_function, as_name, in_line, signal_name, with_decimals
@@ -37,8 +36,7 @@ FIRST = ("rip", "rsp", "rbp", "pc", "sp")
 BOLD, DIM, RED, YELLOW = "1", "2", "1;31", "33"
 
 
-@dataclass(frozen=True)
-class Style:
+class Style(NamedTuple):
     """How a report is shown."""
 
     has_colours: bool = False
@@ -112,7 +110,10 @@ def crash_line(report: Report) -> str:
     if count > 1:
         why = "in other interpreters a thread keeps the id of the one that made it"
         return f"One of {count} threads got the signal: {why}"
-    return "" if count else "No Python thread got the signal: another thread of the process did, or its record is lost"
+    if count:
+        return ""
+    other = "another thread of the process did, or its record is lost" if report.other is None else f"thread {report.other} of the process did"
+    return f"No Python thread got the signal: {other}"
 
 
 def is_many(report: Report) -> bool:
@@ -210,24 +211,29 @@ def fault_lines(it: Interpreter, style: Style) -> List[str]:
 # ---- the parts of the text
 
 
-def head_lines(report: Report, style: Style, _: int) -> Iterator[str]:
+def signal_line(signal: int) -> str:
+    """A signal in words. (A debugger's `gcore` writes the core of a process that lives on, with none.)"""
+    name = signal_name(signal)
+    return f"Signal {signal}{f' ({name})' if name else ''}" if signal else "No signal, as a core has that `gcore` took of a living process"
+
+
+def told_lines(report: Report, style: Style) -> Iterator[str]:
     """The signal, the process, the version, and what is said of its layout."""
     if report.signal is not None:
-        name = signal_name(report.signal)
-        told = f" ({name})" if name else ""
-        yield style.paint(f"Signal {report.signal}{told}", BOLD) + f": {in_line(report.core)}"
+        yield style.paint(signal_line(report.signal), BOLD) + f": {in_line(report.core)}"
     if report.signal_told:
         yield style.paint(in_line(report.signal_told), RED)
     if report.process is not None:
         yield f"Process {report.process[0]}: {in_line(whole_or_cut(report.process[1]))}"
-    yield f"Python v{in_line(report.version)}"
-    yield from (style.paint(in_line(it), RED) for it in report.layout)
-    where = where_line(report)
-    if where:
-        yield style.paint(where, RED)
-    if crash_line(report):
-        yield style.paint(crash_line(report), RED)
-    yield ""
+    if report.version:
+        yield f"Python v{in_line(report.version)}"
+    yield from (style.paint(it, RED) for it in (*map(in_line, report.layout), where_line(report), crash_line(report)) if it)
+
+
+def head_lines(report: Report, style: Style, _: int) -> Iterator[str]:
+    """The same, where anything is told, above a line without text."""
+    lines = list(told_lines(report, style))
+    yield from [*lines, ""] if lines else []
 
 
 def crashed_lines(report: Report, style: Style, _: int) -> Iterator[str]:
@@ -280,14 +286,13 @@ def table_lines(report: Report, style: Style, _: int) -> Iterator[str]:
     yield ""
 
 
-@dataclass(frozen=True)
-class Block:
+class Block(NamedTuple):
     """A stack with the line of its threads, or the line of those without frames."""
 
     place: int
     """Its interpreter's place."""
     lines: Sequence[str]
-    count: int
+    threads: int
     """How many threads it stands for."""
     is_stack: bool = True
     is_marked: bool = False
@@ -311,7 +316,7 @@ def fitting(blocks: Sequence[Block], fixed: Sequence[int], room: int) -> Set[int
     left = room - 1
     seen: Set[int] = set()
     found: Set[int] = set()
-    for at, it in sorted(enumerate(blocks), key=lambda row: (not row[1].is_marked, -row[1].count)):
+    for at, it in sorted(enumerate(blocks), key=lambda row: (not row[1].is_marked, -row[1].threads)):
         cost = len(it.lines) + (0 if it.place in seen else fixed[it.place])
         if cost <= left:
             left -= cost
@@ -333,7 +338,7 @@ def rest_line(left: Sequence[Block]) -> str:
     """What is said of stacks that aren't shown."""
     stacks = sum(it.is_stack for it in left)
     more = f"{stacks} more stack{'s' if stacks != 1 else ''}" if stacks else "more"
-    return f"... {more} of {sum(it.count for it in left)} threads: --stacks shows each stack, --all each thread"
+    return f"... {more} of {sum(it.threads for it in left)} threads: --stacks shows each stack, --all each thread"
 
 
 def others_lines(report: Report, style: Style, room: int) -> Iterator[str]:
@@ -397,8 +402,7 @@ def native_stack_lines(report: Report, _: Style, __: int) -> Iterator[str]:
 # ---- the whole
 
 
-@dataclass(frozen=True)
-class Part:
+class Part(NamedTuple):
     """A part of the text."""
 
     lines: Callable[[Report, Style, int], Iterator[str]]
