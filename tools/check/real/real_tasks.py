@@ -24,7 +24,6 @@ from child_cores import ALL_PRIVATE, USUAL, Failure, Skip, aborted, core_names
 from derive_layout import Build, DeriveError, build_of
 from each_python import tell_each
 from find_pythons import pythons
-from pystacks_tool.ask.run import tells_tasks
 from real_core import images_of, ran
 
 CHILD = Path(__file__).with_name("tasks_child.py")
@@ -137,8 +136,8 @@ def main() -> int:
     parser.add_argument("python", nargs="*", help="the interpreters (default: all that are found)")
     words = parser.parse_args()
     salvage = words.salvage.resolve()
-    if not salvage.is_file() or not tells_tasks(salvage):
-        print(f"real_tasks: skipped: {'it tells no tasks' if salvage.is_file() else f'there is no {salvage}'}")
+    if not salvage.is_file():
+        print(f"real_tasks: skipped: there is no {salvage}")
         return 0
     try:
         names = core_names()
