@@ -9,10 +9,21 @@ ghost use Rattle.memory_sections.specs.Told.{AreTasksOf, TasksAre};
 use core_stacks::Process;
 use missed_reads::{Missed, Misses};
 use py_fronts::SalvagedInterpreter;
+use py_names::NamesError;
 use py_records::Records;
-use py_tasks::read_tasks;
+use py_tasks::{TasksOf, read_tasks};
 use std::alloc::{AllocError, Global};
 use task_texts::InterpreterTasks;
+
+/// The tasks that were read, or that there was no memory left.
+fn read_or_wanting(read: Result<TasksOf, NamesError>) -> Result<TasksOf, AllocError>
+    ensures { IfOk result (λ tasks. read ≡ Ok tasks) }
+{
+    match read {
+        Ok(tasks) => Ok(tasks),
+        Err(_) => Err(AllocError),
+    }
+}
 
 /// The tasks of an interpreter that is shown. Reads that are refused are kept.
 fn tasks_of(
@@ -26,12 +37,14 @@ fn tasks_of(
     ensures { IfOk result
         (AreTasksOf process.now.layout records.now (byte_at (regions_of process.now.dump)) interpreter.now) }
 {
+    let address = interpreter.front.address;
     let mut view = Missed::new(process.dump.view(), misses);
-    let interpreter = interpreter.front.address;
-    match read_tasks(alloc, &mut view, &process.layout, records, interpreter) {
-        Ok(tasks) => Ok(InterpreterTasks { interpreter, tasks }),
-        Err(_) => Err(AllocError),
-    }
+    let read = read_tasks(alloc, &mut view, &process.layout, records, address);
+    let tasks = read_or_wanting(read)?;
+    Ok(InterpreterTasks {
+        interpreter: address,
+        tasks,
+    })
 }
 
 /// The tasks of each interpreter, in order.

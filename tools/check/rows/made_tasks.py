@@ -19,7 +19,7 @@ set = {size=200, used=24, mask=32, table=40, small_table=64}
 set_entry = {size=16, key=0, hash=8}
 weakref = {size=56, object=16, callback=24}
 code_names = {bytecode=64, cells=72, frees=80}
-stack_pointer = {bottom=64, top=72}
+stack_pointer = {bottom=40, top=48}
 yield_from = {opcode=72}
 generator = {size=96, name=48, qualname=56}
 coroutine = {size=104, name=48, qualname=56}
@@ -96,8 +96,8 @@ class Made:
         objects.word(code + 64, objects.table(bytes((0, 0, YIELD_FROM, 0))))
         frame = objects.write(objects.free(), bytes(96))
         objects.record("frame", frame, code=code)
-        objects.word(frame + 64, frame + 80)
-        objects.word(frame + 72, frame + 88)
+        objects.word(frame + 40, frame + 80)
+        objects.word(frame + 48, frame + 88)
         objects.word(frame + 80, awaited)
         at = self.instance("coroutine", bytes(104))
         objects.word(at + 16, frame)
