@@ -226,10 +226,10 @@ def sections_asked(words: Sequence[str]) -> Sequence[str]:
     return [it for it in options_of(words) if it in SECTIONS]
 
 
-SECTIONS = ("--signal", "--registers", "--missing", "--check-layout", "--names", "--native")
+SECTIONS = ("--signal", "--registers", "--missing", "--check-layout", "--names", "--tasks", "--native")
 """The flags of all sections."""
 
-OWN_TEXTS = ("--native",)
+OWN_TEXTS = ("--tasks", "--native")
 """Those whose text isn't made again from the JSON here."""
 
 

@@ -1,7 +1,7 @@
 """What the sections of `pysalvage` have to have in its JSON, and in its text, by docs/SALVAGE.md."""
 
 import re
-from typing import Any, Collection, Dict, List, Tuple
+from typing import Any, Collection, Dict, List, Sequence, Tuple
 
 import rooms  # noqa: F401
 from child_cores import Failure
@@ -100,7 +100,7 @@ def check_layout(tree: Tree) -> None:
 def check_sections(tree: Tree, asked: Collection[str]) -> None:
     """Fails where a section isn't there by its flag, or has not what it has to have."""
     for key, flag in (("signal_info", "--signal"), ("registers", "--registers"), ("missing", "--missing"),
-                      ("layout_check", "--check-layout"), ("names", "--names"),
+                      ("layout_check", "--check-layout"), ("names", "--names"), ("tasks", "--tasks"),
                       ("native", "--native")):
         if (tree[key] is not None) != (flag in asked):
             raise Failure(f"the section {key} is {tree[key]!r}, where {asked!r} are asked for")
@@ -114,6 +114,8 @@ def check_sections(tree: Tree, asked: Collection[str]) -> None:
         check_layout(tree["layout_check"])
     if tree["names"] is not None:
         check_names(tree)
+    if tree["tasks"] is not None:
+        check_tasks(tree)
 
 
 def check_names(tree: Tree) -> None:
@@ -183,3 +185,63 @@ def layout_lines(tree: Tree) -> List[str]:
     fronts = {"agrees": "Layout agrees", "silent": "Layout not confirmed",
               "doubtful": "Layout not confirmed, type's own table is none that is known"}
     return [*lines, f"{fronts[check['verdict']]}: {len(check['told'])} keys told, {len(check['not_told'])} not told"]
+
+
+# ---- tasks
+
+ENDS_OF_TASKS = {"future": ("address",), "object": ("address",), "cycle": ("address",), "cut": ("address",), "unreadable": ("address", "length"),
+                 "yield": (), "created": (), "running": (), "finished": (), "not stored": ()}
+"""How a chain ends, and what is told of that."""
+
+FAULTS_OF_TASKS = {"unreadable": ("address", "length"), "too many": (), "malformed": (), "not described": (), "another size": ("size",)}
+"""Why tasks aren't told."""
+
+
+def check_one_of(tree: Tree, kinds: Dict[str, Sequence[str]]) -> None:
+    """Fails where an object isn't one of these kinds, with its keys."""
+    if tree.get("kind") not in kinds:
+        raise Failure(f"{tree!r} is none of {sorted(kinds)}")
+    check_keys(tree, "kind", *kinds[tree["kind"]])
+
+
+def check_task(tree: Tree) -> None:
+    """Fails where an object isn't a task."""
+    check_keys(tree, "address", "chain", "condition", "kind", "loop", "must_cancel", "name", "state", "thread_id", "waiter")
+    check_keys(tree["chain"], "end", "members")
+    check_one_of(tree["chain"]["end"], ENDS_OF_TASKS)
+    members = tree["chain"]["members"]
+    for it in members:
+        check_keys(it, "address", "frame", "kind")
+        if it["kind"] not in ("coroutine", "generator", "async generator", "between") or it["kind"] == "between" and it["frame"] is not None:
+            raise Failure(f"{it!r} is no member of a chain")
+        if it["frame"] is not None:
+            check_keys(it["frame"], "filename", "line", "name")
+    if len({it["address"] for it in members}) != len(members) or len(members) > 16384:
+        raise Failure(f"a chain of {len(members)} members, of which some stand twice")
+    if tree["waiter"] is not None:
+        check_keys(tree["waiter"], "address", "state", "type")
+    if (tree["condition"] == "done") != (tree["state"] != "pending"):
+        raise Failure(f"a task that is {tree['condition']} is {tree['state']}")
+    if tree["condition"] not in ("done", "running", "not started", "ready", "waiting") or tree["condition"] == "waiting" and tree["waiter"] is None:
+        raise Failure(f"a task that is {tree['condition']}")
+
+
+def check_tasks(tree: Tree) -> None:
+    """Fails where the tasks aren't those of each interpreter that is shown, each once."""
+    if [it["interpreter"] for it in tree["tasks"]] != [it["address"] for it in tree["interpreters"]]:
+        raise Failure("tasks of other interpreters")
+    for told in (it["tasks"] for it in tree["tasks"] if it["tasks"] is not None):
+        if told["kind"] != "read":
+            check_one_of(told, FAULTS_OF_TASKS)
+            continue
+        check_keys(told, "entries", "kind")
+        for it in told["entries"]:
+            if it["kind"] == "task":
+                check_task(it)
+            elif it["kind"] == "lost":
+                check_keys(it, "address", "fault", "kind")
+                check_one_of(it["fault"], FAULTS_OF_TASKS)
+            else:
+                check_keys(it, "address", "kind", "type")
+        if len({it["address"] for it in told["entries"]}) != len(told["entries"]):
+            raise Failure("an object is registered twice")

@@ -37,7 +37,7 @@ def add_shown(parser: argparse.ArgumentParser) -> None:
     parser.add_argument("--native", action="store_true", help="show the native stack of each thread")
     parser.add_argument("--strict", action="store_true", help="with --native: nothing that follows from a guess")
     parser.add_argument("--no-where", action="store_true", help="without the line that says where in native code the process died")
-    parser.add_argument("--no-tasks", action="store_true", help=argparse.SUPPRESS)
+    parser.add_argument("--no-tasks", action="store_true", help="without the tasks of asyncio")
     parser.add_argument("--stacks", action="store_true", help="each stack whole, once, however many there are")
     parser.add_argument("--all", action="store_true", help="each thread with its own stack, and each frame with its line")
     parser.add_argument("--frames", metavar="N", type=frames_at_end, default=None,

@@ -6,13 +6,19 @@ use Rattle.serde_json.specs.Written.{has_float}
 use Rattle.native_stacks.specs.Stacks.{stacks_shown}
 use Rattle.native_stacks.specs.declared.stacks.NativeStacks.{NativeStacks}
 use Rattle.native_stacks.proofs.Plain.{no_float as stacks}
+use Rattle.task_texts.proofs.Plain.{no_float as all_tasks}
+use Rattle.task_texts.specs.declared.told.InterpreterTasks.{InterpreterTasks}
 use Rattle.thread_names.proofs.Plain.{no_float as all_names}
 use Rattle.thread_names.specs.declared.names.InterpreterNames.{InterpreterNames}
-use Rattle.memory_sections.specs.Values.{names_tree_if, native_tree_if}
+use Rattle.memory_sections.specs.Values.{names_tree_if, native_tree_if, tasks_tree_if}
 
 pub names : (told : Option (Vec InterpreterNames Global)) → has_float (names_tree_if told) ≡ false
 names None = refl
 names (Some told) = all_names told.items
+
+pub tasks : (told : Option (Vec InterpreterTasks Global)) → has_float (tasks_tree_if told) ≡ false
+tasks None = refl
+tasks (Some told) = all_tasks told.items
 
 pub native : (limit : ℕ) (told : Option NativeStacks) → has_float (native_tree_if limit told) ≡ false
 native limit None = refl

@@ -8,6 +8,8 @@ use Rattle.salvage_texts.specs.Escape.{escaped}
 use Rattle.native_stacks.specs.Stacks.{stacks_shown}
 use Rattle.native_stacks.specs.Text.{stacks_text}
 use Rattle.native_stacks.specs.declared.stacks.NativeStacks.{NativeStacks}
+use Rattle.task_texts.specs.Text.{all_tasks_text}
+use Rattle.task_texts.specs.declared.told.InterpreterTasks.{InterpreterTasks}
 use Rattle.thread_names.specs.Trees.{fault_word}
 use Rattle.thread_names.specs.declared.names.InterpreterNames.{InterpreterNames}
 use Rattle.thread_names.specs.declared.names.ThreadName.{ThreadName}
@@ -47,6 +49,12 @@ abbrev pub names_text : Option (Vec InterpreterNames Global) → List ℕ
 names_text None = []
 names_text (Some names) = all_names_text names.items
 
+-- ---- tasks
+
+abbrev pub tasks_text : Option (Vec InterpreterTasks Global) → List ℕ
+tasks_text None = []
+tasks_text (Some tasks) = all_tasks_text tasks.items
+
 -- ---- native stacks
 
 abbrev pub native_text : (limit : ℕ) → Option NativeStacks → List ℕ
@@ -55,4 +63,4 @@ native_text limit (Some stacks) = stacks_text limit (stacks_shown stacks)
 
 -- all of them, in order
 abbrev pub memory_text : (limit : ℕ) → MemoryTold → List ℕ
-memory_text limit told = names_text told.names ++ native_text limit told.native
+memory_text limit told = names_text told.names ++ (tasks_text told.tasks ++ native_text limit told.native)

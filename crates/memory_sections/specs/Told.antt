@@ -1,6 +1,6 @@
 -- The sections that are read in a process's memory: each is asked for by a flag of its own, and is told of each
 -- interpreter, or of each thread, of those that are shown.
-use Rattle.std.specs.Prelude.{◌≡◌, ℕ, Bool, true, false, List, map, Option, Some, None, Vec}
+use Rattle.std.specs.Prelude.{◌≡◌, ℕ, Bool, true, false, List, map, Option, Some, None, Ok, Vec}
 use Rattle.std.specs.Global.{Global}
 use Rattle.process_memory.specs.Memory.{Memory}
 use Rattle.py_fields.specs.declared.layout.Layout.{Layout}
@@ -17,6 +17,9 @@ use Rattle.elf64_core.specs.Notes.{Noted}
 use Rattle.image_memory.specs.Notes.{AreNotesOfCore}
 use Rattle.native_stacks.specs.Stacks.{AreNativeStacks, stacks_shown}
 use Rattle.native_stacks.specs.declared.stacks.NativeStacks.{NativeStacks}
+use Rattle.py_tasks.specs.Shown.{tasks_shown}
+use Rattle.py_tasks.specs.Tasks.{tasks_at}
+use Rattle.task_texts.specs.declared.told.InterpreterTasks.{InterpreterTasks}
 use Rattle.memory_sections.specs.Pythons.{python_threads}
 use Rattle.memory_sections.specs.Each.{EachTold}
 use Rattle.memory_sections.specs.declared.told.MemoryTold.{MemoryTold}
@@ -43,6 +46,19 @@ abbrev pub NamesAre : Bool → Layout → Memory → List SalvagedInterpreter �
 NamesAre asked l m is told =
     ToldIf asked (λ (names : Vec InterpreterNames Global). EachTold (AreNamesOf l m) is names.items) told
 
+-- ---- tasks
+
+-- the tasks of an interpreter that is shown, by the records of its version
+pub record AreTasksOf (l : Layout) (r : Records) (m : Memory) (i : SalvagedInterpreter) (told : InterpreterTasks)
+    : Type 0 where
+  pub interpreter_is : told.interpreter ≡ i.front.address
+  pub are : tasks_at l r m i.front.address ≡ Ok (tasks_shown told.tasks)
+
+abbrev pub TasksAre : Bool → Layout → Records → Memory → List SalvagedInterpreter
+    → Option (Vec InterpreterTasks Global) → Type 0
+TasksAre asked l r m is told =
+    ToldIf asked (λ (tasks : Vec InterpreterTasks Global). EachTold (AreTasksOf l r m) is tasks.items) told
+
 -- ---- native stacks
 
 -- the native stacks of the threads that the core's notes tell
@@ -63,4 +79,5 @@ NativeAre asked strict bytes images m is told =
 pub record AreMemoryTold (asked : Sections) (bytes : List ℕ) (images : Pushed) (l : Layout) (r : Records) (m : Memory)
     (is : List SalvagedInterpreter) (told : MemoryTold) : Type 0 where
   pub names : NamesAre asked.names l m is told.names
+  pub tasks : TasksAre asked.tasks l r m is told.tasks
   pub native : NativeAre asked.native asked.strict bytes images m is told.native

@@ -1,4 +1,4 @@
-//! The sections of what is told of a process that are read in its memory: the names of its threads,
+//! The sections of what is told of a process that are read in its memory: the names of its threads, the tasks of asyncio,
 //! and native stacks. Each is asked for by itself.
 //!
 //! What each one reads, and what it owes, is its own crate's; here they are asked of an opened process, of whose
@@ -9,6 +9,7 @@ mod keeping;
 mod names;
 mod native;
 mod pythons;
+mod tasks;
 mod text;
 mod told;
 mod values;
@@ -16,4 +17,4 @@ mod values;
 pub use pythons::python_threads;
 pub use text::push_memory;
 pub use told::{MemoryTold, tell_memory};
-pub use values::{names_value, native_value};
+pub use values::{names_value, native_value, tasks_value};

@@ -2,13 +2,14 @@
 ghost use Rattle.std.specs.Prelude.{◌≡◌, ◌++◌, OnOk, string_bytes};
 ghost use Rattle.memory_sections.specs.Text.{all_names_text, fault_lead, fault_text};
 ghost use Rattle.memory_sections.specs.Text.{interpreter_text, lead_text, memory_text, name_text, names_text};
-ghost use Rattle.memory_sections.specs.Text.{native_text, threads_text};
+ghost use Rattle.memory_sections.specs.Text.{native_text, tasks_text, threads_text};
 
 use crate::told::MemoryTold;
 use elf64_core::Text;
 use native_stacks::{NativeStacks, push_native_stacks};
 use salvage_texts::push_escaped;
 use std::alloc::{AllocError, Global};
+use task_texts::{InterpreterTasks, push_tasks};
 use thread_names::{InterpreterNames, ThreadName, fault_word};
 
 /// What stands in front of a thread's name.
@@ -101,6 +102,20 @@ fn push_names(
     }
 }
 
+/// The tasks, where they are asked for.
+fn push_own_tasks(
+    alloc: Global,
+    text: &mut String,
+    tasks: &Option<Vec<InterpreterTasks>>,
+) -> Result<(), AllocError>
+    ensures { OnOk result (string_bytes text.new ≡ string_bytes text.old ++ tasks_text tasks.now) }
+{
+    match tasks {
+        Some(tasks) => push_tasks(alloc, text, tasks),
+        None => Ok(()),
+    }
+}
+
 /// The native stacks, where they are asked for.
 fn push_native(
     alloc: Global,
@@ -117,8 +132,9 @@ fn push_native(
 }
 
 /// Appends the lines of the sections that are asked for, in this order: of each thread with a name `Name of thread
-/// 0x7F..: NAME`, and of each interpreter of which none can be read why; the native stacks
-/// (`native_stacks::push_native_stacks`), of each the first and the last `limit` frames. The one error is want of memory.
+/// 0x7F..: NAME`, and of each interpreter of which none can be read why; the tasks of each interpreter
+/// (`task_texts::push_tasks`); the native stacks (`native_stacks::push_native_stacks`), of each the first and the last
+/// `limit` frames. The one error is want of memory.
 pub fn push_memory(
     alloc: Global,
     text: &mut String,
@@ -128,5 +144,6 @@ pub fn push_memory(
     ensures { OnOk result (string_bytes text.new ≡ string_bytes text.old ++ memory_text limit told.now) }
 {
     push_names(alloc, text, &told.names)?;
+    push_own_tasks(alloc, text, &told.tasks)?;
     push_native(alloc, text, limit, &told.native)
 }

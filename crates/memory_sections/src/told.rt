@@ -7,6 +7,7 @@ ghost use Rattle.memory_sections.specs.Told.{AreMemoryTold};
 
 use crate::names::names_section;
 use crate::native::native_section;
+use crate::tasks::tasks_section;
 use core_stacks::Process;
 use image_memory::Images;
 use missed_reads::Misses;
@@ -15,6 +16,7 @@ use py_fronts::SalvagedInterpreter;
 use py_records::Records;
 use salvage_words::Sections;
 use std::alloc::{AllocError, Global};
+use task_texts::InterpreterTasks;
 use thread_names::InterpreterNames;
 
 /// What is told in these sections: none in one that isn't asked for.
@@ -22,6 +24,8 @@ use thread_names::InterpreterNames;
 pub struct MemoryTold {
     /// The names of the threads, by interpreters.
     pub names: Option<Vec<InterpreterNames>>,
+    /// The tasks of asyncio, by interpreters.
+    pub tasks: Option<Vec<InterpreterTasks>>,
     /// The native stacks of the threads of the process.
     pub native: Option<NativeStacks>,
 }
@@ -44,6 +48,7 @@ pub fn tell_memory(
         (byte_at (regions_of process.now.dump)) interpreters.now) }
 {
     let names = names_section(alloc, asked.names, process, misses, interpreters)?;
+    let tasks = tasks_section(alloc, asked.tasks, process, records, misses, interpreters)?;
     let native = native_section(
         alloc,
         asked.native,
@@ -53,5 +58,9 @@ pub fn tell_memory(
         interpreters,
         misses,
     )?;
-    Ok(MemoryTold { names, native })
+    Ok(MemoryTold {
+        names,
+        tasks,
+        native,
+    })
 }

@@ -1,7 +1,7 @@
 //! The values of these sections in JSON: null in one that isn't asked for.
 ghost use Rattle.std.specs.Prelude.{◌≡◌, IfOk};
 ghost use Rattle.serde_json.specs.View.{view};
-ghost use Rattle.memory_sections.specs.Values.{names_tree_if, native_tree_if};
+ghost use Rattle.memory_sections.specs.Values.{names_tree_if, native_tree_if, tasks_tree_if};
 
 use crate::told::MemoryTold;
 use serde_json::Value;
@@ -13,6 +13,16 @@ pub fn names_value(alloc: Global, told: &MemoryTold) -> Result<Value, AllocError
 {
     match &told.names {
         Some(names) => thread_names::names_value(alloc, names),
+        None => Ok(Value::Null),
+    }
+}
+
+/// The tasks, by interpreters (`task_texts::tasks_value`), or null. The one error is want of memory.
+pub fn tasks_value(alloc: Global, told: &MemoryTold) -> Result<Value, AllocError>
+    ensures { IfOk result (λ value. view value ≡ tasks_tree_if told.now.tasks) }
+{
+    match &told.tasks {
+        Some(tasks) => task_texts::tasks_value(alloc, tasks),
         None => Ok(Value::Null),
     }
 }

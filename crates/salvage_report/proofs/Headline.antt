@@ -17,7 +17,7 @@ use Rattle.salvage_words.specs.Salvage.{Salvage, Wanted}
 use Rattle.salvage_words.specs.Salvage.Wanted.{salvage}
 use Rattle.salvage_report.specs.declared.cause.Cause.{Cause}
 use Rattle.salvage_report.specs.Headline.{AreTables, HasSalvaged, SaysLayout, SaysNames, SaysRegisters}
-use Rattle.salvage_report.specs.Headline.{SaysNative, SaysSignal}
+use Rattle.salvage_report.specs.Headline.{SaysNative, SaysSignal, SaysTasks}
 use Rattle.memory_sections.specs.Told.{ToldIf}
 use Rattle.salvage_report.specs.Outcome.{IsCoreOutcome, IsOutcomeBy, IsSalvagedBy, Outcome, looked_at, shown_or_none}
 use Rattle.named_images.specs.Named.{images_read}
@@ -154,6 +154,12 @@ pub says_names : (s : Salvage) (told : Told) (old new : SinkSeen) → HasSalvage
 says_names s told old new h asked =
     let one = told_one s.sections.names _ h.left.memory.names h.is_left.memory.names asked in
     record { has = h; names = one.0; is = one.1; are = one.2 }
+
+pub says_tasks : (s : Salvage) (told : Told) (old new : SinkSeen) → HasSalvaged s told old new
+    → s.sections.tasks ≡ true → SaysTasks s told old new
+says_tasks s told old new h asked =
+    let one = told_one s.sections.tasks _ h.left.memory.tasks h.is_left.memory.tasks asked in
+    record { has = h; tasks = one.0; is = one.1; are = one.2 }
 
 pub says_native : (s : Salvage) (told : Told) (old new : SinkSeen) → HasSalvaged s told old new
     → s.sections.native ≡ true → SaysNative s told old new

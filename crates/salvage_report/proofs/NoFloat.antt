@@ -15,7 +15,7 @@ use Rattle.thread_registers.specs.Threads.{ThreadShown}
 use Rattle.thread_registers.specs.Trees.{threads_tree}
 use Rattle.thread_registers.proofs.Plain.{no_float as threads}
 use Rattle.salvage_json.proofs.Trees.{integer, interpreters, process, signal}
-use Rattle.memory_sections.proofs.Plain.{names, native}
+use Rattle.memory_sections.proofs.Plain.{names, native, tasks}
 use Rattle.missed_reads.specs.Told.{RefusedTold, missed_tree}
 use Rattle.missed_reads.proofs.NoFloat.{no_float as missed}
 use Rattle.py_selftest.specs.Checking.{CheckShown}
@@ -91,4 +91,4 @@ no_float limit left = λ i. interpreters left.salvaged.crash left.salvaged.inter
     || (check_section (check_of left.check) i || (missing_section (missing_shown left.told.missing) i
     || (false || (names left.memory.names i || (native limit left.memory.native i || (process left.process
     i || (threads_section (registers_shown left.told.registers) i || (signal left.signal i
-    || (info_section left.told.signal i || (false || false))))))))))
+    || (info_section left.told.signal i || (tasks left.memory.tasks i || (false || false)))))))))))

@@ -21,8 +21,10 @@ use Rattle.core_stacks.specs.Process.{OpenedProcess, ProcessIs}
 use Rattle.py_process.specs.Reports.{memory_in}
 use Rattle.thread_names.specs.declared.names.InterpreterNames.{InterpreterNames}
 use Rattle.memory_sections.specs.Each.{EachTold}
-use Rattle.memory_sections.specs.Told.{AreNamesOf, AreNative}
+use Rattle.memory_sections.specs.Told.{AreNamesOf, AreNative, AreTasksOf}
 use Rattle.native_stacks.specs.declared.stacks.NativeStacks.{NativeStacks}
+use Rattle.py_records.specs.Versions.{records_of}
+use Rattle.task_texts.specs.declared.told.InterpreterTasks.{InterpreterTasks}
 use Rattle.salvage_report.specs.Outcome.{IsLeft}
 use Rattle.named_images.specs.Named.{images_read}
 use Rattle.program_run.specs.Reading.{AreRead}
@@ -94,6 +96,15 @@ pub record SaysNames (s : Salvage) (told : Told) (old new : SinkSeen) : Type 0 w
   pub is : has.left.memory.names ≡ Some names
   pub are : EachTold (AreNamesOf has.opened.layout (memory_in has.opened.dumped)) has.left.salvaged.interpreters.items
       names.items
+
+-- The tasks of asyncio of the interpreters that are shown, by the records that the tables have for the version: of each
+-- interpreter exactly its registered objects, each once, or why they are not told (`tasks_at` of py_tasks).
+pub record SaysTasks (s : Salvage) (told : Told) (old new : SinkSeen) : Type 0 where
+  pub has : HasSalvaged s told old new
+  pub tasks : Vec InterpreterTasks Global
+  pub is : has.left.memory.tasks ≡ Some tasks
+  pub are : EachTold (AreTasksOf has.opened.layout (records_of has.tables has.opened.version)
+      (memory_in has.opened.dumped)) has.left.salvaged.interpreters.items tasks.items
 
 -- the native stacks of the threads that the core's notes tell, without guesses where that is asked for
 pub record SaysNative (s : Salvage) (told : Told) (old new : SinkSeen) : Type 0 where

@@ -9,7 +9,7 @@ use Rattle.py_fields.specs.Version.{version_text}
 use Rattle.crash_signal.specs.Trees.{signal_tree as info_tree}
 use Rattle.thread_registers.specs.Trees.{threads_tree}
 use Rattle.salvage_json.specs.Salvaged.{interpreters_tree, process_tree, signal_tree}
-use Rattle.memory_sections.specs.Values.{names_tree_if, native_tree_if}
+use Rattle.memory_sections.specs.Values.{names_tree_if, native_tree_if, tasks_tree_if}
 use Rattle.missed_reads.specs.Told.{RefusedTold, missed_tree}
 use Rattle.py_selftest.specs.Trees.{check_tree}
 use Rattle.salvage_report.specs.LayoutChecked.{check_of}
@@ -44,7 +44,8 @@ left_tree limit left = object (
     member (codes "registers") (section_tree threads_tree (registers_shown left.told.registers)) (
     member (codes "signal") (signal_tree left.signal) (
     member (codes "signal_info") (section_tree info_tree left.told.signal) (
-    member (codes "version") (string (version_text left.version)) no_members)))))))))))
+    member (codes "tasks") (tasks_tree_if left.memory.tasks) (
+    member (codes "version") (string (version_text left.version)) no_members))))))))))))
 
 -- the text of a tree: each item and member on a line of its own, two spaces deeper for each bracket
 abbrev pub pretty_text : Data → List ℕ

@@ -14,7 +14,7 @@ ghost use Rattle.salvage_report.specs.Sections.{missing_shown, registers_shown};
 
 use crate::left::Left;
 use crash_signal::{CrashSignal, Untold};
-use memory_sections::{names_value, native_value};
+use memory_sections::{names_value, native_value, tasks_value};
 use missed_reads::{MissedBlocks, Misses, missed_blocks, missed_value};
 use py_layout::Version;
 use py_selftest::{LayoutCheck, check_value};
@@ -100,11 +100,13 @@ fn left_value(alloc: Global, limit: usize, left: &Left) -> Result<Value, AllocEr
     let registers = registers_value(alloc, &left.told.registers)?;
     let signal = signal_value(alloc, left.signal)?;
     let signal_info = info_value(alloc, &left.told.signal)?;
+    let tasks = tasks_value(alloc, &left.memory)?;
     let version = version_of(alloc, &left.version)?;
     put(&mut map, alloc, "process", process)?;
     put(&mut map, alloc, "registers", registers)?;
     put(&mut map, alloc, "signal", signal)?;
     put(&mut map, alloc, "signal_info", signal_info)?;
+    put(&mut map, alloc, "tasks", tasks)?;
     put(&mut map, alloc, "version", Value::String(version))?;
     Ok(Value::Object(map))
 }

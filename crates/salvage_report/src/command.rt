@@ -7,7 +7,7 @@ ghost use Rattle.salvage_words.specs.Salvage.{Salvage, Wanted, salvage as salvag
 ghost use Rattle.salvage_words.specs.Seen.{asked_by};
 ghost use Rattle.salvage_report.specs.declared.cause.Cause.{Cause as Why};
 ghost use Rattle.salvage_report.specs.Headline.{HasSalvaged, SaysLayout, SaysNames, SaysNative, SaysRegisters};
-ghost use Rattle.salvage_report.specs.Headline.{SaysSignal};
+ghost use Rattle.salvage_report.specs.Headline.{SaysSignal, SaysTasks};
 ghost use Rattle.salvage_report.specs.Missing.{TellsRefused};
 ghost use Rattle.salvage_report.specs.Outcome.{IsFaultless, IsOutcome, cause_status};
 ghost use Rattle.salvage_report.specs.Run.{HasRunAfter, IsFew, TellsContents, pysalvage};
@@ -122,6 +122,9 @@ pub fn run<F: Files, S: Sink, E: Sink>(
     // so is one that is read in the memory of the core and its images, or of its files
     ensures names { (s : Salvage) → words_asked (texts words.now) ≡ Some (salvages s) → s.sections.names ≡ true
         → result ≡ 0 → SaysNames s (F.seen files.old).told (S.seen out.old) (S.seen out.new) }
+
+    ensures tasks { (s : Salvage) → words_asked (texts words.now) ≡ Some (salvages s) → s.sections.tasks ≡ true
+        → result ≡ 0 → SaysTasks s (F.seen files.old).told (S.seen out.old) (S.seen out.new) }
 
     ensures native { (s : Salvage) → words_asked (texts words.now) ≡ Some (salvages s) → s.sections.native ≡ true
         → result ≡ 0 → SaysNative s (F.seen files.old).told (S.seen out.old) (S.seen out.new) }

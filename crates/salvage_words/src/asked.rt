@@ -26,6 +26,8 @@ pub struct Sections {
     pub check_layout: bool,
     /// `--names`: the names of the threads, by each interpreter's own module.
     pub names: bool,
+    /// `--tasks`: the tasks of asyncio, of each interpreter.
+    pub tasks: bool,
     /// `--native`: the native stack of each thread.
     pub native: bool,
     /// `--strict`: native stacks without guesses.
@@ -102,6 +104,7 @@ fn sections_by(matches: &ArgMatches<'_>) -> Sections
         missing: is_set(matches, "missing"),
         check_layout: is_set(matches, "check-layout"),
         names: is_set(matches, "names"),
+        tasks: is_set(matches, "tasks"),
         native: is_set(matches, "native"),
         strict: is_set(matches, "strict"),
     }
@@ -139,8 +142,8 @@ fn salvage_words(alloc: Global, words: &[String]) -> Result<SalvageWords, ArgsEr
 }
 
 /// What the words ask for: `CORE --layouts FILE [--records FILE] [-n N] [-l].. [-j] [--signal] [--registers]
-/// [--missing] [--check-layout] [--names] [--native] [--strict] [PATH=FILE]..` behind the program's name, of which nothing
-/// is read; or `--help` or `--version` alone.
+/// [--missing] [--check-layout] [--names] [--tasks] [--native] [--strict] [PATH=FILE]..` behind the program's name, of which
+/// nothing is read; or `--help` or `--version` alone.
 ///
 /// Clap takes the words, in any order that it knows: the core's file; `--layouts` with a value, once; `--records` with
 /// one, at most once; `-n` or `--frames` with a value, at most once, a number from 1 to 4096 in decimal digits (100

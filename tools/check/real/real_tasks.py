@@ -7,11 +7,14 @@ For each Python of 3.7 to 3.13 that is installed: processes die in a running tas
 two threads that wait in all kinds of ways, are done, ready, or never ran (tasks_child.py), and say before of each its name,
 its state, what it waits for, and the chain of its coroutines with functions, files and lines. Exactly that is to be told, of
 exactly these tasks; and of a core as cores are usually written the tool is to tell the same. Of some Pythons one with 20,000 tasks
-is told too, within 20 seconds. The layouts and the records are the stored ones. The status is 0 exactly where nothing that was tried failed.
+is told too, within 20 seconds. Copies of a core whose memory is broken at many places by chance are to end, within 20 seconds too, with tasks in the form
+that docs/SALVAGE.md has, or with a status and a line. The layouts and the records are the stored ones. The status is 0 exactly where nothing that was tried failed.
 """
 
 import argparse
 import json
+import random
+import struct
 import sys
 import tempfile
 import time
@@ -24,8 +27,8 @@ from child_cores import ALL_PRIVATE, USUAL, Failure, Skip, aborted, core_names
 from derive_layout import Build, DeriveError, build_of
 from each_python import tell_each
 from find_pythons import pythons
-from pystacks_tool.ask.run import tells_tasks
 from real_core import images_of, ran
+from salvage_text import tree_of
 
 CHILD = Path(__file__).with_name("tasks_child.py")
 WAYS = {"running": ALL_PRIVATE, "callback": USUAL}
@@ -34,13 +37,23 @@ WAYS = {"running": ALL_PRIVATE, "callback": USUAL}
 MANY, MANY_IN, MOST_SECONDS = 20000, ((3, 9), (3, 13)), 20
 """How many tasks one process has, of which Pythons, and how long it may take to tell them."""
 
+SHARES = (0.0001, 0.001, 0.02)
+"""Of how many words of a core's written memory others are put in their places."""
+
+LOAD, WRITTEN = 1, 2
+"""The type of a segment of memory, and its flag where it may be written."""
+
 Tree = Dict[str, Any]
+
+
+def words_of(machine: object) -> List[str]:
+    """The files by which cores of a machine are read."""
+    return [f"--{name}={ROOT / 'layouts' / file}-{machine}.toml" for name, file in (("layouts", "cpython"), ("records", "records"))]
 
 
 def entries_in(salvage: Path, core: Path, build: Build) -> List[Tree]:
     """What is told of a core's tasks."""
-    files = [f"--{name}={ROOT / 'layouts' / file}-{build.machine}.toml" for name, file in (("layouts", "cpython"), ("records", "records"))]
-    run = ran([salvage, core, *files, "-j", "-n", "4096", "--tasks", *images_of(core)])
+    run = ran([salvage, core, *words_of(build.machine), "-j", "-n", "4096", "--tasks", *images_of(core)])
     if run.status != 0:
         raise Failure(f"status {run.status}: {run.err}")
     found = [it["tasks"] for it in json.loads(run.out)["tasks"] if it["tasks"] is not None]
@@ -85,6 +98,40 @@ def check_tool(salvage: Path, core: Path, told: List[Tree]) -> None:
         raise Failure(f"by the tool {line}")
 
 
+def places_in(core: bytes) -> List[range]:
+    """Where the words of a core's written memory stand in it."""
+    (at,), (size, count) = struct.unpack_from("<Q", core, 32), struct.unpack_from("<HH", core, 54)
+    rows = (struct.unpack_from("<IIQQQQQQ", core, at + size * number) for number in range(count))
+    return [range(start, start + length, 8) for kind, flags, start, _, _, length, _, _ in rows if kind == LOAD and flags & WRITTEN and length]
+
+
+def broken(core: bytes, share: float, seed: int) -> bytes:
+    """A copy in which words stand that don't belong there: zero, one that is near, one from elsewhere, or any."""
+    chance, data, places = random.Random(seed), bytearray(core), places_in(core)
+    weights = [len(it) for it in places]
+    for place in chance.choices(places, weights, k=int(sum(weights) * share)):
+        to, elsewhere = chance.choice(place), chance.choice(chance.choice(places))
+        near = (struct.unpack_from("<Q", core, to)[0] + chance.choice((-16, -8, -1, 1, 8, 16))) % 2 ** 64
+        word = chance.choice((0, near, struct.unpack_from("<Q", core, elsewhere)[0], chance.getrandbits(64)))
+        struct.pack_into("<Q", data, to, word)
+    return bytes(data)
+
+
+def with_broken(salvage: Path, build: Build, core: Path) -> int:
+    """How many of some broken copies still tell tasks."""
+    whole, copy, told = core.read_bytes(), core.with_name("broken"), 0
+    images = images_of(core)
+    for seed, share in enumerate(SHARES):
+        copy.write_bytes(broken(whole, share, seed))
+        run = ran([salvage, copy, *words_of(build.machine), "-j", "-n", "4096", "--tasks", *images])
+        if run.seconds > MOST_SECONDS or run.status not in (0, 1):
+            raise Failure(f"broken by {share}: status {run.status} after {run.seconds:.1f} s: {run.err}")
+        if run.status == 0:
+            told += tree_of(run.out.encode(), 4096, ["--tasks"])["tasks"] is not None
+    copy.unlink()
+    return told
+
+
 def in_way(salvage: Path, build: Build, names: str, room: Path, way: str) -> str:
     """All kinds of tasks, of a process that dies in one way."""
     room.mkdir()
@@ -94,6 +141,8 @@ def in_way(salvage: Path, build: Build, names: str, room: Path, way: str) -> str
     check_tasks(told, wanted)
     if WAYS[way] == USUAL:
         check_tool(salvage, core, told)
+    else:
+        way += f", {with_broken(salvage, build, core)} of {len(SHARES)} broken ones told"
     core.unlink()
     return f"{len(wanted)} tasks with {sum(len(it['chain']['members']) for it in wanted if it['kind'] == 'task')} members ({way})"
 
@@ -137,8 +186,8 @@ def main() -> int:
     parser.add_argument("python", nargs="*", help="the interpreters (default: all that are found)")
     words = parser.parse_args()
     salvage = words.salvage.resolve()
-    if not salvage.is_file() or not tells_tasks(salvage):
-        print(f"real_tasks: skipped: {'it tells no tasks' if salvage.is_file() else f'there is no {salvage}'}")
+    if not salvage.is_file():
+        print(f"real_tasks: skipped: there is no {salvage}")
         return 0
     try:
         names = core_names()

@@ -80,13 +80,12 @@ def salvage(
     names: Optional[List[Tree]] = None,
     native: Optional[List[Tree]] = None, tasks: Optional[List[Tree]] = None,
 ) -> Tree:
-    """All of a core. (A program that tells no tasks has no key for them.)"""
+    """All of a core."""
     process = None if arguments is None else {"arguments": arguments, "pid": 4711}
-    told = {} if tasks is None else {"tasks": tasks}
     return {
-        **told, "interpreters": list(interpreters), "layout_check": layout_check, "missing": None, "more": more,
+        "interpreters": list(interpreters), "layout_check": layout_check, "missing": None, "more": more,
         "names": names, "native": native, "process": process, "registers": registers, "signal": signal, "signal_info": info,
-        "version": "3.11.7",
+        "tasks": tasks, "version": "3.11.7",
     }
 
 

@@ -448,9 +448,9 @@ class Tasks(Case):
         nameless = task(None, [coroutine("f")], must_cancel=True, waiter=None, end={"address": "0x99", "kind": "cycle"})
         broken = task("broken", [{"filename": None, "line": 0, "name": None}, None], end={"kind": "not stored"})
         self.assertEqual(self.shown(tasks(nameless, broken, lost, other)), [
-            "Tasks 2 (2 waiting)", "Task 0x5000 (waiting, to be cancelled)", "    f (a.py:1)", "    ... awaits the one at 0x99 again",
-            'Task "broken" (waits for _asyncio.Future)', "    ? a name that can't be read", "    ? a coroutine without a frame",
-            "    ... what it awaits is not stored", "Task 0x5000 is not told: unreadable at 0x8, 8 bytes", "Registered, and no task: <Task at 0x6000>"])
+            "Tasks 2 (2 waiting)", "Task 0x5000 (waiting, to be cancelled)", "    ... awaits the one at 0x99 again", "    f (a.py:1)",
+            'Task "broken" (waits for _asyncio.Future)', "    ... what it awaits is not stored", "    ? a name that can't be read",
+            "    ? a coroutine without a frame", "Task 0x5000 is not told: unreadable at 0x8, 8 bytes", "Registered, and no task: <Task at 0x6000>"])
 
     def test_faults(self):
         for told, line in (({"kind": "not described"}, "not described for this version"), ({"kind": "too many"}, "there are more than are looked at"),
@@ -468,7 +468,7 @@ class Tasks(Case):
         lines = self.shown(tasks(task(name, [coroutine("...\n5 more frames")], waiter="\nTask \"x\" (ready)", end={"address": "0x9", "kind": "object"})))
         self.assertEqual(lines, [
             "Tasks 1 (1 waiting)", 'Task "a\\u{22}\\u{a}    forged (a.py:1)\\u{a}Task \\u{202e}" (waits for \\u{a}Task "x" (ready))',
-            "    \\u{2e}..\\u{a}5 more frames (a.py:1)", "    ... awaits an object at 0x9"])
+            "    ... awaits an object at 0x9", "    \\u{2e}..\\u{a}5 more frames (a.py:1)"])
 
     def test_many(self):
         # (a screen has so many lines: those of most tasks are shown, and the others counted)

@@ -7,7 +7,7 @@ from typing import List, Sequence
 from pystacks_tool.ask.layout import FLAG
 from pystacks_tool.ask.native import FLAG as NATIVE
 from pystacks_tool.ask.tasks import FLAG as TASKS
-from pystacks_tool.ask.run import Answer, answer_of, knows, tells_tasks
+from pystacks_tool.ask.run import Answer, answer_of, knows
 from pystacks_tool.cores.opened import OpenedCore, check_text
 from pystacks_tool.faults import NO_PROGRAM, Fault, shown
 from pystacks_tool.options import Options
@@ -47,7 +47,7 @@ def salvage_command(options: Options, program: Path, core: OpenedCore) -> List[b
     shown, for what the process says of the layout, for the names and the system's ids of threads, and over a part of a core for what it missed."""
     sections = ["--signal"] * options.signal + ["--missing"] * (core.part is not None)
     sections += [it for it in (REGISTERS, FLAG, NAMES) if knows(program, it)]
-    sections += [TASKS] * (options.tasks and tells_tasks(program))
+    sections += [TASKS] * (options.tasks and knows(program, TASKS))
     records = [f"--records={core.records}"] if core.records else []
     ends = [f"--frames={options.frames}"] if options.frames is not None else []
     asked = ["-j", *ends, *["-l"] * options.locals, *sections, "--", core.word]

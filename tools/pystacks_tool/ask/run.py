@@ -93,11 +93,6 @@ def knows(program: Path, flag: str) -> bool:
     return program == SALVAGE or flag.encode("ascii") in help_of(os.fspath(program))
 
 
-def tells_tasks(program: Path) -> bool:
-    """Whether a program tells the tasks of asyncio: the tool's own needn't."""
-    return b"--tasks" in help_of(os.fspath(program))
-
-
 def tells_missed(program: Path) -> bool:
     """Whether a program tells what it missed."""
     return knows(program, "--missing")

@@ -4,7 +4,7 @@ import os
 from pathlib import Path
 from typing import IO, Iterable, List, Optional, Sequence, Tuple
 
-from pystacks_tool.ask.run import tells_missed, tells_tasks
+from pystacks_tool.ask.run import knows, tells_missed
 from pystacks_tool.cores.headers import headers_of
 from pystacks_tool.cores.images import Root, finder_below, image_words, maps_in, opened, read_core, size_of, trouble_of
 from pystacks_tool.cores.kinds import check_kind
@@ -160,7 +160,7 @@ def is_asked_for(options: Options, wanted: Wanted) -> bool:
     if options.locals or options.plain or not options.tasks or not os.path.basename(wanted.name).startswith(b"_asyncio."):
         return options.locals > 0
     program = salvage_program(options.salvage, options.program)
-    return program is not None and tells_tasks(program)
+    return program is not None and knows(program, "--tasks")
 
 
 def open_core(options: Options, name: str) -> OpenedCore:

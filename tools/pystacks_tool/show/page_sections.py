@@ -46,7 +46,7 @@ def task_section(anchor: str, tasks: Sequence[Task], title: str, style: Style, i
     """The tasks of one place, and the frames of what they await."""
     items = list(items_of(tasks[0].frames, style))
     if tasks[0].end:
-        items.append(f"<li class=\"end\">... {text(tasks[0].end)}")
+        items.insert(0, f"<li class=\"end\">... {text(tasks[0].end)}")
     rows = "\n".join(items)
     frames = f"<ol>\n{rows}\n</ol>" if items else "<p>no frames</p>"
     return foldable(anchor, text(title), names_part(tasks) + frames, is_open)

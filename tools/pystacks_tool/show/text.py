@@ -390,7 +390,7 @@ def task_lines(report: Report, style: Style, _: int) -> Iterator[str]:
                 yield style.paint(f"... {sum(len(it) for it, _ in rest)} more tasks at {len(rest)} other places: --all shows each", DIM)
                 break
             left -= len(lines) + len(end) + 1
-            yield from [title, *lines, *end]
+            yield from [title, *end, *lines]
         yield from map(in_line, tasks.others)
 
 

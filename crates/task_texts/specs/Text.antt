@@ -1,0 +1,105 @@
+-- The lines of tasks.
+use Rattle.std.specs.Prelude.{ℕ, ◌++◌, ◌==◌, ◌&&◌, nat_lt, Bool, true, false, if◌then◌else◌, List, [], length, map}
+use Rattle.std.specs.Prelude.{codes, decimal}
+use Rattle.std.specs.Fmt.{digits}
+use Rattle.std.specs.List.{concat}
+use Rattle.py_tasks.specs.declared.task.Condition.{Condition}
+use Rattle.py_tasks.specs.declared.task.Condition.TheVariants.{Done, Running, NotStarted, Ready, Waiting}
+use Rattle.py_tasks.specs.Shown.{EntryShown, TaskShown, TasksShown, condition_of, tasks_shown}
+use Rattle.py_tasks.specs.Shown.EntryShown as entry
+use Rattle.py_tasks.specs.Shown.TasksShown as tasks
+use Rattle.task_texts.specs.Counts.{counts_of}
+use Rattle.task_texts.specs.Heads.{fault_text, head_text}
+use Rattle.task_texts.specs.Members.{chain_text, name_text}
+use Rattle.task_texts.specs.declared.counts.Counts.{Counts}
+use Rattle.task_texts.specs.declared.told.InterpreterTasks.{InterpreterTasks}
+
+-- ---- how many there are
+
+abbrev pub comma_text : Bool → List ℕ
+comma_text is_first = if is_first then [] else codes ", "
+
+-- a number with its word, where it isn't 0; behind another one stands a comma
+abbrev pub count_text : Bool → ℕ → List ℕ → List ℕ
+count_text is_first n word = if n == 0 then [] else comma_text is_first ++ (decimal n ++ word)
+
+abbrev pub none_text : ℕ → List ℕ
+none_text pending = if pending == 0 then codes "none that isn't done" else []
+
+abbrev pub done_text : ℕ → List ℕ
+done_text n =
+    if n == 0 then []
+    else if n == 1 then codes "; 1 finished isn't shown"
+    else codes "; " ++ (decimal n ++ codes " finished aren't shown")
+
+abbrev pub counts_text : Counts → List ℕ
+counts_text c =
+    count_text true c.running (codes " running")
+    ++ (count_text (c.running == 0) c.ready (codes " ready")
+    ++ (count_text (c.running == 0 && c.ready == 0) c.not_started (codes " not started")
+    ++ count_text ((c.running == 0 && c.ready == 0) && c.not_started == 0) c.waiting (codes " waiting")))
+
+-- how many aren't done, how many of these run, are ready, have not started and wait, and how many are done
+abbrev pub summary_text : Counts → List ℕ
+summary_text c = codes "Tasks " ++ (decimal c.pending ++ (codes " (" ++ (counts_text c ++ (none_text c.pending
+    ++ (done_text c.done ++ codes ")\n")))))
+
+-- ---- tasks
+
+abbrev pub shown_text : TaskShown → List ℕ
+shown_text t = head_text t ++ chain_text t.chain
+
+abbrev pub by_condition : Condition → TaskShown → List ℕ
+by_condition Done t = []
+by_condition Running t = shown_text t
+by_condition NotStarted t = shown_text t
+by_condition Ready t = shown_text t
+by_condition Waiting t = shown_text t
+
+-- a task; one that is done has no lines
+abbrev pub task_text : TaskShown → List ℕ
+task_text t = by_condition (condition_of t) t
+
+abbrev pub entry_text : EntryShown → List ℕ
+entry_text (entry.TaskEntry t) = task_text t
+entry_text (entry.LostEntry a f) =
+    codes "Task 0x" ++ (digits 16 false a ++ (codes " is not told: " ++ (fault_text f ++ codes "\n")))
+entry_text (entry.OtherEntry a class) = codes "Registered, and no task: <" ++ (name_text class
+    ++ (codes " at 0x" ++ (digits 16 false a ++ codes ">\n")))
+
+abbrev pub entries_text : List EntryShown → List ℕ
+entries_text entries = concat (map (λ e. entry_text e) entries)
+
+abbrev pub read_text : List EntryShown → List ℕ
+read_text entries = summary_text (counts_of entries) ++ entries_text entries
+
+-- the tasks of an interpreter; one without asyncio has no lines
+abbrev pub tasks_text : TasksShown → List ℕ
+tasks_text tasks.WithoutTasks = []
+tasks_text tasks.TasksUnknown = codes "Tasks are not told: not described for this version\n"
+tasks_text (tasks.TasksResized size) =
+    codes "Tasks are not told: they have " ++ (decimal size ++ codes " bytes, which is not described\n")
+tasks_text (tasks.TasksLost f) = codes "Tasks are not told: " ++ (fault_text f ++ codes "\n")
+tasks_text (tasks.TasksRead entries) = read_text entries
+
+-- ---- interpreters
+
+abbrev pub has_lines : TasksShown → Bool
+has_lines tasks.WithoutTasks = false
+has_lines tasks.TasksUnknown = true
+has_lines (tasks.TasksResized size) = true
+has_lines (tasks.TasksLost f) = true
+has_lines (tasks.TasksRead entries) = true
+
+-- whose they are
+abbrev pub title_text : Bool → ℕ → List ℕ
+title_text is_titled interpreter =
+    if is_titled then codes "Interpreter 0x" ++ (digits 16 false interpreter ++ codes ": ") else []
+
+abbrev pub interpreter_text : (are_several : Bool) → InterpreterTasks → List ℕ
+interpreter_text are_several i =
+    title_text (are_several && has_lines (tasks_shown i.tasks)) i.interpreter ++ tasks_text (tasks_shown i.tasks)
+
+-- those of each interpreter, in order, each with its address where there are several
+abbrev pub all_tasks_text : List InterpreterTasks → List ℕ
+all_tasks_text is = concat (map (λ i. interpreter_text (nat_lt 1 (length is)) i) is)

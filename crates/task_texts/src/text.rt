@@ -1,0 +1,225 @@
+//! The lines of tasks.
+ghost use Rattle.std.specs.Prelude.{◌≡◌, ◌++◌, OnOk, map, string_bytes};
+ghost use Rattle.py_tasks.specs.Shown.{entry_shown, task_shown, tasks_shown};
+ghost use Rattle.task_texts.specs.Text.{all_tasks_text, comma_text, count_text, counts_text, done_text, entries_text};
+ghost use Rattle.task_texts.specs.Text.{entry_text, has_lines, interpreter_text, none_text, read_text, shown_text};
+ghost use Rattle.task_texts.specs.Text.{summary_text, task_text, tasks_text, title_text};
+
+use crate::counts::{Counts, counts_of};
+use crate::heads::{push_fault, push_head};
+use crate::members::{push_chain, push_name};
+use crate::told::InterpreterTasks;
+use py_tasks::{Condition, Entry, Task, TasksOf, condition_of};
+use std::alloc::{AllocError, Global};
+
+/// What stands in front of a number, but of the first one.
+fn push_comma(text: &mut String, is_first: bool) -> Result<(), AllocError>
+    ensures { OnOk result (string_bytes text.new ≡ string_bytes text.old ++ comma_text is_first) }
+{
+    if is_first {
+        return Ok(());
+    }
+    text.push_str(", ")
+}
+
+/// How many tasks do something, with its word, where there are any.
+fn push_count(
+    text: &mut String,
+    is_first: bool,
+    number: usize,
+    word: &str,
+) -> Result<(), AllocError>
+    ensures { OnOk result (string_bytes text.new ≡ string_bytes text.old ++ count_text is_first number word.now) }
+{
+    if number == 0 {
+        return Ok(());
+    }
+    push_comma(text, is_first)?;
+    write!(text, "{number}")?;
+    text.push_str(word)
+}
+
+/// That there is no task that is not done.
+fn push_none(text: &mut String, pending: usize) -> Result<(), AllocError>
+    ensures { OnOk result (string_bytes text.new ≡ string_bytes text.old ++ none_text pending) }
+{
+    if pending == 0 {
+        return text.push_str("none that isn't done");
+    }
+    Ok(())
+}
+
+/// How many tasks are done, where there are any.
+fn push_done(text: &mut String, done: usize) -> Result<(), AllocError>
+    ensures { OnOk result (string_bytes text.new ≡ string_bytes text.old ++ done_text done) }
+{
+    if done == 0 {
+        return Ok(());
+    }
+    if done == 1 {
+        return text.push_str("; 1 finished isn't shown");
+    }
+    write!(text, "; {done} finished aren't shown")
+}
+
+/// How many tasks run, are ready, have not started, and wait.
+fn push_counts(text: &mut String, counts: Counts) -> Result<(), AllocError>
+    ensures { OnOk result (string_bytes text.new ≡ string_bytes text.old ++ counts_text counts) }
+{
+    let no_running = counts.running == 0;
+    let no_ready = no_running && counts.ready == 0;
+    let no_started = no_ready && counts.not_started == 0;
+    push_count(text, true, counts.running, " running")?;
+    push_count(text, no_running, counts.ready, " ready")?;
+    push_count(text, no_ready, counts.not_started, " not started")?;
+    push_count(text, no_started, counts.waiting, " waiting")
+}
+
+/// The line that says how many tasks there are.
+fn push_summary(text: &mut String, counts: Counts) -> Result<(), AllocError>
+    ensures { OnOk result (string_bytes text.new ≡ string_bytes text.old ++ summary_text counts) }
+{
+    let pending = counts.pending;
+    write!(text, "Tasks {pending} (")?;
+    push_counts(text, counts)?;
+    push_none(text, pending)?;
+    push_done(text, counts.done)?;
+    text.push_str(")\n")
+}
+
+/// The lines of a task that is not done.
+fn push_shown(alloc: Global, text: &mut String, task: &Task) -> Result<(), AllocError>
+    ensures { OnOk result (string_bytes text.new ≡ string_bytes text.old ++ shown_text (task_shown task.now)) }
+{
+    push_head(alloc, text, task)?;
+    push_chain(alloc, text, &task.chain)
+}
+
+/// The lines of a task; none of one that is done.
+fn push_task(alloc: Global, text: &mut String, task: &Task) -> Result<(), AllocError>
+    ensures { OnOk result (string_bytes text.new ≡ string_bytes text.old ++ task_text (task_shown task.now)) }
+{
+    match condition_of(task) {
+        Condition::Done => Ok(()),
+        Condition::Running => push_shown(alloc, text, task),
+        Condition::NotStarted => push_shown(alloc, text, task),
+        Condition::Ready => push_shown(alloc, text, task),
+        Condition::Waiting => push_shown(alloc, text, task),
+    }
+}
+
+/// The lines of a registered object.
+fn push_entry(alloc: Global, text: &mut String, entry: &Entry) -> Result<(), AllocError>
+    ensures { OnOk result (string_bytes text.new ≡ string_bytes text.old ++ entry_text (entry_shown entry.now)) }
+{
+    match entry {
+        Entry::Task(task) => push_task(alloc, text, task),
+        Entry::Lost { address, fault } => {
+            write!(text, "Task 0x{address:x} is not told: ")?;
+            push_fault(text, *fault)?;
+            text.push_str("\n")
+        }
+        Entry::Other { address, class } => {
+            text.push_str("Registered, and no task: <")?;
+            push_name(alloc, text, class)?;
+            write!(text, " at 0x{address:x}>\n")
+        }
+    }
+}
+
+/// The lines of registered objects, in order.
+fn push_entries(alloc: Global, text: &mut String, entries: &[Entry]) -> Result<(), AllocError>
+    ensures { OnOk result (string_bytes text.new
+        ≡ string_bytes text.old ++ entries_text (map entry_shown entries.now)) }
+{
+    for entry in entries {
+        push_entry(alloc, text, entry)?;
+    }
+    Ok(())
+}
+
+/// The lines of an interpreter's tasks, where they were read.
+fn push_read(alloc: Global, text: &mut String, entries: &[Entry]) -> Result<(), AllocError>
+    ensures { OnOk result (string_bytes text.new
+        ≡ string_bytes text.old ++ read_text (map entry_shown entries.now)) }
+{
+    push_summary(text, counts_of(entries))?;
+    push_entries(alloc, text, entries)
+}
+
+/// The lines of an interpreter's tasks; none where it has no asyncio.
+fn push_own(alloc: Global, text: &mut String, tasks: &TasksOf) -> Result<(), AllocError>
+    ensures { OnOk result (string_bytes text.new ≡ string_bytes text.old ++ tasks_text (tasks_shown tasks.now)) }
+{
+    match tasks {
+        TasksOf::Without => Ok(()),
+        TasksOf::NotDescribed => text.push_str("Tasks are not told: not described for this version\n"),
+        TasksOf::Resized { size } => {
+            write!(text, "Tasks are not told: they have {size} bytes, which is not described\n")
+        }
+        TasksOf::Lost(fault) => {
+            text.push_str("Tasks are not told: ")?;
+            push_fault(text, *fault)?;
+            text.push_str("\n")
+        }
+        TasksOf::Read(entries) => push_read(alloc, text, entries),
+    }
+}
+
+/// Whether an interpreter's tasks have lines.
+fn has_lines(tasks: &TasksOf) -> bool
+    ensures { result ≡ has_lines (tasks_shown tasks.now) }
+{
+    match tasks {
+        TasksOf::Without => false,
+        TasksOf::NotDescribed => true,
+        TasksOf::Resized { .. } => true,
+        TasksOf::Lost(_) => true,
+        TasksOf::Read(_) => true,
+    }
+}
+
+/// Whose tasks they are, where there are several interpreters.
+fn push_title(text: &mut String, is_titled: bool, interpreter: u64) -> Result<(), AllocError>
+    ensures { OnOk result (string_bytes text.new ≡ string_bytes text.old ++ title_text is_titled interpreter) }
+{
+    if is_titled {
+        return write!(text, "Interpreter 0x{interpreter:x}: ");
+    }
+    Ok(())
+}
+
+fn push_interpreter(
+    alloc: Global,
+    text: &mut String,
+    are_several: bool,
+    told: &InterpreterTasks,
+) -> Result<(), AllocError>
+    ensures { OnOk result (string_bytes text.new ≡ string_bytes text.old ++ interpreter_text are_several told.now) }
+{
+    let is_titled = are_several && has_lines(&told.tasks);
+    push_title(text, is_titled, told.interpreter)?;
+    push_own(alloc, text, &told.tasks)
+}
+
+/// Appends the lines of the tasks of some interpreters, in order; none of one that has no asyncio. Where there are several
+/// interpreters the first line of each begins with its address.
+///
+/// That line says how many tasks there are that are not done, how many of these run, are ready, have not started and
+/// wait, and how many are done. Of each that is not done there is a line with its name or address and what it does, one
+/// that says how its chain breaks off, where it does, and one for each frame of its chain, the innermost first. A task of
+/// which something is not in memory has one line that says so, and so has an object that is registered and no task. Where
+/// no tasks are told, one line says why. The one error is want of memory.
+pub fn push_tasks(
+    alloc: Global,
+    text: &mut String,
+    tasks: &[InterpreterTasks],
+) -> Result<(), AllocError>
+    ensures { OnOk result (string_bytes text.new ≡ string_bytes text.old ++ all_tasks_text tasks.now) }
+{
+    let are_several = tasks.len() > 1;
+    for interpreter in tasks {
+        push_interpreter(alloc, text, are_several, interpreter)?;
+    }
+    Ok(())
+}
