@@ -2,9 +2,11 @@
 """Measures what the cores that ask for most cost, within limits: seconds, memory, and the status.
 
     tools/check/worst.py --program crates/pystacks/out/pystacks [--salvage crates/pysalvage/out/pysalvage]
-                         [--seconds 60] [--memory 2000] [--only WORD]
+                         [--seconds 60] [--memory 2000] [--only WORD] [--judged]
 
-The cores are laid out by the example of docs/LAYOUTS.md. docs/HOSTILE.md has the table.
+The cores are laid out by the example of docs/LAYOUTS.md. docs/HOSTILE.md has the table. With --judged only those are run whose
+bytes are shared by many entries of the file, within 64 MB or 16 times the files' size, whichever is more, and 2 s of the
+processor: the status is 0 exactly where each ends within these, with the status and the line that it has to.
 """
 
 import argparse
@@ -21,8 +23,9 @@ from rooms import BUILT_SALVAGE  # (first: it makes the other rooms known)
 
 from made import EXAMPLE, Objects, Segment, core_file, image_file, layout_of
 from measure import Shape, core, machine, row
-from small_core import BSS, FRAME, GOOD, HEAP, IMAGE, THREAD, files_of, heap, mapped, of_locals
+from small_core import BSS, FRAME, GOOD, HEAP, IMAGE, THREAD, bss, files_of, heap, mapped, of_locals
 from rows_salvage import named
+from shared_files import image_of_bss, image_of_sections, image_of_symbols, of_bss, of_long_name, of_notes
 
 SKIPPED = "<shim>"
 """The file name of members of a chain that are not shown."""
@@ -43,6 +46,8 @@ class Case:
     what: str
     words: str
     files: Callable[[], Files]
+    ends: str = ""
+    """How it has to end where it is judged: the status, and the line's words behind it, if it has one."""
 
     def is_of_salvage(self) -> bool:
         """Whether it is one of `pysalvage`."""
@@ -150,18 +155,63 @@ def cases_of_salvage() -> Iterator[Case]:
     yield Case("the same in 4096 threads", f"{SALVAGE} -l", lambda: of_variables(65535, 4096))
 
 
+def judged() -> Iterator[Case]:
+    """Those that have to keep within bounds: many segments of a core share some bytes of it."""
+    of_core = lambda core: lambda: files_of(core())
+    for words, notes in ((GOOD, "0"), (SALVAGE, "5 out of memory")):
+        yield Case("1000 load segments at one address, whose file's name has 1 MB", words, of_core(of_long_name), "0")
+        yield Case("1000 note segments over the same 1 MB of notes", words, of_core(of_notes), notes)
+
+
+def shared() -> Iterator[Case]:
+    """The like of these, for which no bound is kept."""
+    of_image = lambda image: lambda: files_of(core_file([heap().segment(6), mapped(), bss()]), program=image())
+    for words in (GOOD, SALVAGE):
+        yield Case("an image of 1000 symbols that share a name of 1 MB", words,
+                   of_image(lambda: image_of_symbols(1000, 10 ** 6)))
+        yield Case("an image of 40,000 symbols that share a name of 1 MB", words,
+                   of_image(lambda: image_of_symbols(40_000, 10 ** 6)))
+        yield Case("an image of 24,000 sections that share a name of 4 MB", words,
+                   of_image(lambda: image_of_sections(24_000, 4 * 10 ** 6)))
+        yield Case("a bss of 1 GB, by 1000 segments over the same 1 MB", words,
+                   lambda: files_of(of_bss(), program=image_of_bss()))
+
+
 def limited(seconds: int, memory: int) -> None:
     """Limits the process that becomes the program."""
     resource.setrlimit(resource.RLIMIT_AS, (memory, memory))
     resource.setrlimit(resource.RLIMIT_CPU, (seconds, seconds))
 
 
-def measured(program: str, case: Case, folder: str, seconds: int, memory: int) -> Tuple[str, int]:
-    """The row of a case, and how its process ended."""
-    size = 0
+@dataclass(frozen=True)
+class Measured:
+    """What a case took."""
+
+    row: str
+    status: int
+    """How its process ended, as the system tells it."""
+    faults: Tuple[str, ...]
+    """Why it isn't within what it is judged by."""
+
+
+def faults_of(case: Case, size: int, seconds: float, memory: float, ended: str) -> Iterator[str]:
+    """Why a case isn't within 64 MB, or 16 times its files' size, and 2 s, or ends in another way than it has to."""
+    most = max(64 * 10 ** 6, 16 * size)
+    if memory > most:
+        yield f"{memory / 1e6:.0f} MB, and not {most / 1e6:.0f}"
+    if seconds > 2:
+        yield f"{seconds:.2f} s, and not 2"
+    if ended != case.ends:
+        yield f"ends with {ended}, and not {case.ends}"
+
+
+def measured(program: str, case: Case, folder: str, seconds: int, memory: int) -> Measured:
+    """What a case takes, within limits."""
+    size, all_size = 0, 0
     for name, data in case.files().items():
         Path(folder, name).write_bytes(data)
         size += len(data) if name == "core" else 0
+        all_size += len(data)
     with open(Path(folder, "out"), "wb") as out:
         child = subprocess.Popen(
             [program, *case.words.split()], cwd=folder, stdin=subprocess.DEVNULL, stdout=out, stderr=subprocess.PIPE,
@@ -170,9 +220,10 @@ def measured(program: str, case: Case, folder: str, seconds: int, memory: int) -
         _, status, used = os.wait4(child.pid, 0)
         child.returncode = status
     ended = f"{os.WEXITSTATUS(status)}" if os.WIFEXITED(status) else f"none within {seconds} s"
-    time = f"{used.ru_utime + used.ru_stime:.2f}"
-    cells = [case.what, f"{size / 1e6:.2f}", time, f"{used.ru_maxrss / 1024:.0f}", ended, said and f"`{said}`"]
-    return row(cells), status
+    time = used.ru_utime + used.ru_stime
+    cells = [case.what, f"{size / 1e6:.2f}", f"{time:.2f}", f"{used.ru_maxrss / 1024:.0f}", ended, said and f"`{said}`"]
+    faults = faults_of(case, all_size, time, used.ru_maxrss * 1024, f"{ended} {said}".strip())
+    return Measured(row(cells), status, tuple(faults) if case.ends else ())
 
 
 def main() -> int:
@@ -183,19 +234,23 @@ def main() -> int:
     parser.add_argument("--seconds", type=int, default=60, help="the most seconds of a run (default: 60)")
     parser.add_argument("--memory", type=int, default=2000, help="the most MB of a run (default: 2000)")
     parser.add_argument("--only", default="", help="the cases in whose name this stands")
+    parser.add_argument("--judged", action="store_true", help="those alone that have to keep within bounds")
     words = parser.parse_args()
     heads = ["core", "MB", "s", "MiB", "status", "line"]
     print(f"{machine()}; within {words.seconds} s and {words.memory} MB.\n")
     print(row(heads) + "\n|" + "---|" * len(heads), flush=True)
     odd = 0
-    for case in (*cases(), *cases_of_salvage()):
+    for case in (*(() if words.judged else (*cases(), *cases_of_salvage(), *shared())), *judged()):
         program = words.salvage if case.is_of_salvage() else words.program
         if words.only in case.what and os.path.isfile(program):
             with tempfile.TemporaryDirectory(prefix="worst-") as folder:
-                text, status = measured(os.path.abspath(program), case, folder, words.seconds, words.memory * 10 ** 6)
+                it = measured(os.path.abspath(program), case, folder, words.seconds, words.memory * 10 ** 6)
             # (9 and 24 are the signals by which the limit of seconds ends a process)
-            odd += os.WIFSIGNALED(status) and os.WTERMSIG(status) not in (9, 24)
-            print(text, flush=True)
+            odd += os.WIFSIGNALED(it.status) and os.WTERMSIG(it.status) not in (9, 24)
+            print(it.row, flush=True)
+            for fault in it.faults:
+                odd += 1
+                print(f"worst: {case.what}: {fault}", flush=True)
     return 1 if odd else 0
 
 

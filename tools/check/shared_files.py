@@ -1,0 +1,84 @@
+"""Files in which many entries stand for the same bytes: so little is there that claims much."""
+
+import struct
+from typing import Sequence
+
+from made import NO_BITS, NOTE, STRINGS, SYMBOLS, Section, Segment, core_file, image_file
+from small_core import BSS, bss, heap, mapped
+
+MANY = 1000
+"""How many entries share some bytes."""
+
+LONG = 10 ** 6
+"""How many bytes they share."""
+
+EMPTY_NOTE = struct.pack("<3I", 0, 0, 0x99)
+"""A note without a name and a descriptor."""
+
+
+def header_at(number: int) -> int:
+    """Where the program header of a number stands."""
+    return 64 + 56 * number
+
+
+def over(data: bytes, first: int, others: Sequence[int], mem_size: bool = False) -> bytes:
+    """An ELF file whose program headers of some numbers have the file's bytes of the first one."""
+    made = bytearray(data)
+    offset, size = (struct.unpack_from("<Q", made, header_at(first) + at)[0] for at in (8, 32))
+    for number in others:
+        at = header_at(number)
+        struct.pack_into("<Q", made, at + 8, offset)
+        struct.pack_into("<Q", made, at + 32, size)
+        if mem_size:
+            struct.pack_into("<Q", made, at + 40, size)
+    return bytes(made)
+
+
+def of_long_name() -> bytes:
+    """A core of so many load segments at one address, whose file's name is long."""
+    at = 0x9000000
+    first = Segment(at, b"", 5, 0x1000, b"/" + b"n" * LONG)
+    return core_file([heap().segment(6), mapped(), bss(), first, *[Segment(at, b"", 5, 0x1000)] * (MANY - 1)])
+
+
+def of_notes() -> bytes:
+    """A core of so many note segments over the same notes."""
+    notes = Segment(0, EMPTY_NOTE * (LONG // len(EMPTY_NOTE)), 0, kind=NOTE)
+    own = [heap().segment(6), mapped(), bss(), notes]
+    data = core_file([*own, *[Segment(0, b"", 0, kind=NOTE)] * (MANY - 1)])
+    return over(data, 3, range(4, 3 + MANY))
+
+
+def of_bss() -> bytes:
+    """A core whose bss is there by so many load segments over the same bytes of the file."""
+    own = [heap().segment(6), mapped(), Segment(BSS, bytes(LONG), 6)]
+    places = [Segment(BSS + LONG * number, b"", 6, 0) for number in range(1, MANY)]
+    return over(core_file([*own, *places]), 2, range(3, 2 + MANY), mem_size=True)
+
+
+def image_of_bss() -> bytes:
+    """Its program."""
+    return image_file([Segment(0x400000, b"", 5, 0x1000)], (BSS, LONG * MANY))
+
+
+def image_of_symbols(count: int, length: int) -> bytes:
+    """An image of so many symbols, each of whose names ends with the last one's."""
+    rows = bytes(24) + b"".join(
+        struct.pack("<I2BH2Q", 1 + number, 0x11, 0, 1, 0x400000 + number, 0) for number in range(count))
+    texts = b"\0" + b"s" * length + b"\0"
+    symbols = [Section(".symtab", SYMBOLS, 0, rows, link=3), Section(".strtab", STRINGS, 0, texts)]
+    return image_file([Segment(0x400000, b"", 5, 0x1000)], (BSS, 16), more=symbols)
+
+
+def image_of_sections(count: int, length: int) -> bytes:
+    """An image of so many sections of no bits, which share a long name."""
+    name = "s" * length
+    made = bytearray(image_file(
+        [Segment(0x400000, b"", 5, 0x1000)], (BSS, 16), more=[Section(name, 1), *[Section("", NO_BITS, 0, None, 8)] * count]))
+    heads, = struct.unpack_from("<Q", made, 40)
+    names, = struct.unpack_from("<H", made, 62)
+    offset, = struct.unpack_from("<Q", made, heads + 64 * names + 24)
+    place = made.index(b"\0" + name.encode(), offset) + 1 - offset
+    for number in range(3, 3 + count):
+        struct.pack_into("<I", made, heads + 64 * number, place)
+    return bytes(made)
