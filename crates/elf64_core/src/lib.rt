@@ -18,6 +18,7 @@ mod section_table;
 mod segment;
 mod span_table;
 mod steps;
+mod string_table;
 mod symbol;
 mod text;
 
@@ -32,5 +33,6 @@ pub use section::{Section, Sections};
 pub use segment::{LOAD, NOTE, Segment, Segments};
 pub use span_table::{SpanTable, TableEntry};
 pub use steps::Steps;
+pub use string_table::{StringTable, string_in};
 pub use symbol::{Symbol, SymbolKind};
 pub use text::Text;

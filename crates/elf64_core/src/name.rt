@@ -1,5 +1,6 @@
 //! A name: any bytes.
 ghost use Rattle.std.specs.Prelude.{◌≡◌, List, ℕ, refl, nat_eq, IfOk};
+ghost use Rattle.std.specs.Rc.{rc_slice_items};
 ghost use Rattle.std.proofs.Common.{rules};
 ghost use Rattle.std.specs.Ordering.{nat_cmp, as_partial_cmp};
 ghost use Rattle.std.specs.Hash as fed;
@@ -12,21 +13,25 @@ use crate::Text;
 use bstr::ByteSlice;
 use std::alloc::{AllocError, Global};
 use std::cmp::Ordering;
+use std::fmt;
+use std::fmt::{Debug, Formatter, Write};
 use std::hash::{Hash, Hasher};
 use std::marker::Model;
+use std::rc::RcSlice;
 
-/// A name of a file or a symbol: any bytes, which need not be text.
+/// A name of a file or a symbol: any bytes, which need not be text. Names may share their bytes: see `share`.
 ///
 /// Contracts see it as the list of its bytes. It is compared, ordered and hashed by them.
-#[derive(Debug, Drop)]
+#[derive(Drop)]
 pub struct Name {
-    inner: Vec<u8>,
+    /// Bytes that others may share.
+    shared: RcSlice<u8>,
 }
 
 impl Model for Name {
     ghost Value = { List ℕ };
 
-    ghost view = { λ n. n.inner.items };
+    ghost view = { λ n. rc_slice_items n.shared };
 }
 
 impl Name {
@@ -34,15 +39,23 @@ impl Name {
     pub fn of(alloc: Global, bytes: &[u8]) -> Result<Name, AllocError>
         ensures { IfOk result (λ n. n ≡ bytes.now) }
     {
-        let inner = Vec::from_slice(alloc, bytes)?;
-        Ok(Name { inner })
+        let shared = RcSlice::from_slice(alloc, bytes)?;
+        Ok(Name { shared })
+    }
+
+    /// The same name once more; no byte is copied. The one error is want of memory: there are too many shares.
+    pub fn share(&self) -> Result<Name, AllocError>
+        ensures { IfOk result (λ n. n ≡ self.now) }
+    {
+        let shared = self.shared.clone()?;
+        Ok(Name { shared })
     }
 
     /// The bytes.
     pub fn as_bytes(&self) -> &[u8]
         ensures { result.now ≡ self.now }
     {
-        self.inner.as_slice()
+        self.shared.as_slice()
     }
 
     /// The name as text: its characters where it is UTF-8; U+FFFD for each longest piece that is not (The
@@ -56,13 +69,20 @@ impl Name {
     }
 }
 
+/// Its bytes.
+impl Debug for Name {
+    fn fmt<W: Write>(&self, f: &mut Formatter<W>) -> fmt::Result {
+        self.as_bytes().fmt(f)
+    }
+}
+
 impl PartialEq for Name {
     ghost eq = { pointwise nat_eq };
 
     ghost laws = { Prim.search (comparing, rules) };
 
     fn eq(&self, other: &Name) -> bool {
-        self.inner == other.inner
+        self.as_bytes() == other.as_bytes()
     }
 }
 
@@ -90,7 +110,7 @@ impl Ord for Name {
     ghost matches_eq = { Prim.search (comparing, rules) };
 
     fn cmp(&self, other: &Name) -> Ordering {
-        self.inner.cmp(&other.inner)
+        self.as_bytes().cmp(other.as_bytes())
     }
 }
 
@@ -100,6 +120,6 @@ impl Hash for Name {
     ghost respects_eq = { Prim.search (hashing, rules) };
 
     fn hash<H: Hasher>(&self, state: &mut H) {
-        self.inner.hash(state);
+        self.as_bytes().hash(state);
     }
 }

@@ -3,7 +3,7 @@ ghost use Rattle.std.specs.Prelude.{◌≡◌, ◌↔◌, ◌≤◌, List, ℕ, 
 ghost use Rattle.std.specs.Prelude.{option_copied};
 ghost use Rattle.elf64_core.specs.Header.{IsInside};
 ghost use Rattle.elf64_core.specs.Sections.{HasSections, section_at, sections_of, section_name_of, range_at};
-ghost use Rattle.elf64_core.specs.Sections.{contents_of, strings_of};
+ghost use Rattle.elf64_core.specs.Sections.{contents_of, names_section, strings_of};
 ghost use Rattle.elf64_core.specs.Rest.{sections_left};
 
 use crate::fields::{u16_in, u64_in};
@@ -11,7 +11,9 @@ use crate::nul::string_at;
 use crate::offsets::{E_SHENTSIZE, E_SHNUM, E_SHOFF, E_SHSTRNDX};
 use crate::section::{ENTRY_SIZE, section_in};
 use crate::segment::is_inside;
+use crate::string_table::{StringTable, table_of};
 use crate::{Elf64, ElfError, Section, Sections};
+use std::alloc::{AllocError, Global};
 
 /// Whether the section headers can be read.
 fn has_sections(bytes: &[u8]) -> bool
@@ -119,5 +121,19 @@ impl<'a> Elf64<'a> {
         }
         let strings = strings_of(bytes, u16_in(bytes, E_SHSTRNDX) as usize)?;
         string_at(strings, section.name as usize)
+    }
+
+    /// The strings in which the names of sections stand, where they are there: for `string_in`, at the place that a
+    /// section names, which is the same as `section_name` and takes no longer for long names. The one error is want of
+    /// memory.
+    pub fn section_strings(&self, alloc: Global) -> Result<Option<StringTable<'a>>, AllocError>
+        ensures named { HasSections self.now
+            → IfOk result (λ strings. strings ≡ strings_of self.now (names_section self.now)) }
+    {
+        let bytes = self.bytes();
+        if !has_sections(bytes) {
+            return Ok(None);
+        }
+        table_of(alloc, strings_of(bytes, u16_in(bytes, E_SHSTRNDX) as usize))
     }
 }

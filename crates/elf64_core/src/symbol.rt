@@ -1,15 +1,14 @@
 //! Symbols: names of addresses.
 ghost use Rattle.std.specs.Prelude.{◌≡◌, ◌↔◌, ◌⊎◌, ◌+◌, ◌≤◌, List, ℕ, IfOk, IfErr, IsErrOf, length, map, option_map};
-ghost use Rattle.std.specs.Prelude.{option_copied};
 ghost use Rattle.elf64_core.specs.Sections.{HasSections};
 ghost use Rattle.elf64_core.specs.Symbols.{HasSymbols, symbol_entry_of, symbol_entry_in, entries_in, first_section};
 ghost use Rattle.elf64_core.specs.Symbols.{section_kind, symbols_of};
 ghost use Rattle.elf64_core.specs.Rest.{sections_left};
 
 use crate::fields::{u16_in, u32_in, u64_in};
-use crate::nul::string_at;
 use crate::offsets::{ST_INFO, ST_SHNDX, ST_SIZE, ST_VALUE};
 use crate::section_table::{contents, strings_of};
+use crate::string_table::{StringTable, string_in, table_of};
 use crate::{Elf64, ElfError, Section, Sections};
 use std::alloc::{AllocError, Global};
 
@@ -40,16 +39,12 @@ pub struct Symbol<'a> {
 
 /// The symbol that the entry at an offset of a symbol section describes.
 #[tactic(auto, unfolding(crate::specs::Symbols::symbol_entry_in, crate::specs::Fields::u8_in))]
-fn symbol_in<'a>(strings: Option<&'a [u8]>, table: &[u8], at: usize) -> Symbol<'a>
+fn symbol_in<'a>(strings: &Option<StringTable<'a>>, table: &[u8], at: usize) -> Symbol<'a>
     requires { at + 24 ≤ length table.now }
-    ensures { symbol_entry_of result ≡ symbol_entry_in (option_copied strings.entry) table.now at }
+    ensures { symbol_entry_of result ≡ symbol_entry_in strings.now table.now at }
 {
-    let name = match strings {
-        Some(strings) => string_at(strings, u32_in(table, at) as usize),
-        None => None,
-    };
     Symbol {
-        name,
+        name: string_in(strings, u32_in(table, at)),
         info: table[at + ST_INFO],
         section: u16_in(table, at + ST_SHNDX),
         value: u64_in(table, at + ST_VALUE),
@@ -60,11 +55,10 @@ fn symbol_in<'a>(strings: Option<&'a [u8]>, table: &[u8], at: usize) -> Symbol<'
 /// The symbols of the whole entries of a symbol section. The one error is want of memory.
 fn symbols_in<'a>(
     alloc: Global,
-    strings: Option<&'a [u8]>,
+    strings: &Option<StringTable<'a>>,
     table: &[u8],
 ) -> Result<Vec<Symbol<'a>>, AllocError>
-    ensures { IfOk result (λ symbols.
-        map symbol_entry_of symbols.items ≡ entries_in (option_copied strings.entry) table.now) }
+    ensures { IfOk result (λ symbols. map symbol_entry_of symbols.items ≡ entries_in strings.now table.now) }
 {
     let count = table.len() / ENTRY_SIZE;
     let mut symbols = Vec::with_capacity(alloc, count)?;
@@ -112,8 +106,8 @@ impl<'a> Elf64<'a> {
         let Some(table) = contents(bytes, &section) else {
             return Err(ElfError::BadHeader);
         };
-        let strings = strings_of(bytes, section.link as usize);
-        let symbols = symbols_in(alloc, strings, table)?;
+        let strings = table_of(alloc, strings_of(bytes, section.link as usize))?;
+        let symbols = symbols_in(alloc, &strings, table)?;
         Ok(symbols)
     }
 }

@@ -3,6 +3,7 @@ ghost use Rattle.std.specs.Prelude.{◌≡◌, List, ℕ, refl, nat_eq, IfOk, st
 ghost use Rattle.std.proofs.Common.{rules};
 ghost use Rattle.std.specs.Ordering.{nat_cmp, on, as_partial_cmp};
 ghost use Rattle.std.specs.Str.{chars};
+ghost use Rattle.elf64_core.specs.Shares.{held_bytes};
 ghost use Rattle.std.specs.Hash as fed;
 ghost use Rattle.std.specs.Cmp.{partial_order_from_own_ties};
 ghost use Rattle.std.specs.Cmp.Lexicographic.{pointwise, slice_cmp};
@@ -10,22 +11,32 @@ ghost use Rattle.std.specs.Cmp.Rules.{comparing, hashing};
 
 use std::alloc::{AllocError, Global};
 use std::cmp::Ordering;
+use std::fmt;
+use std::fmt::{Debug, Formatter, Write};
 use std::hash::{Hash, Hasher};
 use std::marker::Model;
+use std::rc::RcStr;
 
-/// A text: characters, which are Unicode's scalar values.
+/// The bytes of a text: its own, or shared with others.
+#[derive(Drop)]
+pub(crate) enum Held {
+    Own(String),
+    Shared(RcStr),
+}
+
+/// A text: characters, which are Unicode's scalar values. Texts may share their bytes: see `copy`.
 ///
 /// Contracts see it as the list of its characters. It is compared, ordered and hashed by its bytes in
 /// UTF-8.
-#[derive(Debug, Drop)]
+#[derive(Drop)]
 pub struct Text {
-    inner: String,
+    held: Held,
 }
 
 impl Model for Text {
     ghost Value = { List ℕ };
 
-    ghost view = { λ t. chars (string_bytes t.inner) };
+    ghost view = { λ t. chars (held_bytes t.held) };
 }
 
 impl Text {
@@ -33,23 +44,54 @@ impl Text {
     pub fn of(alloc: Global, text: &str) -> Result<Text, AllocError>
         ensures { IfOk result (λ t. t ≡ chars text.now) }
     {
-        let inner = String::from_str(alloc, text)?;
-        Ok(Text { inner })
+        let own = String::from_str(alloc, text)?;
+        Ok(Text {
+            held: Held::Own(own),
+        })
     }
 
-    /// A copy of the text. The one error is want of memory.
+    /// The same text once more. No byte of one that is shared is copied, and a copy of one that isn't is shared. The
+    /// one error is want of memory.
     pub fn copy(&self, alloc: Global) -> Result<Text, AllocError>
         ensures { IfOk result (λ t. t ≡ self.now) }
     {
-        let inner = String::from_str(alloc, self.inner.as_str())?;
-        Ok(Text { inner })
+        let shared = match &self.held {
+            Held::Own(own) => RcStr::from_str(alloc, own.as_str())?,
+            Held::Shared(shared) => shared.clone()?,
+        };
+        Ok(Text {
+            held: Held::Shared(shared),
+        })
+    }
+
+    /// The same text, of which each copy shares the bytes. The one error is want of memory.
+    pub fn shared(self) -> Result<Text, AllocError>
+        ensures { IfOk result (λ t. t ≡ self) }
+    {
+        let shared = match self.held {
+            Held::Own(own) => RcStr::from_string(own)?,
+            Held::Shared(shared) => shared,
+        };
+        Ok(Text {
+            held: Held::Shared(shared),
+        })
     }
 
     /// The text in UTF-8.
     pub fn as_str(&self) -> &str
         ensures { result.now ≡ encode_utf8_all self.now }
     {
-        self.inner.as_str()
+        match &self.held {
+            Held::Own(own) => own.as_str(),
+            Held::Shared(shared) => shared.as_str(),
+        }
+    }
+}
+
+/// Its characters alone.
+impl Debug for Text {
+    fn fmt<W: Write>(&self, f: &mut Formatter<W>) -> fmt::Result {
+        self.as_str().fmt(f)
     }
 }
 
@@ -57,8 +99,10 @@ impl Text {
 impl From<String> for Text {
     ghost from_gives = { λ s t. t ≡ chars (string_bytes s) };
 
-    fn from(inner: String) -> Text {
-        Text { inner }
+    fn from(own: String) -> Text {
+        Text {
+            held: Held::Own(own),
+        }
     }
 }
 

@@ -2,13 +2,12 @@ use Rattle.std.proofs.Common.{ℕ, ◌*◌, ◌++◌, ◌∷◌, [], map, sym, a
 use Rattle.std.proofs.lemmas.List.{map-append}
 use Rattle.std.proofs.lemmas.List.FromFn.{map-range_with_len_more}
 use Rattle.std.specs.List.{range_with_len}
-use Rattle.std.specs.Prelude.{option_copied}
 use Rattle.elf64_core.specs.Symbols.{SymbolEntry, symbol_entry_of, symbol_entry_in}
 use Rattle.elf64_core.proofs.symbol.symbols_in.Goals as goal
 
 pub loop-number-preserved : goal.loop-number-preserved
 loop-number-preserved c =
-    let entry : ℕ → SymbolEntry = λ k. symbol_entry_in (option_copied c.args.strings) c.args.table.now (24 * k) in
+    let entry : ℕ → SymbolEntry = λ k. symbol_entry_in c.args.strings.now c.args.table.now (24 * k) in
     let n = c.loop-number.number in
     let items = c.loop-number.symbols.items in
     ap (map symbol_entry_of) c.in_ok-push.ensures.items

@@ -44,6 +44,19 @@ returns-in_err-symbols-clause-bad c =
       λ no. absurd (no (HasSymbols-some c.args.self.now c.args.kind section c.in_ok-sections.ensures.held found inside)),
     )
 
+pub returns-in_err-strings-clause-bad : goal.returns-in_err-strings-clause-bad
+returns-in_err-strings-clause-bad c =
+    let section = c.in-Some.section in
+    let found : symbol_section c.args.self.now c.args.kind ≡ Some section =
+    ap (first_section c.args.kind) (sym c.in_ok-sections.ensures.sections) ∙ sym c.first_of_kind.ensures ∙ c.in-Some.is in
+    let inside : IsInside c.args.self.now section.offset section.size = subst (λ bs. IsInside bs section.offset section.size) c.bytes-bytes.ensures.same (c.in-Some-contents.ensures.inside.0 refl) in
+    let p = err_from_is_err_and c.from_residual-in_err-strings.result c.from_residual-in_err-strings.ensures.1 in
+    let error = p.1 in
+    let which = p.2 in (
+      λ is h. cc,
+      λ no. absurd (no (HasSymbols-some c.args.self.now c.args.kind section c.in_ok-sections.ensures.held found inside)),
+    )
+
 pub returns-clause-bad : goal.returns-clause-bad
 returns-clause-bad c =
     let section = c.in-Some.section in
@@ -59,6 +72,6 @@ returns-clause-symbols c =
     ap (first_section c.args.kind) (sym c.in_ok-sections.ensures.sections) ∙ sym c.first_of_kind.ensures ∙ c.in-Some.is in
     let contents : contents_of c.args.self.now section ≡ Some c.in-Some-contents.table.now =
     sym (c.in-Some-contents.ensures.value ∙ ap (λ bs. contents_of bs section) c.bytes-bytes.ensures.same) in
-    let strings = c.strings_of-strings.ensures ∙ ap (λ bs. strings_of bs section.link) c.bytes-bytes.ensures.same in
+    let strings = c.in_ok-strings.ensures ∙ c.strings_of.ensures ∙ ap (λ bs. strings_of bs section.link) c.bytes-bytes.ensures.same in
     c.in_ok-symbols.ensures ∙ ap (λ names. entries_in names c.in-Some-contents.table.now) strings
     ∙ sym (symbols_of-some c.args.self.now c.in-Some-contents.table.now c.args.kind section found contents)
