@@ -1,7 +1,7 @@
 -- The number that begins some bytes, one byte at a time; and how many bytes have no bit 7.
-use Rattle.std.proofs.Common.{◌≡◌, ℕ, zero, suc, ◌+◌, ◌-◌, ◌*◌, ◌%◌, ◌^◌, ◌<◌, ◌≤◌, ◌≢◌, List, [], ◌∷◌, length, drop}
-use Rattle.std.proofs.Common.{get_or, eqb, ltb, true, false, refl, sym, ap, arith, ◌∙◌}
-use Rattle.std.specs.Prelude.{Option, Some, None, option_map}
+use Rattle.std.proofs.Common.{◌≡◌, ℕ, zero, suc, ◌+◌, ◌-◌, ◌*◌, ◌%◌, ◌<◌, ◌≤◌, ◌≢◌, List, [], ◌∷◌, length, drop}
+use Rattle.std.proofs.Common.{get_or, eqb, ltb, true, false, refl, sym, ap, arith}
+use Rattle.std.specs.Prelude.{Option, Some, option_map}
 use Rattle.std.specs.Int.{bit_at}
 use Rattle.std.proofs.lemmas.Bool.Decides.{nat_tests}
 use Rattle.frame_lines.specs.Entries.{number_within, tail_len}

@@ -5,8 +5,8 @@ use Rattle.std.specs.Prelude.{◌⊎◌, ◌&&◌, ⊤, min, Bool, IfOk, IfSome,
 use Rattle.std.proofs.lemmas.Bool.{cases_lt}
 use Rattle.std.proofs.lemmas.Bool.Decides.{nat_tests}
 use Rattle.process_memory.specs.declared.memory.ReadFault.{ReadFault}
-use Rattle.process_memory.specs.declared.memory.ReadFault.TheVariants.{Unreadable, OutOfMemory}
-use Rattle.process_memory.specs.Memory.{Fault, Found, Memory, bytes_at, found_or, in_front, outside, record_at}
+use Rattle.process_memory.specs.declared.memory.ReadFault.TheVariants.{Unreadable}
+use Rattle.process_memory.specs.Memory.{Fault, Found, Memory, bytes_at, found_or, in_front, record_at}
 use Rattle.process_memory.specs.Memory.Fault.{Missing}
 use Rattle.process_memory.specs.Seen.{Answers, FaultIs, Reading, Reads, Seen, read_fault}
 use Rattle.std.specs.Global.{Global}

@@ -1,6 +1,6 @@
 -- How the line tables of a version are coded. That the steps of pairs are signed from 3.6 on, and unsigned before, is
 -- CPython's (`Objects/lnotab_notes.txt`).
-use Rattle.std.specs.Prelude.{ℕ, ◌==◌, ◌&&◌, ◌||◌, nat_lt, Bool, true, false}
+use Rattle.std.specs.Prelude.{◌==◌, ◌&&◌, ◌||◌, nat_lt, Bool, true, false}
 use Rattle.py_fields.specs.declared.layout.Layout.{Layout}
 use Rattle.py_fields.specs.declared.layout.Lines.{Lines}
 use Rattle.py_fields.specs.declared.layout.Lines.TheVariants.{Pairs, Ranges, Locations}

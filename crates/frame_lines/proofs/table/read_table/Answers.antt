@@ -1,7 +1,7 @@
-use Rattle.std.proofs.Common.{◌∙◌, ap, arith}
+use Rattle.std.proofs.Common.{arith}
 use Rattle.process_memory.proofs.Reading.{reading_gives, reading_here, reading_short, reading_then}
 use Rattle.py_fields.proofs.ObjectFields.{bytes_fits}
-use Rattle.frame_lines.proofs.Pieces.{many_short, table_none, table_there}
+use Rattle.frame_lines.proofs.Pieces.{many_short, table_there}
 use Rattle.frame_lines.proofs.table.read_table.Goals as goal
 
 pub u64_in-length-requires : goal.u64_in-length-requires
