@@ -1,7 +1,7 @@
 -- The maps of a core: its load segments in table order, each with its file's name. The name and the place in the
 -- file are those of the entry that comes last of the entries, of all file tables in order, that start at the
 -- segment's address; that the last one counts is this project's own rule.
-use Rattle.std.specs.Prelude.{◌≡◌, ℕ, ◌+◌, nat_eq, nat_le, nat_lt, ◌&&◌, Bool, List, map, reverse, find, Option}
+use Rattle.std.specs.Prelude.{◌≡◌, ℕ, ◌+◌, nat_eq, nat_le, nat_lt, ◌&&◌, Bool, List, map, reverse, find, Option, Some}
 use Rattle.std.specs.Prelude.{is_some, option_and_then, option_map, slice_get}
 use Rattle.std.specs.List.{list_any}
 use Rattle.elf64_core.specs.Notes.{Noted}
@@ -18,6 +18,14 @@ starts_at addr entry = nat_eq entry.start addr
 -- the last of the entries that start at an address, if any does
 abbrev pub entry_for : List Entry → ℕ → Option Entry
 entry_for entries addr = find (starts_at addr) (reverse entries)
+
+-- the name that an entry gives
+abbrev pub name_by : Option Entry → Option (List ℕ)
+name_by entry = option_map (λ e. e.name) entry
+
+-- the names that are held by their addresses are those that entries give
+abbrev pub HoldNames : (held : ℕ → Option (List ℕ)) → (entry_at : ℕ → Option Entry) → Type 0
+HoldNames held entry_at = (addr : ℕ) (name : List ℕ) → held addr ≡ Some name → name_by (entry_at addr) ≡ Some name
 
 -- the map of a load segment, with the name that an entry gives it
 abbrev pub named_by : Option Entry → Segment → CoreMapRange

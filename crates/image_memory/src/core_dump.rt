@@ -33,6 +33,9 @@ use std::alloc::{AllocError, Global};
 use std::marker::Model;
 use std::sync::ledger::Ledger;
 
+/// How many bytes of the file there are at least for each note that is listed; a note has 12.
+const BYTES_FOR_A_NOTE: usize = 4;
+
 /// A core dump. Its bytes exist once; views share them.
 ///
 /// Contracts see it as the list of the file's bytes, which are those of a core.
@@ -149,7 +152,8 @@ impl CoreDump {
 
     /// The notes of the note segments, in table order, each with its descriptor, which is a part of the file: status
     /// records, process records, file tables, and what else a core has (`NT_SIGINFO`, `NT_AUXV`). A list of 24 bytes a
-    /// note is made each time, and the program headers are gone through. The one error is want of memory.
+    /// note is made each time, and the program headers are gone through. The one error is want of memory, as which more
+    /// notes than one for four bytes of the file count: so many there are only where segments share their bytes.
     pub fn notes(&self, alloc: Global) -> Result<Vec<Note<'_>>, AllocError>
         ensures are { IfOk result (λ notes. AreNotesOfCore self.now (map noted notes.items)) }
         ensures only { IfOk result (λ notes. (others : List Noted) → AreNotesOfCore self.now others
@@ -158,7 +162,7 @@ impl CoreDump {
         let Ok(elf) = Elf64::parse(&self.bytes) else {
             return Err(AllocError);
         };
-        match core_notes(alloc, &elf) {
+        match core_notes(alloc, &elf, self.bytes.len() / BYTES_FOR_A_NOTE) {
             Ok(notes) => Ok(notes),
             Err(_) => Err(AllocError),
         }

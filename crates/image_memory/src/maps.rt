@@ -1,10 +1,11 @@
 //! The maps of a core.
-ghost use Rattle.std.specs.Prelude.{◌≡◌, ◌↔◌, ℕ, Bool, IsTrue, IfOk, map, option_map, option_copied};
+ghost use Rattle.std.specs.Prelude.{◌≡◌, ◌↔◌, ℕ, Bool, IsTrue, IfOk, OnOk, map, option_map, option_copied};
+ghost use Rattle.std.specs.Option.{option_or};
 ghost use Rattle.std.specs.Ordering.{nat_cmp};
 ghost use Rattle.std.specs.BTreeMap.{get};
 ghost use Rattle.std.specs.Int.{IsBitSet};
 ghost use Rattle.image_memory.specs.FileTables.{file_entry_of};
-ghost use Rattle.image_memory.specs.Maps.{entry_for, named_by, placed_by, holds_addr, in_maps};
+ghost use Rattle.image_memory.specs.Maps.{HoldNames, entry_for, holds_addr, in_maps, name_by, named_by, placed_by};
 
 use crate::file_table::{FileEntry, FilePlace};
 use elf64_core::{Name, Segment};
@@ -99,49 +100,76 @@ impl<'a> ContainsAddr for &'a Vec<CoreMapRange> {
     }
 }
 
-/// The last of some entries for each address at which one starts.
-pub(crate) fn last_entries<'a>(
-    alloc: Global,
+/// Adds some entries to the last ones for each address at which one starts.
+pub(crate) fn add_entries<'a>(
+    last: &mut BTreeMap<u64, FileEntry<'a>>,
     entries: Vec<FileEntry<'a>>,
-) -> Result<BTreeMap<u64, FileEntry<'a>>, AllocError>
-    ensures { IfOk result (λ last. (addr : ℕ)
-        → option_map file_entry_of (get nat_cmp last addr) ≡ entry_for (map file_entry_of entries.entry.items) addr) }
+) -> Result<(), AllocError>
+    ensures { OnOk result ((addr : ℕ) → option_map file_entry_of (get nat_cmp last.new addr)
+        ≡ option_or (entry_for (map file_entry_of entries.entry.items) addr)
+        (option_map file_entry_of (get nat_cmp last.old addr))) }
 {
-    let mut last = BTreeMap::new(alloc);
     for entry in entries {
         last.insert(entry.start, entry)?;
     }
-    Ok(last)
+    Ok(())
 }
 
-/// The map of a load segment, with the name that an entry gives it.
-fn map_with(
+/// The names of maps by their addresses, each held once.
+#[derive(Drop)]
+pub(crate) struct MapNames {
+    pub(crate) names: BTreeMap<u64, Name>,
+    /// How many bytes more there is room for.
+    pub(crate) room: usize,
+}
+
+/// The name that an entry gives the maps at an address, if one does, held once. One of more bytes than there is room for
+/// counts as want of memory.
+fn name_at(
     alloc: Global,
-    segment: Segment,
-    entry: Option<FileEntry<'_>>,
-) -> Result<CoreMapRange, AllocError>
-    ensures { IfOk result (λ map. map ≡ named_by (option_map file_entry_of entry.entry) segment) }
+    names: &mut MapNames,
+    last: &BTreeMap<u64, FileEntry<'_>>,
+    addr: u64,
+) -> Result<Option<Name>, AllocError>
+    requires { HoldNames (get nat_cmp names.old.names) (λ addr. option_map file_entry_of (get nat_cmp last.now addr)) }
+    ensures name { IfOk result (λ name. name ≡ name_by (option_map file_entry_of (get nat_cmp last.now addr))) }
+    ensures held { OnOk result
+        (HoldNames (get nat_cmp names.new.names) (λ addr. option_map file_entry_of (get nat_cmp last.now addr))) }
 {
-    let pathname = match entry {
-        Some(entry) => Some(Name::of(alloc, entry.name)?),
-        None => None,
+    if let Some(name) = names.names.get(&addr) {
+        return Ok(Some(name.share()?));
+    }
+    let Some(entry) = last.get(&addr) else {
+        return Ok(None);
     };
-    Ok(CoreMapRange { pathname, segment })
+    if entry.name.len() > names.room {
+        return Err(AllocError);
+    }
+    let name = Name::of(alloc, entry.name)?;
+    names.names.insert(addr, name.share()?)?;
+    names.room -= entry.name.len();
+    Ok(Some(name))
 }
 
-/// The maps of some load segments, with the names that the last entries give them.
+/// The maps of some load segments, with the names that the last entries give them. More bytes of names than there is
+/// room for count as want of memory, of which the one error is.
 pub(crate) fn maps_of(
     alloc: Global,
     loads: &[Segment],
     last: &BTreeMap<u64, FileEntry<'_>>,
+    room: usize,
 ) -> Result<Vec<CoreMapRange>, AllocError>
     ensures { IfOk result (λ maps. maps.items
         ≡ map (λ s. named_by (option_map file_entry_of (get nat_cmp last.now s.addr)) s) loads.now) }
 {
+    let mut names = MapNames {
+        names: BTreeMap::new(alloc),
+        room,
+    };
     let mut maps = Vec::new(alloc);
     for segment in loads.iter().copied() {
-        let entry = last.get(&segment.addr).copied();
-        maps.push(map_with(alloc, segment, entry)?)?;
+        let pathname = name_at(alloc, &mut names, last, segment.addr)?;
+        maps.push(CoreMapRange { pathname, segment })?;
     }
     Ok(maps)
 }

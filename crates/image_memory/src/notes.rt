@@ -18,8 +18,12 @@ use std::alloc::{AllocError, Global};
 /// The notes of the note segments, in table order.
 ///
 /// `BadNote` comes exactly where the bytes of one of these segments are no notes together. Else the one error
-/// is want of memory.
-pub(crate) fn core_notes<'a>(alloc: Global, elf: &Elf64<'a>) -> Result<Vec<Note<'a>>, DumpError>
+/// is want of memory, as which more notes than there is room for count.
+pub(crate) fn core_notes<'a>(
+    alloc: Global,
+    elf: &Elf64<'a>,
+    room: usize,
+) -> Result<Vec<Note<'a>>, DumpError>
     requires { IsAccepted elf.now }
     ensures bad { IsErrOf result DumpError.BadNote
         → (notes : List Noted) → NotesOf elf.now (note_segments elf.now) notes → ⊥ }
@@ -31,6 +35,9 @@ pub(crate) fn core_notes<'a>(alloc: Global, elf: &Elf64<'a>) -> Result<Vec<Note<
         if segment.kind == NOTE {
             let notes = elf.notes(alloc, segment.offset, segment.file_size)?;
             all.extend_from_slice(&notes)?;
+            if all.len() > room {
+                return Err(DumpError::OutOfMemory);
+            }
         }
     }
     Ok(all)

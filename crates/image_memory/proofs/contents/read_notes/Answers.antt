@@ -1,49 +1,51 @@
-use Rattle.std.proofs.Common.{◌≡◌, Bool, false, reverse, ap, sym, subst, ◌∙◌, map, Err}
-use Rattle.std.specs.Prelude.{All, IsTrue, filter, filter_map, find, option_and_then}
-use Rattle.std.proofs.lemmas.List.Elements.{All-map}
+use Rattle.std.proofs.Common.{◌≡◌, ◌+◌, ◌++◌, ◌∷◌, [], Err, filter, map, length, drop, ap, subst, sym, ◌∙◌, rules, eq-eqb}
+use Rattle.std.specs.Option.{option_or}
 use Rattle.std.proofs.lemmas.Result.{err_from_is_err_and}
-use Rattle.elf64_core.specs.Notes.{noted}
-use Rattle.image_memory.specs.Notes.{IsWhole, TablesSay, is_of_kind, is_table, note_segments, process_kind, process_of}
-use Rattle.image_memory.specs.Notes.{status_noted}
+use Rattle.std.proofs.lemmas.Iterator.Consumers.{YieldsList-from_first}
+use Rattle.elf64_core.specs.Header.{segments_of}
+use Rattle.elf64_core.specs.Rest.{segments_left}
+use Rattle.image_memory.specs.Contents.{SegmentsSay}
+use Rattle.image_memory.specs.FileTables.{file_entry_of}
+use Rattle.image_memory.specs.Maps.{entry_for}
+use Rattle.image_memory.specs.Notes.{is_note}
 use Rattle.image_memory.specs.declared.dump_error.DumpError.TheVariants.{BadNote}
-use Rattle.image_memory.proofs.Lists.{All-unmap, filter_map-map, last-map}
-use Rattle.image_memory.proofs.Noted.{NotesOf-once}
 use Rattle.image_memory.proofs.Refusals.{error_is}
+use Rattle.image_memory.proofs.Told.{SegmentsSay-more, bad_core, entry_for-append}
+use Rattle.image_memory.proofs.Turns.{filter_at, turn_splits}
 use Rattle.image_memory.proofs.contents.read_notes.Goals as goal
 
-false_true : (b : Bool) → b ≡ false → IsTrue b → ⊥
-false_true b is h = absurd (cc)
+pub returns-in_err-said-clause-bad : goal.returns-in_err-said-clause-bad
+returns-in_err-said-clause-bad c = λ is.
+    let bytes = c.args.elf.now in
+    let segment = c.in-Some.segment in
+    let xs = c.loop-segment.yielded in
+    let p = err_from_is_err_and c.from_residual.result c.from_residual.ensures.1 in
+    let bad = c.in_err-said.ensures.bad (ap (λ x. Err x) (sym p.2 ∙ error_is c.from_residual.result p.0 BadNote p.1 is)) in
+    let e = YieldsList-from_first (λ y. y) segments_left {s = c.into_iter-segment-iterator.result} (segments_of bytes) (search rules) in
+    let all = turn_splits e xs c.loop-segment.segment-iterator c.loop-segment.yielded_by c.next.result c.next.new.self segment c.in-Some.is c.next.ensures.steps in
+    let rest = drop (length xs + 1) (segments_of bytes) in
+    let those = ap (filter is_note) all ∙ filter_at is_note xs rest segment (eq-eqb _ _ c.if-segment-eq-NOTE.true) in
+    bad_core bytes (filter is_note xs) (filter is_note rest) segment those bad
 
-pub returns-then-not-are_whole-clause-bad : goal.returns-then-not-are_whole-clause-bad
-returns-then-not-are_whole-clause-bad c = λ _ notes entries h.
-    let items = c.in_ok-notes.notes.items in
-    let same = NotesOf-once c.args.elf.now (note_segments c.args.elf.now) notes (map noted items) h.together c.in_ok-notes.ensures.notes in
-    let whole : All IsWhole (map noted items) = subst (All IsWhole) same h.whole in
-    let each = subst (All (λ note. IsWhole (noted note))) (sym c.deref.ensures.value) (All-unmap IsWhole noted items whole) in
-    false_true c.are_whole.result c.if-not-are_whole.true (c.are_whole.ensures.1 each)
-
-pub returns-in_err-entries-clause-bad : goal.returns-in_err-entries-clause-bad
-returns-in_err-entries-clause-bad c = λ is notes entries h.
-    let items = c.in_ok-notes.notes.items in
-    let p = err_from_is_err_and c.from_residual-in_err-entries.result c.from_residual-in_err-entries.ensures.1 in
-    let same = NotesOf-once c.args.elf.now (note_segments c.args.elf.now) notes (map noted items) h.together c.in_ok-notes.ensures.notes in
-    c.in_err-entries.ensures.bad (ap (λ x. Err x) (sym p.2 ∙ error_is c.from_residual-in_err-entries.result p.0 BadNote p.1 is)) entries
-    (subst (λ ns. TablesSay (filter is_table ns) entries) same h.tables)
-
-pub returns-clause-say : goal.returns-clause-say
-returns-clause-say c =
-    let items = c.in_ok-notes.notes.items in
-    let each = subst (All (λ note. IsWhole (noted note))) c.deref.ensures.value (c.are_whole.ensures.0 c.if-not-are_whole.false) in
+pub loop-segment-preserved-then-segment-eq-NOTE : goal.loop-segment-preserved-then-segment-eq-NOTE
+loop-segment-preserved-then-segment-eq-NOTE c =
+    let bytes = c.args.elf.now in
+    let segment = c.in-Some.segment in
+    let xs = c.loop-segment.yielded in
+    let told = c.loop-segment.told in
+    let said = c.in_ok-said.said in
+    let all = c.in_ok-told.told in
+    let before = c.loop-segment.invariant in
+    let own = map file_entry_of said.entries.items in
+    let entries = before.entries ++ own in
+    let more : SegmentsSay bytes (filter is_note xs ++ segment ∷ []) (told.statuses.items ++ said.statuses.items) (option_or said.process told.process) entries =
+    SegmentsSay-more bytes (filter is_note xs) segment told.statuses.items said.statuses.items told.process said.process before.entries own before.say c.in_ok-said.ensures.say in
+    let those : filter is_note (xs ++ segment ∷ []) ≡ filter is_note xs ++ segment ∷ [] = filter_at is_note xs [] segment (eq-eqb _ _ c.if-segment-eq-NOTE.true) in
     record {
-      notes = map noted items;
-      found = record {
-        together = c.in_ok-notes.ensures.notes;
-        whole = All-map IsWhole noted items each;
-        tables = c.in_ok-entries.ensures.entries;
-      };
-      statuses_are = c.in_ok-statuses.ensures ∙ ap (filter_map (λ note. status_noted (noted note))) c.deref-2.ensures.value
-          ∙ sym (filter_map-map status_noted noted items);
-      process_is = c.last_process-process.ensures
-          ∙ ap (λ ns. option_and_then (λ note. process_of (noted note)) (find (λ note. is_of_kind process_kind (noted note)) (reverse ns))) c.deref-3.ensures.value
-          ∙ last-map process_of (is_of_kind process_kind) noted items;
+      entries = entries;
+      say = subst (λ ss. SegmentsSay bytes ss all.statuses.items all.process entries) (sym those)
+          (subst (λ st. SegmentsSay bytes (filter is_note xs ++ segment ∷ []) st all.process entries) (sym c.in_ok-told.ensures.statuses)
+          (subst (λ pr. SegmentsSay bytes (filter is_note xs ++ segment ∷ []) (told.statuses.items ++ said.statuses.items) pr entries) (sym c.in_ok-told.ensures.process) more));
+      last_are = λ addr. c.in_ok-told.ensures.last addr ∙ ap (option_or (entry_for own addr)) (before.last_are addr)
+          ∙ sym (entry_for-append before.entries own addr);
     }

@@ -1,4 +1,4 @@
-use Rattle.std.proofs.Common.{map, subst, sym, ◌∙◌}
+use Rattle.std.proofs.Common.{map, subst, ◌∙◌}
 use Rattle.elf64_core.specs.Notes.{noted}
 use Rattle.image_memory.specs.Contents.{AreContents}
 use Rattle.image_memory.specs.Notes.{NotesOf, note_segments}
