@@ -16,8 +16,8 @@ use Rattle.py_tasks.specs.declared.task.TaskName.TheVariants.{Text, Number}
 use Rattle.py_tasks.specs.declared.task.TaskState.{TaskState}
 use Rattle.py_tasks.specs.declared.task.Waiter.{Waiter}
 use Rattle.py_tasks.specs.Shown.{ChainShown, EntryShown, TaskShown, TasksShown, tasks_shown}
-use Rattle.py_tasks.specs.Shown.EntryShown as entry
-use Rattle.py_tasks.specs.Shown.TasksShown as tasks
+use Rattle.py_tasks.specs.Shown.EntryShown.{TaskEntry, LostEntry, OtherEntry}
+use Rattle.py_tasks.specs.Shown.TasksShown.{WithoutTasks, TasksUnknown, TasksResized, TasksLost, TasksRead}
 use Rattle.task_texts.specs.Trees.{all_tasks_tree, chain_tree, end_tree, entries_tree, entry_tree, entry_trees}
 use Rattle.task_texts.specs.Trees.{fault_tree, frame_tree, interpreter_tree, lost_tree, member_tree, members_tree, name_tree}
 use Rattle.task_texts.specs.Trees.{other_tree, own_frame_tree, state_tree, stop_tree, task_tree, tasks_tree, text_tree}
@@ -93,9 +93,9 @@ other : (a : ℕ) (class : Option (List ℕ)) → has_float (other_tree a class)
 other a class = λ i. false || (false || (text class i || false))
 
 one : (e : EntryShown) → has_float (entry_tree e) ≡ false
-one (entry.TaskEntry t) = task t
-one (entry.LostEntry a f) = lost a f
-one (entry.OtherEntry a class) = other a class
+one (TaskEntry t) = task t
+one (LostEntry a f) = lost a f
+one (OtherEntry a class) = other a class
 
 all : (es : List EntryShown) → has_float (entry_trees es) ≡ false
 all [] = refl
@@ -105,11 +105,11 @@ entries : (es : List EntryShown) → has_float (entries_tree es) ≡ false
 entries es = λ i. all es i || (false || false)
 
 own : (t : TasksShown) → has_float (tasks_tree t) ≡ false
-own tasks.WithoutTasks = refl
-own tasks.TasksUnknown = refl
-own (tasks.TasksResized size) = refl
-own (tasks.TasksLost f) = fault f
-own (tasks.TasksRead es) = entries es
+own WithoutTasks = refl
+own TasksUnknown = refl
+own (TasksResized size) = refl
+own (TasksLost f) = fault f
+own (TasksRead es) = entries es
 
 interpreter : (t : InterpreterTasks) → has_float (interpreter_tree t) ≡ false
 interpreter t = λ i. false || (own (tasks_shown t.tasks) i || false)

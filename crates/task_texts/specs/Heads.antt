@@ -13,10 +13,13 @@ use Rattle.py_tasks.specs.declared.task.Waiter.{Waiter}
 use Rattle.py_tasks.specs.Shown.{TaskShown, condition_of}
 use Rattle.task_texts.specs.Members.{name_text}
 
+abbrev pub quoted_text : List ℕ → List ℕ
+quoted_text name = codes "\"" ++ (escaped true name ++ codes "\"")
+
 -- a task's name, or its address; one that was given no name is called by its number, as CPython does
 abbrev pub own_name_text : Option TaskName → ℕ → List ℕ
 own_name_text None a = codes "0x" ++ digits 16 false a
-own_name_text (Some (Text name)) a = codes "\"" ++ (escaped true name ++ codes "\"")
+own_name_text (Some (Text name)) a = quoted_text name
 own_name_text (Some (Number n)) a = codes "\"Task-" ++ (decimal n ++ codes "\"")
 
 abbrev pub thread_text : Option ℕ → List ℕ

@@ -1,5 +1,5 @@
 -- The lines of a task's chain.
-use Rattle.std.specs.Prelude.{ℕ, ◌++◌, true, List, [], map, Option, Some, None, codes}
+use Rattle.std.specs.Prelude.{ℕ, ◌++◌, true, false, List, [], map, Option, Some, None, codes}
 use Rattle.std.specs.Fmt.{digits}
 use Rattle.std.specs.List.{concat}
 use Rattle.coroutine_frames.specs.declared.frame.CoroutineFrame.{CoroutineFrame}

@@ -6,8 +6,8 @@ use Rattle.std.specs.List.{concat}
 use Rattle.py_tasks.specs.declared.task.Condition.{Condition}
 use Rattle.py_tasks.specs.declared.task.Condition.TheVariants.{Done, Running, NotStarted, Ready, Waiting}
 use Rattle.py_tasks.specs.Shown.{EntryShown, TaskShown, TasksShown, condition_of, tasks_shown}
-use Rattle.py_tasks.specs.Shown.EntryShown as entry
-use Rattle.py_tasks.specs.Shown.TasksShown as tasks
+use Rattle.py_tasks.specs.Shown.EntryShown.{TaskEntry, LostEntry, OtherEntry}
+use Rattle.py_tasks.specs.Shown.TasksShown.{WithoutTasks, TasksUnknown, TasksResized, TasksLost, TasksRead}
 use Rattle.task_texts.specs.Counts.{counts_of}
 use Rattle.task_texts.specs.Heads.{fault_text, head_text}
 use Rattle.task_texts.specs.Members.{chain_text, name_text}
@@ -32,12 +32,18 @@ done_text n =
     else if n == 1 then codes "; 1 finished isn't shown"
     else codes "; " ++ (decimal n ++ codes " finished aren't shown")
 
+abbrev pub none_is_ready : Counts → Bool
+none_is_ready c = (c.running == 0) && (c.ready == 0)
+
+abbrev pub none_is_new : Counts → Bool
+none_is_new c = none_is_ready c && (c.not_started == 0)
+
 abbrev pub counts_text : Counts → List ℕ
 counts_text c =
     count_text true c.running (codes " running")
     ++ (count_text (c.running == 0) c.ready (codes " ready")
-    ++ (count_text (c.running == 0 && c.ready == 0) c.not_started (codes " not started")
-    ++ count_text ((c.running == 0 && c.ready == 0) && c.not_started == 0) c.waiting (codes " waiting")))
+    ++ (count_text (none_is_ready c) c.not_started (codes " not started")
+    ++ count_text (none_is_new c) c.waiting (codes " waiting")))
 
 -- how many aren't done, how many of these run, are ready, have not started and wait, and how many are done
 abbrev pub summary_text : Counts → List ℕ
@@ -61,10 +67,10 @@ abbrev pub task_text : TaskShown → List ℕ
 task_text t = by_condition (condition_of t) t
 
 abbrev pub entry_text : EntryShown → List ℕ
-entry_text (entry.TaskEntry t) = task_text t
-entry_text (entry.LostEntry a f) =
+entry_text (TaskEntry t) = task_text t
+entry_text (LostEntry a f) =
     codes "Task 0x" ++ (digits 16 false a ++ (codes " is not told: " ++ (fault_text f ++ codes "\n")))
-entry_text (entry.OtherEntry a class) = codes "Registered, and no task: <" ++ (name_text class
+entry_text (OtherEntry a class) = codes "Registered, and no task: <" ++ (name_text class
     ++ (codes " at 0x" ++ (digits 16 false a ++ codes ">\n")))
 
 abbrev pub entries_text : List EntryShown → List ℕ
@@ -75,31 +81,37 @@ read_text entries = summary_text (counts_of entries) ++ entries_text entries
 
 -- the tasks of an interpreter; one without asyncio has no lines
 abbrev pub tasks_text : TasksShown → List ℕ
-tasks_text tasks.WithoutTasks = []
-tasks_text tasks.TasksUnknown = codes "Tasks are not told: not described for this version\n"
-tasks_text (tasks.TasksResized size) =
+tasks_text WithoutTasks = []
+tasks_text TasksUnknown = codes "Tasks are not told: not described for this version\n"
+tasks_text (TasksResized size) =
     codes "Tasks are not told: they have " ++ (decimal size ++ codes " bytes, which is not described\n")
-tasks_text (tasks.TasksLost f) = codes "Tasks are not told: " ++ (fault_text f ++ codes "\n")
-tasks_text (tasks.TasksRead entries) = read_text entries
+tasks_text (TasksLost f) = codes "Tasks are not told: " ++ (fault_text f ++ codes "\n")
+tasks_text (TasksRead entries) = read_text entries
 
 -- ---- interpreters
 
 abbrev pub has_lines : TasksShown → Bool
-has_lines tasks.WithoutTasks = false
-has_lines tasks.TasksUnknown = true
-has_lines (tasks.TasksResized size) = true
-has_lines (tasks.TasksLost f) = true
-has_lines (tasks.TasksRead entries) = true
+has_lines WithoutTasks = false
+has_lines TasksUnknown = true
+has_lines (TasksResized size) = true
+has_lines (TasksLost f) = true
+has_lines (TasksRead entries) = true
 
 -- whose they are
 abbrev pub title_text : Bool → ℕ → List ℕ
 title_text is_titled interpreter =
     if is_titled then codes "Interpreter 0x" ++ (digits 16 false interpreter ++ codes ": ") else []
 
+abbrev pub is_titled : (are_several : Bool) → TasksShown → Bool
+is_titled are_several tasks = are_several && has_lines tasks
+
 abbrev pub interpreter_text : (are_several : Bool) → InterpreterTasks → List ℕ
 interpreter_text are_several i =
-    title_text (are_several && has_lines (tasks_shown i.tasks)) i.interpreter ++ tasks_text (tasks_shown i.tasks)
+    title_text (is_titled are_several (tasks_shown i.tasks)) i.interpreter ++ tasks_text (tasks_shown i.tasks)
+
+abbrev pub each_text : (are_several : Bool) → List InterpreterTasks → List ℕ
+each_text are_several is = concat (map (λ i. interpreter_text are_several i) is)
 
 -- those of each interpreter, in order, each with its address where there are several
 abbrev pub all_tasks_text : List InterpreterTasks → List ℕ
-all_tasks_text is = concat (map (λ i. interpreter_text (nat_lt 1 (length is)) i) is)
+all_tasks_text is = each_text (nat_lt 1 (length is)) is

@@ -17,8 +17,8 @@ use Rattle.py_tasks.specs.declared.task.TaskName.TheVariants.{Text, Number}
 use Rattle.py_tasks.specs.declared.task.TaskState.{TaskState}
 use Rattle.py_tasks.specs.declared.task.Waiter.{Waiter}
 use Rattle.py_tasks.specs.Shown.{ChainShown, EntryShown, TaskShown, TasksShown, condition_of, tasks_shown}
-use Rattle.py_tasks.specs.Shown.EntryShown as entry
-use Rattle.py_tasks.specs.Shown.TasksShown as tasks
+use Rattle.py_tasks.specs.Shown.EntryShown.{TaskEntry, LostEntry, OtherEntry}
+use Rattle.py_tasks.specs.Shown.TasksShown.{WithoutTasks, TasksUnknown, TasksResized, TasksLost, TasksRead}
 use Rattle.task_texts.specs.Words.{condition_word, kind_word, state_word}
 use Rattle.task_texts.specs.declared.told.InterpreterTasks.{InterpreterTasks}
 
@@ -30,10 +30,14 @@ abbrev pub text_tree : Option (List ℕ) → Data
 text_tree None = null
 text_tree (Some text) = string (encode_utf8_all text)
 
+-- a task that was given no name is called by its number, as CPython does
+abbrev pub numbered_tree : ℕ → Data
+numbered_tree n = string (codes "Task-" ++ decimal n)
+
 abbrev pub name_tree : Option TaskName → Data
 name_tree None = null
 name_tree (Some (Text name)) = string (encode_utf8_all name)
-name_tree (Some (Number n)) = string (codes "Task-" ++ decimal n)
+name_tree (Some (Number n)) = numbered_tree n
 
 abbrev pub state_tree : Option TaskState → Data
 state_tree None = null
@@ -134,9 +138,9 @@ other_tree a class = object (
     member (codes "type") (text_tree class) no_members)))
 
 abbrev pub entry_tree : EntryShown → Data
-entry_tree (entry.TaskEntry t) = task_tree t
-entry_tree (entry.LostEntry a f) = lost_tree a f
-entry_tree (entry.OtherEntry a class) = other_tree a class
+entry_tree (TaskEntry t) = task_tree t
+entry_tree (LostEntry a f) = lost_tree a f
+entry_tree (OtherEntry a class) = other_tree a class
 
 abbrev pub entry_trees : List EntryShown → Data
 entry_trees entries = array (items_of (map (λ e. entry_tree e) entries))
@@ -153,11 +157,11 @@ resized_tree size = object (
 
 -- the tasks of an interpreter
 abbrev pub tasks_tree : TasksShown → Data
-tasks_tree tasks.WithoutTasks = null
-tasks_tree tasks.TasksUnknown = kind_tree (codes "not described")
-tasks_tree (tasks.TasksResized size) = resized_tree size
-tasks_tree (tasks.TasksLost f) = fault_tree f
-tasks_tree (tasks.TasksRead entries) = entries_tree entries
+tasks_tree WithoutTasks = null
+tasks_tree TasksUnknown = kind_tree (codes "not described")
+tasks_tree (TasksResized size) = resized_tree size
+tasks_tree (TasksLost f) = fault_tree f
+tasks_tree (TasksRead entries) = entries_tree entries
 
 abbrev pub interpreter_tree : InterpreterTasks → Data
 interpreter_tree i = object (

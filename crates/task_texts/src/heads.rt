@@ -1,13 +1,23 @@
 //! The lines that begin a task.
 ghost use Rattle.std.specs.Prelude.{◌≡◌, ◌++◌, OnOk, string_bytes};
 ghost use Rattle.py_tasks.specs.Shown.{task_shown};
-ghost use Rattle.task_texts.specs.Heads.{cancel_text, condition_text, fault_text, head_text, own_name_text};
-ghost use Rattle.task_texts.specs.Heads.{thread_text, waiter_text};
+ghost use Rattle.task_texts.specs.Heads.{cancel_text, condition_text, does_text, fault_text, head_text};
+ghost use Rattle.task_texts.specs.Heads.{own_name_text, quoted_text, thread_text, waiter_text};
 
 use crate::members::{push_missing, push_name};
+use elf64_core::Text;
 use py_tasks::{Condition, Task, TaskName, TasksFault, Waiter, condition_of};
 use salvage_texts::push_escaped;
 use std::alloc::{AllocError, Global};
+
+/// A name in quotes.
+fn push_quoted(alloc: Global, text: &mut String, name: &Text) -> Result<(), AllocError>
+    ensures { OnOk result (string_bytes text.new ≡ string_bytes text.old ++ quoted_text name.now) }
+{
+    text.push_str("\"")?;
+    push_escaped(alloc, text, true, name)?;
+    text.push_str("\"")
+}
 
 /// A task's name in quotes, or its address.
 fn push_own_name(
@@ -19,11 +29,7 @@ fn push_own_name(
     ensures { OnOk result (string_bytes text.new ≡ string_bytes text.old ++ own_name_text name.now address) }
 {
     match name {
-        Some(TaskName::Text(name)) => {
-            text.push_str("\"")?;
-            push_escaped(alloc, text, true, name)?;
-            text.push_str("\"")
-        }
+        Some(TaskName::Text(name)) => push_quoted(alloc, text, name),
         Some(TaskName::Number(number)) => write!(text, "\"Task-{number}\""),
         None => write!(text, "0x{address:x}"),
     }
@@ -56,17 +62,31 @@ fn push_waiter(
     }
 }
 
+/// What a task does, with the thread in which it runs, or what it waits for.
+fn push_does(
+    alloc: Global,
+    text: &mut String,
+    condition: Condition,
+    thread_id: Option<u64>,
+    waiter: &Option<Waiter>,
+) -> Result<(), AllocError>
+    ensures { OnOk result (string_bytes text.new
+        ≡ string_bytes text.old ++ does_text condition thread_id waiter.now) }
+{
+    match condition {
+        Condition::Done => text.push_str("done"),
+        Condition::Running => push_thread(text, thread_id),
+        Condition::NotStarted => text.push_str("not started"),
+        Condition::Ready => text.push_str("ready"),
+        Condition::Waiting => push_waiter(alloc, text, waiter),
+    }
+}
+
 /// What a task does.
 fn push_condition(alloc: Global, text: &mut String, task: &Task) -> Result<(), AllocError>
     ensures { OnOk result (string_bytes text.new ≡ string_bytes text.old ++ condition_text (task_shown task.now)) }
 {
-    match condition_of(task) {
-        Condition::Done => text.push_str("done"),
-        Condition::Running => push_thread(text, task.thread_id),
-        Condition::NotStarted => text.push_str("not started"),
-        Condition::Ready => text.push_str("ready"),
-        Condition::Waiting => push_waiter(alloc, text, &task.waiter),
-    }
+    push_does(alloc, text, condition_of(task), task.thread_id, &task.waiter)
 }
 
 /// Whether a task is to be cancelled.

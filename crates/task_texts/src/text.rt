@@ -1,9 +1,10 @@
 //! The lines of tasks.
 ghost use Rattle.std.specs.Prelude.{◌≡◌, ◌++◌, OnOk, map, string_bytes};
 ghost use Rattle.py_tasks.specs.Shown.{entry_shown, task_shown, tasks_shown};
-ghost use Rattle.task_texts.specs.Text.{all_tasks_text, comma_text, count_text, counts_text, done_text, entries_text};
-ghost use Rattle.task_texts.specs.Text.{entry_text, has_lines, interpreter_text, none_text, read_text, shown_text};
-ghost use Rattle.task_texts.specs.Text.{summary_text, task_text, tasks_text, title_text};
+ghost use Rattle.task_texts.specs.Text.{all_tasks_text, by_condition, comma_text, count_text, counts_text, done_text};
+ghost use Rattle.task_texts.specs.Text.{each_text, entries_text, entry_text, has_lines, interpreter_text, is_titled};
+ghost use Rattle.task_texts.specs.Text.{none_is_new, none_is_ready, none_text, read_text, shown_text, summary_text};
+ghost use Rattle.task_texts.specs.Text.{task_text, tasks_text, title_text};
 
 use crate::counts::{Counts, counts_of};
 use crate::heads::{push_fault, push_head};
@@ -62,17 +63,28 @@ fn push_done(text: &mut String, done: usize) -> Result<(), AllocError>
     write!(text, "; {done} finished aren't shown")
 }
 
+/// Whether no task runs or is ready.
+fn none_is_ready(counts: Counts) -> bool
+    ensures { result ≡ none_is_ready counts }
+{
+    counts.running == 0 && counts.ready == 0
+}
+
+/// Whether no task runs, is ready or has not started.
+fn none_is_new(counts: Counts) -> bool
+    ensures { result ≡ none_is_new counts }
+{
+    none_is_ready(counts) && counts.not_started == 0
+}
+
 /// How many tasks run, are ready, have not started, and wait.
 fn push_counts(text: &mut String, counts: Counts) -> Result<(), AllocError>
     ensures { OnOk result (string_bytes text.new ≡ string_bytes text.old ++ counts_text counts) }
 {
-    let no_running = counts.running == 0;
-    let no_ready = no_running && counts.ready == 0;
-    let no_started = no_ready && counts.not_started == 0;
     push_count(text, true, counts.running, " running")?;
-    push_count(text, no_running, counts.ready, " ready")?;
-    push_count(text, no_ready, counts.not_started, " not started")?;
-    push_count(text, no_started, counts.waiting, " waiting")
+    push_count(text, counts.running == 0, counts.ready, " ready")?;
+    push_count(text, none_is_ready(counts), counts.not_started, " not started")?;
+    push_count(text, none_is_new(counts), counts.waiting, " waiting")
 }
 
 /// The line that says how many tasks there are.
@@ -95,17 +107,29 @@ fn push_shown(alloc: Global, text: &mut String, task: &Task) -> Result<(), Alloc
     push_chain(alloc, text, &task.chain)
 }
 
-/// The lines of a task; none of one that is done.
-fn push_task(alloc: Global, text: &mut String, task: &Task) -> Result<(), AllocError>
-    ensures { OnOk result (string_bytes text.new ≡ string_bytes text.old ++ task_text (task_shown task.now)) }
+/// The lines of a task, by what it does; none of one that is done.
+fn push_by(
+    alloc: Global,
+    text: &mut String,
+    condition: Condition,
+    task: &Task,
+) -> Result<(), AllocError>
+    ensures { OnOk result (string_bytes text.new
+        ≡ string_bytes text.old ++ by_condition condition (task_shown task.now)) }
 {
-    match condition_of(task) {
+    match condition {
         Condition::Done => Ok(()),
         Condition::Running => push_shown(alloc, text, task),
         Condition::NotStarted => push_shown(alloc, text, task),
         Condition::Ready => push_shown(alloc, text, task),
         Condition::Waiting => push_shown(alloc, text, task),
     }
+}
+
+fn push_task(alloc: Global, text: &mut String, task: &Task) -> Result<(), AllocError>
+    ensures { OnOk result (string_bytes text.new ≡ string_bytes text.old ++ task_text (task_shown task.now)) }
+{
+    push_by(alloc, text, condition_of(task), task)
 }
 
 /// The lines of a registered object.
@@ -189,6 +213,13 @@ fn push_title(text: &mut String, is_titled: bool, interpreter: u64) -> Result<()
     Ok(())
 }
 
+/// Whether whose they are is told.
+fn is_titled(are_several: bool, tasks: &TasksOf) -> bool
+    ensures { result ≡ is_titled are_several (tasks_shown tasks.now) }
+{
+    are_several && has_lines(tasks)
+}
+
 fn push_interpreter(
     alloc: Global,
     text: &mut String,
@@ -197,9 +228,23 @@ fn push_interpreter(
 ) -> Result<(), AllocError>
     ensures { OnOk result (string_bytes text.new ≡ string_bytes text.old ++ interpreter_text are_several told.now) }
 {
-    let is_titled = are_several && has_lines(&told.tasks);
-    push_title(text, is_titled, told.interpreter)?;
+    push_title(text, is_titled(are_several, &told.tasks), told.interpreter)?;
     push_own(alloc, text, &told.tasks)
+}
+
+/// Those of each interpreter, in order.
+fn push_each(
+    alloc: Global,
+    text: &mut String,
+    are_several: bool,
+    tasks: &[InterpreterTasks],
+) -> Result<(), AllocError>
+    ensures { OnOk result (string_bytes text.new ≡ string_bytes text.old ++ each_text are_several tasks.now) }
+{
+    for interpreter in tasks {
+        push_interpreter(alloc, text, are_several, interpreter)?;
+    }
+    Ok(())
 }
 
 /// Appends the lines of the tasks of some interpreters, in order; none of one that has no asyncio. Where there are several
@@ -217,9 +262,5 @@ pub fn push_tasks(
 ) -> Result<(), AllocError>
     ensures { OnOk result (string_bytes text.new ≡ string_bytes text.old ++ all_tasks_text tasks.now) }
 {
-    let are_several = tasks.len() > 1;
-    for interpreter in tasks {
-        push_interpreter(alloc, text, are_several, interpreter)?;
-    }
-    Ok(())
+    push_each(alloc, text, tasks.len() > 1, tasks)
 }

@@ -4,8 +4,8 @@ ghost use Rattle.serde_json.specs.View.{view};
 ghost use Rattle.py_tasks.specs.Shown.{chain_shown, entry_shown, task_shown, tasks_shown};
 ghost use Rattle.task_texts.specs.Trees.{address_text, all_tasks_tree, chain_tree, end_at, end_tree, entries_tree};
 ghost use Rattle.task_texts.specs.Trees.{entry_tree, entry_trees, fault_tree, frame_tree, interpreter_tree, kind_tree};
-ghost use Rattle.task_texts.specs.Trees.{lost_tree, member_tree, members_tree, missing_tree, name_tree, other_tree};
-ghost use Rattle.task_texts.specs.Trees.{own_frame_tree, resized_tree, state_tree, stop_tree, task_tree};
+ghost use Rattle.task_texts.specs.Trees.{lost_tree, member_tree, members_tree, missing_tree, name_tree};
+ghost use Rattle.task_texts.specs.Trees.{numbered_tree, other_tree, own_frame_tree, resized_tree, state_tree, stop_tree, task_tree};
 ghost use Rattle.task_texts.specs.Trees.{tasks_tree, text_tree, thread_tree, waiter_tree};
 
 use crate::told::InterpreterTasks;
@@ -37,16 +37,21 @@ fn text_value(alloc: Global, text: &Option<Text>) -> Result<Value, AllocError>
     }
 }
 
+/// The name of a task that was given none: by its number.
+fn numbered_value(alloc: Global, number: u64) -> Result<Value, AllocError>
+    ensures { IfOk result (λ value. view value ≡ numbered_tree number) }
+{
+    let name = format!(in alloc; "Task-{number}")?;
+    Value::try_from_str(alloc, name.as_str())
+}
+
 /// The name of a task.
 fn name_value(alloc: Global, name: &Option<TaskName>) -> Result<Value, AllocError>
     ensures { IfOk result (λ value. view value ≡ name_tree name.now) }
 {
     match name {
         Some(TaskName::Text(name)) => Value::try_from_str(alloc, name.as_str()),
-        Some(TaskName::Number(number)) => {
-            let name = format!(in alloc; "Task-{number}")?;
-            Value::try_from_str(alloc, name.as_str())
-        }
+        Some(TaskName::Number(number)) => numbered_value(alloc, *number),
         None => Ok(Value::Null),
     }
 }
@@ -71,7 +76,7 @@ fn waiter_value(alloc: Global, waiter: &Option<Waiter>) -> Result<Value, AllocEr
             let state = state_value(alloc, waiter.state)?;
             let class = text_value(alloc, &waiter.class)?;
             json!(in alloc; {
-                "address": address,
+                "address": address.as_str(),
                 "state": state,
                 "type": class
             })
@@ -108,7 +113,7 @@ fn member_value(alloc: Global, member: &Member) -> Result<Value, AllocError>
     let address = address_text(alloc, member.address)?;
     let frame = own_frame_value(alloc, &member.frame)?;
     json!(in alloc; {
-        "address": address,
+        "address": address.as_str(),
         "frame": frame,
         "kind": kind_word(member.kind)
     })
@@ -130,7 +135,7 @@ fn end_at(alloc: Global, kind: &str, address: u64) -> Result<Value, AllocError>
 {
     let address = address_text(alloc, address)?;
     json!(in alloc; {
-        "address": address,
+        "address": address.as_str(),
         "kind": kind
     })
 }
@@ -148,7 +153,7 @@ fn missing_value(alloc: Global, addr: u64, len: u64) -> Result<Value, AllocError
 {
     let address = address_text(alloc, addr)?;
     json!(in alloc; {
-        "address": address,
+        "address": address.as_str(),
         "kind": "unreadable",
         "length": len
     })
@@ -210,11 +215,11 @@ fn task_value(alloc: Global, task: &Task) -> Result<Value, AllocError>
     let thread_id = thread_value(task.thread_id);
     let waiter = waiter_value(alloc, &task.waiter)?;
     json!(in alloc; {
-        "address": address,
+        "address": address.as_str(),
         "chain": chain,
         "condition": condition_word(condition_of(task)),
         "kind": "task",
-        "loop": event_loop,
+        "loop": event_loop.as_str(),
         "must_cancel": task.must_cancel,
         "name": name,
         "state": state_word(task.state),
@@ -239,7 +244,7 @@ fn lost_value(alloc: Global, address: u64, fault: TasksFault) -> Result<Value, A
     let address = address_text(alloc, address)?;
     let fault = fault_value(alloc, fault)?;
     json!(in alloc; {
-        "address": address,
+        "address": address.as_str(),
         "fault": fault,
         "kind": "lost"
     })
@@ -251,7 +256,7 @@ fn other_value(alloc: Global, address: u64, class: &Option<Text>) -> Result<Valu
     let address = address_text(alloc, address)?;
     let class = text_value(alloc, class)?;
     json!(in alloc; {
-        "address": address,
+        "address": address.as_str(),
         "kind": "other",
         "type": class
     })
