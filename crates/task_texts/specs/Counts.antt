@@ -1,5 +1,5 @@
 -- How many tasks there are, by what they do.
-use Rattle.std.specs.Prelude.{ℕ, Bool, true, false, List, count_by}
+use Rattle.std.specs.Prelude.{ℕ, Bool, true, false, not, if◌then◌else◌, List, count_by}
 use Rattle.py_tasks.specs.declared.task.Condition.{Condition}
 use Rattle.py_tasks.specs.declared.task.Condition.TheVariants.{Done, Running, NotStarted, Ready, Waiting}
 use Rattle.py_tasks.specs.Shown.{EntryShown, condition_of}
@@ -30,21 +30,25 @@ is_open NotStarted = true
 is_open Ready = true
 is_open Waiting = true
 
--- whether it is one that isn't done
-unfoldable pub is_pending : EntryShown → Bool
-is_pending (TaskEntry t) = is_open (condition_of t)
-is_pending (LostEntry a f) = false
-is_pending (OtherEntry a class) = false
+-- whether a condition is that of a task that is done, or that of one that isn't, as it is asked
+abbrev pub is_settled : (done : Bool) → Condition → Bool
+is_settled done c = if done then not (is_open c) else is_open c
 
-abbrev pub pending_number : List EntryShown → ℕ
-pending_number entries = count_by is_pending entries
+abbrev pub settles : (done : Bool) → EntryShown → Bool
+settles done (TaskEntry t) = is_settled done (condition_of t)
+settles done (LostEntry a f) = false
+settles done (OtherEntry a class) = false
+
+-- how many are done, or aren't
+abbrev pub settled_number : (done : Bool) → List EntryShown → ℕ
+settled_number done entries = count_by (settles done) entries
 
 abbrev pub counts_of : List EntryShown → Counts
 counts_of entries = record {
-  pending = pending_number entries;
+  pending = settled_number false entries;
   running = number_of Running entries;
   ready = number_of Ready entries;
   not_started = number_of NotStarted entries;
   waiting = number_of Waiting entries;
-  done = number_of Done entries;
+  done = settled_number true entries;
 }

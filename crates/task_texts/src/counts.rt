@@ -1,8 +1,8 @@
 //! How many tasks there are, by what they do.
-ghost use Rattle.std.specs.Prelude.{◌≡◌, count_by, map};
+ghost use Rattle.std.specs.Prelude.{◌≡◌, map};
 ghost use Rattle.py_tasks.specs.Shown.{entry_shown};
-ghost use Rattle.task_texts.specs.Counts.{counts_of, does, is_condition, is_open, is_pending, number_of};
-ghost use Rattle.task_texts.specs.Counts.{pending_number};
+ghost use Rattle.task_texts.specs.Counts.{counts_of, does, is_condition, is_open, is_settled, number_of};
+ghost use Rattle.task_texts.specs.Counts.{settled_number, settles};
 
 use py_tasks::{Condition, Entry, condition_of};
 
@@ -55,29 +55,32 @@ fn is_open(condition: Condition) -> bool
     }
 }
 
-/// Whether an entry is a task of which all is told, and is not done.
-#[tactic(auto, unfolding(crate::specs::Counts::is_pending))]
-fn is_pending(entry: &Entry) -> bool
-    ensures { result ≡ is_pending (entry_shown entry.now) }
+/// Whether a condition is that of a task that is done, or that of one that is not, as it is asked.
+fn is_settled(done: bool, condition: Condition) -> bool
+    ensures { result ≡ is_settled done condition }
+{
+    if done {
+        return !is_open(condition);
+    }
+    is_open(condition)
+}
+
+/// Whether an entry is a task of which all is told, and is done, or is not, as it is asked.
+fn settles(done: bool, entry: &Entry) -> bool
+    ensures { result ≡ settles done (entry_shown entry.now) }
 {
     match entry {
-        Entry::Task(task) => is_open(condition_of(task)),
+        Entry::Task(task) => is_settled(done, condition_of(task)),
         Entry::Lost { .. } => false,
         Entry::Other { .. } => false,
     }
 }
 
-fn count_pending(entries: &[Entry]) -> usize
-    ensures { result ≡ count_by (λ e. is_pending (entry_shown e)) entries.now }
+/// How many entries are tasks that are done, or that are not.
+fn settled_number(done: bool, entries: &[Entry]) -> usize
+    ensures { result ≡ settled_number done (map entry_shown entries.now) }
 {
-    entries.iter().filter(|entry| is_pending(entry)).count()
-}
-
-/// How many entries are tasks that are not done.
-fn pending_number(entries: &[Entry]) -> usize
-    ensures { result ≡ pending_number (map entry_shown entries.now) }
-{
-    count_pending(entries)
+    entries.iter().filter(|entry| settles(done, entry)).count()
 }
 
 /// How many there are of each kind.
@@ -85,11 +88,11 @@ pub(crate) fn counts_of(entries: &[Entry]) -> Counts
     ensures { result ≡ counts_of (map entry_shown entries.now) }
 {
     Counts {
-        pending: pending_number(entries),
+        pending: settled_number(false, entries),
         running: number_of(Condition::Running, entries),
         ready: number_of(Condition::Ready, entries),
         not_started: number_of(Condition::NotStarted, entries),
         waiting: number_of(Condition::Waiting, entries),
-        done: number_of(Condition::Done, entries),
+        done: settled_number(true, entries),
     }
 }
