@@ -1,5 +1,5 @@
 -- How many tasks there are, by what they do.
-use Rattle.std.specs.Prelude.{ℕ, Bool, true, false, not, if◌then◌else◌, List, count_by}
+use Rattle.std.specs.Prelude.{ℕ, Bool, true, false, not, List, count_by}
 use Rattle.py_tasks.specs.declared.task.Condition.{Condition}
 use Rattle.py_tasks.specs.declared.task.Condition.TheVariants.{Done, Running, NotStarted, Ready, Waiting}
 use Rattle.py_tasks.specs.Shown.{EntryShown, condition_of}
@@ -23,32 +23,21 @@ does sought (OtherEntry a class) = false
 abbrev pub number_of : Condition → List EntryShown → ℕ
 number_of sought entries = count_by (does sought) entries
 
-abbrev pub is_open : Condition → Bool
-is_open Done = false
-is_open Running = true
-is_open NotStarted = true
-is_open Ready = true
-is_open Waiting = true
+-- whether it is one that does something else
+abbrev pub does_not : Condition → EntryShown → Bool
+does_not shunned (TaskEntry t) = not (is_condition (condition_of t) shunned)
+does_not shunned (LostEntry a f) = false
+does_not shunned (OtherEntry a class) = false
 
--- whether a condition is that of a task that is done, or that of one that isn't, as it is asked
-abbrev pub is_settled : (done : Bool) → Condition → Bool
-is_settled done c = if done then not (is_open c) else is_open c
-
-abbrev pub settles : (done : Bool) → EntryShown → Bool
-settles done (TaskEntry t) = is_settled done (condition_of t)
-settles done (LostEntry a f) = false
-settles done (OtherEntry a class) = false
-
--- how many are done, or aren't
-abbrev pub settled_number : (done : Bool) → List EntryShown → ℕ
-settled_number done entries = count_by (settles done) entries
+abbrev pub number_without : Condition → List EntryShown → ℕ
+number_without shunned entries = count_by (does_not shunned) entries
 
 abbrev pub counts_of : List EntryShown → Counts
 counts_of entries = record {
-  pending = settled_number false entries;
+  pending = number_without Done entries;
   running = number_of Running entries;
   ready = number_of Ready entries;
   not_started = number_of NotStarted entries;
   waiting = number_of Waiting entries;
-  done = settled_number true entries;
+  done = number_of Done entries;
 }

@@ -1,8 +1,7 @@
 //! How many tasks there are, by what they do.
 ghost use Rattle.std.specs.Prelude.{◌≡◌, map};
 ghost use Rattle.py_tasks.specs.Shown.{entry_shown};
-ghost use Rattle.task_texts.specs.Counts.{counts_of, does, is_condition, is_open, is_settled, number_of};
-ghost use Rattle.task_texts.specs.Counts.{settled_number, settles};
+ghost use Rattle.task_texts.specs.Counts.{counts_of, does, does_not, is_condition, number_of, number_without};
 
 use py_tasks::{Condition, Entry, condition_of};
 
@@ -42,45 +41,25 @@ fn number_of(sought: Condition, entries: &[Entry]) -> usize
     entries.iter().filter(|entry| does(sought, entry)).count()
 }
 
-/// Whether a condition is another one than that of a task that is done.
-fn is_open(condition: Condition) -> bool
-    ensures { result ≡ is_open condition }
-{
-    match condition {
-        Condition::Done => false,
-        Condition::Running => true,
-        Condition::NotStarted => true,
-        Condition::Ready => true,
-        Condition::Waiting => true,
-    }
-}
-
-/// Whether a condition is that of a task that is done, or that of one that is not, as it is asked.
-fn is_settled(done: bool, condition: Condition) -> bool
-    ensures { result ≡ is_settled done condition }
-{
-    if done {
-        return !is_open(condition);
-    }
-    is_open(condition)
-}
-
-/// Whether an entry is a task of which all is told, and is done, or is not, as it is asked.
-fn settles(done: bool, entry: &Entry) -> bool
-    ensures { result ≡ settles done (entry_shown entry.now) }
+/// Whether an entry is a task of which all is told, and does something else.
+fn does_not(shunned: Condition, entry: &Entry) -> bool
+    ensures { result ≡ does_not shunned (entry_shown entry.now) }
 {
     match entry {
-        Entry::Task(task) => is_settled(done, condition_of(task)),
+        Entry::Task(task) => !is_condition(condition_of(task), shunned),
         Entry::Lost { .. } => false,
         Entry::Other { .. } => false,
     }
 }
 
-/// How many entries are tasks that are done, or that are not.
-fn settled_number(done: bool, entries: &[Entry]) -> usize
-    ensures { result ≡ settled_number done (map entry_shown entries.now) }
+/// How many entries are tasks that do something else.
+fn number_without(shunned: Condition, entries: &[Entry]) -> usize
+    ensures { result ≡ number_without shunned (map entry_shown entries.now) }
 {
-    entries.iter().filter(|entry| settles(done, entry)).count()
+    entries
+        .iter()
+        .filter(|entry| does_not(shunned, entry))
+        .count()
 }
 
 /// How many there are of each kind.
@@ -88,11 +67,11 @@ pub(crate) fn counts_of(entries: &[Entry]) -> Counts
     ensures { result ≡ counts_of (map entry_shown entries.now) }
 {
     Counts {
-        pending: settled_number(false, entries),
+        pending: number_without(Condition::Done, entries),
         running: number_of(Condition::Running, entries),
         ready: number_of(Condition::Ready, entries),
         not_started: number_of(Condition::NotStarted, entries),
         waiting: number_of(Condition::Waiting, entries),
-        done: settled_number(true, entries),
+        done: number_of(Condition::Done, entries),
     }
 }
