@@ -1,8 +1,9 @@
 -- The lines of tasks.
 use Rattle.std.specs.Prelude.{ℕ, ◌++◌, ◌==◌, ◌&&◌, nat_lt, Bool, true, false, if◌then◌else◌, List, [], length, map}
-use Rattle.std.specs.Prelude.{codes, decimal}
+use Rattle.std.specs.Prelude.{Option, codes, decimal}
 use Rattle.std.specs.Fmt.{digits}
 use Rattle.std.specs.List.{concat}
+use Rattle.py_tasks.specs.declared.fault.TasksFault.{TasksFault}
 use Rattle.py_tasks.specs.declared.task.Condition.{Condition}
 use Rattle.py_tasks.specs.declared.task.Condition.TheVariants.{Done, Running, NotStarted, Ready, Waiting}
 use Rattle.py_tasks.specs.Shown.{EntryShown, TaskShown, TasksShown, condition_of, tasks_shown}
@@ -66,12 +67,25 @@ by_condition Waiting t = shown_text t
 abbrev pub task_text : TaskShown → List ℕ
 task_text t = by_condition (condition_of t) t
 
+abbrev pub lost_text : ℕ → TasksFault → List ℕ
+lost_text a f = codes "Task 0x" ++ (digits 16 false a ++ (codes " is not told: " ++ (fault_text f ++ codes "\n")))
+
+unfoldable pub other_lead : List ℕ
+other_lead = codes "Registered, and no task: <"
+
+abbrev pub class_text : Option (List ℕ) → List ℕ
+class_text class = other_lead ++ name_text class
+
+abbrev pub place_text : ℕ → List ℕ
+place_text a = codes " at 0x" ++ (digits 16 false a ++ codes ">\n")
+
+abbrev pub other_text : ℕ → Option (List ℕ) → List ℕ
+other_text a class = class_text class ++ place_text a
+
 abbrev pub entry_text : EntryShown → List ℕ
 entry_text (TaskEntry t) = task_text t
-entry_text (LostEntry a f) =
-    codes "Task 0x" ++ (digits 16 false a ++ (codes " is not told: " ++ (fault_text f ++ codes "\n")))
-entry_text (OtherEntry a class) = codes "Registered, and no task: <" ++ (name_text class
-    ++ (codes " at 0x" ++ (digits 16 false a ++ codes ">\n")))
+entry_text (LostEntry a f) = lost_text a f
+entry_text (OtherEntry a class) = other_text a class
 
 abbrev pub entries_text : List EntryShown → List ℕ
 entries_text entries = concat (map (λ e. entry_text e) entries)

@@ -1,7 +1,7 @@
 -- The JSON of an interpreter's tasks. The keys of an object stand in the order of their bytes.
 use Rattle.std.specs.Prelude.{ℕ, ◌++◌, false, List, map, Option, Some, None, codes, decimal, encode_utf8_all}
 use Rattle.std.specs.Fmt.{digits}
-use Rattle.serde_json.specs.Data.{Data, array, boolean, member, no_members, null, number, object, string, unsigned}
+use Rattle.serde_json.specs.Data.{Data, Members, array, boolean, member, no_members, null, number, object, string, unsigned}
 use Rattle.serde_json.specs.View.{items_of}
 use Rattle.coroutine_frames.specs.declared.frame.CoroutineFrame.{CoroutineFrame}
 use Rattle.py_coroutines.specs.declared.turn.AwaitEnd.{AwaitEnd}
@@ -25,6 +25,12 @@ use Rattle.task_texts.specs.declared.told.InterpreterTasks.{InterpreterTasks}
 -- an address, as in 0x1f: a number of JSON is exact up to 2^53 alone
 abbrev pub address_text : ℕ → List ℕ
 address_text a = codes "0x" ++ digits 16 false a
+
+abbrev pub address_tree : ℕ → Data
+address_tree a = string (address_text a)
+
+abbrev pub word_tree : List ℕ → Data
+word_tree word = string word
 
 abbrev pub text_tree : Option (List ℕ) → Data
 text_tree None = null
@@ -107,16 +113,25 @@ abbrev pub thread_tree : Option ℕ → Data
 thread_tree None = null
 thread_tree (Some id) = number (unsigned id)
 
+-- the members whose keys stand first in the order of their bytes
+abbrev pub first_members : TaskShown → Members
+first_members t =
+    member (codes "address") (address_tree t.address) (
+    member (codes "chain") (chain_tree t.chain) (
+    member (codes "condition") (word_tree (condition_word (condition_of t))) (
+    member (codes "kind") (word_tree (codes "task")) (
+    member (codes "loop") (address_tree t.event_loop) no_members))))
+
 abbrev pub task_tree : TaskShown → Data
 task_tree t = object (
-    member (codes "address") (string (address_text t.address)) (
+    member (codes "address") (address_tree t.address) (
     member (codes "chain") (chain_tree t.chain) (
-    member (codes "condition") (string (condition_word (condition_of t))) (
-    member (codes "kind") (string (codes "task")) (
-    member (codes "loop") (string (address_text t.event_loop)) (
+    member (codes "condition") (word_tree (condition_word (condition_of t))) (
+    member (codes "kind") (word_tree (codes "task")) (
+    member (codes "loop") (address_tree t.event_loop) (
     member (codes "must_cancel") (boolean t.must_cancel) (
     member (codes "name") (name_tree t.name) (
-    member (codes "state") (string (state_word t.state)) (
+    member (codes "state") (word_tree (state_word t.state)) (
     member (codes "thread_id") (thread_tree t.thread_id) (
     member (codes "waiter") (waiter_tree t.waiter) no_members))))))))))
 

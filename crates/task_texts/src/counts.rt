@@ -1,10 +1,9 @@
 //! How many tasks there are, by what they do.
-ghost use Rattle.std.specs.Prelude.{◌≡◌, count_by, map};
-ghost use Rattle.py_tasks.specs.Shown.{entry_shown, task_shown};
-ghost use Rattle.task_texts.specs.Counts.{counts_of, does, is_called, is_pending, number_of, pending_number};
+ghost use Rattle.std.specs.Prelude.{◌≡◌, map};
+ghost use Rattle.py_tasks.specs.Shown.{entry_shown};
+ghost use Rattle.task_texts.specs.Counts.{counts_of, does, does_not, is_condition, number_of, number_without};
 
-use crate::words::condition_word;
-use py_tasks::{Entry, Task, condition_of};
+use py_tasks::{Condition, Entry, condition_of};
 
 /// How many tasks are not done, how many of these run, are ready, have not started and wait, and how many are done.
 #[derive(Clone, Copy)]
@@ -17,59 +16,50 @@ pub(crate) struct Counts {
     pub(crate) done: usize,
 }
 
-/// Whether this word stands for what a task does.
-fn is_called(task: &Task, word: &str) -> bool
-    ensures { result ≡ is_called word.now (task_shown task.now) }
+/// Whether a condition is another one.
+fn is_condition(own: Condition, sought: Condition) -> bool
+    ensures { result ≡ is_condition own sought }
 {
-    condition_word(condition_of(task)) == word
+    own == sought
 }
 
-/// Whether an entry is a task of which all is told, and this word stands for what it does.
-fn does(word: &str, entry: &Entry) -> bool
-    ensures { result ≡ does word.now (entry_shown entry.now) }
+/// Whether an entry is a task of which all is told, and does this.
+fn does(sought: Condition, entry: &Entry) -> bool
+    ensures { result ≡ does sought (entry_shown entry.now) }
 {
     match entry {
-        Entry::Task(task) => is_called(task, word),
+        Entry::Task(task) => is_condition(condition_of(task), sought),
         Entry::Lost { .. } => false,
         Entry::Other { .. } => false,
     }
 }
 
-/// Whether an entry is a task of which all is told, and is not done.
-fn is_pending(entry: &Entry) -> bool
-    ensures { result ≡ is_pending (entry_shown entry.now) }
+/// How many entries are tasks that do this.
+fn number_of(sought: Condition, entries: &[Entry]) -> usize
+    ensures { result ≡ number_of sought (map entry_shown entries.now) }
+{
+    entries.iter().filter(|entry| does(sought, entry)).count()
+}
+
+/// Whether an entry is a task of which all is told, and does something else.
+fn does_not(shunned: Condition, entry: &Entry) -> bool
+    ensures { result ≡ does_not shunned (entry_shown entry.now) }
 {
     match entry {
-        Entry::Task(task) => !is_called(task, "done"),
+        Entry::Task(task) => !is_condition(condition_of(task), shunned),
         Entry::Lost { .. } => false,
         Entry::Other { .. } => false,
     }
 }
 
-fn count_that_do(word: &str, entries: &[Entry]) -> usize
-    ensures { result ≡ count_by (λ e. does word.now (entry_shown e)) entries.now }
+/// How many entries are tasks that do something else.
+fn number_without(shunned: Condition, entries: &[Entry]) -> usize
+    ensures { result ≡ number_without shunned (map entry_shown entries.now) }
 {
-    entries.iter().filter(|entry| does(word, entry)).count()
-}
-
-/// How many entries are tasks of which this word stands for what they do.
-fn number_of(word: &str, entries: &[Entry]) -> usize
-    ensures { result ≡ number_of word.now (map entry_shown entries.now) }
-{
-    count_that_do(word, entries)
-}
-
-fn count_pending(entries: &[Entry]) -> usize
-    ensures { result ≡ count_by (λ e. is_pending (entry_shown e)) entries.now }
-{
-    entries.iter().filter(|entry| is_pending(entry)).count()
-}
-
-/// How many entries are tasks that are not done.
-fn pending_number(entries: &[Entry]) -> usize
-    ensures { result ≡ pending_number (map entry_shown entries.now) }
-{
-    count_pending(entries)
+    entries
+        .iter()
+        .filter(|entry| does_not(shunned, entry))
+        .count()
 }
 
 /// How many there are of each kind.
@@ -77,11 +67,11 @@ pub(crate) fn counts_of(entries: &[Entry]) -> Counts
     ensures { result ≡ counts_of (map entry_shown entries.now) }
 {
     Counts {
-        pending: pending_number(entries),
-        running: number_of("running", entries),
-        ready: number_of("ready", entries),
-        not_started: number_of("not started", entries),
-        waiting: number_of("waiting", entries),
-        done: number_of("done", entries),
+        pending: number_without(Condition::Done, entries),
+        running: number_of(Condition::Running, entries),
+        ready: number_of(Condition::Ready, entries),
+        not_started: number_of(Condition::NotStarted, entries),
+        waiting: number_of(Condition::Waiting, entries),
+        done: number_of(Condition::Done, entries),
     }
 }

@@ -46,11 +46,7 @@ fn push_thread(text: &mut String, thread_id: Option<u64>) -> Result<(), AllocErr
 }
 
 /// What a task waits for.
-fn push_waiter(
-    alloc: Global,
-    text: &mut String,
-    waiter: &Option<Waiter>,
-) -> Result<(), AllocError>
+fn push_waiter(alloc: Global, text: &mut String, waiter: &Option<Waiter>) -> Result<(), AllocError>
     ensures { OnOk result (string_bytes text.new ≡ string_bytes text.old ++ waiter_text waiter.now) }
 {
     match waiter {
@@ -86,7 +82,13 @@ fn push_does(
 fn push_condition(alloc: Global, text: &mut String, task: &Task) -> Result<(), AllocError>
     ensures { OnOk result (string_bytes text.new ≡ string_bytes text.old ++ condition_text (task_shown task.now)) }
 {
-    push_does(alloc, text, condition_of(task), task.thread_id, &task.waiter)
+    push_does(
+        alloc,
+        text,
+        condition_of(task),
+        task.thread_id,
+        &task.waiter,
+    )
 }
 
 /// Whether a task is to be cancelled.

@@ -1,16 +1,18 @@
 //! The lines of tasks.
 ghost use Rattle.std.specs.Prelude.{◌≡◌, ◌++◌, OnOk, map, string_bytes};
 ghost use Rattle.py_tasks.specs.Shown.{entry_shown, task_shown, tasks_shown};
-ghost use Rattle.task_texts.specs.Text.{all_tasks_text, by_condition, comma_text, count_text, counts_text, done_text};
-ghost use Rattle.task_texts.specs.Text.{each_text, entries_text, entry_text, has_lines, interpreter_text, is_titled};
-ghost use Rattle.task_texts.specs.Text.{none_is_new, none_is_ready, none_text, read_text, shown_text, summary_text};
+ghost use Rattle.task_texts.specs.Text.{all_tasks_text, by_condition, class_text, comma_text, count_text};
+ghost use Rattle.task_texts.specs.Text.{counts_text, done_text, each_text, entries_text, entry_text, has_lines};
+ghost use Rattle.task_texts.specs.Text.{interpreter_text, is_titled, lost_text, none_is_new, none_is_ready};
+ghost use Rattle.task_texts.specs.Text.{none_text, other_lead, other_text, place_text, read_text, shown_text, summary_text};
 ghost use Rattle.task_texts.specs.Text.{task_text, tasks_text, title_text};
 
 use crate::counts::{Counts, counts_of};
 use crate::heads::{push_fault, push_head};
 use crate::members::{push_chain, push_name};
 use crate::told::InterpreterTasks;
-use py_tasks::{Condition, Entry, Task, TasksOf, condition_of};
+use elf64_core::Text;
+use py_tasks::{Condition, Entry, Task, TasksFault, TasksOf, condition_of};
 use std::alloc::{AllocError, Global};
 
 /// What stands in front of a number, but of the first one.
@@ -83,7 +85,12 @@ fn push_counts(text: &mut String, counts: Counts) -> Result<(), AllocError>
 {
     push_count(text, true, counts.running, " running")?;
     push_count(text, counts.running == 0, counts.ready, " ready")?;
-    push_count(text, none_is_ready(counts), counts.not_started, " not started")?;
+    push_count(
+        text,
+        none_is_ready(counts),
+        counts.not_started,
+        " not started",
+    )?;
     push_count(text, none_is_new(counts), counts.waiting, " waiting")
 }
 
@@ -132,22 +139,59 @@ fn push_task(alloc: Global, text: &mut String, task: &Task) -> Result<(), AllocE
     push_by(alloc, text, condition_of(task), task)
 }
 
+/// The line of a task of which something is not in memory.
+fn push_lost(text: &mut String, address: u64, fault: TasksFault) -> Result<(), AllocError>
+    ensures { OnOk result (string_bytes text.new ≡ string_bytes text.old ++ lost_text address fault) }
+{
+    write!(text, "Task 0x{address:x} is not told: ")?;
+    push_fault(text, fault)?;
+    text.push_str("\n")
+}
+
+/// What stands in front of an object that is no task.
+#[tactic(auto, unfolding(crate::specs::Text::other_lead))]
+fn push_other_lead(text: &mut String) -> Result<(), AllocError>
+    ensures { OnOk result (string_bytes text.new ≡ string_bytes text.old ++ other_lead) }
+{
+    text.push_str("Registered, and no task: <")
+}
+
+/// The same, and the name of its type.
+fn push_class(alloc: Global, text: &mut String, class: &Option<Text>) -> Result<(), AllocError>
+    ensures { OnOk result (string_bytes text.new ≡ string_bytes text.old ++ class_text class.now) }
+{
+    push_other_lead(text)?;
+    push_name(alloc, text, class)
+}
+
+/// Where it stands.
+fn push_place(text: &mut String, address: u64) -> Result<(), AllocError>
+    ensures { OnOk result (string_bytes text.new ≡ string_bytes text.old ++ place_text address) }
+{
+    write!(text, " at 0x{address:x}>\n")
+}
+
+/// The line of an object that is no task.
+fn push_other(
+    alloc: Global,
+    text: &mut String,
+    address: u64,
+    class: &Option<Text>,
+) -> Result<(), AllocError>
+    ensures { OnOk result (string_bytes text.new ≡ string_bytes text.old ++ other_text address class.now) }
+{
+    push_class(alloc, text, class)?;
+    push_place(text, address)
+}
+
 /// The lines of a registered object.
 fn push_entry(alloc: Global, text: &mut String, entry: &Entry) -> Result<(), AllocError>
     ensures { OnOk result (string_bytes text.new ≡ string_bytes text.old ++ entry_text (entry_shown entry.now)) }
 {
     match entry {
         Entry::Task(task) => push_task(alloc, text, task),
-        Entry::Lost { address, fault } => {
-            write!(text, "Task 0x{address:x} is not told: ")?;
-            push_fault(text, *fault)?;
-            text.push_str("\n")
-        }
-        Entry::Other { address, class } => {
-            text.push_str("Registered, and no task: <")?;
-            push_name(alloc, text, class)?;
-            write!(text, " at 0x{address:x}>\n")
-        }
+        Entry::Lost { address, fault } => push_lost(text, *address, *fault),
+        Entry::Other { address, class } => push_other(alloc, text, *address, class),
     }
 }
 
@@ -177,9 +221,14 @@ fn push_own(alloc: Global, text: &mut String, tasks: &TasksOf) -> Result<(), All
 {
     match tasks {
         TasksOf::Without => Ok(()),
-        TasksOf::NotDescribed => text.push_str("Tasks are not told: not described for this version\n"),
+        TasksOf::NotDescribed => text.push_str(
+            "Tasks are not told: not described for this version\n",
+        ),
         TasksOf::Resized { size } => {
-            write!(text, "Tasks are not told: they have {size} bytes, which is not described\n")
+            write!(
+                text,
+                "Tasks are not told: they have {size} bytes, which is not described\n"
+            )
         }
         TasksOf::Lost(fault) => {
             text.push_str("Tasks are not told: ")?;

@@ -1,12 +1,13 @@
 //! Tasks, as a JSON value.
 ghost use Rattle.std.specs.Prelude.{◌≡◌, IfOk, map, string_bytes};
-ghost use Rattle.serde_json.specs.View.{view};
+ghost use Rattle.serde_json.specs.View.{members_view, view};
 ghost use Rattle.py_tasks.specs.Shown.{chain_shown, entry_shown, task_shown, tasks_shown};
-ghost use Rattle.task_texts.specs.Trees.{address_text, all_tasks_tree, chain_tree, end_at, end_tree, entries_tree};
-ghost use Rattle.task_texts.specs.Trees.{entry_tree, entry_trees, fault_tree, frame_tree, interpreter_tree, kind_tree};
-ghost use Rattle.task_texts.specs.Trees.{lost_tree, member_tree, members_tree, missing_tree, name_tree};
-ghost use Rattle.task_texts.specs.Trees.{numbered_tree, other_tree, own_frame_tree, resized_tree, state_tree, stop_tree, task_tree};
-ghost use Rattle.task_texts.specs.Trees.{tasks_tree, text_tree, thread_tree, waiter_tree};
+ghost use Rattle.task_texts.specs.Trees.{address_text, address_tree, all_tasks_tree, chain_tree, end_at, end_tree};
+ghost use Rattle.task_texts.specs.Trees.{entries_tree, entry_tree, entry_trees, fault_tree, first_members};
+ghost use Rattle.task_texts.specs.Trees.{frame_tree, interpreter_tree, kind_tree, lost_tree, member_tree};
+ghost use Rattle.task_texts.specs.Trees.{members_tree, missing_tree, name_tree, numbered_tree, other_tree};
+ghost use Rattle.task_texts.specs.Trees.{own_frame_tree, resized_tree, state_tree, stop_tree, task_tree, tasks_tree};
+ghost use Rattle.task_texts.specs.Trees.{text_tree, thread_tree, waiter_tree, word_tree};
 
 use crate::told::InterpreterTasks;
 use crate::words::{condition_word, kind_word, state_word};
@@ -17,7 +18,7 @@ use py_fronts::shown_line;
 use py_tasks::{
     Chain, Entry, Member, Task, TaskName, TaskState, TasksFault, TasksOf, Waiter, condition_of,
 };
-use serde_json::{Value, json};
+use serde_json::{Map, Value, json, put};
 use std::alloc::{AllocError, Global};
 
 /// An address: `0x` and lower-case hexadecimal digits.
@@ -205,27 +206,57 @@ fn thread_value(thread_id: Option<u64>) -> Value
     }
 }
 
+/// An address as a text.
+fn address_value(alloc: Global, address: u64) -> Result<Value, AllocError>
+    ensures { IfOk result (λ value. view value ≡ address_tree address) }
+{
+    let text = address_text(alloc, address)?;
+    Ok(Value::String(text))
+}
+
+fn word_value(alloc: Global, word: &str) -> Result<Value, AllocError>
+    ensures { IfOk result (λ value. view value ≡ word_tree word.now) }
+{
+    Value::try_from_str(alloc, word)
+}
+
+/// The members of a task whose keys stand first in the order of their bytes.
+fn first_members(alloc: Global, task: &Task) -> Result<Map<String, Value>, AllocError>
+    ensures { IfOk result (λ map. members_view map.entries ≡ first_members (task_shown task.now)) }
+{
+    let address = address_value(alloc, task.address)?;
+    let chain = chain_value(alloc, &task.chain)?;
+    let condition = word_value(alloc, condition_word(condition_of(task)))?;
+    let kind = word_value(alloc, "task")?;
+    let event_loop = address_value(alloc, task.event_loop)?;
+    let mut map = Map::new(alloc);
+    put(&mut map, alloc, "address", address)?;
+    put(&mut map, alloc, "chain", chain)?;
+    put(&mut map, alloc, "condition", condition)?;
+    put(&mut map, alloc, "kind", kind)?;
+    put(&mut map, alloc, "loop", event_loop)?;
+    Ok(map)
+}
+
 fn task_value(alloc: Global, task: &Task) -> Result<Value, AllocError>
     ensures { IfOk result (λ value. view value ≡ task_tree (task_shown task.now)) }
 {
-    let address = address_text(alloc, task.address)?;
-    let chain = chain_value(alloc, &task.chain)?;
-    let event_loop = address_text(alloc, task.event_loop)?;
+    let mut map = first_members(alloc, task)?;
     let name = name_value(alloc, &task.name)?;
+    let state = word_value(alloc, state_word(task.state))?;
     let thread_id = thread_value(task.thread_id);
     let waiter = waiter_value(alloc, &task.waiter)?;
-    json!(in alloc; {
-        "address": address.as_str(),
-        "chain": chain,
-        "condition": condition_word(condition_of(task)),
-        "kind": "task",
-        "loop": event_loop.as_str(),
-        "must_cancel": task.must_cancel,
-        "name": name,
-        "state": state_word(task.state),
-        "thread_id": thread_id,
-        "waiter": waiter
-    })
+    put(
+        &mut map,
+        alloc,
+        "must_cancel",
+        Value::Bool(task.must_cancel),
+    )?;
+    put(&mut map, alloc, "name", name)?;
+    put(&mut map, alloc, "state", state)?;
+    put(&mut map, alloc, "thread_id", thread_id)?;
+    put(&mut map, alloc, "waiter", waiter)?;
+    Ok(Value::Object(map))
 }
 
 fn fault_value(alloc: Global, fault: TasksFault) -> Result<Value, AllocError>
