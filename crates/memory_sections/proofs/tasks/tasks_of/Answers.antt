@@ -7,6 +7,6 @@ use Rattle.memory_sections.proofs.tasks.tasks_of.Goals as goal
 pub returns : goal.returns
 returns c =
     let here = over_this (regions_of c.args.process.now.dump)
-    (ap (λ (s : Seen). s.pieces) (c.new-view.ensures ∙ c.view.ensures)) c.read_tasks.ensures in
+    (ap (λ (s : Seen). s.pieces) (c.new-view.ensures ∙ c.view.ensures)) c.read_tasks-read.ensures in
     let told = rw c.in_ok-tasks.ensures at here in
     record { interpreter_is = refl; are = told.is }
