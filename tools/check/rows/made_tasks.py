@@ -4,7 +4,6 @@ coroutine and the one that this awaits, and a future."""
 import struct
 from typing import Dict, Sequence, Tuple
 
-from made import Objects
 from small_core import HEAP, heap
 
 RECORDS = b"""\
