@@ -55,11 +55,10 @@ WORDS = ("-l", "--signal", "--registers", "--check-layout", "--names")
 Tree = Dict[str, Any]
 
 
-@dataclass
 class Watched(OpenedCore):
     """A core of which it is known what it gave last."""
 
-    last: int = 0
+    last = 0
     """Where that begins in the part's file."""
 
     def give(self, blocks: List[int], run: int) -> bool:

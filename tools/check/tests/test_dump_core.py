@@ -470,7 +470,10 @@ class Real(Case):
         self.layout.write_text(EXAMPLE, encoding="utf-8")
 
     def test_stack(self):
-        self.assertEqual(self.ran(b"/usr/bin/python3.9", "--layouts", self.layout), (0, TEXT.encode(), ""))
+        # (`pysalvage` isn't beside it, and so the version isn't told)
+        status, out, said = self.ran(b"/usr/bin/python3.9", "--layouts", self.layout)
+        self.assertEqual((status, out), (0, TEXT.split("\n\n", 1)[1].encode()))
+        self.assertTrue(said.startswith("dump_core: pysalvage isn't there, "), said)
 
     def test_missing(self):
         status, out, said = self.ran(b"/usr/bin/python3.8", "--layouts", self.layout)
