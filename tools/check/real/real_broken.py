@@ -90,12 +90,13 @@ def body(text: str) -> List[str]:
         blocks[1:] = [re.sub(r"( \((gil|crashed)\))*$", "", "".join(it)) .split("\n") if len(it) == 1 else it for it in blocks[1:]]
         blocks[1:] = sorted(blocks[1:], key=lambda it: len(it) == 1)
     found[1:] = sorted(found[1:], key=lambda blocks: all(len(it) == 1 for it in blocks[1:]))
-    return [line for blocks in found for it in blocks for line in it]
+    # (the tool's ids are the system's in every version)
+    return [re.sub(r"^Thread (0x[0-9A-F]+|\d+)( \(\d+ by Python\))?", "Thread", line) for blocks in found for it in blocks for line in it]
 
 
 def check_same(core: Path, words: argparse.Namespace, kept: Path) -> str:
     """Fails where the tool's text isn't that of `pysalvage`, over the core as the tool prepares it. Returns the text."""
-    status, out, said = ran([sys.executable, "-B", TOOLS / "dump_core.py", core, "--all", "--keep", kept,
+    status, out, said = ran([sys.executable, "-B", TOOLS / "dump_core.py", core, "--all", "--no-tasks", "--keep", kept,
                              "--program", words.program, "--salvage", words.salvage])
     with open(kept if kept.exists() else core, "rb") as file:
         machine, files = read_core(file)

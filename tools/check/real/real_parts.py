@@ -102,7 +102,7 @@ def asked_over(salvage: Path, core: Path, layouts: Path, images: Sequence[str], 
         said = io.StringIO()
         with new.file, redirect_stderr(said):
             opened = Watched(os.fspath(core), new.file, os.fspath(layouts), [os.fsencode(it) for it in images], new.part)
-            answer = ask_over(Options(locals=1, registers=True), opened, salvage)
+            answer = ask_over(Options(locals=1, registers=True, tasks=False), opened, salvage)
     if answer.status != 0:
         raise Failure(f"over a part: status {answer.status}: {answer.said!r}")
     return Over(opened, json.loads(answer.out), said.getvalue())

@@ -67,7 +67,8 @@ def other_of(tree: Tree) -> str:
 def tasks_of(tree: Tree) -> Optional[Tasks]:
     """The tasks of an interpreter; nothing where it has no asyncio."""
     told = tree["tasks"]
-    if told is None:
+    if told is None or told.get("address") == "0x0":
+        # (an interpreter that has no modules has no asyncio)
         return None
     if told["kind"] != "read":
         return Tasks(tree["interpreter"], fault=fault_of(told))
