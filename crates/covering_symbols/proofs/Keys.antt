@@ -1,13 +1,15 @@
 -- The functions of symbols, one after the other, and their ranges.
-use Rattle.std.proofs.Common.{◌≡◌, ℕ, zero, suc, ◌+◌, ◌^◌, ◌<◌, ◌≤◌, List, [], ◌∷◌, ◌++◌, length, get_or, take, drop}
+use Rattle.std.proofs.Common.{◌≡◌, ℕ, zero, suc, ◌+◌, ◌-◌, ◌^◌, ◌<◌, ◌≤◌, List, [], ◌∷◌, ◌++◌, length, get_or, take, drop}
 use Rattle.std.proofs.Common.{map, All, refl, sym, ◌∙◌, ap, subst, arith, inr, append_assoc, append-nil, take_all}
 use Rattle.std.proofs.lemmas.List.{drop_all}
 use Rattle.std.proofs.lemmas.List.Elements.{All-more}
 use Rattle.elf64_core.specs.Symbols.{symbol_entry_of}
 use Rattle.elf64_core.specs.declared.symbol.Symbol.{Symbol}
+use Rattle.std.proofs.lemmas.Bool.Decides.{nat_tests}
+use Rattle.piece_table.specs.Overlays.{spans}
 use Rattle.piece_table.specs.Places.{IsBounded}
 use Rattle.covering_symbols.specs.declared.function_key.FunctionKey.{FunctionKey}
-use Rattle.covering_symbols.specs.FunctionKeys.{function_keys, keys_of, range_of_key}
+use Rattle.covering_symbols.specs.FunctionKeys.{function_keys, key_covers, keys_of, range_of_key}
 
 drop_at : {X : Type 0} (xs : List X) (i : ℕ) (d : X) → i < length xs → drop i xs ≡ get_or xs i d ∷ drop (i + 1) xs
 drop_at [] i d h = absurd (omega arith)
@@ -43,3 +45,7 @@ keys_done symbols i all keys h k = sym (append-nil keys)
 
 pub bounded : (key : FunctionKey) → key.below < 2 ^ 64 → IsBounded (range_of_key key)
 bounded key h = record { ends = omega arith; found_ends = inr (omega arith) }
+
+-- below 2^64 - 1 a function covers an address where its range holds it
+pub covers_spans : (addr : ℕ) → addr < 2 ^ 64 - 1 → (key : FunctionKey) → spans addr (range_of_key key).range ≡ key_covers addr key
+covers_spans addr h key = grind (arith, nat_tests)

@@ -3,3 +3,4 @@ pub mod Keys
 pub mod Nearest
 pub mod Sorting
 pub mod Stable
+pub mod Segments

@@ -2,3 +2,4 @@ pub mod Covering
 pub mod FunctionKeys
 pub mod FunctionTables
 pub mod KeyOrder
+pub mod SegmentTables

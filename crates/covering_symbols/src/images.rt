@@ -1,12 +1,9 @@
-//! The symbols of a file, and the address of a place in it.
-ghost use Rattle.std.specs.Prelude.{◌≡◌, ◌≤◌, IfOk, IfSome, IsTrue, map, option_map};
-ghost use Rattle.std.specs.List.{find};
-ghost use Rattle.elf64_core.specs.Header.{segments_of};
-ghost use Rattle.elf64_core.specs.Rest.{segments_left};
+//! The symbols of a file.
+ghost use Rattle.std.specs.Prelude.{IfOk, map};
 ghost use Rattle.elf64_core.specs.Symbols.{symbol_entry_of};
-ghost use Rattle.covering_symbols.specs.Covering.{AreImageSymbols, AreSymbolsOf, address_of_place, holds_place};
+ghost use Rattle.covering_symbols.specs.Covering.{AreImageSymbols, AreSymbolsOf};
 
-use elf64_core::{Elf64, ElfError, LOAD, Segment, Segments, Symbol, SymbolKind};
+use elf64_core::{Elf64, ElfError, Symbol, SymbolKind};
 use std::alloc::{AllocError, Global};
 
 /// The symbols of a kind, in table order; none where they can't be read. The one error is want of memory.
@@ -33,34 +30,4 @@ pub fn image_symbols<'a>(alloc: Global, elf: &Elf64<'a>) -> Result<Vec<Symbol<'a
     let dynamic = symbols_of(alloc, elf, SymbolKind::Dynamic)?;
     symbols.extend_from_slice(&dynamic)?;
     Ok(symbols)
-}
-
-/// Whether a load segment's bytes hold a place in the file.
-fn holds_place(segment: &Segment, place: u64) -> bool
-    ensures is { result ≡ holds_place place segment.now }
-    ensures starts { IsTrue result → segment.now.offset ≤ place }
-{
-    segment.kind == LOAD && segment.offset <= place && place - segment.offset < segment.file_size
-}
-
-/// The first load segment whose file bytes hold a place.
-fn segment_at(segments: Segments<'_>, place: u64) -> Option<Segment>
-    ensures first { result ≡ find (holds_place place) (segments_left segments.entry) }
-    ensures starts { IfSome result (λ segment. segment.offset ≤ place) }
-{
-    for segment in segments {
-        if holds_place(&segment, place) {
-            return Some(segment);
-        }
-    }
-    None
-}
-
-/// The address of a place in a file, in bytes from its start: by the first load segment whose file bytes hold it, and
-/// none exactly where none does. It may pass 2^64 - 1, where a segment has more bytes in the file than in memory.
-pub fn address_of_offset(elf: &Elf64<'_>, place: u64) -> Option<u128>
-    ensures { result ≡ address_of_place (segments_of elf.now) place }
-{
-    let segment = segment_at(elf.segments(), place)?;
-    Some(u128::from(segment.addr) + u128::from(place - segment.offset))
 }

@@ -10,9 +10,11 @@ use Rattle.image_memory.specs.Images.{Pushed, first_under}
 use Rattle.image_memory.specs.Mmap.{shown_bytes}
 use Rattle.covering_symbols.specs.Covering.{AreImageSymbols, AreSymbolsOf, Covering, IsNearer, address_of_place}
 use Rattle.covering_symbols.specs.Covering.{symbol_name_at}
+use Rattle.native_merge.specs.declared.read_images.Covered.{Covered}
 use Rattle.native_merge.specs.declared.read_images.ReadImage.{ReadImage}
 use Rattle.native_merge.specs.ImageSymbols.{FilesMapped, IsNameAt, image_frame, image_seen}
-use Rattle.native_merge.specs.ReadImages.{IsImageUnder, IsReadOf, IsReadOfBytes, is_read_under}
+use Rattle.native_merge.specs.ReadImages.{IsLookedUp, IsLookedUpUnder, IsReadOf, IsReadOfBytes, is_read_under}
+use Rattle.native_merge.specs.ReadImages.IsLookedUpUnder.{InImage}
 use Rattle.native_merge.specs.Symbols.{AnswersOnce}
 use Rattle.std.proofs.lemmas.Slice.Eq.{bytes_eq-Decides}
 
@@ -32,23 +34,27 @@ find_holds {X} p P (x ∷ xs) y h a = by (p x) refl (λ e. find_holds p P xs y e
         (subst P same (All-head P x xs a), subst (λ z. p z ≡ true) same e)
     by false e rest = rest (h ∙ ap (λ b. cond b (Some x) (find p xs)) e)
 
--- what was found under the path of an image is read of that
-pub found_read : (images : Pushed) (path bytes : List ℕ) (reads : List ReadImage) (r : ReadImage) → Some r ≡ find (is_read_under path) reads
-    → All (IsReadOf images) reads → IsImageUnder images path bytes → IsReadOfBytes bytes r
-found_read images path bytes reads r h a under =
+-- what was found under a path answers for the image there
+pub found_read : (images : Pushed) (path : List ℕ) (place : ℕ) (reads : List ReadImage) (r : ReadImage) (covered : Option Covered)
+    → Some r ≡ find (is_read_under path) reads → All (IsReadOf images) reads
+    → ((bytes : List ℕ) → IsReadOfBytes bytes r.file → IsLookedUp bytes place covered) → IsLookedUpUnder images path place covered
+found_read images path place reads r covered h a looked =
     let found = find_holds (is_read_under path) (IsReadOf images) reads r h a in
-    let here : first_under r.path.now images ≡ Some under.0 = ap (λ p. first_under p images) (same_bytes r.path.now path found.1) ∙ under.1 in
-    subst (λ b. IsReadOfBytes b r) (sym under.2) (found.0 under.0 here)
+    let here : first_under path images ≡ Some found.0.image
+    = ap (λ p. first_under p images) (sym (same_bytes r.path.now path found.1)) ∙ found.0.under in
+    InImage found.0.image here (looked (shown_bytes found.0.image) found.0.is)
 
--- an image that is read of its bytes is one more
-pub read_more : (images : Pushed) (path bytes : List ℕ) (reads new : List ReadImage) (r : ReadImage) → r.path.now ≡ path → IsReadOfBytes bytes r
-    → IsImageUnder images path bytes → All (IsReadOf images) reads → new ≡ reads ++ r ∷ [] → All (IsReadOf images) new
-read_more images path bytes reads new r e b under a n =
-    let one : IsReadOf images r = λ image is.
-    let both : Some under.0 ≡ Some image = sym under.1 ∙ ap (λ p. first_under p images) (sym e) ∙ is in
-    let same : under.0 ≡ image = cc in
-    subst (λ x. IsReadOfBytes x r) (under.2 ∙ ap shown_bytes same) b in
-    subst (All (IsReadOf images)) (sym n) (All-push (IsReadOf images) reads r a one)
+-- what was just read answers for its image
+pub read_answers : (images : Pushed) (path : List ℕ) (place : ℕ) (r : ReadImage) (covered : Option Covered)
+    → IsReadOf images r × (r.path.now ≡ path)
+    → ((bytes : List ℕ) → IsReadOfBytes bytes r.file → IsLookedUp bytes place covered) → IsLookedUpUnder images path place covered
+read_answers images path place r covered is looked =
+    InImage is.0.image (ap (λ p. first_under p images) (sym is.1) ∙ is.0.under) (looked (shown_bytes is.0.image) is.0.is)
+
+-- an image that is read is one more
+pub read_more : (images : Pushed) (reads new : List ReadImage) (r : ReadImage) → IsReadOf images r → All (IsReadOf images) reads
+    → new ≡ reads ++ r ∷ [] → All (IsReadOf images) new
+read_more images reads new r one a n = subst (All (IsReadOf images)) (sym n) (All-push (IsReadOf images) reads r a one)
 
 -- ---- one answer
 

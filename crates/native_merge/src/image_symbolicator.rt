@@ -4,7 +4,7 @@ ghost use Rattle.outside.specs.Counts.{Rose};
 ghost use Rattle.native_merge.specs.ImageSymbols.{files_mapped, image_seen};
 ghost use Rattle.native_merge.specs.Symbols.{IsAsTold, SymbolsStay, AnswersOnce};
 
-use crate::read_images::{ReadImage, file_at, name_of, native_at};
+use crate::read_images::{ReadImage, covered_under, native_at, normal_place};
 use crate::{NativeFrame, SymbolFault, Symbolicator};
 use image_memory::Images;
 use maps_text::MapsEntry;
@@ -59,8 +59,8 @@ impl<'a> Symbolicator for ImageSymbolicator<'a> {
     /// One frame without file name and line, whose module is the path that the address's entry gives, shown lossily,
     /// and whose function is the name, shown lossily, of the function that covers the address's place in the file;
     /// none where no function does, or it has no name. `NoBinary` exactly where normalizing reports no file for the
-    /// address or refuses it, or no image stands under the file's path, or it is no ELF file that is accepted. The
-    /// symbols of an image are read once.
+    /// address or refuses it, or no image stands under the file's path, or it is no ELF file that is accepted. An
+    /// image is read once: its header, its segments and its symbols.
     fn symbolicate(
         &mut self,
         alloc: Global,
@@ -77,13 +77,22 @@ impl<'a> Symbolicator for ImageSymbolicator<'a> {
         // nothing is counted, and nothing of the files changes
         ensures same { self.new ≡ self.old }
     {
-        let Some(place) = file_at(self.entries, self.in_order, self.images, addr) else {
+        let Some(place) = normal_place(self.entries, self.in_order, addr) else {
             return Err(SymbolFault::NoBinary);
         };
-        let Ok(name) = name_of(alloc, &mut self.read, self.images, &place) else {
+        let Ok(covered) = covered_under(
+            alloc,
+            &mut self.read,
+            self.images,
+            place.path,
+            place.offset,
+        ) else {
             return Err(SymbolFault::OutOfMemory);
         };
-        match native_at(alloc, addr, place.path, name) {
+        let Some(covered) = covered else {
+            return Err(SymbolFault::NoBinary);
+        };
+        match native_at(alloc, addr, place.path, covered.name) {
             Ok(natives) => Ok(natives),
             Err(_) => Err(SymbolFault::OutOfMemory),
         }

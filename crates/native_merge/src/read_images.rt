@@ -1,6 +1,8 @@
 //! The images of a process's files, read once.
-ghost use Rattle.std.specs.Prelude.{◌≡◌, [], ◌∷◌, ℕ, All, IfOk, List, MatchOption, Option, Some, map, option_copied};
-ghost use Rattle.std.specs.Prelude.{option_map};
+ghost use Rattle.std.specs.Prelude.{◌≡◌, [], ◌∷◌, ℕ, All, IfOk, IfSome, List, MatchOption, Option, map, option_copied};
+ghost use Rattle.std.specs.Prelude.{Some, option_map};
+ghost use Rattle.bstr.specs.Utf8.{lossy_chars};
+ghost use Rattle.std.specs.List.{find};
 ghost use Rattle.elf64_core.specs.Header.{IsAccepted};
 ghost use Rattle.elf64_core.specs.Symbols.{SymbolEntry, symbol_entry_of};
 ghost use Rattle.image_memory.specs.Images.{first_under};
@@ -8,38 +10,46 @@ ghost use Rattle.image_memory.specs.Mmap.{Mapped, shown_bytes};
 ghost use Rattle.normalize_core.specs.FileOffsets.{file_offset_shown};
 ghost use Rattle.normalize_core.specs.Order.{in_order};
 ghost use Rattle.covering_symbols.specs.Covering.{Covering, symbol_name_at};
-ghost use Rattle.native_merge.specs.ImageSymbols.{IsAtFile, IsNameOfPlace, files_mapped, image_frame, normal_place};
-ghost use Rattle.native_merge.specs.ReadImages.{IsImageUnder, IsReadOf, IsReadOfBytes, is_read_under};
-ghost use Rattle.bstr.specs.Utf8.{lossy_chars};
-ghost use Rattle.std.specs.List.{find};
 ghost use Rattle.covering_symbols.specs.FunctionTables.{IsTableOf};
+ghost use Rattle.native_merge.specs.ImageSymbols.{IsNameOfPlace, image_frame, normal_place};
+ghost use Rattle.native_merge.specs.ReadImages.{IsFileOf, IsLookedUp, IsLookedUpUnder, IsReadOf, IsReadOfBytes};
+ghost use Rattle.native_merge.specs.ReadImages.{IsReadUnder, is_read_under};
 
 use crate::NativeFrame;
-use covering_symbols::{FunctionTable, address_of_offset, image_symbols};
+use covering_symbols::{FunctionTable, SegmentTable, image_symbols};
 use elf64_core::{Elf64, Name, Symbol, Text};
 use image_memory::Images;
 use maps_text::MapsEntry;
 use normalize_core::{FileOffset, file_offset};
 use std::alloc::{AllocError, Global};
 
-/// The symbols of an image, and its functions.
+/// What is read of an ELF file that is accepted: its segments, its symbols and its functions.
 #[derive(Drop)]
-pub(crate) struct ReadImage<'a> {
-    pub(crate) path: &'a [u8],
+pub(crate) struct ReadFile<'a> {
+    pub(crate) segments: SegmentTable,
     pub(crate) symbols: Vec<Symbol<'a>>,
     pub(crate) functions: FunctionTable,
 }
 
-/// A place in a file whose image is at hand.
+/// An image that was read, where it is an ELF file that is accepted.
 #[derive(Drop)]
-pub(crate) struct FilePlace<'a> {
+pub(crate) struct ReadImage<'a> {
     pub(crate) path: &'a [u8],
-    pub(crate) offset: u64,
-    pub(crate) elf: Elf64<'a>,
+    pub(crate) file: Option<ReadFile<'a>>,
+}
+
+/// What covers a place in a file that is accepted: the name of a function, where it has one.
+#[derive(Clone, Copy)]
+pub(crate) struct Covered<'a> {
+    pub(crate) name: Option<&'a [u8]>,
 }
 
 /// The file and the place there that an address is normalized to.
-fn normal_place(entries: &[MapsEntry], are_in_order: bool, addr: u64) -> Option<FileOffset<'_>>
+pub(crate) fn normal_place(
+    entries: &[MapsEntry],
+    are_in_order: bool,
+    addr: u64,
+) -> Option<FileOffset<'_>>
     requires { are_in_order ≡ in_order entries.now }
     ensures { file_offset_shown result ≡ normal_place entries.now addr }
 {
@@ -49,75 +59,76 @@ fn normal_place(entries: &[MapsEntry], are_in_order: bool, addr: u64) -> Option<
     file_offset(entries, addr)
 }
 
-/// The image under a path, where it is an ELF file that is accepted.
-fn elf_under<'a>(images: &'a Images, path: &[u8]) -> Option<Elf64<'a>>
-    ensures { MatchOption result
-        ((image : Mapped) → first_under path.now images.now ≡ Some image → IsAccepted (shown_bytes image) → ⊥)
-        (λ elf. (image : Mapped) × (first_under path.now images.now ≡ Some image) × (elf ≡ shown_bytes image)
-        × IsAccepted (shown_bytes image)) }
+/// What is read of an ELF file.
+fn read_file<'a>(alloc: Global, elf: &Elf64<'a>) -> Result<ReadFile<'a>, AllocError>
+    ensures { IfOk result (IsFileOf elf.now) }
 {
-    let image = images.get(path)?;
-    Elf64::parse(image.as_slice()).ok()
-}
-
-/// The file that an address lies in, and where, with its image; none exactly where the address is lacking.
-pub(crate) fn file_at<'a>(
-    entries: &'a [MapsEntry],
-    are_in_order: bool,
-    images: &'a Images,
-    addr: u64,
-) -> Option<FilePlace<'a>>
-    requires { are_in_order ≡ in_order entries.now }
-    ensures { MatchOption result
-        ((path : List ℕ) (place : ℕ) (bytes : List ℕ)
-        → IsAtFile (files_mapped entries.now images.now) addr path place bytes → ⊥)
-        (λ file. IsAtFile (files_mapped entries.now images.now) addr file.path.now file.offset file.elf) }
-{
-    let place = normal_place(entries, are_in_order, addr)?;
-    let elf = elf_under(images, place.path)?;
-    Some(FilePlace {
-        path: place.path,
-        offset: place.offset,
-        elf,
-    })
-}
-
-/// The symbols of an image, and its functions.
-fn read_image<'a>(
-    alloc: Global,
-    path: &'a [u8],
-    elf: &Elf64<'a>,
-) -> Result<ReadImage<'a>, AllocError>
-    ensures path { IfOk result (λ read. read.path.now ≡ path.now) }
-    ensures bytes { IfOk result (IsReadOfBytes elf.now) }
-{
+    let segments = SegmentTable::of(alloc, elf)?;
     let symbols = image_symbols(alloc, elf)?;
     let functions = FunctionTable::of(alloc, &symbols)?;
-    Ok(ReadImage {
-        path,
+    Ok(ReadFile {
+        segments,
         symbols,
         functions,
     })
 }
 
+/// The same of bytes that need be no ELF file.
+fn read_bytes<'a>(alloc: Global, bytes: &'a [u8]) -> Result<Option<ReadFile<'a>>, AllocError>
+    ensures { IfOk result (IsReadOfBytes bytes.now) }
+{
+    match Elf64::parse(bytes) {
+        Ok(elf) => Ok(Some(read_file(alloc, &elf)?)),
+        Err(_) => Ok(None),
+    }
+}
+
+/// The image under a path, where there is one.
+fn read_under<'a>(
+    alloc: Global,
+    images: &'a Images,
+    path: &'a [u8],
+) -> Result<Option<ReadImage<'a>>, AllocError>
+    ensures { IfOk result (IsReadUnder images.now path.now) }
+{
+    match images.get(path) {
+        Some(image) => {
+            let file = read_bytes(alloc, image.as_slice())?;
+            Ok(Some(ReadImage { path, file }))
+        }
+        None => Ok(None),
+    }
+}
+
 /// The name of the function that covers an address.
-fn name_in<'a>(read: &ReadImage<'a>, addr: u128) -> Option<&'a [u8]>
-    ensures { (symbols : List SymbolEntry) → symbols ≡ map symbol_entry_of read.now.symbols.items
-        → IsTableOf symbols read.now.functions
+fn name_in<'a>(file: &ReadFile<'a>, addr: u128) -> Option<&'a [u8]>
+    ensures { (symbols : List SymbolEntry) → symbols ≡ map symbol_entry_of file.now.symbols.items
+        → IsTableOf symbols file.now.functions
         → (found : Option ℕ) × Covering symbols addr found × (option_copied result ≡ symbol_name_at symbols found) }
 {
-    let number = read.functions.covering(addr)?;
-    let symbol = read.symbols.get(number)?;
+    let number = file.functions.covering(addr)?;
+    let symbol = file.symbols.get(number)?;
     symbol.name
 }
 
 /// The name of the function that covers a place in a file, by what was read of the file.
-fn name_at<'a>(read: &ReadImage<'a>, place: &FilePlace<'_>) -> Option<&'a [u8]>
-    ensures { IsReadOfBytes place.now.elf read.now
-        → IsNameOfPlace place.now.elf place.now.offset (option_copied result) }
+fn name_at<'a>(file: &ReadFile<'a>, place: u64) -> Option<&'a [u8]>
+    ensures { (bytes : List ℕ) → IsFileOf bytes file.now → IsNameOfPlace bytes place (option_copied result) }
 {
-    let addr = address_of_offset(&place.elf, place.offset)?;
-    name_in(read, addr)
+    let addr = file.segments.address_of(place)?;
+    name_in(file, addr)
+}
+
+/// What covers a place in a file, by what was read of the file.
+fn covered_at<'a>(file: &Option<ReadFile<'a>>, place: u64) -> Option<Covered<'a>>
+    ensures { (bytes : List ℕ) → IsReadOfBytes bytes file.now → IsLookedUp bytes place result }
+{
+    match file {
+        Some(file) => Some(Covered {
+            name: name_at(file, place),
+        }),
+        None => None,
+    }
 }
 
 /// What was read of the image under a path.
@@ -127,26 +138,28 @@ fn find_read<'r, 'a>(read: &'r [ReadImage<'a>], path: &[u8]) -> Option<&'r ReadI
     read.iter().find(|image| image.path == path)
 }
 
-/// The name of the function that covers a place in a file. The file is read where it wasn't yet, and then kept. The
-/// one error is want of memory.
-pub(crate) fn name_of<'a>(
+/// What covers a place in the file under a path; none exactly where no image stands under the path, or it is no ELF
+/// file that is accepted. The file is read where it wasn't yet, and then kept. The one error is want of memory.
+pub(crate) fn covered_under<'a>(
     alloc: Global,
     read: &mut Vec<ReadImage<'a>>,
-    images: &Images,
-    place: &FilePlace<'a>,
-) -> Result<Option<&'a [u8]>, AllocError>
+    images: &'a Images,
+    path: &'a [u8],
+    place: u64,
+) -> Result<Option<Covered<'a>>, AllocError>
     requires known { All (IsReadOf images.now) read.old.items }
-    requires under { IsImageUnder images.now place.now.path.now place.now.elf }
     ensures known { All (IsReadOf images.now) read.new.items }
-    ensures name { IfOk result (λ name. IsNameOfPlace place.now.elf place.now.offset (option_copied name)) }
+    ensures covered { IfOk result (IsLookedUpUnder images.now path.now place) }
 {
-    if let Some(image) = find_read(read.as_slice(), place.path) {
-        return Ok(name_at(image, place));
+    if let Some(image) = find_read(read.as_slice(), path) {
+        return Ok(covered_at(&image.file, place));
     }
-    let image = read_image(alloc, place.path, &place.elf)?;
-    let name = name_at(&image, place);
+    let Some(image) = read_under(alloc, images, path)? else {
+        return Ok(None);
+    };
+    let covered = covered_at(&image.file, place);
     read.push(image)?;
-    Ok(name)
+    Ok(covered)
 }
 
 /// A name as text.

@@ -6,6 +6,7 @@ ghost use Rattle.py_process.specs.declared.binary.BinaryInfo.{BinaryInfo as Info
 ghost use Rattle.py_process.specs.declared.binary_error.BinaryError.{BinaryError as Refusal};
 
 use crate::BinaryError;
+use crate::named_image::NamedImage;
 use crate::ranges::section_ranges;
 use crate::symbols::{Place, kept_symbols};
 use elf64_core::Elf64;
@@ -40,15 +41,15 @@ impl BinaryInfo {
 fn read_binary(alloc: Global, bytes: &[u8], addr: u64, size: u64) -> Result<BinaryInfo, BinaryError>
     ensures { MatchResult result (IsInfo bytes.now addr size) (RefusesImage bytes.now addr) }
 {
-    let elf = Elf64::parse(bytes)?;
-    let ranges = section_ranges(alloc, &elf, addr)?;
+    let image = NamedImage::of(alloc, Elf64::parse(bytes)?)?;
+    let ranges = section_ranges(alloc, &image, addr)?;
     let place = Place {
         addr,
         size,
         offset: ranges.offset,
         bss_end: ranges.bss.end,
     };
-    let symbols = kept_symbols(alloc, &elf, &place)?;
+    let symbols = kept_symbols(alloc, image.elf(), &place, bytes.len())?;
     Ok(BinaryInfo {
         symbols,
         bss_addr: ranges.bss.addr,
@@ -76,7 +77,8 @@ fn read_binary(alloc: Global, bytes: &[u8], addr: u64, size: u64) -> Result<Bina
 /// `NotElf64` and `BadHeader` come as from `Elf64::parse` and `Elf64::sections`; `NoBss` where no section
 /// may be the bss; `NoExecutable` where no load segment is executable; `BadBss` where the bss, moved, ends
 /// past 2^64 - 1; and then `BadHeader` where a list of symbols does not lie in the file. The first that holds
-/// comes. Else the one error is want of memory. The map's names are copies.
+/// comes. Else the one error is want of memory, as which names count that together have more bytes than the image:
+/// only names that share their bytes have. The map's names are copies.
 pub fn parse_binary(
     alloc: Global,
     bytes: &[u8],

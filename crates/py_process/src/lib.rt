@@ -12,6 +12,7 @@ mod interpreter;
 mod library;
 mod lock;
 mod lock_error;
+mod named_image;
 mod process_info;
 mod python_version;
 mod ranges;

@@ -6,6 +6,7 @@ ghost use Rattle.py_process.specs.Ranges.{AreRanges, BssIs, bss_range, executabl
 ghost use Rattle.py_process.specs.Ranges.{moved_by, runtime_range, runtime_section};
 
 use crate::BinaryError;
+use crate::named_image::NamedImage;
 use elf64_core::{Elf64, LOAD, Section, Segment};
 use std::alloc::Global;
 
@@ -35,7 +36,7 @@ pub(crate) struct Ranges {
 }
 
 /// Whether a section may be the bss: it has no bits, and is named `.bss` or has no readable name.
-fn may_be_bss(elf: &Elf64<'_>, section: &Section) -> bool
+fn may_be_bss(elf: &NamedImage<'_>, section: &Section) -> bool
     requires { HasSections elf.now }
     ensures { result ≡ may_be_bss elf.now section.now }
 {
@@ -57,7 +58,7 @@ fn larger(best: Option<Section>, section: &Section) -> Section
 }
 
 /// The section of greatest size that may be the bss, the last on a tie.
-fn bss_section(elf: &Elf64<'_>, sections: &[Section]) -> Option<Section>
+fn bss_section(elf: &NamedImage<'_>, sections: &[Section]) -> Option<Section>
     requires { HasSections elf.now }
     ensures { BssIs elf.now sections.now result }
 {
@@ -105,7 +106,7 @@ fn bss_range(bss: &Section, offset: u64) -> Option<BssRange>
 }
 
 /// Whether a section has the runtime's name.
-fn is_runtime(elf: &Elf64<'_>, section: &Section) -> bool
+fn is_runtime(elf: &NamedImage<'_>, section: &Section) -> bool
     requires { HasSections elf.now }
     ensures { result ≡ is_runtime elf.now section.now }
 {
@@ -116,7 +117,7 @@ fn is_runtime(elf: &Elf64<'_>, section: &Section) -> bool
 }
 
 /// The first section of the runtime's name.
-fn runtime_section(elf: &Elf64<'_>, sections: &[Section]) -> Option<Section>
+fn runtime_section(elf: &NamedImage<'_>, sections: &[Section]) -> Option<Section>
     requires held { HasSections elf.now }
     requires whole { sections.now ≡ sections_of elf.now }
     ensures { result ≡ runtime_section elf.now }
@@ -145,16 +146,16 @@ fn runtime_range(section: Option<Section>, offset: u64) -> (u64, u64)
 /// The ranges of an image that is mapped at an address, or the first refusal.
 pub(crate) fn section_ranges(
     alloc: Global,
-    elf: &Elf64<'_>,
+    elf: &NamedImage<'_>,
     addr: u64,
 ) -> Result<Ranges, BinaryError>
     ensures { MatchResult result (AreRanges elf.now addr) (RefusesRanges elf.now addr) }
 {
-    let sections: Vec<Section> = elf.sections()?.collect(alloc)?;
+    let sections: Vec<Section> = elf.elf().sections()?.collect(alloc)?;
     let Some(bss) = bss_section(elf, &sections) else {
         return Err(BinaryError::NoBss);
     };
-    let Some(segment) = executable(elf) else {
+    let Some(segment) = executable(elf.elf()) else {
         return Err(BinaryError::NoExecutable);
     };
     let offset = moved_by(addr, &segment);

@@ -60,11 +60,26 @@ fn is_kept(place: &Place, symbol: &Symbol<'_>) -> bool
     }
 }
 
-/// Adds the symbols that are kept to a map, later ones in the place of earlier ones of their names.
+/// A copy of a name, for which so much room is left. Want of memory is the one error; a lack of room counts as it.
+fn copy_within(alloc: Global, name: &[u8], room: &mut usize) -> Result<Vec<u8>, AllocError>
+    ensures { IfOk result (λ copy. copy.items ≡ name.now) }
+{
+    match room.checked_sub(name.len()) {
+        Some(left) => {
+            *room = left;
+            Vec::from_slice(alloc, name)
+        }
+        None => Err(AllocError),
+    }
+}
+
+/// Adds the symbols that are kept to a map, later ones in the place of earlier ones of their names. The names have at
+/// most so many bytes together as there is room for: more count as want of memory.
 pub(crate) fn add_symbols(
     alloc: Global,
     symbols: &[Symbol<'_>],
     place: &Place,
+    room: &mut usize,
     kept: &mut BTreeMap<Vec<u8>, u64>,
 ) -> Result<(), AllocError>
     ensures { OnOk result ((name : List ℕ) → address_in kept.new name
@@ -74,14 +89,15 @@ pub(crate) fn add_symbols(
         if let Some(name) = symbol.name {
             if is_kept(place, symbol) {
                 let addr = symbol.value + place.offset;
-                kept.insert(Vec::from_slice(alloc, name)?, addr)?;
+                kept.insert(copy_within(alloc, name, room)?, addr)?;
             }
         }
     }
     Ok(())
 }
 
-/// The symbols of an image that are kept, by their names.
+/// The symbols of an image that are kept, by their names, which have at most so many bytes together as there is room
+/// for.
 ///
 /// `BadHeader` comes exactly where one of its two lists of symbols can't be read. Else the one error is want of
 /// memory.
@@ -89,6 +105,7 @@ pub(crate) fn kept_symbols(
     alloc: Global,
     elf: &Elf64<'_>,
     place: &Place,
+    room: usize,
 ) -> Result<BTreeMap<Vec<u8>, u64>, BinaryError>
     ensures symbols { IfOk result (HasAddresses elf.now place.now) }
     ensures held { IfOk result (λ kept. HasBoth elf.now) }
@@ -97,8 +114,9 @@ pub(crate) fn kept_symbols(
 {
     let plain = elf.symbols(alloc, SymbolKind::Plain)?;
     let dynamic = elf.symbols(alloc, SymbolKind::Dynamic)?;
+    let mut room = room;
     let mut kept = BTreeMap::new(alloc);
-    add_symbols(alloc, &plain, place, &mut kept)?;
-    add_symbols(alloc, &dynamic, place, &mut kept)?;
+    add_symbols(alloc, &plain, place, &mut room, &mut kept)?;
+    add_symbols(alloc, &dynamic, place, &mut room, &mut kept)?;
     Ok(kept)
 }

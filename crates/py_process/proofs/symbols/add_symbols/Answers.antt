@@ -6,7 +6,7 @@ use Rattle.py_process.specs.Ranges.{is_section_named}
 use Rattle.py_process.specs.SymbolMap.{is_kept}
 use Rattle.py_process.proofs.SymbolMaps.{Says, skipped, stored, taken}
 use Rattle.py_process.proofs.symbols.add_symbols.Goals as goal
-use Rattle.py_process.proofs.symbols.add_symbols.Goals.{in-Some+then-is_kept+in_ok-from_slice+in_ok-insert}
+use Rattle.py_process.proofs.symbols.add_symbols.Goals.{in-Some+then-is_kept+in_ok-copy_within+in_ok-insert}
 use Rattle.py_process.proofs.symbols.add_symbols.Goals.{in-Some+else-is_kept, in_default}
 
 abbrev no_symbol : Symbol
@@ -26,10 +26,10 @@ loop-symbol-preserved c =
     let x = symbol_entry_of (get_or xs i no_symbol) in
     let more = taken xs i no_symbol c.loop-symbol-test.true in
     elim c.match-symbol.branch [
-      | in-Some+then-is_kept+in_ok-from_slice+in_ok-insert w ↦
+      | in-Some+then-is_kept+in_ok-copy_within+in_ok-insert w ↦
           subst (λ l. Says place l base c.match-symbol.kept) (sym more) (subst (λ kept. Says place (es ++ x ∷ []) base kept) (sym w.kept-is)
-          (stored place es x base c.loop-symbol.kept w.insert.new.self w.in_ok-from_slice.field-0 w.in-Some.name.now
-          (ap option_copied w.in-Some.is) w.in_ok-from_slice.ensures.items (sym w.is_kept.ensures ∙ w.if-is_kept.true) w.in_ok-insert.ensures.updates c.loop-symbol.invariant))
+          (stored place es x base c.loop-symbol.kept w.insert.new.self w.in_ok-copy_within.field-0 w.in-Some.name.now
+          (ap option_copied w.in-Some.is) w.in_ok-copy_within.ensures (sym w.is_kept.ensures ∙ w.if-is_kept.true) w.in_ok-insert.ensures.updates c.loop-symbol.invariant))
       | in-Some+else-is_kept w ↦
           subst (λ l. Says place l base c.match-symbol.kept) (sym more) (subst (λ kept. Says place (es ++ x ∷ []) base kept) (sym w.kept-is)
           (skipped place es x base c.loop-symbol.kept (λ name. ap (λ b. b && is_section_named name x.name) (sym w.is_kept.ensures ∙ w.if-is_kept.false)) c.loop-symbol.invariant))
