@@ -1,14 +1,13 @@
 -- The segments of a file by the places of their bytes in it.
-use Rattle.std.proofs.Common.{◌≡◌, ℕ, zero, suc, ◌+◌, ◌-◌, ◌^◌, ◌<◌, ◌≤◌, Bool, true, false, cond, List, [], ◌∷◌, ◌++◌}
-use Rattle.std.proofs.Common.{length, get_or, take, drop, map, refl, sym, ◌∙◌, ap, subst, arith, Option, Some, None}
+use Rattle.std.proofs.Common.{◌≡◌, ℕ, suc, ◌+◌, ◌-◌, ◌^◌, ◌<◌, ◌≤◌, Bool, true, false, cond, List, [], ◌∷◌}
+use Rattle.std.proofs.Common.{refl, sym, ◌∙◌, ap, subst, arith, Some, None}
 use Rattle.std.specs.Prelude.{option_map, slice_get}
 use Rattle.std.specs.List.{enumerate_from, find}
 use Rattle.std.proofs.lemmas.Bool.Decides.{nat_tests}
 use Rattle.elf64_core.specs.declared.segment.Segment.{Segment}
 use Rattle.piece_table.specs.Overlays.{spans}
-use Rattle.piece_table.specs.Places.{IsBounded}
 use Rattle.covering_symbols.specs.Covering.{holds_place}
-use Rattle.covering_symbols.specs.SegmentTables.{bytes_held, range_of_segment, segment_ranges}
+use Rattle.covering_symbols.specs.SegmentTables.{range_of_segment}
 
 abbrev pub Numbered : Type 0
 Numbered = ℕ × Segment
@@ -18,7 +17,8 @@ abbrev pub holds_at : ℕ → Numbered → Bool
 holds_at place n = holds_place place n.1
 
 -- below 2^64 - 1 a segment's bytes hold a place where its range does
-pub held_spans : (place : ℕ) → place < 2 ^ 64 - 1 → (n : Numbered) → spans place (range_of_segment n).range ≡ holds_at place n
+pub held_spans : (place : ℕ) → place < 2 ^ 64 - 1 → (n : Numbered)
+    → spans place (range_of_segment n).range ≡ holds_at place n
 held_spans place h n = grind (arith, nat_tests)
 
 pub less_nothing : (n : ℕ) → n ≡ n - 0
@@ -33,10 +33,12 @@ module _ (p : Segment → Bool) where
 
   -- the first one that passes, by whether the first one of all does
   more : (k : ℕ) (s : Segment) (segments : List Segment) (b : Bool) → p s ≡ b
-      → find passes (enumerate_from k (s ∷ segments)) ≡ cond b (Some (k, s)) (find passes (enumerate_from (k + 1) segments))
+      → find passes (enumerate_from k (s ∷ segments))
+          ≡ cond b (Some (k, s)) (find passes (enumerate_from (k + 1) segments))
   more k s segments b is = ap (λ c. cond c (Some (k, s)) (find passes (enumerate_from (k + 1) segments))) is
 
-  whole : (s : Segment) (segments : List Segment) (b : Bool) → p s ≡ b → find p (s ∷ segments) ≡ cond b (Some s) (find p segments)
+  whole : (s : Segment) (segments : List Segment) (b : Bool) → p s ≡ b
+      → find p (s ∷ segments) ≡ cond b (Some s) (find p segments)
   whole s segments b is = ap (λ c. cond c (Some s) (find p segments)) is
 
   abbrev AtNumber : ℕ → List Segment → ℕ → Type 0
@@ -64,8 +66,10 @@ module _ (p : Segment → Bool) where
   abbrev AtNone : ℕ → List Segment → Type 0
   AtNone k segments = None ≡ option_map number (find passes (enumerate_from k segments)) → None ≡ find p segments
 
-  none_more : (k : ℕ) (s : Segment) (segments : List Segment) → AtNone (k + 1) segments → (b : Bool) → p s ≡ b → AtNone k (s ∷ segments)
-  none_more k s segments rest true is e = let no : None ≡ Some k = e ∙ ap (option_map number) (more k s segments true is) in cc
+  none_more : (k : ℕ) (s : Segment) (segments : List Segment) → AtNone (k + 1) segments → (b : Bool) → p s ≡ b
+      → AtNone k (s ∷ segments)
+  none_more k s segments rest true is e =
+      let no : None ≡ Some k = e ∙ ap (option_map number) (more k s segments true is) in cc
   none_more k s segments rest false is e =
       rest (e ∙ ap (option_map number) (more k s segments false is)) ∙ sym (whole s segments false is)
 

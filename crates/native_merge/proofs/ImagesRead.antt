@@ -3,7 +3,7 @@ use Rattle.std.proofs.Common.{◌≡◌, ◌⊎◌, ℕ, ◌<◌, Bool, true, fa
 use Rattle.std.proofs.Common.{Some, None, refl, sym, ◌∙◌, ap, subst, arith, inl, inr}
 use Rattle.std.specs.List.{find}
 use Rattle.std.proofs.lemmas.List.Elements.{All-head, All-tail, All-push}
-use Rattle.elf64_core.specs.Header.{segments_of}
+use Rattle.elf64_core.specs.Header.{IsAccepted, segments_of}
 use Rattle.elf64_core.specs.Symbols.{SymbolEntry}
 use Rattle.elf64_core.specs.declared.symbol.SymbolKind.{SymbolKind}
 use Rattle.image_memory.specs.Images.{Pushed, first_under}
@@ -12,9 +12,9 @@ use Rattle.covering_symbols.specs.Covering.{AreImageSymbols, AreSymbolsOf, Cover
 use Rattle.covering_symbols.specs.Covering.{symbol_name_at}
 use Rattle.native_merge.specs.declared.read_images.Covered.{Covered}
 use Rattle.native_merge.specs.declared.read_images.ReadImage.{ReadImage}
-use Rattle.native_merge.specs.ImageSymbols.{FilesMapped, IsNameAt, image_frame, image_seen}
+use Rattle.native_merge.specs.ImageSymbols.{FilesMapped, IsAtFile, IsNameAt, image_frame, image_seen, normal_place}
 use Rattle.native_merge.specs.ReadImages.{IsLookedUp, IsLookedUpUnder, IsReadOf, IsReadOfBytes, is_read_under}
-use Rattle.native_merge.specs.ReadImages.IsLookedUpUnder.{InImage}
+use Rattle.native_merge.specs.ReadImages.IsLookedUpUnder.{NoImage, InImage}
 use Rattle.native_merge.specs.Symbols.{AnswersOnce}
 use Rattle.std.proofs.lemmas.Slice.Eq.{bytes_eq-Decides}
 
@@ -55,6 +55,37 @@ read_answers images path place r covered is looked =
 pub read_more : (images : Pushed) (reads new : List ReadImage) (r : ReadImage) → IsReadOf images r → All (IsReadOf images) reads
     → new ≡ reads ++ r ∷ [] → All (IsReadOf images) new
 read_more images reads new r one a n = subst (All (IsReadOf images)) (sym n) (All-push (IsReadOf images) reads r a one)
+
+-- ---- where no file is
+
+abbrev pair : List ℕ → ℕ → List ℕ × ℕ
+pair path place = (path, place)
+
+-- an address that is normalized to no place lies in no file
+pub no_place : (files : FilesMapped) (addr : ℕ) → None ≡ normal_place files.entries addr → (path : List ℕ) (place : ℕ) (bytes : List ℕ)
+    → IsAtFile files addr path place bytes → ⊥
+no_place files addr none path place bytes h = let both : None ≡ Some (path, place) = none ∙ h.at in cc
+
+-- the same of one at a place where nothing is looked up
+pub no_file : (files : FilesMapped) (addr : ℕ) (at : List ℕ) (offset : ℕ) → Some (at, offset) ≡ normal_place files.entries addr
+    → IsLookedUpUnder files.images at offset None → (path : List ℕ) (place : ℕ) (bytes : List ℕ) → IsAtFile files addr path place bytes → ⊥
+no_file files addr at offset is looked path place bytes h = by looked
+  where
+    places : Some (pair at offset) ≡ Some (pair path place)
+    places = is ∙ h.at
+
+    same : at ≡ path
+    same = ap (λ (p : List ℕ × ℕ). p.0) (let both : pair at offset ≡ pair path place = cc in both)
+
+    under : first_under at files.images ≡ Some h.image
+    under = ap (λ p. first_under p files.images) same ∙ h.under
+
+    by : IsLookedUpUnder files.images at offset None → ⊥
+    by (NoImage none e) = let both : None ≡ Some h.image = sym none ∙ under in cc
+    by (InImage image is not) =
+        let both : Some image ≡ Some h.image = sym is ∙ under in
+        let one : image ≡ h.image = cc in
+        not (subst IsAccepted (h.shows ∙ ap shown_bytes (sym one)) h.accepted)
 
 -- ---- one answer
 
@@ -98,9 +129,6 @@ name-once bytes (Some a) x y h k =
     let symbols : h.0 ≡ k.0 = image_symbols-once bytes h.0 k.0 h.1 k.1 in
     let found : h.2.0 ≡ k.2.0 = covering-once k.0 a h.2.0 k.2.0 (subst (λ s. Covering s a h.2.0) symbols h.2.1) k.2.1 in
     h.2.2 ∙ ap (λ s. symbol_name_at s h.2.0) symbols ∙ ap (λ f. symbol_name_at k.0 f) found ∙ sym k.2.2
-
-abbrev pair : List ℕ → ℕ → List ℕ × ℕ
-pair path place = (path, place)
 
 -- an address has one answer
 pub image_once : (files : FilesMapped) → AnswersOnce (image_seen files)

@@ -10,7 +10,7 @@ use Rattle.covering_symbols.proofs.function_table.FunctionTable.find_below.Goals
 pub returns-in_err-piece : goal.returns-in_err-piece
 returns-in_err-piece c = c.from_residual.ensures
     ∙ found_none range_of_key (key_covers c.args.addr) c.args.addr (covers_spans c.args.addr c.requires)
-        c.self.inside.table c.self.inside.keys.items c.self.invariant (c.in_err-piece.ensures.none refl)
+    c.self.inside.table c.self.inside.keys.items c.self.invariant (c.in_err-piece.ensures.none refl)
     ∙ ap (λ keys. option_map key_number (find (key_covers c.args.addr) keys)) c.self.view_is
 
 pub returns : goal.returns
