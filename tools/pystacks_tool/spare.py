@@ -13,7 +13,7 @@ def spare_folder() -> str:
 
 def spare_file() -> IO[bytes]:
     """A new one, in the folder that TMPDIR names or in /tmp. Where no file without a name can be made there, the standard library finds a place: it is
-    imported then alone, since it takes a tenth of a usual run."""
+    imported then alone, since that import costs a run that doesn't need it."""
     try:
         return open(os.open(os.environ.get("TMPDIR") or "/tmp", os.O_TMPFILE | os.O_RDWR | os.O_EXCL | os.O_CLOEXEC, 0o600), "w+b")
     except OSError:
