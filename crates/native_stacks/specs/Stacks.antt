@@ -9,6 +9,7 @@ use Rattle.thread_registers.specs.Threads.{ThreadShown, thread_shown as known_sh
 use Rattle.thread_registers.specs.declared.threads.PythonThread.{PythonThread}
 use Rattle.thread_registers.specs.declared.threads.ThreadRegisters.{ThreadRegisters}
 use Rattle.native_stacks.specs.declared.stacks.NativeStacks.{NativeStacks}
+use Rattle.native_frames.specs.Limits.{code_bits}
 use Rattle.native_frames.specs.Mapped.{AreMapped}
 use Rattle.native_stacks.specs.Threads.{AreThreads, NativeShown, thread_shown}
 
@@ -22,7 +23,8 @@ pub record AreNativeStacks (core : List ℕ) (notes : List Noted) (images : Push
     (pythons : List PythonThread) (strict : Bool) (stacks : StacksShown) : Type 0 where
   pub mappings : List Mapping
   pub mapped : AreMapped core notes images stacks.files mappings
-  pub threads : AreThreads (machine_of core) pythons mappings m strict notes true 4194304 stacks.threads
+  pub threads : AreThreads (machine_of core) pythons mappings (code_bits (machine_of core) notes) m strict notes true
+      4194304 stacks.threads
 
 -- ---- as they are read
 
