@@ -1,5 +1,4 @@
 pub mod Bases
-pub mod Chains
 pub mod Escapes
 pub mod Keeping
 pub mod Names

@@ -74,8 +74,14 @@ guess_text by.Epilogue = codes "epilogue"
 guess_text by.FramePointer = codes "frame pointer"
 guess_text by.Jump = codes "jumped to no code"
 
+unfoldable pub guess_word : List ℕ
+guess_word = codes "    ... guess: "
+
+abbrev pub guess_line : Mark → List ℕ
+guess_line mark = guess_word ++ (guess_text mark ++ codes "\n")
+
 abbrev pub lead_text : Option Mark → List ℕ
-lead_text (Some mark) = codes "    ... what follows is a guess: " ++ (guess_text mark ++ codes "\n")
+lead_text (Some mark) = guess_line mark
 lead_text None = []
 
 -- the line of a frame

@@ -1,7 +1,8 @@
 //! The lines of a native stack.
 ghost use Rattle.std.specs.Prelude.{◌≡◌, ◌<◌, ◌++◌, OnOk, length, slice_get, string_bytes};
 ghost use Rattle.native_frames.specs.Text.{base_behind, base_name, end_text, file_text, first_frames, frame_text, frames_text};
-ghost use Rattle.native_frames.specs.Text.{found_text, function_text, guess_text, last_frames, lead_text, limit_text, mark_text, more_text};
+ghost use Rattle.native_frames.specs.Text.{found_text, function_text, guess_line, guess_text, guess_word, last_frames};
+ghost use Rattle.native_frames.specs.Text.{lead_text, limit_text, mark_text, more_text};
 ghost use Rattle.native_frames.specs.Text.{no_file_text, place_text, refusal_text, stack_text, where_text};
 ghost use Rattle.native_frames.specs.Text.{frames_between, name_text};
 ghost use Rattle.native_frames.specs.Threads.{stack_shown};
@@ -145,15 +146,29 @@ pub(crate) fn guess_text(mark: Mark) -> &'static str
     }
 }
 
+/// How the line of a guess begins.
+#[tactic(auto, unfolding(crate::specs::Text::guess_word))]
+fn push_guess_word(text: &mut String) -> Result<(), AllocError>
+    ensures { OnOk result (string_bytes text.new ≡ string_bytes text.old ++ guess_word) }
+{
+    text.push_str("    ... guess: ")
+}
+
 /// The line before frames that follow from a guess.
+fn push_guess(text: &mut String, mark: Mark) -> Result<(), AllocError>
+    ensures { OnOk result (string_bytes text.new ≡ string_bytes text.old ++ guess_line mark) }
+{
+    push_guess_word(text)?;
+    text.push_str(guess_text(mark))?;
+    text.push_str("\n")
+}
+
+/// The same, if they do.
 fn push_lead(text: &mut String, guess: Option<Mark>) -> Result<(), AllocError>
     ensures { OnOk result (string_bytes text.new ≡ string_bytes text.old ++ lead_text guess) }
 {
     match guess {
-        Some(mark) => {
-            let by = guess_text(mark);
-            write!(text, "    ... what follows is a guess: {by}\n")
-        }
+        Some(mark) => push_guess(text, mark),
         None => Ok(()),
     }
 }

@@ -539,7 +539,7 @@ class Native(Case):
         lines = self.shown(*stacks, words=["--native"], missing="/opt/lib(x).so")
         self.assertEqual(lines[lines.index("    <module> (a.py:9)") + 1:], [
             "    Native, thread 99:", "    memset+0x46 (libc.so.6)", "    0x1000 (libffi.so.8.1.2)", "    fill+0x3 (fast.so)",
-            "    call+0x46 (libpython3.11.so.1.0)", "    ... what follows is a guess: frame pointer", "    f+0x46 (fast.so) <frame pointer> <guess>",
+            "    call+0x46 (libpython3.11.so.1.0)", "    ... guess: frame pointer", "    f+0x46 (fast.so) <frame pointer> <guess>",
             "    ... unreadable at 0x8", "Native thread 7",
             "    read+0x46 (libc.so.6)", "    0x1000 (libc.so.6) <signal>", "    ... 7 more frames", "    main+0x46 (libpython3.11.so.1.0)",
             "    ... 0x99 is in a file that isn't at hand (lib(x).so)", "Native thread 8: no registers"])

@@ -60,7 +60,7 @@ def own_lines(stack: NativeStack) -> Iterator[str]:
     """The lines of a native stack."""
     yield from part_lines(stack.frames, stack.between, stack.last, stack.end)
     if stack.guess and stack.guessed:
-        yield f"    ... what follows is a guess: {in_line(stack.guess)}"
+        yield f"    ... guess: {in_line(stack.guess)}"
     yield from part_lines(stack.guessed, stack.guessed_between, (), stack.guessed_end)
 
 
