@@ -1,10 +1,11 @@
 //! The stack of one thread.
-ghost use Rattle.std.specs.Prelude.{◌≡◌, ◌-◌, IfOk, length};
+ghost use Rattle.std.specs.Prelude.{◌≡◌, ◌-◌, IfOk, Option, length};
 ghost use Rattle.process_memory.specs.Seen.{Reading};
-ghost use Rattle.core_unwind.specs.Stacks.{chain_of};
+ghost use Rattle.core_unwind.specs.Stacks.{AllAscend, chain_of};
 ghost use Rattle.native_frames.specs.Kept.{AreKept};
 ghost use Rattle.native_frames.specs.Limits.{stack_most, thread_most};
 ghost use Rattle.native_frames.specs.Threads.{IsGuessUnless, IsGuessedStack, IsNamedStack, IsThreadStack, StackPair};
+ghost use Rattle.native_frames.specs.Threads.{StackShown};
 ghost use Rattle.native_frames.specs.Threads.{missing_at, pair_of, stack_shown, stack_shown_if};
 
 use crate::limits::limit_of;
@@ -163,9 +164,8 @@ fn left_after(left: usize, chain: &NativeStack) -> usize
     left.saturating_sub(chain.frames.len())
 }
 
-/// The stack of a thread that stands at a state, and what follows that by a guess, unless `strict`. `code_bits` are those
-/// of an address in a signed return address.
-pub fn stack_parts<'a, P: ProcessMemory>(
+/// See `stack_parts`.
+fn read_parts<'a, P: ProcessMemory>(
     alloc: Global,
     process: &mut P,
     mappings: &CodeMap<'a>,
@@ -197,4 +197,32 @@ pub fn stack_parts<'a, P: ProcessMemory>(
         stack: followed.told,
         guessed,
     })
+}
+
+/// The stack of a thread that stands at a state, and what follows that by a guess, unless `strict`. `code_bits` are those
+/// of an address in a signed return address. What is right is the answer, where the tables of the files ascend, want of
+/// memory aside.
+pub fn stack_parts<'a, P: ProcessMemory>(
+    alloc: Global,
+    process: &mut P,
+    mappings: &CodeMap<'a>,
+    kept: &mut Kept<'a>,
+    machine: Machine,
+    code_bits: u64,
+    strict: bool,
+    left: usize,
+    first: &State,
+) -> Result<StackParts, AllocError>
+    requires kept { AreKept mappings.now kept.old }
+    ensures is { Reading thread_most (P.seen process.old) (P.seen process.new) (λ m. IfOk result (λ parts.
+        StackPair mappings.now machine code_bits m strict left first.now (pair_of parts))) }
+    ensures only { AllAscend mappings.now → Reading thread_most (P.seen process.old) (P.seen process.new)
+        (λ m. (other : StackShown × Option StackShown)
+        → StackPair mappings.now machine code_bits m strict left first.now other
+        → IfOk result (λ parts. pair_of parts ≡ other)) }
+    ensures kept { AreKept mappings.now kept.new }
+{
+    read_parts(
+        alloc, process, mappings, kept, machine, code_bits, strict, left, first,
+    )
 }

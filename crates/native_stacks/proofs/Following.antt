@@ -10,10 +10,13 @@ use Rattle.elf64_core.specs.Symbols.{SymbolEntry}
 use Rattle.native_frames.specs.Kept.{AreKept}
 use Rattle.elf64_core.specs.declared.header.Machine.{Machine}
 use Rattle.process_memory.specs.Memory.{Memory}
+use Rattle.frame_rows.specs.declared.row.Machine.{Machine as FrameMachine}
 use Rattle.core_unwind.specs.declared.place.Mapping.{Mapping}
+use Rattle.core_unwind.specs.declared.state.State.{State}
+use Rattle.native_frames.specs.Threads.{StackPair, StackShown}
 use Rattle.thread_registers.specs.Threads.{ThreadShown, thread_noted}
 use Rattle.thread_registers.specs.declared.threads.PythonThread.{PythonThread}
-use Rattle.native_stacks.specs.Threads.{AreThreads, IsThread, IsThreadOf, NativeShown, first_after}
+use Rattle.native_stacks.specs.Threads.{AreThreads, HasStacks, IsThread, IsThreadOf, NativeShown, first_after}
 use Rattle.native_stacks.specs.Threads.{left_after, left_behind}
 
 module _ (machine : Machine) (pythons : List PythonThread) (mappings : List Mapping) (code_bits : ℕ)
@@ -80,3 +83,11 @@ pub kept_none : (mappings : List Mapping) (kept : BTreeMap ℕ (List SymbolEntry
 kept_none mappings kept e = λ file symbols is.
     let none : get nat_cmp kept file ≡ None = ap (λ es. lookup (is_at (nat_cmp file)) es) e in
     let no : ◌≡◌ {A = Option (List SymbolEntry)} None (Some symbols) = sym none ∙ is in absurd cc
+
+-- the stacks of a thread that stands somewhere
+pub halves_are : (mappings : List Mapping) (code_bits : ℕ) (m : Memory) (strict : Bool) (left : ℕ)
+    (standing : Option (FrameMachine × State)) (machine : FrameMachine) (state : State) (stack : StackShown)
+    (guessed : Option StackShown) → standing ≡ Some (machine, state)
+    → StackPair mappings machine code_bits m strict left state (stack, guessed)
+    → HasStacks mappings code_bits m strict left standing (Some stack) guessed
+halves_are mappings code_bits m strict left standing machine state stack guessed e p = rw e ((stack, refl, p))

@@ -6,7 +6,7 @@ ghost use Rattle.native_frames.specs.Kept.{AreKept};
 ghost use Rattle.native_frames.specs.Limits.{frame_machine, most_reads, thread_most};
 ghost use Rattle.native_frames.specs.Threads.{stack_shown_if};
 ghost use Rattle.thread_registers.specs.Threads.{thread_noted, thread_shown as known_shown};
-ghost use Rattle.native_stacks.specs.Stacks.{AreNativeStacks, known_shown_if, stacks_shown};
+ghost use Rattle.native_stacks.specs.Stacks.{AreNativeStacks, IsOneAnswer, known_shown_if, stacks_shown};
 ghost use Rattle.native_stacks.specs.Threads.{AreThreads, HasStacks, IsThread, IsThreadOf, count_of, first_after};
 ghost use Rattle.native_stacks.specs.Threads.{is_crash, left_after, state_by, thread_shown, thread_shown_if};
 
@@ -240,6 +240,29 @@ fn threads_of<'a, P: ProcessMemory>(
     Ok(threads)
 }
 
+/// See `read_native_stacks`.
+fn read_stacks<P: ProcessMemory>(
+    alloc: Global,
+    core: &CoreDump,
+    notes: &[Note<'_>],
+    images: &Images,
+    process: &mut P,
+    pythons: &[PythonThread],
+    strict: bool,
+) -> Result<NativeStacks, AllocError>
+    ensures { Reading (most_reads (length notes.now)) (P.seen process.old) (P.seen process.new)
+        (λ m. IfOk result (λ stacks. AreNativeStacks core.now (map noted notes.now) images.now m pythons.now strict
+        (stacks_shown stacks))) }
+{
+    let Mapped { files, mappings } = mapped_files(alloc, core, notes, images)?;
+    let machine = core.machine();
+    let bits = code_bits(machine, notes);
+    let threads = threads_of(
+        alloc, process, &mappings, machine, notes, pythons, bits, strict,
+    )?;
+    Ok(NativeStacks { files, threads })
+}
+
 /// The native stacks of the threads of a core: one for each status record among its notes in table order, by the files
 /// of its file tables and the vdso.
 ///
@@ -249,7 +272,8 @@ fn threads_of<'a, P: ProcessMemory>(
 /// it (`covering_symbols`). A thread has at most 2^20 frames, and behind the 2^22nd of the process each thread its
 /// newest one. Memory is read at most 8549 times for a frame.
 ///
-/// The one error is want of memory, as which a file table counts that is none, which those of a core are not.
+/// What is right over the files so mapped is the answer, where their tables ascend. The one error is want of memory, as
+/// which a file table counts that is none, which those of a core are not.
 pub fn read_native_stacks<P: ProcessMemory>(
     alloc: Global,
     core: &CoreDump,
@@ -262,12 +286,9 @@ pub fn read_native_stacks<P: ProcessMemory>(
     ensures right { Reading (most_reads (length notes.now)) (P.seen process.old) (P.seen process.new)
         (λ m. IfOk result (λ stacks. AreNativeStacks core.now (map noted notes.now) images.now m pythons.now strict
         (stacks_shown stacks))) }
+    ensures only { Reading (most_reads (length notes.now)) (P.seen process.old) (P.seen process.new)
+        (λ m. IfOk result (λ stacks. IsOneAnswer core.now (map noted notes.now) images.now m pythons.now strict
+        (stacks_shown stacks))) }
 {
-    let Mapped { files, mappings } = mapped_files(alloc, core, notes, images)?;
-    let machine = core.machine();
-    let bits = code_bits(machine, notes);
-    let threads = threads_of(
-        alloc, process, &mappings, machine, notes, pythons, bits, strict,
-    )?;
-    Ok(NativeStacks { files, threads })
+    read_stacks(alloc, core, notes, images, process, pythons, strict)
 }
