@@ -1,5 +1,5 @@
 -- The threads that are told are one answer alone, where tables ascend.
-use Rattle.std.proofs.Common.{◌≡◌, ◌∙◌, ℕ, Bool, true, false, List, [], ◌∷◌, map, refl, sym, ap, subst}
+use Rattle.std.proofs.Common.{◌≡◌, ◌∙◌, ℕ, Bool, true, false, List, [], ◌∷◌, sym, ap, subst}
 use Rattle.std.specs.Prelude.{Option, Some, None, Result, Ok, Err, IfOk}
 use Rattle.elf64_core.specs.Header.{machine_of}
 use Rattle.elf64_core.specs.Notes.{Noted}
@@ -11,13 +11,13 @@ use Rattle.core_unwind.specs.declared.place.Mapping.{Mapping}
 use Rattle.core_unwind.specs.declared.state.State.{State}
 use Rattle.core_unwind.specs.Stacks.{AllAscend}
 use Rattle.native_frames.specs.Limits.{code_bits, frame_machine}
-use Rattle.native_frames.specs.Threads.{StackPair, StackShown}
+use Rattle.native_frames.specs.Threads.{StackShown}
 use Rattle.native_frames.proofs.Once.{pair_once}
 use Rattle.thread_registers.specs.Threads.{ThreadShown, thread_noted}
 use Rattle.thread_registers.specs.declared.threads.PythonThread.{PythonThread}
 use Rattle.thread_registers.specs.declared.threads.Whose.{Whose}
 use Rattle.native_stacks.specs.declared.stacks.NativeStacks.{NativeStacks}
-use Rattle.native_stacks.specs.Stacks.{AreNativeStacks, IsOneAnswer, StacksShown, stacks_shown}
+use Rattle.native_stacks.specs.Stacks.{AreNativeStacks, IsOneAnswer, stacks_shown}
 use Rattle.native_stacks.specs.Threads.{AreThreads, HasStacks, IsThread, NativeShown, ThreadThen, left_behind, state_by}
 
 module _ (machine : ElfMachine) (pythons : List PythonThread) (mappings : List Mapping) (bits : ℕ) (m : Memory)
@@ -28,9 +28,10 @@ module _ (machine : ElfMachine) (pythons : List PythonThread) (mappings : List M
   halves_once left None a b c d p q = (p.0 ∙ sym q.0, p.1 ∙ sym q.1)
   halves_once left (Some s) a b c d p q =
       let same : (p.0, b) ≡ (q.0, d) =
-      pair_once mappings m ascends s.0 bits strict left s.1 (p.0, b) (q.0, d) p.2 q.2 in
-      (p.1 ∙ ap (λ (t : StackShown × Option StackShown). Some t.0) same ∙ sym q.1,
-      ap (λ (t : StackShown × Option StackShown). t.1) same)
+      pair_once mappings m ascends s.0 bits strict left s.1 (p.0, b) (q.0, d) p.2 q.2 in (
+        p.1 ∙ ap (λ (t : StackShown × Option StackShown). Some t.0) same ∙ sym q.1,
+        ap (λ (t : StackShown × Option StackShown). t.1) same,
+      )
 
   thread_once : (is_first : Bool) (left : ℕ) (known : ThreadShown) (status : List ℕ) (x y : NativeShown)
       → IsThread machine mappings bits m strict is_first left known status x
@@ -38,16 +39,41 @@ module _ (machine : ElfMachine) (pythons : List PythonThread) (mappings : List M
   thread_once is_first left known status x y p q =
       let halves = halves_once left (state_by (frame_machine machine) status) x.stack x.guessed y.stack y.guessed
       p.stacks q.stacks in
-      ap (λ (n : ℕ). record { system_id = n; whose = x.whose; is_crashed = x.is_crashed; stack = x.stack;
-      guessed = x.guessed }) (p.id ∙ sym q.id)
-      ∙ ap (λ (w : Whose). record { system_id = y.system_id; whose = w; is_crashed = x.is_crashed; stack = x.stack;
-      guessed = x.guessed }) (p.whose ∙ sym q.whose)
-      ∙ ap (λ (b : Bool). record { system_id = y.system_id; whose = y.whose; is_crashed = b; stack = x.stack;
-      guessed = x.guessed }) (p.crashed ∙ sym q.crashed)
-      ∙ ap (λ (s : Option StackShown). record { system_id = y.system_id; whose = y.whose; is_crashed = y.is_crashed;
-      stack = s; guessed = x.guessed }) halves.0
-      ∙ ap (λ (s : Option StackShown). record { system_id = y.system_id; whose = y.whose; is_crashed = y.is_crashed;
-      stack = y.stack; guessed = s }) halves.1
+      ap (λ (n : ℕ). record {
+        system_id = n;
+        whose = x.whose;
+        is_crashed = x.is_crashed;
+        stack = x.stack;
+        guessed = x.guessed;
+      }) (p.id ∙ sym q.id)
+      ∙ ap (λ (w : Whose). record {
+        system_id = y.system_id;
+        whose = w;
+        is_crashed = x.is_crashed;
+        stack = x.stack;
+        guessed = x.guessed;
+      }) (p.whose ∙ sym q.whose)
+      ∙ ap (λ (b : Bool). record {
+        system_id = y.system_id;
+        whose = y.whose;
+        is_crashed = b;
+        stack = x.stack;
+        guessed = x.guessed;
+      }) (p.crashed ∙ sym q.crashed)
+      ∙ ap (λ (s : Option StackShown). record {
+        system_id = y.system_id;
+        whose = y.whose;
+        is_crashed = y.is_crashed;
+        stack = s;
+        guessed = x.guessed;
+      }) halves.0
+      ∙ ap (λ (s : Option StackShown). record {
+        system_id = y.system_id;
+        whose = y.whose;
+        is_crashed = y.is_crashed;
+        stack = y.stack;
+        guessed = s;
+      }) halves.1
 
   then_once : (known : Option ThreadShown) (status : List ℕ) (notes : List Noted) (is_first : Bool) (left : ℕ)
       (xs ys : List NativeShown)

@@ -230,8 +230,8 @@ fn threads_of<'a, P: ProcessMemory>(
     let mut is_first = true;
     for note in notes {
         let thread = thread_noted(
-            alloc, process, mappings, &mut kept, machine, pythons, code_bits, strict, is_first, left,
-            note,
+            alloc, process, mappings, &mut kept, machine, pythons, code_bits, strict, is_first,
+            left, note,
         )?;
         left = left_after(left, &thread);
         is_first = first_after(is_first, &thread);
