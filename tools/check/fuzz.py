@@ -34,6 +34,7 @@ import rows_dump
 import rows_frames
 import rows_merge
 import rows_names
+import rows_native
 import rows_reach
 import rows_salvage
 import rows_slim
@@ -54,7 +55,7 @@ SECONDS, MEMORY = 10, 300 * 10 ** 6
 COMMANDS: Dict[str, Callable[[], List[Row]]] = {
     "dump": rows_dump.rows, "walk": rows_walk.rows, "triage": rows_triage.rows, "reach": rows_reach.rows,
     "merge": rows_merge.rows, "locate": rows_slim.rows, "slim": rows_slim.slim_rows, "sample": lambda: [],
-    "pysalvage": lambda: [*rows_salvage.rows(), *rows_names.rows(), *rows_tasks.rows()], "frames": rows_frames.rows}
+    "pysalvage": lambda: [*rows_salvage.rows(), *rows_names.rows(), *rows_native.rows(), *rows_tasks.rows()], "frames": rows_frames.rows}
 """The commands, and whose rows the cases begin with. (`pysalvage` and `listing`, which has `frames`, are programs of their
 own. Those of `sample` begin with cores that it writes.)"""
 

@@ -115,6 +115,8 @@ class NativeFrame(NamedTuple):
     """Whether the system called it, by a signal."""
     is_guess: bool = False
     """Whether it follows from a guess."""
+    mark: str = ""
+    """By what else than a table its caller was found, if it was."""
 
 
 class NativeStack(NamedTuple):
@@ -138,6 +140,8 @@ class NativeStack(NamedTuple):
     """What follows from a guess."""
     guessed_between: int = 0
     guessed_end: str = ""
+    guess: str = ""
+    """By what that was guessed."""
 
 
 class Task(NamedTuple):

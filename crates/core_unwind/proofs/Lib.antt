@@ -4,6 +4,8 @@ pub mod Filling
 pub mod GuessLaws
 pub mod Listing
 pub mod Looking
+pub mod MarkLaws
+pub mod MarkSteps
 pub mod ReadSteps
 pub mod StackLaws
 pub mod StepLaws

@@ -58,33 +58,33 @@ following_init step limit first seen some = record {
 module _ {step : Memory → State → Turn → Type 0} {limit : ℕ} {first : State} {s0 s1 : Seen} {frames : List Frame}
     {at : State} where
   pub following_more : {s2 : Seen} {more : List Frame} (f : Frame) (caller : State)
-      → Following step limit first s0 s1 frames at → Reading 8480 s1 s2 (λ m. step m at (turned f (Caller caller)))
+      → Following step limit first s0 s1 frames at → Reading 8549 s1 s2 (λ m. step m at (turned f (Caller caller)))
       → more ≡ frames ++ f ∷ [] → length more ≢ limit → Following step limit first s0 s2 more caller
   following_more {more = more} f caller w r is room =
       let long : length more ≡ length frames + 1 = ap length is ∙ length-append frames (f ∷ []) in
       record {
         within = omega (arith, w.within, long, room);
-        reading = reading_gives (8480 * length more) (λ m. Leads (step m) first more caller)
+        reading = reading_gives (8549 * length more) (λ m. Leads (step m) first more caller)
             (reading_then (λ m. Leads (step m) first more caller) w.reading r
             (λ m p q. rw is (leads_more (step m) first frames at caller f p q)))
             (omega (arith, long)) (λ m h. h);
       }
 
   pub following_stops : {s2 : Seen} {more : List Frame} (f : Frame) (next : Next) (end : End)
-      → Following step limit first s0 s1 frames at → Reading 8480 s1 s2 (λ m. step m at (turned f next))
+      → Following step limit first s0 s1 frames at → Reading 8549 s1 s2 (λ m. step m at (turned f next))
       → more ≡ frames ++ f ∷ [] → EndsBy next (length more) limit end
-      → Reading (8480 * length more) s0 s2 (λ m. IsStack (step m) limit first (record { frames = more; last = at; end = end }))
+      → Reading (8549 * length more) s0 s2 (λ m. IsStack (step m) limit first (record { frames = more; last = at; end = end }))
   following_stops {more = more} f next end w r is ends =
       let long : length more ≡ length frames + 1 = ap length is ∙ length-append frames (f ∷ []) in
-      reading_gives (8480 * length more) _
+      reading_gives (8549 * length more) _
       (reading_then (λ m. IsStack (step m) limit first (record { frames = more; last = at; end = end })) w.reading r
       (λ m p q. rw is (stack_here (step m) limit first frames at f next end p q w.within (rw long at ends))))
       (omega (arith, long)) (λ m h. h)
 
   -- memory was wanting
   pub following_lost : {s2 : Seen} {P : Memory → Type 0} (Q : Memory → Type 0)
-      → Following step limit first s0 s1 frames at → Reading 8480 s1 s2 P → ((m : Memory) → Q m)
-      → Reading (8480 * limit) s0 s2 Q
+      → Following step limit first s0 s1 frames at → Reading 8549 s1 s2 P → ((m : Memory) → Q m)
+      → Reading (8549 * limit) s0 s2 Q
   following_lost Q w r q = reading_gives _ _ (reading_then Q w.reading r (λ m a b. q m)) (omega (arith, w.within))
       (λ m h. h)
 

@@ -21,7 +21,7 @@ use Rattle.core_unwind.specs.declared.state.State.{State}
 use Rattle.core_unwind.specs.Places.{Site}
 use Rattle.core_unwind.specs.Stacks.{AllAscend}
 use Rattle.core_unwind.specs.States.{here}
-use Rattle.core_unwind.specs.Steps.{IsStep, IsStepAt, IsStepBy, IsStepIf, IsStepIn, IsStepOf, IsStepTo, IsStepUnless}
+use Rattle.core_unwind.specs.Steps.{IsTableStep, IsStepAt, IsStepBy, IsStepIf, IsStepIn, IsStepOf, IsStepTo, IsStepUnless}
 use Rattle.core_unwind.specs.Steps.{IsStepWith, cut_by}
 use Rattle.core_unwind.proofs.FileLaws.{opens_once, opens_same, spot_once}
 
@@ -79,9 +79,9 @@ module _ (code_bits : ℕ) (m : Memory) (s : State) where
   at_once (Err end) x y ascends p q = p ∙ sym q
   at_once (Ok site) x y ascends p q = in_once site x y (ascends site refl) p q
 
-  pub step_once : (mappings : List Mapping) (x y : Turn) → AllAscend mappings → IsStep mappings code_bits m s x
-      → IsStep mappings code_bits m s y → x ≡ y
-  step_once mappings x y ascends p q =
+  pub table_once : (mappings : List Mapping) (x y : Turn) → AllAscend mappings → IsTableStep mappings code_bits m s x
+      → IsTableStep mappings code_bits m s y → x ≡ y
+  table_once mappings x y ascends p q =
       let same : q.answer ≡ p.answer = spot_once mappings (here s) q.answer p.answer q.spot p.spot in
       at_once p.answer x y (λ site is. ascends (here s) site (rw is at p.spot)) p.is
       (subst (λ (r : Result Site End). IsStepAt code_bits m s r y) same q.is)

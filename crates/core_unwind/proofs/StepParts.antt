@@ -20,7 +20,7 @@ use Rattle.core_unwind.specs.declared.state.State.{State}
 use Rattle.core_unwind.specs.Ends.{table_end}
 use Rattle.core_unwind.specs.Places.{IsSpot, Site}
 use Rattle.core_unwind.specs.States.{here}
-use Rattle.core_unwind.specs.Steps.{IsStep, IsStepBy, IsStepFrom, IsStepIn, IsStepTo, cut_by}
+use Rattle.core_unwind.specs.Steps.{IsTableStep, IsStepBy, IsStepFrom, IsStepIn, IsStepTo, cut_by}
 use Rattle.core_unwind.specs.Turns.{stopped}
 
 module _ (code_bits : ℕ) (m : Memory) (s : State) where
@@ -60,7 +60,7 @@ module _ (code_bits : ℕ) (m : Memory) (s : State) where
 
   pub no_place : (mappings : List Mapping) (at : ℕ) (end : End) (turn : Turn) → IsSpot mappings at (Err end)
       → at ≡ here s
-      → turn ≡ stopped s None end → IsStep mappings code_bits m s turn
+      → turn ≡ stopped s None end → IsTableStep mappings code_bits m s turn
   no_place mappings at end turn spot is_here is = record {
     answer = Err end;
     spot = subst (λ (n : ℕ). IsSpot mappings n (Err end)) is_here spot;

@@ -1,12 +1,17 @@
+pub mod Bases
 pub mod CodeMaps
 pub mod Ends
+pub mod Epilogues
 pub mod Expressions
 pub mod Guesses
+pub mod Marks
+pub mod Origins
 pub mod Places
 pub mod Registers
 pub mod Stacks
 pub mod States
 pub mod Steps
 pub mod Told
+pub mod Trampolines
 pub mod Turns
 pub mod Values

@@ -58,11 +58,11 @@ chain_of s = record { frames = s.frames.items; last = s.last; end = s.end }
 
 -- the reads of a stack: so many for each frame
 abbrev pub stack_reads : ℕ → Result NativeStack UnwindError → ℕ
-stack_reads limit (Ok s) = 8480 * length s.frames.items
-stack_reads limit (Err e) = 8480 * limit
+stack_reads limit (Ok s) = 8549 * length s.frames.items
+stack_reads limit (Err e) = 8549 * limit
 
 -- the frames that were followed so far: the last one's caller stands at `at`
 pub record Following (step : Memory → State → Turn → Type 0) (limit : ℕ) (first : State) (old new : Seen)
     (frames : List Frame) (at : State) : Type 0 where
   pub within : length frames < limit
-  pub reading : Reading (8480 * length frames) old new (λ m. Leads (step m) first frames at)
+  pub reading : Reading (8549 * length frames) old new (λ m. Leads (step m) first frames at)

@@ -79,8 +79,8 @@ abbrev pub IsStepAt : (code_bits : ℕ) → Memory → State → Result Site End
 IsStepAt code_bits m s (Err end) turn = turn ≡ stopped s None end
 IsStepAt code_bits m s (Ok site) turn = IsStepIn code_bits m s site turn
 
--- one step from a state
-pub record IsStep (mappings : List Mapping) (code_bits : ℕ) (m : Memory) (s : State) (turn : Turn) : Type 0 where
+-- one step from a state, by tables alone
+pub record IsTableStep (mappings : List Mapping) (code_bits : ℕ) (m : Memory) (s : State) (turn : Turn) : Type 0 where
   pub answer : Result Site End
   pub spot : IsSpot mappings (here s) answer
   pub is : IsStepAt code_bits m s answer turn

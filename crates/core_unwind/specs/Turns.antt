@@ -22,7 +22,7 @@ use Rattle.core_unwind.specs.Values.{cfa_of, listed, rule_of, value_of}
 -- a frame of which no table speaks, at which a stack ends
 abbrev pub stopped : State → Option CodePlace → End → Turn
 stopped s place end = record {
-  frame = record { pc = s.pc; is_exact = s.is_exact; place = place; cfa = None; is_signal = false };
+  frame = record { pc = s.pc; is_exact = s.is_exact; place = place; cfa = None; is_signal = false; mark = None };
   next = Stops end;
 }
 
@@ -33,6 +33,7 @@ frame_of s place rules cfa = record {
   place = Some place;
   cfa = cfa;
   is_signal = rules.entry.is_signal;
+  mark = None;
 }
 
 -- ---- the return address

@@ -1,5 +1,6 @@
 //! Frames, and what follows them.
 use crate::end::End;
+use crate::mark::Mark;
 use crate::place::CodePlace;
 use crate::state::State;
 
@@ -18,6 +19,8 @@ pub struct Frame {
     pub cfa: Option<u64>,
     /// Whether its function is the one to which a handler of a signal returns.
     pub is_signal: bool,
+    /// By what else than tables its caller was found; none where tables alone say how the stack goes on, or ends.
+    pub mark: Option<Mark>,
 }
 
 /// What follows a frame.

@@ -1,18 +1,32 @@
-//! Who called, where a thread jumped to no code.
+//! Who may have called, where a stack ends since no table says it.
 ghost use Rattle.std.specs.Prelude.{◌≡◌, IfOk};
 ghost use Rattle.process_memory.specs.Seen.{Reading};
-ghost use Rattle.core_unwind.specs.Guesses.{IsGuess, IsInCode, guessed_caller, jumped, return_word, stack_top};
+ghost use Rattle.core_unwind.specs.Guesses.{IsInCode, IsJump, guessed_caller, return_word, stack_top};
+ghost use Rattle.core_unwind.specs.Marks.{is_uncovered};
+ghost use Rattle.core_unwind.specs.Origins.{IsBaseGuess, IsGuess, base_guess, jump_guess, jumped};
 ghost use Rattle.core_unwind.specs.Stacks.{chain_of};
 
+use crate::base::read_base;
 use crate::code_map::CodeMap;
 use crate::end::{End, UnwindError};
 use crate::kept::register_in;
+use crate::mark::{Going, Mark};
+use crate::marked::is_uncovered;
 use crate::place::spot_at;
 use crate::read::read_word;
 use crate::state::State;
 use crate::walk::NativeStack;
 use frame_rows::Machine;
 use process_memory::ProcessMemory;
+
+/// Who may have called.
+#[derive(Clone, Copy, Debug, PartialEq, Eq)]
+pub struct Guess {
+    /// By what that is guessed.
+    pub mark: Mark,
+    /// The caller.
+    pub caller: State,
+}
 
 /// Whether a stack ends where its thread had jumped to no code: the last frame's instruction was to run next, and no
 /// mapping holds it.
@@ -32,7 +46,7 @@ fn jumped(mappings: &CodeMap<'_>, stack: &NativeStack) -> bool
 }
 
 /// The stack pointer of a thread.
-fn stack_top(machine: Machine, state: &State) -> Option<u64>
+pub(crate) fn stack_top(machine: Machine, state: &State) -> Option<u64>
     ensures { result ≡ stack_top machine state.now }
 {
     match machine {
@@ -62,7 +76,7 @@ fn read_return<P: ProcessMemory>(
 }
 
 /// Whether a call that returns to an address stands in the code of a file that is at hand.
-fn is_in_code(mappings: &CodeMap<'_>, word: u64) -> bool
+pub(crate) fn is_in_code(mappings: &CodeMap<'_>, word: u64) -> bool
     ensures { IsInCode mappings.now word result }
 {
     match spot_at(mappings, word.saturating_sub(1)) {
@@ -94,31 +108,92 @@ fn guessed_caller(machine: Machine, state: &State, top: u64, word: u64) -> State
     }
 }
 
-/// Where a stack ends since its thread had jumped to no code, as by a call of a null pointer: the state behind that
-/// call, if one was the last thing that the thread did, and its code is that of a file at hand. It is a guess: nothing
-/// says that there was such a call. At most one read; the one error is want of memory.
-pub fn read_guess<P: ProcessMemory>(
+/// The state behind the call of what is no code, if a call was the last thing that a thread did, and its code is that of
+/// a file at hand. At most one read.
+fn read_jump<P: ProcessMemory>(
     process: &mut P,
     mappings: &CodeMap<'_>,
     machine: Machine,
-    stack: &NativeStack,
+    state: &State,
 ) -> Result<Option<State>, UnwindError>
     ensures { Reading 1 (P.seen process.old) (P.seen process.new)
-        (λ m. IfOk result (IsGuess mappings.now machine m (chain_of stack.now))) }
+        (λ m. IfOk result (IsJump mappings.now machine m state.now)) }
 {
-    if !jumped(mappings, stack) {
-        return Ok(None);
-    }
-    let Some(top) = stack_top(machine, &stack.last) else {
+    let Some(top) = stack_top(machine, state) else {
         return Ok(None);
     };
-    let word = read_return(process, machine, &stack.last, top)?;
+    let word = read_return(process, machine, state, top)?;
     let Some(word) = word else {
         return Ok(None);
     };
     if !is_in_code(mappings, word) {
         return Ok(None);
     }
-    let caller = guessed_caller(machine, &stack.last, top, word);
+    let caller = guessed_caller(machine, state, top, word);
     Ok(Some(caller))
+}
+
+/// The guess of a jump.
+fn jump_guess(caller: Option<State>) -> Option<Guess>
+    ensures { result ≡ jump_guess caller }
+{
+    match caller {
+        Some(caller) => Some(Guess {
+            mark: Mark::Jump,
+            caller,
+        }),
+        None => None,
+    }
+}
+
+/// The guess by a frame pointer.
+fn base_guess(going: Option<Going>) -> Option<Guess>
+    ensures { result ≡ base_guess going }
+{
+    match going {
+        Some(going) => Some(Guess {
+            mark: going.mark,
+            caller: going.caller,
+        }),
+        None => None,
+    }
+}
+
+/// The guess where no table covers the address at which a stack ends. At most two reads.
+fn read_base_guess<P: ProcessMemory>(
+    process: &mut P,
+    mappings: &CodeMap<'_>,
+    machine: Machine,
+    stack: &NativeStack,
+) -> Result<Option<Guess>, UnwindError>
+    ensures { Reading 2 (P.seen process.old) (P.seen process.new)
+        (λ m. IfOk result (IsBaseGuess (is_uncovered stack.now.end) mappings.now machine m stack.now.last)) }
+{
+    if !is_uncovered(stack.end) {
+        return Ok(None);
+    }
+    let going = read_base(process, mappings, machine, &stack.last)?;
+    let guess = base_guess(going);
+    Ok(guess)
+}
+
+/// Where a stack ends since no table says how it goes on, who may have called: where the thread had jumped to no code,
+/// as by a call of a null pointer, the state behind that call, if one was the last thing that the thread did; else what
+/// the frame pointer points to. The caller's code is that of a file at hand. It is a guess: nothing says that there was
+/// such a call, or that the code keeps a frame pointer. At most two reads; the one error is want of memory.
+pub fn read_guess<P: ProcessMemory>(
+    process: &mut P,
+    mappings: &CodeMap<'_>,
+    machine: Machine,
+    stack: &NativeStack,
+) -> Result<Option<Guess>, UnwindError>
+    ensures { Reading 2 (P.seen process.old) (P.seen process.new)
+        (λ m. IfOk result (IsGuess mappings.now machine m (chain_of stack.now))) }
+{
+    if !jumped(mappings, stack) {
+        return read_base_guess(process, mappings, machine, stack);
+    }
+    let caller = read_jump(process, mappings, machine, &stack.last)?;
+    let guess = jump_guess(caller);
+    Ok(guess)
 }

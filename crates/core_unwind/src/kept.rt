@@ -16,7 +16,7 @@ pub(crate) fn register_in(registers: &[Option<u64>; 32], register: u64) -> Optio
 }
 
 /// The number of the stack pointer.
-fn stack_pointer(machine: Machine) -> u64
+pub(crate) fn stack_pointer(machine: Machine) -> u64
     ensures { result ≡ stack_pointer machine }
 {
     match machine {

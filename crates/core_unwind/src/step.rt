@@ -1,10 +1,10 @@
-//! One step.
+//! One step by tables.
 ghost use Rattle.std.specs.Prelude.{◌≡◌, ◌≤◌, IfOk, length};
 ghost use Rattle.process_memory.specs.Seen.{Reading};
 ghost use Rattle.frame_tables.specs.Records.{Fits};
 ghost use Rattle.frame_tables.specs.Tables.{Covers};
 ghost use Rattle.core_unwind.specs.Places.{site_of};
-ghost use Rattle.core_unwind.specs.Steps.{cut_by, IsStep, IsStepBy, IsStepFrom, IsStepIn, IsStepTo};
+ghost use Rattle.core_unwind.specs.Steps.{cut_by, IsStepBy, IsStepFrom, IsStepIn, IsStepTo, IsTableStep};
 
 use crate::code_map::CodeMap;
 use crate::end::{End, Limit, Refusal, UnwindError, table_end};
@@ -122,8 +122,9 @@ fn step_in<P: ProcessMemory>(
     }
 }
 
-/// One step from a state: the frame there, and the state of its caller, or how the stack ends. At most 8480 reads.
-pub fn read_step<P: ProcessMemory>(
+/// One step from a state by tables alone: the frame there, and the state of its caller, or how the stack ends. At most
+/// 8480 reads.
+pub(crate) fn read_table_step<P: ProcessMemory>(
     process: &mut P,
     mappings: &CodeMap<'_>,
     code_bits: u64,
@@ -131,7 +132,7 @@ pub fn read_step<P: ProcessMemory>(
     state: &State,
 ) -> Result<Turn, UnwindError>
     ensures { Reading 8480 (P.seen process.old) (P.seen process.new)
-        (λ m. IfOk result (IsStep mappings.now code_bits m state.now)) }
+        (λ m. IfOk result (IsTableStep mappings.now code_bits m state.now)) }
 {
     match spot_at(mappings, state.here()) {
         Ok(spot) => step_in(process, code_bits, room, state, spot),

@@ -26,6 +26,7 @@ pub(crate) fn stopped(state: &State, place: Option<CodePlace>, end: End) -> Turn
         place,
         cfa: None,
         is_signal: false,
+        mark: None,
     };
     Turn {
         frame,
@@ -145,6 +146,7 @@ fn frame_of(state: &State, place: CodePlace, rules: &Rules<'_>, cfa: Option<u64>
         place: Some(place),
         cfa,
         is_signal: rules.entry.is_signal,
+        mark: None,
     }
 }
 

@@ -4,12 +4,13 @@ use Rattle.std.specs.Prelude.{◌||◌, slice_get}
 use Rattle.serde_json.specs.View.{items_of}
 use Rattle.serde_json.specs.Written.{has_float, items_have_float}
 use Rattle.core_unwind.specs.declared.end.End.{End}
+use Rattle.core_unwind.specs.declared.mark.Mark.{Mark}
 use Rattle.native_frames.specs.declared.stacks.Function.{Function}
 use Rattle.native_frames.specs.declared.stacks.NativeFrame.{NativeFrame}
 use Rattle.native_frames.specs.Text.{first_frames, last_frames}
 use Rattle.native_frames.specs.Threads.{StackShown}
 use Rattle.native_frames.specs.Trees.{address_tree, end_address, end_tree, file_tree, frame_tree, frames_tree}
-use Rattle.native_frames.specs.Trees.{function_name_tree, missing_tree, offset_tree, place_address, place_file}
+use Rattle.native_frames.specs.Trees.{function_name_tree, mark_tree, missing_tree, offset_tree, place_address, place_file}
 use Rattle.native_frames.specs.Trees.{stack_tree}
 
 address : (a : Option ℕ) → has_float (address_tree a) ≡ false
@@ -32,10 +33,14 @@ offset : (f : Option Function) → has_float (offset_tree f) ≡ false
 offset (Some f) = refl
 offset None = refl
 
+mark : (m : Option Mark) → has_float (mark_tree m) ≡ false
+mark (Some m) = refl
+mark None = refl
+
 frame : (files : List (List ℕ)) (f : NativeFrame) → has_float (frame_tree files f) ≡ false
 frame files f = λ i. address (place_address f.frame.place) i || (address f.frame.cfa i || (false
-    || (file files (place_file f.frame.place) i || (function_name f.function i || (offset f.function i || (false
-    || (false || false)))))))
+    || (file files (place_file f.frame.place) i || (function_name f.function i || (mark f.frame.mark i
+    || (offset f.function i || (false || (false || false))))))))
 
 frames : (files : List (List ℕ)) (fs : List NativeFrame) → has_float (frames_tree files fs) ≡ false
 frames files [] = refl
@@ -47,4 +52,5 @@ end files e number = λ i. address (end_address e) i || (file files number i || 
 
 pub stack : (files : List (List ℕ)) (limit : ℕ) (s : StackShown) → has_float (stack_tree files limit s) ≡ false
 stack files limit s = λ i. false || (end files s.end s.missing i
-    || (frames files (first_frames limit s.frames) i || (frames files (last_frames limit s.frames) i || false)))
+    || (frames files (first_frames limit s.frames) i || (mark s.guess i
+    || (frames files (last_frames limit s.frames) i || false))))

@@ -10,6 +10,8 @@ use Rattle.core_unwind.specs.declared.end.Limit.{Limit}
 use Rattle.core_unwind.specs.declared.end.Limit.TheVariants as most
 use Rattle.core_unwind.specs.declared.end.Refusal.{Refusal}
 use Rattle.core_unwind.specs.declared.end.Refusal.TheVariants as why
+use Rattle.core_unwind.specs.declared.mark.Mark.{Mark}
+use Rattle.core_unwind.specs.declared.mark.Mark.TheVariants as by
 use Rattle.core_unwind.specs.declared.place.CodePlace.{CodePlace}
 use Rattle.native_frames.specs.declared.stacks.Function.{Function}
 use Rattle.native_frames.specs.declared.stacks.NativeFrame.{NativeFrame}
@@ -57,11 +59,37 @@ abbrev pub mark_text : Bool → List ℕ → List ℕ
 mark_text true mark = mark
 mark_text false mark = []
 
+-- by what else than tables the caller of a frame was found
+abbrev pub found_text : Option Mark → List ℕ
+found_text (Some by.Trampoline) = codes " <signal trampoline>"
+found_text (Some by.Epilogue) = codes " <epilogue>"
+found_text (Some by.FramePointer) = codes " <frame pointer>"
+found_text (Some by.Jump) = codes " <jump>"
+found_text None = []
+
+-- by what the frames that follow were guessed
+abbrev pub guess_text : Mark → List ℕ
+guess_text by.Trampoline = codes "signal trampoline"
+guess_text by.Epilogue = codes "epilogue"
+guess_text by.FramePointer = codes "frame pointer"
+guess_text by.Jump = codes "jumped to no code"
+
+unfoldable pub guess_word : List ℕ
+guess_word = codes "    ... guess: "
+
+abbrev pub guess_line : Mark → List ℕ
+guess_line mark = guess_word ++ (guess_text mark ++ codes "\n")
+
+abbrev pub lead_text : Option Mark → List ℕ
+lead_text (Some mark) = guess_line mark
+lead_text None = []
+
 -- the line of a frame
 abbrev pub frame_text : List (List ℕ) → (is_guess : Bool) → NativeFrame → List ℕ
 frame_text files is_guess f =
     codes "    0x" ++ (digits 16 false f.frame.pc ++ (codes " " ++ (place_text files f f.frame.place
-    ++ (mark_text f.frame.is_signal (codes " <signal>") ++ (mark_text is_guess (codes " <guess>") ++ codes "\n")))))
+    ++ (mark_text f.frame.is_signal (codes " <signal>") ++ (found_text f.frame.mark
+    ++ (mark_text is_guess (codes " <guess>") ++ codes "\n"))))))
 
 abbrev pub frames_text : List (List ℕ) → (is_guess : Bool) → List NativeFrame → List ℕ
 frames_text files is_guess frames = concat (map (λ f. frame_text files is_guess f) frames)
@@ -117,5 +145,6 @@ frames_between limit frames = (length frames - limit) - limit
 
 abbrev pub stack_text : List (List ℕ) → (is_guess : Bool) → (limit : ℕ) → StackShown → List ℕ
 stack_text files is_guess limit s =
-    frames_text files is_guess (first_frames limit s.frames) ++ (more_text (frames_between limit s.frames)
-    ++ (frames_text files is_guess (last_frames limit s.frames) ++ end_text files s.missing s.end))
+    lead_text s.guess ++ (frames_text files is_guess (first_frames limit s.frames)
+    ++ (more_text (frames_between limit s.frames)
+    ++ (frames_text files is_guess (last_frames limit s.frames) ++ end_text files s.missing s.end)))

@@ -7,14 +7,17 @@ use Rattle.core_unwind.specs.declared.end.End.{End}
 use Rattle.core_unwind.specs.declared.end.End.TheVariants.{NoFile}
 use Rattle.core_unwind.specs.declared.place.Mapping.{Mapping}
 use Rattle.core_unwind.specs.declared.state.State.{State}
-use Rattle.core_unwind.specs.Guesses.{IsGuess}
+use Rattle.core_unwind.specs.declared.guess.Guess.{Guess}
+use Rattle.core_unwind.specs.declared.mark.Manner.{Manner}
+use Rattle.core_unwind.specs.declared.mark.Mark.{Mark}
+use Rattle.core_unwind.specs.Marks.{IsStep}
+use Rattle.core_unwind.specs.Origins.{IsGuess}
 use Rattle.core_unwind.specs.Places.{holds}
 use Rattle.core_unwind.specs.Stacks.{Chain, IsStack}
-use Rattle.core_unwind.specs.Steps.{IsStep}
 use Rattle.native_frames.specs.declared.stacks.NativeFrame.{NativeFrame}
 use Rattle.native_frames.specs.declared.stacks.ThreadStack.{ThreadStack}
 use Rattle.native_frames.specs.declared.thread.StackParts.{StackParts}
-use Rattle.native_frames.specs.Limits.{code_bits, limit_of}
+use Rattle.native_frames.specs.Limits.{limit_of}
 use Rattle.native_frames.specs.Naming.{AreNamed}
 
 -- a stack: its frames, how it ends, and the number of the file that was not at hand there
@@ -22,49 +25,56 @@ pub record StackShown : Type 0 where
   pub frames : List NativeFrame
   pub end : End
   pub missing : Option ℕ
+  -- by what its newest frame was guessed
+  pub guess : Option Mark
 
 -- the number of the file that is mapped where a stack ends since it is not at hand
 abbrev pub missing_at : List Mapping → End → Option ℕ
 missing_at mappings (NoFile at) = option_map (λ (m : Mapping). m.file) (find (holds at) mappings)
 missing_at mappings other = None
 
--- the stack from a state on, by tables alone, where so many frames are left to the process
-abbrev pub IsThreadStack : List Mapping → Machine → Memory → (left : ℕ) → State → Chain → Type 0
-IsThreadStack mappings machine m left first chain =
-    IsStack (IsStep mappings (code_bits machine) m) (limit_of left) first chain
+-- the stack from a state on, where so many frames are left to the process
+abbrev pub IsThreadStack : List Mapping → Manner → Memory → (left : ℕ) → State → Chain → Type 0
+IsThreadStack mappings manner m left first chain = IsStack (IsStep mappings manner m) (limit_of left) first chain
 
 -- the same, with the functions of its frames
-pub record IsNamedStack (mappings : List Mapping) (machine : Machine) (m : Memory) (left : ℕ) (first : State)
-    (chain : Chain) (stack : StackShown) : Type 0 where
-  pub follows : IsThreadStack mappings machine m left first chain
+pub record IsNamedStack (mappings : List Mapping) (manner : Manner) (m : Memory) (left : ℕ) (guess : Option Mark)
+    (first : State) (chain : Chain) (stack : StackShown) : Type 0 where
+  pub follows : IsThreadStack mappings manner m left first chain
   pub named : AreNamed mappings chain.frames stack.frames
   pub ends : stack.end ≡ chain.end
   pub missing : stack.missing ≡ missing_at mappings chain.end
+  pub guessed : stack.guess ≡ guess
 
--- no guess is wanted, or it is that of the thread's jump to no code
-abbrev pub IsGuessUnless : (strict : Bool) → List Mapping → Machine → Memory → Chain → Option State → Type 0
+-- no guess is wanted, or it is that of where the stack ends
+abbrev pub IsGuessUnless : (strict : Bool) → List Mapping → Machine → Memory → Chain → Option Guess → Type 0
 IsGuessUnless true mappings machine m chain guess = guess ≡ None
 IsGuessUnless false mappings machine m chain guess = IsGuess mappings machine m chain guess
 
--- the stack behind a guess
-abbrev pub IsGuessedStack : List Mapping → Machine → Memory → (left : ℕ) → Option State → Option StackShown → Type 0
-IsGuessedStack mappings machine m left None stack = stack ≡ None
-IsGuessedStack mappings machine m left (Some caller) stack =
-    (chain : Chain) × (told : StackShown) × (stack ≡ Some told) × IsNamedStack mappings machine m left caller chain told
+abbrev pub manner_of : Machine → (code_bits : ℕ) → (guesses : Bool) → Manner
+manner_of machine code_bits guesses = record { machine = machine; code_bits = code_bits; guesses = guesses }
+
+-- the stack behind a guess: there frame pointers are followed too
+abbrev pub IsGuessedStack : List Mapping → Machine → (code_bits : ℕ) → Memory → (left : ℕ) → Option Guess
+    → Option StackShown → Type 0
+IsGuessedStack mappings machine code_bits m left None stack = stack ≡ None
+IsGuessedStack mappings machine code_bits m left (Some guess) stack =
+    (chain : Chain) × (told : StackShown) × (stack ≡ Some told)
+    × IsNamedStack mappings (manner_of machine code_bits true) m left (Some guess.mark) guess.caller chain told
 
 -- a stack, and what follows it by a guess
-pub record StackPair (mappings : List Mapping) (machine : Machine) (m : Memory) (strict : Bool) (left : ℕ)
-    (first : State) (pair : StackShown × Option StackShown) : Type 0 where
+pub record StackPair (mappings : List Mapping) (machine : Machine) (code_bits : ℕ) (m : Memory) (strict : Bool)
+    (left : ℕ) (first : State) (pair : StackShown × Option StackShown) : Type 0 where
   pub chain : Chain
-  pub stack : IsNamedStack mappings machine m left first chain pair.0
-  pub guess : Option State
+  pub stack : IsNamedStack mappings (manner_of machine code_bits false) m left None first chain pair.0
+  pub guess : Option Guess
   pub guesses : IsGuessUnless strict mappings machine m chain guess
-  pub behind : IsGuessedStack mappings machine m (left - length chain.frames) guess pair.1
+  pub behind : IsGuessedStack mappings machine code_bits m (left - length chain.frames) guess pair.1
 
 -- ---- as they are read
 
 abbrev pub stack_shown : ThreadStack → StackShown
-stack_shown s = record { frames = s.frames.items; end = s.end; missing = s.missing }
+stack_shown s = record { frames = s.frames.items; end = s.end; missing = s.missing; guess = s.guess }
 
 abbrev pub stack_shown_if : Option ThreadStack → Option StackShown
 stack_shown_if s = option_map stack_shown s

@@ -8,10 +8,11 @@ use Rattle.core_unwind.specs.declared.end.End.{End}
 use Rattle.core_unwind.specs.declared.end.End.TheVariants as how
 use Rattle.core_unwind.specs.declared.end.Limit.TheVariants as most
 use Rattle.core_unwind.specs.declared.end.Refusal.TheVariants as why
+use Rattle.core_unwind.specs.declared.mark.Mark.{Mark}
 use Rattle.core_unwind.specs.declared.place.CodePlace.{CodePlace}
 use Rattle.native_frames.specs.declared.stacks.Function.{Function}
 use Rattle.native_frames.specs.declared.stacks.NativeFrame.{NativeFrame}
-use Rattle.native_frames.specs.Text.{address_text, first_frames, frames_between, last_frames}
+use Rattle.native_frames.specs.Text.{address_text, first_frames, frames_between, guess_text, last_frames}
 use Rattle.native_frames.specs.Threads.{StackShown}
 
 abbrev pub address_tree : Option ℕ → Data
@@ -47,6 +48,11 @@ abbrev pub place_address : Option CodePlace → Option ℕ
 place_address (Some place) = Some place.address
 place_address None = None
 
+-- by what something was found
+abbrev pub mark_tree : Option Mark → Data
+mark_tree (Some mark) = string (guess_text mark)
+mark_tree None = null
+
 -- a frame
 abbrev pub frame_tree : List (List ℕ) → NativeFrame → Data
 frame_tree files f = object (
@@ -55,9 +61,10 @@ frame_tree files f = object (
     member (codes "exact") (boolean f.frame.is_exact) (
     member (codes "file") (file_tree files (place_file f.frame.place)) (
     member (codes "function") (function_name_tree f.function) (
+    member (codes "mark") (mark_tree f.frame.mark) (
     member (codes "offset") (offset_tree f.function) (
     member (codes "pc") (address_tree (Some f.frame.pc)) (
-    member (codes "signal") (boolean f.frame.is_signal) no_members))))))))
+    member (codes "signal") (boolean f.frame.is_signal) no_members)))))))))
 
 abbrev pub frames_tree : List (List ℕ) → List NativeFrame → Data
 frames_tree files frames = array (items_of (map (λ f. frame_tree files f) frames))
@@ -99,4 +106,5 @@ stack_tree files limit s = object (
     member (codes "between") (number (unsigned (frames_between limit s.frames))) (
     member (codes "end") (end_tree files s.end s.missing) (
     member (codes "frames") (frames_tree files (first_frames limit s.frames)) (
-    member (codes "last") (frames_tree files (last_frames limit s.frames)) no_members))))
+    member (codes "guess") (mark_tree s.guess) (
+    member (codes "last") (frames_tree files (last_frames limit s.frames)) no_members)))))

@@ -1,5 +1,5 @@
 //! What is told of a native stack.
-use core_unwind::{End, Frame};
+use core_unwind::{End, Frame, Mark};
 use elf64_core::Name;
 
 /// The function in which a frame stands.
@@ -26,4 +26,6 @@ pub struct ThreadStack {
     pub end: End,
     /// The number of the file that was not at hand, where the stack ends there.
     pub missing: Option<usize>,
+    /// By what its newest frame was guessed; none of a thread's own stack.
+    pub guess: Option<Mark>,
 }

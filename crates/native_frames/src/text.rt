@@ -1,15 +1,16 @@
 //! The lines of a native stack.
 ghost use Rattle.std.specs.Prelude.{◌≡◌, ◌<◌, ◌++◌, OnOk, length, slice_get, string_bytes};
 ghost use Rattle.native_frames.specs.Text.{base_behind, base_name, end_text, file_text, first_frames, frame_text, frames_text};
-ghost use Rattle.native_frames.specs.Text.{function_text, last_frames, limit_text, mark_text, more_text, name_text};
+ghost use Rattle.native_frames.specs.Text.{found_text, function_text, guess_line, guess_text, guess_word, last_frames};
+ghost use Rattle.native_frames.specs.Text.{lead_text, limit_text, mark_text, more_text};
 ghost use Rattle.native_frames.specs.Text.{no_file_text, place_text, refusal_text, stack_text, where_text};
-ghost use Rattle.native_frames.specs.Text.{frames_between};
+ghost use Rattle.native_frames.specs.Text.{frames_between, name_text};
 ghost use Rattle.native_frames.specs.Threads.{stack_shown};
 
 use crate::escape::push_escaped;
 use crate::files::path_of;
 use crate::stacks::{Function, NativeFrame, ThreadStack};
-use core_unwind::{CodePlace, End, Limit, Refusal};
+use core_unwind::{CodePlace, End, Limit, Mark, Refusal};
 use elf64_core::Name;
 use std::alloc::{AllocError, Global};
 
@@ -120,6 +121,58 @@ fn push_mark(text: &mut String, is_marked: bool, mark: &str) -> Result<(), Alloc
     Ok(())
 }
 
+/// By what else than tables the caller of a frame was found.
+fn found_text(mark: Option<Mark>) -> &'static str
+    ensures { result.now ≡ found_text mark }
+{
+    match mark {
+        Some(Mark::Trampoline) => " <signal trampoline>",
+        Some(Mark::Epilogue) => " <epilogue>",
+        Some(Mark::FramePointer) => " <frame pointer>",
+        Some(Mark::Jump) => " <jump>",
+        None => "",
+    }
+}
+
+/// By what the frames that follow were guessed.
+pub(crate) fn guess_text(mark: Mark) -> &'static str
+    ensures { result.now ≡ guess_text mark }
+{
+    match mark {
+        Mark::Trampoline => "signal trampoline",
+        Mark::Epilogue => "epilogue",
+        Mark::FramePointer => "frame pointer",
+        Mark::Jump => "jumped to no code",
+    }
+}
+
+/// How the line of a guess begins.
+#[tactic(auto, unfolding(crate::specs::Text::guess_word))]
+fn push_guess_word(text: &mut String) -> Result<(), AllocError>
+    ensures { OnOk result (string_bytes text.new ≡ string_bytes text.old ++ guess_word) }
+{
+    text.push_str("    ... guess: ")
+}
+
+/// The line before frames that follow from a guess.
+fn push_guess(text: &mut String, mark: Mark) -> Result<(), AllocError>
+    ensures { OnOk result (string_bytes text.new ≡ string_bytes text.old ++ guess_line mark) }
+{
+    push_guess_word(text)?;
+    text.push_str(guess_text(mark))?;
+    text.push_str("\n")
+}
+
+/// The same, if they do.
+fn push_lead(text: &mut String, guess: Option<Mark>) -> Result<(), AllocError>
+    ensures { OnOk result (string_bytes text.new ≡ string_bytes text.old ++ lead_text guess) }
+{
+    match guess {
+        Some(mark) => push_guess(text, mark),
+        None => Ok(()),
+    }
+}
+
 /// The line of a frame.
 fn push_frame(
     alloc: Global,
@@ -135,6 +188,7 @@ fn push_frame(
     write!(text, "    0x{pc:x} ")?;
     push_place(alloc, text, files, frame)?;
     push_mark(text, frame.frame.is_signal, " <signal>")?;
+    text.push_str(found_text(frame.frame.mark))?;
     push_mark(text, is_guess, " <guess>")?;
     text.push_str("\n")
 }
@@ -260,9 +314,9 @@ pub(crate) fn last_frames(frames: &[NativeFrame], limit: usize) -> &[NativeFrame
     &frames[start.min(frames.len())..]
 }
 
-/// Appends the lines of a stack: its first `limit` frames, how many stand between, and its last `limit`, and how it
-/// ends, where it is not whole. `files` are the paths by which frames name files; behind a guess each line says so. The
-/// one error is want of memory.
+/// Appends the lines of a stack: by what it was guessed, if it was, its first `limit` frames, how many stand between,
+/// and its last `limit`, and how it ends, where it is not whole. `files` are the paths by which frames name files; behind
+/// a guess each line says so. The one error is want of memory.
 pub fn push_stack(
     alloc: Global,
     text: &mut String,
@@ -275,6 +329,7 @@ pub fn push_stack(
         ++ stack_text files.now is_guess limit (stack_shown stack.now)) }
 {
     let frames = stack.frames.as_slice();
+    push_lead(text, stack.guess)?;
     push_frames(alloc, text, files, is_guess, first_frames(frames, limit))?;
     push_more(text, frames_between(frames, limit))?;
     push_frames(alloc, text, files, is_guess, last_frames(frames, limit))?;

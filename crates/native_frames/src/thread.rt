@@ -1,16 +1,19 @@
 //! The stack of one thread.
-ghost use Rattle.std.specs.Prelude.{◌≡◌, ◌-◌, IfOk, length};
+ghost use Rattle.std.specs.Prelude.{◌≡◌, ◌-◌, IfOk, Option, length};
 ghost use Rattle.process_memory.specs.Seen.{Reading};
-ghost use Rattle.core_unwind.specs.Stacks.{chain_of};
+ghost use Rattle.core_unwind.specs.Stacks.{AllAscend, chain_of};
 ghost use Rattle.native_frames.specs.Kept.{AreKept};
 ghost use Rattle.native_frames.specs.Limits.{stack_most, thread_most};
 ghost use Rattle.native_frames.specs.Threads.{IsGuessUnless, IsGuessedStack, IsNamedStack, IsThreadStack, StackPair};
+ghost use Rattle.native_frames.specs.Threads.{StackShown};
 ghost use Rattle.native_frames.specs.Threads.{missing_at, pair_of, stack_shown, stack_shown_if};
 
-use crate::limits::{code_bits, limit_of};
+use crate::limits::limit_of;
 use crate::naming::{Kept, named_frames};
 use crate::stacks::ThreadStack;
-use core_unwind::{CodeMap, End, NativeStack, State, UnwindError, read_guess, read_stack};
+use core_unwind::{
+    CodeMap, End, Guess, Manner, Mark, NativeStack, State, UnwindError, read_guess, read_stack,
+};
 use frame_rows::Machine;
 use process_memory::ProcessMemory;
 use std::alloc::{AllocError, Global};
@@ -52,21 +55,14 @@ fn stack_from<P: ProcessMemory>(
     alloc: Global,
     process: &mut P,
     mappings: &CodeMap<'_>,
-    machine: Machine,
+    manner: &Manner,
     left: usize,
     first: &State,
 ) -> Result<NativeStack, AllocError>
     ensures { Reading stack_most (P.seen process.old) (P.seen process.new) (λ m. IfOk result (λ stack.
-        IsThreadStack mappings.now machine m left first.now (chain_of stack))) }
+        IsThreadStack mappings.now manner.now m left first.now (chain_of stack))) }
 {
-    match read_stack(
-        alloc,
-        process,
-        mappings,
-        code_bits(machine),
-        limit_of(left),
-        first,
-    ) {
+    match read_stack(alloc, process, mappings, manner, limit_of(left), first) {
         Ok(stack) => Ok(stack),
         Err(UnwindError::OutOfMemory) => Err(AllocError),
     }
@@ -78,35 +74,38 @@ fn named_stack<'a, P: ProcessMemory>(
     process: &mut P,
     mappings: &CodeMap<'a>,
     kept: &mut Kept<'a>,
-    machine: Machine,
+    manner: &Manner,
     left: usize,
+    guess: Option<Mark>,
     first: &State,
 ) -> Result<Followed, AllocError>
     requires kept { AreKept mappings.now kept.old }
     ensures is { Reading stack_most (P.seen process.old) (P.seen process.new) (λ m. IfOk result (λ followed.
-        IsNamedStack mappings.now machine m left first.now (chain_of followed.chain) (stack_shown followed.told))) }
+        IsNamedStack mappings.now manner.now m left guess first.now (chain_of followed.chain)
+        (stack_shown followed.told))) }
     ensures kept { AreKept mappings.now kept.new }
 {
-    let chain = stack_from(alloc, process, mappings, machine, left, first)?;
+    let chain = stack_from(alloc, process, mappings, manner, left, first)?;
     let frames = named_frames(alloc, mappings, kept, &chain.frames)?;
     let missing = missing_at(mappings, chain.end);
     let told = ThreadStack {
         frames,
         end: chain.end,
         missing,
+        guess,
     };
     Ok(Followed { chain, told })
 }
 
-/// The state behind a guess, where one is wanted. At most one read.
+/// Who may have called where a stack ends, where a guess is wanted. At most two reads.
 fn guess_unless<P: ProcessMemory>(
     process: &mut P,
     mappings: &CodeMap<'_>,
     machine: Machine,
     strict: bool,
     chain: &NativeStack,
-) -> Result<Option<State>, AllocError>
-    ensures { Reading 1 (P.seen process.old) (P.seen process.new) (λ m. IfOk result
+) -> Result<Option<Guess>, AllocError>
+    ensures { Reading 2 (P.seen process.old) (P.seen process.new) (λ m. IfOk result
         (IsGuessUnless strict mappings.now machine m (chain_of chain.now))) }
 {
     if strict {
@@ -125,17 +124,33 @@ fn guessed_stack<'a, P: ProcessMemory>(
     mappings: &CodeMap<'a>,
     kept: &mut Kept<'a>,
     machine: Machine,
+    code_bits: u64,
     left: usize,
-    guess: Option<State>,
+    guess: Option<Guess>,
 ) -> Result<Option<ThreadStack>, AllocError>
     requires kept { AreKept mappings.now kept.old }
     ensures is { Reading stack_most (P.seen process.old) (P.seen process.new) (λ m. IfOk result (λ stack.
-        IsGuessedStack mappings.now machine m left guess (stack_shown_if stack))) }
+        IsGuessedStack mappings.now machine code_bits m left guess (stack_shown_if stack))) }
     ensures kept { AreKept mappings.now kept.new }
 {
     match guess {
-        Some(caller) => {
-            let followed = named_stack(alloc, process, mappings, kept, machine, left, &caller)?;
+        Some(guess) => {
+            let manner = Manner {
+                machine,
+                code_bits,
+                guesses: true,
+            };
+            let mark = Some(guess.mark);
+            let followed = named_stack(
+                alloc,
+                process,
+                mappings,
+                kept,
+                &manner,
+                left,
+                mark,
+                &guess.caller,
+            )?;
             Ok(Some(followed.told))
         }
         None => Ok(None),
@@ -149,29 +164,65 @@ fn left_after(left: usize, chain: &NativeStack) -> usize
     left.saturating_sub(chain.frames.len())
 }
 
-/// The stack of a thread that stands at a state, and what follows that by a guess, unless `strict`.
-pub fn stack_parts<'a, P: ProcessMemory>(
+/// See `stack_parts`.
+fn read_parts<'a, P: ProcessMemory>(
     alloc: Global,
     process: &mut P,
     mappings: &CodeMap<'a>,
     kept: &mut Kept<'a>,
     machine: Machine,
+    code_bits: u64,
     strict: bool,
     left: usize,
     first: &State,
 ) -> Result<StackParts, AllocError>
     requires kept { AreKept mappings.now kept.old }
     ensures is { Reading thread_most (P.seen process.old) (P.seen process.new) (λ m. IfOk result (λ parts.
-        StackPair mappings.now machine m strict left first.now (pair_of parts))) }
+        StackPair mappings.now machine code_bits m strict left first.now (pair_of parts))) }
     ensures kept { AreKept mappings.now kept.new }
 {
-    let followed = named_stack(alloc, process, mappings, kept, machine, left, first)?;
+    let manner = Manner {
+        machine,
+        code_bits,
+        guesses: false,
+    };
+    let followed = named_stack(alloc, process, mappings, kept, &manner, left, None, first)?;
     let chain = followed.chain;
     let guess = guess_unless(process, mappings, machine, strict, &chain)?;
     let rest = left_after(left, &chain);
-    let guessed = guessed_stack(alloc, process, mappings, kept, machine, rest, guess)?;
+    let guessed = guessed_stack(
+        alloc, process, mappings, kept, machine, code_bits, rest, guess,
+    )?;
     Ok(StackParts {
         stack: followed.told,
         guessed,
     })
+}
+
+/// The stack of a thread that stands at a state, and what follows that by a guess, unless `strict`. `code_bits` are those
+/// of an address in a signed return address. What is right is the answer, where the tables of the files ascend, want of
+/// memory aside.
+pub fn stack_parts<'a, P: ProcessMemory>(
+    alloc: Global,
+    process: &mut P,
+    mappings: &CodeMap<'a>,
+    kept: &mut Kept<'a>,
+    machine: Machine,
+    code_bits: u64,
+    strict: bool,
+    left: usize,
+    first: &State,
+) -> Result<StackParts, AllocError>
+    requires kept { AreKept mappings.now kept.old }
+    ensures is { Reading thread_most (P.seen process.old) (P.seen process.new) (λ m. IfOk result (λ parts.
+        StackPair mappings.now machine code_bits m strict left first.now (pair_of parts))) }
+    ensures only { AllAscend mappings.now → Reading thread_most (P.seen process.old) (P.seen process.new)
+        (λ m. (other : StackShown × Option StackShown)
+        → StackPair mappings.now machine code_bits m strict left first.now other
+        → IfOk result (λ parts. pair_of parts ≡ other)) }
+    ensures kept { AreKept mappings.now kept.new }
+{
+    read_parts(
+        alloc, process, mappings, kept, machine, code_bits, strict, left, first,
+    )
 }

@@ -1,16 +1,16 @@
 //! A native stack as a JSON value.
 ghost use Rattle.std.specs.Prelude.{◌≡◌, IfOk, option_copied, string_bytes};
 ghost use Rattle.serde_json.specs.View.{view};
-ghost use Rattle.native_frames.specs.Text.{address_text};
+ghost use Rattle.native_frames.specs.Text.{address_text, guess_text};
 ghost use Rattle.native_frames.specs.Threads.{stack_shown};
 ghost use Rattle.native_frames.specs.Trees.{address_tree, end_address, end_kind, file_tree, frame_tree, frames_tree};
-ghost use Rattle.native_frames.specs.Trees.{end_tree, function_name_tree, missing_tree, name_tree, offset_tree};
+ghost use Rattle.native_frames.specs.Trees.{end_tree, function_name_tree, mark_tree, missing_tree, name_tree, offset_tree};
 ghost use Rattle.native_frames.specs.Trees.{place_address, place_file, stack_tree};
 
 use crate::files::path_of;
 use crate::stacks::{Function, NativeFrame, ThreadStack};
-use crate::text::{first_frames, frames_between, last_frames};
-use core_unwind::{CodePlace, End, Limit, Refusal};
+use crate::text::{first_frames, frames_between, guess_text, last_frames};
+use core_unwind::{CodePlace, End, Limit, Mark, Refusal};
 use elf64_core::Name;
 use serde_json::{Value, json};
 use std::alloc::{AllocError, Global};
@@ -103,6 +103,16 @@ fn place_address(place: Option<CodePlace>) -> Option<u64>
     }
 }
 
+/// By what something was found, or null.
+fn mark_value(alloc: Global, mark: Option<Mark>) -> Result<Value, AllocError>
+    ensures { IfOk result (λ value. view value ≡ mark_tree mark) }
+{
+    match mark {
+        Some(mark) => Value::try_from_str(alloc, guess_text(mark)),
+        None => Ok(Value::Null),
+    }
+}
+
 /// A frame.
 fn frame_value(alloc: Global, files: &[Name], frame: &NativeFrame) -> Result<Value, AllocError>
     ensures { IfOk result (λ value. view value ≡ frame_tree files.now frame.now) }
@@ -111,6 +121,7 @@ fn frame_value(alloc: Global, files: &[Name], frame: &NativeFrame) -> Result<Val
     let cfa = address_value(alloc, frame.frame.cfa)?;
     let file = file_value(alloc, files, place_file(frame.frame.place))?;
     let function = function_value(alloc, &frame.function)?;
+    let mark = mark_value(alloc, frame.frame.mark)?;
     let offset = offset_value(&frame.function);
     let pc = address_value(alloc, Some(frame.frame.pc))?;
     json!(in alloc; {
@@ -119,6 +130,7 @@ fn frame_value(alloc: Global, files: &[Name], frame: &NativeFrame) -> Result<Val
         "exact": frame.frame.is_exact,
         "file": file,
         "function": function,
+        "mark": mark,
         "offset": offset,
         "pc": pc,
         "signal": frame.frame.is_signal
@@ -192,7 +204,7 @@ fn end_value(
 }
 
 /// A stack as a JSON value: `frames`, its first `limit` frames; `between`, how many stand behind them; `last`, its last
-/// `limit`; `end`, how it ends. `files` are the paths by which frames name files.
+/// `limit`; `end`, how it ends; `guess`, by what its newest frame was guessed, or null. `files` are the paths by which frames name files.
 ///
 /// The keys of an object stand in the order of their bytes. The one error is want of memory.
 pub fn stack_value(
@@ -206,12 +218,14 @@ pub fn stack_value(
     let frames = stack.frames.as_slice();
     let between = frames_between(frames, limit) as u64;
     let end = end_value(alloc, files, stack.end, stack.missing)?;
+    let guess = mark_value(alloc, stack.guess)?;
     let first = frames_value(alloc, files, first_frames(frames, limit))?;
     let last = frames_value(alloc, files, last_frames(frames, limit))?;
     json!(in alloc; {
         "between": between,
         "end": end,
         "frames": first,
+        "guess": guess,
         "last": last
     })
 }

@@ -1,14 +1,16 @@
 -- The native stacks of a process.
-use Rattle.std.specs.Prelude.{ℕ, Bool, true, List, map, Option, option_map}
+use Rattle.std.specs.Prelude.{◌≡◌, ℕ, Bool, true, List, map, Option, option_map}
 use Rattle.elf64_core.specs.Header.{machine_of}
 use Rattle.elf64_core.specs.Notes.{Noted}
 use Rattle.image_memory.specs.Images.{Pushed}
 use Rattle.process_memory.specs.Memory.{Memory}
 use Rattle.core_unwind.specs.declared.place.Mapping.{Mapping}
+use Rattle.core_unwind.specs.Stacks.{AllAscend}
 use Rattle.thread_registers.specs.Threads.{ThreadShown, thread_shown as known_shown}
 use Rattle.thread_registers.specs.declared.threads.PythonThread.{PythonThread}
 use Rattle.thread_registers.specs.declared.threads.ThreadRegisters.{ThreadRegisters}
 use Rattle.native_stacks.specs.declared.stacks.NativeStacks.{NativeStacks}
+use Rattle.native_frames.specs.Limits.{code_bits}
 use Rattle.native_frames.specs.Mapped.{AreMapped}
 use Rattle.native_stacks.specs.Threads.{AreThreads, NativeShown, thread_shown}
 
@@ -22,7 +24,19 @@ pub record AreNativeStacks (core : List ℕ) (notes : List Noted) (images : Push
     (pythons : List PythonThread) (strict : Bool) (stacks : StacksShown) : Type 0 where
   pub mappings : List Mapping
   pub mapped : AreMapped core notes images stacks.files mappings
-  pub threads : AreThreads (machine_of core) pythons mappings m strict notes true 4194304 stacks.threads
+  pub threads : AreThreads (machine_of core) pythons mappings (code_bits (machine_of core) notes) m strict notes true
+      4194304 stacks.threads
+
+-- over the files as they were mapped these are the threads, and no others are, where the tables of the files ascend
+pub record IsOneAnswer (core : List ℕ) (notes : List Noted) (images : Pushed) (m : Memory) (pythons : List PythonThread)
+    (strict : Bool) (stacks : StacksShown) : Type 0 where
+  pub mappings : List Mapping
+  pub mapped : AreMapped core notes images stacks.files mappings
+  pub threads : AreThreads (machine_of core) pythons mappings (code_bits (machine_of core) notes) m strict notes true
+      4194304 stacks.threads
+  pub only : AllAscend mappings → (other : List NativeShown)
+      → AreThreads (machine_of core) pythons mappings (code_bits (machine_of core) notes) m strict notes true 4194304 other
+      → stacks.threads ≡ other
 
 -- ---- as they are read
 

@@ -31,23 +31,23 @@ abbrev pub state_by : Option Machine → List ℕ → Option (Machine × State)
 state_by None status = None
 state_by (Some machine) status = option_map (λ (s : State). (machine, s)) (thread_state machine status)
 
-abbrev pub HasStacks : List Mapping → Memory → (strict : Bool) → (left : ℕ) → Option (Machine × State)
+abbrev pub HasStacks : List Mapping → (code_bits : ℕ) → Memory → (strict : Bool) → (left : ℕ) → Option (Machine × State)
     → Option StackShown → Option StackShown → Type 0
-HasStacks mappings m strict left None stack guessed = (stack ≡ None) × (guessed ≡ None)
-HasStacks mappings m strict left (Some s) stack guessed =
-    (told : StackShown) × (stack ≡ Some told) × StackPair mappings s.0 m strict left s.1 (told, guessed)
+HasStacks mappings code_bits m strict left None stack guessed = (stack ≡ None) × (guessed ≡ None)
+HasStacks mappings code_bits m strict left (Some s) stack guessed =
+    (told : StackShown) × (stack ≡ Some told) × StackPair mappings s.0 code_bits m strict left s.1 (told, guessed)
 
 -- the first status record is that of the thread that got the signal, where it names one
 abbrev pub is_crash : (is_first : Bool) → List ℕ → Bool
 is_crash is_first status = is_first && (nat_le 14 (length status) && not (nat_eq (u16_in status 12) 0))
 
 -- a thread by its record, of which so much is known
-pub record IsThread (machine : ElfMachine) (mappings : List Mapping) (m : Memory) (strict is_first : Bool) (left : ℕ)
-    (known : ThreadShown) (status : List ℕ) (t : NativeShown) : Type 0 where
+pub record IsThread (machine : ElfMachine) (mappings : List Mapping) (code_bits : ℕ) (m : Memory)
+    (strict is_first : Bool) (left : ℕ) (known : ThreadShown) (status : List ℕ) (t : NativeShown) : Type 0 where
   pub id : t.system_id ≡ known.system_id
   pub whose : t.whose ≡ known.whose
   pub crashed : t.is_crashed ≡ is_crash is_first status
-  pub stacks : HasStacks mappings m strict left (state_by (frame_machine machine) status) t.stack t.guessed
+  pub stacks : HasStacks mappings code_bits m strict left (state_by (frame_machine machine) status) t.stack t.guessed
 
 -- how many frames a thread has
 abbrev pub count_of : Option StackShown → ℕ
@@ -67,22 +67,22 @@ ThreadThen (Some known) here behind is_first left threads =
     × behind false (left_behind left t) others
 
 -- the threads of a process: one for each status record, in the order of the notes
-unfoldable pub AreThreads : ElfMachine → List PythonThread → List Mapping → Memory → (strict : Bool) → List Noted
+unfoldable pub AreThreads : ElfMachine → List PythonThread → List Mapping → (code_bits : ℕ) → Memory → (strict : Bool) → List Noted
     → (is_first : Bool) → (left : ℕ) → List NativeShown → Type 0
-AreThreads machine pythons mappings m strict [] is_first left threads = threads ≡ []
-AreThreads machine pythons mappings m strict (note ∷ notes) is_first left threads =
+AreThreads machine pythons mappings code_bits m strict [] is_first left threads = threads ≡ []
+AreThreads machine pythons mappings code_bits m strict (note ∷ notes) is_first left threads =
     ThreadThen (thread_noted machine pythons note)
-    (λ known t. IsThread machine mappings m strict is_first left known note.desc t)
-    (AreThreads machine pythons mappings m strict notes) is_first left threads
+    (λ known t. IsThread machine mappings code_bits m strict is_first left known note.desc t)
+    (AreThreads machine pythons mappings code_bits m strict notes) is_first left threads
 
 -- ---- as it is read
 
 -- the thread of a note, if that is a status record
-abbrev pub IsThreadOf : ElfMachine → List Mapping → Memory → (strict is_first : Bool) → (left : ℕ) → List ℕ
+abbrev pub IsThreadOf : ElfMachine → List Mapping → (code_bits : ℕ) → Memory → (strict is_first : Bool) → (left : ℕ) → List ℕ
     → Option ThreadShown → Option NativeShown → Type 0
-IsThreadOf machine mappings m strict is_first left status None thread = thread ≡ None
-IsThreadOf machine mappings m strict is_first left status (Some known) thread =
-    (t : NativeShown) × (thread ≡ Some t) × IsThread machine mappings m strict is_first left known status t
+IsThreadOf machine mappings code_bits m strict is_first left status None thread = thread ≡ None
+IsThreadOf machine mappings code_bits m strict is_first left status (Some known) thread =
+    (t : NativeShown) × (thread ≡ Some t) × IsThread machine mappings code_bits m strict is_first left known status t
 
 abbrev pub first_after : (is_first : Bool) → Option NativeShown → Bool
 first_after is_first None = is_first

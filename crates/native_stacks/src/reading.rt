@@ -6,7 +6,7 @@ ghost use Rattle.native_frames.specs.Kept.{AreKept};
 ghost use Rattle.native_frames.specs.Limits.{frame_machine, most_reads, thread_most};
 ghost use Rattle.native_frames.specs.Threads.{stack_shown_if};
 ghost use Rattle.thread_registers.specs.Threads.{thread_noted, thread_shown as known_shown};
-ghost use Rattle.native_stacks.specs.Stacks.{AreNativeStacks, known_shown_if, stacks_shown};
+ghost use Rattle.native_stacks.specs.Stacks.{AreNativeStacks, IsOneAnswer, known_shown_if, stacks_shown};
 ghost use Rattle.native_stacks.specs.Threads.{AreThreads, HasStacks, IsThread, IsThreadOf, count_of, first_after};
 ghost use Rattle.native_stacks.specs.Threads.{is_crash, left_after, state_by, thread_shown, thread_shown_if};
 
@@ -15,7 +15,9 @@ use core_unwind::{CodeMap, State, thread_state};
 use elf64_core::{Machine, Note, u16_in};
 use frame_rows::Machine as FrameMachine;
 use image_memory::{CoreDump, Images};
-use native_frames::{Kept, Mapped, ThreadStack, frame_machine, mapped_files, stack_parts};
+use native_frames::{
+    Kept, Mapped, ThreadStack, code_bits, frame_machine, mapped_files, stack_parts,
+};
 use process_memory::ProcessMemory;
 use std::alloc::{AllocError, Global};
 use std::collections::BTreeMap;
@@ -57,19 +59,20 @@ fn halves_of<'a, P: ProcessMemory>(
     process: &mut P,
     mappings: &CodeMap<'a>,
     kept: &mut Kept<'a>,
+    code_bits: u64,
     strict: bool,
     left: usize,
     standing: Option<(FrameMachine, State)>,
 ) -> Result<Halves, AllocError>
     requires kept { AreKept mappings.now kept.old }
     ensures is { Reading thread_most (P.seen process.old) (P.seen process.new) (λ m. IfOk result (λ halves.
-        HasStacks mappings.now m strict left standing (stack_shown_if halves.stack) (stack_shown_if halves.guessed))) }
+        HasStacks mappings.now code_bits m strict left standing (stack_shown_if halves.stack) (stack_shown_if halves.guessed))) }
     ensures kept { AreKept mappings.now kept.new }
 {
     match standing {
         Some((machine, state)) => {
             let parts = stack_parts(
-                alloc, process, mappings, kept, machine, strict, left, &state,
+                alloc, process, mappings, kept, machine, code_bits, strict, left, &state,
             )?;
             Ok(Halves {
                 stack: Some(parts.stack),
@@ -90,6 +93,7 @@ fn thread_of<'a, P: ProcessMemory>(
     mappings: &CodeMap<'a>,
     kept: &mut Kept<'a>,
     machine: Machine,
+    code_bits: u64,
     strict: bool,
     is_first: bool,
     left: usize,
@@ -98,12 +102,14 @@ fn thread_of<'a, P: ProcessMemory>(
 ) -> Result<NativeThread, AllocError>
     requires kept { AreKept mappings.now kept.old }
     ensures is { Reading thread_most (P.seen process.old) (P.seen process.new) (λ m. IfOk result (λ thread.
-        IsThread machine mappings.now m strict is_first left (known_shown known.now) status.now
+        IsThread machine mappings.now code_bits m strict is_first left (known_shown known.now) status.now
         (thread_shown thread))) }
     ensures kept { AreKept mappings.now kept.new }
 {
     let standing = state_by(frame_machine(machine), status);
-    let halves = halves_of(alloc, process, mappings, kept, strict, left, standing)?;
+    let halves = halves_of(
+        alloc, process, mappings, kept, code_bits, strict, left, standing,
+    )?;
     let is_crashed = is_crash(is_first, status);
     Ok(NativeThread {
         system_id: known.system_id,
@@ -146,6 +152,7 @@ fn thread_noted<'a, P: ProcessMemory>(
     kept: &mut Kept<'a>,
     machine: Machine,
     pythons: &[PythonThread],
+    code_bits: u64,
     strict: bool,
     is_first: bool,
     left: usize,
@@ -153,14 +160,15 @@ fn thread_noted<'a, P: ProcessMemory>(
 ) -> Result<Option<NativeThread>, AllocError>
     requires kept { AreKept mappings.now kept.old }
     ensures is { Reading thread_most (P.seen process.old) (P.seen process.new) (λ m. IfOk result (λ thread.
-        IsThreadOf machine mappings.now m strict is_first left (noted note.now).desc
+        IsThreadOf machine mappings.now code_bits m strict is_first left (noted note.now).desc
         (thread_noted machine pythons.now (noted note.now)) (thread_shown_if thread))) }
     ensures kept { AreKept mappings.now kept.new }
 {
     match known_of(alloc, machine, pythons, note)? {
         Some(known) => {
             let thread = thread_of(
-                alloc, process, mappings, kept, machine, strict, is_first, left, &known, note.desc,
+                alloc, process, mappings, kept, machine, code_bits, strict, is_first, left, &known,
+                note.desc,
             )?;
             Ok(Some(thread))
         }
@@ -209,10 +217,11 @@ fn threads_of<'a, P: ProcessMemory>(
     machine: Machine,
     notes: &[Note<'_>],
     pythons: &[PythonThread],
+    code_bits: u64,
     strict: bool,
 ) -> Result<Vec<NativeThread>, AllocError>
     ensures { Reading (most_reads (length notes.now)) (P.seen process.old) (P.seen process.new) (λ m. IfOk result
-        (λ threads. AreThreads machine pythons.now mappings.now m strict (map noted notes.now) true 4194304
+        (λ threads. AreThreads machine pythons.now mappings.now code_bits m strict (map noted notes.now) true 4194304
         (map thread_shown threads.items))) }
 {
     let mut threads = Vec::new(alloc);
@@ -221,13 +230,37 @@ fn threads_of<'a, P: ProcessMemory>(
     let mut is_first = true;
     for note in notes {
         let thread = thread_noted(
-            alloc, process, mappings, &mut kept, machine, pythons, strict, is_first, left, note,
+            alloc, process, mappings, &mut kept, machine, pythons, code_bits, strict, is_first,
+            left, note,
         )?;
         left = left_after(left, &thread);
         is_first = first_after(is_first, &thread);
         push_if(&mut threads, thread)?;
     }
     Ok(threads)
+}
+
+/// See `read_native_stacks`.
+fn read_stacks<P: ProcessMemory>(
+    alloc: Global,
+    core: &CoreDump,
+    notes: &[Note<'_>],
+    images: &Images,
+    process: &mut P,
+    pythons: &[PythonThread],
+    strict: bool,
+) -> Result<NativeStacks, AllocError>
+    ensures { Reading (most_reads (length notes.now)) (P.seen process.old) (P.seen process.new)
+        (λ m. IfOk result (λ stacks. AreNativeStacks core.now (map noted notes.now) images.now m pythons.now strict
+        (stacks_shown stacks))) }
+{
+    let Mapped { files, mappings } = mapped_files(alloc, core, notes, images)?;
+    let machine = core.machine();
+    let bits = code_bits(machine, notes);
+    let threads = threads_of(
+        alloc, process, &mappings, machine, notes, pythons, bits, strict,
+    )?;
+    Ok(NativeStacks { files, threads })
 }
 
 /// The native stacks of the threads of a core: one for each status record among its notes in table order, by the files
@@ -237,9 +270,10 @@ fn threads_of<'a, P: ProcessMemory>(
 /// the Python threads that are known: a record is of one of them as `thread_registers::read_threads` has it. With
 /// `strict` nothing is guessed. A stack is that of `core_unwind::read_stack`; each frame has the function that covers
 /// it (`covering_symbols`). A thread has at most 2^20 frames, and behind the 2^22nd of the process each thread its
-/// newest one. Memory is read at most 8480 times for a frame.
+/// newest one. Memory is read at most 8549 times for a frame.
 ///
-/// The one error is want of memory, as which a file table counts that is none, which those of a core are not.
+/// What is right over the files so mapped is the answer, where their tables ascend. The one error is want of memory, as
+/// which a file table counts that is none, which those of a core are not.
 pub fn read_native_stacks<P: ProcessMemory>(
     alloc: Global,
     core: &CoreDump,
@@ -252,9 +286,9 @@ pub fn read_native_stacks<P: ProcessMemory>(
     ensures right { Reading (most_reads (length notes.now)) (P.seen process.old) (P.seen process.new)
         (λ m. IfOk result (λ stacks. AreNativeStacks core.now (map noted notes.now) images.now m pythons.now strict
         (stacks_shown stacks))) }
+    ensures only { Reading (most_reads (length notes.now)) (P.seen process.old) (P.seen process.new)
+        (λ m. IfOk result (λ stacks. IsOneAnswer core.now (map noted notes.now) images.now m pythons.now strict
+        (stacks_shown stacks))) }
 {
-    let Mapped { files, mappings } = mapped_files(alloc, core, notes, images)?;
-    let machine = core.machine();
-    let threads = threads_of(alloc, process, &mappings, machine, notes, pythons, strict)?;
-    Ok(NativeStacks { files, threads })
+    read_stacks(alloc, core, notes, images, process, pythons, strict)
 }

@@ -2,4 +2,6 @@
 #![tactic(auto)]
 
 #[cfg(test)]
+mod mark_tests;
+#[cfg(test)]
 mod stack_tests;

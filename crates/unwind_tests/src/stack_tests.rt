@@ -1,6 +1,6 @@
 //! The stack of a thread in a small file, which is written down here.
 use core_unwind::{
-    CodeMap, CodePlace, End, Frame, Limit, Mapping, NativeStack, Next, State, read_guess,
+    CodeMap, CodePlace, End, Frame, Limit, Manner, Mapping, NativeStack, Next, State, read_guess,
     read_stack, read_step, thread_state,
 };
 use frame_rows::Machine;
@@ -32,6 +32,13 @@ const CODE: u64 = 0x7000_0000;
 
 /// The stack: from here on some words.
 const STACK: u64 = 0x9000;
+
+/// Steps without guesses.
+static PLAIN: Manner = Manner {
+    machine: Machine::X86_64,
+    code_bits: u64::MAX,
+    guesses: false,
+};
 
 /// A memory of these words from the stack on.
 fn memory_of(alloc: Global, words: &[u64]) -> Result<Part, AllocError> {
@@ -86,7 +93,7 @@ fn stack_of(
     if limit == 0 {
         return Ok(None);
     }
-    match read_stack(alloc, &mut part, &mappings, u64::MAX, limit, &thread_at(pc)) {
+    match read_stack(alloc, &mut part, &mappings, &PLAIN, limit, &thread_at(pc)) {
         Ok(stack) => Ok(Some(stack)),
         Err(_) => Ok(None),
     }
@@ -113,6 +120,7 @@ fn frame_of(pc: u64, is_exact: bool, address: u64, cfa: u64) -> Frame {
         place: Some(CodePlace { file: 5, address }),
         cfa: Some(cfa),
         is_signal: false,
+        mark: None,
     }
 }
 
@@ -177,7 +185,7 @@ fn a_step_gives_the_callers_registers(rt: HostRuntime) -> Result<(), Fail> {
     let turn = read_step(
         &mut part,
         &mappings,
-        u64::MAX,
+        &PLAIN,
         &mut room,
         &thread_at(CODE + 4),
     );
@@ -205,7 +213,8 @@ fn guess_of(alloc: Global, words: &[u64], pc: u64) -> Result<Option<State>, Allo
         return Ok(None);
     };
     match read_guess(&mut part, &mappings, Machine::X86_64, &stack) {
-        Ok(guess) => Ok(guess),
+        Ok(Some(guess)) => Ok(Some(guess.caller)),
+        Ok(None) => Ok(None),
         Err(_) => Ok(None),
     }
 }
@@ -253,4 +262,39 @@ fn a_status_record_tells_the_registers(rt: HostRuntime) {
 fn a_short_record_tells_nothing(rt: HostRuntime) {
     assert!(rt; thread_state(Machine::Aarch64, &[0; 375]).is_none());
     assert!(rt; thread_state(Machine::Aarch64, &[0; 376]).is_some());
+}
+
+/// A thread below the file's code that keeps a frame pointer, over these words, and its guess.
+fn based_guess(alloc: Global, words: &[u64], base: u64) -> Result<Option<State>, AllocError> {
+    let mappings = map_of(alloc)?;
+    let mut part = memory_of(alloc, words)?;
+    let mut first = thread_at(CODE + 0x12);
+    first.registers[6] = Some(base);
+    let stack = match read_stack(alloc, &mut part, &mappings, &PLAIN, 9, &first) {
+        Ok(stack) => stack,
+        Err(_) => return Ok(None),
+    };
+    match read_guess(&mut part, &mappings, Machine::X86_64, &stack) {
+        Ok(Some(guess)) => Ok(Some(guess.caller)),
+        Ok(None) => Ok(None),
+        Err(_) => Ok(None),
+    }
+}
+
+#[test]
+fn a_frame_pointer_leads_to_the_caller(rt: HostRuntime) -> Result<(), Fail> {
+    let words = [0, 0x33, CODE + 0x30, 0];
+    let is = match based_guess(rt.alloc(), &words, STACK + 8)? {
+        Some(caller) => {
+            caller.pc == CODE + 0x30
+                && caller.registers[6] == Some(0x33)
+                && caller.registers[7] == Some(STACK + 24)
+        }
+        None => false,
+    };
+    assert!(rt; is);
+    // one below the stack pointer, and one that is no multiple of 8
+    assert!(rt; based_guess(rt.alloc(), &words, STACK - 8)?.is_none());
+    assert!(rt; based_guess(rt.alloc(), &words, STACK + 4)?.is_none());
+    Ok(())
 }

@@ -1,6 +1,6 @@
 """Dies in one way, with threads that stand in native code: native_child.py WAY LIBRARY.
 
-The library is native_child.c, as real_native.py has it built. Each thread says by an event that it is about to stand
+The library is native_child.c, as real_native.py has it built, and behind its path stands that of plain_child.c. Each thread says by an event that it is about to stand
 where it is to; the last thing that each does is a call that doesn't return, so that nothing is left to timing but the
 few instructions on the way into it.
 """
@@ -18,8 +18,9 @@ import time
 
 way, path = sys.argv[1:3]
 library = ctypes.CDLL(path)
+plain = ctypes.CDLL(sys.argv[3])
 CALLBACK = ctypes.CFUNCTYPE(ctypes.c_int, ctypes.c_int)
-for name in ("crash", "call_null", "call_wild", "in_handler", "aborted", "overflow", "waits"):
+for name in ("crash", "call_null", "call_wild", "in_handler", "aborted", "overflow", "waits", "through", "in_plain_handler"):
     getattr(library, name).argtypes = [ctypes.c_int]
 library.call_back.argtypes = [CALLBACK, ctypes.c_int]
 ends = socket.socketpair()
@@ -60,6 +61,8 @@ def end(which):
     """Dies."""
     if which == "callback":
         return library.call_back(CALLBACK(lambda number: library.crash(number)), 64)
+    if which == "plain":
+        return plain.plain(64)
     return getattr(library, which)(64)
 
 

@@ -6,8 +6,10 @@
 For each Python that is installed: processes die in C, built by gcc -O2, in the ways of native_child.py (with --all in
 each of them, else in some), while ten threads stand in system calls, in ctypes, re, json and sorted. Of each thread the
 address of each frame, and whether it is a signal's, is to be as in gdb's backtrace, frames that stand on no stack (inline
-and tail calls) aside; each stack is to be whole, and no frame is to be a guess but where a thread jumped to no code. The
-status is 0 exactly where nothing that was tried failed.
+and tail calls) aside; each stack is to be whole, and no frame is to be a guess but where a thread jumped to no code. Where
+no table covers a frame's code gdb tells nothing that could be compared: of these the thread that died is held against what
+the child is written to do (the functions round the frame that has the mark). The status is 0 exactly where nothing that was
+tried failed.
 """
 
 import argparse
@@ -30,9 +32,16 @@ from find_pythons import pythons
 from real_core import ran
 
 HERE = Path(__file__).parent
-WAYS = ("crash", "call_null", "call_wild", "in_handler", "aborted", "callback", "overflow")
-GATE_WAYS = ("call_null", "in_handler", "callback")
+MARKS = {"through": ("epilogue", "ends", "through"), "in_plain_handler": ("signal trampoline", "handle", ""),
+         "plain": ("frame pointer", "plain_inner", "plain_middle")}
+"""Ways to die below code that no table covers: the mark, and the functions of the frames before it and behind it."""
+
+WAYS = ("crash", "call_null", "call_wild", "in_handler", "aborted", "callback", "overflow", *MARKS)
+GATE_WAYS = ("call_null", "in_handler", "callback", *MARKS)
 """Those that are tried in the gate."""
+
+BUILDS = {"native_child": ("-O2",), "plain_child": ("-O1", "-fno-omit-frame-pointer", "-mno-omit-leaf-frame-pointer", "-fno-asynchronous-unwind-tables")}
+"""The children's libraries, and the words by which gcc builds them."""
 
 JUMPS = ("call_null", "call_wild")
 FILES = 0x46494C45
@@ -109,6 +118,29 @@ def checked(thread: Dict[str, object], right: Frames, way: str) -> int:
     return len(own)
 
 
+def check_marked(thread: Dict[str, object], way: str) -> int:
+    """How many frames the stack of a thread has that died below code which no table covers; its mark has to be there once, where the
+    child's functions say, and what follows is whole."""
+    mark, before, behind = MARKS[way]
+    stack, guessed = thread["stack"], thread["guessed"]
+    parts = [it for it in (stack, guessed) if isinstance(it, dict)]
+    frames = [frame for part in parts for frame in (*part["frames"], *part["last"])]
+    found = [place for place, it in enumerate(frames) if it["mark"] in ("epilogue", "signal trampoline")]
+    names = [it["function"] for it in frames]
+    if way == "plain":
+        if len(parts) != 2 or parts[1]["guess"] != mark or names[:3] != ["plain_inner", "plain_middle", "plain"]:
+            raise Failure(f"{way}: {names[:4]}, guess {parts[-1]['guess']}")
+    elif len(parts) != 1 or len(found) != 1 or frames[found[0]]["mark"] != mark or frames[found[0]]["function"] is not None:
+        raise Failure(f"{way}: {len(found)} frames have a mark, or a guess follows")
+    elif names[found[0] - 1] != before or behind and names[found[0] + 1] != behind or "in_plain_handler" != way and "crash" not in names:
+        raise Failure(f"{way}: {names[:found[0] + 2]}")
+    elif way == "in_plain_handler" and way not in names[found[0]:]:
+        raise Failure(f"{way}: {names}")
+    if parts[-1]["end"]["kind"] != "whole":
+        raise Failure(f"{way}: end {parts[-1]['end']}")
+    return len(frames)
+
+
 def native_of(program: Path, core: Path, layouts: Path) -> List[Dict[str, object]]:
     """The native stacks that are told of a core."""
     run = ran([program, core, "--layouts", layouts, "-j", "--native", "-n", "4096", *image_words(core)])
@@ -117,10 +149,10 @@ def native_of(program: Path, core: Path, layouts: Path) -> List[Dict[str, object
     return json.loads(run.out)["native"]
 
 
-def tried_way(program: Path, python: str, names: str, room: Path, layouts: Path, library: Path, way: str) -> Tuple[int, int]:
+def tried_way(program: Path, python: str, names: str, room: Path, layouts: Path, libraries: Sequence[Path], way: str) -> Tuple[int, int]:
     """How many threads and frames are as gdb has them, where a process dies in one way."""
     room.mkdir()
-    child = ended([python, str(HERE / "native_child.py"), way, str(library)], room)
+    child = ended([python, str(HERE / "native_child.py"), way, *map(str, libraries)], room)
     if child.status >= 0:
         raise Failure(f"a child doesn't die by {way}: {child.said[-200:]}")
     core = child.core(names)
@@ -128,14 +160,15 @@ def tried_way(program: Path, python: str, names: str, room: Path, layouts: Path,
     right = gdb_frames(python, core, room)
     if sorted(it["system_id"] for it in threads) != sorted(right):
         raise Failure("the threads aren't gdb's")
-    counts = [checked(it, right[it["system_id"]], way) for it in threads]  # type: ignore[index]
+    counts = [check_marked(it, way) if it["crashed"] and way in MARKS else checked(it, right[it["system_id"]], way)  # type: ignore[index]
+              for it in threads]
     if not threads[0]["crashed"] or any(it["crashed"] for it in threads[1:]):
         raise Failure("another thread than the first one got the signal")
     core.unlink()
     return len(counts), sum(counts)
 
 
-def tried_with(program: Path, ways: Sequence[str], library: Path) -> Callable[[str], str]:
+def tried_with(program: Path, ways: Sequence[str], libraries: Sequence[Path]) -> Callable[[str], str]:
     """What tries one Python."""
 
     def tried(python: str) -> str:
@@ -146,7 +179,7 @@ def tried_with(program: Path, ways: Sequence[str], library: Path) -> Callable[[s
         with tempfile.TemporaryDirectory(prefix="real-native-") as name:
             room = Path(name)
             layouts = ROOT / "layouts" / f"cpython-{build.machine}.toml"
-            counts = [tried_way(program, python, names, room / way, layouts, library, way) for way in ways]
+            counts = [tried_way(program, python, names, room / way, layouts, libraries, way) for way in ways]
         threads, frames = (sum(it) for it in zip(*counts))
         return f"{build.dotted}: {frames} frames of {threads} threads as gdb has them, in {len(ways)} ways"
 
@@ -165,13 +198,14 @@ def main() -> int:
         print(f"real_native: skipped: there is no {' and no '.join(lacks)}")
         return 0
     with tempfile.TemporaryDirectory(prefix="native-child-") as name:
-        library = Path(name) / "native_child.so"
-        built = subprocess.run(["gcc", "-O2", "-shared", "-fPIC", "-o", str(library), str(HERE / "native_child.c")])
-        if built.returncode != 0:
-            print("real_native: skipped: gcc doesn't build native_child.c")
-            return 0
+        libraries = [Path(name) / f"{it}.so" for it in BUILDS]
+        for library, (child, flags) in zip(libraries, BUILDS.items()):
+            built = subprocess.run(["gcc", *flags, "-shared", "-fPIC", "-o", str(library), str(HERE / f"{child}.c")])
+            if built.returncode != 0:
+                print(f"real_native: skipped: gcc doesn't build {child}.c")
+                return 0
         ways = WAYS if words.all else GATE_WAYS
-        failed = tell_each("real_native", tried_with(words.salvage, ways, library), words.python or pythons(), (Skip, DeriveError))
+        failed = tell_each("real_native", tried_with(words.salvage, ways, libraries), words.python or pythons(), (Skip, DeriveError))
     return 1 if failed else 0
 
 

@@ -196,7 +196,7 @@ class Sections(unittest.TestCase):
         page = report_page(whole, Style())
         reader = Reader(page)
         self.assertEqual((reader.faults, reader.stack, page.count('href="#native"')), ([], [], 1))
-        self.assertIn('Native stack of thread 9 (0x1 "Main") (crashed)Native stack of thread 8Native stack of thread 10: no registers', reader.text("b"))
+        self.assertIn('Native stack of thread 9 (0x1 "Main") (crashed)Native thread 8Native thread 10: no registers', reader.text("b"))
         shown = reader.text("li")
         for it in ("memset+0x46 (libc.so.6)", "0x77 (fast.so) <signal>", "0x3 (in no file)", "f+0x1 (fast.so) <guess>", "... 7 more frames", "... unreadable at 0x8"):
             self.assertIn(it, shown)

@@ -1,7 +1,7 @@
 """What `pysalvage --native` told of native stacks: frames, guesses and ends."""
 
 import os
-from typing import Optional, Tuple
+from typing import Dict, Optional, Tuple
 
 from pystacks_tool.ask.dump import Tree
 from pystacks_tool.model import NativeFrame, NativeStack
@@ -27,9 +27,11 @@ def number_in(value: Optional[str]) -> Optional[int]:
     return None if value is None else int(value, 16)
 
 
-def frame_of(tree: Tree, is_guess: bool) -> NativeFrame:
-    """A frame."""
-    return NativeFrame(int(tree["pc"], 16), tree["function"], tree["offset"], tree["file"], number_in(tree["address"]), tree["signal"], is_guess)
+def frame_of(tree: Tree, is_guess: bool, names: Dict[str, str]) -> NativeFrame:
+    """A frame. Of its function's name the readable form is taken, where there is one."""
+    function = tree["function"]
+    return NativeFrame(int(tree["pc"], 16), names.get(function, function), tree["offset"], tree["file"], number_in(tree["address"]), tree["signal"],
+                       is_guess, tree.get("mark") or "")
 
 
 def end_of(tree: Tree) -> str:
@@ -38,17 +40,17 @@ def end_of(tree: Tree) -> str:
     return f"{line} ({os.path.basename(tree['file'])})" if line and tree["file"] else line
 
 
-def part_of(tree: Optional[Tree], is_guess: bool) -> Tuple[Tuple[NativeFrame, ...], int, Tuple[NativeFrame, ...], str]:
+def part_of(tree: Optional[Tree], is_guess: bool, names: Dict[str, str]) -> Tuple[Tuple[NativeFrame, ...], int, Tuple[NativeFrame, ...], str]:
     """The first frames of a part of a stack, how many aren't shown, the last ones, and how it ends."""
     if tree is None:
         return (), 0, (), ""
-    first, last = (tuple(frame_of(it, is_guess) for it in tree[part]) for part in ("frames", "last"))
+    first, last = (tuple(frame_of(it, is_guess, names) for it in tree[part]) for part in ("frames", "last"))
     return first, tree["between"], last, end_of(tree["end"])
 
 
-def stack_of(tree: Tree) -> NativeStack:
+def stack_of(tree: Tree, names: Optional[Dict[str, str]] = None) -> NativeStack:
     """The stack of a thread. What follows from a guess stands behind what is sure."""
-    first, between, last, end = part_of(tree["stack"], False)
-    guessed, more, rest, then = part_of(tree["guessed"], True)
+    first, between, last, end = part_of(tree["stack"], False, names or {})
+    guessed, more, rest, then = part_of(tree["guessed"], True, names or {})
     return NativeStack(tree["system_id"], tree["python"].get("thread_id"), tree["crashed"], first, between, last, end, tree["stack"] is not None,
-                       guessed + rest, more, then)
+                       guessed + rest, more, then, (tree["guessed"] or {}).get("guess") or "")

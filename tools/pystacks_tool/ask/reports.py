@@ -8,17 +8,19 @@ where these are asked for they are those of `pystacks dump`, if that gives a rep
 import json
 from functools import lru_cache
 from pathlib import Path
-from typing import NamedTuple, Optional
+from typing import List, NamedTuple, Optional
 
 from pystacks_tool.ask.dump import Tree, Unexpected, report_by_dump, tree_of
 from pystacks_tool.ask.layout import DIFFERS, layout_in, refusal
+from pystacks_tool.ask.names import add_names, missing_files, readable_names
 from pystacks_tool.ask.native import FLAG as NATIVE, KEY as NATIVE_KEY, stack_of
 from pystacks_tool.ask.parts import ask_growing, ask_over
 from pystacks_tool.ask.programs import NAMES, ask, dump_command, native_command
 from pystacks_tool.ask.run import Answer, knows
 from pystacks_tool.ask.salvage import NamesAndValues, names_and_values, report_by_salvage, with_system_ids
+from pystacks_tool.cores.images import OTHER_FILE
 from pystacks_tool.cores.opened import OpenedCore
-from pystacks_tool.faults import NO_PROGRAM, Fault, say
+from pystacks_tool.faults import NO_PROGRAM, Fault, say, shown
 from pystacks_tool.model import Report, arranged
 from pystacks_tool.options import Options
 from pystacks_tool.places import PROGRAM, salvage_program
@@ -69,6 +71,16 @@ def ask_salvage(options: Options, core: OpenedCore, program: Path) -> Outcome:
     return Outcome(answer, arranged(with_native(options, core, program, report, tree)), tree)
 
 
+def say_missing(files: List[str]) -> None:
+    """Says once which files weren't at hand, so that native stacks end in them."""
+    if files:
+        names = ", ".join(shown(it.encode()) for it in files[:MISSING]) + (f" and {len(files) - MISSING} more" if len(files) > MISSING else "")
+        say(f"native stacks end early, as what was mapped isn't at hand: {names}", OTHER_FILE)
+
+
+MISSING = 4
+"""How many files that weren't at hand are named."""
+
 DEATHS = {4, 5, 6, 7, 8, 11, 31}
 """The signals of faults and of `abort`: native code may be where the process died."""
 
@@ -83,13 +95,16 @@ def with_native(options: Options, core: OpenedCore, program: Path, report: Repor
         if answer.status != 0:
             return report
         told = json.loads(decoded(answer.out))[NATIVE_KEY]
-        stacks = tuple(stack_of(it) for it in told)
+        add_names(told, [*core.images, *core.other_images()], core.root)
+        names = readable_names(told)
+        stacks = tuple(stack_of(it, names) for it in told)
     except (Fault, ValueError, KeyError, TypeError) as error:
         if options.native:
             raise error if isinstance(error, Fault) else Unexpected(f"its JSON: {error!r}") from None
         return report
     if options.native:
         tree[NATIVE_KEY] = told
+        say_missing(missing_files(told))
     return report._replace(native=stacks, shows_native=options.native)
 
 

@@ -4,7 +4,7 @@ import os
 import re
 from typing import Dict, Iterator, List, Optional, Sequence
 
-from pystacks_tool.model import NativeFrame, NativeStack, Report
+from pystacks_tool.model import NativeFrame, NativeStack, Report, Thread
 from pystacks_tool.show.escape import as_function, as_name, in_line
 
 LIBRARY = r"(libc|libffi|libpthread|ld-linux[^/]*|libm|libdl|librt|ld-musl[^/]*|linux-vdso)[-.][^/]*$|\[vdso\]$"
@@ -27,9 +27,14 @@ def place_of(frame: NativeFrame) -> str:
     return f"{inside} ({as_name(base_of(frame))})"
 
 
+def marks_of(frame: NativeFrame) -> str:
+    """A frame's marks: that the system called it, by what else than a table its caller was found, and that it follows from a guess."""
+    return f"{' <signal>' if frame.is_signal else ''}{f' <{in_line(frame.mark)}>' if frame.mark else ''}{' <guess>' if frame.is_guess else ''}"
+
+
 def frame_line(frame: NativeFrame) -> str:
     """A frame's line."""
-    return f"    {place_of(frame)}{' <signal>' if frame.is_signal else ''}{' <guess>' if frame.is_guess else ''}"
+    return f"    {place_of(frame)}{marks_of(frame)}"
 
 
 def part_lines(first: Sequence[NativeFrame], between: int, last: Sequence[NativeFrame], end: str) -> Iterator[str]:
@@ -44,15 +49,35 @@ def part_lines(first: Sequence[NativeFrame], between: int, last: Sequence[Native
 
 def stack_title(stack: NativeStack, name: Optional[str]) -> str:
     """The line that says whose a native stack is."""
-    whose = "" if stack.number is None else f" (0x{stack.number:X}{'' if name is None else f' {chr(34)}{as_name(name)}{chr(34)}'})"
+    if stack.number is None:
+        return f"Native thread {stack.native}{' (crashed)' if stack.is_crashed else ''}{'' if stack.is_told else ': no registers'}"
+    called = "" if name is None else f' "{as_name(name)}"'
+    whose = f" (0x{stack.number:X}{called})"
     return f"Native stack of thread {stack.native}{whose}{' (crashed)' if stack.is_crashed else ''}{'' if stack.is_told else ': no registers'}"
+
+
+def own_lines(stack: NativeStack) -> Iterator[str]:
+    """The lines of a native stack."""
+    yield from part_lines(stack.frames, stack.between, stack.last, stack.end)
+    if stack.guess and stack.guessed:
+        yield f"    ... guess: {in_line(stack.guess)}"
+    yield from part_lines(stack.guessed, stack.guessed_between, (), stack.guessed_end)
 
 
 def stack_lines(stack: NativeStack, name: Optional[str]) -> Iterator[str]:
     """The lines of a native stack, below the one that says whose it is."""
     yield stack_title(stack, name)
-    yield from part_lines(stack.frames, stack.between, stack.last, stack.end)
-    yield from part_lines(stack.guessed, stack.guessed_between, (), stack.guessed_end)
+    yield from own_lines(stack)
+
+
+def lines_under(report: Report, thread: Thread) -> Iterator[str]:
+    """The lines of the native stack of a Python thread, below its own: that of the first thread that has its id, since in other
+    interpreters a thread keeps the id of the one that made it."""
+    stack = next((it for it in report.native if it.number == thread.number), None) if report.shows_native else None
+    first = next((it for it in report.threads if it.number == thread.number), None)
+    if stack is not None and first is thread:
+        yield f"    Native, thread {stack.native}:{'' if stack.is_told else ' no registers'}"
+        yield from own_lines(stack)
 
 
 def crashed_first(report: Report) -> List[NativeStack]:
@@ -65,11 +90,13 @@ def thread_names(report: Report) -> Dict[Optional[int], Optional[str]]:
     return {it.number: it.name for it in report.threads}
 
 
-def native_lines(report: Report) -> Iterator[str]:
-    """The lines of all native stacks."""
+def native_lines(report: Report, is_each: bool) -> Iterator[str]:
+    """The lines of the native stacks that don't stand under the heads of Python's threads: of each, or of the threads that are none of
+    Python's."""
     names = thread_names(report)
     for stack in crashed_first(report):
-        yield from stack_lines(stack, names.get(stack.number))
+        if is_each or stack.number not in names:
+            yield from stack_lines(stack, names.get(stack.number))
 
 
 # ---- where it died

@@ -74,6 +74,8 @@ def native_items(frames: Sequence[NativeFrame], between: int, last: Sequence[Nat
 def native_section(anchor: str, stack: NativeStack, title: str, is_open: bool) -> str:
     """The native stack of a thread."""
     items = native_items(stack.frames, stack.between, stack.last, stack.end)
+    if stack.guess and stack.guessed:
+        items.append(f"<li class=\"end\">... guess: {text(in_line(stack.guess))}")
     items += native_items(stack.guessed, stack.guessed_between, (), stack.guessed_end)
     rows = "\n".join(items)
     return foldable(anchor, text(title), f"<ol>\n{rows}\n</ol>" if items else "<p>no frames</p>", is_open)

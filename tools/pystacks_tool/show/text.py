@@ -10,7 +10,7 @@ from typing import Callable, Dict, Iterator, List, NamedTuple, Optional, Sequenc
 from pystacks_tool.model import Frame, Interpreter, Local, Report, Stack, Thread, stacks_of, whole_or_cut
 from pystacks_tool.show.escape import as_function, as_name, in_line, signal_name, with_decimals
 from pystacks_tool.show.folds import Fold, Item, folded
-from pystacks_tool.show.native import native_lines, where_line
+from pystacks_tool.show.native import lines_under, native_lines, where_line
 from pystacks_tool.show.sources import Sources
 from pystacks_tool.show.tasks import summary_of, task_blocks
 from pystacks_tool.show.widths import shortened
@@ -236,6 +236,11 @@ def head_lines(report: Report, style: Style, _: int) -> Iterator[str]:
     yield from [*lines, ""] if lines else []
 
 
+def natives_of(report: Report, thread: Thread) -> Iterator[str]:
+    """The native frames of a thread, below its own: of many threads they stand apart."""
+    return iter(()) if is_many(report) else lines_under(report, thread)
+
+
 def crashed_lines(report: Report, style: Style, _: int) -> Iterator[str]:
     """The stacks of the threads that got the signal, below their interpreters' lines."""
     for one in report.interpreters:
@@ -247,6 +252,7 @@ def crashed_lines(report: Report, style: Style, _: int) -> Iterator[str]:
         for it in found:
             yield title_of(it, style)
             yield from stack_lines(it, style)
+            yield from natives_of(report, it)
     if is_many(report) and any(it.is_crashed for it in report.threads):
         yield ""
 
@@ -301,11 +307,13 @@ class Block(NamedTuple):
 def blocks_of(place: int, one: Interpreter, is_short: bool, report: Report, style: Style) -> Iterator[Block]:
     """What stands of an interpreter's threads, but for those that got the signal."""
     threads = [it for it in one.threads if not it.is_crashed]
-    empty = [] if style.shows_all else [it for it in threads if it.is_empty]
-    for stack in stacks_of([it for it in threads if style.shows_all or not it.is_empty], is_many(report) and not style.shows_all):
+    is_each = style.shows_all or report.shows_native and not is_many(report)
+    empty = [] if is_each else [it for it in threads if it.is_empty]
+    for stack in stacks_of([it for it in threads if is_each or not it.is_empty], is_many(report) and not style.shows_all):
         thread, count = stack.one, len(stack.threads)
         lines = newest_lines(thread, style) if is_short else stack_lines(thread, style)
-        yield Block(place, [titles_of(stack) if count > 1 else title_of(thread, style), *lines], count, True, bool(thread.marks))
+        own = natives_of(report, thread)
+        yield Block(place, [titles_of(stack) if count > 1 else title_of(thread, style), *lines, *own], count, True, bool(thread.marks))
     if empty:
         yield Block(place, [empty_line(empty)], len(empty), False)
 
@@ -395,8 +403,8 @@ def task_lines(report: Report, style: Style, _: int) -> Iterator[str]:
 
 
 def native_stack_lines(report: Report, _: Style, __: int) -> Iterator[str]:
-    """The native stacks, where they are asked for."""
-    return native_lines(report) if report.shows_native else iter(())
+    """The native stacks that don't stand under the heads of Python's threads, where they are asked for: of many threads each."""
+    return native_lines(report, is_many(report)) if report.shows_native else iter(())
 
 
 # ---- the whole

@@ -7,7 +7,7 @@ use Rattle.core_unwind.specs.Values.{value_of}
 use Rattle.core_unwind.proofs.value.read_registers.Goals as goal
 
 pub loop-register-init : goal.loop-register-init
-loop-register-init g c = let none : Option ℕ = None in filling_init (λ m k. value_of c.args.rules.now
+loop-register-init g c = let none : Option ℕ = None in filling_init 257 (λ m k. value_of c.args.rules.now
     c.args.registers.now m c.args.cfa k) _ _
     (length-replicate 32 none)
 

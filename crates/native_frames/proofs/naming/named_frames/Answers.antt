@@ -9,7 +9,7 @@ use Rattle.native_frames.proofs.naming.named_frames.Goals as goal
 
 -- what stands for a frame behind the end of a list
 abbrev no_frame : Frame
-no_frame = record { pc = 0; is_exact = false; place = None; cfa = None; is_signal = false }
+no_frame = record { pc = 0; is_exact = false; place = None; cfa = None; is_signal = false; mark = None }
 
 pub loop-frame-init : goal.loop-frame-init
 loop-frame-init c = rw c.new-named.ensures.items (record { so_far = λ more h. h; kept = c.requires.kept })

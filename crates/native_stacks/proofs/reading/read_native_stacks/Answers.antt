@@ -1,10 +1,11 @@
-use Rattle.std.proofs.Common.{length}
-use Rattle.std.proofs.lemmas.Result.{err_from_is_err_and}
-use Rattle.process_memory.proofs.Reading.{reading_none}
+use Rattle.std.proofs.Common.{arith, length, map}
+use Rattle.elf64_core.specs.Notes.{noted}
+use Rattle.process_memory.proofs.Reading.{reading_gives}
 use Rattle.native_frames.specs.Limits.{most_reads}
+use Rattle.native_stacks.proofs.Once.{one_answer}
 use Rattle.native_stacks.proofs.reading.read_native_stacks.Goals as goal
 
-pub returns-in_err-files : goal.returns-in_err-files
-returns-in_err-files g c =
-    let p = err_from_is_err_and c.from_residual.result c.from_residual.ensures.1 in
-    rw p.1 (record { right = reading_none (most_reads (length c.args.notes.now)) _ _ (λ m. tt) })
+pub returns-clause-only : goal.returns-clause-only
+returns-clause-only g c = reading_gives (most_reads (length c.args.notes.now)) _ c.read_stacks.ensures (omega arith) (λ m h.
+    one_answer c.args.core.now (map noted c.args.notes.now) c.args.images.now m c.args.pythons.now c.args.strict
+    c.read_stacks.result h)

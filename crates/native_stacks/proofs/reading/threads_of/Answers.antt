@@ -42,7 +42,7 @@ loop-note-preserved g c =
     record {
       reading = reading_gives (thread_most * (i + 1)) _ (reading_then _ c.loop-note.invariant.reading
           c.in_ok-thread.ensures.is (λ m far here. far_next c.args.machine c.args.pythons.now c.args.mappings.now
-          c.args.strict m (map noted notes) (map noted (drop i notes)) (map noted (drop (i + 1) notes)) (noted x)
+          c.args.code_bits c.args.strict m (map noted notes) (map noted (drop i notes)) (map noted (drop (i + 1) notes)) (noted x)
           c.loop-note.is_first c.loop-note.left (map thread_shown c.loop-note.threads.items) _
           (thread_shown_if c.in_ok-thread.thread)
           (ap (map noted) (next notes i x no_note c.loop-note-test.true refl)) here c.in_ok-push_if.ensures far))
@@ -53,6 +53,6 @@ loop-note-preserved g c =
 pub returns : goal.returns
 returns g c = reading_gives (most_reads (length c.args.notes.now)) _ c.loop-note.invariant.reading
     (omega (arith, c.loop-note.auto.note-index-end)) (λ m far. far_end c.args.machine c.args.pythons.now
-    c.args.mappings.now c.args.strict m (map noted c.args.notes.now) _ c.loop-note.is_first c.loop-note.left
+    c.args.mappings.now c.args.code_bits c.args.strict m (map noted c.args.notes.now) _ c.loop-note.is_first c.loop-note.left
     (map thread_shown c.loop-note.threads.items)
     (ap (map noted) (drop_all c.loop-note.note-index c.args.notes.now c.loop-note-test.false)) far)

@@ -10,7 +10,7 @@ use Rattle.native_stacks.proofs.reading.threads_of.Given as goal
 abbrev pub invariant-loop-note : goal.invariant-loop-note
 invariant-loop-note g l = record {
   reading : Reading (thread_most * l.note-index) (g.P.ProcessMemory.seen l.initial.process)
-      (g.P.ProcessMemory.seen l.process) (λ m. SoFar l.machine l.pythons l.mappings l.strict m (map noted l.notes)
+      (g.P.ProcessMemory.seen l.process) (λ m. SoFar l.machine l.pythons l.mappings l.code_bits l.strict m (map noted l.notes)
       (map noted (drop l.note-index l.notes)) l.is_first l.left (map thread_shown l.threads.items));
   kept : AreKept l.mappings l.kept;
 }
