@@ -58,7 +58,8 @@ fn own_tasks(
 {
     let mut view = Missed::new(process.dump.view(), misses);
     let read = read_tasks(alloc, &mut view, &process.layout, records, slots, address);
-    read_or_wanting(read)
+    let tasks = read_or_wanting(read)?;
+    Ok(tasks)
 }
 
 /// Which other frameworks it has. Reads that are refused are kept.
@@ -74,7 +75,8 @@ fn own_frameworks(
 {
     let mut view = Missed::new(process.dump.view(), misses);
     let read = read_frameworks(alloc, &mut view, &process.layout, address);
-    read_or_wanting(read)
+    let found = read_or_wanting(read)?;
+    Ok(found)
 }
 
 /// The tasks of an interpreter that is shown, whose sets may have so many entries. Reads that are refused are kept.

@@ -123,14 +123,23 @@ is_titled are_several tasks = are_several && has_lines tasks
 -- ---- what is not read
 
 -- the line of a framework, where an interpreter has it
-abbrev pub framework_text : (are_several : Bool) → ℕ → Bool → List ℕ → List ℕ
+unfoldable pub framework_text : (are_several : Bool) → ℕ → Bool → List ℕ → List ℕ
 framework_text are_several interpreter has line = if has then title_text are_several interpreter ++ line else []
+
+unfoldable pub curio_line : List ℕ
+curio_line = codes "Tasks of curio are not read\n"
+
+unfoldable pub greenlet_line : List ℕ
+greenlet_line = codes "Greenlets are not read\n"
+
+unfoldable pub trio_line : List ℕ
+trio_line = codes "Tasks of trio are not read\n"
 
 abbrev pub known_text : (are_several : Bool) → ℕ → Frameworks → List ℕ
 known_text are_several interpreter f =
-    framework_text are_several interpreter f.curio (codes "Tasks of curio are not read\n")
-    ++ (framework_text are_several interpreter f.greenlet (codes "Greenlets are not read\n")
-    ++ framework_text are_several interpreter f.trio (codes "Tasks of trio are not read\n"))
+    framework_text are_several interpreter f.curio curio_line
+    ++ (framework_text are_several interpreter f.greenlet greenlet_line
+    ++ framework_text are_several interpreter f.trio trio_line)
 
 abbrev pub frameworks_text : (are_several : Bool) → ℕ → Option Frameworks → List ℕ
 frameworks_text are_several interpreter None = []

@@ -3,10 +3,10 @@ ghost use Rattle.std.specs.Prelude.{◌≡◌, ◌++◌, OnOk, map, string_bytes
 ghost use Rattle.py_tasks.specs.Shown.{entry_shown, task_shown, tasks_shown};
 ghost use Rattle.task_texts.specs.Text.{all_tasks_text, by_condition, class_text, comma_text, count_text};
 ghost use Rattle.task_texts.specs.Text.{counts_text, done_text, each_text, entries_text, entry_text, framework_text};
-ghost use Rattle.task_texts.specs.Text.{frameworks_text, has_lines, known_text};
+ghost use Rattle.task_texts.specs.Text.{curio_line, frameworks_text, greenlet_line, has_lines, known_text};
 ghost use Rattle.task_texts.specs.Text.{interpreter_text, is_titled, lost_text, none_is_new, none_is_ready};
 ghost use Rattle.task_texts.specs.Text.{none_text, other_lead, other_text, place_text, read_text, shown_text, summary_text};
-ghost use Rattle.task_texts.specs.Text.{task_text, tasks_text, title_text};
+ghost use Rattle.task_texts.specs.Text.{task_text, tasks_text, title_text, trio_line};
 
 use crate::counts::{Counts, counts_of};
 use crate::heads::{push_fault, push_head};
@@ -15,11 +15,6 @@ use crate::told::InterpreterTasks;
 use elf64_core::Text;
 use py_tasks::{Condition, Entry, Frameworks, Task, TasksFault, TasksOf, condition_of};
 use std::alloc::{AllocError, Global};
-
-/// The lines of what is not read.
-const CURIO: &str = "Tasks of curio are not read\n";
-const GREENLET: &str = "Greenlets are not read\n";
-const TRIO: &str = "Tasks of trio are not read\n";
 
 /// What stands in front of a number, but of the first one.
 fn push_comma(text: &mut String, is_first: bool) -> Result<(), AllocError>
@@ -269,6 +264,7 @@ fn push_title(text: &mut String, is_titled: bool, interpreter: u64) -> Result<()
 }
 
 /// The line of a framework, where the interpreter has it.
+#[tactic(auto, unfolding(crate::specs::Text::framework_text))]
 fn push_framework(
     text: &mut String,
     are_several: bool,
@@ -286,6 +282,66 @@ fn push_framework(
     text.push_str(line)
 }
 
+/// That the tasks of `curio` are not read.
+#[tactic(auto, unfolding(crate::specs::Text::curio_line))]
+fn push_curio(
+    text: &mut String,
+    are_several: bool,
+    interpreter: u64,
+    has: bool,
+) -> Result<(), AllocError>
+    ensures { OnOk result (string_bytes text.new
+        ≡ string_bytes text.old ++ framework_text are_several interpreter has curio_line) }
+{
+    push_framework(
+        text,
+        are_several,
+        interpreter,
+        has,
+        "Tasks of curio are not read\n",
+    )
+}
+
+/// That the tasks of `greenlet` are not read.
+#[tactic(auto, unfolding(crate::specs::Text::greenlet_line))]
+fn push_greenlet(
+    text: &mut String,
+    are_several: bool,
+    interpreter: u64,
+    has: bool,
+) -> Result<(), AllocError>
+    ensures { OnOk result (string_bytes text.new
+        ≡ string_bytes text.old ++ framework_text are_several interpreter has greenlet_line) }
+{
+    push_framework(
+        text,
+        are_several,
+        interpreter,
+        has,
+        "Greenlets are not read\n",
+    )
+}
+
+/// That the tasks of `trio` are not read.
+#[tactic(auto, unfolding(crate::specs::Text::trio_line))]
+fn push_trio(
+    text: &mut String,
+    are_several: bool,
+    interpreter: u64,
+    has: bool,
+) -> Result<(), AllocError>
+    ensures { OnOk result (string_bytes text.new
+        ≡ string_bytes text.old ++ framework_text are_several interpreter has trio_line) }
+{
+    push_framework(
+        text,
+        are_several,
+        interpreter,
+        has,
+        "Tasks of trio are not read\n",
+    )
+}
+
 /// The lines of the frameworks that an interpreter has.
 fn push_known(
     text: &mut String,
@@ -296,14 +352,9 @@ fn push_known(
     ensures { OnOk result (string_bytes text.new
         ≡ string_bytes text.old ++ known_text are_several interpreter frameworks) }
 {
-    let Frameworks {
-        curio,
-        greenlet,
-        trio,
-    } = frameworks;
-    push_framework(text, are_several, interpreter, curio, CURIO)?;
-    push_framework(text, are_several, interpreter, greenlet, GREENLET)?;
-    push_framework(text, are_several, interpreter, trio, TRIO)
+    push_curio(text, are_several, interpreter, frameworks.curio)?;
+    push_greenlet(text, are_several, interpreter, frameworks.greenlet)?;
+    push_trio(text, are_several, interpreter, frameworks.trio)
 }
 
 /// The same, where its modules can be read.

@@ -16,7 +16,8 @@ use elf64_core::Text;
 use py_coroutines::{AwaitEnd, Stop};
 use py_fronts::shown_line;
 use py_tasks::{
-    Chain, Entry, Frameworks, Member, Task, TaskName, TaskState, TasksFault, TasksOf, Waiter, condition_of,
+    Chain, Entry, Frameworks, Member, Task, TaskName, TaskState, TasksFault, TasksOf, Waiter,
+    condition_of,
 };
 use serde_json::{Map, Value, json, put};
 use std::alloc::{AllocError, Global};

@@ -5,4 +5,8 @@ use Rattle.core_stacks.proofs.Stacks.{over_this}
 use Rattle.memory_sections.proofs.tasks.own_frameworks.Goals as goal
 
 pub returns : goal.returns
-returns c = ?
+returns c =
+    let here = over_this (regions_of c.args.process.now.dump)
+    (ap (λ (s : Seen). s.pieces) (c.new-view.ensures ∙ c.view.ensures)) c.read_frameworks-read.ensures in
+    let told = rw c.in_ok-found.ensures at here in
+    told.is
