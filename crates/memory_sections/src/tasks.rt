@@ -118,14 +118,7 @@ fn each_tasks(
 {
     let mut told = Vec::new(alloc);
     for interpreter in interpreters {
-        told.push(tasks_of(
-            alloc,
-            process,
-            records,
-            misses,
-            slots,
-            interpreter,
-        )?)?;
+        told.push(tasks_of(alloc, process, records, misses, slots, interpreter)?)?;
     }
     Ok(told)
 }

@@ -71,7 +71,8 @@ class Case(unittest.TestCase):
         """Puts the programs: `pysalvage`, if a tree is handed in, and `pystacks`."""
         if tree is not None:
             # (of its text the tool reads the lines of tasks alone)
-            text = "".join(f"{it}\n" for it in ["Signal 11 (SIGSEGV): core", "Thread 0x7F00", "    main (a.py:1)", *task_lines(tree.get("tasks") or [])])
+            trees = tree.get("tasks") if isinstance(tree, dict) else None
+            text = "".join(f"{it}\n" for it in ["Signal 11 (SIGSEGV): core", "Thread 0x7F00", "    main (a.py:1)", *task_lines(trees or [])])
             stand_ins.program(self.folder / "pysalvage", json.dumps(tree), text, **more)
             more = {}
         threads = threads if threads is not None else [it for one in (tree or {"interpreters": []})["interpreters"] for it in one["threads"]]
