@@ -32,6 +32,7 @@ import rows_reach
 import rows_salvage
 import rows_sample
 import rows_slim
+import rows_tasks
 import rows_triage
 import rows_walk
 from child_cores import Failure
@@ -43,7 +44,7 @@ CHOSEN = (
     (rows_reach.rows, "reach: a list"), (rows_slim.rows, "slim: where the interpreter is"),
     (rows_slim.slim_rows, "slim: with its values"), (rows_sample.rows, "sample: 7"))
 OF_SALVAGE = ((rows_salvage.rows, "salvage: interpreters: two"), (rows_salvage.rows, "salvage: JSON of what is broken"),
-              (rows_salvage.rows, "salvage: registers"))
+              (rows_salvage.rows, "salvage: registers"), (rows_tasks.rows, "salvage: tasks: waiting"), (rows_tasks.rows, "salvage: tasks: JSON"))
 """Which rows are run: of each list the first that answers with a text, and whose name begins so."""
 
 FAULTS = (("malloc", "refused"), ("realloc", "refused"), ("read", "failed"), ("read", "interrupted"), ("read", "short"),

@@ -230,6 +230,10 @@ def check_tasks(tree: Tree) -> None:
     """Fails where the tasks aren't those of each interpreter that is shown, each once."""
     if [it["interpreter"] for it in tree["tasks"]] != [it["address"] for it in tree["interpreters"]]:
         raise Failure("tasks of other interpreters")
+    for it in tree["tasks"]:
+        check_keys(it, "frameworks", "interpreter", "tasks")
+        if it["frameworks"] is not None:
+            check_keys(it["frameworks"], "curio", "greenlet", "trio")
     for told in (it["tasks"] for it in tree["tasks"] if it["tasks"] is not None):
         if told["kind"] != "read":
             check_one_of(told, FAULTS_OF_TASKS)

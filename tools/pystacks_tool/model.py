@@ -167,9 +167,13 @@ class Tasks(NamedTuple):
     """Its address."""
     tasks: Tuple[Task, ...] = ()
     others: Tuple[str, ...] = ()
-    """What is said of what is registered and no task, and of tasks that aren't told."""
+    """What is said of what is registered and no task, of tasks that aren't told, and of other frameworks, which aren't read."""
     fault: str = ""
     """Why they aren't told, if they aren't."""
+    done: int = 0
+    """How many that are done aren't among them."""
+    has_asyncio: bool = True
+    """Whether it has asyncio: else others alone are said."""
 
 
 class Number(NamedTuple):
@@ -227,7 +231,7 @@ class Report(NamedTuple):
     layout: Tuple[str, ...] = ()
     """What is said of the layout: nothing where the process agrees with it."""
     tasks: Tuple[Tasks, ...] = ()
-    """The tasks of the interpreters that have asyncio, where they are asked for."""
+    """The tasks of the interpreters that have asyncio or another framework of tasks, where they are asked for."""
     native: Tuple[NativeStack, ...] = ()
     """Native stacks, where they were asked for, or may tell where the process died."""
     shows_native: bool = False

@@ -1,6 +1,7 @@
 -- The sections that are read in a process's memory: each is asked for by a flag of its own, and is told of each
 -- interpreter, or of each thread, of those that are shown.
-use Rattle.std.specs.Prelude.{◌≡◌, ℕ, Bool, true, false, List, map, Option, Some, None, Ok, Vec}
+use Rattle.std.specs.Prelude.{◌≡◌, ℕ, ◌/◌, nat_eq, Bool, true, false, List, length, map, Option, Some, None, Ok, Vec}
+use Rattle.std.specs.Prelude.{if◌then◌else◌}
 use Rattle.std.specs.Global.{Global}
 use Rattle.process_memory.specs.Memory.{Memory}
 use Rattle.py_fields.specs.declared.layout.Layout.{Layout}
@@ -17,6 +18,7 @@ use Rattle.elf64_core.specs.Notes.{Noted}
 use Rattle.image_memory.specs.Notes.{AreNotesOfCore}
 use Rattle.native_stacks.specs.Stacks.{AreNativeStacks, stacks_shown}
 use Rattle.native_stacks.specs.declared.stacks.NativeStacks.{NativeStacks}
+use Rattle.py_tasks.specs.Frameworks.{frameworks_at}
 use Rattle.py_tasks.specs.Shown.{tasks_shown}
 use Rattle.py_tasks.specs.Tasks.{tasks_at}
 use Rattle.task_texts.specs.declared.told.InterpreterTasks.{InterpreterTasks}
@@ -48,16 +50,21 @@ NamesAre asked l m is told =
 
 -- ---- tasks
 
--- the tasks of an interpreter that is shown, by the records of its version
-pub record AreTasksOf (l : Layout) (r : Records) (m : Memory) (i : SalvagedInterpreter) (told : InterpreterTasks)
-    : Type 0 where
+-- how many entries the sets of each of so many interpreters may have together, so that all have at most 2^20
+unfoldable pub slot_share : (count : ℕ) → ℕ
+slot_share count = if nat_eq count 0 then 1048576 else 1048576 / count
+
+-- the tasks of an interpreter that is shown, by the records of its version, and which other frameworks it has
+pub record AreTasksOf (l : Layout) (r : Records) (m : Memory) (slots : ℕ) (i : SalvagedInterpreter)
+    (told : InterpreterTasks) : Type 0 where
   pub interpreter_is : told.interpreter ≡ i.front.address
-  pub are : tasks_at l r m i.front.address ≡ Ok (tasks_shown told.tasks)
+  pub are : tasks_at l r m slots i.front.address ≡ Ok (tasks_shown told.tasks)
+  pub others : frameworks_at l m i.front.address ≡ Ok told.frameworks
 
 abbrev pub TasksAre : Bool → Layout → Records → Memory → List SalvagedInterpreter
     → Option (Vec InterpreterTasks Global) → Type 0
-TasksAre asked l r m is told =
-    ToldIf asked (λ (tasks : Vec InterpreterTasks Global). EachTold (AreTasksOf l r m) is tasks.items) told
+TasksAre asked l r m is told = ToldIf asked
+    (λ (tasks : Vec InterpreterTasks Global). EachTold (AreTasksOf l r m (slot_share (length is))) is tasks.items) told
 
 -- ---- native stacks
 

@@ -6,5 +6,6 @@ pub mod Leading
 pub mod Listing
 pub mod Losts
 pub mod Members
+pub mod Moduled
 pub mod Nones
 pub mod Utf

@@ -4,6 +4,7 @@ pub mod Described
 pub mod Entries
 pub mod Faults
 pub mod Fields
+pub mod Frameworks
 pub mod Names
 pub mod Shown
 pub mod Tasks

@@ -126,16 +126,25 @@ by_described l records m modules roots (Some p) (Some r) = sized_at l records m 
 by_described l records m modules roots _ _ = Ok TasksShown.TasksUnknown
 
 -- by what the module `asyncio.tasks` has, if there is one
-unfoldable pub by_roots_at : Layout → Records → Memory → ℕ → Option Roots → Found TasksShown
-by_roots_at l records m modules None = Ok TasksShown.WithoutTasks
-by_roots_at l records m modules (Some roots) =
-    by_described l records m modules roots (task_places_of records) (places_of l records)
+unfoldable pub by_roots_at : Layout → Records → Memory → (slots : ℕ) → ℕ → Option Roots → Found TasksShown
+by_roots_at l records m slots modules None = Ok TasksShown.WithoutTasks
+by_roots_at l records m slots modules (Some roots) =
+    by_described l records m modules roots (task_places_of records) (places_of l records slots)
 
-unfoldable pub all_at : Layout → Records → Memory → ℕ → Found TasksShown
-all_at l records m interpreter = do
-  modules ← word_at m (interpreter + l.interpreter.modules)
+abbrev pub with_modules : Layout → Records → Memory → (slots : ℕ) → ℕ → Found TasksShown
+with_modules l records m slots modules = do
   roots ← roots_at l m modules
-  by_roots_at l records m modules roots
+  by_roots_at l records m slots modules roots
+
+-- by the dict of modules; an interpreter that has none has no asyncio
+unfoldable pub by_modules_at : Layout → Records → Memory → (slots : ℕ) → ℕ → Found TasksShown
+by_modules_at l records m slots modules =
+    if nat_eq modules 0 then Ok TasksShown.WithoutTasks else with_modules l records m slots modules
+
+unfoldable pub all_at : Layout → Records → Memory → (slots : ℕ) → ℕ → Found TasksShown
+all_at l records m slots interpreter = do
+  modules ← word_at m (interpreter + l.interpreter.modules)
+  by_modules_at l records m slots modules
 
 abbrev pub IsLostTasks : Option Fault → Result TasksShown NamesError → Type 0
 IsLostTasks None result = result ≡ Err OutOfMemory
@@ -145,9 +154,9 @@ abbrev pub tasks_or : Found TasksShown → TasksShown
 tasks_or (Ok t) = t
 tasks_or (Err f) = TasksShown.TasksLost (lost_by f)
 
--- the tasks of the interpreter at an address
-unfoldable pub tasks_at : Layout → Records → Memory → ℕ → Found TasksShown
-tasks_at l records m interpreter = Ok (tasks_or (all_at l records m interpreter))
+-- the tasks of the interpreter at an address, whose sets may have so many entries together
+unfoldable pub tasks_at : Layout → Records → Memory → (slots : ℕ) → ℕ → Found TasksShown
+tasks_at l records m slots interpreter = Ok (tasks_or (all_at l records m slots interpreter))
 
 abbrev pub tasks_result : {E : Type 0} → Result TasksOf E → Result TasksShown E
 tasks_result (Ok t) = Ok (tasks_shown t)

@@ -7,6 +7,7 @@ mod described;
 mod entries;
 mod fault;
 mod fields;
+mod frameworks;
 mod names;
 mod task;
 mod tasks;
@@ -16,6 +17,7 @@ mod waiter;
 
 pub(crate) use described::{TaskPlaces, TaskTypes};
 pub use fault::TasksFault;
+pub use frameworks::{Framework, Frameworks, read_frameworks};
 pub use task::{
     Chain, Condition, Entry, Member, Task, TaskName, TaskState, TasksOf, Waiter, condition_of,
 };

@@ -5,7 +5,8 @@ ghost use Rattle.py_coroutines.specs.Places.{IsSound as IsSoundPlaces};
 ghost use Rattle.py_fields.specs.Sound.{IsSound};
 ghost use Rattle.py_names.specs.NamesError.{names_fault};
 ghost use Rattle.py_tasks.specs.Described.{task_places_of};
-ghost use Rattle.py_tasks.specs.Tasks.{IsLostTasks, all_at, by_described, by_roots_at, chain_limit, checked_at};
+ghost use Rattle.py_tasks.specs.Tasks.{IsLostTasks, all_at, by_described, by_modules_at, by_roots_at, chain_limit};
+ghost use Rattle.py_tasks.specs.Tasks.{checked_at};
 ghost use Rattle.py_tasks.specs.Tasks.{described_at, few_at, listed_at};
 ghost use Rattle.task_sets.specs.Places.{places_of};
 ghost use Rattle.py_tasks.specs.Tasks.{read_at, sized_at, tasks_at, tasks_result, typed_at};
@@ -84,7 +85,7 @@ fn read_few<P: ProcessMemory>(
     read_within(alloc, process, layout, described, addresses)
 }
 
-/// The tasks of an interpreter, by what its module has and where their parts stand. At most 1113227291 reads.
+/// The tasks of an interpreter, by what its module has and where their parts stand. At most 1106935835 reads.
 fn read_listed<P: ProcessMemory>(
     alloc: Global,
     process: &mut P,
@@ -94,7 +95,7 @@ fn read_listed<P: ProcessMemory>(
 ) -> Result<TasksOf, NamesError>
     requires sound { IsSound layout.now }
     requires places { IsSoundPlaces described.now.awaits }
-    ensures { Reads names_fault 1113227291 (P.seen process.old) (P.seen process.new)
+    ensures { Reads names_fault 1106935835 (P.seen process.old) (P.seen process.new)
         (λ m. listed_at layout.now described.now m roots.now) (tasks_result result) }
 {
     let registered = read_registered(alloc, process, layout, &described.roots, roots)?;
@@ -113,7 +114,7 @@ fn read_described<P: ProcessMemory>(
     types: AwaitTypes,
 ) -> Result<TasksOf, NamesError>
     requires sound { IsSound layout.now }
-    ensures { Reads names_fault 1113227291 (P.seen process.old) (P.seen process.new)
+    ensures { Reads names_fault 1106935835 (P.seen process.old) (P.seen process.new)
         (λ m. described_at layout.now records.now m places.now root_places.now roots.now types)
         (tasks_result result) }
 {
@@ -134,7 +135,7 @@ fn read_described<P: ProcessMemory>(
     }
 }
 
-/// The same, by the address of the type of tasks. At most 1114275907 reads.
+/// The same, by the address of the type of tasks. At most 1107984451 reads.
 fn read_typed<P: ProcessMemory>(
     alloc: Global,
     process: &mut P,
@@ -147,7 +148,7 @@ fn read_typed<P: ProcessMemory>(
     task: u64,
 ) -> Result<TasksOf, NamesError>
     requires sound { IsSound layout.now }
-    ensures { Reads names_fault 1114275907 (P.seen process.old) (P.seen process.new)
+    ensures { Reads names_fault 1107984451 (P.seen process.old) (P.seen process.new)
         (λ m. typed_at layout.now records.now m places.now root_places.now modules roots.now task)
         (tasks_result result) }
 {
@@ -169,7 +170,7 @@ fn read_typed<P: ProcessMemory>(
     )
 }
 
-/// The same, where the type at an address has the size that the records tell. At most 1114275908 reads.
+/// The same, where the type at an address has the size that the records tell. At most 1107984452 reads.
 fn read_checked<P: ProcessMemory>(
     alloc: Global,
     process: &mut P,
@@ -182,7 +183,7 @@ fn read_checked<P: ProcessMemory>(
     task: u64,
 ) -> Result<TasksOf, NamesError>
     requires sound { IsSound layout.now }
-    ensures { Reads names_fault 1114275908 (P.seen process.old) (P.seen process.new)
+    ensures { Reads names_fault 1107984452 (P.seen process.old) (P.seen process.new)
         (λ m. checked_at layout.now records.now m places.now root_places.now modules roots.now task)
         (tasks_result result) }
 {
@@ -203,7 +204,7 @@ fn read_checked<P: ProcessMemory>(
     Ok(TasksOf::Resized { size })
 }
 
-/// The same, by the module's type of tasks. At most 1114275908 reads.
+/// The same, by the module's type of tasks. At most 1107984452 reads.
 fn read_sized<P: ProcessMemory>(
     alloc: Global,
     process: &mut P,
@@ -215,7 +216,7 @@ fn read_sized<P: ProcessMemory>(
     roots: &Roots,
 ) -> Result<TasksOf, NamesError>
     requires sound { IsSound layout.now }
-    ensures { Reads names_fault 1114275908 (P.seen process.old) (P.seen process.new)
+    ensures { Reads names_fault 1107984452 (P.seen process.old) (P.seen process.new)
         (λ m. sized_at layout.now records.now m places.now root_places.now modules roots.now)
         (tasks_result result) }
 {
@@ -245,24 +246,25 @@ fn read_sized<P: ProcessMemory>(
     }
 }
 
-/// The same, where the parts of tasks are described. At most 1114275908 reads.
+/// The same, where the parts of tasks are described. At most 1107984452 reads.
 fn read_by_places<P: ProcessMemory>(
     alloc: Global,
     process: &mut P,
     layout: &Layout,
     records: &Records,
+    slots: u64,
     modules: u64,
     roots: &Roots,
 ) -> Result<TasksOf, NamesError>
     requires sound { IsSound layout.now }
-    ensures { Reads names_fault 1114275908 (P.seen process.old) (P.seen process.new)
+    ensures { Reads names_fault 1107984452 (P.seen process.old) (P.seen process.new)
         (λ m. by_described layout.now records.now m modules roots.now (task_places_of records.now)
-        (places_of layout.now records.now)) (tasks_result result) }
+        (places_of layout.now records.now slots)) (tasks_result result) }
 {
     let Some(places) = task_places_of(records) else {
         return Ok(TasksOf::NotDescribed);
     };
-    let Some(root_places) = places_of(layout, records) else {
+    let Some(root_places) = places_of(layout, records, slots) else {
         return Ok(TasksOf::NotDescribed);
     };
     read_sized(
@@ -277,40 +279,62 @@ fn read_by_places<P: ProcessMemory>(
     )
 }
 
-/// The same, by what the module `asyncio.tasks` has, if there is one. At most 1114275908 reads.
+/// The same, by what the module `asyncio.tasks` has, if there is one. At most 1107984452 reads.
 fn read_by_roots<P: ProcessMemory>(
     alloc: Global,
     process: &mut P,
     layout: &Layout,
     records: &Records,
+    slots: u64,
     modules: u64,
     found: Option<Roots>,
 ) -> Result<TasksOf, NamesError>
     requires sound { IsSound layout.now }
-    ensures { Reads names_fault 1114275908 (P.seen process.old) (P.seen process.new)
-        (λ m. by_roots_at layout.now records.now m modules found) (tasks_result result) }
+    ensures { Reads names_fault 1107984452 (P.seen process.old) (P.seen process.new)
+        (λ m. by_roots_at layout.now records.now m slots modules found) (tasks_result result) }
 {
     match found {
         None => Ok(TasksOf::Without),
-        Some(roots) => read_by_places(alloc, process, layout, records, modules, &roots),
+        Some(roots) => read_by_places(alloc, process, layout, records, slots, modules, &roots),
     }
 }
 
-/// The tasks of the interpreter at an address, where all that leads to them can be read. At most 1115848780 reads.
+/// The same, by the address of the dict of modules; an interpreter that has none has no asyncio. At most 1109557323
+/// reads.
+fn read_by_modules<P: ProcessMemory>(
+    alloc: Global,
+    process: &mut P,
+    layout: &Layout,
+    records: &Records,
+    slots: u64,
+    modules: u64,
+) -> Result<TasksOf, NamesError>
+    requires sound { IsSound layout.now }
+    ensures { Reads names_fault 1109557323 (P.seen process.old) (P.seen process.new)
+        (λ m. by_modules_at layout.now records.now m slots modules) (tasks_result result) }
+{
+    if modules == 0 {
+        return Ok(TasksOf::Without);
+    }
+    let roots = read_roots(alloc, process, layout, modules)?;
+    read_by_roots(alloc, process, layout, records, slots, modules, roots)
+}
+
+/// The tasks of the interpreter at an address, where all that leads to them can be read. At most 1109557324 reads.
 fn read_all<P: ProcessMemory>(
     alloc: Global,
     process: &mut P,
     layout: &Layout,
     records: &Records,
+    slots: u64,
     interpreter: u64,
 ) -> Result<TasksOf, NamesError>
     requires sound { IsSound layout.now }
-    ensures { Reads names_fault 1115848780 (P.seen process.old) (P.seen process.new)
-        (λ m. all_at layout.now records.now m interpreter) (tasks_result result) }
+    ensures { Reads names_fault 1109557324 (P.seen process.old) (P.seen process.new)
+        (λ m. all_at layout.now records.now m slots interpreter) (tasks_result result) }
 {
     let modules = word_past(process, interpreter, layout.interpreter.modules as u64)?;
-    let roots = read_roots(alloc, process, layout, modules)?;
-    read_by_roots(alloc, process, layout, records, modules, roots)
+    read_by_modules(alloc, process, layout, records, slots, modules)
 }
 
 /// None that are told; want of memory is handed on.
@@ -323,7 +347,7 @@ fn lost_tasks(error: NamesError) -> Result<TasksOf, NamesError>
     }
 }
 
-/// The tasks of the interpreter at an address.
+/// The tasks of the interpreter at an address; one that has no modules has none.
 ///
 /// They are the registered objects, each once, in the order of first mention: those of the weak references in the sets
 /// of `_all_tasks` and `_scheduled_tasks` of the module `asyncio.tasks`, the members of its `_eager_tasks`, and the
@@ -333,19 +357,21 @@ fn lost_tasks(error: NamesError) -> Result<TasksOf, NamesError>
 /// records tell of is refused.
 ///
 /// A chain has at most 16384 members, and fewer where there are more than 64 tasks, so that all chains have at most
-/// 2^20. More than 65536 registered objects are `TooMany`. The one error is want of memory.
+/// 2^20. More than 65536 registered objects are `TooMany`, and so are more than `slots` entries of all sets together, or
+/// than 2^20. The one error is want of memory.
 pub fn read_tasks<P: ProcessMemory>(
     alloc: Global,
     process: &mut P,
     layout: &Layout,
     records: &Records,
+    slots: u64,
     interpreter: u64,
 ) -> Result<TasksOf, NamesError>
     requires sound { IsSound layout.now }
-    ensures { Reads names_fault 1115848780 (P.seen process.old) (P.seen process.new)
-        (λ m. tasks_at layout.now records.now m interpreter) (tasks_result result) }
+    ensures { Reads names_fault 1109557324 (P.seen process.old) (P.seen process.new)
+        (λ m. tasks_at layout.now records.now m slots interpreter) (tasks_result result) }
 {
-    match read_all(alloc, process, layout, records, interpreter) {
+    match read_all(alloc, process, layout, records, slots, interpreter) {
         Ok(tasks) => Ok(tasks),
         Err(error) => lost_tasks(error),
     }

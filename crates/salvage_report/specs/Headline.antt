@@ -1,5 +1,5 @@
 -- What a run that salvages a core promises under status 0.
-use Rattle.std.specs.Prelude.{◌≡◌, ◌≢◌, ◌∷◌, ◌++◌, [], ℕ, List, Ok, Some, Vec}
+use Rattle.std.specs.Prelude.{◌≡◌, ◌≢◌, ◌∷◌, ◌++◌, [], ℕ, List, length, Ok, Some, Vec}
 use Rattle.std.specs.Global.{Global}
 use Rattle.std.specs.Io.KnownBytes.{Appends}
 use Rattle.outside.specs.Files.{Told}
@@ -21,7 +21,7 @@ use Rattle.core_stacks.specs.Process.{OpenedProcess, ProcessIs}
 use Rattle.py_process.specs.Reports.{memory_in}
 use Rattle.thread_names.specs.declared.names.InterpreterNames.{InterpreterNames}
 use Rattle.memory_sections.specs.Each.{EachTold}
-use Rattle.memory_sections.specs.Told.{AreNamesOf, AreNative, AreTasksOf}
+use Rattle.memory_sections.specs.Told.{AreNamesOf, AreNative, AreTasksOf, slot_share}
 use Rattle.native_stacks.specs.declared.stacks.NativeStacks.{NativeStacks}
 use Rattle.py_records.specs.Versions.{records_of}
 use Rattle.task_texts.specs.declared.told.InterpreterTasks.{InterpreterTasks}
@@ -104,7 +104,8 @@ pub record SaysTasks (s : Salvage) (told : Told) (old new : SinkSeen) : Type 0 w
   pub tasks : Vec InterpreterTasks Global
   pub is : has.left.memory.tasks ≡ Some tasks
   pub are : EachTold (AreTasksOf has.opened.layout (records_of has.tables has.opened.version)
-      (memory_in has.opened.dumped)) has.left.salvaged.interpreters.items tasks.items
+      (memory_in has.opened.dumped) (slot_share (length has.left.salvaged.interpreters.items)))
+      has.left.salvaged.interpreters.items tasks.items
 
 -- the native stacks of the threads that the core's notes tell, without guesses where that is asked for
 pub record SaysNative (s : Salvage) (told : Told) (old new : SinkSeen) : Type 0 where

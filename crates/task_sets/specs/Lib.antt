@@ -5,3 +5,4 @@ pub mod Places
 pub mod Registered
 pub mod Roots
 pub mod Sets
+pub mod Tables

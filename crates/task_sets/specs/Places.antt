@@ -1,5 +1,5 @@
 -- Where the parts of sets, weak references and instances stand, by a layout and the records of its version.
-use Rattle.std.specs.Prelude.{Option, Some, None, is_some, if◌then◌else◌}
+use Rattle.std.specs.Prelude.{ℕ, Option, Some, None, is_some, if◌then◌else◌}
 use Rattle.py_fields.specs.declared.layout.Layout.{Layout}
 use Rattle.py_records.specs.declared.records.Records.{Records}
 use Rattle.py_records.specs.declared.types.TypeRecords.{TypeRecords}
@@ -44,12 +44,13 @@ abbrev pub sets_by : Option SetRecord → Option SetEntryRecord → Option Weakr
 sets_by (Some s) (Some e) (Some w) = Some (sets_of s e w)
 sets_by _ _ _ = None
 
-abbrev pub described_by : Layout → TypeRecords → Option SetPlaces → Option KlassRecord → Option HeapTypeRecord
-    → Option RootPlaces
-described_by l t (Some sets) (Some k) (Some h) =
-    Some (record { sets = sets; instance = instance_of l k h; form = form_of t })
-described_by l t _ _ _ = None
+abbrev pub described_by : Layout → TypeRecords → (slots : ℕ) → Option SetPlaces → Option KlassRecord
+    → Option HeapTypeRecord → Option RootPlaces
+described_by l t slots (Some sets) (Some k) (Some h) =
+    Some (record { slots = slots; sets = sets; instance = instance_of l k h; form = form_of t })
+described_by l t slots _ _ _ = None
 
-abbrev pub places_of : Layout → Records → Option RootPlaces
-places_of l r = described_by l r.types (sets_by r.containers.set r.containers.set_entry r.callables.weakref)
+-- and how many entries the sets may have together
+abbrev pub places_of : Layout → Records → (slots : ℕ) → Option RootPlaces
+places_of l r slots = described_by l r.types slots (sets_by r.containers.set r.containers.set_entry r.callables.weakref)
     r.types.klass r.types.heap_type

@@ -1,8 +1,7 @@
 -- Sets and weak references: CPython's `setobject` (Include/setobject.h, Objects/setobject.c) and `PyWeakReference`
--- (Include/weakrefobject.h). That a set has 2^20 entries at most, and that a reference which is not in memory
--- stands for
--- itself, is this project's rule.
-use Rattle.std.specs.Prelude.{◌≡◌, ℕ, ◌+◌, ◌-◌, ◌*◌, ◌^◌, nat_lt, nat_eq, ◌||◌, Option, Some, None, List}
+-- (Include/weakrefobject.h). That a set has 2^20 entries at most, and that a reference which is not in memory stands
+-- for itself, is this project's rule.
+use Rattle.std.specs.Prelude.{◌≡◌, ℕ, ◌+◌, ◌-◌, ◌*◌, ◌^◌, nat_lt, nat_eq, ◌||◌, Option, Some, None}
 use Rattle.std.specs.Prelude.{Result, Ok, Err, if◌then◌else◌}
 use Rattle.process_memory.specs.Memory.{Memory, Found, ◌>>=◌, word_at}
 use Rattle.process_memory.specs.Memory.Fault.{Entries as ManyEntries}
@@ -14,7 +13,6 @@ use Rattle.task_sets.specs.declared.places.SetPlaces.{SetPlaces}
 use Rattle.task_sets.specs.declared.sets.Entries.{Entries}
 use Rattle.task_sets.specs.declared.sets.SetKind.{SetKind}
 use Rattle.task_sets.specs.declared.sets.SetKind.TheVariants.{Plain, Weak}
-use Rattle.task_sets.specs.Gathered.{gathered}
 
 -- the entries of a set, by their number less 1
 unfoldable pub entries_of : ℕ → ℕ → Found Entries
@@ -26,6 +24,11 @@ entries_at p m a = do
   mask ← word_at m (a + p.mask)
   table ← word_at m (a + p.table)
   entries_of mask table
+
+-- those of a set, where there is one
+unfoldable pub table_at : SetPlaces → Memory → Option ℕ → Found Entries
+table_at p m None = Ok (record { table = 0; count = 0 })
+table_at p m (Some a) = entries_at p m a
 
 -- the member that an entry has: an entry without a key has none, nor one whose member was taken away
 unfoldable pub member_of : ℕ → ℕ → Option ℕ
@@ -61,9 +64,3 @@ object_at p kind m table number = do
   key ← word_at m (table + number * p.step + p.key)
   hash ← word_at m (table + number * p.step + p.hash)
   led_at p kind m (member_of key hash)
-
--- the objects that the members of a set stand for, in the order of its entries
-unfoldable pub set_at : SetPlaces → SetKind → Memory → ℕ → Found (List ℕ)
-set_at p kind m a = do
-  entries ← entries_at p m a
-  gathered (object_at p kind m entries.table) entries.count 0

@@ -8,9 +8,9 @@ mod places;
 mod registered;
 mod roots;
 mod sets;
+mod tables;
 
 pub use named::read_attribute;
 pub use places::{RootPlaces, SetPlaces, places_of};
 pub use registered::read_registered;
 pub use roots::{Roots, read_roots};
-pub use sets::{SetKind, read_set};

@@ -28,6 +28,8 @@ pub struct SetPlaces {
 /// Where the parts of all objects stand that lead to the registered ones.
 #[derive(Clone, Copy)]
 pub struct RootPlaces {
+    /// How many entries all of an interpreter's sets may have together. (They never may have more than 2^20.)
+    pub slots: u64,
     pub sets: SetPlaces,
     /// Those of instances and their classes.
     pub instance: InstanceFields,
@@ -76,11 +78,17 @@ fn sets_of(set: &SetRecord, entry: &SetEntryRecord, weakref: &WeakrefRecord) -> 
 }
 
 /// The places, by sets' and the types' groups.
-fn described_by(layout: &Layout, types: &TypeRecords, sets: Option<SetPlaces>) -> Option<RootPlaces>
-    ensures { result ≡ described_by layout.now types.now sets types.now.klass types.now.heap_type }
+fn described_by(
+    layout: &Layout,
+    types: &TypeRecords,
+    slots: u64,
+    sets: Option<SetPlaces>,
+) -> Option<RootPlaces>
+    ensures { result ≡ described_by layout.now types.now slots sets types.now.klass types.now.heap_type }
 {
     match (sets, types.klass, types.heap_type) {
         (Some(sets), Some(klass), Some(heap)) => Some(RootPlaces {
+            slots,
             sets,
             instance: instance_of(layout, &klass, &heap),
             form: form_of(types),
@@ -89,10 +97,10 @@ fn described_by(layout: &Layout, types: &TypeRecords, sets: Option<SetPlaces>) -
     }
 }
 
-/// The places by a layout and the records of its version; none where a group of these is not described: `set`,
-/// `set_entry`, `weakref`, `klass`, `heap_type`.
-pub fn places_of(layout: &Layout, records: &Records) -> Option<RootPlaces>
-    ensures { result ≡ places_of layout.now records.now }
+/// The places by a layout and the records of its version, where the sets may have so many entries together; none where
+/// a group of these is not described: `set`, `set_entry`, `weakref`, `klass`, `heap_type`.
+pub fn places_of(layout: &Layout, records: &Records, slots: u64) -> Option<RootPlaces>
+    ensures { result ≡ places_of layout.now records.now slots }
 {
     let containers = &records.containers;
     let sets = match (
@@ -103,5 +111,5 @@ pub fn places_of(layout: &Layout, records: &Records) -> Option<RootPlaces>
         (Some(set), Some(entry), Some(weakref)) => Some(sets_of(&set, &entry, &weakref)),
         _ => None,
     };
-    described_by(layout, &records.types, sets)
+    described_by(layout, &records.types, slots, sets)
 }

@@ -1,14 +1,14 @@
 //! The registered objects of an interpreter.
-ghost use Rattle.std.specs.Prelude.{◌≡◌, IfOk, map};
+ghost use Rattle.std.specs.Prelude.{◌≡◌, ◌+◌, ◌≤◌, ◌^◌, IfOk, map};
 ghost use Rattle.process_memory.specs.Seen.{Reads, items_of};
 ghost use Rattle.py_fields.specs.Sound.{IsSound};
 ghost use Rattle.py_names.specs.NamesError.{names_fault};
-ghost use Rattle.task_sets.specs.Registered.{data_at, joined, members_at, registered_at, value_of, values_at, weak_at};
+ghost use Rattle.task_sets.specs.Registered.{joined, members_at, registered_at, value_of, values_at};
 
-use crate::named::read_attribute;
 use crate::once::once;
-use crate::sets::read_set;
-use crate::{RootPlaces, Roots, SetKind};
+use crate::sets::{SetKind, objects_in};
+use crate::tables::{Tables, read_tables};
+use crate::{RootPlaces, Roots};
 use instance_dicts::{Attribute, InstanceDict, dict_attributes};
 use process_memory::ProcessMemory;
 use py_fields::Layout;
@@ -17,57 +17,6 @@ use std::alloc::{AllocError, Global};
 
 /// How many slots of the dict of running tasks are looked at, at most.
 const SLOT_LIMIT: u64 = 65536;
-
-/// The objects of a set, where there is one. At most 3145730 reads.
-fn read_members<P: ProcessMemory>(
-    alloc: Global,
-    process: &mut P,
-    places: &RootPlaces,
-    kind: SetKind,
-    root: Option<u64>,
-) -> Result<Vec<u64>, NamesError>
-    ensures { Reads names_fault 3145730 (P.seen process.old) (P.seen process.new)
-        (λ m. members_at places.now kind m root) (items_of result) }
-{
-    match root {
-        None => Ok(Vec::new(alloc)),
-        Some(at) => read_set(alloc, process, &places.sets, kind, at),
-    }
-}
-
-/// The set of weak references that a `WeakSet` has. At most 16393 reads.
-fn read_data<P: ProcessMemory>(
-    alloc: Global,
-    process: &mut P,
-    layout: &Layout,
-    places: &RootPlaces,
-    root: Option<u64>,
-) -> Result<Option<u64>, NamesError>
-    requires sound { IsSound layout.now }
-    ensures { Reads names_fault 16393 (P.seen process.old) (P.seen process.new)
-        (λ m. data_at layout.now places.now m root) result }
-{
-    match root {
-        None => Ok(None),
-        Some(at) => read_attribute(alloc, process, layout, places, "data", at),
-    }
-}
-
-/// The objects of a `WeakSet`, where there is one. At most 3162123 reads.
-fn read_weak<P: ProcessMemory>(
-    alloc: Global,
-    process: &mut P,
-    layout: &Layout,
-    places: &RootPlaces,
-    root: Option<u64>,
-) -> Result<Vec<u64>, NamesError>
-    requires sound { IsSound layout.now }
-    ensures { Reads names_fault 3162123 (P.seen process.old) (P.seen process.new)
-        (λ m. weak_at layout.now places.now m root) (items_of result) }
-{
-    let data = read_data(alloc, process, layout, places, root)?;
-    read_members(alloc, process, places, SetKind::Weak, data)
-}
 
 /// The values of attributes.
 fn values_of(alloc: Global, attributes: &[Attribute]) -> Result<Vec<u64>, AllocError>
@@ -121,12 +70,58 @@ fn joined(
     once(alloc, &list)
 }
 
+/// The registered objects, by the entries of the sets and the dict of running tasks. At most 3276803 reads.
+fn read_members<P: ProcessMemory>(
+    alloc: Global,
+    process: &mut P,
+    layout: &Layout,
+    places: &RootPlaces,
+    tables: &Tables,
+    current: Option<u64>,
+) -> Result<Vec<u64>, NamesError>
+    requires sound { IsSound layout.now }
+    requires few { tables.now.all.count + tables.now.scheduled.count + tables.now.eager.count ≤ 2 ^ 20 }
+    ensures { Reads names_fault 3276803 (P.seen process.old) (P.seen process.new)
+        (λ m. members_at layout.now places.now m tables.now current) (items_of result) }
+{
+    let (first, second, third) = (tables.all, tables.scheduled, tables.eager);
+    let sets = &places.sets;
+    let all = objects_in(
+        alloc,
+        process,
+        sets,
+        SetKind::Weak,
+        first.table,
+        first.count,
+    )?;
+    let scheduled = objects_in(
+        alloc,
+        process,
+        sets,
+        SetKind::Weak,
+        second.table,
+        second.count,
+    )?;
+    let eager = objects_in(
+        alloc,
+        process,
+        sets,
+        SetKind::Plain,
+        third.table,
+        third.count,
+    )?;
+    let current = read_values(alloc, process, layout, places, current)?;
+    let list = joined(alloc, &all, &scheduled, &eager, &current)?;
+    Ok(list)
+}
+
 /// The registered objects of an interpreter, each once, in the order of first mention: those of the weak references in
 /// the sets of `_all_tasks` and `_scheduled_tasks`, the members of `_eager_tasks`, and the values of `_current_tasks`.
 ///
 /// The first fault of a set, a dict or a `WeakSet` is the answer: `Unreadable`, a dict that is none, a name that is no
-/// text, or `Entries` where a set has more than 2^20 entries. A weak reference that is not in memory stands for itself.
-/// Else it is want of memory. At most 9601051 reads: 3 for each entry of the sets, 2 for each slot of the dicts.
+/// text, or `Entries` where a set has more than 2^20 entries, or all sets together have more, or more than the places'
+/// `slots`. A weak reference that is not in memory stands for itself. Else it is want of memory. At most 3309595 reads: 3
+/// for each entry of the sets, 2 for each slot of the dicts.
 pub fn read_registered<P: ProcessMemory>(
     alloc: Global,
     process: &mut P,
@@ -135,13 +130,9 @@ pub fn read_registered<P: ProcessMemory>(
     roots: &Roots,
 ) -> Result<Vec<u64>, NamesError>
     requires sound { IsSound layout.now }
-    ensures { Reads names_fault 9601051 (P.seen process.old) (P.seen process.new)
+    ensures { Reads names_fault 3309595 (P.seen process.old) (P.seen process.new)
         (λ m. registered_at layout.now places.now m roots.now) (items_of result) }
 {
-    let all = read_weak(alloc, process, layout, places, roots.all)?;
-    let scheduled = read_weak(alloc, process, layout, places, roots.scheduled)?;
-    let eager = read_members(alloc, process, places, SetKind::Plain, roots.eager)?;
-    let current = read_values(alloc, process, layout, places, roots.current)?;
-    let list = joined(alloc, &all, &scheduled, &eager, &current)?;
-    Ok(list)
+    let tables = read_tables(alloc, process, layout, places, roots)?;
+    read_members(alloc, process, layout, places, &tables, roots.current)
 }

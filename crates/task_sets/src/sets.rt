@@ -4,15 +4,15 @@ ghost use Rattle.process_memory.specs.Seen.{Answers, Reads, items_of};
 ghost use Rattle.py_names.specs.NamesError.{names_fault};
 ghost use Rattle.task_sets.specs.Gathered.{gathered};
 ghost use Rattle.task_sets.specs.Sets.{IsUnread, entries_at, entries_of, led_at, member_of, object_at, referent_at};
-ghost use Rattle.task_sets.specs.Sets.{set_at};
+ghost use Rattle.task_sets.specs.Sets.{table_at};
 
 use crate::SetPlaces;
 use process_memory::{ProcessMemory, ReadFault, word_past, word_wide};
 use py_names::NamesError;
 use std::alloc::{AllocFailed, Global};
 
-/// How many entries a set may have.
-const ENTRY_LIMIT: u64 = 1_048_576;
+/// How many entries a set may have, and all sets of an interpreter together.
+pub(crate) const ENTRY_LIMIT: u64 = 1_048_576;
 
 /// What the members of a set are.
 #[derive(Debug, Clone, Copy, PartialEq, Eq)]
@@ -58,6 +58,24 @@ fn read_entries<P: ProcessMemory>(
     let mask = word_past(process, at, places.mask as u64)?;
     let table = word_past(process, at, places.table as u64)?;
     entries_of(mask, table)
+}
+
+/// The entries of a set, where there is one. At most 2 reads.
+///
+/// `Entries` comes where it has more than 2^20 of them. What is not in memory is `Unreadable`.
+pub(crate) fn read_table<P: ProcessMemory>(
+    process: &mut P,
+    places: &SetPlaces,
+    root: Option<u64>,
+) -> Result<Entries, NamesError>
+    ensures answer { Reads names_fault 2 (P.seen process.old) (P.seen process.new)
+        (λ m. table_at places.now m root) result }
+    ensures few { IfOk result (λ entries. entries.count ≤ 2 ^ 20) }
+{
+    match root {
+        None => Ok(Entries { table: 0, count: 0 }),
+        Some(at) => read_entries(process, places, at),
+    }
 }
 
 /// The member that an entry has, where it has one.
@@ -147,8 +165,9 @@ pub(crate) fn add_address(list: &mut Vec<u64>, address: Option<u64>) -> Result<(
     }
 }
 
-/// The objects that so many entries stand for, in their order. At most 3 reads for each.
-fn objects_in<P: ProcessMemory>(
+/// The objects that so many entries stand for, in their order; a weak reference that is not in memory stands for itself.
+/// At most 3 reads for each.
+pub(crate) fn objects_in<P: ProcessMemory>(
     alloc: Global,
     process: &mut P,
     places: &SetPlaces,
@@ -166,23 +185,4 @@ fn objects_in<P: ProcessMemory>(
         add_address(&mut objects, object)?;
     }
     Ok(objects)
-}
-
-/// The objects that the members of the set at an address stand for, in the order of its entries.
-///
-/// `Entries` comes where it has more than 2^20 of them. What is not in memory is `Unreadable`: the set's words, then
-/// those of entry after entry; but a weak reference that is not in memory stands for itself. Else it is want of memory.
-/// At most 2 reads, and 3 for each entry.
-pub fn read_set<P: ProcessMemory>(
-    alloc: Global,
-    process: &mut P,
-    places: &SetPlaces,
-    kind: SetKind,
-    at: u64,
-) -> Result<Vec<u64>, NamesError>
-    ensures { Reads names_fault 3145730 (P.seen process.old) (P.seen process.new)
-        (λ m. set_at places.now kind m at) (items_of result) }
-{
-    let entries = read_entries(process, places, at)?;
-    objects_in(alloc, process, places, kind, entries.table, entries.count)
 }

@@ -10,6 +10,7 @@ use Rattle.py_coroutines.specs.declared.turn.Stop.{Stop}
 use Rattle.py_coroutines.specs.declared.turn.Stop.TheVariants as stop
 use Rattle.py_tasks.specs.declared.fault.TasksFault.{TasksFault}
 use Rattle.py_tasks.specs.declared.fault.TasksFault.TheVariants.{Unreadable, TooMany, Malformed}
+use Rattle.py_tasks.specs.declared.frameworks.Frameworks.{Frameworks}
 use Rattle.py_tasks.specs.declared.task.Member.{Member}
 use Rattle.py_tasks.specs.declared.task.TaskName.{TaskName}
 use Rattle.py_tasks.specs.declared.task.TaskName.TheVariants.{Text, Number}
@@ -19,7 +20,7 @@ use Rattle.py_tasks.specs.Shown.{ChainShown, EntryShown, TaskShown, TasksShown, 
 use Rattle.py_tasks.specs.Shown.EntryShown.{TaskEntry, LostEntry, OtherEntry}
 use Rattle.py_tasks.specs.Shown.TasksShown.{WithoutTasks, TasksUnknown, TasksResized, TasksLost, TasksRead}
 use Rattle.task_texts.specs.Trees.{all_tasks_tree, chain_tree, end_tree, entries_tree, entry_tree, entry_trees}
-use Rattle.task_texts.specs.Trees.{fault_tree, frame_tree, interpreter_tree, lost_tree, member_tree, members_tree, name_tree}
+use Rattle.task_texts.specs.Trees.{fault_tree, frame_tree, frameworks_tree, interpreter_tree, lost_tree, member_tree, members_tree, name_tree}
 use Rattle.task_texts.specs.Trees.{other_tree, own_frame_tree, state_tree, stop_tree, task_tree, tasks_tree, text_tree}
 use Rattle.task_texts.specs.Trees.{thread_tree, waiter_tree}
 use Rattle.task_texts.specs.declared.told.InterpreterTasks.{InterpreterTasks}
@@ -111,8 +112,12 @@ own (TasksResized size) = refl
 own (TasksLost f) = fault f
 own (TasksRead es) = entries es
 
+frameworks : (f : Option Frameworks) → has_float (frameworks_tree f) ≡ false
+frameworks None = refl
+frameworks (Some f) = refl
+
 interpreter : (t : InterpreterTasks) → has_float (interpreter_tree t) ≡ false
-interpreter t = λ i. false || (own (tasks_shown t.tasks) i || false)
+interpreter t = λ i. frameworks t.frameworks i || (false || (own (tasks_shown t.tasks) i || false))
 
 pub no_float : (ts : List InterpreterTasks) → has_float (all_tasks_tree ts) ≡ false
 no_float [] = refl

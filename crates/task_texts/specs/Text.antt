@@ -1,9 +1,10 @@
 -- The lines of tasks.
 use Rattle.std.specs.Prelude.{ℕ, ◌++◌, ◌==◌, ◌&&◌, nat_lt, Bool, true, false, if◌then◌else◌, List, [], length, map}
-use Rattle.std.specs.Prelude.{Option, codes, decimal}
+use Rattle.std.specs.Prelude.{Option, Some, None, codes, decimal}
 use Rattle.std.specs.Fmt.{digits}
 use Rattle.std.specs.List.{concat}
 use Rattle.py_tasks.specs.declared.fault.TasksFault.{TasksFault}
+use Rattle.py_tasks.specs.declared.frameworks.Frameworks.{Frameworks}
 use Rattle.py_tasks.specs.declared.task.Condition.{Condition}
 use Rattle.py_tasks.specs.declared.task.Condition.TheVariants.{Done, Running, NotStarted, Ready, Waiting}
 use Rattle.py_tasks.specs.Shown.{EntryShown, TaskShown, TasksShown, condition_of, tasks_shown}
@@ -119,9 +120,37 @@ title_text is_titled interpreter =
 abbrev pub is_titled : (are_several : Bool) → TasksShown → Bool
 is_titled are_several tasks = are_several && has_lines tasks
 
+-- ---- what is not read
+
+-- the line of a framework, where an interpreter has it
+unfoldable pub framework_text : (are_several : Bool) → ℕ → Bool → List ℕ → List ℕ
+framework_text are_several interpreter has line = if has then title_text are_several interpreter ++ line else []
+
+unfoldable pub curio_line : List ℕ
+curio_line = codes "Tasks of curio are not read\n"
+
+unfoldable pub greenlet_line : List ℕ
+greenlet_line = codes "Greenlets are not read\n"
+
+unfoldable pub trio_line : List ℕ
+trio_line = codes "Tasks of trio are not read\n"
+
+abbrev pub known_text : (are_several : Bool) → ℕ → Frameworks → List ℕ
+known_text are_several interpreter f =
+    framework_text are_several interpreter f.curio curio_line
+    ++ (framework_text are_several interpreter f.greenlet greenlet_line
+    ++ framework_text are_several interpreter f.trio trio_line)
+
+abbrev pub frameworks_text : (are_several : Bool) → ℕ → Option Frameworks → List ℕ
+frameworks_text are_several interpreter None = []
+frameworks_text are_several interpreter (Some f) = known_text are_several interpreter f
+
+-- ---- all of it
+
 abbrev pub interpreter_text : (are_several : Bool) → InterpreterTasks → List ℕ
 interpreter_text are_several i =
-    title_text (is_titled are_several (tasks_shown i.tasks)) i.interpreter ++ tasks_text (tasks_shown i.tasks)
+    title_text (is_titled are_several (tasks_shown i.tasks)) i.interpreter
+    ++ (tasks_text (tasks_shown i.tasks) ++ frameworks_text are_several i.interpreter i.frameworks)
 
 abbrev pub each_text : (are_several : Bool) → List InterpreterTasks → List ℕ
 each_text are_several is = concat (map (λ i. interpreter_text are_several i) is)

@@ -11,6 +11,7 @@ use Rattle.py_coroutines.specs.declared.turn.Stop.TheVariants as stop
 use Rattle.py_fronts.specs.Lines.{shown_line}
 use Rattle.py_tasks.specs.declared.fault.TasksFault.{TasksFault}
 use Rattle.py_tasks.specs.declared.fault.TasksFault.TheVariants.{Unreadable, TooMany, Malformed}
+use Rattle.py_tasks.specs.declared.frameworks.Frameworks.{Frameworks}
 use Rattle.py_tasks.specs.declared.task.Member.{Member}
 use Rattle.py_tasks.specs.declared.task.TaskName.{TaskName}
 use Rattle.py_tasks.specs.declared.task.TaskName.TheVariants.{Text, Number}
@@ -178,10 +179,19 @@ tasks_tree (TasksResized size) = resized_tree size
 tasks_tree (TasksLost f) = fault_tree f
 tasks_tree (TasksRead entries) = entries_tree entries
 
+-- which other frameworks an interpreter has
+abbrev pub frameworks_tree : Option Frameworks → Data
+frameworks_tree None = null
+frameworks_tree (Some f) = object (
+    member (codes "curio") (boolean f.curio) (
+    member (codes "greenlet") (boolean f.greenlet) (
+    member (codes "trio") (boolean f.trio) no_members)))
+
 abbrev pub interpreter_tree : InterpreterTasks → Data
 interpreter_tree i = object (
+    member (codes "frameworks") (frameworks_tree i.frameworks) (
     member (codes "interpreter") (string (address_text i.interpreter)) (
-    member (codes "tasks") (tasks_tree (tasks_shown i.tasks)) no_members))
+    member (codes "tasks") (tasks_tree (tasks_shown i.tasks)) no_members)))
 
 -- those of each interpreter, in order
 abbrev pub all_tasks_tree : List InterpreterTasks → Data

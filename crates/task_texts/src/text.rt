@@ -2,17 +2,18 @@
 ghost use Rattle.std.specs.Prelude.{◌≡◌, ◌++◌, OnOk, map, string_bytes};
 ghost use Rattle.py_tasks.specs.Shown.{entry_shown, task_shown, tasks_shown};
 ghost use Rattle.task_texts.specs.Text.{all_tasks_text, by_condition, class_text, comma_text, count_text};
-ghost use Rattle.task_texts.specs.Text.{counts_text, done_text, each_text, entries_text, entry_text, has_lines};
+ghost use Rattle.task_texts.specs.Text.{counts_text, done_text, each_text, entries_text, entry_text, framework_text};
+ghost use Rattle.task_texts.specs.Text.{curio_line, frameworks_text, greenlet_line, has_lines, known_text};
 ghost use Rattle.task_texts.specs.Text.{interpreter_text, is_titled, lost_text, none_is_new, none_is_ready};
 ghost use Rattle.task_texts.specs.Text.{none_text, other_lead, other_text, place_text, read_text, shown_text, summary_text};
-ghost use Rattle.task_texts.specs.Text.{task_text, tasks_text, title_text};
+ghost use Rattle.task_texts.specs.Text.{task_text, tasks_text, title_text, trio_line};
 
 use crate::counts::{Counts, counts_of};
 use crate::heads::{push_fault, push_head};
 use crate::members::{push_chain, push_name};
 use crate::told::InterpreterTasks;
 use elf64_core::Text;
-use py_tasks::{Condition, Entry, Task, TasksFault, TasksOf, condition_of};
+use py_tasks::{Condition, Entry, Frameworks, Task, TasksFault, TasksOf, condition_of};
 use std::alloc::{AllocError, Global};
 
 /// What stands in front of a number, but of the first one.
@@ -262,6 +263,116 @@ fn push_title(text: &mut String, is_titled: bool, interpreter: u64) -> Result<()
     Ok(())
 }
 
+/// The line of a framework, where the interpreter has it.
+#[tactic(auto, unfolding(crate::specs::Text::framework_text))]
+fn push_framework(
+    text: &mut String,
+    are_several: bool,
+    interpreter: u64,
+    has: bool,
+    line: &str,
+) -> Result<(), AllocError>
+    ensures { OnOk result (string_bytes text.new
+        ≡ string_bytes text.old ++ framework_text are_several interpreter has line.now) }
+{
+    if !has {
+        return Ok(());
+    }
+    push_title(text, are_several, interpreter)?;
+    text.push_str(line)
+}
+
+/// That the tasks of `curio` are not read.
+#[tactic(auto, unfolding(crate::specs::Text::curio_line))]
+fn push_curio(
+    text: &mut String,
+    are_several: bool,
+    interpreter: u64,
+    has: bool,
+) -> Result<(), AllocError>
+    ensures { OnOk result (string_bytes text.new
+        ≡ string_bytes text.old ++ framework_text are_several interpreter has curio_line) }
+{
+    push_framework(
+        text,
+        are_several,
+        interpreter,
+        has,
+        "Tasks of curio are not read\n",
+    )
+}
+
+/// That the tasks of `greenlet` are not read.
+#[tactic(auto, unfolding(crate::specs::Text::greenlet_line))]
+fn push_greenlet(
+    text: &mut String,
+    are_several: bool,
+    interpreter: u64,
+    has: bool,
+) -> Result<(), AllocError>
+    ensures { OnOk result (string_bytes text.new
+        ≡ string_bytes text.old ++ framework_text are_several interpreter has greenlet_line) }
+{
+    push_framework(
+        text,
+        are_several,
+        interpreter,
+        has,
+        "Greenlets are not read\n",
+    )
+}
+
+/// That the tasks of `trio` are not read.
+#[tactic(auto, unfolding(crate::specs::Text::trio_line))]
+fn push_trio(
+    text: &mut String,
+    are_several: bool,
+    interpreter: u64,
+    has: bool,
+) -> Result<(), AllocError>
+    ensures { OnOk result (string_bytes text.new
+        ≡ string_bytes text.old ++ framework_text are_several interpreter has trio_line) }
+{
+    push_framework(
+        text,
+        are_several,
+        interpreter,
+        has,
+        "Tasks of trio are not read\n",
+    )
+}
+
+/// The lines of the frameworks that an interpreter has.
+fn push_known(
+    text: &mut String,
+    are_several: bool,
+    interpreter: u64,
+    frameworks: Frameworks,
+) -> Result<(), AllocError>
+    ensures { OnOk result (string_bytes text.new
+        ≡ string_bytes text.old ++ known_text are_several interpreter frameworks) }
+{
+    push_curio(text, are_several, interpreter, frameworks.curio)?;
+    push_greenlet(text, are_several, interpreter, frameworks.greenlet)?;
+    push_trio(text, are_several, interpreter, frameworks.trio)
+}
+
+/// The same, where its modules can be read.
+fn push_frameworks(
+    text: &mut String,
+    are_several: bool,
+    interpreter: u64,
+    frameworks: Option<Frameworks>,
+) -> Result<(), AllocError>
+    ensures { OnOk result (string_bytes text.new
+        ≡ string_bytes text.old ++ frameworks_text are_several interpreter frameworks) }
+{
+    match frameworks {
+        Some(frameworks) => push_known(text, are_several, interpreter, frameworks),
+        None => Ok(()),
+    }
+}
+
 /// Whether whose they are is told.
 fn is_titled(are_several: bool, tasks: &TasksOf) -> bool
     ensures { result ≡ is_titled are_several (tasks_shown tasks.now) }
@@ -278,7 +389,8 @@ fn push_interpreter(
     ensures { OnOk result (string_bytes text.new ≡ string_bytes text.old ++ interpreter_text are_several told.now) }
 {
     push_title(text, is_titled(are_several, &told.tasks), told.interpreter)?;
-    push_own(alloc, text, &told.tasks)
+    push_own(alloc, text, &told.tasks)?;
+    push_frameworks(text, are_several, told.interpreter, told.frameworks)
 }
 
 /// Those of each interpreter, in order.
@@ -303,7 +415,8 @@ fn push_each(
 /// wait, and how many are done. Of each that is not done there is a line with its name or address and what it does, one
 /// that says how its chain breaks off, where it does, and one for each frame of its chain, the innermost first. A task of
 /// which something is not in memory has one line that says so, and so has an object that is registered and no task. Where
-/// no tasks are told, one line says why. The one error is want of memory.
+/// no tasks are told, one line says why. Of each other framework that an interpreter has one line says that its tasks are
+/// not read. The one error is want of memory.
 pub fn push_tasks(
     alloc: Global,
     text: &mut String,

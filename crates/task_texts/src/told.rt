@@ -1,6 +1,6 @@
 //! The tasks of an interpreter, as a section tells them.
 
-use py_tasks::TasksOf;
+use py_tasks::{Frameworks, TasksOf};
 
 /// The tasks of an interpreter.
 #[derive(Debug, Drop)]
@@ -9,4 +9,6 @@ pub struct InterpreterTasks {
     pub interpreter: u64,
     /// Its tasks, or why none are told.
     pub tasks: TasksOf,
+    /// Which other frameworks it has, whose tasks are not read; none where its modules can't be read.
+    pub frameworks: Option<Frameworks>,
 }

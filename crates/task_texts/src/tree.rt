@@ -4,7 +4,7 @@ ghost use Rattle.serde_json.specs.View.{members_view, view};
 ghost use Rattle.py_tasks.specs.Shown.{chain_shown, entry_shown, task_shown, tasks_shown};
 ghost use Rattle.task_texts.specs.Trees.{address_text, address_tree, all_tasks_tree, chain_tree, end_at, end_tree};
 ghost use Rattle.task_texts.specs.Trees.{entries_tree, entry_tree, entry_trees, fault_tree, first_members};
-ghost use Rattle.task_texts.specs.Trees.{frame_tree, interpreter_tree, kind_tree, lost_tree, member_tree};
+ghost use Rattle.task_texts.specs.Trees.{frame_tree, frameworks_tree, interpreter_tree, kind_tree, lost_tree, member_tree};
 ghost use Rattle.task_texts.specs.Trees.{members_tree, missing_tree, name_tree, numbered_tree, other_tree};
 ghost use Rattle.task_texts.specs.Trees.{own_frame_tree, resized_tree, state_tree, stop_tree, task_tree, tasks_tree};
 ghost use Rattle.task_texts.specs.Trees.{text_tree, thread_tree, waiter_tree, word_tree};
@@ -16,7 +16,8 @@ use elf64_core::Text;
 use py_coroutines::{AwaitEnd, Stop};
 use py_fronts::shown_line;
 use py_tasks::{
-    Chain, Entry, Member, Task, TaskName, TaskState, TasksFault, TasksOf, Waiter, condition_of,
+    Chain, Entry, Frameworks, Member, Task, TaskName, TaskState, TasksFault, TasksOf, Waiter,
+    condition_of,
 };
 use serde_json::{Map, Value, json, put};
 use std::alloc::{AllocError, Global};
@@ -345,19 +346,36 @@ fn own_value(alloc: Global, tasks: &TasksOf) -> Result<Value, AllocError>
     }
 }
 
+/// Which other frameworks an interpreter has, or null.
+fn frameworks_value(alloc: Global, frameworks: Option<Frameworks>) -> Result<Value, AllocError>
+    ensures { IfOk result (λ value. view value ≡ frameworks_tree frameworks) }
+{
+    match frameworks {
+        Some(frameworks) => json!(in alloc; {
+            "curio": frameworks.curio,
+            "greenlet": frameworks.greenlet,
+            "trio": frameworks.trio
+        }),
+        None => Ok(Value::Null),
+    }
+}
+
 fn interpreter_value(alloc: Global, told: &InterpreterTasks) -> Result<Value, AllocError>
     ensures { IfOk result (λ value. view value ≡ interpreter_tree told.now) }
 {
+    let frameworks = frameworks_value(alloc, told.frameworks)?;
     let address = address_text(alloc, told.interpreter)?;
     let tasks = own_value(alloc, &told.tasks)?;
     json!(in alloc; {
+        "frameworks": frameworks,
         "interpreter": address.as_str(),
         "tasks": tasks
     })
 }
 
-/// The tasks as a JSON value: an array of an object for each interpreter, in order, with its address and its `tasks`:
-/// null where it has no asyncio, and else an object whose `kind` says which: `read`, with `entries`; `not described`;
+/// The tasks as a JSON value: an array of an object for each interpreter, in order, with its address, the other
+/// `frameworks` that it has (`curio`, `greenlet`, `trio`; null where its modules can't be read) and its `tasks`: null where
+/// it has no asyncio, and else an object whose `kind` says which: `read`, with `entries`; `not described`;
 /// `another size`, with the `size` of a task there; or why they are not told: `unreadable`, `too many`, `malformed`.
 ///
 /// An entry is a `task`, one that is `lost`, with its `fault`, or an `other` object. A task has its `address`, its `name`

@@ -1,12 +1,13 @@
 """Dies with tasks of asyncio that wait in all kinds of ways, and tells beforehand of each where it stands.
 
-    tasks_child.py HOLDS running|callback|many COUNT
+    tasks_child.py HOLDS running|callback|many|subs|speed|uvloop|none COUNT
 
 Run by Python 3.7 or later. HOLDS is what the core is to hold, as coredump_filter has it. It dies in a running task, or in a
-callback of the loop; or with COUNT tasks that wait, and no others but the one that dies. It prints one JSON object with
-`tasks`: what is to be told of each, as `pysalvage` has it in its JSON. All of it is what Python itself says: `all_tasks`,
-what the collector knows of tasks that are done, `get_name`, `_fut_waiter`, `_must_cancel`, and of a chain `cr_await` and the
-like.
+callback of the loop; or with COUNT tasks that wait, and no others but the one that dies; or with sub-interpreters that have
+loops of their own; or it runs COUNT workers at full speed until it is killed; or it dies over uvloop's loop; or without asyncio. It
+prints one JSON object with `tasks`: what is to be told of each, as `pysalvage` has it in its JSON, or `interpreters` with
+those of each. All of it is what Python itself says: `all_tasks`, what the collector knows of tasks that are done, `get_name`,
+`_fut_waiter`, `_must_cancel`, and of a chain `cr_await` and the like; and `stack`, the functions of the task that runs.
 """
 
 import asyncio
@@ -167,6 +168,27 @@ def executor_waits():
     threading.Event().wait()
 
 
+async def reads_lines(reader):
+    """Reads a stream on which nothing comes."""
+    await reader.readline()
+
+
+async def serves():
+    """Two ends of a stream, each with a task that reads it."""
+    taken = asyncio.get_running_loop().create_future()
+
+    async def serve(reader, writer):
+        keep((reader, writer))
+        taken.set_result(1)
+        await reads_lines(reader)
+
+    server = keep(await asyncio.start_server(serve, "127.0.0.1", 0))
+    reader, writer = keep(await asyncio.open_connection(*server.sockets[0].getsockname()[:2]))
+    await taken
+    keep(writer)
+    task_of(reads_lines(reader), "reads a stream")
+
+
 async def wait_in_all_ways():
     """Makes tasks that wait, each in a way of its own."""
     loop = asyncio.get_running_loop()
@@ -189,6 +211,7 @@ async def wait_in_all_ways():
         task_of(timed(), "timed")
     if sys.version_info >= (3, 8):
         task_of(forever(), "before").set_name("renamed")
+    await serves()
     await settle()
     tasks["stubborn"].cancel()
 
@@ -244,7 +267,8 @@ def class_name(thing):
 def held_by(thing):
     """What an object holds that stands between two others; nothing where it is no such thing."""
     wanted = BETWEEN.get(type(thing).__name__)
-    return None if wanted is None else next(it for it in gc.get_referents(thing) if isinstance(it, wanted))
+    # (types of Cython have such names too)
+    return None if wanted is None else next((it for it in gc.get_referents(thing) if isinstance(it, wanted)), None)
 
 
 def frame_of(frame):
@@ -291,7 +315,7 @@ def told_of(task):
     condition = condition_of(state, chain["end"]["kind"], waiter)
     return {
         "kind": "task", "address": hex(id(task)), "name": name_of(task), "state": state, "condition": condition, "chain": chain,
-        "loop": hex(id(loop)), "must_cancel": task._must_cancel, "thread_id": loop._thread_id if condition == "running" else None,
+        "loop": hex(id(loop)), "must_cancel": task._must_cancel, "thread_id": getattr(loop, "_thread_id", None) if condition == "running" else None,
         "waiter": None if waiter is None else waiter_told(waiter),
     }
 
@@ -318,11 +342,22 @@ def all_of(loops):
     return [*found, *(it for it in done if not any(it is other for other in EAGER))]
 
 
+def stack_of_current():
+    """The functions of the stack of the task that runs here, down to its coroutine; none where none runs."""
+    task, frame, names = asyncio.current_task(), sys._getframe(1), []
+    own = getattr(task and task._coro, "cr_frame", None)
+    while own is not None and frame is not None:
+        names.append(frame.f_code.co_name)
+        frame = None if frame is own else frame.f_back
+    return names
+
+
 def end(loops):
     """Tells of all, and dies."""
     gc.collect()
     gc.disable()
-    print(json.dumps({"version": list(sys.version_info[:3]), "tasks": [told_of(it) for it in all_of(loops)]}), flush=True)
+    found = {"version": list(sys.version_info[:3]), "tasks": [told_of(it) for it in all_of(loops)], "stack": stack_of_current()}
+    print(json.dumps(found), flush=True)
     os.abort()
 
 
@@ -382,12 +417,154 @@ async def with_many(count):
     os.abort()
 
 
+# ---- sub-interpreters
+
+IN_SUB = """
+import sys
+sys.path.insert(0, %r)
+sys.dont_write_bytecode = True
+import tasks_child
+tasks_child.run_in_sub(%d, %d)
+"""
+
+
+async def waits_in_sub(number, told):
+    """Waits with tasks, of which it tells by a pipe once it waits."""
+    loop = asyncio.get_running_loop()
+    task_of(deep(number), "of sub-interpreter %d" % number)
+    task_of(waits_for(asyncio.gather(deep(1), forever())), "gathers in sub-interpreter %d" % number)
+    await settle()
+
+    def tell():
+        data = json.dumps([told_of(it) for it in asyncio.all_tasks(loop)]).encode() + b"\n"
+        os.write(told, data)
+
+    loop.call_soon(loop.call_soon, tell)
+    await forever()
+
+
+def run_in_sub(number, told):
+    """Runs a loop in a sub-interpreter, in a thread of a number of its own: up to 3.11 asyncio knows which loop runs by that."""
+    for _ in range(3 + number):
+        before = threading.Thread(target=int)
+        before.start()
+        before.join()
+    own = threading.Thread(target=asyncio.run, args=(waits_in_sub(number, told),))
+    own.start()
+    own.join()
+
+
+def run_subs(count):
+    """Sub-interpreters that wait; what each tells of its tasks. (3.7 as it is built here has none.)"""
+    try:
+        import _interpreters as subs
+    except ImportError:
+        try:
+            import _xxsubinterpreters as subs
+        except ImportError:
+            return []
+    source, told = os.pipe()
+    lines = os.fdopen(source)
+    found = []
+    for number in range(count):
+        try:
+            own = keep(subs.create(isolated=False))
+        except TypeError:
+            own = keep(subs.create())
+        words = IN_SUB % (os.path.dirname(os.path.abspath(__file__)), number, told)
+        threading.Thread(target=subs.run_string, args=(own, words), daemon=True).start()
+        found.append(json.loads(lines.readline()))
+    return found
+
+
+async def with_subs(count):
+    """Dies beside sub-interpreters that have loops."""
+    found = run_subs(count)
+    task_of(deep(1), "of the main interpreter")
+    await settle()
+    own = [told_of(it) for it in asyncio.all_tasks()]
+    print(json.dumps({"version": list(sys.version_info[:3]), "interpreters": [own, *found]}), flush=True)
+    os.abort()
+
+
+# ---- at full speed
+
+
+async def rests():
+    """Lets others run."""
+    await asyncio.sleep(0)
+
+
+async def steps(left):
+    """Awaits so many of itself, and rests."""
+    if left:
+        await steps(left - 1)
+    else:
+        await rests()
+
+
+async def works(number, own, other):
+    """Rests, and takes what another one hands over, on and on."""
+    while True:
+        await steps(number % 3)
+        other.put_nowait(number)
+        await own.get()
+
+
+async def at_full_speed(count):
+    """Runs until it is killed."""
+    queues = [asyncio.Queue() for _ in range(count)]
+    for number in range(count):
+        task_of(works(number, queues[number], queues[number - 1]), "worker %d" % number)
+    await settle()
+    print("ready", flush=True)
+    await forever()
+
+
+# ---- other loops, and none
+
+
+async def over_uvloop():
+    """Dies over a loop that is written in Cython."""
+    import socket
+
+    loop = asyncio.get_running_loop()
+    ours, theirs = keep(socket.socketpair())
+    ours.setblocking(False)
+    task_of(loop.sock_recv(ours, 1), "waits for a socket")
+    task_of(asyncio.sleep(3000), "sleeps")
+    task_of(waits_for(asyncio.gather(deep(1), deep(2))), "gathers")
+    task_of(enters(asyncio.Semaphore(0)), "semaphore")
+    await serves()
+    await settle()
+    await dies_in_another([loop])
+
+
+def without_asyncio():
+    """Dies without asyncio: the interpreter's modules are those of a program that has none."""
+    for name in [it for it in sys.modules if it.split(".")[0] in ("asyncio", "_asyncio")]:
+        del sys.modules[name]
+    print(json.dumps({"modules": len(sys.modules)}), flush=True)
+    os.abort()
+
+
+RUNS = {"many": with_many, "subs": with_subs, "speed": at_full_speed}
+
+
 def begin():
     """Does what the words say."""
     holds, way, count = sys.argv[1:]
     with open("/proc/self/coredump_filter", "w") as file:
         file.write(holds)
-    asyncio.run(with_many(int(count)) if way == "many" else main(way))
+    if way == "none":
+        without_asyncio()
+    if way == "uvloop":
+        import uvloop
+
+        asyncio.set_event_loop_policy(uvloop.EventLoopPolicy())
+        asyncio.run(over_uvloop())
+    asyncio.run(RUNS[way](int(count)) if way in RUNS else main(way))
 
 
-begin()
+if __name__ == "__main__":
+    begin()

@@ -108,8 +108,10 @@ class Made:
         self.objects.word(found + 16, at)
         return found
 
-    def set_to(self, *members: int, more: Sequence[Tuple[int, int]] = (), module: str = "asyncio.tasks") -> None:
-        """Says which weak references the set has, and with which hashes there are others; the interpreter's modules are written anew."""
+    def set_to(self, *members: int, more: Sequence[Tuple[int, int]] = (), module: str = "asyncio.tasks",
+               masks: Sequence[int] = (), others: Sequence[str] = ()) -> None:
+        """Says which weak references the set has, and with which hashes there are others; or of several sets what they say of how many
+        entries they have. The interpreter's modules are written anew, with others of these names."""
         objects = self.objects
         entries = [(0, 0), *((it, 5) for it in members), *more]
         entries += [(0, 0)] * (8 - len(entries))
@@ -117,8 +119,17 @@ class Made:
         held = objects.write(objects.free(), bytes(200))
         objects.word(held + 32, len(entries) - 1)
         objects.word(held + 40, table)
-        tasks = self.with_dict("module", (("_all_tasks", self.with_dict("WeakSet", (("data", held),))), ("_CTask", self.types["_asyncio.Task"])))
+        sets = [self.set_of(it) for it in masks] or [held]
+        weak = [(name, self.with_dict("WeakSet", (("data", it),))) for name, it in zip(("_all_tasks", "_scheduled_tasks"), sets)]
+        tasks = self.with_dict("module", (*weak, *zip(("_eager_tasks",), sets[2:]), ("_CTask", self.types["_asyncio.Task"])))
         types = self.with_dict("module", (("CoroutineType", self.types["coroutine"]), ("GeneratorType", self.types["generator"]),
                                           ("AsyncGeneratorType", self.types["async_generator"])))
         own = self.with_dict("module", (("Future", self.types["_asyncio.Future"]), ("Task", self.types["_asyncio.Task"])))
-        objects.word(HEAP + 16, self.dict_of(((module, tasks), ("types", types), ("_asyncio", own))))
+        objects.word(HEAP + 16, self.dict_of(((module, tasks), ("types", types), ("_asyncio", own), *((it, own) for it in others))))
+
+    def set_of(self, mask: int) -> int:
+        """A set that says so of how many entries it has, which are not there."""
+        held = self.objects.write(self.objects.free(), bytes(200))
+        self.objects.word(held + 32, mask)
+        self.objects.word(held + 40, 0x90000)
+        return held

@@ -13,16 +13,18 @@ TASKS = f"{GOOD} --records records --tasks"
 FRAMES = "    g (a.py:7)\n    f (a.py:3)\n"
 """The lines of the task's chain."""
 
+FRAMEWORKS = ("curio", "greenlet", "trio")
+
 Change = Callable[[Made], object]
 
 
-def tree_of(tasks: object) -> Dict[str, object]:
+def tree_of(tasks: object, *frameworks: str) -> Dict[str, object]:
     """All that is told of the small core, whose chain of frames is whole."""
     found = broken_tree(0, [])
     interpreters = found["interpreters"]
     assert isinstance(interpreters, list)
     interpreters[0]["threads"][0]["frames"]["end"] = {"kind": "whole"}
-    return {**found, "missing": None, "tasks": [{"interpreter": hex(HEAP), "tasks": tasks}]}
+    return {**found, "missing": None, "tasks": [{"frameworks": {it: it in frameworks for it in FRAMEWORKS}, "interpreter": hex(HEAP), "tasks": tasks}]}
 
 
 def changed(change: Change, **other: int) -> Tuple[Made, Dict[str, bytes]]:
@@ -115,9 +117,26 @@ def untold() -> Iterator[Row]:
         ("no records", f"{GOOD} --tasks", whole, "Tasks are not told: not described for this version\n"),
         ("without the flag", f"{GOOD} --records records", whole, ""),
         ("another size", TASKS, changed(lambda made: None, size=192)[1], "Tasks are not told: they have 192 bytes, which is not described\n"),
-        ("no modules", TASKS, {**named(heap()), "records": RECORDS}, "Tasks are not told: unreadable at 0x0, 48 bytes\n"),
+        ("no modules", TASKS, {**named(heap()), "records": RECORDS}, ""),
+        ("as many entries of all sets as there may be", TASKS, changed(lambda made: made.set_to(masks=(2 ** 19 - 1, 2 ** 19 - 1)))[1],
+         "Tasks are not told: unreadable at 0x90000, 8 bytes\n"),
+        ("more entries of all sets than there may be", TASKS, changed(lambda made: made.set_to(masks=(2 ** 19 - 1, 2 ** 19 - 1, 0)))[1],
+         "Tasks are not told: there are more than are looked at\n"),
+        ("a set with more", TASKS, changed(lambda made: made.set_to(masks=(2 ** 20,)))[1], "Tasks are not told: there are more than are looked at\n"),
     ):
         yield salvage(f"tasks: {what}", words, files, TEXT + line)
+
+
+def others() -> Iterator[Row]:
+    """Other frameworks, whose tasks are not read."""
+    text = lambda it: json.dumps(it, indent=2, ensure_ascii=False) + "\n"
+    lines = ("Tasks of curio are not read\n", "Greenlets are not read\n", "Tasks of trio are not read\n")
+    for name, line in zip(FRAMEWORKS, lines):
+        files = changed(lambda made, name=name: made.set_to(module="asyncio", others=[name]))[1]
+        yield salvage(f"tasks: {name}", TASKS, files, TEXT + line)
+        yield salvage(f"tasks: JSON: {name}", f"{TASKS} -j", files, text(tree_of(None, name)))
+    made, files = changed(lambda made: made.set_to(made.reference_to(made.task), others=["trio", "trio.abc", "greenlet", "Trio"]))
+    yield salvage("tasks: beside other frameworks", TASKS, files, TEXT + head() + FRAMES + lines[1] + lines[2])
 
 
 def task_tree(made: Made) -> Dict[str, object]:
@@ -140,7 +159,7 @@ def trees() -> Iterator[Row]:
         ("no module", TASKS, changed(lambda made: made.set_to(module="asyncio"))[1], None),
         ("no records", f"{GOOD} --tasks", files, {"kind": "not described"}),
         ("another size", TASKS, changed(lambda made: None, size=192)[1], {"kind": "another size", "size": 192}),
-        ("no modules", TASKS, {**named(heap()), "records": RECORDS}, {"address": "0x0", "kind": "unreadable", "length": 48}),
+        ("no modules", TASKS, {**named(heap()), "records": RECORDS}, None),
     )
     for what, words, held, told in rows:
         yield salvage(f"tasks: JSON: {what}", f"{words} -j", held, text(tree_of(told)))
@@ -148,5 +167,5 @@ def trees() -> Iterator[Row]:
 
 def rows() -> Iterator[Row]:
     """All of them."""
-    for part in (conditions, ends, registered, untold, trees):
+    for part in (conditions, ends, registered, untold, trees, others):
         yield from part()

@@ -108,7 +108,12 @@ def coroutine(name: str, line: int = 1, filename: str = "a.py") -> Tree:
 
 def tasks(*entries: Tree, address: int = 0x10000) -> Tree:
     """The tasks of an interpreter."""
-    return {"interpreter": hex(address), "tasks": {"entries": list(entries), "kind": "read"}}
+    return {"frameworks": frameworks(), "interpreter": hex(address), "tasks": {"entries": list(entries), "kind": "read"}}
+
+
+def frameworks(*names: str) -> Dict[str, bool]:
+    """Which other frameworks an interpreter has."""
+    return {it: it in names for it in ("curio", "greenlet", "trio")}
 
 
 def native_frame(function: Optional[str], file: Optional[str], offset: int = 0x46, signal: bool = False, address: int = 0x1000) -> Tree:

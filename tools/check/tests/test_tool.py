@@ -21,7 +21,8 @@ import stand_ins
 from pystacks_tool.ask.advice import NEXT, next_of
 from pystacks_tool.cores.progress import Progress
 from made import AARCH64, Segment, core_file, elf_file, process_record, status_record
-from stand_ins import coroutine, frame, interpreter, local, native_frame, native_stack, native_thread, salvage, task, tasks, thread
+from stand_ins import coroutine, frame, frameworks, interpreter, local, native_frame, native_stack, native_thread, salvage, task, tasks, thread
+from tasks_text import task_lines
 
 TOOL = TOOLS / "dump_core.py"
 
@@ -69,7 +70,10 @@ class Case(unittest.TestCase):
     def programs(self, tree=None, threads=None, names=None, **more):
         """Puts the programs: `pysalvage`, if a tree is handed in, and `pystacks`."""
         if tree is not None:
-            stand_ins.program(self.folder / "pysalvage", json.dumps(tree), **more)
+            # (of its text the tool reads the lines of tasks alone)
+            trees = tree.get("tasks") if isinstance(tree, dict) else None
+            text = "".join(f"{it}\n" for it in ["Signal 11 (SIGSEGV): core", "Thread 0x7F00", "    main (a.py:1)", *task_lines(trees or [])])
+            stand_ins.program(self.folder / "pysalvage", json.dumps(tree), text, **more)
             more = {}
         threads = threads if threads is not None else [it for one in (tree or {"interpreters": []})["interpreters"] for it in one["threads"]]
         stand_ins.program(self.program, stand_ins.dump_json(threads, names), stand_ins.text_of(threads, names=names), **more)
@@ -445,10 +449,10 @@ class Tasks(Case):
     def test_others(self):
         lost = {"address": "0x5000", "fault": {"address": "0x8", "kind": "unreadable", "length": 8}, "kind": "lost"}
         other = {"address": "0x6000", "kind": "other", "type": "Task"}
-        nameless = task(None, [coroutine("f")], must_cancel=True, waiter=None, end={"address": "0x99", "kind": "cycle"})
+        nameless = task(None, [coroutine("f")], "ready", must_cancel=True, waiter=None, end={"address": "0x99", "kind": "cycle"})
         broken = task("broken", [{"filename": None, "line": 0, "name": None}, None], end={"kind": "not stored"})
         self.assertEqual(self.shown(tasks(nameless, broken, lost, other)), [
-            "Tasks 2 (2 waiting)", "Task 0x5000 (waiting, to be cancelled)", "    ... awaits the one at 0x99 again", "    f (a.py:1)",
+            "Tasks 2 (1 ready, 1 waiting)", "Task 0x5000 (ready, to be cancelled)", "    ... awaits the one at 0x99 again", "    f (a.py:1)",
             'Task "broken" (waits for _asyncio.Future)', "    ... what it awaits is not stored", "    ? a name that can't be read",
             "    ? a coroutine without a frame", "Task 0x5000 is not told: unreadable at 0x8, 8 bytes", "Registered, and no task: <Task at 0x6000>"])
 
@@ -457,8 +461,8 @@ class Tasks(Case):
                            ({"kind": "another size", "size": 168}, "they have 168 bytes, which is not described"),
                            ({"kind": "malformed"}, "something on the way is not what it has to be"),
                            ({"address": "0x8", "kind": "unreadable", "length": 24}, "unreadable at 0x8, 24 bytes")):
-            self.assertEqual(self.shown({"interpreter": "0x10000", "tasks": told}), [f"Tasks are not told: {line}"])
-        self.assertEqual(self.shown({"interpreter": "0x10000", "tasks": None}), [])
+            self.assertEqual(self.shown({"frameworks": frameworks(), "interpreter": "0x10000", "tasks": told}), [f"Tasks are not told: {line}"])
+        self.assertEqual(self.shown({"frameworks": None, "interpreter": "0x10000", "tasks": None}), [])
         self.assertEqual(self.shown(tasks(), tasks(task("a", [coroutine("f")]), address=0x20000)), [
             "Interpreter 0x10000: Tasks 0 (none that isn't done)", "Interpreter 0x20000: Tasks 1 (1 waiting)",
             'Task "a" (waits for _asyncio.Future)', "    f (a.py:1)"])
@@ -469,6 +473,39 @@ class Tasks(Case):
         self.assertEqual(lines, [
             "Tasks 1 (1 waiting)", 'Task "a\\u{22}\\u{a}    forged (a.py:1)\\u{a}Task \\u{202e}" (waits for \\u{a}Task "x" (ready))',
             "    ... awaits an object at 0x9", "    \\u{2e}..\\u{a}5 more frames (a.py:1)"])
+
+    def test_running(self):
+        stack = [frame("leaf", "a.py", 1), frame("main", "a.py", 9), frame("main", "a.py", 9), frame("run", "events.py", 80)]
+        others = [thread(0x7F01, [frame("other", "a.py", 2), frame("main", "a.py", 9)], 100)]
+        runs = task("main", [coroutine("main", 9)], "running", None, {"kind": "running"})
+
+        def shown(*all_of, cut=0):
+            first = stack[:2] if cut else stack
+            tree = salvage(interpreter([thread(0x7F00, first, 99, True, True, last=stack[2:] if cut else (), between=cut), *others]), tasks=[tasks(*all_of)])
+            self.programs(tree, help_text=KNOWN)
+            status, out, said = self.tool("--all")
+            self.assertEqual((status, said), (0, ""))
+            lines = out.splitlines()
+            at = next(at for at, it in enumerate(lines) if it.startswith("Tasks "))
+            return lines[at + 1 :]
+
+        head = 'Task "main" (running in thread 0x7F00)'
+        # (its own thread's frames, down to the oldest that is its coroutine's)
+        self.assertEqual(shown(runs), [head, "    leaf (a.py:1)", "    main (a.py:9)", "    main (a.py:9)"])
+        # (which are whose isn't known where two run at one place, and where frames aren't shown)
+        self.assertEqual(shown(runs, dict(runs, address="0x77")), [head, "    main (a.py:9)"] * 2)
+        self.assertEqual(shown(runs, cut=3), [head, "    main (a.py:9)"])
+
+    def test_frameworks(self):
+        lines = ["Greenlets are not read", "Tasks of trio are not read"]
+        own = dict(tasks(), frameworks=frameworks("trio", "greenlet"))
+        self.assertEqual(self.shown(own), ["Tasks 0 (none that isn't done)", *lines])
+        self.assertEqual(self.shown(dict(own, tasks=None)), lines)
+        self.assertEqual(self.shown(dict(own, tasks=None), tasks(address=0x20000)), [
+            *(f"Interpreter 0x10000: {it}" for it in lines), "Interpreter 0x20000: Tasks 0 (none that isn't done)"])
+        for words in ((), ("--json",)):
+            page = self.folder / "page.html"
+            self.assertEqual(self.tool(f"--html={page}", *words)[0] if not words else self.tool(*words)[0], 0)
 
     def test_many(self):
         # (a screen has so many lines: those of most tasks are shown, and the others counted)

@@ -42,12 +42,37 @@ def dump_command(options: Options, core: OpenedCore, *more: str) -> List[bytes]:
     return [*command_of(words, [core.name]), *(os.fsencode(it) for it in more), *core.images]
 
 
+LARGE = 64_000_000
+"""Of a core of so many bytes there may be tasks by the ten thousands, whose JSON is five times as long as their text."""
+
+
+def size_of(core: OpenedCore) -> int:
+    """How many bytes a core has, where it can be told."""
+    try:
+        return os.stat(core.word).st_size
+    except OSError:
+        return 0
+
+
+def tells_tasks_as_text(options: Options, core: OpenedCore) -> bool:
+    """Whether tasks are asked for as text, in a run of its own: of a large core, which costs more than the run does. JSON is needed where it is
+    written, and over a part of a core, since it alone tells what that lacks."""
+    return not options.json and core.part is None and size_of(core) >= LARGE
+
+
+def tasks_command(options: Options, program: Path, core: OpenedCore) -> List[bytes]:
+    """The words of `pysalvage` for tasks as text."""
+    records = [f"--records={core.records}"] if core.records else []
+    words = [os.fspath(program), f"--layouts={core.layouts}", *records, "--frames=1", TASKS, "--", core.word]
+    return [*command_of(words, [core.name]), *core.images]
+
+
 def salvage_command(options: Options, program: Path, core: OpenedCore) -> List[bytes]:
     """The words of `pysalvage`, which is asked for JSON by the layouts and the records of the core's machine, for the sections that are
     shown, for what the process says of the layout, for the names and the system's ids of threads, and over a part of a core for what it missed."""
     sections = ["--signal"] * options.signal + ["--missing"] * (core.part is not None)
     sections += [it for it in (REGISTERS, FLAG, NAMES) if knows(program, it)]
-    sections += [TASKS] * (options.tasks and knows(program, TASKS))
+    sections += [TASKS] * (options.tasks and knows(program, TASKS) and not tells_tasks_as_text(options, core))
     records = [f"--records={core.records}"] if core.records else []
     ends = [f"--frames={options.frames}"] if options.frames is not None else []
     asked = ["-j", *ends, *["-l"] * options.locals, *sections, "--", core.word]

@@ -15,13 +15,16 @@ from pystacks_tool.ask.layout import DIFFERS, layout_in, refusal
 from pystacks_tool.ask.names import add_names, missing_files, readable_names
 from pystacks_tool.ask.native import FLAG as NATIVE, KEY as NATIVE_KEY, stack_of
 from pystacks_tool.ask.parts import ask_growing, ask_over
-from pystacks_tool.ask.programs import NAMES, ask, dump_command, native_command
+from pystacks_tool.ask.programs import NAMES, ask, dump_command, native_command, tasks_command, tells_tasks_as_text
 from pystacks_tool.ask.run import Answer, knows
 from pystacks_tool.ask.salvage import NamesAndValues, names_and_values, report_by_salvage, with_system_ids
+from pystacks_tool.ask.task_frames import with_running_frames
+from pystacks_tool.ask.task_text import tasks_in
+from pystacks_tool.ask.tasks import FLAG as TASKS
 from pystacks_tool.cores.images import OTHER_FILE
 from pystacks_tool.cores.opened import OpenedCore
 from pystacks_tool.faults import NO_PROGRAM, Fault, say, shown
-from pystacks_tool.model import Report, arranged
+from pystacks_tool.model import Report, Tasks, arranged
 from pystacks_tool.options import Options
 from pystacks_tool.places import PROGRAM, salvage_program
 
@@ -61,7 +64,7 @@ def ask_salvage(options: Options, core: OpenedCore, program: Path) -> Outcome:
     if told is not None and told.verdict == DIFFERS and not options.any_layout:
         return Outcome(refusal(told))
     tree, report = report_by_salvage(decoded(answer.out), core.name, ask_for_names_and_values(options, core, program))
-    report = with_system_ids(report)
+    report = with_running_frames(with_tasks(options, core, program, with_system_ids(report)))
     if not options.registers:
         # (they were asked for the ids of threads alone)
         tree["registers"], report = None, report._replace(registers=())
@@ -80,6 +83,17 @@ def say_missing(files: List[str]) -> None:
 
 MISSING = 4
 """How many files that weren't at hand are named."""
+
+
+def with_tasks(options: Options, core: OpenedCore, program: Path, report: Report) -> Report:
+    """The report with the tasks of asyncio, where they are asked for in a run of its own."""
+    if not options.tasks or not knows(program, TASKS) or not tells_tasks_as_text(options, core):
+        return report
+    answer = ask(core, tasks_command(options, program, core))
+    if answer.status != 0:
+        return report._replace(tasks=(Tasks("", fault=f"pysalvage ended with status {answer.status}"),))
+    return report._replace(tasks=tasks_in(decoded(answer.out)))
+
 
 DEATHS = {4, 5, 6, 7, 8, 11, 31}
 """The signals of faults and of `abort`: native code may be where the process died."""

@@ -64,19 +64,28 @@ def other_of(tree: Tree) -> str:
     return f"Registered, and no task: <{tree['type'] or '?'} at {tree['address']}>"
 
 
+FRAMEWORKS = {"curio": "Tasks of curio are not read", "greenlet": "Greenlets are not read", "trio": "Tasks of trio are not read"}
+"""What is said where a process has a module of another framework."""
+
+
+def not_read(tree: Tree) -> Tuple[str, ...]:
+    """What isn't read, by the modules that an interpreter has. (An older program doesn't tell them.)"""
+    has = tree.get("frameworks") or {}
+    return tuple(line for name, line in FRAMEWORKS.items() if has.get(name))
+
+
 def tasks_of(tree: Tree) -> Optional[Tasks]:
-    """The tasks of an interpreter; nothing where it has no asyncio."""
-    told = tree["tasks"]
-    if told is None or told.get("address") == "0x0":
-        # (an interpreter that has no modules has no asyncio)
-        return None
+    """The tasks of an interpreter; nothing where it has no asyncio, nor another framework."""
+    told, others = tree["tasks"], not_read(tree)
+    if told is None:
+        return Tasks(tree["interpreter"], others=others, has_asyncio=False) if others else None
     if told["kind"] != "read":
-        return Tasks(tree["interpreter"], fault=fault_of(told))
+        return Tasks(tree["interpreter"], others=others, fault=fault_of(told))
     entries = told["entries"]
     return Tasks(tree["interpreter"], tuple(task_of(it) for it in entries if it["kind"] == "task"),
-                 tuple(other_of(it) for it in entries if it["kind"] != "task"))
+                 (*(other_of(it) for it in entries if it["kind"] != "task"), *others))
 
 
 def all_tasks(trees: Optional[List[Tree]]) -> Tuple[Tasks, ...]:
-    """The tasks of all interpreters that have asyncio."""
+    """The tasks of all interpreters that have asyncio or another framework."""
     return tuple(it for it in map(tasks_of, trees or ()) if it is not None)

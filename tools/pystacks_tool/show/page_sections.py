@@ -6,7 +6,7 @@ from pystacks_tool.model import NativeFrame, NativeStack, Report, Task, Tasks
 from pystacks_tool.show.escape import in_line
 from pystacks_tool.show.native import crashed_first, frame_line, part_lines, stack_title, thread_names
 from pystacks_tool.show.page_frames import items_of, text
-from pystacks_tool.show.tasks import name_of, summary_of, task_blocks
+from pystacks_tool.show.tasks import name_of, others_of, summary_of, task_blocks
 from pystacks_tool.show.text import Style
 
 NAMED = 1000
@@ -55,10 +55,11 @@ def task_section(anchor: str, tasks: Sequence[Task], title: str, style: Style, i
 def tasks_of(tasks: Tasks, front: str, is_titled: bool, style: Style) -> Iterator[str]:
     """The tasks of an interpreter, those of one place together."""
     mark = " class=\"end\"" if tasks.fault else ""
-    yield f"<p{mark}>{text(summary_of(tasks, is_titled))}</p>"
+    if tasks.has_asyncio:
+        yield f"<p{mark}>{text(summary_of(tasks, is_titled))}</p>"
     for at, (its, title) in enumerate(task_blocks(tasks, not style.shows_all)):
         yield task_section(f"{front}{at}", its, title, style, at < OPEN)
-    yield from (f"<p class=\"end\">{text(in_line(it))}</p>" for it in tasks.others)
+    yield from (f"<p class=\"end\">{text(in_line(it))}</p>" for it in others_of(tasks, is_titled))
 
 
 # ---- native stacks

@@ -1,6 +1,7 @@
 """The lines of asyncio's tasks: how many there are, and where each one stands. Equal ones stand once."""
 
 import re
+from collections import Counter
 from typing import Dict, Iterator, List, Sequence, Tuple
 
 from pystacks_tool.model import Task, Tasks
@@ -29,11 +30,18 @@ def summary_of(tasks: Tasks, is_titled: bool = False) -> str:
     front = f"Interpreter {tasks.interpreter}: " if is_titled else ""
     if tasks.fault:
         return f"{front}Tasks are not told: {in_line(tasks.fault)}"
-    counts = {it: sum(task.kind == it for task in tasks.tasks) for it in COUNTED}
+    kinds = Counter(it.kind for it in tasks.tasks)
+    counts = {it: kinds[it] for it in COUNTED}
     parts = ", ".join(f"{count} {kind}" for kind, count in counts.items() if count) or "none that isn't done"
-    done = len(tasks.tasks) - sum(counts.values())
+    done = len(tasks.tasks) + tasks.done - sum(counts.values())
     aren = f"; {done} finished {'is' if done == 1 else 'are'}n't shown" if done else ""
     return f"{front}Tasks {sum(counts.values())} ({parts}{aren})"
+
+
+def others_of(tasks: Tasks, is_titled: bool = False) -> List[str]:
+    """What is said beside the tasks; with the interpreter, where there are several and it has no asyncio."""
+    front = f"Interpreter {tasks.interpreter}: " if is_titled and not tasks.has_asyncio else ""
+    return [front + it for it in tasks.others]
 
 
 def title_of(tasks: Sequence[Task]) -> str:
@@ -49,9 +57,14 @@ def together(tasks: Tasks, is_merged: bool) -> List[List[Task]]:
     """The tasks that aren't done, those that stand at one place together by their names: running ones first, and then those of the place
     at which most are."""
     found: Dict[object, List[Task]] = {}
+    places: Dict[int, Tuple[object, ...]] = {}
     for at, task in enumerate(tasks.tasks):
         if task.kind in COUNTED:
-            key: Tuple[object, ...] = (task.condition, tuple(it.place for it in task.frames), task.end)
+            # (tasks that stand at one place share their frames mostly)
+            place = places.get(id(task.frames))
+            if place is None:
+                place = places[id(task.frames)] = tuple(it.place for it in task.frames)
+            key: Tuple[object, ...] = (task.condition, place, task.end)
             found.setdefault(key if is_merged and task.kind != "running" else at, []).append(task)
     its = [sorted(one, key=name_key) for one in found.values()]
     return sorted(its, key=lambda one: (COUNTED.index(one[0].kind) > 0, -len(one)))

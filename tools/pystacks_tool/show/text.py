@@ -12,7 +12,7 @@ from pystacks_tool.show.escape import as_function, as_name, in_line, signal_name
 from pystacks_tool.show.folds import Fold, Item, folded
 from pystacks_tool.show.native import lines_under, native_lines, where_line
 from pystacks_tool.show.sources import Sources
-from pystacks_tool.show.tasks import summary_of, task_blocks
+from pystacks_tool.show.tasks import others_of, summary_of, task_blocks
 from pystacks_tool.show.widths import shortened
 
 MANY = 8
@@ -388,7 +388,8 @@ def task_lines(report: Report, style: Style, _: int) -> Iterator[str]:
     """The tasks of asyncio, those that stand at one place together: as many lines as a screen has, unless more is asked for."""
     is_short = not (style.shows_all or style.shows_stacks)
     for tasks in report.tasks:
-        yield style.paint(summary_of(tasks, len(report.tasks) > 1), RED if tasks.fault else BOLD)
+        if tasks.has_asyncio:
+            yield style.paint(summary_of(tasks, len(report.tasks) > 1), RED if tasks.fault else BOLD)
         left, kept = LINES, list(task_blocks(tasks, not style.shows_all))
         for at, (its, title) in enumerate(kept):
             lines = [line for lines, _ in items_lines(its[0].frames, style) for line in lines]
@@ -399,7 +400,7 @@ def task_lines(report: Report, style: Style, _: int) -> Iterator[str]:
                 break
             left -= len(lines) + len(end) + 1
             yield from [title, *end, *lines]
-        yield from map(in_line, tasks.others)
+        yield from (in_line(it) for it in others_of(tasks, len(report.tasks) > 1))
 
 
 def native_stack_lines(report: Report, _: Style, __: int) -> Iterator[str]:

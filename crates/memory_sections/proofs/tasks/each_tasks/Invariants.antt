@@ -7,5 +7,5 @@ use Rattle.memory_sections.proofs.tasks.each_tasks.Given as goal
 
 abbrev pub invariant-loop-interpreter : goal.invariant-loop-interpreter
 invariant-loop-interpreter l = EachTold
-    (AreTasksOf l.process.layout l.records (byte_at (regions_of l.process.dump)))
+    (AreTasksOf l.process.layout l.records (byte_at (regions_of l.process.dump)) l.slots)
     (take l.interpreter-index l.interpreters) l.told.items

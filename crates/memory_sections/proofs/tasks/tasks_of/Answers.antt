@@ -1,12 +1,5 @@
-use Rattle.std.proofs.Common.{◌∙◌, ap, refl}
-use Rattle.image_memory.specs.Backed.{regions_of}
-use Rattle.process_memory.specs.Seen.{Seen}
-use Rattle.core_stacks.proofs.Stacks.{over_this}
+use Rattle.std.proofs.Common.{refl}
 use Rattle.memory_sections.proofs.tasks.tasks_of.Goals as goal
 
 pub returns : goal.returns
-returns c =
-    let here = over_this (regions_of c.args.process.now.dump)
-    (ap (λ (s : Seen). s.pieces) (c.new-view.ensures ∙ c.view.ensures)) c.read_tasks-read.ensures in
-    let told = rw c.in_ok-tasks.ensures at here in
-    record { interpreter_is = refl; are = told.is }
+returns c = record { interpreter_is = refl; are = c.in_ok-tasks.ensures; others = c.in_ok-frameworks.ensures }

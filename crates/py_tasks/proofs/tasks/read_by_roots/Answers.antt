@@ -5,7 +5,7 @@ use Rattle.py_tasks.proofs.tasks.read_by_roots.Goals as goal
 
 pub returns-in-None : goal.returns-in-None
 unfolding by_roots_at
-returns-in-None g c = rw c.in-None.is (reads_end 1114275908 refl)
+returns-in-None g c = rw c.in-None.is (reads_end 1107984452 refl)
 
 pub returns-in-Some : goal.returns-in-Some
 unfolding by_roots_at

@@ -11,12 +11,12 @@ pub returns-in_err-size : goal.returns-in_err-size
 unfolding checked_at
 returns-in_err-size g c =
     let p = err_from_is_err_and c.from_residual.result c.from_residual.ensures.1 in
-    rw p.1 (reads_halt 1114275908 p.0 _ (reading_short c.in_err-size.ensures.answer) p.2.0 (omega arith))
+    rw p.1 (reads_halt 1107984452 p.0 _ (reading_short c.in_err-size.ensures.answer) p.2.0 (omega arith))
 
 pub returns-then-size-places : goal.returns-then-size-places
 unfolding checked_at
 returns-then-size-places g c =
-    reads_next 1114275908 _ (reading_short c.in_ok-size.ensures.answer)
+    reads_next 1107984452 _ (reading_short c.in_ok-size.ensures.answer)
     (reads_same (λ m. by_size c.args.layout.now c.args.records.now m c.args.places.now c.args.root_places.now
     c.args.modules c.args.roots.now c.args.task c.in_ok-size.size)
     (λ m. typed_at c.args.layout.now c.args.records.now m c.args.places.now c.args.root_places.now c.args.modules
@@ -28,7 +28,7 @@ returns-then-size-places g c =
 pub returns : goal.returns
 unfolding checked_at
 returns g c =
-    reads_next {k = 0} 1114275908 _ (reading_short c.in_ok-size.ensures.answer)
+    reads_next {k = 0} 1107984452 _ (reading_short c.in_ok-size.ensures.answer)
     (reads_same (λ m. by_size c.args.layout.now c.args.records.now m c.args.places.now c.args.root_places.now
     c.args.modules c.args.roots.now c.args.task c.in_ok-size.size)
     (λ m. Ok (TasksShown.TasksResized c.in_ok-size.size))

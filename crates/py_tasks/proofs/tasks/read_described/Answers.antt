@@ -17,7 +17,7 @@ returns-in-None g c =
     (λ m. Ok TasksShown.TasksUnknown)
     (λ m. not_described c.args.layout.now c.args.records.now m c.args.places.now c.args.root_places.now
     c.args.roots.now c.args.types none)
-    (reads_end 1113227291 refl)
+    (reads_end 1106935835 refl)
 
 pub returns-in-Some : goal.returns-in-Some
 returns-in-Some g c =

@@ -12,7 +12,7 @@ returns-in-None g c =
     c.args.roots.now 0)
     (λ m. without_type c.args.layout.now c.args.records.now m c.args.places.now c.args.root_places.now
     c.args.roots.now c.args.modules c.in-None.is)
-    (reads_within 1114275908 c.read_typed.ensures (omega arith))
+    (reads_within 1107984452 c.read_typed.ensures (omega arith))
 
 pub returns-in-Some : goal.returns-in-Some
 returns-in-Some g c =

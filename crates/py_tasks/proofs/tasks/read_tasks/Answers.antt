@@ -11,5 +11,5 @@ returns-in-Ok g c = reading_gives _ _ c.in-Ok.ensures (omega arith) (λ m a. rec
 pub returns-in-Err : goal.returns-in-Err
 unfolding tasks_at
 returns-in-Err g c = reading_gives _ _ c.in-Err.ensures (omega arith)
-    (λ m a. tasks_lost (all_at c.args.layout.now c.args.records.now m c.args.interpreter) c.in-Err.error _ a
+    (λ m a. tasks_lost (all_at c.args.layout.now c.args.records.now m c.args.slots c.args.interpreter) c.in-Err.error _ a
     c.lost_tasks.ensures)

@@ -1,54 +1,16 @@
-use Rattle.std.proofs.Common.{◌≡◌, ap, arith, sym}
+use Rattle.std.proofs.Common.{ap, arith}
 use Rattle.std.proofs.lemmas.Result.{err_from_is_err_and}
-use Rattle.process_memory.proofs.Reading.{reads_end, reads_halt, reads_known, reads_next}
+use Rattle.process_memory.proofs.Reading.{reads_halt, reads_next}
 use Rattle.py_names.specs.NamesError.{names_fault}
-use Rattle.task_sets.specs.Registered.{joined, registered_at}
+use Rattle.task_sets.specs.Registered.{registered_at}
 use Rattle.task_sets.proofs.registered.read_registered.Goals as goal
 
-pub returns-in_err-all : goal.returns-in_err-all
+pub returns-in_err-tables : goal.returns-in_err-tables
 unfolding registered_at
-returns-in_err-all g c =
+returns-in_err-tables g c =
     let p = err_from_is_err_and c.from_residual.result c.from_residual.ensures.1 in
-    rw p.1 (reads_halt 9601051 p.0 _ c.in_err-all.ensures (ap names_fault p.2) (omega arith))
-
-pub returns-in_err-scheduled : goal.returns-in_err-scheduled
-unfolding registered_at
-returns-in_err-scheduled g c =
-    let p = err_from_is_err_and c.from_residual-in_err-scheduled.result c.from_residual-in_err-scheduled.ensures.1 in
-    rw p.1 (reads_next 9601051 _ c.in_ok-all.ensures (reads_halt 6438928 p.0 _ c.in_err-scheduled.ensures (ap
-    names_fault p.2) (omega arith)) (omega arith))
-
-pub returns-in_err-eager : goal.returns-in_err-eager
-unfolding registered_at
-returns-in_err-eager g c =
-    let p = err_from_is_err_and c.from_residual-in_err-eager.result c.from_residual-in_err-eager.ensures.1 in
-    rw p.1 (reads_next 9601051 _ c.in_ok-all.ensures (reads_next 6438928 _ c.in_ok-scheduled.ensures (reads_halt
-    3276805 p.0 _ c.in_err-eager.ensures (ap names_fault p.2) (omega arith)) (omega arith)) (omega arith))
-
-pub returns-in_err-current : goal.returns-in_err-current
-unfolding registered_at
-returns-in_err-current g c =
-    let p = err_from_is_err_and c.from_residual-in_err-current.result c.from_residual-in_err-current.ensures.1 in
-    rw p.1 (reads_next 9601051 _ c.in_ok-all.ensures (reads_next 6438928 _ c.in_ok-scheduled.ensures (reads_next
-    3276805 _ c.in_ok-eager.ensures (reads_halt 131075 p.0 _ c.in_err-current.ensures (ap names_fault p.2)
-    (omega arith)) (omega arith)) (omega arith)) (omega arith))
-
-pub returns-in_err-list : goal.returns-in_err-list
-unfolding registered_at
-returns-in_err-list g c =
-    let p = err_from_is_err_and c.from_residual-in_err-list.result c.from_residual-in_err-list.ensures.1 in
-    rw p.1 (reads_next 9601051 _ c.in_ok-all.ensures (reads_next 6438928 _ c.in_ok-scheduled.ensures
-    (reads_next 3276805 _ c.in_ok-eager.ensures (reads_next {k = 0} 131075 _ c.in_ok-current.ensures
-    (reads_known 0 _ _ (λ m. record { is = rw (ap names_fault p.2) tt })) (omega arith)) (omega arith)) (omega
-    arith)) (omega arith))
+    rw p.1 (reads_halt 3309595 p.0 _ c.in_err-tables.ensures.answer (ap names_fault p.2) (omega arith))
 
 pub returns : goal.returns
 unfolding registered_at
-returns g c =
-    let same : c.in_ok-list.list.items ≡ joined c.in_ok-all.all.items c.in_ok-scheduled.scheduled.items
-    c.in_ok-eager.eager.items c.in_ok-current.current.items =
-    rw (c.deref.ensures.value, c.deref-2.ensures.value, c.deref-3.ensures.value, c.deref-4.ensures.value)
-    at c.in_ok-list.ensures in
-    reads_next 9601051 _ c.in_ok-all.ensures (reads_next 6438928 _ c.in_ok-scheduled.ensures
-    (reads_next 3276805 _ c.in_ok-eager.ensures (reads_next {k = 0} 131075 _ c.in_ok-current.ensures
-    (reads_end 0 (sym same)) (omega arith)) (omega arith)) (omega arith)) (omega arith)
+returns g c = (reads_next 3309595 _ c.in_ok-tables.ensures.answer c.read_members.ensures (omega arith))

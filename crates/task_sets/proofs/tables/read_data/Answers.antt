@@ -1,7 +1,7 @@
 use Rattle.std.proofs.Common.{refl}
 use Rattle.process_memory.proofs.Reading.{reads_end}
-use Rattle.task_sets.specs.Registered.{data_at}
-use Rattle.task_sets.proofs.registered.read_data.Goals as goal
+use Rattle.task_sets.specs.Tables.{data_at}
+use Rattle.task_sets.proofs.tables.read_data.Goals as goal
 
 pub returns-in-None : goal.returns-in-None
 unfolding data_at

@@ -1,0 +1,16 @@
+use Rattle.std.proofs.Common.{arith}
+use Rattle.std.proofs.lemmas.Result.{err_from_is_err_and}
+use Rattle.process_memory.proofs.Reading.{reading_short, reads_halt, reads_next}
+use Rattle.py_tasks.specs.Frameworks.{all_frameworks_at}
+use Rattle.py_tasks.proofs.frameworks.read_all.Goals as goal
+
+pub returns-in_err-modules : goal.returns-in_err-modules
+unfolding all_frameworks_at
+returns-in_err-modules g c =
+    let p = err_from_is_err_and c.from_residual.result c.from_residual.ensures.1 in
+    rw p.1 (reads_halt 262148 p.0 _ (reading_short c.in_err-modules.ensures.answer) p.2.0 (omega arith))
+
+pub returns : goal.returns
+unfolding all_frameworks_at
+returns g c =
+    reads_next 262148 _ (reading_short c.in_ok-modules.ensures.answer) c.read_by_modules.ensures (omega arith)
