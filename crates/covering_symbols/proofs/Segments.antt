@@ -34,7 +34,7 @@ module _ (p : Segment → Bool) where
   -- the first one that passes, by whether the first one of all does
   more : (k : ℕ) (s : Segment) (segments : List Segment) (b : Bool) → p s ≡ b
       → find passes (enumerate_from k (s ∷ segments))
-          ≡ cond b (Some (k, s)) (find passes (enumerate_from (k + 1) segments))
+      ≡ cond b (Some (k, s)) (find passes (enumerate_from (k + 1) segments))
   more k s segments b is = ap (λ c. cond c (Some (k, s)) (find passes (enumerate_from (k + 1) segments))) is
 
   whole : (s : Segment) (segments : List Segment) (b : Bool) → p s ≡ b
