@@ -24,6 +24,7 @@ from rooms import BUILT_SALVAGE  # (first: it makes the other rooms known)
 from made import EXAMPLE, Objects, Segment, core_file, image_file, layout_of
 from measure import Shape, core, machine, row
 from small_core import BSS, FRAME, GOOD, HEAP, IMAGE, THREAD, bss, files_of, heap, mapped, of_locals
+from rows_native import CODE, PAGE, RESUMES, STACK, WORDS as NATIVE, files_over, status
 from rows_salvage import named
 from shared_files import image_of_bss, image_of_sections, image_of_symbols, of_bss, of_long_name, of_notes
 
@@ -150,6 +151,15 @@ def cases_of_salvage() -> Iterator[Case]:
         yield Case(f"a bss of {words:,} words, each an interpreter whose threads are a ring", SALVAGE,
                    lambda words=words: with_bss(words, threads_in_a_ring()))
     yield Case("16 interpreters of 4096 threads of two frames", SALVAGE, lambda: interpreters(16, 4096))
+    calls = [0, 0, 0, CODE + 0x30]
+    yield Case("`--native`: a stack of 92,000 frames", NATIVE, lambda: files_over([status(9, 11, CODE + 0x24)], calls * 92_000 + [0] * 8))
+    yield Case("`--native`: 2000 threads of 20 frames", NATIVE,
+               lambda: files_over([status(9 + at, 11, CODE + 0x24) for at in range(2000)], calls * 20 + [0] * 8))
+    # (15 pops and a return, which leads to them again; and a handler's return to itself)
+    yield Case("`--native`: 16,384 frames by their epilogues", NATIVE,
+               lambda: files_over([status(9, 11, PAGE)], ([0] * 15 + [PAGE]) * 16_384, b"\x58" * 15 + b"\xc3"))
+    yield Case("`--native`: handlers of signals that return to themselves", NATIVE, lambda: files_over(
+        [status(9, 11, PAGE)], [*RESUMES, STACK, PAGE, 0], bytes([0x48, 0xC7, 0xC0, 15, 0, 0, 0, 0x0F, 5])))
     yield Case("`-l`: a thread whose frames are a ring of one with 65,535 variables", f"{SALVAGE} -l",
                lambda: of_variables(65535, 1))
     yield Case("the same in 4096 threads", f"{SALVAGE} -l", lambda: of_variables(65535, 4096))

@@ -7,11 +7,13 @@ ROOT is a folder of unpacked arm64 packages with a Python 3 (docs/LAYOUTS.md has
 environment's PYSTACKS_ARM_ROOT names it. The emulator qemu-aarch64 runs real_core_child.py by that Python and leaves
 its cores. These have no file table, so it is written from the maps that the child told. Then each core is walked and
 reported, by the stored layout of the Python's version, and compared like those of real_core.py; where the program
-`listing` is built, with those bytes alone that are read, too. Nothing is fetched and nothing changed. What can't be
-tried here has one line that says why. The status is 0 exactly where nothing that was tried failed.
+`listing` is built, with those bytes alone that are read, too. Where `pysalvage` is built, there is a native stack of each
+thread that the child told, each ends whole, none by a guess, and has a frame of Python. Nothing is fetched and nothing
+changed. What can't be tried here has one line that says why. The status is 0 exactly where nothing that was tried failed.
 """
 
 import argparse
+import json
 import os
 import re
 import shutil
@@ -147,6 +149,23 @@ def check_other_images(program: Path, core: Core, room: Path) -> None:
         raise Failure(f"over images of another machine the tool ended with status {run.status}: {run.err}")
 
 
+def check_native(salvage: Path, core: Core, layouts: Path) -> None:
+    """Fails where a thread that the child told has no native stack, or one that isn't whole, is a guess, or has no frame of Python."""
+    entries = {os.fsdecode(it.name) for it in entries_in(core.told.maps.encode("utf-8"))}
+    images = [f"{it}={it}" for it in sorted(entries) if os.path.isfile(it)]
+    run = ran([salvage, core.path, "--layouts", layouts, "-j", "--native", "-n", "4096", *images])
+    if run.status != 0:
+        raise Failure(f"native stacks: status {run.status}: {run.err}")
+    threads = json.loads(run.out)["native"]
+    if len(threads) < len(core.told.threads):
+        raise Failure(f"{len(threads)} native stacks of {len(core.told.threads)} threads")
+    for it in threads:
+        stack, guessed = it["stack"], it["guessed"]
+        files = {os.path.basename(frame["file"] or "") for frame in (*stack["frames"], *stack["last"])}
+        if guessed is not None or stack["end"]["kind"] != "whole" or not any("python" in name for name in files):
+            raise Failure(f"the native stack of thread {it['system_id']} ends {stack['end']}, in {sorted(files)}")
+
+
 def cores_of(derived: Derived, room: Path) -> Iterator[Core]:
     """A core of each case, with a file table, in a folder of its own. It is removed behind its use."""
     for number, case in enumerate(CASES):
@@ -160,7 +179,7 @@ def cores_of(derived: Derived, room: Path) -> Iterator[Core]:
             core.path.unlink()
 
 
-def tried(program: Path, listing: Optional[Path], derived: Derived, room: Path) -> Tuple[int, int]:
+def tried(program: Path, listing: Optional[Path], salvage: Optional[Path], derived: Derived, room: Path) -> Tuple[int, int]:
     """Tries the layout on the cores. Returns how many threads and frames agree."""
     (room / "layout.toml").write_text(derived.text, encoding="utf-8")
     threads: List[int] = []
@@ -171,6 +190,8 @@ def tried(program: Path, listing: Optional[Path], derived: Derived, room: Path) 
             check_tool(program, core, derived)
             if listing:
                 check_footprint(program, listing, core, room / "layout.toml", derived.build)
+            if salvage:
+                check_native(salvage, core, room / "layout.toml")
             if not threads:
                 check_other_images(program, core, room)
         except Failure as reason:
@@ -190,9 +211,10 @@ def try_root(words: argparse.Namespace) -> str:
         raise Failure(f"there is no program {program}")
     listing = Path(words.listing or ROOT / "crates" / "listing" / "out" / "listing").resolve()
     found = listing if listing.is_file() else None
+    salvage = Path(words.salvage or ROOT / "crates" / "pysalvage" / "out" / "pysalvage").resolve()
     with tempfile.TemporaryDirectory(prefix="arm-core-") as name:
         derived = stored(emulated(root, Path(name)))
-        threads, frames = tried(program, found, derived, Path(name))
+        threads, frames = tried(program, found, salvage if salvage.is_file() else None, derived, Path(name))
     build = derived.build
     read = "footprints agree" if found else "footprints not tried"
     return f"{build.dotted} on {build.machine}: {len(CASES)} cores: {threads} threads, {frames} frames agree; {read}"
@@ -204,6 +226,7 @@ def main() -> int:
     default = os.environ.get(VARIABLE, "")
     parser.add_argument("root", nargs="?", default=default, help=f"the unpacked packages (default: by {VARIABLE})")
     parser.add_argument("--program", required=True, help="the built program")
+    parser.add_argument("--salvage", help="the built program `pysalvage` (default: that of crates/pysalvage, if built)")
     parser.add_argument("--listing", help="the built program `listing` (default: that of crates/listing, if built)")
     try:
         print(f"arm_core: {try_root(parser.parse_args())}")

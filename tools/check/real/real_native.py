@@ -40,7 +40,7 @@ WAYS = ("crash", "call_null", "call_wild", "in_handler", "aborted", "callback", 
 GATE_WAYS = ("call_null", "in_handler", "callback", *MARKS)
 """Those that are tried in the gate."""
 
-BUILDS = {"native_child": ("-O2",), "plain_child": ("-O1", "-fno-omit-frame-pointer", "-mno-omit-leaf-frame-pointer", "-fno-asynchronous-unwind-tables")}
+BUILDS = {"native_child": ("-O2",), "plain_child": ("-O1", "-fno-omit-frame-pointer", "-fno-asynchronous-unwind-tables")}
 """The children's libraries, and the words by which gcc builds them."""
 
 JUMPS = ("call_null", "call_wild")

@@ -6,7 +6,7 @@ and from 0x400024 on rsp + 32. The return address stands at the CFA less 8.
 """
 
 import struct
-from typing import Iterator, Sequence
+from typing import Dict, Iterator, Sequence
 
 from made import Segment, note, process_record
 from row import Row
@@ -51,14 +51,19 @@ def status(system_id: int, signal: int, at: int, top: int = STACK, base: int = 0
     return note(b"CORE\0", 1, struct.pack("<12xh18xi", signal, system_id).ljust(112, b"\0") + struct.pack("<27Q", *words) + bytes(8))
 
 
-def native(what: str, at: int, words: Sequence[int], lines: str, page: bytes = b"", base: int = 0, strict: bool = False,
-           file: bytes = FILE, more: str = "") -> Row:
-    """A row of one thread, over these words of its stack."""
+def files_over(statuses: Sequence[bytes], words: Sequence[int], page: bytes = b"", file: bytes = FILE) -> Dict[str, bytes]:
+    """The files of a core of these threads, over these words of a stack, with code in a page that is no file's."""
     segments = [Segment(CODE, b"", 5, 4096, MADE.encode()), Segment(OTHER, b"", 5, 4096, b"/lib/other.so"),
                 Segment(PAGE, page.ljust(64, b"\xcc"), 5), Segment(STACK, struct.pack(f"<{len(words)}Q", *words), 6)]
-    files = {**named(heap(), more=segments, notes=[status(9, 11, at, STACK, base), process_record(4, b"p", b"p")]), "made": file}
+    return {**named(heap(), more=segments, notes=[*statuses, process_record(4, b"p", b"p")]), "made": file}
+
+
+def native(what: str, at: int, words: Sequence[int], lines: str, page: bytes = b"", base: int = 0, strict: bool = False,
+           file: bytes = FILE) -> Row:
+    """A row of one thread, over these words of its stack."""
+    files = files_over([status(9, 11, at, STACK, base)], words, page, file)
     head = "Signal 11: core\nProcess 4: p\n"
-    return salvage(f"native: {what}", f"{WORDS}{' --strict' * strict}{more}", files, f"{head}{TEXT}Native thread 9 (crashed)\n{lines}")
+    return salvage(f"native: {what}", f"{WORDS}{' --strict' * strict}", files, f"{head}{TEXT}Native thread 9 (crashed)\n{lines}")
 
 
 CALLER = "    0x70000030 0x40002f (made.so)"
