@@ -1,23 +1,21 @@
 -- The files that a process had mapped are one answer alone, by what their mappings show.
-use Rattle.std.proofs.Common.{◌≡◌, ◌∙◌, ℕ, zero, ◌+◌, ◌<◌, ◌≤◌, Bool, true, false, List, [], ◌∷◌, ◌++◌, length, drop, take, map}
+use Rattle.std.proofs.Common.{◌≡◌, ◌∙◌, ℕ, ◌+◌, ◌<◌, ◌≤◌, Bool, true, false, List, [], ◌∷◌, ◌++◌, length, drop, take, map}
 use Rattle.std.proofs.Common.{refl, sym, ap, subst, arith, inl, inr}
 use Rattle.std.specs.Prelude.{Option, Some, None, slice_range}
 use Rattle.std.proofs.Common.{◌⊎◌}
 use Rattle.std.proofs.lemmas.Bool.{cases_lt}
-use Rattle.process_memory.specs.Memory.{byte_at}
-use Rattle.image_memory.specs.Pieces.{memory_of}
 use Rattle.elf64_core.specs.Notes.{Noted}
 use Rattle.image_memory.specs.FileTables.{IsFirstName, NamesThen, names_start}
 use Rattle.image_memory.specs.Images.{Pushed}
 use Rattle.image_memory.specs.Notes.{is_table}
 use Rattle.image_memory.specs.Pieces.{core_ranges}
-use Rattle.piece_table.specs.Places.{IsRun, stands_at}
+use Rattle.piece_table.specs.Places.{IsRun}
 use Rattle.piece_table.specs.declared.table.FileRange.{FileRange}
 use Rattle.core_unwind.specs.declared.place.Mapping.{Mapping}
-use Rattle.native_frames.specs.Mapped.{AreMapped, MappingShown, mapping_shown, mappings_from, names_of, vdso_mappings}
+use Rattle.native_frames.specs.Mapped.{AreMapped, mapping_shown, mappings_from, names_of, vdso_mappings}
 use Rattle.native_frames.specs.Mapped.{vdso_names}
 use Rattle.native_frames.specs.Tables.{IsRowTable, Row, RowsNext, RowsSay, rows_from}
-use Rattle.native_frames.specs.Vdsos.{IsVdsoFor, IsVdsoIn, IsVdsoOf, vdso_base}
+use Rattle.native_frames.specs.Vdsos.{IsVdsoFor, IsVdsoOf, vdso_base}
 
 -- ---- file tables
 

@@ -16,7 +16,6 @@ use Rattle.core_unwind.specs.declared.place.CodePlace.{CodePlace}
 use Rattle.core_unwind.specs.declared.place.Mapping.{Mapping}
 use Rattle.core_unwind.specs.declared.state.State.{State}
 use Rattle.core_unwind.specs.Bases.{IsBased, IsBasedAt, IsBasedBy, base_of}
-use Rattle.core_unwind.specs.Expressions.{word_in}
 use Rattle.core_unwind.specs.Guesses.{IsInCode, IsJumpAt, IsJumpOf, return_word, stack_top}
 use Rattle.core_unwind.specs.Marks.{IsGuessedIf, IsMarkedIf, IsStep, IsUncoveredBy, coded, is_uncovered, stops_uncovered}
 use Rattle.core_unwind.specs.Origins.{IsBaseGuess, IsGuess, IsGuessIf, is_no_file, jumped}
@@ -28,7 +27,7 @@ use Rattle.std.proofs.lemmas.Option.{slice_get-map}
 use Rattle.native_frames.specs.declared.stacks.Function.{Function}
 use Rattle.native_frames.specs.declared.stacks.NativeFrame.{NativeFrame}
 use Rattle.native_frames.specs.Mapped.{MappingShown, mapping_shown}
-use Rattle.native_frames.specs.Naming.{AreNamed, Each, IsFunctionAt, IsFunctionIn, IsNamed, bytes_behind, bytes_of}
+use Rattle.native_frames.specs.Naming.{AreNamed, Each, IsFunctionAt, IsFunctionIn, bytes_behind, bytes_of}
 use Rattle.native_frames.specs.Threads.{IsGuessUnless, IsGuessedStack, IsNamedStack, StackPair, StackShown, missing_at}
 
 shown_head : (m n : MappingShown) (ms ns : List MappingShown) → m ∷ ms ≡ n ∷ ns → m ≡ n

@@ -1,5 +1,4 @@
-use Rattle.std.proofs.Common.{◌≡◌, List, ℕ, inr, refl}
-use Rattle.std.specs.Prelude.{Option, Some, None}
+use Rattle.std.proofs.Common.{inr, refl}
 use Rattle.native_frames.proofs.MapLaws.{run_none}
 use Rattle.native_frames.proofs.vdso.vdso_at.Goals as goal
 
