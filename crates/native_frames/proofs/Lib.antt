@@ -1,8 +1,10 @@
 pub mod Bases
 pub mod Escapes
 pub mod Keeping
+pub mod MapLaws
 pub mod Names
 pub mod Once
 pub mod Plain
 pub mod Rest
 pub mod RowTables
+pub mod Same

@@ -15,10 +15,10 @@ use Rattle.core_unwind.specs.declared.mark.Mark.{Mark}
 use Rattle.core_unwind.specs.declared.place.CodePlace.{CodePlace}
 use Rattle.core_unwind.specs.declared.place.Mapping.{Mapping}
 use Rattle.core_unwind.specs.declared.state.State.{State}
-use Rattle.core_unwind.specs.Guesses.{IsInCode, IsJumpAt, IsJumpBy, IsJumpOf, guessed_caller, is_site, jump_if, return_word}
+use Rattle.core_unwind.specs.Guesses.{IsInCode, IsJumpAt, IsJumpOf, guessed_caller, is_site, jump_if, return_word}
 use Rattle.core_unwind.specs.Guesses.{stack_top}
 use Rattle.core_unwind.specs.Marks.{IsStep, is_uncovered}
-use Rattle.core_unwind.specs.Origins.{IsBaseGuess, IsGuess, IsGuessIf, base_guess, jump_guess, jumped}
+use Rattle.core_unwind.specs.Origins.{IsBaseGuess, IsGuessIf, base_guess, jump_guess, jumped}
 use Rattle.core_unwind.specs.Places.{IsOpened}
 use Rattle.core_unwind.specs.Stacks.{AllAscend, Chain}
 use Rattle.core_unwind.proofs.FileLaws.{spot_once}

@@ -29,6 +29,7 @@ abbrev pub IsVdsoOf : List ℕ → (base : ℕ) → Option (ℕ × List ℕ) →
 IsVdsoOf core base None = byte_at (memory_of core) base ≡ None
 IsVdsoOf core base (Some v) = (v.0 ≡ base) × (start : ℕ)
     × IsRun (core_ranges core) base 65536 0 start (length v.1) × (v.1 ≡ slice_range core start (start + length v.1))
+    × (byte_at (memory_of core) base ≡ None → ⊥)
 
 abbrev pub IsVdsoFor : List ℕ → Option ℕ → Option (ℕ × List ℕ) → Type 0
 IsVdsoFor core None vdso = vdso ≡ None

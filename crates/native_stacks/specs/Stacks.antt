@@ -1,5 +1,5 @@
 -- The native stacks of a process.
-use Rattle.std.specs.Prelude.{◌≡◌, ℕ, Bool, true, List, map, Option, option_map}
+use Rattle.std.specs.Prelude.{ℕ, Bool, true, List, map, Option, option_map}
 use Rattle.elf64_core.specs.Header.{machine_of}
 use Rattle.elf64_core.specs.Notes.{Noted}
 use Rattle.image_memory.specs.Images.{Pushed}
@@ -27,16 +27,10 @@ pub record AreNativeStacks (core : List ℕ) (notes : List Noted) (images : Push
   pub threads : AreThreads (machine_of core) pythons mappings (code_bits (machine_of core) notes) m strict notes true
       4194304 stacks.threads
 
--- over the files as they were mapped these are the threads, and no others are, where the tables of the files ascend
-pub record IsOneAnswer (core : List ℕ) (notes : List Noted) (images : Pushed) (m : Memory) (pythons : List PythonThread)
-    (strict : Bool) (stacks : StacksShown) : Type 0 where
-  pub mappings : List Mapping
-  pub mapped : AreMapped core notes images stacks.files mappings
-  pub threads : AreThreads (machine_of core) pythons mappings (code_bits (machine_of core) notes) m strict notes true
-      4194304 stacks.threads
-  pub only : AllAscend mappings → (other : List NativeShown)
-      → AreThreads (machine_of core) pythons mappings (code_bits (machine_of core) notes) m strict notes true 4194304 other
-      → stacks.threads ≡ other
+-- where a file that was mapped has code, the first addresses of its table ascend
+abbrev pub MappedAscend : (core : List ℕ) → List Noted → Pushed → Type 0
+MappedAscend core notes images =
+    (files : List (List ℕ)) (mappings : List Mapping) → AreMapped core notes images files mappings → AllAscend mappings
 
 -- ---- as they are read
 

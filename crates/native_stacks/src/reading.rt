@@ -6,7 +6,7 @@ ghost use Rattle.native_frames.specs.Kept.{AreKept};
 ghost use Rattle.native_frames.specs.Limits.{frame_machine, most_reads, thread_most};
 ghost use Rattle.native_frames.specs.Threads.{stack_shown_if};
 ghost use Rattle.thread_registers.specs.Threads.{thread_noted, thread_shown as known_shown};
-ghost use Rattle.native_stacks.specs.Stacks.{AreNativeStacks, IsOneAnswer, known_shown_if, stacks_shown};
+ghost use Rattle.native_stacks.specs.Stacks.{AreNativeStacks, MappedAscend, StacksShown, known_shown_if, stacks_shown};
 ghost use Rattle.native_stacks.specs.Threads.{AreThreads, HasStacks, IsThread, IsThreadOf, count_of, first_after};
 ghost use Rattle.native_stacks.specs.Threads.{is_crash, left_after, state_by, thread_shown, thread_shown_if};
 
@@ -272,7 +272,7 @@ fn read_stacks<P: ProcessMemory>(
 /// it (`covering_symbols`). A thread has at most 2^20 frames, and behind the 2^22nd of the process each thread its
 /// newest one. Memory is read at most 8549 times for a frame.
 ///
-/// What is right over the files so mapped is the answer, where their tables ascend. The one error is want of memory, as
+/// What is right is the answer, where the tables of the files that were mapped ascend. The one error is want of memory, as
 /// which a file table counts that is none, which those of a core are not.
 pub fn read_native_stacks<P: ProcessMemory>(
     alloc: Global,
@@ -286,9 +286,10 @@ pub fn read_native_stacks<P: ProcessMemory>(
     ensures right { Reading (most_reads (length notes.now)) (P.seen process.old) (P.seen process.new)
         (λ m. IfOk result (λ stacks. AreNativeStacks core.now (map noted notes.now) images.now m pythons.now strict
         (stacks_shown stacks))) }
-    ensures only { Reading (most_reads (length notes.now)) (P.seen process.old) (P.seen process.new)
-        (λ m. IfOk result (λ stacks. IsOneAnswer core.now (map noted notes.now) images.now m pythons.now strict
-        (stacks_shown stacks))) }
+    ensures only { MappedAscend core.now (map noted notes.now) images.now → Reading (most_reads (length notes.now))
+        (P.seen process.old) (P.seen process.new) (λ m. (other : StacksShown)
+        → AreNativeStacks core.now (map noted notes.now) images.now m pythons.now strict other
+        → IfOk result (λ stacks. stacks_shown stacks ≡ other)) }
 {
     read_stacks(alloc, core, notes, images, process, pythons, strict)
 }

@@ -76,7 +76,7 @@ def stacks_in(text: str) -> List[Shown]:
         several, fold, gap = TITLE.match(line), FOLD.match(line), re.fullmatch(r"    \.\.\. (\d+) more frames", line)
         if line.startswith("Thread ") or several:
             found.append(Shown(line, int(several.group(1)) if several else 1))
-        elif re.match(r"\d+ (other )?threads?$|\.\.\. |Interpreter |Registers |Tasks? |\d+ tasks \(|Registered, |Native stack of |$", line):
+        elif re.match(r"\d+ (other )?threads?$|\.\.\. |Interpreter |Registers |Tasks? |\d+ tasks \(|Registered, |Native (stack of|thread) |    Native, thread \d+:|$", line):
             # (what follows is no stack's)
             found.append(Shown("", 0))
         elif fold and found:

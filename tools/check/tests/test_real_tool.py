@@ -82,10 +82,11 @@ class Compared(unittest.TestCase):
             self.assertNotIn("ended with status", str(caught.exception))
 
     def test_stacks_in(self):
-        text = "Python v3.9.0\n\nThread 1\n    a\\u{22} (b.py:1)\n        > x\n        Locals:\n            y: 1\n    ... 3 more frames\n    c (d.py)\n2 threads: x, y\n"
+        text = "Python v3.9.0\n\nThread 1\n    a\\u{22} (b.py:1)\n        > x\n        Locals:\n            y: 1\n    ... 3 more frames\n    c (d.py)\n    Native, thread 4:\n    memset+0x46 (libc.so.6)\n2 threads: x, y\n"
         text += "    e (d.py:2)\n    f (d.py)\n    ... e, f: 2 times (lines 2, ?), 3 locals left out\n    ... 4 more frames\n... 5 more\n    g (d.py)\n"
         text += "Interpreter 0x1: 3 threads without frames: x\nTasks 3 (3 waiting)\nTask \"t\" (ready)\n    h (d.py:2)\n2 tasks (ready): \"u\", \"v\"\n"
         text += "    h (d.py:2)\n    ... awaits an object at 0x9\nNative stack of thread 1\n    memset+0x46 (libc.so.6)\n    ... 7 more frames\n"
+        text += "Native thread 2\n    memset+0x46 (libc.so.6)\n"
         self.assertEqual(stacks_in(text), [
             Shown("Thread 1", 1, ['a" (b.py:1)', "c (d.py)"], 3, 1), Shown("2 threads: x, y", 2, ["e (d.py:2)", "f (d.py)"] * 3, 4, 6),
             Shown("Interpreter 0x1: 3 threads without frames: x", 3)])
