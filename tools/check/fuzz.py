@@ -47,7 +47,6 @@ from sample_cores import walk_text
 from salvage_text import text_of, tree_of
 from section_text import check_missing
 from slim_reader import check_slim
-from tasks_text import task_lines
 from told import TELLERS, Told, number_of
 from told_salvage import SALVAGE_TELLERS
 
@@ -248,7 +247,7 @@ def fault_of_salvage(run: Run, out: bytes) -> Optional[str]:
     tree = tree_of(answer.out, limit, sections)
     if set(OWN_TEXTS) & set(sections):
         return None
-    text = text_of(tree, core_named(run.words)) + "".join(f"{it}\n" for it in task_lines(tree["tasks"] or []))
+    text = text_of(tree, core_named(run.words))
     return None if out == text.encode() else "the text isn't that of its JSON"
 
 

@@ -8,6 +8,7 @@ from typing import Any, Collection, Dict, Iterable, List, Optional, Sequence
 import rooms  # noqa: F401
 from child_cores import Failure
 from section_text import check_sections, layout_lines, name_lines, register_lines, signal_lines
+from tasks_text import task_lines
 from pystacks_tool.ask.salvage import frames_end, locals_fault, threads_end, unreadable, why_of
 
 Tree = Dict[str, Any]
@@ -227,6 +228,7 @@ def text_of(tree: Tree, core: str) -> str:
     lines += [line for it in interpreters for line in lines_of_interpreter(it, len(interpreters) > 1)]
     lines += ["... more than 16 interpreters"] if tree["more"] else []
     lines += [front + escaped(name, False) for front, name in name_lines(tree)]
+    lines += task_lines(tree["tasks"] or [])
     lines += register_lines(tree)
     lines += layout_lines(tree)
     return "".join(f"{line}\n" for line in lines)

@@ -274,7 +274,7 @@ def at_speed(salvage: Path, build: Build, names: str, room: Path) -> str:
     for turn in range(TURNS):
         core = killed_at_speed(build, room / str(turn), names, chance.uniform(0, 0.2))
         tree = tree_in(salvage, core, build)
-        own, = all_entries(tree)
+        own = [it for its in all_entries(tree) for it in its if it["kind"] == "task"]
         chains = {it["address"]: chain_at_speed(it) for it in own}
         workers = [it for it in own if chains[it["address"]][0] == "works"]
         if len(workers) != WORKERS:

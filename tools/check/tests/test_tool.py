@@ -503,9 +503,11 @@ class Tasks(Case):
         self.assertEqual(self.shown(dict(own, tasks=None)), lines)
         self.assertEqual(self.shown(dict(own, tasks=None), tasks(address=0x20000)), [
             *(f"Interpreter 0x10000: {it}" for it in lines), "Interpreter 0x20000: Tasks 0 (none that isn't done)"])
-        for words in ((), ("--json",)):
-            page = self.folder / "page.html"
-            self.assertEqual(self.tool(f"--html={page}", *words)[0] if not words else self.tool(*words)[0], 0)
+        self.assertEqual(self.shown(own)[1:], lines)
+        page = self.folder / "page.html"
+        self.assertEqual(self.tool(f"--html={page}")[0], 0)
+        self.assertEqual([it for it in lines if it not in page.read_text(encoding="utf-8")], [])
+        self.assertEqual(json.loads(self.tool("--json")[1])["tasks"], [own])
 
     def test_many(self):
         # (a screen has so many lines: those of most tasks are shown, and the others counted)
