@@ -1,2 +1,5 @@
+pub mod Active
+pub mod Keys
+pub mod Own
 pub mod Told
 pub mod Trees
