@@ -16,5 +16,5 @@ mod values;
 
 pub use pythons::python_threads;
 pub use text::push_memory;
-pub use told::{MemoryTold, tell_memory};
+pub use told::{MemoryTold, names_told, tell_memory};
 pub use values::{names_value, native_value, tasks_value};

@@ -8,10 +8,12 @@
 
 mod active;
 mod keys;
+mod lookup;
 mod names;
 mod own;
 mod tree;
 
+pub use lookup::{name_of, threads_named};
 pub use names::{InterpreterNames, ThreadName, read_thread_names};
 pub use own::DictRule;
 pub use tree::{fault_word, names_value, thread_fault_word};
