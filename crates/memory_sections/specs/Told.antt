@@ -10,8 +10,10 @@ use Rattle.image_memory.specs.Images.{Pushed}
 use Rattle.py_records.specs.declared.records.Records.{Records}
 use Rattle.salvage_words.specs.declared.asked.Sections.{Sections}
 use Rattle.thread_registers.specs.declared.threads.PythonThread.{PythonThread}
-use Rattle.task_sets.specs.Places.{places_of}
-use Rattle.task_sets.specs.declared.places.RootPlaces.{RootPlaces}
+use Rattle.py_records.specs.declared.types.TypeRecords.{TypeRecords}
+use Rattle.py_records.specs.declared.types.KlassRecord.{KlassRecord}
+use Rattle.py_records.specs.declared.types.HeapTypeRecord.{HeapTypeRecord}
+use Rattle.task_sets.specs.Places.{form_of, instance_of}
 use Rattle.thread_names.specs.Told.{names_shown, names_told}
 use Rattle.thread_names.specs.declared.own.DictRule.{DictRule}
 use Rattle.thread_names.specs.declared.names.InterpreterNames.{InterpreterNames}
@@ -41,12 +43,12 @@ abbrev pub ids_of : SalvagedInterpreter → List ℕ
 ids_of i = map id_of i.front.threads.threads.items
 
 -- how the instances of a version's classes have their dicts, where its records say it
-abbrev pub rule_by : Option RootPlaces → Option DictRule
-rule_by None = None
-rule_by (Some places) = Some (record { fields = places.instance; form = places.form })
+abbrev pub rule_by : Layout → TypeRecords → Option KlassRecord → Option HeapTypeRecord → Option DictRule
+rule_by l t (Some k) (Some h) = Some (record { fields = instance_of l k h; form = form_of t })
+rule_by l t _ _ = None
 
 abbrev pub rule_of : Layout → Records → Option DictRule
-rule_of l r = rule_by (places_of l r)
+rule_of l r = rule_by l r.types r.types.klass r.types.heap_type
 
 -- the names that an interpreter keeps for its threads that are shown
 abbrev pub AreNamesOf : Layout → Option DictRule → Memory → SalvagedInterpreter → InterpreterNames → Type 0

@@ -9,6 +9,7 @@ mod keeping;
 mod names;
 mod native;
 mod pythons;
+mod rule;
 mod tasks;
 mod text;
 mod told;

@@ -6,13 +6,12 @@ ghost use Rattle.py_fields.specs.Sound.{IsSound};
 ghost use Rattle.memory_sections.specs.Each.{EachTold};
 ghost use Rattle.memory_sections.specs.Told.{AreNamesOf, NamesAre, id_of, rule_of};
 
+use crate::rule::rule_of;
 use core_stacks::Process;
 use missed_reads::{Missed, Misses};
-use py_fields::Layout;
 use py_fronts::{SalvagedInterpreter, ThreadFront};
 use py_records::Records;
 use std::alloc::{AllocError, Global};
-use task_sets::places_of;
 use thread_names::{DictRule, InterpreterNames, read_thread_names};
 
 /// The ids of some threads.
@@ -24,19 +23,6 @@ fn ids_of(alloc: Global, threads: &[ThreadFront]) -> Result<Vec<u64>, AllocError
         ids.push(thread.thread_id)?;
     }
     Ok(ids)
-}
-
-/// How the instances of a version's classes have their dicts, where its records say it.
-fn rule_of(layout: &Layout, records: &Records) -> Option<DictRule>
-    ensures { result ≡ rule_of layout.now records.now }
-{
-    match places_of(layout, records) {
-        Some(places) => Some(DictRule {
-            fields: places.instance,
-            form: places.form,
-        }),
-        None => None,
-    }
 }
 
 /// The names of the threads of an interpreter that are shown. Reads that are refused are kept.
