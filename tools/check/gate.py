@@ -95,6 +95,7 @@ CHECKS = (
     Check("real/real_types", OF_LISTING),
     Check("real/real_coroutines", OF_LISTING),
     Check("real/real_names", OF_SALVAGE),
+    Check("real/real_lines", OF_SALVAGE),
     Check("real/real_native", OF_SALVAGE, (*OF_SALVAGE, "--all")),
     Check("real/real_tasks", OF_SALVAGE),
 )

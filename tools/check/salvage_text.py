@@ -107,8 +107,9 @@ def check_frames(tree: object) -> None:
 
 def check_thread(tree: object) -> None:
     """Fails where something is no thread."""
-    need_keys(tree, "address", "crashed", "frames", "gil", "os_thread_id", "thread_id")
+    need_keys(tree, "address", "crashed", "frames", "gil", "name", "os_thread_id", "thread_id")
     need_address(tree["address"])
+    need_texts(tree["name"] or "")
     need_number(tree["thread_id"])
     need_number(tree["os_thread_id"] or 0)
     need_truths(tree["crashed"], tree["gil"])
@@ -200,7 +201,8 @@ def lines_of_thread(tree: Tree) -> List[str]:
     """The lines of a thread."""
     frames, native = tree["frames"], tree["os_thread_id"]
     marks = "".join(f" ({mark})" for mark, key in (("gil", "gil"), ("crashed", "crashed")) if tree[key])
-    lines = [f"Thread {'0x%X' % tree['thread_id'] if native is None else native}{marks}"]
+    name = "" if tree["name"] is None else f': "{escaped(tree["name"])}"'
+    lines = [f"Thread {'0x%X' % tree['thread_id'] if native is None else native}{marks}{name}"]
     lines += [line for it in frames["first"] for line in lines_of_member(it)]
     lines += [f"    ... {frames['between']} more frames"] if frames["between"] else []
     lines += [line for it in frames["last"] for line in lines_of_member(it)]

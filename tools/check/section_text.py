@@ -119,12 +119,16 @@ def check_sections(tree: Tree, asked: Collection[str]) -> None:
 
 
 def check_names(tree: Tree) -> None:
-    """Fails where the names aren't those of the threads of each interpreter that is shown."""
-    shown = {it["address"]: sorted(row["thread_id"] for row in it["threads"]) for it in tree["interpreters"]}
+    """Fails where the names aren't those of the threads of each interpreter that is shown, or stand otherwise at the threads."""
+    shown = {it["address"]: sorted((row["thread_id"], row["name"] or "") for row in it["threads"]) for it in tree["interpreters"]}
     for names in tree["names"]:
-        check_keys(names, "fault", "interpreter", "threads")
-        if shown.pop(names["interpreter"], None) != sorted(it["thread_id"] for it in names["threads"]):
-            raise Failure(f"names of other threads: {names!r}")
+        check_keys(names, "fault", "interpreter", "threads", "unread")
+        for row in names["threads"]:
+            check_keys(row, "fault", "name", "thread_id")
+            if row["fault"] and row["name"] is not None:
+                raise Failure(f"a name that can't be read: {row!r}")
+        if shown.pop(names["interpreter"], None) != sorted((it["thread_id"], it["name"] or "") for it in names["threads"]):
+            raise Failure(f"names of other threads, or others at the threads: {names!r}")
         if names["fault"] and any(it["name"] is not None for it in names["threads"]):
             raise Failure(f"names under a fault: {names!r}")
     if shown:
@@ -137,7 +141,13 @@ def name_lines(tree: Tree) -> List[Tuple[str, str]]:
     for it in tree["names"] or ():
         if it["fault"]:
             lines.append((f"No names of the interpreter at {it['interpreter']}: {it['fault']}", ""))
-        lines += [(f"Name of thread 0x{row['thread_id']:X}: ", row["name"]) for row in it["threads"] if row["name"] is not None]
+        for row in it["threads"]:
+            if row["name"] is not None:
+                lines.append((f"Name of thread 0x{row['thread_id']:X}: ", row["name"]))
+            if row["fault"]:
+                lines.append((f"No name of thread 0x{row['thread_id']:X}: {row['fault']}", ""))
+        if it["unread"]:
+            lines.append((f"Names not read of the interpreter at {it['interpreter']}: {it['unread']}", ""))
     return lines
 
 

@@ -55,8 +55,8 @@ def interpreter(address: int, threads: Sequence[Tree], end: Tree = WHOLE, search
 
 def thread(address: int, number: int, frames: Tree) -> Tree:
     """A thread without marks."""
-    return {"address": hex(address), "crashed": False, "frames": frames, "gil": False, "os_thread_id": None,
-            "thread_id": number}
+    return {"address": hex(address), "crashed": False, "frames": frames, "gil": False, "name": None,
+            "os_thread_id": None, "thread_id": number}
 
 
 def around(count: int, first: int, most: int) -> Sequence[int]:

@@ -106,6 +106,18 @@ def of_variables(count: int, threads: int) -> Files:
     return named(objects)
 
 
+def of_table(length: int, threads: int) -> Files:
+    """A core of so many threads of one frame, which leads to itself and whose code has a line table of so many bytes, of entries that
+    cover nothing."""
+    objects = Objects(layout_of(EXAMPLE), HEAP)
+    place = objects.record("interpreter")
+    code = objects.record("code", None, filename=objects.text("a.py"), name=objects.text("f"), table=objects.table(bytes(length)))
+    frame = objects.frames([code])
+    objects.word(frame + objects.group("frame")["back"], frame)
+    objects.threads(place, [{"id": 0x7F00 + at, "frame": frame} for at in range(threads)])
+    return named(objects)
+
+
 def nested(objects: Objects, numbers: int, texts: int) -> Sequence[int]:
     """A list within a list, 60 deep, each of which has the next one twice."""
     lists, held = objects.klass("list", 25), objects.number(7, numbers)
@@ -163,6 +175,8 @@ def cases_of_salvage() -> Iterator[Case]:
     yield Case("`-l`: a thread whose frames are a ring of one with 65,535 variables", f"{SALVAGE} -l",
                lambda: of_variables(65535, 1))
     yield Case("the same in 4096 threads", f"{SALVAGE} -l", lambda: of_variables(65535, 4096))
+    yield Case("a thread whose frames are a ring of one with a line table of 65,534 bytes", SALVAGE, lambda: of_table(65534, 1))
+    yield Case("the same, of 16,777,214 bytes", SALVAGE, lambda: of_table(16777214, 1))
 
 
 def judged() -> Iterator[Case]:

@@ -29,9 +29,13 @@ abbrev pub lies_in : ℕ → ℕ → ℕ → Bool
 lies_in offset start covers = nat_le start offset && nat_lt offset (start + covers)
 
 -- behind the last pair the code goes on to 2^31
+abbrev pub last_of_pairs : Place → ℕ → ℤ
+last_of_pairs p offset = if nat_le p.start offset && nat_lt offset (2 ^ 31) then shown_line (in_i32 p.line) else pos 0
+
+-- the line at an offset that no entry covers
 abbrev pub last_line : TableForm → Place → ℕ → ℤ
-last_line UnsignedPairs p offset = if nat_le p.start offset && nat_lt offset (2 ^ 31) then shown_line (in_i32 p.line) else pos 0
-last_line Pairs p offset = if nat_le p.start offset && nat_lt offset (2 ^ 31) then shown_line (in_i32 p.line) else pos 0
+last_line UnsignedPairs p offset = last_of_pairs p offset
+last_line Pairs p offset = last_of_pairs p offset
 last_line Ranges p offset = pos 0
 last_line Locations p offset = pos 0
 

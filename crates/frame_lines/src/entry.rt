@@ -76,8 +76,8 @@ fn tail_len(bytes: &[u8]) -> usize
     bytes.len()
 }
 
-/// The number that the bytes begin with, if it ends within so many: six bits of each, the lowest first, and bit 6 in each
-/// but the last.
+/// The number that the bytes begin with, if it ends within so many: six bits of each, the lowest first, and bit 6 in
+/// each but the last.
 fn number_within(most: u32, bytes: &[u8]) -> Option<u64>
     requires { most ≤ 6 }
     ensures value { result ≡ number_within most bytes.now }

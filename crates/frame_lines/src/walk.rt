@@ -66,12 +66,12 @@ impl Place {
     }
 }
 
-/// The line at an offset into code whose first line is `first`, by a table: that of the entry whose code holds it, and of
-/// pairs that behind the last. It is 0 where none does, and where that has no line or one that is no i32; so at a negative
-/// offset and from 2^31 on.
+/// The line at an offset into code whose first line is `first`, by a table: that of the entry whose code holds it, and
+/// of pairs that behind the last. It is 0 where none does, and where that has no line or one that is no i32; so at a
+/// negative offset and from 2^31 on.
 ///
-/// The steps of entries are added without a limit. An entry that is cut ends the table, as does a number of more than six
-/// bytes, or in `Locations` a byte without bit 7 where an entry should begin. It takes no memory.
+/// The steps of entries are added without a limit. An entry that is cut ends the table, as does a number of more than
+/// six bytes, or in `Locations` a byte without bit 7 where an entry should begin. It takes no memory.
 pub fn line_at(form: TableForm, first: i32, table: &[u8], offset: i64) -> i32
     requires short { length table.now < 2 ^ 24 }
     ensures { result ≡ line_at form first table.now offset }

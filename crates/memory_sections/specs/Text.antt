@@ -1,5 +1,5 @@
 -- The lines of the sections that are read in a process's memory.
-use Rattle.std.specs.Prelude.{ℕ, ◌++◌, false, true, List, [], map, Option, Some, None, Vec, codes}
+use Rattle.std.specs.Prelude.{ℕ, ◌==◌, if◌then◌else◌, decimal, ◌++◌, false, true, List, [], map, Option, Some, None, Vec, codes}
 use Rattle.std.specs.Fmt.{digits}
 use Rattle.std.specs.Global.{Global}
 use Rattle.std.specs.List.{concat}
@@ -10,7 +10,7 @@ use Rattle.native_stacks.specs.Text.{stacks_text}
 use Rattle.native_stacks.specs.declared.stacks.NativeStacks.{NativeStacks}
 use Rattle.task_texts.specs.Text.{all_tasks_text}
 use Rattle.task_texts.specs.declared.told.InterpreterTasks.{InterpreterTasks}
-use Rattle.thread_names.specs.Trees.{fault_word}
+use Rattle.thread_names.specs.Trees.{fault_word, thread_fault_word}
 use Rattle.thread_names.specs.declared.names.InterpreterNames.{InterpreterNames}
 use Rattle.thread_names.specs.declared.names.ThreadName.{ThreadName}
 use Rattle.memory_sections.specs.declared.told.MemoryTold.{MemoryTold}
@@ -24,8 +24,28 @@ abbrev pub name_text : ℕ → Option (List ℕ) → List ℕ
 name_text id None = []
 name_text id (Some name) = lead_text id ++ (escaped false name ++ codes "\n")
 
+-- what stands in front of why a thread's name isn't told
+abbrev pub lost_lead : ℕ → List ℕ
+lost_lead id = codes "No name of thread 0x" ++ (digits 16 true id ++ codes ": ")
+
+-- why a thread's name isn't told, where there is a fault
+abbrev pub lost_text : ℕ → Option NamesError → List ℕ
+lost_text id None = []
+lost_text id (Some e) = lost_lead id ++ (thread_fault_word e ++ codes "\n")
+
+abbrev pub thread_text : ThreadName → List ℕ
+thread_text t = name_text t.thread_id t.name ++ lost_text t.thread_id t.fault
+
 abbrev pub threads_text : List ThreadName → List ℕ
-threads_text threads = concat (map (λ (t : ThreadName). name_text t.thread_id t.name) threads)
+threads_text threads = concat (map (λ t. thread_text t) threads)
+
+-- what stands in front of how many slots may have a thread whose id isn't known
+abbrev pub unread_lead : ℕ → List ℕ
+unread_lead interpreter = codes "Names not read of the interpreter at 0x" ++ (digits 16 false interpreter ++ codes ": ")
+
+-- how many these are, where there is one
+abbrev pub unread_text : InterpreterNames → List ℕ
+unread_text i = if i.unread == 0 then [] else unread_lead i.interpreter ++ (decimal i.unread ++ codes "\n")
 
 -- what stands in front of why no name of an interpreter is told
 abbrev pub fault_lead : ℕ → List ℕ
@@ -40,7 +60,7 @@ abbrev pub fault_text : InterpreterNames → List ℕ
 fault_text i = fault_line i.interpreter i.fault
 
 abbrev pub interpreter_text : InterpreterNames → List ℕ
-interpreter_text i = fault_text i ++ threads_text i.threads.items
+interpreter_text i = fault_text i ++ (threads_text i.threads.items ++ unread_text i)
 
 abbrev pub all_names_text : List InterpreterNames → List ℕ
 all_names_text names = concat (map (λ i. interpreter_text i) names)

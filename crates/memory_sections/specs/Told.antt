@@ -1,18 +1,22 @@
 -- The sections that are read in a process's memory: each is asked for by a flag of its own, and is told of each
 -- interpreter, or of each thread, of those that are shown.
-use Rattle.std.specs.Prelude.{◌≡◌, ℕ, ◌/◌, nat_eq, Bool, true, false, List, length, map, Option, Some, None, Ok, Vec}
+use Rattle.std.specs.Prelude.{◌≡◌, ℕ, ◌/◌, nat_eq, Bool, true, false, List, [], length, map, Option, Some, None, Ok, Vec}
 use Rattle.std.specs.Prelude.{if◌then◌else◌}
 use Rattle.std.specs.Global.{Global}
 use Rattle.process_memory.specs.Memory.{Memory}
 use Rattle.py_fields.specs.declared.layout.Layout.{Layout}
 use Rattle.py_fronts.specs.declared.thread_front.ThreadFront.{ThreadFront}
 use Rattle.py_fronts.specs.declared.salvaged.SalvagedInterpreter.{SalvagedInterpreter}
-use Rattle.py_names.specs.Names.{names_at}
 use Rattle.image_memory.specs.Images.{Pushed}
 use Rattle.py_records.specs.declared.records.Records.{Records}
 use Rattle.salvage_words.specs.declared.asked.Sections.{Sections}
 use Rattle.thread_registers.specs.declared.threads.PythonThread.{PythonThread}
-use Rattle.thread_names.specs.Told.{NamesTold}
+use Rattle.py_records.specs.declared.types.TypeRecords.{TypeRecords}
+use Rattle.py_records.specs.declared.types.KlassRecord.{KlassRecord}
+use Rattle.py_records.specs.declared.types.HeapTypeRecord.{HeapTypeRecord}
+use Rattle.task_sets.specs.Places.{form_of, instance_of}
+use Rattle.thread_names.specs.Told.{names_shown, names_told}
+use Rattle.thread_names.specs.declared.own.DictRule.{DictRule}
 use Rattle.thread_names.specs.declared.names.InterpreterNames.{InterpreterNames}
 use Rattle.elf64_core.specs.Notes.{Noted}
 use Rattle.image_memory.specs.Notes.{AreNotesOfCore}
@@ -40,13 +44,27 @@ id_of t = t.thread_id
 abbrev pub ids_of : SalvagedInterpreter → List ℕ
 ids_of i = map id_of i.front.threads.threads.items
 
--- the names that an interpreter keeps for its threads that are shown
-abbrev pub AreNamesOf : Layout → Memory → SalvagedInterpreter → InterpreterNames → Type 0
-AreNamesOf l m i told = NamesTold i.front.address (ids_of i) (names_at l m i.front.address) told
+-- how the instances of a version's classes have their dicts, where its records say it
+abbrev pub rule_by : Layout → TypeRecords → Option KlassRecord → Option HeapTypeRecord → Option DictRule
+rule_by l t (Some k) (Some h) = Some (record { fields = instance_of l k h; form = form_of t })
+rule_by l t _ _ = None
 
-abbrev pub NamesAre : Bool → Layout → Memory → List SalvagedInterpreter → Option (Vec InterpreterNames Global) → Type 0
-NamesAre asked l m is told =
-    ToldIf asked (λ (names : Vec InterpreterNames Global). EachTold (AreNamesOf l m) is names.items) told
+abbrev pub rule_of : Layout → Records → Option DictRule
+rule_of l r = rule_by l r.types r.types.klass r.types.heap_type
+
+-- the names that an interpreter keeps for its threads that are shown
+abbrev pub AreNamesOf : Layout → Option DictRule → Memory → SalvagedInterpreter → InterpreterNames → Type 0
+AreNamesOf l rule m i told = names_shown told ≡ names_told l rule m i.front.address (ids_of i)
+
+abbrev pub NamesAre : Bool → Layout → Option DictRule → Memory → List SalvagedInterpreter
+    → Option (Vec InterpreterNames Global) → Type 0
+NamesAre asked l rule m is told =
+    ToldIf asked (λ (names : Vec InterpreterNames Global). EachTold (AreNamesOf l rule m) is names.items) told
+
+-- those that are told, by interpreters; none where they aren't asked for
+abbrev pub names_given : Option (Vec InterpreterNames Global) → List InterpreterNames
+names_given None = []
+names_given (Some names) = names.items
 
 -- ---- tasks
 
@@ -85,6 +103,6 @@ NativeAre asked strict bytes images m is told =
 -- its version, over this memory, and of whose interpreters these are shown.
 pub record AreMemoryTold (asked : Sections) (bytes : List ℕ) (images : Pushed) (l : Layout) (r : Records) (m : Memory)
     (is : List SalvagedInterpreter) (told : MemoryTold) : Type 0 where
-  pub names : NamesAre asked.names l m is told.names
+  pub names : NamesAre asked.names l (rule_of l r) m is told.names
   pub tasks : TasksAre asked.tasks l r m is told.tasks
   pub native : NativeAre asked.native asked.strict bytes images m is told.native

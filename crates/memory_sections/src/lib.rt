@@ -9,6 +9,7 @@ mod keeping;
 mod names;
 mod native;
 mod pythons;
+mod rule;
 mod tasks;
 mod text;
 mod told;
@@ -16,5 +17,5 @@ mod values;
 
 pub use pythons::python_threads;
 pub use text::push_memory;
-pub use told::{MemoryTold, tell_memory};
+pub use told::{MemoryTold, names_told, tell_memory};
 pub use values::{names_value, native_value, tasks_value};

@@ -1,16 +1,18 @@
 //! The lines of these sections.
 ghost use Rattle.std.specs.Prelude.{◌≡◌, ◌++◌, OnOk, string_bytes};
 ghost use Rattle.memory_sections.specs.Text.{all_names_text, fault_lead, fault_text};
-ghost use Rattle.memory_sections.specs.Text.{interpreter_text, lead_text, memory_text, name_text, names_text};
-ghost use Rattle.memory_sections.specs.Text.{native_text, tasks_text, threads_text};
+ghost use Rattle.memory_sections.specs.Text.{interpreter_text, lead_text, lost_lead, lost_text, memory_text};
+ghost use Rattle.memory_sections.specs.Text.{name_text, names_text, native_text, tasks_text, thread_text};
+ghost use Rattle.memory_sections.specs.Text.{threads_text, unread_lead, unread_text};
 
 use crate::told::MemoryTold;
 use elf64_core::Text;
 use native_stacks::{NativeStacks, push_native_stacks};
+use py_names::NamesError;
 use salvage_texts::push_escaped;
 use std::alloc::{AllocError, Global};
 use task_texts::{InterpreterTasks, push_tasks};
-use thread_names::{InterpreterNames, ThreadName, fault_word};
+use thread_names::{InterpreterNames, ThreadName, fault_word, thread_fault_word};
 
 /// What stands in front of a thread's name.
 fn push_lead(text: &mut String, thread_id: u64) -> Result<(), AllocError>
@@ -36,13 +38,63 @@ fn push_name(
     text.push_str("\n")
 }
 
+/// What stands in front of why a thread's name is not told.
+fn push_lost_lead(text: &mut String, thread_id: u64) -> Result<(), AllocError>
+    ensures { OnOk result (string_bytes text.new ≡ string_bytes text.old ++ lost_lead thread_id) }
+{
+    write!(text, "No name of thread 0x{thread_id:X}: ")
+}
+
+/// Why a thread's name is not told, where there is a fault.
+fn push_lost(
+    text: &mut String,
+    thread_id: u64,
+    fault: &Option<NamesError>,
+) -> Result<(), AllocError>
+    ensures { OnOk result (string_bytes text.new ≡ string_bytes text.old ++ lost_text thread_id fault.now) }
+{
+    let Some(fault) = fault else {
+        return Ok(());
+    };
+    push_lost_lead(text, thread_id)?;
+    text.push_str(thread_fault_word(fault))?;
+    text.push_str("\n")
+}
+
+/// The line of a thread, where it has a name or that can't be read.
+fn push_thread(alloc: Global, text: &mut String, thread: &ThreadName) -> Result<(), AllocError>
+    ensures { OnOk result (string_bytes text.new ≡ string_bytes text.old ++ thread_text thread.now) }
+{
+    push_name(alloc, text, thread.thread_id, &thread.name)?;
+    push_lost(text, thread.thread_id, &thread.fault)
+}
+
 fn push_threads(alloc: Global, text: &mut String, threads: &[ThreadName]) -> Result<(), AllocError>
     ensures { OnOk result (string_bytes text.new ≡ string_bytes text.old ++ threads_text threads.now) }
 {
     for thread in threads {
-        push_name(alloc, text, thread.thread_id, &thread.name)?;
+        push_thread(alloc, text, thread)?;
     }
     Ok(())
+}
+
+/// What stands in front of how many slots may have a thread whose id is not known.
+fn push_unread_lead(text: &mut String, address: u64) -> Result<(), AllocError>
+    ensures { OnOk result (string_bytes text.new ≡ string_bytes text.old ++ unread_lead address) }
+{
+    write!(text, "Names not read of the interpreter at 0x{address:x}: ")
+}
+
+/// How many slots may have a thread whose id is not known, where there is one.
+fn push_unread(text: &mut String, names: &InterpreterNames) -> Result<(), AllocError>
+    ensures { OnOk result (string_bytes text.new ≡ string_bytes text.old ++ unread_text names.now) }
+{
+    let unread = names.unread;
+    if unread == 0 {
+        return Ok(());
+    }
+    push_unread_lead(text, names.interpreter)?;
+    write!(text, "{unread}\n")
 }
 
 /// What stands in front of why no name is told.
@@ -72,7 +124,8 @@ fn push_interpreter(
     ensures { OnOk result (string_bytes text.new ≡ string_bytes text.old ++ interpreter_text names.now) }
 {
     push_fault(text, names)?;
-    push_threads(alloc, text, &names.threads)
+    push_threads(alloc, text, &names.threads)?;
+    push_unread(text, names)
 }
 
 fn push_all_names(
@@ -132,7 +185,8 @@ fn push_native(
 }
 
 /// Appends the lines of the sections that are asked for, in this order: of each thread with a name `Name of thread
-/// 0x7F..: NAME`, and of each interpreter of which none can be read why; the tasks of each interpreter
+/// 0x7F..: NAME`, and of each whose name can't be read why; of each interpreter of which none can be read why, and how
+/// many slots may have a thread whose id is not known; the tasks of each interpreter
 /// (`task_texts::push_tasks`); the native stacks (`native_stacks::push_native_stacks`), of each the first and the last
 /// `limit` frames. The one error is want of memory.
 pub fn push_memory(

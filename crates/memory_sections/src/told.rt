@@ -3,7 +3,7 @@ ghost use Rattle.std.specs.Prelude.{◌≡◌, IfOk};
 ghost use Rattle.image_memory.specs.Backed.{regions_of};
 ghost use Rattle.process_memory.specs.Memory.{byte_at};
 ghost use Rattle.py_fields.specs.Sound.{IsSound};
-ghost use Rattle.memory_sections.specs.Told.{AreMemoryTold};
+ghost use Rattle.memory_sections.specs.Told.{AreMemoryTold, names_given};
 
 use crate::names::names_section;
 use crate::native::native_section;
@@ -30,6 +30,16 @@ pub struct MemoryTold {
     pub native: Option<NativeStacks>,
 }
 
+/// The names of the threads, by interpreters; none where they are not asked for.
+pub fn names_told(told: &MemoryTold) -> &[InterpreterNames]
+    ensures { result.now ≡ names_given told.now.names }
+{
+    match &told.names {
+        Some(names) => names,
+        None => &[],
+    }
+}
+
 /// What is told in the sections that are asked for of an opened process, of whose interpreters these are shown, by the
 /// records of its version and the images with which it was opened. Reads that are refused are kept.
 ///
@@ -47,7 +57,7 @@ pub fn tell_memory(
     ensures { IfOk result (AreMemoryTold asked process.now.dump.core images.now process.now.layout records.now
         (byte_at (regions_of process.now.dump)) interpreters.now) }
 {
-    let names = names_section(alloc, asked.names, process, misses, interpreters)?;
+    let names = names_section(alloc, asked.names, process, records, misses, interpreters)?;
     let tasks = tasks_section(alloc, asked.tasks, process, records, misses, interpreters)?;
     let native = native_section(
         alloc,

@@ -1,6 +1,6 @@
 -- Interpreters that are found, one after another.
-use Rattle.std.proofs.Common.{◌≡◌, ℕ, suc, ◌+◌, ◌*◌, ◌-◌, ◌<◌, ◌≤◌, ◌^◌, Bool, true, false, List, [], ◌∷◌, ◌++◌}
-use Rattle.std.proofs.Common.{length, refl, sym, ◌∙◌, ap, arith, ltb, subst, take, length-append}
+use Rattle.std.proofs.Common.{◌≡◌, ℕ, suc, ◌+◌, ◌*◌, ◌-◌, ◌<◌, ◌≤◌, Bool, true, false, List, [], ◌∷◌, ◌++◌}
+use Rattle.std.proofs.Common.{length, refl, sym, ◌∙◌, ap, arith, ltb, subst, take}
 use Rattle.std.proofs.lemmas.Bool.Decides.{nat_tests}
 use Rattle.std.proofs.lemmas.List.{take_all}
 use Rattle.std.proofs.lemmas.List.Sums.{sum_by-append, sum_by-cons, sum_by-take-le, sum_by_more, sum_by_push}
@@ -8,7 +8,6 @@ use Rattle.std.specs.Prelude.{Option, Some, None, Result, sum_by}
 use Rattle.process_memory.specs.Memory.{Memory, byte_at}
 use Rattle.process_memory.specs.Seen.{Reading, ReadingBy, Seen}
 use Rattle.process_memory.proofs.Reading.{reading_gives, reading_here, reading_none, reading_then}
-use Rattle.std.proofs.Math.Nat.{mul-le-mul_left}
 use Rattle.py_fields.specs.declared.layout.Layout.{Layout}
 use Rattle.py_stacks.specs.declared.error.StackError.{StackError}
 use Rattle.py_stacks.specs.declared.error.StackError.TheVariants as stack

@@ -6,6 +6,7 @@ pub mod FirstThreadLaws
 pub mod RecordWords
 pub mod HiddenTexts
 pub mod Steps
+pub mod TableLineSteps
 pub mod Shown
 pub mod EndsShown
 pub mod ThreadSteps

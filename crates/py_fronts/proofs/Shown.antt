@@ -1,6 +1,6 @@
 -- What stands for members, step by step.
 use Rattle.std.proofs.Common.{◌≡◌, ◌≢◌, ℕ, zero, suc, ◌+◌, ◌*◌, ◌<◌, ◌≤◌, Bool, true, false, List, [], ◌∷◌, ◌++◌}
-use Rattle.std.proofs.Common.{length, map, refl, sym, ◌∙◌, ap, arith, length-append}
+use Rattle.std.proofs.Common.{length, map, refl, ◌∙◌, ap, arith, length-append}
 use Rattle.std.proofs.Math.Nat.{mul-le-mul_left}
 use Rattle.std.proofs.lemmas.List.{map-append}
 use Rattle.std.specs.Prelude.{MatchOption, Option, Some, None, Ok, Err, Result, is_none, ℤ, Vec}
@@ -16,53 +16,21 @@ use Rattle.py_stacks.specs.declared.error.StackError.{StackError}
 use Rattle.py_stacks.specs.declared.error.StackError.TheVariants as stack
 use Rattle.py_stacks.specs.declared.trace.LocalVariable.{LocalVariable}
 use Rattle.py_stacks.specs.Frames.{back_by, call_named, is_entered, is_hidden, plain_by, records_at, visible}
-use Rattle.py_stacks.specs.Lines.{first_line, line_at, line_by, line_cost, offset_of}
 use Rattle.py_stacks.specs.Locals.{asked_locals, locals_cost, locals_of, locals_of_result}
 use Rattle.py_stacks.specs.Met.{locals_most}
 use Rattle.py_stacks.specs.Member.{MemberAt, readable}
 use Rattle.py_stacks.specs.StackError.{stack_fault}
-use Rattle.py_stacks.specs.declared.asked.LineNo.{LineNo}
-use Rattle.py_stacks.specs.declared.asked.LineNo.TheVariants.{NoLine, First, LastInstruction}
 use Rattle.py_stacks.proofs.DetailBounds.{count_most}
 use Rattle.py_fronts.specs.declared.standing.Locals.{Locals}
 use Rattle.py_fronts.specs.declared.standing.Standing.{Standing}
 use Rattle.py_fronts.specs.declared.standing.Standing.TheVariants as standing
 use Rattle.py_fronts.specs.Answers.{IsOrNoMemory}
 use Rattle.py_fronts.specs.Standings.{IsUnread, LocalsAre, Showing, Stood, call_by, framed, has_no_caller}
-use Rattle.py_fronts.specs.Standings.{is_before_start, line_or_first, locals_or_fault, lost_locals, shows_none}
+use Rattle.py_fronts.specs.Standings.{locals_or_fault, lost_locals, shows_none}
 use Rattle.py_fronts.specs.Standings.{standing_at, standing_by, standing_named, standing_reads, stood, stood_result}
 use Rattle.py_fronts.specs.Standings.{texts_at}
 use Rattle.py_fronts.specs.Standings.Stood.{IsFrame}
-
--- ---- lines
-
-line_first : (lineno : LineNo) (l : Layout) (m : Memory) (r : MemberAt) (before : Bool) (line : ℤ) → before ≡ is_before_start lineno (offset_of l r) → before ≡ true → line ≡ first_line l r → line ≡ line_or_first lineno l m r
-unfolding line_or_first
-line_first lineno l m r before line is holds_so e = let holds : is_before_start lineno (offset_of l r) ≡ true = sym is ∙ holds_so in rw holds e
-
-pub line_before : (lineno : LineNo) (l : Layout) (m : Memory) (r : MemberAt) (offset : Option ℤ) (before : Bool) (line : ℤ) → offset ≡ offset_of l r → before ≡ is_before_start lineno offset → before ≡ true
-    → line ≡ first_line l r → line ≡ line_or_first lineno l m r
-line_before lineno l m r offset before line at is holds_so e = line_first lineno l m r before line (is ∙ ap (is_before_start lineno) at) holds_so e
-
-pub line_after : (lineno : LineNo) (l : Layout) (m : Memory) (r : MemberAt) (offset : Option ℤ) (before : Bool) (result : Result ℤ StackError) → offset ≡ offset_of l r → before ≡ is_before_start lineno offset → before ≡ false
-    → Answers stack_fault (line_at lineno l m r) result → IsOrNoMemory (line_or_first lineno l m r) result
-unfolding line_or_first line_at
-line_after lineno l m r offset before (Ok line) at is fails_so a =
-    let fails : is_before_start lineno (offset_of l r) ≡ false = sym (is ∙ ap (is_before_start lineno) at) ∙ fails_so in
-    let same : line_by lineno l m r ≡ line = let e = a.is in cc in
-    rw fails (sym same)
-line_after lineno l m r offset before (Err stack.OutOfMemory) at is fails_so a = refl
-line_after lineno l m r offset before (Err (stack.Unreadable addr len)) at is fails_so a = absurd (let e = a.is in cc)
-line_after lineno l m r offset before (Err (stack.BadValue frame)) at is fails_so a = absurd (let e = a.is in cc)
-line_after lineno l m r offset before (Err (stack.LocalsLimit count)) at is fails_so a = absurd (let e = a.is in cc)
-line_after lineno l m r offset before (Err stack.ThreadLimit) at is fails_so a = absurd (let e = a.is in cc)
-line_after lineno l m r offset before (Err stack.FrameLimit) at is fails_so a = absurd (let e = a.is in cc)
-line_after lineno l m r offset before (Err stack.ChainLimit) at is fails_so a = absurd (let e = a.is in cc)
-
-pub line_few : (lineno : LineNo) → line_cost lineno ≤ 2
-line_few NoLine = omega arith
-line_few First = omega arith
-line_few LastInstruction = omega arith
+use Rattle.py_fronts.specs.TableLines.{line_or_first}
 
 -- ---- callers
 

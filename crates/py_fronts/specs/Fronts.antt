@@ -1,6 +1,6 @@
 -- The fronts of all interpreters of a process.
-use Rattle.std.specs.Prelude.{◌≡◌, ℕ, ◌+◌, ◌*◌, ◌^◌, ◌≤◌, Bool, List, [], ◌∷◌, length, map, min, sum_by, Result, Ok}
-use Rattle.std.specs.Prelude.{Err, Vec, ◌-◌}
+use Rattle.std.specs.Prelude.{◌≡◌, ℕ, ◌+◌, ◌*◌, ◌≤◌, Bool, List, [], ◌∷◌, length, map, min, sum_by, Result, Ok}
+use Rattle.std.specs.Prelude.{Err, Vec}
 use Rattle.std.specs.Global.{Global}
 use Rattle.process_memory.specs.Memory.{Memory, byte_at}
 use Rattle.process_memory.specs.Seen.{Reading, ReadingOf, Seen}
@@ -74,7 +74,7 @@ abbrev pub fronts_reads : Asked → List InterpreterShown → ℕ
 fronts_reads q is = sum_by (λ (i : InterpreterShown). threads_reads q i.threads) is
 
 -- how many these are at most for so many interpreters, whatever the memory holds: no more members are shown than are
--- met, over all threads together. Without locals it is 84,344,848 for 16 interpreters at the limits 100 and 4096
+-- met, over all threads together. Without locals it is 2,227,634,192 for 16 interpreters at the limits 100 and 4096
 abbrev pub fronts_most : Asked → (limit count : ℕ) → ℕ
 fronts_most q limit count =
     count + 7 * (thread_limit * count) + 5 * all_members_limit

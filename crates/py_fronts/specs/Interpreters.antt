@@ -1,5 +1,5 @@
 -- The interpreters of a process that are shown, and how each was found.
-use Rattle.std.specs.Prelude.{◌≡◌, ℕ, zero, suc, ◌+◌, ◌*◌, ◌-◌, ◌^◌, ◌≤◌, nat_eq, nat_lt, Bool, true, false, not}
+use Rattle.std.specs.Prelude.{◌≡◌, ℕ, zero, suc, ◌+◌, ◌*◌, ◌-◌, ◌≤◌, nat_eq, nat_lt, Bool, true, false, not}
 use Rattle.std.specs.Prelude.{◌&&◌, if◌then◌else◌, List, [], ◌∷◌, ◌++◌, length, map, slice_get, sum_by, take}
 use Rattle.std.specs.Prelude.{option_map, Option, Some, None}
 use Rattle.std.specs.Prelude.{Result, Ok, Err}

@@ -2,6 +2,7 @@ pub mod Front
 pub mod Answers
 pub mod ChainEnds
 pub mod Members
+pub mod TableLines
 pub mod Standings
 pub mod FrameFronts
 pub mod ThreadFronts

@@ -1,7 +1,6 @@
--- What stands for a kept member of a thread's chain: its frame, or itself where it has no names. That a line's offset
--- below 0 gives the first line of the code is CPython's (`PyCode_Addr2Line`).
-use Rattle.std.specs.Prelude.{◌≡◌, ℕ, zero, suc, ◌+◌, ◌*◌, Bool, true, false, is_none, if◌then◌else◌, List, length, map}
-use Rattle.std.specs.Prelude.{MatchOption, Option, Some, None, Result, Ok, Err, ℤ, pos, int_lt, Vec}
+-- What stands for a kept member of a thread's chain: its frame, or itself where it has no names.
+use Rattle.std.specs.Prelude.{◌≡◌, ℕ, zero, suc, ◌+◌, ◌*◌, Bool, true, is_none, List, length, map}
+use Rattle.std.specs.Prelude.{MatchOption, Option, Some, None, Result, Ok, Err, ℤ, Vec}
 use Rattle.std.specs.Global.{Global}
 use Rattle.elf64_core.specs.Fields.{u64_in}
 use Rattle.process_memory.specs.Memory.{Fault, Found, Memory, ◌>>=◌}
@@ -12,20 +11,18 @@ use Rattle.py_builtins.specs.ObjectError.{object_fault}
 use Rattle.py_builtins.specs.declared.error.ObjectError.{ObjectError}
 use Rattle.py_builtins.specs.declared.error.ObjectError.TheVariants as object
 use Rattle.py_stacks.specs.declared.asked.Asked.{Asked}
-use Rattle.py_stacks.specs.declared.asked.LineNo.{LineNo}
-use Rattle.py_stacks.specs.declared.asked.LineNo.TheVariants.{NoLine, First, LastInstruction}
 use Rattle.py_stacks.specs.declared.error.StackError.{StackError}
 use Rattle.py_stacks.specs.declared.error.StackError.TheVariants as stack
 use Rattle.py_stacks.specs.declared.trace.LocalVariable.{LocalVariable}
 use Rattle.py_stacks.specs.StackError.{stack_fault}
 use Rattle.py_stacks.specs.Frames.{Call, back_by, call_named, call_of, is_entered, plain_by, records_at}
-use Rattle.py_stacks.specs.Lines.{first_line, line_by, offset_of}
 use Rattle.py_stacks.specs.Locals.{asked_locals}
 use Rattle.py_stacks.specs.Met.{locals_most}
 use Rattle.py_stacks.specs.Member.{MemberAt}
 use Rattle.py_fronts.specs.declared.standing.Locals.{Locals}
 use Rattle.py_fronts.specs.declared.standing.Standing.{Standing}
 use Rattle.py_fronts.specs.declared.standing.Standing.TheVariants.{Frame, Member}
+use Rattle.py_fronts.specs.TableLines.{line_or_first}
 
 -- what stands for a member
 pub data Stood : Type 0 where
@@ -48,17 +45,6 @@ texts_at l m r = do
   file ← text_at l m (u64_in r.code l.code.filename)
   name ← text_at l m (u64_in r.code l.code.name)
   Ok (file, name)
-
--- whether the line of the last instruction is asked for, and the frame stands before its first one
-abbrev pub is_before_start : LineNo → Option ℤ → Bool
-is_before_start LastInstruction (Some offset) = int_lt offset (pos 0)
-is_before_start LastInstruction None = false
-is_before_start NoLine offset = false
-is_before_start First offset = false
-
--- the line of a member: where it stands before its first instruction, the first line of its code
-unfoldable pub line_or_first : LineNo → Layout → Memory → MemberAt → ℤ
-line_or_first lineno l m r = if is_before_start lineno (offset_of l r) then first_line l r else line_by lineno l m r
 
 -- the locals, or why there are none
 abbrev pub locals_or_fault : Found (Option (List LocalVariable)) → Option (List LocalVariable) × Option (Option Fault)
@@ -102,10 +88,10 @@ standing_at q l m a = standing_by q l m a (records_at l m a)
 
 -- ---- as it is read
 
--- at most two reads for the records, four for the texts, two for a line, one for the tuple of names, and six for the
+-- at most two reads for the records, four for the texts, 513 for a line, one for the tuple of names, and six for the
 -- caller; and those of the locals
 abbrev pub standing_reads : Asked → ℕ
-standing_reads q = 15 + locals_most q.locals
+standing_reads q = 526 + locals_most q.locals
 
 abbrev pub stood_result : {E : Type 0} → Result Standing E → Result Stood E
 stood_result (Ok s) = Ok (stood s)

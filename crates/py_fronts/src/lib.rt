@@ -2,8 +2,8 @@
 //!
 //! An interpreter names its first thread, each thread the next one and its newest frame, and each frame the one that
 //! called it. What was lost of such a chain loses what stands behind it, and nothing in front of it: a front is the
-//! members up to there, each the next of the one before, and how they end. Marks stand beside them: who holds the lock of
-//! each interpreter, and which thread got the signal.
+//! members up to there, each the next of the one before, and how they end. Marks stand beside them: who holds the lock
+//! of each interpreter, and which thread got the signal.
 #![tactic(auto)]
 
 mod candidates;
@@ -18,6 +18,7 @@ mod lock;
 mod members;
 mod salvaged;
 mod standing;
+mod table_line;
 mod thread_front;
 mod threads;
 

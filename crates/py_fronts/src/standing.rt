@@ -8,17 +8,17 @@ ghost use Rattle.py_stacks.specs.Met.{locals_most};
 ghost use Rattle.py_stacks.specs.Records.{AreWhole, member_of};
 ghost use Rattle.py_stacks.specs.StackError.{stack_fault};
 ghost use Rattle.py_fronts.specs.Answers.{IsOrNoMemory};
-ghost use Rattle.py_fronts.specs.Standings.{IsNameless, IsUnread, LocalsAre, framed, has_no_caller, is_before_start};
-ghost use Rattle.py_fronts.specs.Standings.{line_or_first, standing_at, standing_named, standing_reads, stood_result};
-ghost use Rattle.py_fronts.specs.Standings.{stood_results, texts_at};
+ghost use Rattle.py_fronts.specs.Standings.{IsNameless, IsUnread, LocalsAre, framed, has_no_caller, standing_at};
+ghost use Rattle.py_fronts.specs.Standings.{standing_named, standing_reads, stood_result, stood_results, texts_at};
 
+use crate::table_line::line_or_first;
 use elf64_core::{Text, u64_in};
 use process_memory::ProcessMemory;
 use py_builtins::{ObjectError, copy_string};
 use py_fields::Layout;
 use py_stacks::{
-    Asked, Frame, LineNo, LocalVariable, Records, StackError, first_line, is_entered, is_hidden,
-    offset_of, read_line, read_locals, read_records,
+    Asked, Frame, LocalVariable, Records, StackError, is_entered, is_hidden, read_locals,
+    read_records,
 };
 use std::alloc::Global;
 
@@ -65,35 +65,6 @@ fn read_texts<P: ProcessMemory>(
     let name_at = u64_in(&records.code, layout.code.name as usize);
     let name = copy_string(alloc, process, layout, name_at)?;
     Ok((filename, name))
-}
-
-/// Whether the line of the last instruction is asked for, and the frame stands before its first one.
-fn is_before_start(lineno: LineNo, offset: Option<i32>) -> bool
-    ensures { result ≡ is_before_start lineno offset }
-{
-    match (lineno, offset) {
-        (LineNo::LastInstruction, Some(offset)) => offset < 0,
-        _ => false,
-    }
-}
-
-/// The line of a member. At most 2 reads.
-fn line_or_first<P: ProcessMemory>(
-    alloc: Global,
-    process: &mut P,
-    layout: &Layout,
-    lineno: LineNo,
-    records: &Records,
-) -> Result<i32, StackError>
-    requires sound { IsSound layout.now }
-    requires whole { AreWhole layout.now records.now }
-    ensures { Reading 2 (P.seen process.old) (P.seen process.new)
-        (λ m. IsOrNoMemory (line_or_first lineno layout.now m (member_of records.now)) result) }
-{
-    if is_before_start(lineno, offset_of(layout, records)) {
-        return Ok(first_line(layout, records));
-    }
-    read_line(alloc, process, layout, lineno, records)
 }
 
 /// The locals that were read, or why there are none; want of memory is handed on.
@@ -174,7 +145,7 @@ fn has_no_caller<P: ProcessMemory>(
     }
 }
 
-/// The frame of the member that has these records, by its two texts. At most 9 reads, and those of its locals.
+/// The frame of the member that has these records, by its two texts. At most 520 reads, and those of its locals.
 fn read_frame<P: ProcessMemory>(
     alloc: Global,
     process: &mut P,
@@ -186,7 +157,7 @@ fn read_frame<P: ProcessMemory>(
 ) -> Result<Standing, StackError>
     requires sound { IsSound layout.now }
     requires whole { AreWhole layout.now records.old }
-    ensures { Reading (9 + locals_most asked.locals) (P.seen process.old) (P.seen process.new) (λ m.
+    ensures { Reading (520 + locals_most asked.locals) (P.seen process.old) (P.seen process.new) (λ m.
         IsOrNoMemory (framed asked layout.now m (member_of records.old) filename name) (stood_result result)) }
 {
     let line = line_or_first(alloc, process, layout, asked.lineno, records)?;
@@ -232,7 +203,7 @@ fn unread(address: u64, error: StackError) -> Result<Standing, StackError>
     }
 }
 
-/// What stands for the member at an address that has these records. At most 13 reads, and those of its locals.
+/// What stands for the member at an address that has these records. At most 524 reads, and those of its locals.
 fn read_named<P: ProcessMemory>(
     alloc: Global,
     process: &mut P,
@@ -243,7 +214,7 @@ fn read_named<P: ProcessMemory>(
 ) -> Result<Standing, StackError>
     requires sound { IsSound layout.now }
     requires whole { AreWhole layout.now records.old }
-    ensures { Reading (13 + locals_most asked.locals) (P.seen process.old) (P.seen process.new) (λ m. IsOrNoMemory
+    ensures { Reading (524 + locals_most asked.locals) (P.seen process.old) (P.seen process.new) (λ m. IsOrNoMemory
         (standing_named asked layout.now m at (member_of records.old) (texts_at layout.now m (member_of records.old)))
         (stood_result result)) }
 {
@@ -255,7 +226,7 @@ fn read_named<P: ProcessMemory>(
     }
 }
 
-/// What stands for the member at an address. At most 15 reads, and those of its locals.
+/// What stands for the member at an address. At most 526 reads, and those of its locals.
 fn read_standing<P: ProcessMemory>(
     alloc: Global,
     process: &mut P,
@@ -274,8 +245,8 @@ fn read_standing<P: ProcessMemory>(
     }
 }
 
-/// What stands for the members at some addresses, in order. The one error is want of memory. At most 15 reads for each,
-/// and those of its locals.
+/// What stands for the members at some addresses, in order. The one error is want of memory. At most 526 reads for
+/// each, and those of its locals.
 pub(crate) fn read_standings<P: ProcessMemory>(
     alloc: Global,
     process: &mut P,

@@ -27,13 +27,13 @@ use std::alloc::Global;
 /// A member is left out where the address of its file's name is 0, or that name is empty or `<shim>`. Of the others all
 /// are shown where they are at most twice `limit`, which is at most 4096; else the first so many and the last so many
 /// before the end, with the number between. One whose file or function name can't be read, is no text or is too long
-/// stands as itself. A frame has the line and, where they are asked for, the locals that `get_stack_traces` has of it;
-/// but one that stands before its first instruction has the first line of its code, and a fault of its locals is its
-/// own and ends nothing.
+/// stands as itself. A frame has the locals that `get_stack_traces` has of it, where they are asked for; a fault of
+/// them is its own and ends nothing. Its line is that of `frame_lines`, by a table of up to 2^24 bytes and the steps of
+/// its version; but one that stands before its first instruction has the first line of its code.
 ///
 /// The one error is want of memory. At most one read, 7 for each thread, and 5 for each member that is met; and for
-/// each that is shown 15, or 262,155 where locals are asked for, 4 for each of 65,535 variables. No more are shown than
-/// are met.
+/// each that is shown 526, 513 of them of its line table, or 262,666 where locals are asked for, 4 for each of 65,535
+/// variables. No more are shown than are met.
 pub fn get_threads_front<P: ProcessMemory>(
     alloc: Global,
     process: &mut P,

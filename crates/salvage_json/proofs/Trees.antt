@@ -27,7 +27,11 @@ use Rattle.py_fronts.specs.Crashes.{is_crashed}
 use Rattle.py_fronts.specs.Salvaged.{first_crashed}
 use Rattle.salvage_json.specs.Kinds.{end_tree, fault_or_null, fault_tree, lock_tree, why_tree}
 use Rattle.salvage_json.specs.Members.{frame_tree, local_tree, shown_tree, standing_tree, standings_tree, text_tree}
-use Rattle.salvage_json.specs.Threads.{frames_tree, id_tree, placed_trees, reversed_trees, thread_tree, threads_tree}
+use Rattle.thread_names.specs.Lookup.{name_of, threads_named}
+use Rattle.thread_names.specs.declared.names.InterpreterNames.{InterpreterNames}
+use Rattle.thread_names.specs.declared.names.ThreadName.{ThreadName}
+use Rattle.salvage_json.specs.Threads.{frames_tree, id_tree, name_tree, placed_trees, reversed_trees, thread_tree}
+use Rattle.salvage_json.specs.Threads.{threads_tree}
 use Rattle.salvage_json.specs.Salvaged.{interpreter_tree, interpreter_trees, interpreters_tree, process_tree}
 use Rattle.salvage_json.specs.Salvaged.{signal_tree, placed_trees as placed_of_all}
 
@@ -113,39 +117,54 @@ members ss = items standing_tree member ss
 frames : (f : FramesFront) → has_float (frames_tree f) ≡ false
 frames f = λ i. ending f.end i || (members f.first.items i || (members f.last.items i || (false || false)))
 
-thread : (l : LockState) (crash : Option Crash) (t : ThreadFront) → has_float (thread_tree l crash t) ≡ false
-thread l crash t = λ i. frames t.frames i || (false || (id t.os_thread_id i || (false || false)))
+name : (n : Option (List ℕ)) → has_float (name_tree n) ≡ false
+name (Some n) = refl
+name None = refl
 
-reversed : (l : LockState) (crash : Option Crash) (ts : List ThreadFront) → items_have_float (items_of (reversed_trees l crash ts)) ≡ false
-reversed l crash ts = items (thread_tree l crash) (thread l crash) (reverse ts)
+thread : (l : LockState) (crash : Option Crash) (ns : List ThreadName) (t : ThreadFront)
+    → has_float (thread_tree l crash ns t) ≡ false
+thread l crash ns t = λ i. frames t.frames i
+    || (false || (name (name_of ns t.thread_id) i || (id t.os_thread_id i || (false || false))))
 
-placed : (l : LockState) (crash : Option Crash) (ts : List ThreadFront) (at : Option ℕ) → items_have_float (items_of (placed_trees l crash ts at)) ≡ false
-placed l crash ts None = reversed l crash ts
-placed l crash ts (Some i) = both (reversed_trees l crash (take 1 (drop i ts)))
-    (reversed_trees l crash (drop (i + 1) ts) ++ reversed_trees l crash (take i ts)) (reversed l crash (take 1 (drop i ts)))
-    (both (reversed_trees l crash (drop (i + 1) ts)) (reversed_trees l crash (take i ts)) (reversed l crash (drop (i + 1) ts))
-    (reversed l crash (take i ts)))
+reversed : (l : LockState) (crash : Option Crash) (ns : List ThreadName) (ts : List ThreadFront)
+    → items_have_float (items_of (reversed_trees l crash ns ts)) ≡ false
+reversed l crash ns ts = items (thread_tree l crash ns) (thread l crash ns) (reverse ts)
 
-threads : (l : LockState) (crash : Option Crash) (ts : List ThreadFront) → has_float (threads_tree l crash ts) ≡ false
-threads l crash ts = placed l crash ts (position (λ thread. is_crashed crash thread) ts)
+placed : (l : LockState) (crash : Option Crash) (ns : List ThreadName) (ts : List ThreadFront) (at : Option ℕ)
+    → items_have_float (items_of (placed_trees l crash ns ts at)) ≡ false
+placed l crash ns ts None = reversed l crash ns ts
+placed l crash ns ts (Some i) = both (reversed_trees l crash ns (take 1 (drop i ts)))
+    (reversed_trees l crash ns (drop (i + 1) ts) ++ reversed_trees l crash ns (take i ts))
+    (reversed l crash ns (take 1 (drop i ts)))
+    (both (reversed_trees l crash ns (drop (i + 1) ts)) (reversed_trees l crash ns (take i ts))
+    (reversed l crash ns (drop (i + 1) ts)) (reversed l crash ns (take i ts)))
 
-interpreter : (crash : Option Crash) (i : SalvagedInterpreter) → has_float (interpreter_tree crash i) ≡ false
-interpreter crash s = λ i. lock s.lock i || (false || (threads s.lock crash s.front.threads.threads.items i
+threads : (l : LockState) (crash : Option Crash) (ns : List ThreadName) (ts : List ThreadFront)
+    → has_float (threads_tree l crash ns ts) ≡ false
+threads l crash ns ts = placed l crash ns ts (position (λ thread. is_crashed crash thread) ts)
+
+interpreter : (crash : Option Crash) (ns : List InterpreterNames) (i : SalvagedInterpreter)
+    → has_float (interpreter_tree crash ns i) ≡ false
+interpreter crash ns s = λ i. lock s.lock i
+    || (false || (threads s.lock crash (threads_named ns s.front.address) s.front.threads.threads.items i
     || (ending s.front.threads.end i || false)))
 
-some_interpreters : (crash : Option Crash) (is : List SalvagedInterpreter) → items_have_float (items_of (interpreter_trees crash is)) ≡ false
-some_interpreters crash is = items (interpreter_tree crash) (interpreter crash) is
+some_interpreters : (crash : Option Crash) (ns : List InterpreterNames) (is : List SalvagedInterpreter)
+    → items_have_float (items_of (interpreter_trees crash ns is)) ≡ false
+some_interpreters crash ns is = items (interpreter_tree crash ns) (interpreter crash ns) is
 
-placed_interpreters : (crash : Option Crash) (is : List SalvagedInterpreter) (at : Option ℕ)
-    → items_have_float (items_of (placed_of_all crash is at)) ≡ false
-placed_interpreters crash is None = some_interpreters crash is
-placed_interpreters crash is (Some i) = both (interpreter_trees crash (take 1 (drop i is)))
-    (interpreter_trees crash (take i is) ++ interpreter_trees crash (drop (i + 1) is)) (some_interpreters crash (take 1 (drop i is)))
-    (both (interpreter_trees crash (take i is)) (interpreter_trees crash (drop (i + 1) is)) (some_interpreters crash (take i is))
-    (some_interpreters crash (drop (i + 1) is)))
+placed_interpreters : (crash : Option Crash) (ns : List InterpreterNames) (is : List SalvagedInterpreter)
+    (at : Option ℕ) → items_have_float (items_of (placed_of_all crash ns is at)) ≡ false
+placed_interpreters crash ns is None = some_interpreters crash ns is
+placed_interpreters crash ns is (Some i) = both (interpreter_trees crash ns (take 1 (drop i is)))
+    (interpreter_trees crash ns (take i is) ++ interpreter_trees crash ns (drop (i + 1) is))
+    (some_interpreters crash ns (take 1 (drop i is)))
+    (both (interpreter_trees crash ns (take i is)) (interpreter_trees crash ns (drop (i + 1) is))
+    (some_interpreters crash ns (take i is)) (some_interpreters crash ns (drop (i + 1) is)))
 
-pub interpreters : (crash : Option Crash) (is : List SalvagedInterpreter) → has_float (interpreters_tree crash is) ≡ false
-interpreters crash is = placed_interpreters crash is (first_crashed crash is)
+pub interpreters : (crash : Option Crash) (ns : List InterpreterNames) (is : List SalvagedInterpreter)
+    → has_float (interpreters_tree crash ns is) ≡ false
+interpreters crash ns is = placed_interpreters crash ns is (first_crashed crash is)
 
 pub process : (p : Option (ℤ × List ℕ)) → has_float (process_tree p) ≡ false
 process None = refl

@@ -1,6 +1,8 @@
 -- The JSON of threads.
 use Rattle.std.specs.Prelude.{ℕ, ◌+◌, ◌++◌, List, map, drop, take, reverse, position, Option, Some, None, codes}
-use Rattle.serde_json.specs.Data.{Data, array, boolean, member, no_members, null, number, object, unsigned}
+use Rattle.std.specs.Prelude.{encode_utf8_all}
+use Rattle.serde_json.specs.Data.{Data, array, boolean, member, no_members, null, number, object, string}
+use Rattle.serde_json.specs.Data.{unsigned}
 use Rattle.serde_json.specs.View.{items_of}
 use Rattle.py_fronts.specs.declared.frame_front.FramesFront.{FramesFront}
 use Rattle.py_fronts.specs.declared.thread_front.ThreadFront.{ThreadFront}
@@ -8,6 +10,8 @@ use Rattle.py_fronts.specs.declared.crash.Crash.{Crash}
 use Rattle.py_fronts.specs.declared.lock.LockState.{LockState}
 use Rattle.py_fronts.specs.Crashes.{is_crashed}
 use Rattle.py_fronts.specs.Locks.{holds_lock}
+use Rattle.thread_names.specs.Lookup.{name_of}
+use Rattle.thread_names.specs.declared.names.ThreadName.{ThreadName}
 use Rattle.salvage_json.specs.Kinds.{address_tree, end_tree}
 use Rattle.salvage_json.specs.Members.{standings_tree}
 
@@ -24,29 +28,35 @@ frames_tree f = object (
     member (codes "last") (standings_tree f.last.items) (
     member (codes "met") (number (unsigned f.met)) no_members)))))
 
-abbrev pub thread_tree : LockState → Option Crash → ThreadFront → Data
-thread_tree lock crash t = object (
+-- the name that is told of a thread, where one is
+abbrev pub name_tree : Option (List ℕ) → Data
+name_tree (Some name) = string (encode_utf8_all name)
+name_tree None = null
+
+abbrev pub thread_tree : LockState → Option Crash → List ThreadName → ThreadFront → Data
+thread_tree lock crash names t = object (
     member (codes "address") (address_tree t.address) (
     member (codes "crashed") (boolean (is_crashed crash t)) (
     member (codes "frames") (frames_tree t.frames) (
     member (codes "gil") (boolean (holds_lock lock t)) (
+    member (codes "name") (name_tree (name_of names t.thread_id)) (
     member (codes "os_thread_id") (id_tree t.os_thread_id) (
-    member (codes "thread_id") (number (unsigned t.thread_id)) no_members))))))
+    member (codes "thread_id") (number (unsigned t.thread_id)) no_members)))))))
 
 -- threads from the last to the first
-abbrev pub reversed_trees : LockState → Option Crash → List ThreadFront → List Data
-reversed_trees lock crash threads = map (λ t. thread_tree lock crash t) (reverse threads)
+abbrev pub reversed_trees : LockState → Option Crash → List ThreadName → List ThreadFront → List Data
+reversed_trees lock crash names threads = map (λ t. thread_tree lock crash names t) (reverse threads)
 
 -- the one at a place first, and then the others
-abbrev pub placed_trees : LockState → Option Crash → List ThreadFront → Option ℕ → List Data
-placed_trees lock crash threads None = reversed_trees lock crash threads
-placed_trees lock crash threads (Some i) = reversed_trees lock crash (take 1 (drop i threads))
-    ++ (reversed_trees lock crash (drop (i + 1) threads) ++ reversed_trees lock crash (take i threads))
+abbrev pub placed_trees : LockState → Option Crash → List ThreadName → List ThreadFront → Option ℕ → List Data
+placed_trees lock crash names threads None = reversed_trees lock crash names threads
+placed_trees lock crash names threads (Some i) = reversed_trees lock crash names (take 1 (drop i threads))
+    ++ (reversed_trees lock crash names (drop (i + 1) threads) ++ reversed_trees lock crash names (take i threads))
 
 -- the first one that got the signal, where there is one, and then the others from the last to the first
-abbrev pub ordered_trees : LockState → Option Crash → List ThreadFront → List Data
-ordered_trees lock crash threads =
-    placed_trees lock crash threads (position (λ thread. is_crashed crash thread) threads)
+abbrev pub ordered_trees : LockState → Option Crash → List ThreadName → List ThreadFront → List Data
+ordered_trees lock crash names threads =
+    placed_trees lock crash names threads (position (λ thread. is_crashed crash thread) threads)
 
-abbrev pub threads_tree : LockState → Option Crash → List ThreadFront → Data
-threads_tree lock crash threads = array (items_of (ordered_trees lock crash threads))
+abbrev pub threads_tree : LockState → Option Crash → List ThreadName → List ThreadFront → Data
+threads_tree lock crash names threads = array (items_of (ordered_trees lock crash names threads))

@@ -21,7 +21,7 @@ use Rattle.core_stacks.specs.Process.{OpenedProcess, ProcessIs}
 use Rattle.py_process.specs.Reports.{memory_in}
 use Rattle.thread_names.specs.declared.names.InterpreterNames.{InterpreterNames}
 use Rattle.memory_sections.specs.Each.{EachTold}
-use Rattle.memory_sections.specs.Told.{AreNamesOf, AreNative, AreTasksOf, slot_share}
+use Rattle.memory_sections.specs.Told.{AreNamesOf, AreNative, AreTasksOf, rule_of, slot_share}
 use Rattle.native_stacks.specs.declared.stacks.NativeStacks.{NativeStacks}
 use Rattle.py_records.specs.Versions.{records_of}
 use Rattle.task_texts.specs.declared.told.InterpreterTasks.{InterpreterTasks}
@@ -89,13 +89,15 @@ pub record SaysLayout (s : Salvage) (told : Told) (old new : SinkSeen) : Type 0 
 
 -- ---- the sections that are read in the memory of the core and its images
 
--- the names of the threads that are shown, as each interpreter's own module keeps them
+-- The names of the threads that are shown, as each interpreter's own module keeps them, by the rule of instances' dicts
+-- where the records that the tables have for the version say it (`names_told` of thread_names).
 pub record SaysNames (s : Salvage) (told : Told) (old new : SinkSeen) : Type 0 where
   pub has : HasSalvaged s told old new
   pub names : Vec InterpreterNames Global
   pub is : has.left.memory.names ≡ Some names
-  pub are : EachTold (AreNamesOf has.opened.layout (memory_in has.opened.dumped)) has.left.salvaged.interpreters.items
-      names.items
+  pub are : EachTold (AreNamesOf has.opened.layout
+      (rule_of has.opened.layout (records_of has.tables has.opened.version)) (memory_in has.opened.dumped))
+      has.left.salvaged.interpreters.items names.items
 
 -- The tasks of asyncio of the interpreters that are shown, by the records that the tables have for the version: of each
 -- interpreter exactly its registered objects, each once, or why they are not told (`tasks_at` of py_tasks).

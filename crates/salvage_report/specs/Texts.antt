@@ -10,6 +10,7 @@ use Rattle.thread_registers.specs.Text.{threads_text}
 use Rattle.salvage_texts.specs.Escape.{escaped}
 use Rattle.salvage_texts.specs.Salvaged.{salvaged_text}
 use Rattle.memory_sections.specs.Text.{memory_text}
+use Rattle.memory_sections.specs.Told.{names_given}
 use Rattle.salvage_words.specs.Salvage.{Salvage}
 use Rattle.salvage_report.specs.Tree.{left_json}
 use Rattle.py_selftest.specs.Text.{check_text}
@@ -39,8 +40,9 @@ section_text text (Some told) = text told
 -- the sections that are read in memory; the registers, and what the process says of the layout
 abbrev pub left_text : List ℕ → (limit : ℕ) → Left → List ℕ
 left_text core limit left = signal_text (core_name core) left.signal ++ (section_text info_text left.told.signal
-    ++ (process_text left.process ++ (version_line left.version ++ (salvaged_text left.salvaged
-    ++ (memory_text limit left.memory ++ (section_text threads_text (registers_shown left.told.registers)
+    ++ (process_text left.process ++ (version_line left.version
+    ++ (salvaged_text (names_given left.memory.names) left.salvaged ++ (memory_text limit left.memory
+    ++ (section_text threads_text (registers_shown left.told.registers)
     ++ section_text check_text (check_of left.check)))))))
 
 -- that, or JSON where it is asked for

@@ -9,6 +9,7 @@ use Rattle.py_fields.specs.Version.{version_text}
 use Rattle.crash_signal.specs.Trees.{signal_tree as info_tree}
 use Rattle.thread_registers.specs.Trees.{threads_tree}
 use Rattle.salvage_json.specs.Salvaged.{interpreters_tree, process_tree, signal_tree}
+use Rattle.memory_sections.specs.Told.{names_given}
 use Rattle.memory_sections.specs.Values.{names_tree_if, native_tree_if, tasks_tree_if}
 use Rattle.missed_reads.specs.Told.{RefusedTold, missed_tree}
 use Rattle.py_selftest.specs.Trees.{check_tree}
@@ -24,7 +25,8 @@ section_tree tree (Some told) = tree told
 -- the members whose keys stand first in the order of their bytes
 abbrev pub first_members : (limit : ℕ) → Left → Members
 first_members limit left =
-    member (codes "interpreters") (interpreters_tree left.salvaged.crash left.salvaged.interpreters.items) (
+    member (codes "interpreters") (interpreters_tree left.salvaged.crash (names_given left.memory.names)
+    left.salvaged.interpreters.items) (
     member (codes "layout_check") (section_tree check_tree (check_of left.check)) (
     member (codes "missing") (section_tree missed_tree (missing_shown left.told.missing)) (
     member (codes "more") (boolean left.salvaged.more) (
@@ -34,7 +36,8 @@ first_members limit left =
 -- the keys stand in the order of their bytes
 abbrev pub left_tree : (limit : ℕ) → Left → Data
 left_tree limit left = object (
-    member (codes "interpreters") (interpreters_tree left.salvaged.crash left.salvaged.interpreters.items) (
+    member (codes "interpreters") (interpreters_tree left.salvaged.crash (names_given left.memory.names)
+    left.salvaged.interpreters.items) (
     member (codes "layout_check") (section_tree check_tree (check_of left.check)) (
     member (codes "missing") (section_tree missed_tree (missing_shown left.told.missing)) (
     member (codes "more") (boolean left.salvaged.more) (

@@ -14,7 +14,7 @@ use crate::as_json::left_json;
 use crate::left::Left;
 use crash_signal::{CrashSignal, Untold};
 use elf64_core::{Name, Text};
-use memory_sections::push_memory;
+use memory_sections::{names_told, push_memory};
 use py_layout::Version;
 use py_selftest::LayoutCheck;
 use salvage_texts::{push_escaped, salvaged_text};
@@ -109,7 +109,7 @@ fn left_text(alloc: Global, core: &Name, limit: usize, left: &Left) -> Result<Ve
     push_info(&mut text, &left.told.signal)?;
     push_process(alloc, &mut text, &left.process)?;
     push_version(&mut text, &left.version)?;
-    let salvaged = salvaged_text(alloc, &left.salvaged)?;
+    let salvaged = salvaged_text(alloc, names_told(&left.memory), &left.salvaged)?;
     text.push_str(salvaged.as_str())?;
     push_memory(alloc, &mut text, limit, &left.memory)?;
     push_registers(&mut text, &left.told.registers)?;

@@ -1,5 +1,6 @@
 //! The lines of interpreters.
 ghost use Rattle.std.specs.Prelude.{◌≡◌, ◌++◌, OnOk, string_bytes};
+ghost use Rattle.thread_names.specs.Lookup.{threads_named};
 ghost use Rattle.salvage_texts.specs.Salvaged.{heading_text, interpreter_text, interpreters_text, lock_text};
 ghost use Rattle.salvage_texts.specs.Salvaged.{searched_text};
 
@@ -7,6 +8,7 @@ use crate::ends::{push_missing, push_threads_end};
 use crate::thread::push_threads;
 use py_fronts::{Crash, InterpreterFront, LockState, SalvagedInterpreter};
 use std::alloc::{AllocError, Global};
+use thread_names::{InterpreterNames, threads_named};
 
 /// How an interpreter was found, where by search alone.
 fn push_searched(text: &mut String, searched: bool) -> Result<(), AllocError>
@@ -55,10 +57,11 @@ fn push_interpreter(
     text: &mut String,
     is_several: bool,
     crash: Option<Crash>,
+    names: &[InterpreterNames],
     interpreter: &SalvagedInterpreter,
 ) -> Result<(), AllocError>
     ensures { OnOk result (string_bytes text.new
-        ≡ string_bytes text.old ++ interpreter_text is_several crash interpreter.now) }
+        ≡ string_bytes text.old ++ interpreter_text is_several crash names.now interpreter.now) }
 {
     push_heading(text, is_several, &interpreter.front)?;
     push_lock(text, interpreter.lock)?;
@@ -68,6 +71,7 @@ fn push_interpreter(
         text,
         interpreter.lock,
         crash,
+        threads_named(names, interpreter.front.address),
         &interpreter.front.threads.threads,
     )
 }
@@ -78,13 +82,14 @@ pub(crate) fn push_interpreters(
     text: &mut String,
     is_several: bool,
     crash: Option<Crash>,
+    names: &[InterpreterNames],
     interpreters: &[SalvagedInterpreter],
 ) -> Result<(), AllocError>
     ensures { OnOk result (string_bytes text.new
-        ≡ string_bytes text.old ++ interpreters_text is_several crash interpreters.now) }
+        ≡ string_bytes text.old ++ interpreters_text is_several crash names.now interpreters.now) }
 {
     for interpreter in interpreters {
-        push_interpreter(alloc, text, is_several, crash, interpreter)?;
+        push_interpreter(alloc, text, is_several, crash, names, interpreter)?;
     }
     Ok(())
 }

@@ -8,31 +8,54 @@ ghost use Rattle.salvage_texts.specs.Standings.{frame_line};
 use crate::interpreter::push_interpreters;
 use py_fronts::{Crash, Salvaged, SalvagedInterpreter, first_crashed};
 use std::alloc::{AllocError, Global};
+use thread_names::InterpreterNames;
 
 /// The lines of all interpreters: of the first one of which a thread got the signal, and then of the others.
 fn push_ordered(
     alloc: Global,
     text: &mut String,
     crash: Option<Crash>,
+    names: &[InterpreterNames],
     interpreters: &[SalvagedInterpreter],
 ) -> Result<(), AllocError>
-    ensures { OnOk result (string_bytes text.new ≡ string_bytes text.old ++ ordered_text crash interpreters.now) }
+    ensures { OnOk result (string_bytes text.new
+        ≡ string_bytes text.old ++ ordered_text crash names.now interpreters.now) }
 {
     let is_several = interpreters.len() > 1;
     let Some(index) = first_crashed(crash, interpreters) else {
-        return push_interpreters(alloc, text, is_several, crash, interpreters);
+        return push_interpreters(alloc, text, is_several, crash, names, interpreters);
     };
     let first = &interpreters[index..index + 1];
-    push_interpreters(alloc, text, is_several, crash, first)?;
-    push_interpreters(alloc, text, is_several, crash, &interpreters[..index])?;
-    push_interpreters(alloc, text, is_several, crash, &interpreters[index + 1..])
+    push_interpreters(alloc, text, is_several, crash, names, first)?;
+    push_interpreters(
+        alloc,
+        text,
+        is_several,
+        crash,
+        names,
+        &interpreters[..index],
+    )?;
+    push_interpreters(
+        alloc,
+        text,
+        is_several,
+        crash,
+        names,
+        &interpreters[index + 1..],
+    )
 }
 
 /// The lines of what is left.
-fn push_salvaged(alloc: Global, text: &mut String, salvaged: &Salvaged) -> Result<(), AllocError>
-    ensures { OnOk result (string_bytes text.new ≡ string_bytes text.old ++ salvaged_text salvaged.now) }
+fn push_salvaged(
+    alloc: Global,
+    text: &mut String,
+    names: &[InterpreterNames],
+    salvaged: &Salvaged,
+) -> Result<(), AllocError>
+    ensures { OnOk result (string_bytes text.new
+        ≡ string_bytes text.old ++ salvaged_text names.now salvaged.now) }
 {
-    push_ordered(alloc, text, salvaged.crash, &salvaged.interpreters)?;
+    push_ordered(alloc, text, salvaged.crash, names, &salvaged.interpreters)?;
     if salvaged.more {
         return text.push_str("... more than 16 interpreters\n");
     }
@@ -43,15 +66,20 @@ fn push_salvaged(alloc: Global, text: &mut String, salvaged: &Salvaged) -> Resul
 /// is missing of its lock and of its threads, and its threads, each with its frames and how these end; and last, where
 /// there are more than 16 interpreters, a line that says so.
 ///
-/// A thread is marked where it holds the lock of its interpreter, and where it got the signal. The first interpreter
+/// A thread is marked where it holds the lock of its interpreter, and where it got the signal, and has the name that is
+/// told of its id in its interpreter, if one is. The first interpreter
 /// with such a thread stands first, and in it that thread; else interpreters stand in order, and the threads of each
 /// from the last to the first. The one error is want of memory.
-pub fn salvaged_text(alloc: Global, salvaged: &Salvaged) -> Result<String, AllocError>
-    ensures shows { IfOk result (λ text. string_bytes text ≡ salvaged_text salvaged.now) }
+pub fn salvaged_text(
+    alloc: Global,
+    names: &[InterpreterNames],
+    salvaged: &Salvaged,
+) -> Result<String, AllocError>
+    ensures shows { IfOk result (λ text. string_bytes text ≡ salvaged_text names.now salvaged.now) }
     // whatever the names of a frame are, its line is none of those that say what is missing among frames
     ensures unforged { (frame : Frame) → IsNoMark (frame_line frame) }
 {
     let mut text = String::new(alloc);
-    push_salvaged(alloc, &mut text, salvaged)?;
+    push_salvaged(alloc, &mut text, names, salvaged)?;
     Ok(text)
 }

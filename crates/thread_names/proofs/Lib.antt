@@ -1,1 +1,5 @@
 pub mod Plain
+pub mod Searches
+pub mod KeySteps
+pub mod Attributes
+pub mod NameSteps

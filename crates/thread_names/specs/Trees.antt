@@ -12,10 +12,22 @@ abbrev pub name_tree : Option (List ℕ) → Data
 name_tree (Some name) = string (encode_utf8_all name)
 name_tree None = null
 
+-- why the name of a thread can't be read, in words
+abbrev pub thread_fault_word : NamesError → List ℕ
+thread_fault_word Entries = codes "more than 256 slots"
+thread_fault_word NoDicts = codes "unreadable"
+thread_fault_word (Object e) = codes "unreadable"
+thread_fault_word OutOfMemory = codes "unreadable"
+
+abbrev pub thread_fault_tree : Option NamesError → Data
+thread_fault_tree (Some e) = string (thread_fault_word e)
+thread_fault_tree None = null
+
 abbrev pub thread_tree : ThreadName → Data
 thread_tree t = object (
+    member (codes "fault") (thread_fault_tree t.fault) (
     member (codes "name") (name_tree t.name) (
-    member (codes "thread_id") (number (unsigned t.thread_id)) no_members))
+    member (codes "thread_id") (number (unsigned t.thread_id)) no_members)))
 
 abbrev pub threads_tree : List ThreadName → Data
 threads_tree threads = array (items_of (map (λ t. thread_tree t) threads))
@@ -37,7 +49,8 @@ abbrev pub interpreter_tree : InterpreterNames → Data
 interpreter_tree i = object (
     member (codes "fault") (fault_tree i.fault) (
     member (codes "interpreter") (string (address_text i.interpreter)) (
-    member (codes "threads") (threads_tree i.threads.items) no_members)))
+    member (codes "threads") (threads_tree i.threads.items) (
+    member (codes "unread") (number (unsigned i.unread)) no_members))))
 
 abbrev pub names_tree : List InterpreterNames → Data
 names_tree names = array (items_of (map (λ i. interpreter_tree i) names))

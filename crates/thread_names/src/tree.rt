@@ -2,7 +2,7 @@
 ghost use Rattle.std.specs.Prelude.{◌≡◌, IfOk, string_bytes};
 ghost use Rattle.serde_json.specs.View.{view};
 ghost use Rattle.thread_names.specs.Trees.{address_text, fault_tree, fault_word, interpreter_tree, name_tree, names_tree};
-ghost use Rattle.thread_names.specs.Trees.{thread_tree, threads_tree};
+ghost use Rattle.thread_names.specs.Trees.{thread_fault_tree, thread_fault_word, thread_tree, threads_tree};
 
 use crate::names::{InterpreterNames, ThreadName};
 use elf64_core::Text;
@@ -20,11 +20,33 @@ fn name_value(alloc: Global, name: &Option<Text>) -> Result<Value, AllocError>
     }
 }
 
+/// Why the name of a thread can't be read, in words: `more than 256 slots`, or `unreadable`.
+pub fn thread_fault_word(fault: &NamesError) -> &'static str
+    ensures { result.now ≡ thread_fault_word fault.now }
+{
+    match fault {
+        NamesError::Entries => "more than 256 slots",
+        NamesError::NoDicts | NamesError::Object(_) | NamesError::OutOfMemory => "unreadable",
+    }
+}
+
+/// The word of a thread's fault, or null.
+fn thread_fault_value(alloc: Global, fault: &Option<NamesError>) -> Result<Value, AllocError>
+    ensures { IfOk result (λ value. view value ≡ thread_fault_tree fault.now) }
+{
+    match fault {
+        Some(fault) => Value::try_from_str(alloc, thread_fault_word(fault)),
+        None => Ok(Value::Null),
+    }
+}
+
 fn thread_value(alloc: Global, thread: &ThreadName) -> Result<Value, AllocError>
     ensures { IfOk result (λ value. view value ≡ thread_tree thread.now) }
 {
     let name = name_value(alloc, &thread.name)?;
+    let fault = thread_fault_value(alloc, &thread.fault)?;
     json!(in alloc; {
+        "fault": fault,
         "name": name,
         "thread_id": thread.thread_id
     })
@@ -78,12 +100,14 @@ fn interpreter_value(alloc: Global, names: &InterpreterNames) -> Result<Value, A
     json!(in alloc; {
         "fault": fault,
         "interpreter": address.as_str(),
-        "threads": threads
+        "threads": threads,
+        "unread": names.unread
     })
 }
 
 /// The names as a JSON value: an array of an object for each interpreter, in order, with its address, its threads, each
-/// an object with its id and its name or null, and null or a word that says why no name is told.
+/// an object with its id, its name or null, and null or a word that says why that can't be read; how many slots may have
+/// a thread whose id is not known; and null or a word that says why no name is told.
 ///
 /// The keys of an object stand in the order of their bytes. The one error is want of memory.
 pub fn names_value(alloc: Global, names: &[InterpreterNames]) -> Result<Value, AllocError>

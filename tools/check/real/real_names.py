@@ -4,8 +4,9 @@
     tools/check/real/real_names.py --salvage crates/pysalvage/out/pysalvage [PYTHON..]
 
 For each Python of 3.6 on that is installed: of threads whose names have blanks, quotes, line feeds and other scripts, one of them
-20,000 frames deep, each has the name that the process gave it; and so it has where the word that names a thread's newest frame is
-garbage. Where there are sub-interpreters each thread has the name that its own interpreter keeps, though threads of two
+20,000 frames deep, each has the name that the process gave it, in the section and at the thread; and so it has where the word that
+names a thread's newest frame is garbage. Where the word that names the class of one thread's object is garbage, its name alone is
+missing. Where there are sub-interpreters each thread has the name that its own interpreter keeps, though threads of two
 interpreters may have one id. The status is 0 exactly where nothing that was tried failed.
 """
 
@@ -39,6 +40,7 @@ def wait():
 def descend(left):
     if left == 0:
         print(json.dumps({it.ident: it.name for it in threading.enumerate()}), flush=True)
+        print(json.dumps({it.ident: id(it) for it in threading.enumerate()}), flush=True)
         os.abort()
     descend(left - 1)
 for name in ("plain", "zwei W\\u00f6rter", "a line\\nfeed and a \\"quote\\"", "\\u65e5\\u672c \\U0001f40d"):
@@ -83,22 +85,31 @@ def names_of(tree: Tree) -> List[Names]:
 
 def said(text: str) -> Names:
     """The names that the process said."""
-    return {int(number): name for number, name in json.loads(text).items()}
+    return {int(number): name for number, name in json.loads(text.splitlines()[0]).items()}
 
 
-def check_own(tree: Tree, wanted: Names) -> None:
-    """Fails where a thread of the main interpreter has another name than the process said, or one isn't there."""
+def objects(text: str) -> Dict[int, int]:
+    """The addresses of the threads' objects, by their ids."""
+    return {int(number): at for number, at in json.loads(text.splitlines()[1]).items()}
+
+
+def check_own(tree: Tree, wanted: Names, lost: Optional[int] = None) -> None:
+    """Fails where a thread of the main interpreter has another name than the process said, or one isn't there; or where that of one
+    thread alone can't be read, and it is told otherwise."""
     check_names(tree)
     told = names_of(tree)[0]
     if set(told) != set(wanted) or any(it["fault"] for it in tree["names"]):
         raise Failure(f"names of {sorted(told)} are told, and the process said {sorted(wanted)}: {tree['names']}")
     for number, name in told.items():
-        if name != wanted.get(number):
+        if name != (None if number == lost else wanted.get(number)):
             raise Failure(f"thread {number:#x} is {name!r}, and the process said {wanted.get(number)!r}")
+    faults = {row["thread_id"] for it in tree["names"] for row in it["threads"] if row["fault"]}
+    if faults != ({lost} - {None}):
+        raise Failure(f"names of {sorted(faults)} can't be read, and that of {lost} alone was broken")
 
 
 def named(salvage: Path, python: str, names: str, room: Path, layouts: Path) -> str:
-    """Names of every kind, with a deep thread, and with a chain of frames that is broken."""
+    """Names of every kind, with a deep thread, with a chain of frames that is broken, and with a thread's object that is."""
     core, told = left_by(python, names, room, NAMED)
     wanted = said(told)
     tree = left(salvage, core, layouts, "--names")
@@ -106,6 +117,9 @@ def named(salvage: Path, python: str, names: str, room: Path, layouts: Path) -> 
     broken = next(it for it in threads(tree) if it["frames"]["met"] > 20000)
     place = int(broken["address"], 16) + layout_of(layouts.read_text())["thread"]["frame"]
     check_own(with_word(core, place, LOW, lambda: left(salvage, core, layouts, "--names")), wanted)
+    number, at = next((number, at) for number, at in objects(told).items() if wanted[number] == "plain")
+    klass = at + layout_of(layouts.read_text())["object"]["klass"]
+    check_own(with_word(core, klass, LOW, lambda: left(salvage, core, layouts, "--names")), wanted, number)
     core.unlink()
     return f"{len(wanted)} names"
 

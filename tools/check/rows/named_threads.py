@@ -1,15 +1,22 @@
 """A small core whose interpreter has modules, and in `threading` the names of two threads."""
 
 import struct
-from typing import Sequence, Union
+from typing import Optional, Sequence, Union
 
 from made import Objects
 from small_core import HEAP, THREAD, heap
 
+LOST = 0x7000_0000
+"""An address where nothing is."""
 
-def named_threads(keys: Sequence[Union[str, int]] = ("sys", "threading"), ids: Sequence[int] = (0x7F00, 0x7F01), own: int = 0x7F00) -> Objects:
+
+def named_threads(
+    keys: Sequence[Union[str, int]] = ("sys", "threading"), ids: Sequence[int] = (0x7F00, 0x7F01), own: int = 0x7F00,
+    smashed: Optional[int] = None, nameless: Optional[int] = None,
+) -> Objects:
     """Modules of these names, or whose keys are texts of such a length or stand at such an address; and two threads of
-    these ids. The small core's thread has an id of its own."""
+    these ids, of which one may have a word that names no class, and one a key that is nowhere. The small core's thread has
+    an id of its own."""
     objects = heap()
     objects.word(THREAD + 32, own)
     place = {it: at for it, at in (("int", objects.klass("int", 24)), ("str", objects.klass("str", 28)),
@@ -40,7 +47,10 @@ def named_threads(keys: Sequence[Union[str, int]] = ("sys", "threading"), ids: S
 
     threads = [instance(place["object"], dict_of((0, 0), (text("_name"), text(name)), (text("_name"), text("sys"))))
                for name in ("MainThread", "Worker")]
-    active = dict_of(*((objects.number(number, place["int"]), thread) for number, thread in zip(ids, threads)))
+    if smashed is not None:
+        objects.of_class(threads[smashed], LOST)
+    numbers = [LOST if at == nameless else objects.number(number, place["int"]) for at, number in enumerate(ids)]
+    active = dict_of(*zip(numbers, threads))
     threading = instance(module, dict_of((text("sys"), 0), (text("_active"), active)))
     objects.word(HEAP + 16, dict_of((0, 0), *((key_of(key), threading) for key in keys)))
     return objects

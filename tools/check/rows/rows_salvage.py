@@ -351,7 +351,8 @@ def trees() -> Iterator[Row]:
     """JSON."""
     member = lambda name: {"filename": "a.py", "line": 0, "locals": None, "locals_fault": None, "name": name}
     frames = {"between": 0, "end": {"kind": "whole"}, "first": [member("f"), member("<module>")], "last": [], "met": 2}
-    thread = {"address": hex(THREAD), "crashed": True, "frames": frames, "gil": False, "os_thread_id": None, "thread_id": 0x7F00}
+    thread = {"address": hex(THREAD), "crashed": True, "frames": frames, "gil": False, "name": None, "os_thread_id": None,
+              "thread_id": 0x7F00}
     interpreter = {"address": hex(HEAP), "lock": {"holder": 0, "kind": "read"}, "searched": False, "threads": [thread],
                    "threads_end": {"kind": "whole"}}
     tree = {"interpreters": [interpreter], "layout_check": None, "missing": None, "more": False, "names": None,
@@ -444,7 +445,8 @@ def broken_tree(back: int, blocks: Sequence[int]) -> Dict[str, object]:
     member = lambda name: {"filename": "a.py", "line": 0, "locals": None, "locals_fault": None, "name": name}
     end = {"address": hex(back), "kind": "unreadable", "length": group("frame")["size"]}
     frames = {"between": 0, "end": end, "first": [member("f"), member("<module>")], "last": [], "met": 2}
-    thread = {"address": hex(THREAD), "crashed": False, "frames": frames, "gil": False, "os_thread_id": None, "thread_id": 0x7F00}
+    thread = {"address": hex(THREAD), "crashed": False, "frames": frames, "gil": False, "name": None, "os_thread_id": None,
+              "thread_id": 0x7F00}
     interpreter = {"address": hex(HEAP), "lock": {"holder": 0, "kind": "read"}, "searched": False, "threads": [thread],
                    "threads_end": {"kind": "whole"}}
     return {"interpreters": [interpreter], "layout_check": None, **missed_object(blocks), "more": False, "names": None,

@@ -62,7 +62,8 @@ def thread(
     """A thread."""
     count = len(first) + between + len(last)
     frames = {"between": between, "end": end, "first": list(first), "last": list(last), "met": count if met is None else met}
-    return {"address": hex(number), "crashed": crashed, "frames": frames, "gil": gil, "os_thread_id": native, "thread_id": number}
+    return {"address": hex(number), "crashed": crashed, "frames": frames, "gil": gil, "name": None, "os_thread_id": native,
+            "thread_id": number}
 
 
 def interpreter(threads: Sequence[Tree], address: int = 0x10000, searched: bool = False, lock: Optional[Tree] = None, end: Tree = WHOLE) -> Tree:

@@ -119,8 +119,8 @@ def member(name="f", **fields):
 def tree(frames=(), thread=(), interpreter=(), **fields):
     """The JSON of `pysalvage` of a process that was ended by a signal, with other values for some keys."""
     front = {"between": 0, "end": {"kind": "whole"}, "first": [member()], "last": [], "met": 1, **dict(frames)}
-    one = {"address": "0x40", "crashed": True, "frames": front, "gil": False, "os_thread_id": 7, "thread_id": 9,
-           **dict(thread)}
+    one = {"address": "0x40", "crashed": True, "frames": front, "gil": False, "name": None, "os_thread_id": 7,
+           "thread_id": 9, **dict(thread)}
     held = {"address": "0x10", "lock": {"holder": 0, "kind": "read"}, "searched": False, "threads": [one],
             "threads_end": {"kind": "whole"}, **dict(interpreter)}
     return {"interpreters": [held], "layout_check": None, "missing": None, "more": False, "names": None, "native": None,

@@ -3,7 +3,8 @@ use Rattle.frame_lines.proofs.Pieces.{HasRead}
 use Rattle.frame_lines.proofs.table.read_pieces.Given as goal
 
 abbrev pub invariant-loop-done : goal.invariant-loop-done
-invariant-loop-done g l = HasRead l.at l.length (g.P.ProcessMemory.seen l.initial.process) (g.P.ProcessMemory.seen l.process) l.done l.bytes.items
+invariant-loop-done g l = HasRead l.at l.length (g.P.ProcessMemory.seen l.initial.process)
+    (g.P.ProcessMemory.seen l.process) l.done l.bytes.items
 
 abbrev pub decreases-loop-done : goal.decreases-loop-done
 decreases-loop-done g l = l.length - l.done

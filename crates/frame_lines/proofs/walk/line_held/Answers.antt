@@ -15,7 +15,9 @@ loop-entry-init c =
 
 pub returns-then-holds : goal.returns-then-holds
 returns-then-holds c =
-    let held = walk_held c.args.form c.loop-entry.rest.now c.loop-entry.place c.args.offset _ c.in-Some.entry c.loop-entry.invariant.ahead (sym c.first_entry.ensures.value ∙ c.in-Some.is) c.in-Some.ensures.size (sym c.holds.ensures ∙ c.if-holds.true) in
+    let held = walk_held c.args.form c.loop-entry.rest.now c.loop-entry.place c.args.offset _ c.in-Some.entry
+    c.loop-entry.invariant.ahead (sym c.first_entry.ensures.value ∙ c.in-Some.is) c.in-Some.ensures.size
+    (sym c.holds.ensures ∙ c.if-holds.true) in
     to_z-of_z w32 c.unwrap_or.result (search rules)
     ∙ c.unwrap_or.ensures
     ∙ ap shown_line c.line_under.ensures
@@ -26,7 +28,9 @@ pub loop-entry-preserved : goal.loop-entry-preserved
 loop-entry-preserved c =
     let rest = c.loop-entry.rest.now in
     let entry = c.in-Some.entry in
-    let passed = walk_passes c.args.form rest c.loop-entry.place c.args.offset _ entry c.loop-entry.invariant.ahead (sym c.first_entry.ensures.value ∙ c.in-Some.is) c.in-Some.ensures.size c.in-Some.ensures.small (sym c.holds.ensures ∙ c.if-holds.false) in
+    let passed = walk_passes c.args.form rest c.loop-entry.place c.args.offset _ entry c.loop-entry.invariant.ahead
+    (sym c.first_entry.ensures.value ∙ c.in-Some.is) c.in-Some.ensures.size c.in-Some.ensures.small
+    (sym c.holds.ensures ∙ c.if-holds.false) in
     let ahead = ahead_there passed c.past-place.ensures (take_rest rest entry.size) in
     record { near = near_still _ c.past-place.result ahead.near; ahead = ahead }
 
@@ -34,5 +38,6 @@ pub returns : goal.returns
 returns c =
     to_z-of_z w32 c.last_line.result (search rules)
     ∙ c.last_line.ensures
-    ∙ walk_ends c.args.form c.loop-entry.rest.now c.loop-entry.place c.args.offset _ c.loop-entry.invariant.ahead (sym c.first_entry.ensures.value ∙ c.in_default.is)
+    ∙ walk_ends c.args.form c.loop-entry.rest.now c.loop-entry.place c.args.offset _ c.loop-entry.invariant.ahead
+    (sym c.first_entry.ensures.value ∙ c.in_default.is)
     ∙ ap (λ z. line_held c.args.form z c.args.table.now c.args.offset) (to_z-of_z w32 c.args.first c.ranges.first)

@@ -6,5 +6,5 @@ use Rattle.memory_sections.specs.Told.{AreNamesOf}
 use Rattle.memory_sections.proofs.names.each_names.Given as goal
 
 abbrev pub invariant-loop-interpreter : goal.invariant-loop-interpreter
-invariant-loop-interpreter l = EachTold (AreNamesOf l.process.layout (byte_at (regions_of l.process.dump)))
+invariant-loop-interpreter l = EachTold (AreNamesOf l.process.layout l.rule (byte_at (regions_of l.process.dump)))
     (take l.interpreter-index l.interpreters) l.names.items

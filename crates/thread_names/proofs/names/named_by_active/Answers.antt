@@ -1,0 +1,5 @@
+use Rattle.process_memory.proofs.Reading.{reading_none}
+use Rattle.thread_names.proofs.names.named_by_active.Goals as goal
+
+pub returns-in-None : goal.returns-in-None
+returns-in-None g c = rw c.in-None.is (reading_none _ _ _ (λ m. c.without_names.ensures))
