@@ -4,9 +4,12 @@
 //! discovery. What can't be read costs what it breaks: each part has a mark of its own.
 #![tactic(auto)]
 
-mod told;
+mod dict;
+mod error;
+mod fault;
+mod name;
+mod value;
 
-pub use told::{
-    CalledFrame, ClassName, Entry, Notes, RaisedParts, Rule, Said, Told, ToldException, ToldObject,
-    ToldThread, Traceback, Value, Values,
-};
+pub use error::ExceptionsError;
+pub use name::{ClassName, ClassPlaces};
+pub use value::Value;

@@ -1,46 +1,8 @@
 //! What is told of exceptions.
 
+use crate::{ClassName, Value};
 use elf64_core::Text;
-use thread_exceptions::{Handled, LinkEnd, Lost, Members, Parts, Raised};
-
-/// The name of a class.
-#[derive(Debug, Drop)]
-pub enum ClassName {
-    /// That of a class of C's, as its `tp_name` has it: `KeyError`, `zlib.error`. Without a dot it is a builtin.
-    Whole(Text),
-    /// That of a class of the heap: its `__module__` and its `__qualname__`, each none where it is no text of fewer than
-    /// 4,096 characters, or is not in memory. Python leaves the modules `builtins` and `__main__` out where it shows an
-    /// exception.
-    Parts {
-        module: Option<Text>,
-        name: Option<Text>,
-    },
-    /// Of which kind it is, or its name, is not in memory.
-    Unreadable,
-}
-
-/// A value that an exception has. What can't be read is told as none by an `Option` around it.
-#[derive(Debug, Drop)]
-pub enum Value {
-    /// No object: the address is 0.
-    Absent,
-    /// A text of fewer than 4,096 characters.
-    Text(Text),
-    /// The text at this address, which states 4,096 characters and more.
-    LongText { addr: u64 },
-    /// An integer of at most 60 bits and its sign.
-    Number(i64),
-    /// A longer integer, at this address.
-    LongNumber { addr: u64, is_negative: bool },
-    /// `True` or `False`.
-    Truth(bool),
-    /// `None`.
-    Nothing,
-    /// A float, by the bits of its 8 bytes.
-    Float { bits: u64 },
-    /// Another object, and the name of its type as `tp_name` has it; none where that is no text, or is not in memory.
-    Other { addr: u64, class: Option<Text> },
-}
+use thread_exceptions::{LinkEnd, ThreadExceptions};
 
 /// Values, one behind the other: the first 16, and how many more there are.
 #[derive(Debug, Drop)]
@@ -67,7 +29,9 @@ pub enum Rule {
         second: Option<Value>,
     },
     /// `ImportError`'s: its text; as `Plain` where that is no text.
-    Import { text: Option<Value> },
+    Import {
+        text: Option<Value>,
+    },
     /// `SyntaxError`'s: `text (file, line n)`, with the last part of the file's path, and without what is no text or no
     /// number.
     Syntax {
@@ -76,10 +40,14 @@ pub enum Rule {
         line: Option<Value>,
     },
     /// `BaseExceptionGroup`'s: `text (n sub-exceptions)`; how many is told by its members.
-    Group { text: Option<Value> },
+    Group {
+        text: Option<Value>,
+    },
     /// Another one, of the class of this name: a `__str__` of a program's own, or one of C that is not told here. The
     /// arguments are shown in place of the text, said to be these.
-    Own { class: ClassName },
+    Own {
+        class: ClassName,
+    },
     /// Whose it is can't be told, as something on the way is not in memory. The same.
     Unreadable,
 }
@@ -136,59 +104,35 @@ pub enum Notes {
     Unreadable,
 }
 
-/// An exception.
+/// What is told of an exception.
 #[derive(Drop)]
 pub struct ToldException {
-    /// The name of its class.
-    pub class: ClassName,
+    /// The name of its class; none where it, or of which kind the class is, is not in memory.
+    pub class: Option<ClassName>,
     pub said: Said,
     pub traceback: Traceback,
     pub notes: Notes,
-    /// What its record says: the addresses of its cause, its context and other parts, and whether the context is shown.
-    pub parts: Parts,
-    /// The members of a group.
-    pub members: Members,
-}
-
-/// What is told of an object that was met.
-#[derive(Drop)]
-pub enum Told {
-    Exception(ToldException),
-    /// It is no exception.
-    Other,
-    /// What it is is not in memory.
-    Unreadable(Lost),
-}
-
-/// An object that was met.
-#[derive(Drop)]
-pub struct ToldObject {
-    /// Its address.
-    pub addr: u64,
-    pub told: Told,
 }
 
 /// An exception that is raised, up to 3.11, as its thread has it: the value may be no exception yet.
 #[derive(Drop)]
 pub struct RaisedParts {
     /// The name of its class.
-    pub class: ClassName,
-    /// An exception, which is told as `Other` here and among the objects too, or what one is to be made of.
+    pub class: Option<ClassName>,
+    /// An exception, which is told as `Other` here and among those that are met too; or what one is to be made of.
     pub value: Option<Value>,
     /// The thread's traceback, which the exception itself does not have yet.
     pub traceback: Traceback,
 }
 
-/// What a thread raises and handles, and all that this leads to.
+/// What a thread raises and handles, and what is told of all that this leads to.
 #[derive(Drop)]
 pub struct ToldThread {
-    pub raised: Raised,
-    /// The parts of what is raised, where `raised` is `Parts`.
-    pub raised_parts: Option<RaisedParts>,
-    /// Its items, the newest one first.
-    pub handled: Vec<Handled>,
-    /// How the chain of items ends; it is cut behind 4,096 of them.
-    pub end: LinkEnd,
-    /// All objects that are met from there on, in order of discovery, each once; at most 1,024.
-    pub objects: Vec<ToldObject>,
+    /// What it raises and handles, and all objects that are met from there on.
+    pub thread: ThreadExceptions,
+    /// The parts of what is raised, where `thread.raised` is `Parts`.
+    pub raised: Option<RaisedParts>,
+    /// What is told of each object of `thread.met`, in the same order; none of one that is no exception, or of which
+    /// that is not in memory.
+    pub told: Vec<Option<ToldException>>,
 }
