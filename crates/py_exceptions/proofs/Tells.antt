@@ -6,7 +6,7 @@ use Rattle.process_memory.specs.Seen.{Answers, FaultIs, Reading, Reads, Seen}
 use Rattle.process_memory.proofs.Reading.{reading_gives, reading_then}
 use Rattle.py_names.specs.NamesError.{names_fault}
 use Rattle.py_names.specs.declared.names_error.NamesError.{NamesError}
-use Rattle.py_exceptions.specs.declared.error.ExceptionsError.{ExceptionsError}
+use Rattle.thread_exceptions.specs.declared.error.ExceptionsError.{ExceptionsError}
 use Rattle.py_exceptions.specs.Faults.{IsOrNone, NoneBy, found_or_none}
 
 module _ {T : Type 0} (d : Found (Option T)) (r : Result (Option T) ExceptionsError) where

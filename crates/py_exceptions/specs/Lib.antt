@@ -1,5 +1,9 @@
 pub mod ClassNames
 pub mod Entries
 pub mod Faults
+pub mod Owners
+pub mod Rules
+pub mod Said
 pub mod Texts
+pub mod ValueLists
 pub mod Values

@@ -5,11 +5,19 @@
 #![tactic(auto)]
 
 mod dict;
-mod error;
 mod fault;
 mod name;
+mod owner;
+mod rule;
+mod said;
+mod told;
 mod value;
+mod values;
 
-pub use error::ExceptionsError;
 pub use name::{ClassName, ClassPlaces};
+pub use rule::{FieldPlaces, Rule};
+pub use said::Said;
+pub use thread_exceptions::ExceptionsError;
+pub use told::{CalledFrame, Entry, Notes, RaisedParts, ToldException, ToldThread, Traceback};
 pub use value::Value;
+pub use values::Values;

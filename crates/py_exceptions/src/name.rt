@@ -6,7 +6,6 @@ ghost use Rattle.py_names.specs.NamesError.{names_fault};
 ghost use Rattle.py_exceptions.specs.ClassNames.{class_at, class_by_flags, class_name, is_heap, module_at, qualname_at};
 ghost use Rattle.py_exceptions.specs.ClassNames.{heap_name_at, whole_at, whole_of};
 
-use crate::ExceptionsError;
 use crate::dict::{read_entry, read_found_text, read_text};
 use crate::fault::{or_none, read_word};
 use elf64_core::{Text, until_nul};
@@ -15,6 +14,7 @@ use py_fields::Layout;
 use py_names::NamesError;
 use std::alloc::{AllocError, Global};
 use std::str;
+use thread_exceptions::ExceptionsError;
 
 /// How many bytes of a type's name are read.
 const NAME_LIMIT: u64 = 128;

@@ -1,64 +1,8 @@
 //! What is told of exceptions.
 
-use crate::{ClassName, Value};
+use crate::{ClassName, Said, Value, Values};
 use elf64_core::Text;
 use thread_exceptions::{LinkEnd, ThreadExceptions};
-
-/// Values, one behind the other: the first 16, and how many more there are.
-#[derive(Debug, Drop)]
-pub struct Values {
-    /// Each is none where it can't be read.
-    pub values: Vec<Option<Value>>,
-    pub left_out: u64,
-}
-
-/// Whose rule says the text of an exception, which is what `str` gives.
-#[derive(Debug, Drop)]
-pub enum Rule {
-    /// `BaseException`'s: without an argument the text is empty, one argument is told by its `str`, more are told by the
-    /// `repr` of their tuple.
-    Plain,
-    /// `KeyError`'s: one argument is told by its `repr`; else as `Plain`.
-    Key,
-    /// `OSError`'s: `[Errno n] text: 'file' -> 'second'`, without what is `Absent` from the end on (the names by their
-    /// `repr`); as `Plain` where there is no file and the number or the text is `Absent`.
-    System {
-        errno: Option<Value>,
-        text: Option<Value>,
-        file: Option<Value>,
-        second: Option<Value>,
-    },
-    /// `ImportError`'s: its text; as `Plain` where that is no text.
-    Import {
-        text: Option<Value>,
-    },
-    /// `SyntaxError`'s: `text (file, line n)`, with the last part of the file's path, and without what is no text or no
-    /// number.
-    Syntax {
-        text: Option<Value>,
-        file: Option<Value>,
-        line: Option<Value>,
-    },
-    /// `BaseExceptionGroup`'s: `text (n sub-exceptions)`; how many is told by its members.
-    Group {
-        text: Option<Value>,
-    },
-    /// Another one, of the class of this name: a `__str__` of a program's own, or one of C that is not told here. The
-    /// arguments are shown in place of the text, said to be these.
-    Own {
-        class: ClassName,
-    },
-    /// Whose it is can't be told, as something on the way is not in memory. The same.
-    Unreadable,
-}
-
-/// What an exception says.
-#[derive(Debug, Drop)]
-pub struct Said {
-    pub rule: Rule,
-    /// Its `args`; none where that is not in memory.
-    pub arguments: Option<Values>,
-}
 
 /// What a frame of a traceback shows.
 #[derive(Debug, Drop)]
