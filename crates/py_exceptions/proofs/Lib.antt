@@ -1,3 +1,4 @@
+pub mod Listing
 pub mod Owning
 pub mod Tells
 pub mod Utf

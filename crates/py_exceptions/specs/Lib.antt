@@ -1,7 +1,10 @@
 pub mod ClassNames
 pub mod Entries
 pub mod Faults
+pub mod Firsts
+pub mod Frames
 pub mod Owners
+pub mod Places
 pub mod Rules
 pub mod Said
 pub mod Texts

@@ -8,6 +8,7 @@ use Rattle.py_builtins.specs.Items.{item_at, items_at}
 use Rattle.py_exceptions.specs.declared.value.Value.{Value}
 use Rattle.py_exceptions.specs.declared.values.Values.{Values}
 use Rattle.py_exceptions.specs.Faults.{found_or_none, known}
+use Rattle.py_exceptions.specs.Firsts.{firsts}
 use Rattle.py_exceptions.specs.Values.{value_by}
 
 -- the values that are told, and how many more there are
@@ -27,9 +28,8 @@ unfoldable pub item_value_at : Layout → Memory → Items → ℕ → Option Va
 item_value_at l m items number = value_by l m (known (item_at m items number))
 
 -- the first items as values, so many of them
-unfoldable pub first_values : Layout → Memory → Items → ℕ → List (Option Value)
-first_values l m items zero = []
-first_values l m items (suc n) = first_values l m items n ++ item_value_at l m items n ∷ []
+abbrev pub first_values : Layout → Memory → Items → ℕ → List (Option Value)
+first_values l m items count = firsts (item_value_at l m items) count
 
 abbrev pub values_with : List (Option Value) → ℕ → ValuesShown
 values_with values left_out = record { values = values; left_out = left_out }

@@ -5,6 +5,7 @@
 #![tactic(auto)]
 
 mod dict;
+mod entry;
 mod fault;
 mod name;
 mod owner;
@@ -14,10 +15,11 @@ mod told;
 mod value;
 mod values;
 
+pub use entry::{CalledFrame, Entry, TracebackPlaces};
 pub use name::{ClassName, ClassPlaces};
 pub use rule::{FieldPlaces, Rule};
 pub use said::Said;
 pub use thread_exceptions::ExceptionsError;
-pub use told::{CalledFrame, Entry, Notes, RaisedParts, ToldException, ToldThread, Traceback};
+pub use told::{Notes, RaisedParts, ToldException, ToldThread, Traceback};
 pub use value::Value;
 pub use values::Values;

@@ -1,28 +1,7 @@
 //! What is told of exceptions.
 
-use crate::{ClassName, Said, Value, Values};
-use elf64_core::Text;
+use crate::{ClassName, Entry, Said, Value, Values};
 use thread_exceptions::{LinkEnd, ThreadExceptions};
-
-/// What a frame of a traceback shows.
-#[derive(Debug, Drop)]
-pub struct CalledFrame {
-    /// The name of its function; none where it is no text, or is not in memory.
-    pub function: Option<Text>,
-    /// That of its file.
-    pub filename: Option<Text>,
-    /// The line; 0 where none is known.
-    pub line: i32,
-}
-
-/// An entry of a traceback.
-#[derive(Debug, Drop)]
-pub struct Entry {
-    /// Its address.
-    pub addr: u64,
-    /// None where its own record, or that of its frame or of its code, is not in memory.
-    pub frame: Option<CalledFrame>,
-}
 
 /// The traceback of an exception, the oldest call first.
 #[derive(Drop)]
