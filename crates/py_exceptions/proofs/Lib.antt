@@ -1,3 +1,4 @@
+pub mod FrameSteps
 pub mod Listing
 pub mod Owning
 pub mod Tells

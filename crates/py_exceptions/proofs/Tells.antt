@@ -13,7 +13,7 @@ use Rattle.thread_exceptions.specs.declared.error.ExceptionsError.{ExceptionsErr
 use Rattle.py_exceptions.specs.Faults.{IsOrNone, NoneBy, found_or_none, known}
 
 module _ {T : Type 0} (d : Found (Option T)) (r : Result (Option T) ExceptionsError) where
-  none_by : (o : Option Fault) → FaultIs d o → NoneBy o r → IfOk r (λ x. x ≡ found_or_none d)
+  pub none_by : (o : Option Fault) → FaultIs d o → NoneBy o r → IfOk r (λ x. x ≡ found_or_none d)
   none_by None q k = rw k tt
   none_by (Some f) q k = rw (k, q) refl
 

@@ -8,11 +8,10 @@ use Rattle.std.specs.Int.{w32, cast_signed}
 use Rattle.elf64_core.specs.Fields.{u32_in, u64_in}
 use Rattle.process_memory.specs.Memory.{Fault, Found, Memory, ◌>>=◌, record_at, word_at}
 use Rattle.py_fields.specs.declared.layout.Layout.{Layout}
-use Rattle.py_builtins.specs.Bytes.{bytes_object_at}
 use Rattle.py_lines.specs.Lines.{line_of, ranges_of}
 use Rattle.py_stacks.specs.Frames.{name_at, records_at}
-use Rattle.py_stacks.specs.Lines.{family_of, first_line}
-use Rattle.py_stacks.specs.Member.{MemberAt, readable}
+use Rattle.py_stacks.specs.Lines.{family_of, first_line, table_at}
+use Rattle.py_stacks.specs.Member.{MemberAt}
 use Rattle.py_stacks.specs.StackError.{stack_fault}
 use Rattle.py_stacks.specs.declared.error.StackError.{StackError}
 use Rattle.thread_exceptions.specs.declared.error.ExceptionsError.{ExceptionsError}
@@ -40,19 +39,24 @@ unfoldable pub place_at : Option ℕ → Memory → ℕ → Found ℕ
 place_at None m object = Ok object
 place_at (Some at) m object = word_at m (object + at)
 
--- the line at an instruction by a line table, 0 without one
-abbrev pub line_in : Layout → MemberAt → Option (List ℕ) → ℤ → ℤ
-line_in l r None lasti = pos 0
-line_in l r (Some table) lasti = line_of (ranges_of (family_of l.lines) (first_line l r) table) lasti
+-- the line of an entry's instruction by a line table, 0 without one
+abbrev pub line_in : Layout → MemberAt → Option (List ℕ) → Point → ℤ
+line_in l r None point = pos 0
+line_in l r (Some table) point = line_of (ranges_of (family_of l.lines) (first_line l r) table) point.lasti
+
+-- the line of an entry's instruction
+unfoldable pub lazy_line_at : Layout → Memory → MemberAt → Point → Found ℤ
+lazy_line_at l m r point = do
+  table ← table_at l m (u64_in r.code l.code.table)
+  Ok (line_in l r table point)
+
+-- the line of an entry is to be told by its instruction
+abbrev pub is_lazy : Point → Bool
+is_lazy point = int_lt point.line (pos 0)
 
 -- the line of an entry
-abbrev pub line_by : Bool → Layout → Memory → MemberAt → Point → ℤ
-line_by lazy l m r point =
-    if lazy then line_in l r (readable (bytes_object_at l m (u64_in r.code l.code.table))) point.lasti
-    else point.line
-
 unfoldable pub line_found_at : Layout → Memory → MemberAt → Point → Found ℤ
-line_found_at l m r point = Ok (line_by (int_lt point.line (pos 0)) l m r point)
+line_found_at l m r point = if is_lazy point then lazy_line_at l m r point else Ok point.line
 
 abbrev pub called_with : Option (List ℕ) → Option (List ℕ) → ℤ → CalledFrame
 called_with function filename line = record { function = function; filename = filename; line = line }

@@ -8,5 +8,6 @@ pub mod Places
 pub mod Rules
 pub mod Said
 pub mod Texts
+pub mod Tracebacks
 pub mod ValueLists
 pub mod Values

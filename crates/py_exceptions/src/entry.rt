@@ -7,8 +7,8 @@ ghost use Rattle.py_stacks.specs.Frames.{name_at};
 ghost use Rattle.py_stacks.specs.Lines.{family_of, table_at, table_of, table_of_result};
 ghost use Rattle.py_stacks.specs.Records.{AreWhole, member_of};
 ghost use Rattle.py_stacks.specs.StackError.{stack_fault};
-ghost use Rattle.py_exceptions.specs.Frames.{IsFrameOrNone, called_at, entry_at, frame_found_at, line_found_at, line_in};
-ghost use Rattle.py_exceptions.specs.Frames.{place_at, point_at, point_of, there_at};
+ghost use Rattle.py_exceptions.specs.Frames.{IsFrameOrNone, called_at, entry_at, frame_found_at, is_lazy, line_found_at, line_in};
+ghost use Rattle.py_exceptions.specs.Frames.{lazy_line_at, place_at, point_at, point_of, there_at};
 ghost use Rattle.py_exceptions.specs.Places.{IsSoundTraceback};
 
 use elf64_core::{Text, u32_in, u64_in};
@@ -136,18 +136,23 @@ fn family_of(lines: Lines) -> LineFamily
     }
 }
 
-/// The line at an instruction by a line table; 0 without one.
-fn line_in(layout: &Layout, records: &Records, table: Option<Vec<u8>>, lasti: i32) -> i32
+/// The line of an entry's instruction by a line table; 0 without one.
+fn line_in(layout: &Layout, records: &Records, table: Option<Vec<u8>>, point: &Point) -> i32
     requires sound { IsSound layout.now }
     requires whole { AreWhole layout.now records.now }
     requires short { IfSome table (λ table. length table.items < 65536) }
-    ensures { result ≡ line_in layout.now (member_of records.now) (table_of table) lasti }
+    ensures { result ≡ line_in layout.now (member_of records.now) (table_of table) point.now }
 {
     match table {
         None => 0,
         Some(table) => {
             let first = first_line(layout, records);
-            line_at(family_of(layout.lines), first, &table, i64::from(lasti))
+            line_at(
+                family_of(layout.lines),
+                first,
+                &table,
+                i64::from(point.lasti),
+            )
         }
     }
 }
@@ -173,6 +178,31 @@ fn read_table<P: ProcessMemory>(
     }
 }
 
+/// The line of an entry's instruction, by the records of its frame. At most 2 reads.
+fn read_lazy_line<P: ProcessMemory>(
+    alloc: Global,
+    process: &mut P,
+    layout: &Layout,
+    records: &Records,
+    point: &Point,
+) -> Result<i32, StackError>
+    requires sound { IsSound layout.now }
+    requires whole { AreWhole layout.now records.now }
+    ensures { Reads stack_fault 2 (P.seen process.old) (P.seen process.new)
+        (λ m. lazy_line_at layout.now m (member_of records.now) point.now) result }
+{
+    let at = u64_in(&records.code, layout.code.table as usize);
+    let table = read_table(alloc, process, layout, at)?;
+    Ok(line_in(layout, records, table, point))
+}
+
+/// Whether the line of an entry is to be told by its instruction.
+fn is_lazy(point: &Point) -> bool
+    ensures { result ≡ is_lazy point.now }
+{
+    point.line < 0
+}
+
 /// The line of an entry, by the records of its frame. At most 2 reads.
 fn read_entry_line<P: ProcessMemory>(
     alloc: Global,
@@ -186,12 +216,11 @@ fn read_entry_line<P: ProcessMemory>(
     ensures { Reads stack_fault 2 (P.seen process.old) (P.seen process.new)
         (λ m. line_found_at layout.now m (member_of records.now) point.now) result }
 {
-    if point.line >= 0 {
-        return Ok(point.line);
+    let lazy = is_lazy(point);
+    if lazy {
+        return read_lazy_line(alloc, process, layout, records, point);
     }
-    let at = u64_in(&records.code, layout.code.table as usize);
-    let table = read_table(alloc, process, layout, at)?;
-    Ok(line_in(layout, records, table, point.lasti))
+    Ok(point.line)
 }
 
 /// What an entry shows, by the records of its frame. At most 6 reads.

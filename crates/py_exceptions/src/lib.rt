@@ -12,6 +12,7 @@ mod owner;
 mod rule;
 mod said;
 mod told;
+mod traceback;
 mod value;
 mod values;
 
@@ -20,6 +21,7 @@ pub use name::{ClassName, ClassPlaces};
 pub use rule::{FieldPlaces, Rule};
 pub use said::Said;
 pub use thread_exceptions::ExceptionsError;
-pub use told::{Notes, RaisedParts, ToldException, ToldThread, Traceback};
+pub use told::{Notes, RaisedParts, ToldException, ToldThread};
+pub use traceback::Traceback;
 pub use value::Value;
 pub use values::Values;

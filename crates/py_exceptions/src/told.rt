@@ -1,20 +1,7 @@
 //! What is told of exceptions.
 
-use crate::{ClassName, Entry, Said, Value, Values};
-use thread_exceptions::{LinkEnd, ThreadExceptions};
-
-/// The traceback of an exception, the oldest call first.
-#[derive(Drop)]
-pub struct Traceback {
-    /// The first 128 entries.
-    pub first: Vec<Entry>,
-    /// How many behind these are not told.
-    pub left_out: u64,
-    /// The last 128 of the entries behind the first ones.
-    pub last: Vec<Entry>,
-    /// How the chain of entries ends; it is cut behind 65,536 of them.
-    pub end: LinkEnd,
-}
+use crate::{ClassName, Said, Traceback, Value, Values};
+use thread_exceptions::ThreadExceptions;
 
 /// The notes of an exception, its `__notes__`.
 #[derive(Debug, Drop)]
