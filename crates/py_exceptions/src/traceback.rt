@@ -97,8 +97,8 @@ fn read_told<P: ProcessMemory>(
 }
 
 /// Where a traceback begins: none where it is `None`.
-fn start_of(head: u64, value: &Option<Value>) -> u64
-    ensures { result ≡ start_of head value.now }
+fn start_of(head: u64, value: Option<Value>) -> u64
+    ensures { result ≡ start_of head value }
 {
     match value {
         Some(Value::Nothing) => 0,
@@ -121,7 +121,7 @@ pub(crate) fn read_traceback<P: ProcessMemory>(
         (λ m. IfOk result (λ told. traceback_shown told ≡ traceback_at layout.now places.now m head)) }
 {
     let value = read_value(alloc, process, layout, head)?;
-    let start = start_of(head, &value);
+    let start = start_of(head, value);
     let chain = read_links(alloc, process, places.next, ENTRY_LIMIT, start)?;
     read_told(alloc, process, layout, places, &chain.members, chain.end)
 }
