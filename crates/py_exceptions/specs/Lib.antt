@@ -3,10 +3,12 @@ pub mod Entries
 pub mod Faults
 pub mod Firsts
 pub mod Frames
+pub mod Notes
 pub mod Owners
 pub mod Places
 pub mod Rules
 pub mod Said
+pub mod Sound
 pub mod Texts
 pub mod Tracebacks
 pub mod ValueLists

@@ -4,10 +4,12 @@
 //! discovery. What can't be read costs what it breaks: each part has a mark of its own.
 #![tactic(auto)]
 
+mod described;
 mod dict;
 mod entry;
 mod fault;
 mod name;
+mod notes;
 mod owner;
 mod rule;
 mod said;
@@ -16,12 +18,14 @@ mod traceback;
 mod value;
 mod values;
 
+pub use described::{Described, places_of};
 pub use entry::{CalledFrame, Entry, TracebackPlaces};
 pub use name::{ClassName, ClassPlaces};
+pub use notes::Notes;
 pub use rule::{FieldPlaces, Rule};
 pub use said::Said;
 pub use thread_exceptions::ExceptionsError;
-pub use told::{Notes, RaisedParts, ToldException, ToldThread};
+pub use told::{RaisedParts, ToldException, ToldThread};
 pub use traceback::Traceback;
 pub use value::Value;
 pub use values::Values;

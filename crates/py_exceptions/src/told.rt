@@ -1,18 +1,7 @@
 //! What is told of exceptions.
 
-use crate::{ClassName, Said, Traceback, Value, Values};
+use crate::{ClassName, Notes, Said, Traceback, Value};
 use thread_exceptions::ThreadExceptions;
-
-/// The notes of an exception, its `__notes__`.
-#[derive(Debug, Drop)]
-pub enum Notes {
-    /// It has none.
-    Without,
-    /// These.
-    Some(Values),
-    /// They are no list or tuple, or something on the way to them is not in memory.
-    Unreadable,
-}
 
 /// What is told of an exception.
 #[derive(Drop)]
@@ -31,8 +20,8 @@ pub struct RaisedParts {
     pub class: Option<ClassName>,
     /// An exception, which is told as `Other` here and among those that are met too; or what one is to be made of.
     pub value: Option<Value>,
-    /// The thread's traceback, which the exception itself does not have yet.
-    pub traceback: Traceback,
+    /// The thread's traceback, which the exception itself does not have yet; none where that is not in memory.
+    pub traceback: Option<Traceback>,
 }
 
 /// What a thread raises and handles, and what is told of all that this leads to.
