@@ -1,6 +1,8 @@
+pub mod Few
 pub mod FrameSteps
 pub mod Listing
 pub mod Maps
+pub mod OneTelling
 pub mod Owning
 pub mod Tells
 pub mod TracebackSteps

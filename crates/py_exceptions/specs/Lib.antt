@@ -1,5 +1,6 @@
 pub mod ClassNames
 pub mod Entries
+pub mod Exceptions
 pub mod Faults
 pub mod Firsts
 pub mod Frames
@@ -10,6 +11,7 @@ pub mod Rules
 pub mod Said
 pub mod Sound
 pub mod Texts
+pub mod Threads
 pub mod Tracebacks
 pub mod ValueLists
 pub mod Values

@@ -53,10 +53,14 @@ noted_at l m dict = do
   found ← entry_at l m dict (codes "__notes__")
   Ok (Some found)
 
+-- the notes that stand at an address
+abbrev pub found_by : Layout → Memory → Option ℕ → NotesShown
+found_by l m None = NotesShown.Without
+found_by l m (Some a) = list_at l m a
+
 abbrev pub notes_by : Layout → Memory → Option (Option ℕ) → NotesShown
 notes_by l m None = NotesShown.Unreadable
-notes_by l m (Some None) = NotesShown.Without
-notes_by l m (Some (Some a)) = list_at l m a
+notes_by l m (Some found) = found_by l m found
 
 -- the notes of the exception whose dict stands at an address, none at 0
 unfoldable pub notes_at : Layout → Memory → ℕ → NotesShown

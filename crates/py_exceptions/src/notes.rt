@@ -3,7 +3,7 @@ ghost use Rattle.std.specs.Prelude.{◌≡◌, IfOk, Some};
 ghost use Rattle.process_memory.specs.Seen.{Reads, Reading};
 ghost use Rattle.py_fields.specs.Sound.{IsSound};
 ghost use Rattle.py_names.specs.NamesError.{names_fault};
-ghost use Rattle.py_exceptions.specs.Notes.{list_at, list_by, noted_at, notes_at, notes_by, notes_of, notes_shown};
+ghost use Rattle.py_exceptions.specs.Notes.{found_by, list_at, list_by, noted_at, notes_at, notes_by, notes_of, notes_shown};
 ghost use Rattle.py_exceptions.specs.Notes.{sequence_found_at, sequence_of};
 ghost use Rattle.py_exceptions.specs.ValueLists.{shown_if};
 
@@ -125,7 +125,24 @@ fn read_noted<P: ProcessMemory>(
     Ok(Some(found))
 }
 
-/// The notes by what a dict has. At most 99 reads.
+/// The notes that stand at an address; there are none without one. At most 99 reads.
+fn read_by_found<P: ProcessMemory>(
+    alloc: Global,
+    process: &mut P,
+    layout: &Layout,
+    found: Option<u64>,
+) -> Result<Notes, ExceptionsError>
+    requires sound { IsSound layout.now }
+    ensures { Reading 99 (P.seen process.old) (P.seen process.new)
+        (λ m. IfOk result (λ notes. notes_shown notes ≡ found_by layout.now m found)) }
+{
+    match found {
+        None => Ok(Notes::Without),
+        Some(at) => read_list(alloc, process, layout, at),
+    }
+}
+
+/// The notes by what a dict has, where that is known. At most 99 reads.
 fn read_by_noted<P: ProcessMemory>(
     alloc: Global,
     process: &mut P,
@@ -138,8 +155,7 @@ fn read_by_noted<P: ProcessMemory>(
 {
     match noted {
         None => Ok(Notes::Unreadable),
-        Some(None) => Ok(Notes::Without),
-        Some(Some(at)) => read_list(alloc, process, layout, at),
+        Some(found) => read_by_found(alloc, process, layout, found),
     }
 }
 
