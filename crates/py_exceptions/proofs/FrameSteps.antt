@@ -1,6 +1,6 @@
 -- What a frame shows, or none.
 use Rattle.std.proofs.Common.{◌≡◌, refl, arith, ℕ}
-use Rattle.std.specs.Prelude.{Option, Some, None, Result, Ok, Err, IfOk}
+use Rattle.std.specs.Prelude.{Option, Result, Ok, Err, IfOk}
 use Rattle.process_memory.specs.Memory.{Memory, Found}
 use Rattle.process_memory.specs.Seen.{Answers, Reading, Reads, Seen}
 use Rattle.process_memory.proofs.Reading.{reading_gives}

@@ -6,7 +6,7 @@ use Rattle.std.specs.Prelude.{◌≡◌, ℕ, ◌+◌, Bool, Option, Some, None,
 use Rattle.std.specs.Prelude.{if◌then◌else◌}
 use Rattle.std.specs.Int.{w32, cast_signed}
 use Rattle.elf64_core.specs.Fields.{u32_in, u64_in}
-use Rattle.process_memory.specs.Memory.{Fault, Found, Memory, ◌>>=◌, record_at, word_at}
+use Rattle.process_memory.specs.Memory.{Found, Memory, ◌>>=◌, record_at, word_at}
 use Rattle.py_fields.specs.declared.layout.Layout.{Layout}
 use Rattle.py_lines.specs.Lines.{line_of, ranges_of}
 use Rattle.py_stacks.specs.Frames.{name_at, records_at}

@@ -1,6 +1,6 @@
 -- Where the parts of exceptions stand: which places can be read. That what is read of a record lies inside it is this
 -- project's rule.
-use Rattle.std.specs.Prelude.{ℕ, ◌+◌, ◌<◌, ◌≤◌, ◌^◌}
+use Rattle.std.specs.Prelude.{◌+◌, ◌<◌, ◌≤◌, ◌^◌}
 use Rattle.py_exceptions.specs.declared.entry.TracebackPlaces.{TracebackPlaces}
 
 -- what is read of the record of a traceback's entry lies inside it

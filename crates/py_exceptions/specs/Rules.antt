@@ -1,7 +1,7 @@
 -- By which rule an exception is told as a text: the functions `BaseException_str`, `KeyError_str`, `OSError_str`,
 -- `ImportError_str`, `SyntaxError_str` and `BaseExceptionGroup_str` of Objects/exceptions.c, told by the name of the
 -- class of C's that owns the function. Any other one is a class's own.
-use Rattle.std.specs.Prelude.{ℕ, ◌+◌, Option, Some, None, List, if◌then◌else◌, bytes_eq, codes, encode_utf8_all}
+use Rattle.std.specs.Prelude.{ℕ, Option, Some, None, List, if◌then◌else◌, bytes_eq, codes, encode_utf8_all}
 use Rattle.process_memory.specs.Memory.{Memory}
 use Rattle.py_fields.specs.declared.layout.Layout.{Layout}
 use Rattle.py_records.specs.declared.exceptions.ExceptionGroupRecord.{ExceptionGroupRecord}
@@ -16,7 +16,6 @@ use Rattle.py_exceptions.specs.declared.rule.Kind.{Kind}
 use Rattle.py_exceptions.specs.declared.rule.Kind.TheVariants as kind
 use Rattle.py_exceptions.specs.declared.rule.Rule.{Rule}
 use Rattle.py_exceptions.specs.declared.rule.Rule.TheVariants as rule
-use Rattle.py_exceptions.specs.declared.value.Value.{Value}
 use Rattle.py_exceptions.specs.ClassNames.{class_at}
 use Rattle.py_exceptions.specs.Owners.{owner_at}
 use Rattle.py_exceptions.specs.Values.{field_at}

@@ -1,5 +1,5 @@
 -- Values, one behind the other. That 16 of them are told is this project's rule.
-use Rattle.std.specs.Prelude.{◌≡◌, ℕ, zero, suc, ◌-◌, Option, Some, None, List, [], ◌∷◌, ◌++◌, Ok, min}
+use Rattle.std.specs.Prelude.{ℕ, ◌-◌, Option, Some, None, List, Ok, min}
 use Rattle.process_memory.specs.Memory.{Found, Memory, ◌>>=◌}
 use Rattle.py_fields.specs.declared.layout.Layout.{Layout}
 use Rattle.py_builtins.specs.declared.items.Items.{Items}

@@ -23,8 +23,9 @@ pub enum Rule {
     Plain,
     /// `KeyError`'s: one argument is told by its `repr`; else as `Plain`.
     Key,
-    /// `OSError`'s: `[Errno n] text: 'file' -> 'second'`, without what is `Absent` from the end on (the names by their
-    /// `repr`); as `Plain` where there is no file and the number or the text is `Absent`.
+    /// `OSError`'s: `[Errno n] text`; with a file `[Errno n] text: 'file'`, and with a second one ` -> 'second'` behind
+    /// it, the files by their `repr`, and `None` for a number or a text that is `Absent`. As `Plain` where the file and
+    /// one of these two are.
     System {
         errno: Option<Value>,
         text: Option<Value>,
@@ -35,8 +36,8 @@ pub enum Rule {
     Import {
         text: Option<Value>,
     },
-    /// `SyntaxError`'s: `text (file, line n)`, with the last part of the file's path, and without what is no text or no
-    /// number.
+    /// `SyntaxError`'s: `text (file, line n)`, with the last part of the file's path, and without a file that is no text
+    /// or a line that is no number; `None` for a text that is `Absent`.
     Syntax {
         text: Option<Value>,
         file: Option<Value>,

@@ -1,4 +1,4 @@
-use Rattle.std.proofs.Common.{arith, refl, sym, ◌∙◌}
+use Rattle.std.proofs.Common.{arith}
 use Rattle.std.proofs.lemmas.Result.{err_from_is_err_and}
 use Rattle.process_memory.proofs.Reading.{reading_gives}
 use Rattle.thread_exceptions.proofs.Eaching.{eaching_done, eaching_init, eaching_lost, eaching_more}

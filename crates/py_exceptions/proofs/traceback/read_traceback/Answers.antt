@@ -1,4 +1,4 @@
-use Rattle.std.proofs.Common.{ap, arith, sym, [], ◌∙◌}
+use Rattle.std.proofs.Common.{ap, arith, [], ◌∙◌}
 use Rattle.std.proofs.lemmas.Result.{err_from_is_err_and}
 use Rattle.process_memory.proofs.Reading.{reading_gives}
 use Rattle.thread_exceptions.specs.Links.{chain_from}

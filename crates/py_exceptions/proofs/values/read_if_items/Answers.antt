@@ -1,5 +1,5 @@
-use Rattle.std.proofs.Common.{ap, arith, refl}
-use Rattle.process_memory.proofs.Reading.{reading_gives, reading_none}
+use Rattle.std.proofs.Common.{refl}
+use Rattle.process_memory.proofs.Reading.{reading_none}
 use Rattle.py_exceptions.proofs.values.read_if_items.Goals as goal
 
 pub returns-in-None : goal.returns-in-None

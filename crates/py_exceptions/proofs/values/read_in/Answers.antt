@@ -1,4 +1,4 @@
-use Rattle.std.proofs.Common.{◌-◌, ◌∙◌, ap, arith, refl}
+use Rattle.std.proofs.Common.{◌-◌, ◌∙◌, ap, arith}
 use Rattle.process_memory.proofs.Reading.{reading_gives}
 use Rattle.py_exceptions.specs.ValueLists.{first_values, values_in, values_with}
 use Rattle.py_exceptions.proofs.values.read_in.Goals as goal
