@@ -15,7 +15,8 @@ pub mets_few : (what : ℕ → What) (limit : ℕ) (roots : List ℕ) (all : Lis
     → length all ≤ limit
 mets_few what limit roots all h =
     let within = (gather_grows limit [] (roots ++ concat (map (λ x. met_leads x) all))).within (omega arith) in
-    let same : length all ≡ length (found_by limit roots all) = sym (length-map all (λ x. addr_of x)) ∙ ap length h.whole
+    let same : length all ≡ length (found_by limit roots all) =
+    sym (length-map all (λ x. addr_of x)) ∙ ap length h.whole
     in
     rw same within
 

@@ -1,7 +1,7 @@
 -- The entries of tracebacks (`PyTracebackObject`, Include/cpython/traceback.h), and what their frames show: they are
 -- frames as those of threads are, so that their texts are told by the same rules (`py_stacks`). The line is the one
--- that the entry has (`tb_lineno`); where that is below 0 it is the one of its instruction (`tb_lasti`, in bytes in each
--- version) by the line table of its code (`tb_lineno_get`, Python/traceback.c).
+-- that the entry has (`tb_lineno`); where that is below 0 it is the one of its instruction (`tb_lasti`, in bytes in
+-- each version) by the line table of its code (`tb_lineno_get`, Python/traceback.c).
 use Rattle.std.specs.Prelude.{◌≡◌, ℕ, ◌+◌, Bool, Option, Some, None, List, Result, Ok, Err, ℤ, pos, int_lt}
 use Rattle.std.specs.Prelude.{if◌then◌else◌}
 use Rattle.std.specs.Int.{w32, cast_signed}

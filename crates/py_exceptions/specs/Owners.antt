@@ -1,6 +1,6 @@
 -- Which class owns the rule by which an object is told as a text. A class inherits the function for it (`tp_str`) from
--- the class that it is based on (`tp_base`), where it has no `__str__` of its own (`inherit_slots`, Objects/typeobject.c).
--- That 64 classes on the way are passed is this project's rule.
+-- the class that it is based on (`tp_base`), where it has no `__str__` of its own (`inherit_slots`,
+-- Objects/typeobject.c). That 64 classes on the way are passed is this project's rule.
 use Rattle.std.specs.Prelude.{ℕ, zero, suc, ◌+◌, nat_eq, Option, Some, Ok, if◌then◌else◌}
 use Rattle.process_memory.specs.Memory.{Found, Memory, ◌>>=◌, word_at}
 use Rattle.py_exceptions.specs.declared.name.ClassPlaces.{ClassPlaces}

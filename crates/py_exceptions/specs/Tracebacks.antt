@@ -1,5 +1,5 @@
--- Tracebacks: a chain of entries, each of which names that of the call behind it (`tb_next`). That the first 128 and the
--- last 128 of them are told, and 65,536 are met, is this project's rule.
+-- Tracebacks: a chain of entries, each of which names that of the call behind it (`tb_next`). That the first 128 and
+-- the last 128 of them are told, and 65,536 are met, is this project's rule.
 use Rattle.std.specs.Prelude.{ℕ, ◌+◌, ◌-◌, Option, Some, None, List, [], length, map, take, drop, min}
 use Rattle.process_memory.specs.Memory.{Memory}
 use Rattle.py_fields.specs.declared.layout.Layout.{Layout}

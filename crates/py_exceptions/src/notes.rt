@@ -3,8 +3,8 @@ ghost use Rattle.std.specs.Prelude.{◌≡◌, IfOk, Some};
 ghost use Rattle.process_memory.specs.Seen.{Reads, Reading};
 ghost use Rattle.py_fields.specs.Sound.{IsSound};
 ghost use Rattle.py_names.specs.NamesError.{names_fault};
-ghost use Rattle.py_exceptions.specs.Notes.{found_by, list_at, list_by, noted_at, notes_at, notes_by, notes_of, notes_shown};
-ghost use Rattle.py_exceptions.specs.Notes.{sequence_found_at, sequence_of};
+ghost use Rattle.py_exceptions.specs.Notes.{found_by, list_at, list_by, noted_at, notes_at, notes_by, notes_of};
+ghost use Rattle.py_exceptions.specs.Notes.{notes_shown, sequence_found_at, sequence_of};
 ghost use Rattle.py_exceptions.specs.ValueLists.{shown_if};
 
 use crate::dict::read_entry;

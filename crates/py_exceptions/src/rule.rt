@@ -18,8 +18,8 @@ use thread_exceptions::ExceptionsError;
 /// By which rule an exception is told as a text, which is what `str` gives.
 #[derive(Debug, Drop)]
 pub enum Rule {
-    /// `BaseException`'s: without an argument the text is empty, one argument is told by its `str`, more are told by the
-    /// `repr` of their tuple.
+    /// `BaseException`'s: without an argument the text is empty, one argument is told by its `str`, more are told by
+    /// the `repr` of their tuple.
     Plain,
     /// `KeyError`'s: one argument is told by its `repr`; else as `Plain`.
     Key,
@@ -36,8 +36,8 @@ pub enum Rule {
     Import {
         text: Option<Value>,
     },
-    /// `SyntaxError`'s: `text (file, line n)`, with the last part of the file's path, and without a file that is no text
-    /// or a line that is no number; `None` for a text that is `Absent`.
+    /// `SyntaxError`'s: `text (file, line n)`, with the last part of the file's path, and without a file that is no
+    /// text or a line that is no number; `None` for a text that is `Absent`.
     Syntax {
         text: Option<Value>,
         file: Option<Value>,

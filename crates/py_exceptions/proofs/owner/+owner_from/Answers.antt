@@ -72,5 +72,6 @@ returns g t c =
     (owner_from c.args.places.now m next c.args.own (c.args.left - 1))))
     (λ m. owner_on c.args.places.now m c.args.class c.args.own c.args.left c.if-left-eq0.false)
     (reads_next {k = 1 + 2 * (c.args.left - 1)} (2 * c.args.left) _ (reading_short c.in_ok-next.ensures.answer)
-    (rw z (reads_next {k = 2 * (c.args.left - 1)} (1 + 2 * (c.args.left - 1)) _ (reading_short c.in_ok-other.ensures.answer)
+    (rw z (reads_next {k = 2 * (c.args.left - 1)} (1 + 2 * (c.args.left - 1)) _
+    (reading_short c.in_ok-other.ensures.answer)
     (rw o c.owner_from.ensures) (omega arith))) (omega (arith, c.if-left-eq0.false)))
