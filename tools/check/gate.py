@@ -68,6 +68,7 @@ CHECKS = (
     Check("tests/test_wide"),
     Check("tests/test_page"),
     Check("tests/test_pages"),
+    Check("tests/test_symbols"),
     Check("tests/test_install"),
     Check("tests/test_slim_core"),
     Check("tests/test_fuzz"),

@@ -459,7 +459,7 @@ class Emulated(unittest.TestCase):
     def test_nothing_there(self):
         with tempfile.TemporaryDirectory(prefix="arm-core-") as name:
             for root, line in (("", "is named"), (f"{name}/none", "there is no folder"), (name, "usr/bin/python3.N")):
-                words = argparse.Namespace(root=root, program=sys.executable, listing=None)
+                words = argparse.Namespace(root=root, program=sys.executable, listing=None, salvage=None)
                 with patch("shutil.which", return_value="/emulator"), self.assertRaisesRegex(Skip, line):
                     arm_core.try_root(words)
             (Path(name) / "usr" / "bin").mkdir(parents=True)
