@@ -7,8 +7,9 @@ ghost use Rattle.py_stacks.specs.Frames.{name_at};
 ghost use Rattle.py_stacks.specs.Lines.{family_of, table_at, table_of, table_of_result};
 ghost use Rattle.py_stacks.specs.Records.{AreWhole, member_of};
 ghost use Rattle.py_stacks.specs.StackError.{stack_fault};
-ghost use Rattle.py_exceptions.specs.Frames.{IsFrameOrNone, called_at, entry_at, frame_found_at, is_lazy, line_found_at};
-ghost use Rattle.py_exceptions.specs.Frames.{lazy_line_at, line_in, place_at, point_at, point_of, there_at};
+ghost use Rattle.py_exceptions.specs.Frames.{IsFrameOrNone, called_at, entry_at, frame_found_at, is_lazy};
+ghost use Rattle.py_exceptions.specs.Frames.{lazy_line_at, line_found_at, line_in};
+ghost use Rattle.py_exceptions.specs.Frames.{place_at, point_at, point_of, there_at};
 ghost use Rattle.py_exceptions.specs.Places.{IsSoundTraceback};
 
 use elf64_core::{Text, u32_in, u64_in};

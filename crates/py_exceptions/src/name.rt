@@ -28,8 +28,8 @@ pub enum ClassName {
     /// That of a class of C's, as its `tp_name` has it: `KeyError`, `zlib.error`. Without a dot it is a builtin.
     Whole(Text),
     /// That of a class of the heap: its `__module__` and its `__qualname__`, each none where it is no text of fewer
-    /// than 4,096 characters, or is not in memory. Python leaves the modules `builtins` and `__main__` out where it shows an
-    /// exception.
+    /// than 4,096 characters, or is not in memory. Python leaves the modules `builtins` and `__main__` out where it
+    /// shows an exception.
     Parts {
         module: Option<Text>,
         name: Option<Text>,
