@@ -1,0 +1,5 @@
+pub mod ClassNames
+pub mod Entries
+pub mod Faults
+pub mod Texts
+pub mod Values
