@@ -99,6 +99,11 @@ def members_of(thing):
     return thing.exceptions if sys.version_info >= (3, 11) and isinstance(thing, BaseExceptionGroup) else ()
 
 
+def shown_context(thing):
+    """Its context, unless that is suppressed."""
+    return None if thing.__suppress_context__ else thing.__context__
+
+
 def closure(roots):
     """All exceptions that some lead to, each once."""
     found, waiting = {}, [it for it in roots if isinstance(it, BaseException)]
@@ -106,7 +111,7 @@ def closure(roots):
         thing = waiting.pop()
         if id(thing) not in found:
             found[id(thing)] = thing
-            waiting += [it for it in (thing.__cause__, thing.__context__, *members_of(thing)) if it is not None]
+            waiting += [it for it in (thing.__cause__, shown_context(thing), *members_of(thing)) if it is not None]
     return {hex(at): told_of(thing) for at, thing in found.items()}
 
 
