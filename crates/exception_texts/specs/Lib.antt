@@ -1,3 +1,6 @@
 pub mod Frames
+pub mod Plan
+pub mod Roots
 pub mod Said
+pub mod Text
 pub mod Values

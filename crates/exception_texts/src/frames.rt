@@ -126,7 +126,7 @@ fn push_more(text: &mut String, left_out: u64, what: &str) -> Result<(), AllocEr
 }
 
 /// The line that says how many are left out, where any are.
-fn push_left_out(
+pub(crate) fn push_left_out(
     text: &mut String,
     depth: u64,
     left_out: u64,
@@ -142,7 +142,7 @@ fn push_left_out(
 }
 
 /// The line of a range that is not in memory.
-fn push_lost_line(text: &mut String, depth: u64, lost: Lost) -> Result<(), AllocError>
+pub(crate) fn push_lost_line(text: &mut String, depth: u64, lost: Lost) -> Result<(), AllocError>
     ensures { OnOk result (string_bytes text.new ≡ string_bytes text.old ++ lost_line depth lost) }
 {
     push_behind(text, depth)?;

@@ -5,5 +5,12 @@
 #![tactic(auto)]
 
 mod frames;
+mod plan;
+mod roots;
 mod said;
+mod text;
+mod told;
 mod values;
+
+pub use text::push_exceptions;
+pub use told::{ExceptionsOf, InterpreterExceptions, ThreadTold};
