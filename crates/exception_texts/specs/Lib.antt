@@ -1,4 +1,5 @@
 pub mod Frames
+pub mod Known
 pub mod Plan
 pub mod Roots
 pub mod Said

@@ -5,6 +5,7 @@
 #![tactic(auto)]
 
 mod frames;
+mod known;
 mod plan;
 mod roots;
 mod said;

@@ -12,7 +12,7 @@ use std::alloc::{AllocError, Global};
 use thread_exceptions::Members;
 
 /// Whether a field has a value: what can't be read may have one.
-fn has_value(value: &Option<Value>) -> bool
+pub(crate) fn has_value(value: &Option<Value>) -> bool
     ensures { result ≡ has_value value.now }
 {
     match value {
@@ -48,7 +48,7 @@ pub(crate) fn is_text(value: &Option<Value>) -> bool
 }
 
 /// Whether a field is a number.
-fn is_number(value: &Option<Value>) -> bool
+pub(crate) fn is_number(value: &Option<Value>) -> bool
     ensures { result ≡ is_number value.now }
 {
     match value {
