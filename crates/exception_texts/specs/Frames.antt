@@ -6,12 +6,12 @@ use Rattle.std.specs.Fmt.{digits}
 use Rattle.std.specs.List.{concat}
 use Rattle.exception_texts.specs.Values.{name_text, str_text}
 use Rattle.py_exceptions.specs.declared.value.Value.{Value}
-use Rattle.py_exceptions.specs.declared.told.Values.{Values}
-use Rattle.py_exceptions.specs.declared.told.CalledFrame.{CalledFrame}
-use Rattle.py_exceptions.specs.declared.told.Entry.{Entry}
-use Rattle.py_exceptions.specs.declared.told.Notes.{Notes}
-use Rattle.py_exceptions.specs.declared.told.Notes.TheVariants as notes
-use Rattle.py_exceptions.specs.declared.told.Traceback.{Traceback}
+use Rattle.py_exceptions.specs.declared.values.Values.{Values}
+use Rattle.py_exceptions.specs.declared.entry.CalledFrame.{CalledFrame}
+use Rattle.py_exceptions.specs.declared.entry.Entry.{Entry}
+use Rattle.py_exceptions.specs.declared.notes.Notes.{Notes}
+use Rattle.py_exceptions.specs.declared.notes.Notes.TheVariants as notes
+use Rattle.py_exceptions.specs.declared.traceback.Traceback.{Traceback}
 use Rattle.thread_exceptions.specs.declared.links.Lost.{Lost}
 use Rattle.thread_exceptions.specs.declared.links.LinkEnd.{LinkEnd}
 use Rattle.thread_exceptions.specs.declared.links.LinkEnd.TheVariants.{Null, Unreadable, Cycle, Cut}
@@ -101,5 +101,5 @@ lost_notes depth = behind_text depth ++ codes "... its notes are unreadable\n"
 
 abbrev pub notes_text : ℕ → Notes → List ℕ
 notes_text depth notes.Without = []
-notes_text depth (notes.Some v) = some_notes depth v
+notes_text depth (notes.Listed v) = some_notes depth v
 notes_text depth notes.Unreadable = lost_notes depth

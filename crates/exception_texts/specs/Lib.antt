@@ -4,4 +4,5 @@ pub mod Plan
 pub mod Roots
 pub mod Said
 pub mod Text
+pub mod Trees
 pub mod Values

@@ -6,8 +6,8 @@ use Rattle.exception_texts.specs.Values.{repr_text, str_text, tuple_text}
 use Rattle.py_exceptions.specs.declared.value.Value.{Value}
 use Rattle.py_exceptions.specs.declared.value.Value.TheVariants.{Absent, Text, LongText, Number, LongNumber, Truth, Nothing}
 use Rattle.py_exceptions.specs.declared.value.Value.TheVariants.{Float, Other}
-use Rattle.py_exceptions.specs.declared.told.Values.{Values}
-use Rattle.py_exceptions.specs.declared.told.Said.{Said}
+use Rattle.py_exceptions.specs.declared.values.Values.{Values}
+use Rattle.py_exceptions.specs.declared.said.Said.{Said}
 use Rattle.py_exceptions.specs.declared.rule.Rule.{Rule}
 use Rattle.py_exceptions.specs.declared.rule.Rule.TheVariants as rule
 use Rattle.thread_exceptions.specs.Groups.{Members}

@@ -24,10 +24,11 @@ use Rattle.py_exceptions.specs.declared.value.Value.{Value}
 use Rattle.py_exceptions.specs.declared.value.Value.TheVariants as value
 use Rattle.py_exceptions.specs.declared.rule.Rule.{Rule}
 use Rattle.py_exceptions.specs.declared.rule.Rule.TheVariants as rule
-use Rattle.py_exceptions.specs.declared.told.Said.{Said}
-use Rattle.py_exceptions.specs.declared.told.RaisedParts.{RaisedParts}
-use Rattle.py_exceptions.specs.declared.told.ToldException.{ToldException}
-use Rattle.py_exceptions.specs.declared.told.ToldThread.{ToldThread}
+use Rattle.py_exceptions.specs.declared.said.Said.{Said}
+use Rattle.py_exceptions.specs.declared.thread.RaisedParts.{RaisedParts}
+use Rattle.py_exceptions.specs.declared.exception.ToldException.{ToldException}
+use Rattle.py_exceptions.specs.declared.thread.ToldThread.{ToldThread}
+use Rattle.py_exceptions.specs.declared.traceback.Traceback.{Traceback}
 use Rattle.thread_exceptions.specs.declared.discovery.Met.{Met}
 use Rattle.thread_exceptions.specs.declared.exception.What.{What}
 use Rattle.thread_exceptions.specs.declared.exception.What.TheVariants as whats
@@ -75,9 +76,12 @@ part_text (Some m) = module_text m
 abbrev pub qualified_text : Option (List ℕ) → Option (List ℕ) → List ℕ
 qualified_text m name = part_text m ++ name_text name
 
+abbrev pub known_class : ClassName → List ℕ
+known_class (Whole name) = escaped true name
+known_class (Parts m name) = qualified_text m name
+
 abbrev pub named_text : Option ClassName → List ℕ
-named_text (Some (Whole name)) = escaped true name
-named_text (Some (Parts m name)) = qualified_text m name
+named_text (Some class) = known_class class
 named_text None = codes "?"
 
 abbrev pub quote_text : Bool → List ℕ
@@ -202,9 +206,16 @@ value_part (Some (value.Truth truth)) = behind_colon (Some (value.Truth truth))
 value_part (Some (value.Float bits)) = behind_colon (Some (value.Float bits))
 value_part None = behind_colon None
 
+unfoldable pub no_trace : List ℕ
+no_trace = codes "            ... its traceback is unreadable\n"
+
+abbrev pub own_trace : Option Traceback → List ℕ
+own_trace (Some t) = trace_text 0 t
+own_trace None = no_trace
+
 -- what is raised by its type and what it is made of, with the thread's traceback
 abbrev pub parts_lines : RaisedParts → List ℕ
-parts_lines p = indent_text 0 ++ (class_text p.class ++ (value_part p.value ++ (codes "\n" ++ trace_text 0 p.traceback)))
+parts_lines p = indent_text 0 ++ (class_text p.class ++ (value_part p.value ++ (codes "\n" ++ own_trace p.traceback)))
 
 abbrev pub own_parts : Option RaisedParts → List ℕ
 own_parts (Some p) = parts_lines p

@@ -7,7 +7,7 @@ use Rattle.salvage_texts.specs.Escape.{escaped}
 use Rattle.py_exceptions.specs.declared.value.Value.{Value}
 use Rattle.py_exceptions.specs.declared.value.Value.TheVariants.{Absent, Text, LongText, Number, LongNumber, Truth, Nothing}
 use Rattle.py_exceptions.specs.declared.value.Value.TheVariants.{Float, Other}
-use Rattle.py_exceptions.specs.declared.told.Values.{Values}
+use Rattle.py_exceptions.specs.declared.values.Values.{Values}
 
 -- a text: as it is, or escaped within a line
 abbrev pub plain_text : Bool → List ℕ → List ℕ

@@ -261,7 +261,7 @@ pub(crate) fn push_notes(
 {
     match notes {
         Notes::Without => Ok(()),
-        Notes::Some(values) => push_some_notes(alloc, text, depth, values),
+        Notes::Listed(values) => push_some_notes(alloc, text, depth, values),
         Notes::Unreadable => push_no_notes(text, depth),
     }
 }

@@ -11,7 +11,9 @@ mod roots;
 mod said;
 mod text;
 mod told;
+mod tree;
 mod values;
 
 pub use text::push_exceptions;
+pub use tree::exceptions_value;
 pub use told::{ExceptionsOf, InterpreterExceptions, ThreadTold};

@@ -1,7 +1,7 @@
 //! The lines of exceptions.
 ghost use Rattle.std.specs.Prelude.{◌≡◌, ◌++◌, OnOk, string_bytes};
 ghost use Rattle.thread_exceptions.specs.Groups.{members_of};
-ghost use Rattle.exception_texts.specs.Text.{arguments_lead, has_break, object_lead, again_line, all_exceptions_text, at_end, behind_colon, by_arguments};
+ghost use Rattle.exception_texts.specs.Text.{arguments_lead, no_trace, own_trace, known_class, has_break, object_lead, again_line, all_exceptions_text, at_end, behind_colon, by_arguments};
 ghost use Rattle.exception_texts.specs.Text.{by_text, class_at, class_text, colon_text, exception_lines, head_line};
 ghost use Rattle.exception_texts.specs.Text.{interpreter_text, is_break, is_plain_class, is_plain_name};
 ghost use Rattle.exception_texts.specs.Text.{is_plain_part, is_top, items_end, items_on, line_text, lines_text};
@@ -21,7 +21,7 @@ use crate::told::{ExceptionsOf, InterpreterExceptions, ThreadTold};
 use crate::values::{push_name, push_str_of};
 use elf64_core::Text;
 use salvage_texts::push_escaped;
-use py_exceptions::{ClassName, RaisedParts, Rule, Said, ToldException, ToldThread, Value};
+use py_exceptions::{ClassName, RaisedParts, Rule, Said, ToldException, ToldThread, Traceback, Value};
 use std::alloc::{AllocError, Global};
 use thread_exceptions::{LinkEnd, Lost, Members, Met, Owner, What};
 
@@ -110,6 +110,20 @@ fn push_qualified(
     push_name(alloc, text, name)
 }
 
+/// The name of a class that is known.
+pub(crate) fn push_known_class(
+    alloc: Global,
+    text: &mut String,
+    class: &ClassName,
+) -> Result<(), AllocError>
+    ensures { OnOk result (string_bytes text.new ≡ string_bytes text.old ++ known_class class.now) }
+{
+    match class {
+        ClassName::Whole(name) => push_escaped(alloc, text, true, name),
+        ClassName::Parts { module, name } => push_qualified(alloc, text, module, name),
+    }
+}
+
 /// The name of a class.
 pub(crate) fn push_named(
     alloc: Global,
@@ -119,8 +133,7 @@ pub(crate) fn push_named(
     ensures { OnOk result (string_bytes text.new ≡ string_bytes text.old ++ named_text class.now) }
 {
     match class {
-        Some(ClassName::Whole(name)) => push_escaped(alloc, text, true, name),
-        Some(ClassName::Parts { module, name }) => push_qualified(alloc, text, module, name),
+        Some(class) => push_known_class(alloc, text, class),
         None => text.push_str("?"),
     }
 }
@@ -468,7 +481,29 @@ fn push_parts(alloc: Global, text: &mut String, parts: &RaisedParts) -> Result<(
     push_class(alloc, text, &parts.class)?;
     push_value(alloc, text, &parts.value)?;
     text.push_str("\n")?;
-    push_traceback(alloc, text, 0, &parts.traceback)
+    push_own_trace(alloc, text, &parts.traceback)
+}
+
+/// The lines of a thread's traceback, or that it can't be read.
+fn push_own_trace(
+    alloc: Global,
+    text: &mut String,
+    trace: &Option<Traceback>,
+) -> Result<(), AllocError>
+    ensures { OnOk result (string_bytes text.new ≡ string_bytes text.old ++ own_trace trace.now) }
+{
+    match trace {
+        Some(trace) => push_traceback(alloc, text, 0, trace),
+        None => push_no_trace(text),
+    }
+}
+
+/// That a traceback can't be read.
+#[tactic(auto, unfolding(crate::specs::Text::no_trace))]
+fn push_no_trace(text: &mut String) -> Result<(), AllocError>
+    ensures { OnOk result (string_bytes text.new ≡ string_bytes text.old ++ no_trace) }
+{
+    text.push_str("            ... its traceback is unreadable\n")
 }
 
 /// The same, where it is told.
