@@ -1,2 +1,9 @@
+pub mod Few
+pub mod FrameSteps
+pub mod Listing
+pub mod Maps
+pub mod OneTelling
+pub mod Owning
 pub mod Tells
+pub mod TracebackSteps
 pub mod Utf

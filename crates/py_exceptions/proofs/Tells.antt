@@ -2,15 +2,18 @@
 use Rattle.std.proofs.Common.{◌≡◌, ℕ, ◌+◌, refl, sym, ap, ◌∙◌, arith}
 use Rattle.std.specs.Prelude.{Option, Some, None, Result, Ok, Err, IfOk}
 use Rattle.process_memory.specs.Memory.{Memory, Found, Fault}
-use Rattle.process_memory.specs.Seen.{Answers, FaultIs, Reading, Reads, Seen}
+use Rattle.process_memory.specs.Memory.Fault.{Missing}
+use Rattle.process_memory.specs.declared.memory.ReadFault.{ReadFault}
+use Rattle.process_memory.specs.declared.memory.ReadFault.TheVariants.{Unreadable}
+use Rattle.process_memory.specs.Seen.{Answers, FaultIs, Reading, Reads, Seen, read_fault}
 use Rattle.process_memory.proofs.Reading.{reading_gives, reading_then}
 use Rattle.py_names.specs.NamesError.{names_fault}
 use Rattle.py_names.specs.declared.names_error.NamesError.{NamesError}
-use Rattle.py_exceptions.specs.declared.error.ExceptionsError.{ExceptionsError}
-use Rattle.py_exceptions.specs.Faults.{IsOrNone, NoneBy, found_or_none}
+use Rattle.thread_exceptions.specs.declared.error.ExceptionsError.{ExceptionsError}
+use Rattle.py_exceptions.specs.Faults.{IsOrNone, NoneBy, found_or_none, known}
 
 module _ {T : Type 0} (d : Found (Option T)) (r : Result (Option T) ExceptionsError) where
-  none_by : (o : Option Fault) → FaultIs d o → NoneBy o r → IfOk r (λ x. x ≡ found_or_none d)
+  pub none_by : (o : Option Fault) → FaultIs d o → NoneBy o r → IfOk r (λ x. x ≡ found_or_none d)
   none_by None q k = rw k tt
   none_by (Some f) q k = rw (k, q) refl
 
@@ -36,3 +39,18 @@ reading_and p q = reading_then _ p q (λ m a b. (a, b))
 pub told_as : {T E : Type 0} (r : Result T E) (x y : T) → IfOk r (λ t. t ≡ x) → x ≡ y → IfOk r (λ t. t ≡ y)
 told_as (Ok t) x y h e = h ∙ e
 told_as (Err e') x y h e = tt
+
+-- a range that is not in memory
+pub lost_known : {T : Type 0} (d : Found T) (e : ReadFault) (a n : ℕ) → Answers {T = T} read_fault d (Err e)
+    → e ≡ Unreadable a n
+    → None ≡ known d
+lost_known d e a n h is =
+    let lost = rw is at h in
+    let same : d ≡ Err (Missing a n) = lost.is in
+    sym (ap known same)
+
+-- the same of what is shown of it
+pub shown_as : {T S E : Type 0} (view : T → S) (r : Result T E) (x y : S) → IfOk r (λ t. view t ≡ x) → x ≡ y
+    → IfOk r (λ t. view t ≡ y)
+shown_as view (Ok t) x y h e = h ∙ e
+shown_as view (Err e') x y h e = tt

@@ -1,7 +1,7 @@
--- Names of classes. A class of C's has its whole name in its record (`tp_name`), which ends at its first nul; one of the
--- heap (bit 9 of its flags, `Py_TPFLAGS_HEAPTYPE`, Include/object.h) has its qualified name behind its record
--- (`ht_qualname`, Include/cpython/object.h), and the name of its module in its dict. That 128 bytes of a name of C's are
--- looked at is this project's rule.
+-- Names of classes. A class of C's has its whole name in its record (`tp_name`), which ends at its first nul; one of
+-- the heap (bit 9 of its flags, `Py_TPFLAGS_HEAPTYPE`, Include/object.h) has its qualified name behind its record
+-- (`ht_qualname`, Include/cpython/object.h), and the name of its module in its dict. That 128 bytes of a name of C's
+-- are looked at is this project's rule.
 use Rattle.std.specs.Prelude.{ℕ, ◌+◌, ◌/◌, ◌%◌, ◌^◌, nat_eq, Bool, true, false, Option, Some, None, List, Ok, codes}
 use Rattle.std.specs.Prelude.{if◌then◌else◌}
 use Rattle.std.specs.Str.{is_utf8, chars}

@@ -3,8 +3,8 @@ use Rattle.std.specs.Prelude.{◌≡◌, Option, Some, None, Result, Ok, Err}
 use Rattle.process_memory.specs.Memory.{Fault, Found}
 use Rattle.py_names.specs.NamesError.{names_fault}
 use Rattle.py_names.specs.declared.names_error.NamesError.{NamesError}
-use Rattle.py_exceptions.specs.declared.error.ExceptionsError.{ExceptionsError}
-use Rattle.py_exceptions.specs.declared.error.ExceptionsError.TheVariants.{OutOfMemory}
+use Rattle.thread_exceptions.specs.declared.error.ExceptionsError.{ExceptionsError}
+use Rattle.thread_exceptions.specs.declared.error.ExceptionsError.TheVariants.{OutOfMemory}
 
 -- what is found, where it is
 abbrev pub known : {T : Type 0} → Found T → Option T

@@ -1,5 +1,17 @@
 pub mod ClassNames
 pub mod Entries
+pub mod Exceptions
 pub mod Faults
+pub mod Firsts
+pub mod Frames
+pub mod Notes
+pub mod Owners
+pub mod Places
+pub mod Rules
+pub mod Said
+pub mod Sound
 pub mod Texts
+pub mod Threads
+pub mod Tracebacks
+pub mod ValueLists
 pub mod Values

@@ -1,7 +1,7 @@
 -- Values that exceptions have. Which objects are texts and integers the flags of their types say (`PyUnicode_Check`,
 -- `PyLong_Check`, Include/cpython/object.h); truth values, floats and `None` are told by the names of their types. That
 -- an object of another type is told by the name of that alone is this project's rule.
-use Rattle.std.specs.Prelude.{ℕ, ◌+◌, ◌/◌, ◌%◌, ◌^◌, nat_eq, Bool, true, false, Option, Some, None, List, Result, Ok, Err}
+use Rattle.std.specs.Prelude.{ℕ, ◌+◌, ◌/◌, ◌%◌, ◌^◌, nat_eq, Bool, true, false, Option, Some, None, List, Ok, Err}
 use Rattle.std.specs.Prelude.{if◌then◌else◌, ℤ, pos, int_lt, bytes_eq, codes, encode_utf8_all}
 use Rattle.process_memory.specs.Memory.{Found, Memory, ◌>>=◌, record_at, word_at}
 use Rattle.process_memory.specs.Memory.Fault.{TooLong}

@@ -4,10 +4,10 @@ ghost use Rattle.process_memory.specs.Memory.{word_at};
 ghost use Rattle.process_memory.specs.Seen.{Reading};
 ghost use Rattle.py_exceptions.specs.Faults.{IsOrNone, known};
 
-use crate::ExceptionsError;
 use process_memory::{ProcessMemory, ReadFault, word_past};
 use py_builtins::ObjectError;
 use py_names::NamesError;
+use thread_exceptions::ExceptionsError;
 
 /// None, where something can't be read; want of memory is handed on.
 pub(crate) fn or_none<T: Drop>(

@@ -4,12 +4,30 @@
 //! discovery. What can't be read costs what it breaks: each part has a mark of its own.
 #![tactic(auto)]
 
+mod described;
 mod dict;
-mod error;
+mod entry;
+mod exception;
 mod fault;
 mod name;
+mod notes;
+mod owner;
+mod rule;
+mod said;
+mod thread;
+mod traceback;
 mod value;
+mod values;
 
-pub use error::ExceptionsError;
+pub use described::{Described, places_of};
+pub use entry::{CalledFrame, Entry, TracebackPlaces};
+pub use exception::ToldException;
 pub use name::{ClassName, ClassPlaces};
+pub use notes::Notes;
+pub use rule::{FieldPlaces, Rule};
+pub use said::Said;
+pub use thread::{RaisedParts, ToldThread, read_exceptions};
+pub use thread_exceptions::ExceptionsError;
+pub use traceback::Traceback;
 pub use value::Value;
+pub use values::Values;

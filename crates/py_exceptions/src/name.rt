@@ -6,7 +6,6 @@ ghost use Rattle.py_names.specs.NamesError.{names_fault};
 ghost use Rattle.py_exceptions.specs.ClassNames.{class_at, class_by_flags, class_name, is_heap, module_at, qualname_at};
 ghost use Rattle.py_exceptions.specs.ClassNames.{heap_name_at, whole_at, whole_of};
 
-use crate::ExceptionsError;
 use crate::dict::{read_entry, read_found_text, read_text};
 use crate::fault::{or_none, read_word};
 use elf64_core::{Text, until_nul};
@@ -15,6 +14,7 @@ use py_fields::Layout;
 use py_names::NamesError;
 use std::alloc::{AllocError, Global};
 use std::str;
+use thread_exceptions::ExceptionsError;
 
 /// How many bytes of a type's name are read.
 const NAME_LIMIT: u64 = 128;
@@ -27,8 +27,8 @@ const PY_TPFLAGS_HEAPTYPE: u64 = 512;
 pub enum ClassName {
     /// That of a class of C's, as its `tp_name` has it: `KeyError`, `zlib.error`. Without a dot it is a builtin.
     Whole(Text),
-    /// That of a class of the heap: its `__module__` and its `__qualname__`, each none where it is no text of fewer than
-    /// 4,096 characters, or is not in memory. Python leaves the modules `builtins` and `__main__` out where it shows an
+    /// That of a class of the heap: its `__module__` and its `__qualname__`, each none where it is no text of fewer
+    /// than 4,096 characters, or is not in memory. Python leaves the modules `builtins` and `__main__` out where it shows an
     /// exception.
     Parts {
         module: Option<Text>,

@@ -7,7 +7,6 @@ ghost use Rattle.py_names.specs.NamesError.{names_fault};
 ghost use Rattle.py_exceptions.specs.Values.{field_at, float_value_at, is_named, named_value_at, number_value};
 ghost use Rattle.py_exceptions.specs.Values.{number_value_at, text_value_at, typed_value_at, value_at, value_told_at};
 
-use crate::ExceptionsError;
 use crate::fault::{or_none, read_word};
 use crate::name::class_name;
 use elf64_core::Text;
@@ -16,6 +15,7 @@ use py_builtins::{ObjectError, ObjectType, copy_long, copy_string, read_type};
 use py_fields::Layout;
 use py_names::NamesError;
 use std::alloc::Global;
+use thread_exceptions::ExceptionsError;
 
 /// The flags of types that are `int` or `str`, or derive from it: CPython's `Py_TPFLAGS_LONG_SUBCLASS` and
 /// `Py_TPFLAGS_UNICODE_SUBCLASS`.

@@ -2,7 +2,7 @@ use Rattle.std.proofs.Common.{◌≡◌, ◌/◌, ◌%◌, ◌^◌, arith, false
 use Rattle.std.specs.Prelude.{codes}
 use Rattle.std.proofs.lemmas.Bool.Decides.{nat_tests}
 use Rattle.process_memory.proofs.Reading.{reads_end, reads_same, reads_within}
-use Rattle.py_exceptions.specs.Values.{is_named, float_value_at, named_value_at, number_value_at}
+use Rattle.py_exceptions.specs.Values.{is_named, named_value_at, number_value_at}
 use Rattle.py_exceptions.proofs.value.read_named.Goals as goal
 
 pub returns-then-flags-eq1 : goal.returns-then-flags-eq1

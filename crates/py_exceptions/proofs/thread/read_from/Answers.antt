@@ -1,0 +1,6 @@
+use Rattle.std.proofs.Common.{refl}
+use Rattle.process_memory.proofs.Reading.{reading_none}
+use Rattle.py_exceptions.proofs.thread.read_from.Goals as goal
+
+pub returns-in-None : goal.returns-in-None
+returns-in-None g c = rw c.in-None.is (reading_none 68102 _ _ (λ m. refl))
