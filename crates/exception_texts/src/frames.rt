@@ -90,12 +90,7 @@ fn push_own_frame(
 }
 
 /// The line of an entry of a traceback.
-fn push_entry(
-    alloc: Global,
-    text: &mut String,
-    depth: u64,
-    entry: &Entry,
-) -> Result<(), AllocError>
+fn push_entry(alloc: Global, text: &mut String, depth: u64, entry: &Entry) -> Result<(), AllocError>
     ensures { OnOk result (string_bytes text.new ≡ string_bytes text.old ++ entry_text depth entry.now) }
 {
     push_behind(text, depth)?;
@@ -152,12 +147,7 @@ pub(crate) fn push_lost_line(text: &mut String, depth: u64, lost: Lost) -> Resul
 }
 
 /// The line that says where a chain of entries goes on that are not told.
-fn push_on(
-    text: &mut String,
-    depth: u64,
-    lead: &str,
-    addr: u64,
-) -> Result<(), AllocError>
+fn push_on(text: &mut String, depth: u64, lead: &str, addr: u64) -> Result<(), AllocError>
     ensures { OnOk result (string_bytes text.new ≡ string_bytes text.old ++ on_line depth lead.now addr) }
 {
     push_behind(text, depth)?;

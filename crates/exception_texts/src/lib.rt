@@ -15,5 +15,5 @@ mod tree;
 mod values;
 
 pub use text::push_exceptions;
-pub use tree::exceptions_value;
 pub use told::{ExceptionsOf, InterpreterExceptions, ThreadTold};
+pub use tree::exceptions_value;

@@ -147,12 +147,7 @@ fn only(alloc: Global, line: Line) -> Result<Vec<Todo>, AllocError>
 }
 
 /// What is shown of an object.
-fn expand_at(
-    alloc: Global,
-    depth: u64,
-    number: usize,
-    what: &What,
-) -> Result<Vec<Todo>, AllocError>
+fn expand_at(alloc: Global, depth: u64, number: usize, what: &What) -> Result<Vec<Todo>, AllocError>
     ensures { IfOk result (λ todo. todo.items ≡ expand_at depth number what.now) }
 {
     match what {
@@ -276,7 +271,11 @@ fn finish(mut plan: Plan) -> Result<Vec<Line>, AllocError>
 }
 
 /// The lines of what is to be shown, in order.
-pub(crate) fn lines_of(alloc: Global, met: &[Met], roots: Vec<Todo>) -> Result<Vec<Line>, AllocError>
+pub(crate) fn lines_of(
+    alloc: Global,
+    met: &[Met],
+    roots: Vec<Todo>,
+) -> Result<Vec<Line>, AllocError>
     ensures { IfOk result (λ lines. lines.items ≡ lines_of met.now roots.items) }
 {
     let mut plan = Plan {

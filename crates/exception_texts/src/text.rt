@@ -20,8 +20,10 @@ use crate::said::push_message;
 use crate::told::{ExceptionsOf, InterpreterExceptions, ThreadTold};
 use crate::values::{push_name, push_str_of};
 use elf64_core::Text;
+use py_exceptions::{
+    ClassName, RaisedParts, Rule, Said, ToldException, ToldThread, Traceback, Value,
+};
 use salvage_texts::push_escaped;
-use py_exceptions::{ClassName, RaisedParts, Rule, Said, ToldException, ToldThread, Traceback, Value};
 use std::alloc::{AllocError, Global};
 use thread_exceptions::{LinkEnd, Lost, Members, Met, Owner, What};
 
@@ -540,7 +542,10 @@ fn push_items_end(text: &mut String, end: LinkEnd) -> Result<(), AllocError>
 fn push_items_on(text: &mut String, addr: u64) -> Result<(), AllocError>
     ensures { OnOk result (string_bytes text.new ≡ string_bytes text.old ++ items_on addr) }
 {
-    write!(text, "    ... and what is handled by the items from 0x{addr:x} on\n")
+    write!(
+        text,
+        "    ... and what is handled by the items from 0x{addr:x} on\n"
+    )
 }
 
 /// A line, or the lines of an exception.

@@ -447,11 +447,7 @@ fn unreadable_value(alloc: Global, addr: u64, lost: Lost) -> Result<Value, Alloc
 }
 
 /// An object.
-fn object_value(
-    alloc: Global,
-    met: &Met,
-    told: &Option<ToldException>,
-) -> Result<Value, AllocError>
+fn object_value(alloc: Global, met: &Met, told: &Option<ToldException>) -> Result<Value, AllocError>
     ensures { IfOk result (λ own. view own ≡ object_tree met.now told.now) }
 {
     match &met.what {
@@ -643,7 +639,12 @@ fn threads_value(alloc: Global, threads: &[ThreadTold]) -> Result<Value, AllocEr
 }
 
 /// The threads of an interpreter, where they are told.
-fn kind_value(alloc: Global, interpreter: u64, kind: &str, threads: Value) -> Result<Value, AllocError>
+fn kind_value(
+    alloc: Global,
+    interpreter: u64,
+    kind: &str,
+    threads: Value,
+) -> Result<Value, AllocError>
     ensures { IfOk result (λ own. view own ≡ kind_tree interpreter kind.now (view threads)) }
 {
     let address = address_text(alloc, interpreter)?;

@@ -447,7 +447,7 @@ def syntax_error():
 def import_error():
     """An ImportError."""
     try:
-        from os import no_such_name  # noqa: F401
+        exec("from os import no_such_name")
     except ImportError as caught:
         end([caught])
 
@@ -455,7 +455,7 @@ def import_error():
 def module_not_found():
     """A module that isn't there."""
     try:
-        import no_such_module_at_all  # noqa: F401
+        exec("import no_such_module_at_all")
     except ImportError as caught:
         end([caught])
 

@@ -21,7 +21,7 @@ import tempfile
 from pathlib import Path
 from typing import Any, Callable, Dict, Iterable, List, Optional, Tuple
 
-from rooms import ROOT, TOOLS  # (first: it makes the other rooms known)
+from rooms import TOOLS  # (first: it makes the other rooms known)
 
 from child_cores import ALL_PRIVATE, USUAL, Failure, Skip, aborted, core_names
 from derive_layout import Build, DeriveError, build_of
@@ -81,9 +81,15 @@ def same_frames(told: Tree, wanted: List[Tree]) -> bool:
 
 def other_parts(told: Tree, wanted: Tree) -> Iterable[str]:
     """Each part of an exception that is told otherwise than wanted."""
-    for key in ("type", "cause", "context", "suppress_context", "notes", "members"):
+    for key in ("type", "cause", "context", "suppress_context"):
         if told[key] != wanted[key]:
             yield f"{key} is {told[key]!r} in place of {wanted[key]!r}"
+    for key in ("notes", "members"):
+        own = [] if told[key] is None else told[key]["values"]
+        if own != wanted[key]:
+            yield f"{key} is {own!r} in place of {wanted[key]!r}"
+    if told["args"] is None or len(told["args"]["values"]) != wanted["args"]:
+        yield f"args is {told['args']!r} in place of {wanted['args']} of them"
     if not same_frames(told, wanted["frames"]):
         yield f"the traceback is {told['frames']} in place of {wanted['frames']}"
     if wanted["message"] is None:
