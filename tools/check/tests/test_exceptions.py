@@ -55,7 +55,7 @@ class Lines(unittest.TestCase):
 
     def test_long_chain(self):
         chain = [entry(hex(at), "ValueError", str(at), cause=hex(at + 1)) for at in range(1, 1024)]
-        self.assertEqual(len(lines_of(thread([item("0x1")], [*chain, entry(hex(1024), "ValueError", "")]))), 1 + 1024 + 1023)
+        self.assertEqual(len(lines_of(thread([item("0x1")], [*chain, entry(hex(1024), "ValueError", "")]))), 2001)  # (the first 2,000, and how many more)
 
     def test_members_stand_deeper(self):
         group = entry("0x5", "ExceptionGroup", "g (1 sub-exception)", members={"left_out": 0, "values": ["0x1"]})
