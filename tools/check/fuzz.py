@@ -228,10 +228,10 @@ def sections_asked(words: Sequence[str]) -> Sequence[str]:
     return [it for it in options_of(words) if it in SECTIONS]
 
 
-SECTIONS = ("--signal", "--registers", "--missing", "--check-layout", "--names", "--tasks", "--native")
+SECTIONS = ("--signal", "--registers", "--missing", "--check-layout", "--names", "--tasks", "--exceptions", "--native")
 """The flags of all sections."""
 
-OWN_TEXTS = ("--native",)
+OWN_TEXTS = ("--exceptions", "--native")
 """Those whose text isn't made again from the JSON here."""
 
 

@@ -58,6 +58,7 @@ CHECKS = (
     Check("tests/test_prepare"),
     Check("tests/test_parts"),
     Check("tests/test_collapse"),
+    Check("tests/test_exceptions"),
     Check("tests/test_core_text"),
     Check("tests/test_layout_check"),
     Check("tests/test_layout_from_core"),
@@ -99,6 +100,7 @@ CHECKS = (
     Check("real/real_lines", OF_SALVAGE),
     Check("real/real_native", OF_SALVAGE, (*OF_SALVAGE, "--all")),
     Check("real/real_tasks", OF_SALVAGE),
+    Check("real/real_exceptions", OF_SALVAGE),
 )
 """What is run, in order."""
 

@@ -136,7 +136,7 @@ def check_interpreter(tree: object) -> None:
 def check_told(tree: object, limit: int, sections: Collection[str] = ()) -> None:
     """Fails where something is no JSON of this program, which shows so many frames at each end of a thread, and these
     sections."""
-    need_keys(tree, "interpreters", "layout_check", "missing", "more", "names", "native", "process", "registers", "signal",
+    need_keys(tree, "exceptions", "interpreters", "layout_check", "missing", "more", "names", "native", "process", "registers", "signal",
               "signal_info", "tasks", "version")
     check_sections(tree, sections)
     need_truths(tree["more"])

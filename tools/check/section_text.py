@@ -100,7 +100,7 @@ def check_layout(tree: Tree) -> None:
 def check_sections(tree: Tree, asked: Collection[str]) -> None:
     """Fails where a section isn't there by its flag, or has not what it has to have."""
     for key, flag in (("signal_info", "--signal"), ("registers", "--registers"), ("missing", "--missing"),
-                      ("layout_check", "--check-layout"), ("names", "--names"), ("tasks", "--tasks"),
+                      ("layout_check", "--check-layout"), ("names", "--names"), ("tasks", "--tasks"), ("exceptions", "--exceptions"),
                       ("native", "--native")):
         if (tree[key] is not None) != (flag in asked):
             raise Failure(f"the section {key} is {tree[key]!r}, where {asked!r} are asked for")

@@ -254,7 +254,7 @@ def told_of(random: Random, files: Files, tree: Tree, options: Sequence[str]) ->
     return Told((*words, *options, *(["-j"] if is_json else [])), files, 0, out=out.encode())
 
 
-NONE_TOLD = {"names": None, "native": None, "tasks": None}
+NONE_TOLD = {"exceptions": None, "names": None, "native": None, "tasks": None}
 """The sections that are read in memory, where none is asked for."""
 
 

@@ -38,6 +38,7 @@ def add_shown(parser: argparse.ArgumentParser) -> None:
     parser.add_argument("--strict", action="store_true", help="with --native: nothing that follows from a guess")
     parser.add_argument("--no-where", action="store_true", help="without the line that says where in native code the process died")
     parser.add_argument("--no-tasks", action="store_true", help="without the tasks of asyncio")
+    parser.add_argument("--no-exceptions", action="store_true", help="without the exceptions that threads raise and handle")
     parser.add_argument("--stacks", action="store_true", help="each stack whole, once, however many there are")
     parser.add_argument("--all", action="store_true", help="each thread with its own stack, and each frame with its line")
     parser.add_argument("--frames", metavar="N", type=frames_at_end, default=None,
@@ -127,6 +128,7 @@ def options_of(words: argparse.Namespace) -> Options:
     """The words, each with its type."""
     return Options(
         cores=tuple("/dev/stdin" if it == "-" else it for it in words.core), locals=words.locals, signal=not words.no_signal, registers=words.registers, tasks=not words.no_tasks,
+        exceptions=not words.no_exceptions,
         native=words.native, strict=words.strict, where=not words.no_where, shows_all=words.all, shows_stacks=words.stacks, frames=words.frames, source=words.source, json=words.json,
         collapsed=words.collapsed, html=words.html, group=words.group, plain=words.plain, root=words.root, maps=words.maps,
         keep=words.keep, memory=words.memory, any_layout=words.any_layout, layouts=words.layouts, records=words.records, program=words.program, salvage=words.salvage,

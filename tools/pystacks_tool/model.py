@@ -55,6 +55,10 @@ class Thread(NamedTuple):
     """How its chain ends, where it doesn't end as a whole one does."""
     kept: Optional[int] = None
     """The system's id for it that Python kept, where that is another one: a process that was forked has it of its parent."""
+    exceptions: Tuple[str, ...] = ()
+    """The lines of what it raises and handles, where that is asked for."""
+    exception: Tuple[str, str] = ("", "")
+    """The first of it in a line, and which it is: raised or handled."""
 
     @property
     def label(self) -> str:
@@ -71,7 +75,7 @@ class Thread(NamedTuple):
     @property
     def is_empty(self) -> bool:
         """Whether nothing is told of it: it has neither frames nor a mark, and its chain is whole."""
-        return not (self.frames or self.between or self.end or self.marks)
+        return not (self.frames or self.between or self.end or self.marks or self.exceptions)
 
 
 class Interpreter(NamedTuple):
@@ -264,10 +268,10 @@ def key_of(thread: Thread) -> Tuple[object, ...]:
 
 
 def stacks_of(threads: Sequence[Thread], is_merged: bool = True) -> List[Stack]:
-    """The threads by stacks, in the order of the first of each. One that has a mark stands alone."""
+    """The threads by stacks, in the order of the first of each. One that has a mark, or an exception, stands alone."""
     found: Dict[object, Stack] = {}
     for place, thread in enumerate(threads):
-        key = place if thread.marks or not is_merged else key_of(thread)
+        key = place if thread.marks or thread.exceptions or not is_merged else key_of(thread)
         found.setdefault(key, Stack()).threads.append(thread)
     return list(found.values())
 

@@ -25,6 +25,8 @@ class Options(NamedTuple):
     """Whether the registers of each thread are."""
     tasks: bool = True
     """Whether the tasks of asyncio are."""
+    exceptions: bool = True
+    """Whether the exceptions of threads are."""
     native: bool = False
     """Whether native stacks are."""
     strict: bool = False

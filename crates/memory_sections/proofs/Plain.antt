@@ -10,7 +10,9 @@ use Rattle.task_texts.proofs.Plain.{no_float as all_tasks}
 use Rattle.task_texts.specs.declared.told.InterpreterTasks.{InterpreterTasks}
 use Rattle.thread_names.proofs.Plain.{no_float as all_names}
 use Rattle.thread_names.specs.declared.names.InterpreterNames.{InterpreterNames}
-use Rattle.memory_sections.specs.Values.{names_tree_if, native_tree_if, tasks_tree_if}
+use Rattle.exception_texts.proofs.Plain.{no_float as all_exceptions}
+use Rattle.exception_texts.specs.declared.told.InterpreterExceptions.{InterpreterExceptions}
+use Rattle.memory_sections.specs.Values.{exceptions_tree_if, names_tree_if, native_tree_if, tasks_tree_if}
 
 pub names : (told : Option (Vec InterpreterNames Global)) → has_float (names_tree_if told) ≡ false
 names None = refl
@@ -19,6 +21,10 @@ names (Some told) = all_names told.items
 pub tasks : (told : Option (Vec InterpreterTasks Global)) → has_float (tasks_tree_if told) ≡ false
 tasks None = refl
 tasks (Some told) = all_tasks told.items
+
+pub exceptions : (told : Option (Vec InterpreterExceptions Global)) → has_float (exceptions_tree_if told) ≡ false
+exceptions None = refl
+exceptions (Some told) = all_exceptions told.items
 
 pub native : (limit : ℕ) (told : Option NativeStacks) → has_float (native_tree_if limit told) ≡ false
 native limit None = refl

@@ -1,4 +1,5 @@
 pub mod Each
+pub mod Exceptions
 pub mod Pythons
 pub mod Text
 pub mod Told

@@ -8,6 +8,8 @@ use Rattle.salvage_texts.specs.Escape.{escaped}
 use Rattle.native_stacks.specs.Stacks.{stacks_shown}
 use Rattle.native_stacks.specs.Text.{stacks_text}
 use Rattle.native_stacks.specs.declared.stacks.NativeStacks.{NativeStacks}
+use Rattle.exception_texts.specs.Text.{all_exceptions_text}
+use Rattle.exception_texts.specs.declared.told.InterpreterExceptions.{InterpreterExceptions}
 use Rattle.task_texts.specs.Text.{all_tasks_text}
 use Rattle.task_texts.specs.declared.told.InterpreterTasks.{InterpreterTasks}
 use Rattle.thread_names.specs.Trees.{fault_word, thread_fault_word}
@@ -75,6 +77,12 @@ abbrev pub tasks_text : Option (Vec InterpreterTasks Global) → List ℕ
 tasks_text None = []
 tasks_text (Some tasks) = all_tasks_text tasks.items
 
+-- ---- exceptions
+
+abbrev pub exceptions_text : Option (Vec InterpreterExceptions Global) → List ℕ
+exceptions_text None = []
+exceptions_text (Some exceptions) = all_exceptions_text exceptions.items
+
 -- ---- native stacks
 
 abbrev pub native_text : (limit : ℕ) → Option NativeStacks → List ℕ
@@ -83,4 +91,5 @@ native_text limit (Some stacks) = stacks_text limit (stacks_shown stacks)
 
 -- all of them, in order
 abbrev pub memory_text : (limit : ℕ) → MemoryTold → List ℕ
-memory_text limit told = names_text told.names ++ (tasks_text told.tasks ++ native_text limit told.native)
+memory_text limit told = names_text told.names ++ (tasks_text told.tasks ++ (exceptions_text told.exceptions
+    ++ native_text limit told.native))

@@ -28,13 +28,9 @@ use Rattle.py_tasks.specs.Tasks.{tasks_at}
 use Rattle.task_texts.specs.declared.told.InterpreterTasks.{InterpreterTasks}
 use Rattle.memory_sections.specs.Pythons.{python_threads}
 use Rattle.memory_sections.specs.Each.{EachTold}
+pub use Rattle.memory_sections.specs.Each.{ToldIf}
+use Rattle.memory_sections.specs.Exceptions.{ExceptionsAre}
 use Rattle.memory_sections.specs.declared.told.MemoryTold.{MemoryTold}
-
--- what is asked for is told, and nothing else
-abbrev pub ToldIf : {T : Type 0} → Bool → (T → Type 0) → Option T → Type 0
-ToldIf false Is told = told ≡ None
-ToldIf true Is None = ⊥
-ToldIf true Is (Some told) = Is told
 
 -- ---- names
 
@@ -105,4 +101,5 @@ pub record AreMemoryTold (asked : Sections) (bytes : List ℕ) (images : Pushed)
     (is : List SalvagedInterpreter) (told : MemoryTold) : Type 0 where
   pub names : NamesAre asked.names l (rule_of l r) m is told.names
   pub tasks : TasksAre asked.tasks l r m is told.tasks
+  pub exceptions : ExceptionsAre asked.exceptions l m is told.exceptions
   pub native : NativeAre asked.native asked.strict bytes images m is told.native

@@ -5,6 +5,8 @@ use Rattle.serde_json.specs.Data.{Data, null}
 use Rattle.native_stacks.specs.Stacks.{stacks_shown}
 use Rattle.native_stacks.specs.Trees.{stacks_tree}
 use Rattle.native_stacks.specs.declared.stacks.NativeStacks.{NativeStacks}
+use Rattle.exception_texts.specs.Trees.{all_exceptions_tree}
+use Rattle.exception_texts.specs.declared.told.InterpreterExceptions.{InterpreterExceptions}
 use Rattle.task_texts.specs.Trees.{all_tasks_tree}
 use Rattle.task_texts.specs.declared.told.InterpreterTasks.{InterpreterTasks}
 use Rattle.thread_names.specs.Trees.{names_tree}
@@ -17,6 +19,10 @@ names_tree_if (Some names) = names_tree names.items
 abbrev pub tasks_tree_if : Option (Vec InterpreterTasks Global) → Data
 tasks_tree_if None = null
 tasks_tree_if (Some tasks) = all_tasks_tree tasks.items
+
+abbrev pub exceptions_tree_if : Option (Vec InterpreterExceptions Global) → Data
+exceptions_tree_if None = null
+exceptions_tree_if (Some exceptions) = all_exceptions_tree exceptions.items
 
 abbrev pub native_tree_if : (limit : ℕ) → Option NativeStacks → Data
 native_tree_if limit None = null

@@ -1,10 +1,11 @@
 //! The sections of what is told of a process that are read in its memory: the names of its threads, the tasks of asyncio,
-//! and native stacks. Each is asked for by itself.
+//! exceptions, and native stacks. Each is asked for by itself.
 //!
 //! What each one reads, and what it owes, is its own crate's; here they are asked of an opened process, of whose
 //! interpreters this is left.
 #![tactic(auto)]
 
+mod exceptions;
 mod keeping;
 mod names;
 mod native;
@@ -18,4 +19,4 @@ mod values;
 pub use pythons::python_threads;
 pub use text::push_memory;
 pub use told::{MemoryTold, names_told, tell_memory};
-pub use values::{names_value, native_value, tasks_value};
+pub use values::{exceptions_value, names_value, native_value, tasks_value};

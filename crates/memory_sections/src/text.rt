@@ -1,12 +1,13 @@
 //! The lines of these sections.
 ghost use Rattle.std.specs.Prelude.{◌≡◌, ◌++◌, OnOk, string_bytes};
-ghost use Rattle.memory_sections.specs.Text.{all_names_text, fault_lead, fault_text};
+ghost use Rattle.memory_sections.specs.Text.{all_names_text, exceptions_text, fault_lead, fault_text};
 ghost use Rattle.memory_sections.specs.Text.{interpreter_text, lead_text, lost_lead, lost_text, memory_text};
 ghost use Rattle.memory_sections.specs.Text.{name_text, names_text, native_text, tasks_text, thread_text};
 ghost use Rattle.memory_sections.specs.Text.{threads_text, unread_lead, unread_text};
 
 use crate::told::MemoryTold;
 use elf64_core::Text;
+use exception_texts::{InterpreterExceptions, push_exceptions};
 use native_stacks::{NativeStacks, push_native_stacks};
 use py_names::NamesError;
 use salvage_texts::push_escaped;
@@ -169,6 +170,20 @@ fn push_own_tasks(
     }
 }
 
+/// The exceptions, where they are asked for.
+fn push_own_exceptions(
+    alloc: Global,
+    text: &mut String,
+    exceptions: &Option<Vec<InterpreterExceptions>>,
+) -> Result<(), AllocError>
+    ensures { OnOk result (string_bytes text.new ≡ string_bytes text.old ++ exceptions_text exceptions.now) }
+{
+    match exceptions {
+        Some(exceptions) => push_exceptions(alloc, text, exceptions),
+        None => Ok(()),
+    }
+}
+
 /// The native stacks, where they are asked for.
 fn push_native(
     alloc: Global,
@@ -187,7 +202,8 @@ fn push_native(
 /// Appends the lines of the sections that are asked for, in this order: of each thread with a name `Name of thread
 /// 0x7F..: NAME`, and of each whose name can't be read why; of each interpreter of which none can be read why, and how
 /// many slots may have a thread whose id is not known; the tasks of each interpreter
-/// (`task_texts::push_tasks`); the native stacks (`native_stacks::push_native_stacks`), of each the first and the last
+/// (`task_texts::push_tasks`); the exceptions of the threads of each (`exception_texts::push_exceptions`); the native
+/// stacks (`native_stacks::push_native_stacks`), of each the first and the last
 /// `limit` frames. The one error is want of memory.
 pub fn push_memory(
     alloc: Global,
@@ -199,5 +215,6 @@ pub fn push_memory(
 {
     push_names(alloc, text, &told.names)?;
     push_own_tasks(alloc, text, &told.tasks)?;
+    push_own_exceptions(alloc, text, &told.exceptions)?;
     push_native(alloc, text, limit, &told.native)
 }

@@ -5,10 +5,12 @@ ghost use Rattle.process_memory.specs.Memory.{byte_at};
 ghost use Rattle.py_fields.specs.Sound.{IsSound};
 ghost use Rattle.memory_sections.specs.Told.{AreMemoryTold, names_given};
 
+use crate::exceptions::exceptions_section;
 use crate::names::names_section;
 use crate::native::native_section;
 use crate::tasks::tasks_section;
 use core_stacks::Process;
+use exception_texts::InterpreterExceptions;
 use image_memory::Images;
 use missed_reads::Misses;
 use native_stacks::NativeStacks;
@@ -26,6 +28,8 @@ pub struct MemoryTold {
     pub names: Option<Vec<InterpreterNames>>,
     /// The tasks of asyncio, by interpreters.
     pub tasks: Option<Vec<InterpreterTasks>>,
+    /// The exceptions of the threads, by interpreters.
+    pub exceptions: Option<Vec<InterpreterExceptions>>,
     /// The native stacks of the threads of the process.
     pub native: Option<NativeStacks>,
 }
@@ -59,6 +63,14 @@ pub fn tell_memory(
 {
     let names = names_section(alloc, asked.names, process, records, misses, interpreters)?;
     let tasks = tasks_section(alloc, asked.tasks, process, records, misses, interpreters)?;
+    let exceptions = exceptions_section(
+        alloc,
+        asked.exceptions,
+        process,
+        records,
+        misses,
+        interpreters,
+    )?;
     let native = native_section(
         alloc,
         asked.native,
@@ -71,6 +83,7 @@ pub fn tell_memory(
     Ok(MemoryTold {
         names,
         tasks,
+        exceptions,
         native,
     })
 }

@@ -1,7 +1,7 @@
 //! The values of these sections in JSON: null in one that isn't asked for.
 ghost use Rattle.std.specs.Prelude.{◌≡◌, IfOk};
 ghost use Rattle.serde_json.specs.View.{view};
-ghost use Rattle.memory_sections.specs.Values.{names_tree_if, native_tree_if, tasks_tree_if};
+ghost use Rattle.memory_sections.specs.Values.{exceptions_tree_if, names_tree_if, native_tree_if, tasks_tree_if};
 
 use crate::told::MemoryTold;
 use serde_json::Value;
@@ -23,6 +23,16 @@ pub fn tasks_value(alloc: Global, told: &MemoryTold) -> Result<Value, AllocError
 {
     match &told.tasks {
         Some(tasks) => task_texts::tasks_value(alloc, tasks),
+        None => Ok(Value::Null),
+    }
+}
+
+/// The exceptions of threads, by interpreters (`exception_texts::exceptions_value`), or null. The one error is want of memory.
+pub fn exceptions_value(alloc: Global, told: &MemoryTold) -> Result<Value, AllocError>
+    ensures { IfOk result (λ value. view value ≡ exceptions_tree_if told.now.exceptions) }
+{
+    match &told.exceptions {
+        Some(exceptions) => exception_texts::exceptions_value(alloc, exceptions),
         None => Ok(Value::Null),
     }
 }

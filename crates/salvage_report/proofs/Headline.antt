@@ -17,7 +17,7 @@ use Rattle.salvage_words.specs.Salvage.{Salvage, Wanted}
 use Rattle.salvage_words.specs.Salvage.Wanted.{salvage}
 use Rattle.salvage_report.specs.declared.cause.Cause.{Cause}
 use Rattle.salvage_report.specs.Headline.{AreTables, HasSalvaged, SaysLayout, SaysNames, SaysRegisters}
-use Rattle.salvage_report.specs.Headline.{SaysNative, SaysSignal, SaysTasks}
+use Rattle.salvage_report.specs.Headline.{SaysExceptions, SaysNative, SaysSignal, SaysTasks}
 use Rattle.memory_sections.specs.Told.{ToldIf}
 use Rattle.salvage_report.specs.Outcome.{IsCoreOutcome, IsOutcomeBy, IsSalvagedBy, Outcome, looked_at, shown_or_none}
 use Rattle.named_images.specs.Named.{images_read}
@@ -160,6 +160,12 @@ pub says_tasks : (s : Salvage) (told : Told) (old new : SinkSeen) → HasSalvage
 says_tasks s told old new h asked =
     let one = told_one s.sections.tasks _ h.left.memory.tasks h.is_left.memory.tasks asked in
     record { has = h; tasks = one.0; is = one.1; are = one.2 }
+
+pub says_exceptions : (s : Salvage) (told : Told) (old new : SinkSeen) → HasSalvaged s told old new
+    → s.sections.exceptions ≡ true → SaysExceptions s told old new
+says_exceptions s told old new h asked =
+    let one = told_one s.sections.exceptions _ h.left.memory.exceptions h.is_left.memory.exceptions asked in
+    record { has = h; exceptions = one.0; is = one.1; are = one.2 }
 
 pub says_native : (s : Salvage) (told : Told) (old new : SinkSeen) → HasSalvaged s told old new
     → s.sections.native ≡ true → SaysNative s told old new

@@ -16,7 +16,7 @@ use Rattle.thread_registers.specs.Trees.{threads_tree}
 use Rattle.thread_registers.proofs.Plain.{no_float as threads}
 use Rattle.memory_sections.specs.Told.{names_given}
 use Rattle.salvage_json.proofs.Trees.{integer, interpreters, process, signal}
-use Rattle.memory_sections.proofs.Plain.{names, native, tasks}
+use Rattle.memory_sections.proofs.Plain.{exceptions, names, native, tasks}
 use Rattle.missed_reads.specs.Told.{RefusedTold, missed_tree}
 use Rattle.missed_reads.proofs.NoFloat.{no_float as missed}
 use Rattle.py_selftest.specs.Checking.{CheckShown}
@@ -88,9 +88,9 @@ pub missing_no_float : (told : RefusedTold) → has_float (missing_tree told) �
 missing_no_float told = λ i. missed told i || false
 
 pub no_float : (limit : ℕ) (left : Left) → has_float (left_tree limit left) ≡ false
-no_float limit left = λ i.
-    interpreters left.salvaged.crash (names_given left.memory.names) left.salvaged.interpreters.items i
+no_float limit left = λ i. exceptions left.memory.exceptions i
+    || (interpreters left.salvaged.crash (names_given left.memory.names) left.salvaged.interpreters.items i
     || (check_section (check_of left.check) i || (missing_section (missing_shown left.told.missing) i
     || (false || (names left.memory.names i || (native limit left.memory.native i || (process left.process
     i || (threads_section (registers_shown left.told.registers) i || (signal left.signal i
-    || (info_section left.told.signal i || (tasks left.memory.tasks i || (false || false)))))))))))
+    || (info_section left.told.signal i || (tasks left.memory.tasks i || (false || false))))))))))))

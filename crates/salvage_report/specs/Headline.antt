@@ -21,9 +21,11 @@ use Rattle.core_stacks.specs.Process.{OpenedProcess, ProcessIs}
 use Rattle.py_process.specs.Reports.{memory_in}
 use Rattle.thread_names.specs.declared.names.InterpreterNames.{InterpreterNames}
 use Rattle.memory_sections.specs.Each.{EachTold}
+use Rattle.memory_sections.specs.Exceptions.{AreExceptions}
 use Rattle.memory_sections.specs.Told.{AreNamesOf, AreNative, AreTasksOf, rule_of, slot_share}
 use Rattle.native_stacks.specs.declared.stacks.NativeStacks.{NativeStacks}
 use Rattle.py_records.specs.Versions.{records_of}
+use Rattle.exception_texts.specs.declared.told.InterpreterExceptions.{InterpreterExceptions}
 use Rattle.task_texts.specs.declared.told.InterpreterTasks.{InterpreterTasks}
 use Rattle.salvage_report.specs.Outcome.{IsLeft}
 use Rattle.named_images.specs.Named.{images_read}
@@ -108,6 +110,14 @@ pub record SaysTasks (s : Salvage) (told : Told) (old new : SinkSeen) : Type 0 w
   pub are : EachTold (AreTasksOf has.opened.layout (records_of has.tables has.opened.version)
       (memory_in has.opened.dumped) (slot_share (length has.left.salvaged.interpreters.items)))
       has.left.salvaged.interpreters.items tasks.items
+
+-- The exceptions of the threads that are shown: what each raises and handles, and all that this leads to, each once
+-- (`IsTold` of py_exceptions), or that it is not described where they stand.
+pub record SaysExceptions (s : Salvage) (told : Told) (old new : SinkSeen) : Type 0 where
+  pub has : HasSalvaged s told old new
+  pub exceptions : Vec InterpreterExceptions Global
+  pub is : has.left.memory.exceptions ≡ Some exceptions
+  pub are : AreExceptions has.opened.layout (memory_in has.opened.dumped) has.left.salvaged.interpreters.items exceptions
 
 -- the native stacks of the threads that the core's notes tell, without guesses where that is asked for
 pub record SaysNative (s : Salvage) (told : Told) (old new : SinkSeen) : Type 0 where

@@ -10,7 +10,7 @@ use Rattle.crash_signal.specs.Trees.{signal_tree as info_tree}
 use Rattle.thread_registers.specs.Trees.{threads_tree}
 use Rattle.salvage_json.specs.Salvaged.{interpreters_tree, process_tree, signal_tree}
 use Rattle.memory_sections.specs.Told.{names_given}
-use Rattle.memory_sections.specs.Values.{names_tree_if, native_tree_if, tasks_tree_if}
+use Rattle.memory_sections.specs.Values.{exceptions_tree_if, names_tree_if, native_tree_if, tasks_tree_if}
 use Rattle.missed_reads.specs.Told.{RefusedTold, missed_tree}
 use Rattle.py_selftest.specs.Trees.{check_tree}
 use Rattle.salvage_report.specs.LayoutChecked.{check_of}
@@ -25,17 +25,19 @@ section_tree tree (Some told) = tree told
 -- the members whose keys stand first in the order of their bytes
 abbrev pub first_members : (limit : ℕ) → Left → Members
 first_members limit left =
+    member (codes "exceptions") (exceptions_tree_if left.memory.exceptions) (
     member (codes "interpreters") (interpreters_tree left.salvaged.crash (names_given left.memory.names)
     left.salvaged.interpreters.items) (
     member (codes "layout_check") (section_tree check_tree (check_of left.check)) (
     member (codes "missing") (section_tree missed_tree (missing_shown left.told.missing)) (
     member (codes "more") (boolean left.salvaged.more) (
     member (codes "names") (names_tree_if left.memory.names) (
-    member (codes "native") (native_tree_if limit left.memory.native) no_members)))))
+    member (codes "native") (native_tree_if limit left.memory.native) no_members))))))
 
 -- the keys stand in the order of their bytes
 abbrev pub left_tree : (limit : ℕ) → Left → Data
 left_tree limit left = object (
+    member (codes "exceptions") (exceptions_tree_if left.memory.exceptions) (
     member (codes "interpreters") (interpreters_tree left.salvaged.crash (names_given left.memory.names)
     left.salvaged.interpreters.items) (
     member (codes "layout_check") (section_tree check_tree (check_of left.check)) (
@@ -48,7 +50,7 @@ left_tree limit left = object (
     member (codes "signal") (signal_tree left.signal) (
     member (codes "signal_info") (section_tree info_tree left.told.signal) (
     member (codes "tasks") (tasks_tree_if left.memory.tasks) (
-    member (codes "version") (string (version_text left.version)) no_members))))))))))))
+    member (codes "version") (string (version_text left.version)) no_members)))))))))))))
 
 -- the text of a tree: each item and member on a line of its own, two spaces deeper for each bracket
 abbrev pub pretty_text : Data → List ℕ

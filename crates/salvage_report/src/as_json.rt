@@ -14,7 +14,7 @@ ghost use Rattle.salvage_report.specs.Sections.{missing_shown, registers_shown};
 
 use crate::left::Left;
 use crash_signal::{CrashSignal, Untold};
-use memory_sections::{names_told, names_value, native_value, tasks_value};
+use memory_sections::{exceptions_value, names_told, names_value, native_value, tasks_value};
 use missed_reads::{MissedBlocks, Misses, missed_blocks, missed_value};
 use py_layout::Version;
 use py_selftest::{LayoutCheck, check_value};
@@ -77,6 +77,7 @@ fn first_members(alloc: Global, limit: usize, left: &Left) -> Result<Map<String,
     ensures { IfOk result (λ map. members_view map.entries ≡ first_members limit left.now) }
 {
     let salvaged = &left.salvaged;
+    let exceptions = exceptions_value(alloc, &left.memory)?;
     let told = names_told(&left.memory);
     let interpreters = interpreters_value(alloc, salvaged.crash, told, &salvaged.interpreters)?;
     let layout_check = layout_value(alloc, &left.check)?;
@@ -84,6 +85,7 @@ fn first_members(alloc: Global, limit: usize, left: &Left) -> Result<Map<String,
     let names = names_value(alloc, &left.memory)?;
     let native = native_value(alloc, limit, &left.memory)?;
     let mut map = Map::new(alloc);
+    put(&mut map, alloc, "exceptions", exceptions)?;
     put(&mut map, alloc, "interpreters", interpreters)?;
     put(&mut map, alloc, "layout_check", layout_check)?;
     put(&mut map, alloc, "missing", missing)?;

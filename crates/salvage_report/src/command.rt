@@ -7,7 +7,7 @@ ghost use Rattle.salvage_words.specs.Salvage.{Salvage, Wanted, salvage as salvag
 ghost use Rattle.salvage_words.specs.Seen.{asked_by};
 ghost use Rattle.salvage_report.specs.declared.cause.Cause.{Cause as Why};
 ghost use Rattle.salvage_report.specs.Headline.{HasSalvaged, SaysLayout, SaysNames, SaysNative, SaysRegisters};
-ghost use Rattle.salvage_report.specs.Headline.{SaysSignal, SaysTasks};
+ghost use Rattle.salvage_report.specs.Headline.{SaysExceptions, SaysSignal, SaysTasks};
 ghost use Rattle.salvage_report.specs.Missing.{TellsRefused};
 ghost use Rattle.salvage_report.specs.Outcome.{IsFaultless, IsOutcome, cause_status};
 ghost use Rattle.salvage_report.specs.Run.{HasRunAfter, IsFew, TellsContents, pysalvage};
@@ -125,6 +125,10 @@ pub fn run<F: Files, S: Sink, E: Sink>(
 
     ensures tasks { (s : Salvage) → words_asked (texts words.now) ≡ Some (salvages s) → s.sections.tasks ≡ true
         → result ≡ 0 → SaysTasks s (F.seen files.old).told (S.seen out.old) (S.seen out.new) }
+    // where they are asked for, the exceptions that the threads that are shown raise and handle are told, and all that these
+    // lead to
+    ensures exceptions { (s : Salvage) → words_asked (texts words.now) ≡ Some (salvages s) → s.sections.exceptions ≡ true
+        → result ≡ 0 → SaysExceptions s (F.seen files.old).told (S.seen out.old) (S.seen out.new) }
 
     ensures native { (s : Salvage) → words_asked (texts words.now) ≡ Some (salvages s) → s.sections.native ≡ true
         → result ≡ 0 → SaysNative s (F.seen files.old).told (S.seen out.old) (S.seen out.new) }

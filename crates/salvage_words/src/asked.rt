@@ -28,6 +28,8 @@ pub struct Sections {
     pub names: bool,
     /// `--tasks`: the tasks of asyncio, of each interpreter.
     pub tasks: bool,
+    /// `--exceptions`: what each thread raises and handles.
+    pub exceptions: bool,
     /// `--native`: the native stack of each thread.
     pub native: bool,
     /// `--strict`: native stacks without guesses.
@@ -105,6 +107,7 @@ fn sections_by(matches: &ArgMatches<'_>) -> Sections
         check_layout: is_set(matches, "check-layout"),
         names: is_set(matches, "names"),
         tasks: is_set(matches, "tasks"),
+        exceptions: is_set(matches, "exceptions"),
         native: is_set(matches, "native"),
         strict: is_set(matches, "strict"),
     }
@@ -142,8 +145,8 @@ fn salvage_words(alloc: Global, words: &[String]) -> Result<SalvageWords, ArgsEr
 }
 
 /// What the words ask for: `CORE --layouts FILE [--records FILE] [-n N] [-l].. [-j] [--signal] [--registers]
-/// [--missing] [--check-layout] [--names] [--tasks] [--native] [--strict] [PATH=FILE]..` behind the program's name, of which
-/// nothing is read; or `--help` or `--version` alone.
+/// [--missing] [--check-layout] [--names] [--tasks] [--exceptions] [--native] [--strict] [PATH=FILE]..` behind the program's
+/// name, of which nothing is read; or `--help` or `--version` alone.
 ///
 /// Clap takes the words, in any order that it knows: the core's file; `--layouts` with a value, once; `--records` with
 /// one, at most once; `-n` or `--frames` with a value, at most once, a number from 1 to 4096 in decimal digits (100

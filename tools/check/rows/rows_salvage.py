@@ -25,7 +25,8 @@ STRIPPED = image_file([Segment(0x400000, b"", 5, 0x1000)], (BSS, 16), [], [Secti
 
 HELP = """\
 pysalvage CORE --layouts FILE [--records FILE] [-n N] [-l].. [-j] [--signal] [--registers]
-          [--missing] [--check-layout] [--names] [--tasks] [--native [--strict]] [PATH=FILE]..
+          [--missing] [--check-layout] [--names] [--tasks] [--exceptions] [--native [--strict]]
+          [PATH=FILE]..
 
 What is left of the Python stacks in the core of a broken process, or in one that was cut: each chain of threads and
 frames as far as it goes. Where no mark stands a chain is whole.
@@ -42,6 +43,7 @@ CORE            the core's file
 --check-layout  whether the process itself says that the layout is its own
 --names         the names of the threads, of each interpreter
 --tasks         the tasks of asyncio, of each interpreter: where they stand and what they wait for
+--exceptions    the exceptions that each thread raises and handles, with their tracebacks
 --native        the native stack of each thread
 --strict        native stacks without guesses
 PATH=FILE       FILE is read in place of the file that the process had mapped from PATH
@@ -356,7 +358,7 @@ def trees() -> Iterator[Row]:
     interpreter = {"address": hex(HEAP), "lock": {"holder": 0, "kind": "read"}, "searched": False, "threads": [thread],
                    "threads_end": {"kind": "whole"}}
     tree = {"interpreters": [interpreter], "layout_check": None, "missing": None, "more": False, "names": None,
-            "native": None, "process": {"arguments": "p\n", "pid": 4}, "registers": None, "signal": 11, "signal_info": None, "tasks": None,
+            "native": None, "process": {"arguments": "p\n", "pid": 4}, "registers": None, "signal": 11, "signal_info": None, "tasks": None, "exceptions": None,
             "version": "3.9.0"}
     notes = [status_record(11, 4, 0x7F00), process_record(4, b"p", b"p\n")]
     text = lambda it: json.dumps(it, indent=2, ensure_ascii=False) + "\n"
@@ -450,7 +452,7 @@ def broken_tree(back: int, blocks: Sequence[int]) -> Dict[str, object]:
     interpreter = {"address": hex(HEAP), "lock": {"holder": 0, "kind": "read"}, "searched": False, "threads": [thread],
                    "threads_end": {"kind": "whole"}}
     return {"interpreters": [interpreter], "layout_check": None, **missed_object(blocks), "more": False, "names": None,
-            "native": None, "process": None, "registers": None, "signal": None, "signal_info": None, "tasks": None, "version": "3.9.0"}
+            "native": None, "process": None, "registers": None, "signal": None, "signal_info": None, "tasks": None, "exceptions": None, "version": "3.9.0"}
 
 
 def missed() -> Iterator[Row]:

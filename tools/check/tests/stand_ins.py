@@ -85,7 +85,7 @@ def salvage(
     process = None if arguments is None else {"arguments": arguments, "pid": 4711}
     return {
         "interpreters": list(interpreters), "layout_check": layout_check, "missing": None, "more": more,
-        "names": names, "native": native, "process": process, "registers": registers, "signal": signal, "signal_info": info,
+        "names": names, "exceptions": None, "native": native, "process": process, "registers": registers, "signal": signal, "signal_info": info,
         "tasks": tasks, "version": "3.11.7",
     }
 

@@ -124,7 +124,7 @@ def tree(frames=(), thread=(), interpreter=(), **fields):
     held = {"address": "0x10", "lock": {"holder": 0, "kind": "read"}, "searched": False, "threads": [one],
             "threads_end": {"kind": "whole"}, **dict(interpreter)}
     return {"interpreters": [held], "layout_check": None, "missing": None, "more": False, "names": None, "native": None,
-            "process": {"arguments": 'a "b"\n', "pid": 4}, "registers": None, "signal": 11, "signal_info": None,
+            "process": {"arguments": 'a "b"\n', "pid": 4}, "registers": None, "signal": 11, "signal_info": None, "exceptions": None,
             "tasks": None, "version": "3.9.0", **fields}
 
 

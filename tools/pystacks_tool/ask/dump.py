@@ -88,5 +88,5 @@ def tree_of(report: Report, threads: List[Tree], most: Optional[int] = None) -> 
     return {
         "interpreters": [interpreter], "layout_check": None, "missing": None, "more": None, "names": None, "native": None,
         "process": process, "registers": None, "signal": report.signal,
-        "signal_info": None, "tasks": None, "version": report.version or None,
+        "signal_info": None, "tasks": None, "exceptions": None, "version": report.version or None,
     }

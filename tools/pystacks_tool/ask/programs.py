@@ -4,6 +4,7 @@ import os
 from pathlib import Path
 from typing import List, Sequence
 
+from pystacks_tool.ask.exceptions import FLAG as EXCEPTIONS
 from pystacks_tool.ask.layout import FLAG
 from pystacks_tool.ask.native import FLAG as NATIVE
 from pystacks_tool.ask.tasks import FLAG as TASKS
@@ -73,6 +74,7 @@ def salvage_command(options: Options, program: Path, core: OpenedCore) -> List[b
     sections = ["--signal"] * options.signal + ["--missing"] * (core.part is not None)
     sections += [it for it in (REGISTERS, FLAG, NAMES) if knows(program, it)]
     sections += [TASKS] * (options.tasks and knows(program, TASKS) and not tells_tasks_as_text(options, core))
+    sections += [EXCEPTIONS] * (options.exceptions and knows(program, EXCEPTIONS))
     records = [f"--records={core.records}"] if core.records else []
     ends = [f"--frames={options.frames}"] if options.frames is not None else []
     asked = ["-j", *ends, *["-l"] * options.locals, *sections, "--", core.word]

@@ -9,6 +9,7 @@ from typing import Callable, Dict, Iterable, Optional, Tuple
 
 from pystacks_tool.ask.dump import Tree, Unexpected, local_of
 from pystacks_tool.ask.layout import KEY, layout_lines, layout_told
+from pystacks_tool.ask.exceptions import KEY as EXCEPTIONS, all_with
 from pystacks_tool.ask.tasks import KEY as TASKS, all_tasks
 from pystacks_tool.model import Frame, Interpreter, Registers, Report, Thread
 
@@ -163,7 +164,7 @@ def report_by_salvage(text: str, core: str, added: NamesAndValues) -> Tuple[Tree
     try:
         tree = json.loads(text)
         add(tree, added)
-        interpreters = tuple(interpreter_of(it) for it in tree["interpreters"])
+        interpreters = all_with(tuple(interpreter_of(it) for it in tree["interpreters"]), tree.get(EXCEPTIONS))
         process = tree["process"]
         told: Optional[Tuple[int, str]] = None if process is None else (process["pid"], process["arguments"])
         registers = tuple(registers_of(it) for it in tree["registers"] or ())

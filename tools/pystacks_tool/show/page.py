@@ -7,6 +7,7 @@ import base64
 import hashlib
 from typing import Dict, Iterator, List, Mapping, Optional, Sequence
 
+from pystacks_tool.ask.exceptions import summary_lines
 from pystacks_tool.groups.triage import Group
 from pystacks_tool.model import Interpreter, Report, Stack, Thread, stacks_of, whole_or_cut
 from pystacks_tool.show.collapse import places
@@ -47,6 +48,11 @@ def page_of(title: str, body: str) -> str:
 # ---- stacks
 
 
+def text_lines(lines: Sequence[str]) -> str:
+    """Some lines, each escaped."""
+    return "\n".join(map(text, lines))
+
+
 def frame_items(thread: Thread, style: Style) -> Iterator[str]:
     """The frames of a thread, and how they end."""
     first = thread.first if thread.between else None
@@ -56,6 +62,8 @@ def frame_items(thread: Thread, style: Style) -> Iterator[str]:
         yield from items_of(thread.frames[first:], style)
     if thread.end:
         yield f"<li class=\"end\">... {text(thread.end)}"
+    if thread.exceptions:
+        yield f"<li><pre>{text_lines(thread.exceptions)}</pre>"
 
 
 def marks_of(thread: Thread) -> str:
@@ -168,6 +176,9 @@ def head_part(report: Report) -> str:
     if report.signal is not None:
         how = f"; {text(report.signal_told)}" if report.signal_told else ""
         rows.append(("Signal", f"<b class=\"bad\">{signal_of(report)}</b>{how}"))
+    raised = list(summary_lines(report))
+    if raised:
+        rows.append(("Exception", "<br>".join(f"<b class=\"bad\">{text(it)}</b>" for it in raised)))
     if report.process is not None:
         rows.append(("Process", f"{report.process[0]}: {text(whole_or_cut(report.process[1]))}"))
     if report.version:

@@ -13,6 +13,7 @@ from pystacks_tool.show.folds import Fold, Item, folded
 from pystacks_tool.show.native import lines_under, native_lines, where_line
 from pystacks_tool.show.sources import Sources
 from pystacks_tool.show.tasks import others_of, summary_of, task_blocks
+from pystacks_tool.ask.exceptions import summary_lines
 from pystacks_tool.show.widths import shortened
 
 MANY = 8
@@ -183,8 +184,9 @@ def thread_lines(thread: Thread, style: Style) -> Iterator[Tuple[List[str], int]
 
 
 def stack_lines(thread: Thread, style: Style) -> Iterator[str]:
-    """The frames of a thread, and how they end."""
-    return (line for lines, _ in thread_lines(thread, style) for line in lines)
+    """The frames of a thread, how they end, and what it raises and handles."""
+    yield from (line for lines, _ in thread_lines(thread, style) for line in lines)
+    yield from thread.exceptions
 
 
 def newest_lines(thread: Thread, style: Style) -> Iterator[str]:
@@ -192,10 +194,12 @@ def newest_lines(thread: Thread, style: Style) -> Iterator[str]:
     parts = list(thread_lines(thread, style))
     if len(parts) <= NEWEST + 1:
         yield from (line for lines, _ in parts for line in lines)
+        yield from thread.exceptions
         return
     yield from (line for lines, _ in parts[:NEWEST] for line in lines)
     yield f"    ... {sum(count for _, count in parts[NEWEST:])} more frames"
     yield from parts[-1][0] if thread.end else ()
+    yield from thread.exceptions
 
 
 def heading_of(it: Interpreter) -> str:
@@ -223,6 +227,7 @@ def told_lines(report: Report, style: Style) -> Iterator[str]:
         yield style.paint(signal_line(report.signal), BOLD) + f": {in_line(report.core)}"
     if report.signal_told:
         yield style.paint(in_line(report.signal_told), RED)
+    yield from (style.paint(it, RED) for it in summary_lines(report))
     if report.process is not None:
         yield f"Process {report.process[0]}: {in_line(whole_or_cut(report.process[1]))}"
     if report.version:

@@ -1,0 +1,113 @@
+-- What an exception says is told exactly as Python's `str` does: each value in it is one whose text is known.
+use Rattle.std.specs.Prelude.{ℕ, nat_eq, nat_lt, nat_le, not, ◌||◌, ◌&&◌, Bool, true, false, if◌then◌else◌, List, [], ◌∷◌}
+use Rattle.std.specs.Prelude.{Option, Some, None, encode_utf8_all}
+use Rattle.std.specs.List.{list_all, list_any}
+use Rattle.exception_texts.specs.Said.{has_value, is_number, is_text}
+use Rattle.py_exceptions.specs.declared.value.Value.{Value}
+use Rattle.py_exceptions.specs.declared.value.Value.TheVariants.{Absent, Text, LongText, Number, LongNumber, Truth, Nothing}
+use Rattle.py_exceptions.specs.declared.value.Value.TheVariants.{Float, Other}
+use Rattle.py_exceptions.specs.declared.values.Values.{Values}
+use Rattle.py_exceptions.specs.declared.said.Said.{Said}
+use Rattle.py_exceptions.specs.declared.rule.Rule.{Rule}
+use Rattle.py_exceptions.specs.declared.rule.Rule.TheVariants as rule
+use Rattle.thread_exceptions.specs.Groups.{Members}
+
+-- a byte that stands otherwise in code than by itself, or may
+abbrev pub is_special : ℕ → Bool
+is_special b = nat_lt b 32 || nat_le 127 b || nat_eq b 34 || nat_eq b 39 || nat_eq b 92
+
+abbrev pub has_special : List ℕ → Bool
+has_special bytes = list_any (λ b. is_special b) bytes
+
+abbrev pub is_plain : List ℕ → Bool
+is_plain t = not (has_special (encode_utf8_all t))
+
+abbrev pub str_known : Option Value → Bool
+str_known (Some Absent) = true
+str_known (Some Nothing) = true
+str_known (Some (Text t)) = true
+str_known (Some (Number n)) = true
+str_known (Some (Truth truth)) = true
+str_known (Some (LongText a)) = false
+str_known (Some (LongNumber a negative)) = false
+str_known (Some (Float bits)) = false
+str_known (Some (Other a class)) = false
+str_known None = false
+
+abbrev pub repr_known : Option Value → Bool
+repr_known (Some Absent) = true
+repr_known (Some Nothing) = true
+repr_known (Some (Text t)) = is_plain t
+repr_known (Some (Number n)) = true
+repr_known (Some (Truth truth)) = true
+repr_known (Some (LongText a)) = false
+repr_known (Some (LongNumber a negative)) = false
+repr_known (Some (Float bits)) = false
+repr_known (Some (Other a class)) = false
+repr_known None = false
+
+abbrev pub all_repr : List (Option Value) → Bool
+all_repr values = list_all (λ v. repr_known v) values
+
+abbrev pub tuple_known : Values → Bool
+tuple_known v = nat_eq v.left_out 0 && all_repr v.values.items
+
+abbrev pub plain_items : List (Option Value) → Values → Bool
+plain_items [] v = true
+plain_items (only ∷ []) v = str_known only
+plain_items (first ∷ second ∷ rest) v = tuple_known v
+
+abbrev pub plain_values : Values → Bool
+plain_values v = plain_items v.values.items v
+
+abbrev pub plain_known : Option Values → Bool
+plain_known (Some v) = plain_values v
+plain_known None = false
+
+abbrev pub key_items : List (Option Value) → Values → Bool
+key_items [] v = true
+key_items (only ∷ []) v = repr_known only
+key_items (first ∷ second ∷ rest) v = tuple_known v
+
+abbrev pub key_values : Values → Bool
+key_values v = key_items v.values.items v
+
+abbrev pub key_known : Option Values → Bool
+key_known (Some v) = key_values v
+key_known None = false
+
+abbrev pub without_file_known : (errno said : Option Value) → Option Values → Bool
+without_file_known errno said arguments =
+    if has_value errno && has_value said then str_known errno && str_known said else plain_known arguments
+
+abbrev pub with_file_known : (errno said file second : Option Value) → Bool
+with_file_known errno said file second = str_known errno && str_known said && repr_known file && repr_known second
+
+abbrev pub system_known : (errno said file second : Option Value) → Option Values → Bool
+system_known errno said file second arguments =
+    if has_value file then with_file_known errno said file second else without_file_known errno said arguments
+
+abbrev pub import_known : Option Value → Option Values → Bool
+import_known said arguments = if is_text said then str_known said else plain_known arguments
+
+abbrev pub syntax_known : (said file line : Option Value) → Bool
+syntax_known said file line =
+    if is_text file then false else if is_number line then str_known said && str_known line else str_known said
+
+abbrev pub has_members : Members → Bool
+has_members (Members.Group its left_out) = true
+has_members Members.NoGroup = false
+has_members (Members.Lost f) = false
+
+abbrev pub rule_knows : Rule → Option Values → Members → Bool
+rule_knows rule.Plain arguments own = plain_known arguments
+rule_knows rule.Key arguments own = key_known arguments
+rule_knows (rule.System errno said file second) arguments own = system_known errno said file second arguments
+rule_knows (rule.Import said) arguments own = import_known said arguments
+rule_knows (rule.Syntax said file line) arguments own = syntax_known said file line
+rule_knows (rule.Group said) arguments own = str_known said && has_members own
+rule_knows (rule.Own class) arguments own = false
+rule_knows rule.Unreadable arguments own = false
+
+abbrev pub knows : Said → Members → Bool
+knows s own = rule_knows s.rule s.arguments own

@@ -1,0 +1,40 @@
+-- The exceptions of the threads that are shown.
+use Rattle.std.specs.Prelude.{◌≡◌, Bool, List, Option, Some, None, Vec}
+use Rattle.std.specs.Global.{Global}
+use Rattle.process_memory.specs.Memory.{Memory}
+use Rattle.py_fields.specs.declared.layout.Layout.{Layout}
+use Rattle.py_exceptions.specs.declared.described.Described.{Described}
+use Rattle.py_exceptions.specs.Threads.{IsTold, told_shown}
+use Rattle.py_fronts.specs.declared.thread_front.ThreadFront.{ThreadFront}
+use Rattle.py_fronts.specs.declared.salvaged.SalvagedInterpreter.{SalvagedInterpreter}
+use Rattle.exception_texts.specs.declared.told.ExceptionsOf.{ExceptionsOf}
+use Rattle.exception_texts.specs.declared.told.ExceptionsOf.TheVariants.{NotDescribed, Read}
+use Rattle.exception_texts.specs.declared.told.InterpreterExceptions.{InterpreterExceptions}
+use Rattle.exception_texts.specs.declared.told.ThreadTold.{ThreadTold}
+use Rattle.memory_sections.specs.Each.{EachTold, ToldIf}
+
+-- what a thread raises and handles, and all that this leads to, by places
+pub record IsThreadTold (l : Layout) (d : Described) (m : Memory) (t : ThreadFront) (told : ThreadTold) : Type 0 where
+  pub thread_is : told.thread_id ≡ t.thread_id
+  pub are : IsTold l d m t.address (told_shown told.told)
+
+-- those of each thread, or that it is not described where they stand
+abbrev pub ExceptionsBy : Layout → Option Described → Memory → List ThreadFront → ExceptionsOf → Type 0
+ExceptionsBy l None m ts told = told ≡ NotDescribed
+ExceptionsBy l (Some d) m ts NotDescribed = ⊥
+ExceptionsBy l (Some d) m ts (Read its) = EachTold (IsThreadTold l d m) ts its.items
+
+pub record AreExceptionsBy (l : Layout) (d : Option Described) (m : Memory) (i : SalvagedInterpreter)
+    (told : InterpreterExceptions) : Type 0 where
+  pub interpreter_is : told.interpreter ≡ i.front.address
+  pub are : ExceptionsBy l d m i.front.threads.threads.items told.exceptions
+
+-- those of each interpreter, all by the same places, if any are described
+pub record AreExceptions (l : Layout) (m : Memory) (is : List SalvagedInterpreter)
+    (told : Vec InterpreterExceptions Global) : Type 0 where
+  pub places : Option Described
+  pub are : EachTold (AreExceptionsBy l places m) is told.items
+
+abbrev pub ExceptionsAre : Bool → Layout → Memory → List SalvagedInterpreter
+    → Option (Vec InterpreterExceptions Global) → Type 0
+ExceptionsAre asked l m is told = ToldIf asked (AreExceptions l m is) told
