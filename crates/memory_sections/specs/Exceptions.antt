@@ -3,7 +3,9 @@ use Rattle.std.specs.Prelude.{◌≡◌, Bool, List, Option, Some, None, Vec}
 use Rattle.std.specs.Global.{Global}
 use Rattle.process_memory.specs.Memory.{Memory}
 use Rattle.py_fields.specs.declared.layout.Layout.{Layout}
+use Rattle.py_records.specs.declared.records.Records.{Records}
 use Rattle.py_exceptions.specs.declared.described.Described.{Described}
+use Rattle.py_exceptions.specs.Described.{AreDescribed}
 use Rattle.py_exceptions.specs.Threads.{IsTold, told_shown}
 use Rattle.py_fronts.specs.declared.thread_front.ThreadFront.{ThreadFront}
 use Rattle.py_fronts.specs.declared.salvaged.SalvagedInterpreter.{SalvagedInterpreter}
@@ -29,12 +31,13 @@ pub record AreExceptionsBy (l : Layout) (d : Option Described) (m : Memory) (i :
   pub interpreter_is : told.interpreter ≡ i.front.address
   pub are : ExceptionsBy l d m i.front.threads.threads.items told.exceptions
 
--- those of each interpreter, all by the same places, if any are described
-pub record AreExceptions (l : Layout) (m : Memory) (is : List SalvagedInterpreter)
+-- those of each interpreter, by the places that the records describe, if they do
+pub record AreExceptions (l : Layout) (r : Records) (m : Memory) (is : List SalvagedInterpreter)
     (told : Vec InterpreterExceptions Global) : Type 0 where
   pub places : Option Described
+  pub described : AreDescribed l r places
   pub are : EachTold (AreExceptionsBy l places m) is told.items
 
-abbrev pub ExceptionsAre : Bool → Layout → Memory → List SalvagedInterpreter
+abbrev pub ExceptionsAre : Bool → Layout → Records → Memory → List SalvagedInterpreter
     → Option (Vec InterpreterExceptions Global) → Type 0
-ExceptionsAre asked l m is told = ToldIf asked (AreExceptions l m is) told
+ExceptionsAre asked l r m is told = ToldIf asked (AreExceptions l r m is) told

@@ -101,5 +101,5 @@ pub record AreMemoryTold (asked : Sections) (bytes : List ℕ) (images : Pushed)
     (is : List SalvagedInterpreter) (told : MemoryTold) : Type 0 where
   pub names : NamesAre asked.names l (rule_of l r) m is told.names
   pub tasks : TasksAre asked.tasks l r m is told.tasks
-  pub exceptions : ExceptionsAre asked.exceptions l m is told.exceptions
+  pub exceptions : ExceptionsAre asked.exceptions l r m is told.exceptions
   pub native : NativeAre asked.native asked.strict bytes images m is told.native

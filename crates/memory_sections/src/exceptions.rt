@@ -142,7 +142,7 @@ pub(crate) fn exceptions_section(
     interpreters: &[SalvagedInterpreter],
 ) -> Result<Option<Vec<InterpreterExceptions>>, AllocError>
     requires sound { IsSound process.now.layout }
-    ensures { IfOk result (ExceptionsAre asked process.now.layout
+    ensures { IfOk result (ExceptionsAre asked process.now.layout records.now
         (byte_at (regions_of process.now.dump)) interpreters.now) }
 {
     if !asked {

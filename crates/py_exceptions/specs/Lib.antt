@@ -15,3 +15,4 @@ pub mod Threads
 pub mod Tracebacks
 pub mod ValueLists
 pub mod Values
+pub mod Described

@@ -1,5 +1,7 @@
 //! Where the parts of exceptions stand, by a layout and the records beside it.
 ghost use Rattle.std.specs.Prelude.{◌≡◌, ◌+◌, ◌≤◌, ◌↔◌, IfSome, IsTrue};
+ghost use Rattle.py_exceptions.specs.Described.{AreDescribed, AreWith, class_of, fields_of, inner_of};
+ghost use Rattle.py_exceptions.specs.Described.{raised_traceback_of, traceback_of, with_thread};
 ghost use Rattle.py_exceptions.specs.Places.{IsSoundTraceback};
 ghost use Rattle.py_exceptions.specs.Sound.{IsDescribed};
 
@@ -26,7 +28,9 @@ pub struct Described {
 }
 
 /// Where the parts of a class stand.
-fn class_of(layout: &Layout, klass: &KlassRecord, heap: &HeapTypeRecord) -> ClassPlaces {
+fn class_of(layout: &Layout, klass: &KlassRecord, heap: &HeapTypeRecord) -> ClassPlaces
+    ensures { result ≡ class_of layout.now klass.now heap.now }
+{
     ClassPlaces {
         flags: layout.klass.flags,
         name: layout.klass.name,
@@ -38,7 +42,9 @@ fn class_of(layout: &Layout, klass: &KlassRecord, heap: &HeapTypeRecord) -> Clas
 }
 
 /// Where an object of a frame names the frame.
-fn inner_of(at: Option<FrameObjectRecord>) -> Option<u32> {
+fn inner_of(at: Option<FrameObjectRecord>) -> Option<u32>
+    ensures { result ≡ inner_of at }
+{
     match at {
         Some(at) => Some(at.frame),
         None => None,
@@ -46,7 +52,9 @@ fn inner_of(at: Option<FrameObjectRecord>) -> Option<u32> {
 }
 
 /// Where the parts of a traceback's entry stand.
-fn traceback_of(at: &TracebackRecord, inner: Option<u32>) -> TracebackPlaces {
+fn traceback_of(at: &TracebackRecord, inner: Option<u32>) -> TracebackPlaces
+    ensures { result ≡ traceback_of at.now inner }
+{
     TracebackPlaces {
         size: at.size,
         next: at.next,
@@ -58,7 +66,9 @@ fn traceback_of(at: &TracebackRecord, inner: Option<u32>) -> TracebackPlaces {
 }
 
 /// Where a thread names a traceback.
-fn raised_traceback_of(at: Option<RaisedPartsRecord>) -> Option<u32> {
+fn raised_traceback_of(at: Option<RaisedPartsRecord>) -> Option<u32>
+    ensures { result ≡ raised_traceback_of at }
+{
     match at {
         Some(at) => Some(at.traceback),
         None => None,
@@ -66,7 +76,9 @@ fn raised_traceback_of(at: Option<RaisedPartsRecord>) -> Option<u32> {
 }
 
 /// Where exceptions of some classes have fields of their own; none where one of these is not described.
-fn fields_of(records: &ExceptionRecords) -> Option<FieldPlaces> {
+fn fields_of(records: &ExceptionRecords) -> Option<FieldPlaces>
+    ensures { result ≡ fields_of records.now }
+{
     let system = records.os_error?;
     let import = records.import_error?;
     let syntax = records.syntax_error?;
@@ -96,7 +108,9 @@ fn is_sound_traceback(at: &TracebackPlaces) -> bool
 }
 
 /// The places as they are described, with those of threads.
+#[tactic(auto, unfolding(crate::specs::Described::with_thread))]
 fn with_thread(layout: &Layout, records: &Records, thread: &Places) -> Option<Described>
+    ensures is { result ≡ with_thread layout.now records.now thread.now }
     ensures thread { IfSome result (λ places. places.thread ≡ thread.now) }
 {
     let klass = records.types.klass?;
@@ -112,16 +126,25 @@ fn with_thread(layout: &Layout, records: &Records, thread: &Places) -> Option<De
     })
 }
 
+/// The same, where what is read of a traceback's entry lies inside its record.
+fn sound_with(layout: &Layout, records: &Records, thread: &Places) -> Option<Described>
+    ensures are { AreWith layout.now records.now thread.now result }
+    ensures thread { IfSome result (λ places. places.thread ≡ thread.now) }
+{
+    let places = with_thread(layout, records, thread)?;
+    let is = is_sound_traceback(&places.traceback);
+    if is { Some(places) } else { None }
+}
+
 /// Where the parts of exceptions stand, by a layout and the records of its version; none where a group that is needed
 /// is not described, or what is read of a record would not lie inside it.
 ///
 /// The groups are those of `thread_exceptions::places_of`, and `heap_type`, `traceback`, `os_error`, `import_error` and
 /// `syntax_error`; from 3.11 on `frame_object`, and with `exception_group` what groups say is told.
 pub fn places_of(layout: &Layout, records: &Records) -> Option<Described>
+    ensures are { AreDescribed layout.now records.now result }
     ensures sound { IfSome result IsDescribed }
 {
     let thread = thread_places_of(layout, records)?;
-    let places = with_thread(layout, records, &thread)?;
-    let is = is_sound_traceback(&places.traceback);
-    if is { Some(places) } else { None }
+    sound_with(layout, records, &thread)
 }

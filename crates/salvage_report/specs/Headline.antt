@@ -112,12 +112,13 @@ pub record SaysTasks (s : Salvage) (told : Told) (old new : SinkSeen) : Type 0 w
       has.left.salvaged.interpreters.items tasks.items
 
 -- The exceptions of the threads that are shown: what each raises and handles, and all that this leads to, each once
--- (`IsTold` of py_exceptions), or that it is not described where they stand.
+-- (`IsTold` of py_exceptions), by the records that the tables have for the version, or that these don't describe it.
 pub record SaysExceptions (s : Salvage) (told : Told) (old new : SinkSeen) : Type 0 where
   pub has : HasSalvaged s told old new
   pub exceptions : Vec InterpreterExceptions Global
   pub is : has.left.memory.exceptions ≡ Some exceptions
-  pub are : AreExceptions has.opened.layout (memory_in has.opened.dumped) has.left.salvaged.interpreters.items exceptions
+  pub are : AreExceptions has.opened.layout (records_of has.tables has.opened.version)
+      (memory_in has.opened.dumped) has.left.salvaged.interpreters.items exceptions
 
 -- the native stacks of the threads that the core's notes tell, without guesses where that is asked for
 pub record SaysNative (s : Salvage) (told : Told) (old new : SinkSeen) : Type 0 where

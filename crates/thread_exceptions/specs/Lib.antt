@@ -5,3 +5,4 @@ pub mod Groups
 pub mod Exceptions
 pub mod Discovery
 pub mod Thread
+pub mod Described

@@ -1,16 +1,19 @@
 //! Where the parts of threads, items and exceptions stand, by a layout and the records beside it.
-ghost use Rattle.std.specs.Prelude.{IfSome};
+ghost use Rattle.std.specs.Prelude.{◌≡◌, IfSome};
+ghost use Rattle.thread_exceptions.specs.Described.{ArePlaces, exception_of, group_of, raised_by, unchecked_of};
 ghost use Rattle.thread_exceptions.specs.Places.{IsSound};
 
 use crate::{ExceptionPlaces, GroupPlaces, Places, RaisedPlaces, is_sound};
 use py_fields::Layout;
-use py_records::{ExceptionGroupRecord, ExceptionRecords, Records};
+use py_records::{ExceptionGroupRecord, ExceptionRecord, RaisedPartsRecord, RaisedRecord, Records};
 
 /// How a thread names what is raised.
-fn raised_of(records: &ExceptionRecords) -> Option<RaisedPlaces> {
-    match records.raised {
+fn raised_by(raised: Option<RaisedRecord>, parts: Option<RaisedPartsRecord>) -> Option<RaisedPlaces>
+    ensures { result ≡ raised_by raised parts }
+{
+    match raised {
         Some(at) => Some(RaisedPlaces::Exception { at: at.exception }),
-        None => match records.raised_parts {
+        None => match parts {
             Some(at) => Some(RaisedPlaces::Parts {
                 klass: at.klass,
                 value: at.value,
@@ -21,7 +24,9 @@ fn raised_of(records: &ExceptionRecords) -> Option<RaisedPlaces> {
 }
 
 /// Groups, where a version has them.
-fn group_of(layout: &Layout, group: Option<ExceptionGroupRecord>) -> Option<GroupPlaces> {
+fn group_of(layout: &Layout, group: Option<ExceptionGroupRecord>) -> Option<GroupPlaces>
+    ensures { result ≡ group_of layout.now group }
+{
     match group {
         Some(at) => Some(GroupPlaces {
             members: at.excs,
@@ -33,8 +38,10 @@ fn group_of(layout: &Layout, group: Option<ExceptionGroupRecord>) -> Option<Grou
 }
 
 /// An exception.
-fn exception_of(records: &ExceptionRecords) -> Option<ExceptionPlaces> {
-    match records.exception {
+fn exception_of(exception: Option<ExceptionRecord>) -> Option<ExceptionPlaces>
+    ensures { result ≡ exception_of exception }
+{
+    match exception {
         Some(at) => Some(ExceptionPlaces {
             size: at.size,
             dict: at.dict,
@@ -49,13 +56,17 @@ fn exception_of(records: &ExceptionRecords) -> Option<ExceptionPlaces> {
 }
 
 /// The places as they are described; none where a group that is needed is not.
-fn unchecked_of(layout: &Layout, records: &Records) -> Option<Places> {
+#[tactic(auto, unfolding(crate::specs::Described::unchecked_of))]
+fn unchecked_of(layout: &Layout, records: &Records) -> Option<Places>
+    ensures { result ≡ unchecked_of layout.now records.now }
+{
+    let told = &records.exceptions;
     let klass = records.types.klass?;
-    let raised = raised_of(&records.exceptions)?;
-    let handled = records.exceptions.handled?;
-    let item = records.exceptions.item?;
+    let raised = raised_by(told.raised, told.raised_parts)?;
+    let handled = told.handled?;
+    let item = told.item?;
     let inside = records.coroutines.generator_handled?;
-    let exception = exception_of(&records.exceptions)?;
+    let exception = exception_of(told.exception)?;
     Some(Places {
         klass: layout.object.klass,
         flags: layout.klass.flags,
@@ -68,7 +79,7 @@ fn unchecked_of(layout: &Layout, records: &Records) -> Option<Places> {
         value: item.value,
         previous: item.previous,
         exception,
-        group: group_of(layout, records.exceptions.exception_group),
+        group: group_of(layout, told.exception_group),
     })
 }
 
@@ -78,6 +89,7 @@ fn unchecked_of(layout: &Layout, records: &Records) -> Option<Places> {
 /// The groups are `klass`, `exception`, `item`, `handled`, `generator_handled`, and `raised` or `raised_parts`; with
 /// `exception_group` the members of groups are told.
 pub fn places_of(layout: &Layout, records: &Records) -> Option<Places>
+    ensures are { ArePlaces layout.now records.now result }
     ensures sound { IfSome result IsSound }
 {
     let places = unchecked_of(layout, records)?;
