@@ -270,6 +270,7 @@ def may_be(number: int, chain: List[str]) -> bool:
 def at_speed(salvage: Path, build: Build, names: str, room: Path) -> str:
     """A loop that is cut at full speed: each worker is there, with no chain that the program can't have, and the one that runs stands in its
     thread's stack."""
+    room.mkdir()
     chance, running = random.Random(build.dotted), 0
     for turn in range(TURNS):
         core = killed_at_speed(build, room / str(turn), names, chance.uniform(0, 0.2))

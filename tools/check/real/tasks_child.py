@@ -477,14 +477,19 @@ def run_subs(count):
     return found
 
 
+def end_beside(found):
+    """Tells of the tasks of the main interpreter too, and dies."""
+    own = [told_of(it) for it in asyncio.all_tasks()]
+    print(json.dumps({"version": list(sys.version_info[:3]), "interpreters": [own, *found]}), flush=True)
+    os.abort()
+
+
 async def with_subs(count):
     """Dies beside sub-interpreters that have loops."""
     found = run_subs(count)
     task_of(deep(1), "of the main interpreter")
     await settle()
-    own = [told_of(it) for it in asyncio.all_tasks()]
-    print(json.dumps({"version": list(sys.version_info[:3]), "interpreters": [own, *found]}), flush=True)
-    os.abort()
+    end_beside(found)
 
 
 # ---- at full speed
