@@ -43,7 +43,7 @@ def dump_command(options: Options, core: OpenedCore, *more: str) -> List[bytes]:
     return [*command_of(words, [core.name]), *(os.fsencode(it) for it in more), *core.images]
 
 
-LARGE = 64_000_000
+LARGE = 24_000_000
 """Of a core of so many bytes there may be tasks by the ten thousands, whose JSON is five times as long as their text."""
 
 
