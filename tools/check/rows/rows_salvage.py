@@ -357,8 +357,8 @@ def trees() -> Iterator[Row]:
               "thread_id": 0x7F00}
     interpreter = {"address": hex(HEAP), "lock": {"holder": 0, "kind": "read"}, "searched": False, "threads": [thread],
                    "threads_end": {"kind": "whole"}}
-    tree = {"interpreters": [interpreter], "layout_check": None, "missing": None, "more": False, "names": None,
-            "native": None, "process": {"arguments": "p\n", "pid": 4}, "registers": None, "signal": 11, "signal_info": None, "tasks": None, "exceptions": None,
+    tree = {"exceptions": None, "interpreters": [interpreter], "layout_check": None, "missing": None, "more": False, "names": None,
+            "native": None, "process": {"arguments": "p\n", "pid": 4}, "registers": None, "signal": 11, "signal_info": None, "tasks": None,
             "version": "3.9.0"}
     notes = [status_record(11, 4, 0x7F00), process_record(4, b"p", b"p\n")]
     text = lambda it: json.dumps(it, indent=2, ensure_ascii=False) + "\n"
@@ -451,8 +451,8 @@ def broken_tree(back: int, blocks: Sequence[int]) -> Dict[str, object]:
               "thread_id": 0x7F00}
     interpreter = {"address": hex(HEAP), "lock": {"holder": 0, "kind": "read"}, "searched": False, "threads": [thread],
                    "threads_end": {"kind": "whole"}}
-    return {"interpreters": [interpreter], "layout_check": None, **missed_object(blocks), "more": False, "names": None,
-            "native": None, "process": None, "registers": None, "signal": None, "signal_info": None, "tasks": None, "exceptions": None, "version": "3.9.0"}
+    return {"exceptions": None, "interpreters": [interpreter], "layout_check": None, **missed_object(blocks), "more": False, "names": None,
+            "native": None, "process": None, "registers": None, "signal": None, "signal_info": None, "tasks": None, "version": "3.9.0"}
 
 
 def missed() -> Iterator[Row]:
