@@ -38,6 +38,9 @@ FLAG = "--exceptions"
 USUAL_ONES = ("cause", "in_generator", "os_error")
 """Situations whose cores are as they are usually written, and are shown by the tool too."""
 
+BY_ARGUMENTS = {"encodes", "encodes_one", "decodes", "translates"}
+"""Situations in which no text is told, but the arguments, though Python has one."""
+
 BROKEN = "many_causes"
 """The situation of whose core broken copies are made."""
 
@@ -159,7 +162,7 @@ def check_text(text: str, wanted: Tree) -> bool:
         return False
     blocks = python_blocks("".join(wanted["lines"]))
     simple = all(it["message"] is not None and "\n" not in it["message"] and not it["notes"] and not it["members"]
-                 for it in wanted["exceptions"].values())
+                 and not re.search("[ :]", it["type"]) for it in wanted["exceptions"].values())
     if blocks is None or not simple or any(not it.isprintable() for it in blocks):
         return False
     shown = shown_lines(text)
@@ -237,7 +240,10 @@ def in_situation(salvage: Path, build: Build, names: str, room: Path, name: str,
     else:
         told = thread_in(tree, number)
         texts = check_thread(told, wanted)
-        compared = not wanted["raised"] and check_text(text, wanted)
+        untold = [it for it in told["exceptions"] if it["kind"] == "exception" and it["message"] is None]
+        if untold and not any(wanted["exceptions"][it["address"]]["message"] is None for it in untold) and name not in BY_ARGUMENTS:
+            raise Failure(f"the text of {untold[0]['type']} isn't told")
+        compared = not wanted["raised"] and not untold and check_text(text, wanted)
         if name in USUAL_ONES:
             check_tool(salvage, core, told, number)
     if name == BROKEN:
