@@ -625,7 +625,10 @@ def raised_while_handling():
     try:
         fails(TypeError("handled"))
     except TypeError as caught:
-        raised_by(ValueError, ValueError("set by C"), [caught])
+        value = ValueError("set by C")
+        # (so it is set by C, where another one is handled)
+        value.__context__ = caught
+        raised_by(ValueError, value, [caught])
 
 
 ALWAYS = (

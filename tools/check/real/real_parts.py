@@ -49,7 +49,7 @@ from small_core import CALLER, CODE, FRAME, HEAP, heap
 FIRST = 1_000_000
 """How many bytes are given at first."""
 
-WORDS = ("-l", "--signal", "--registers", "--check-layout", "--names")
+WORDS = ("-l", "--signal", "--registers", "--check-layout", "--names", "--exceptions")
 """What is asked for."""
 
 Tree = Dict[str, Any]
