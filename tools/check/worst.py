@@ -21,9 +21,10 @@ from typing import Callable, Dict, Iterator, Sequence, Tuple
 
 from rooms import BUILT_SALVAGE  # (first: it makes the other rooms known)
 
-from made import EXAMPLE, Objects, Segment, core_file, image_file, layout_of
+from made import EXAMPLE, Objects, Segment, Symbol, core_file, image_file, layout_of
 from measure import Shape, core, machine, row
-from small_core import BSS, FRAME, GOOD, HEAP, IMAGE, THREAD, bss, files_of, heap, mapped, of_locals
+from small_core import BSS, FRAME, GOOD, HEAP, IMAGE, THREAD, bss, files_of, heap, mapped, of_locals, small
+from rows_merge import EXTENSION, WITH_EXTENSION
 from rows_native import CODE, PAGE, RESUMES, STACK, WORDS as NATIVE, files_over, status
 from rows_salvage import named
 from shared_files import image_of_bss, image_of_sections, image_of_symbols, of_bss, of_long_name, of_notes
@@ -179,24 +180,34 @@ def cases_of_salvage() -> Iterator[Case]:
     yield Case("the same, of 16,777,214 bytes", SALVAGE, lambda: of_table(16777214, 1))
 
 
+def of_headers(headers: int, addresses: int) -> Files:
+    """Native addresses, each another one, in a library that has so many program headers without bytes before the one that has them."""
+    size = -(-addresses // 0x1000) * 0x1000
+    library = image_file([*[Segment(0x10000, b"", 5)] * headers, Segment(0x78, bytes(size), 5)], None, [Symbol("f", 0x78, size, 0x12)])
+    text = "".join(f"0x{0x600000 + at:x}\n" for at in range(addresses))
+    return {**files_of(small(more=[Segment(0x600000, b"", 5, size, EXTENSION)])), "ext": library, "addresses": text.encode()}
+
+
 def judged() -> Iterator[Case]:
     """Those that have to keep within bounds: many segments of a core share some bytes of it."""
     of_core = lambda core: lambda: files_of(core())
     for words, notes in ((GOOD, "0"), (SALVAGE, "5 out of memory")):
         yield Case("1000 load segments at one address, whose file's name has 1 MB", words, of_core(of_long_name), "0")
         yield Case("1000 note segments over the same 1 MB of notes", words, of_core(of_notes), notes)
+    of_image = lambda image: lambda: files_of(core_file([heap().segment(6), mapped(), bss()]), program=image())
+    for words in (GOOD, SALVAGE):
+        yield Case("an image of 1000 symbols that share a name of 1 MB", words,
+                   of_image(lambda: image_of_symbols(1000, 10 ** 6)), "5 out of memory")
+        yield Case("an image of 40,000 symbols that share a name of 1 MB", words,
+                   of_image(lambda: image_of_symbols(40_000, 10 ** 6)), "5 out of memory")
+        yield Case("an image of 24,000 sections that share a name of 4 MB", words,
+                   of_image(lambda: image_of_sections(24_000, 4 * 10 ** 6)), "0")
+    yield Case("`merge`: 50,000 addresses in a library of 60,000 program headers", WITH_EXTENSION, lambda: of_headers(60_000, 50_000), "0")
 
 
 def shared() -> Iterator[Case]:
     """The like of these, for which no bound is kept."""
-    of_image = lambda image: lambda: files_of(core_file([heap().segment(6), mapped(), bss()]), program=image())
     for words in (GOOD, SALVAGE):
-        yield Case("an image of 1000 symbols that share a name of 1 MB", words,
-                   of_image(lambda: image_of_symbols(1000, 10 ** 6)))
-        yield Case("an image of 40,000 symbols that share a name of 1 MB", words,
-                   of_image(lambda: image_of_symbols(40_000, 10 ** 6)))
-        yield Case("an image of 24,000 sections that share a name of 4 MB", words,
-                   of_image(lambda: image_of_sections(24_000, 4 * 10 ** 6)))
         yield Case("a bss of 1 GB, by 1000 segments over the same 1 MB", words,
                    lambda: files_of(of_bss(), program=image_of_bss()))
 
