@@ -97,6 +97,13 @@ def ends() -> Iterator[Row]:
         yield native(f"refused: {what}", at, [0, 0, 0, 0], f"{head}    ... {line}\n", file=file)
 
 
+def limits() -> Iterator[Row]:
+    """Stacks that don't go up."""
+    # (the CFA is rbp + 8, which no rule changes)
+    same = damaged(SECOND + 17, bytes([0x0C, 6, 8, 0, 0, 0, 0]))
+    yield native("not above", CODE + 0x24, [CODE + 0x30, 0, 0, 0], f"{HERE}{CALLER}\n    ... its caller's frame is not above it\n", base=STACK, file=same)
+
+
 def marks() -> Iterator[Row]:
     """What is found by other means than tables."""
     # add $8, %rsp; ret
@@ -131,5 +138,5 @@ def guesses() -> Iterator[Row]:
 
 def rows() -> Iterator[Row]:
     """All rows."""
-    for part in (ends, marks, guesses):
+    for part in (ends, limits, marks, guesses):
         yield from part()
