@@ -23,16 +23,18 @@ HEADER, COMMON, FIRST, SECOND = 176, 204, 228, 252
 """Where the table stands in the file, the common entry, and the two entries."""
 
 
-def made_file() -> bytes:
-    """The file."""
+def made_file(of_signals: bool = False, more: int = 0) -> bytes:
+    """The file; with frames of signals alone; and with so many instructions more, which do nothing, in its second entry."""
+    size = 276 + more
     head = b"\x7fELF\2\1\1".ljust(16, b"\0") + struct.pack("<2HI3QI6H", 3, 62, 1, 0, 64, 0, 0, 64, 56, 2, 64, 0, 0)
-    load = struct.pack("<2I6Q", 1, 5, 0, 0x400000, 0x400000, 276, 276, 4096)
+    load = struct.pack("<2I6Q", 1, 5, 0, 0x400000, 0x400000, size, size, 4096)
     frames = struct.pack("<2I6Q", 0x6474E550, 4, HEADER, 0x4000B0, 0x4000B0, 28, 28, 4)
     table = struct.pack("<4BI", 1, 0x1B, 3, 0x3B, COMMON - HEADER - 4)
     pairs = struct.pack("<I4i", 2, -HEADER, FIRST - HEADER, 0x20 - HEADER, SECOND - HEADER)
-    common = struct.pack("<IIB3s5B", 20, 0, 1, b"zR\0", 1, 0x78, 16, 1, 0x1B) + bytes([12, 7, 8, 0x90, 1, 0, 0])
+    augmentation = b"zRS\0" if of_signals else b"zR\0"
+    common = struct.pack("<IIB", 20, 0, 1) + augmentation + bytes([1, 0x78, 16, 1, 0x1B, 12, 7, 8, 0x90, 1]).ljust(15 - len(augmentation), b"\0")
     first = struct.pack("<IIiIB", 20, FIRST + 4 - COMMON, -(FIRST + 8), 16, 0) + bytes([0x41, 14, 16, 0x86, 2, 0, 0])
-    second = struct.pack("<IIiIB", 16 + 4, SECOND + 4 - COMMON, 0x20 - (SECOND + 8), 32, 0) + bytes([0x44, 14, 32, 0, 0, 0, 0])
+    second = struct.pack("<IIiIB", 20 + more, SECOND + 4 - COMMON, 0x20 - (SECOND + 8), 32, 0) + bytes([0x44, 14, 32]) + bytes(4 + more)
     return head + load + frames + table + pairs + common + first + second
 
 
@@ -59,11 +61,11 @@ def files_over(statuses: Sequence[bytes], words: Sequence[int], page: bytes = b"
 
 
 def native(what: str, at: int, words: Sequence[int], lines: str, page: bytes = b"", base: int = 0, strict: bool = False,
-           file: bytes = FILE) -> Row:
-    """A row of one thread, over these words of its stack."""
+           file: bytes = FILE, short: bool = False) -> Row:
+    """A row of one thread, over these words of its stack; with the first and the last frame alone."""
     files = files_over([status(9, 11, at, STACK, base)], words, page, file)
     head = "Signal 11: core\nProcess 4: p\n"
-    return salvage(f"native: {what}", f"{WORDS}{' --strict' * strict}", files, f"{head}{TEXT}Native thread 9 (crashed)\n{lines}")
+    return salvage(f"native: {what}", f"{WORDS}{' --strict' * strict}{' -n 1' * short}", files, f"{head}{TEXT}Native thread 9 (crashed)\n{lines}")
 
 
 CALLER = "    0x70000030 0x40002f (made.so)"
@@ -98,7 +100,13 @@ def ends() -> Iterator[Row]:
 
 
 def limits() -> Iterator[Row]:
-    """Stacks that don't go up."""
+    """Stacks that don't go up, or go on and on: past 2^20 frames, 64 of signals, or 2^26 bytes of rules."""
+    calls = [0, 0, 0, CODE + 0x30]
+    # (behind 64 frames of signals stands one whose rules aren't read; an entry of 65,546 bytes fits 1023 times)
+    for what, count, file in (("frames", 1 << 20, FILE), ("frames of signals", 65, made_file(True)), ("rules", 1024, made_file(False, 65_536))):
+        first, last = (f"{HERE[:-1]} <signal>\n", "    0x70000030 0x400030 (made.so)") if what == "frames of signals" else (HERE, CALLER)
+        yield native(f"cut at {what}", CODE + 0x24, calls * (count + 4), f"{first}    ... {count - 2} more frames\n{last}\n"
+                     f"    ... cut: no more {what} are read\n", file=file, short=True)
     # (the CFA is rbp + 8, which no rule changes)
     same = damaged(SECOND + 17, bytes([0x0C, 6, 8, 0, 0, 0, 0]))
     yield native("not above", CODE + 0x24, [CODE + 0x30, 0, 0, 0], f"{HERE}{CALLER}\n    ... its caller's frame is not above it\n", base=STACK, file=same)
