@@ -3,6 +3,7 @@ pub mod ReportCauses
 pub mod Opened
 pub mod Printing
 pub mod Process
+pub mod Named
 pub mod Seen
 pub mod Sole
 pub mod Notes

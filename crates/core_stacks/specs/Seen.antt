@@ -1,5 +1,5 @@
 -- What the program's own values stand for.
-use Rattle.std.specs.Prelude.{◌≡◌, ℕ, List, Option, Some, None, Result, Ok, Err, IfOk, option_copied}
+use Rattle.std.specs.Prelude.{◌≡◌, ℕ, All, List, Option, Some, None, Result, Ok, Err, IfOk, option_copied}
 use Rattle.elf64_core.specs.Header.{machine_of}
 use Rattle.image_memory.specs.Images.{Pushed}
 use Rattle.image_memory.specs.MapTables.{tests}
@@ -29,6 +29,10 @@ programs_in (Err e) = Err e
 abbrev pub known_in : {M : Type 0} → Result (PythonProcessInfo M) CoreError → Result Known CoreError
 known_in (Ok info) = Ok (known_of info)
 known_in (Err e) = Err e
+
+-- maps that start at one address have files of one name
+abbrev pub HaveOneName : List CoreMapRange → Type 0
+HaveOneName maps = (name_at : ℕ → Option (List ℕ)) × All (λ m. m.pathname ≡ name_at m.segment.addr) maps
 
 -- what is known of the process of a core by its maps and the images, or why nothing is
 pub record Knows (bytes : List ℕ) (images : Pushed)

@@ -4,6 +4,7 @@
 mod core_walk;
 mod finding;
 mod found;
+mod named;
 mod notes;
 mod printing;
 mod process;
@@ -16,6 +17,7 @@ mod stacks_in;
 pub use core_walk::walk;
 pub use finding::process_info;
 pub use found::PythonBinaries;
+pub use named::named_version;
 pub use notes::Notes;
 pub use process::{Process, open};
 pub use python_core::PythonCoreDump;

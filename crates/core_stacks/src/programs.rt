@@ -1,11 +1,12 @@
 //! The program of a process and Python's library, by the maps, and what their images say.
-ghost use Rattle.std.specs.Prelude.{◌≡◌, ◌↔◌, IsTrue, IfOk, None, option_copied, option_map};
+ghost use Rattle.std.specs.Prelude.{◌≡◌, ◌↔◌, ◌⊎◌, IsTrue, IfOk, IfSome, None, Some, option_copied, option_map};
+ghost use Rattle.std.specs.Int.{IsBitSet};
 ghost use Rattle.image_memory.specs.MapTables.{tests};
 ghost use Rattle.image_memory.specs.Maps.{in_maps};
 ghost use Rattle.py_process.specs.Facts.{facts_of};
 ghost use Rattle.py_process.specs.Programs.{FactsAre, FactsOf, FirstMapIs, ImagesSay, IsLibraryMap, IsProgram, MapsSay};
 ghost use Rattle.py_process.specs.Programs.{needed_map, path_of};
-ghost use Rattle.core_stacks.specs.Seen.{IsImageError, known_in, needed_by, programs_in, programs_now};
+ghost use Rattle.core_stacks.specs.Seen.{HaveOneName, IsImageError, known_in, needed_by, programs_in, programs_now};
 
 use elf64_core::Name;
 use image_memory::{CoreMapRange, Images, MapTable};
@@ -31,6 +32,28 @@ fn is_library(map: &CoreMapRange) -> bool
     }
 }
 
+/// The same, where the maps that start at an address are known not to be the library's.
+fn is_new_library(map: &CoreMapRange, refused: Option<u64>) -> bool
+    requires { IfSome refused (λ start. map.now.segment.addr ≡ start → ¬ IsLibraryMap map.now) }
+    ensures { IsTrue result ↔ IsLibraryMap map.now }
+{
+    match refused {
+        Some(start) => map.start() != start && is_library(map),
+        None => is_library(map),
+    }
+}
+
+/// The start of maps that are not the library's, by a further map that isn't.
+fn refused_after(map: &CoreMapRange, refused: Option<u64>) -> Option<u64>
+    ensures { (result ≡ refused) ⊎ ((result ≡ Some map.now.segment.addr) × IsBitSet map.now.segment.flags 0) }
+{
+    if map.is_exec() {
+        Some(map.start())
+    } else {
+        refused
+    }
+}
+
 /// The first map that is executable and whose file has a name.
 fn first_program(maps: &[CoreMapRange]) -> Option<&CoreMapRange>
     ensures { FirstMapIs IsProgram maps.now (option_copied result) }
@@ -43,14 +66,18 @@ fn first_program(maps: &[CoreMapRange]) -> Option<&CoreMapRange>
     None
 }
 
-/// The first map that is executable and whose file has the name of Python's library.
+/// The first map that is executable and whose file has the name of Python's library. Those after each other that
+/// start at one address have one name, which is tested once.
 fn first_library(maps: &[CoreMapRange]) -> Option<&CoreMapRange>
+    requires { HaveOneName maps.now }
     ensures { FirstMapIs IsLibraryMap maps.now (option_copied result) }
 {
+    let mut refused = None;
     for map in maps {
-        if is_library(map) {
+        if is_new_library(map, refused) {
             return Some(map);
         }
+        refused = refused_after(map, refused);
     }
     None
 }
@@ -64,6 +91,7 @@ pub(crate) struct Programs<'a> {
 
 /// The maps of the program and of the library; `NoBinary` where no executable map's file has a name.
 pub(crate) fn programs_of(maps: &[CoreMapRange]) -> Result<Programs<'_>, CoreError>
+    requires { HaveOneName maps.now }
     ensures { MapsSay maps.now (programs_in result) }
 {
     let Some(program) = first_program(maps) else {

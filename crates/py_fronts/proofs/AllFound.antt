@@ -1,6 +1,6 @@
 -- No interpreter is left out, where there are no more than are shown.
 use Rattle.std.proofs.Common.{◌≡◌, ◌≢◌, ℕ, zero, suc, ◌+◌, ◌<◌, ◌≤◌, Bool, true, false, ltb, ◌||◌, List, [], ◌∷◌}
-use Rattle.std.proofs.Common.{length, refl, sym, subst, ◌∙◌, ap, arith, get_or}
+use Rattle.std.proofs.Common.{◌++◌, append-nil, length, refl, sym, subst, ◌∙◌, ap, arith, get_or}
 use Rattle.std.specs.Prelude.{All, Ok, Err, Option, Some, None, Result, IfOk, option_map, slice_get, nat_eq, not}
 use Rattle.std.specs.Prelude.{if◌then◌else◌}
 use Rattle.std.proofs.lemmas.Bool.Decides.{nat_tests}
@@ -14,18 +14,19 @@ use Rattle.py_stacks.specs.Interpreter.{interpreter_named_by}
 use Rattle.py_stacks.specs.declared.error.StackError.{StackError}
 use Rattle.py_process.specs.Facts.{Known}
 use Rattle.py_fronts.specs.declared.interpreters.FoundInterpreter.{FoundInterpreter}
-use Rattle.py_fronts.specs.declared.interpreters.FoundInterpreters.{FoundInterpreters}
+use Rattle.py_fronts.specs.declared.interpreters.InterpreterSearch.{InterpreterSearch}
 use Rattle.py_fronts.specs.Answers.{IsOrNoMemory}
 use Rattle.py_fronts.specs.Candidates.{named_candidates, other_than, others_led_to, record_candidates}
 use Rattle.py_fronts.specs.Candidates.{searched_candidates}
 use Rattle.py_fronts.specs.Front.Ending.{Whole}
 use Rattle.py_fronts.specs.Interpreters.{Finds, address_at, after_candidate, after_candidates, after_record_of}
-use Rattle.py_fronts.specs.Interpreters.{after_records, finds_of, finds_result, headed_at, headed_by, interpreter_limit}
+use Rattle.py_fronts.specs.Interpreters.{after_records, finds_of, headed_at, headed_by, interpreter_limit}
 use Rattle.py_fronts.specs.Interpreters.{interpreters_at, is_found, none_found, shown_head, shown_where, whole_head}
-use Rattle.py_fronts.specs.Interpreters.{with_name, with_one}
+use Rattle.py_fronts.specs.Interpreters.{Told, looked_at, told_at, told_result, with_name, with_one, with_their_records}
 use Rattle.py_fronts.specs.ShownInterpreters.{AreAll, IsHeaded, IsTaken, IsTakenWhole}
 use Rattle.py_fronts.specs.ThreadFronts.{threads_front}
 use Rattle.py_fronts.proofs.FindLaws.{interpreters_shown}
+use Rattle.py_fronts.proofs.SearchLaws.{found_part, not_ended}
 use Rattle.py_fronts.proofs.Growing.{Grows, at_still, candidates_grow, grows_on, records_grow, same_grows, still}
 use Rattle.py_fronts.proofs.FoundMarks.{found_at, found_kept}
 use Rattle.py_fronts.proofs.FoundMarks.{same_address, same_by}
@@ -214,31 +215,46 @@ record_taken c l m r i d few below within =
 
 -- ---- all of them
 
-pub interpreters_all : (c : ℕ → Bool) (k : Known) (v : Version) (l : Layout) (m : Memory)
-    → (interpreters_at c k v l m).more ≡ false → AreAll c k v l m (interpreters_at c k v l m)
-unfolding interpreters_at
-interpreters_all c k v l m few =
+list_all : (c : ℕ → Bool) (k : Known) (v : Version) (l : Layout) (m : Memory) (xs : List ℕ) (all : Finds)
+    → all ≡ with_their_records true c l m (with_their_records false c l m none_found (named_candidates k v l m)) xs
+    → searched_candidates k m ≡ xs → length all.found ≤ interpreter_limit → all.more ≡ false → AreAll c k v l m all
+list_all c k v l m xs all is whole within few =
     let named = after_candidates false c l m none_found (named_candidates k v l m) in
     let first = after_records c l m interpreter_limit 0 named in
-    let searched = after_candidates true c l m first (searched_candidates k m) in
-    let all = after_records c l m interpreter_limit 0 searched in
+    let searched = after_candidates true c l m first xs in
+    let last = after_records c l m interpreter_limit 0 searched in
     let one = records_grow c l m interpreter_limit 0 named in
-    let two = candidates_grow true c l m first (searched_candidates k m) in
+    let two = candidates_grow true c l m first xs in
     let three = records_grow c l m interpreter_limit 0 searched in
     let none : FoundInterpreter = record { address = 0; head = 0; searched = false } in
-    record {
-      named = named_then c l m none_found all (named_candidates k v l m)
-          (grows_on named first all one (grows_on first searched all two three)) few;
-      recorded = All-from_get_or (λ (h : FoundInterpreter). All (IsTaken c l m all) (record_candidates l m h.address))
-          all.found none
-          (λ i below. record_taken c l m searched i none few below (interpreters_shown c k v l m).few);
-      searched = All-weaker (IsShownIn true c l m all) (IsTakenWhole c l m all)
-          (λ a h head headed whole. h head (is_whole c l m a head headed whole)) (searched_candidates k m)
-          (taken_then true c l m first all (searched_candidates k m) three few);
-    }
+    let fewer : last.more ≡ false = ap (λ (r : Finds). r.more) (sym is) ∙ few in
+    let small : length last.found ≤ interpreter_limit = omega (arith, within, ap (λ (r : Finds). length r.found) is) in
+    subst (AreAll c k v l m) (sym is) (record {
+      named = named_then c l m none_found last (named_candidates k v l m)
+          (grows_on named first last one (grows_on first searched last two three)) fewer;
+      recorded = All-from_get_or (λ (h : FoundInterpreter). All (IsTaken c l m last) (record_candidates l m h.address))
+          last.found none (λ i below. record_taken c l m searched i none fewer below small);
+      searched = subst (λ ys. All (IsTakenWhole c l m last) ys) (sym whole)
+          (All-weaker (IsShownIn true c l m last) (IsTakenWhole c l m last)
+          (λ a h head headed whole. h head (is_whole c l m a head headed whole)) xs
+          (taken_then true c l m first last xs three fewer));
+    })
+
+pub interpreters_all : (c : ℕ → Bool) (k : Known) (v : Version) (l : Layout) (m : Memory)
+    → (interpreters_at c k v l m).more ≡ false → (looked_at c k v l m).ended ≡ false
+    → AreAll c k v l m (interpreters_at c k v l m)
+interpreters_all c k v l m few ended =
+    let part = found_part c k v l m in
+    let rest = part.all (not_ended c k v l m ended).below in
+    list_all c k v l m part.looked (interpreters_at c k v l m) part.finds
+    (part.parts ∙ ap (λ xs. part.looked ++ xs) rest ∙ append-nil part.looked) (interpreters_shown c k v l m).few few
 
 pub all_found : (c : ℕ → Bool) (k : Known) (v : Version) (l : Layout) (m : Memory)
-    (r : Result FoundInterpreters StackError) → IsOrNoMemory (interpreters_at c k v l m) (finds_result r)
-    → IfOk r (λ finds. finds.more ≡ false → AreAll c k v l m (finds_of finds))
-all_found c k v l m (Ok finds) e = λ few. rw e (interpreters_all c k v l m (ap (λ (x : Finds). x.more) (sym e) ∙ few))
+    (r : Result InterpreterSearch StackError) → IsOrNoMemory (told_at c k v l m) (told_result r)
+    → IfOk r (λ search. search.finds.more ≡ false → search.looked.ended ≡ false
+    → AreAll c k v l m (finds_of search.finds))
+all_found c k v l m (Ok search) e = λ few ended.
+    subst (AreAll c k v l m) (sym (ap (λ (t : Told). t.finds) e))
+    (interpreters_all c k v l m (ap (λ (t : Told). t.finds.more) (sym e) ∙ few)
+    (ap (λ (t : Told). t.looked.ended) (sym e) ∙ ended))
 all_found c k v l m (Err e) h = tt

@@ -1,7 +1,7 @@
 -- Candidates, one after another.
 use Rattle.std.proofs.Common.{◌≡◌, ℕ, suc, ◌*◌, ◌/◌, ◌<◌, ◌≤◌, min, Bool, true, false, not, List, [], ◌∷◌, ◌++◌, length, refl, sym, ◌∙◌, ap, arith}
 use Rattle.std.proofs.Common.{append-nil, append_assoc}
-use Rattle.std.specs.Prelude.{Ok, Err, Option, Some, None, Result, if◌then◌else◌, nat_eq, option_map, option_to_list}
+use Rattle.std.specs.Prelude.{Ok, Err, Option, Some, None, Result, if◌then◌else◌, nat_eq, option_to_list}
 use Rattle.elf64_core.specs.Fields.{u64_in}
 use Rattle.process_memory.specs.Memory.{Found, Memory, record_at}
 use Rattle.process_memory.proofs.Records.{record_length}
@@ -10,17 +10,16 @@ use Rattle.process_memory.specs.declared.memory.ReadFault.{ReadFault}
 use Rattle.process_memory.specs.declared.memory.ReadFault.TheVariants as read
 use Rattle.py_fields.specs.declared.version.Version.{Version}
 use Rattle.py_fields.specs.declared.layout.Layout.{Layout}
-use Rattle.py_process.specs.Facts.{Known, facts_of}
-use Rattle.py_process.specs.declared.binary.BinaryInfo.{BinaryInfo}
+use Rattle.py_process.specs.Facts.{Known}
 use Rattle.py_process.specs.Candidates.{ListIs, head_by, head_from, section_words, words_in, words_of}
 use Rattle.py_process.specs.declared.search_error.SearchError.{SearchError}
 use Rattle.py_process.proofs.Searches.{section_missing}
 use Rattle.py_process.proofs.Words.{word_first, word_none}
 use Rattle.py_stacks.specs.declared.error.StackError.{StackError}
 use Rattle.py_fronts.specs.Answers.{IsOrNoMemory}
-use Rattle.py_fronts.specs.Candidates.{AddsWords, bss_of_image, head_given, head_in_sections, led_to}
+use Rattle.py_fronts.specs.Candidates.{AddsWords, head_given, head_in_sections, led_to}
 use Rattle.py_fronts.specs.Candidates.{named_candidates, or_else, other_than, others_led_to, runtime_in}
-use Rattle.py_fronts.specs.Candidates.{record_candidates, record_words, runtime_of_image, searched_candidates}
+use Rattle.py_fronts.specs.Candidates.{record_candidates, record_words}
 use Rattle.py_fronts.specs.Candidates.{record_most, record_words_limit, with_records}
 use Rattle.py_fronts.proofs.IdleSteps.{led_few}
 
@@ -39,16 +38,6 @@ section_lost m addr size e a n words is h = sym (append-nil words) ∙ ap (λ ws
 
 pub section_there : (m : Memory) (addr size : ℕ) (bytes read old new : List ℕ) → read ≡ bytes → Answers {E = ReadFault} read_fault (record_at m addr size) (Ok bytes) → new ≡ old ++ words_of read → new ≡ old ++ section_words m addr size
 section_there m addr size bytes read old new whole a h = h ∙ ap (λ bs. old ++ words_of bs) whole ∙ ap (λ d. old ++ words_in d) (sym a.is)
-
-pub runtime_none : (m : Memory) (binary : Option BinaryInfo) (words : List ℕ) → binary ≡ None → words ≡ words ++ runtime_of_image m (option_map facts_of binary)
-runtime_none m binary words e = rw e (sym (append-nil words))
-
-no_words : (addr : ℕ) (words : List ℕ) → addr ≡ 0 → (if nat_eq addr 0 then [] else words) ≡ []
-no_words addr words e = rw e refl
-
-pub runtime_zero : (m : Memory) (binary : Option BinaryInfo) (info : BinaryInfo) (words : List ℕ) → binary ≡ Some info → info.pyruntime_addr ≡ 0 → words ≡ words ++ runtime_of_image m (option_map facts_of binary)
-runtime_zero m binary info words e zero_at =
-    rw e (sym (append-nil words) ∙ ap (λ ws. words ++ ws) (sym (no_words info.pyruntime_addr (section_words m info.pyruntime_addr info.pyruntime_size) zero_at)))
 
 -- ---- those that are named
 
@@ -105,20 +94,6 @@ none_named k v l m words read e is h =
     let none : head_given k v l m ≡ [] = rw e at is in
     h ∙ ap (with_records l m) (sym none)
 
--- ---- those that are found by search
-
-pub searched_words : (k : Known) (m : Memory) (words one two three four : List ℕ) → words ≡ []
-    → one ≡ words ++ runtime_of_image m k.program → two ≡ one ++ runtime_of_image m k.library
-    → three ≡ two ++ bss_of_image m k.program → four ≡ three ++ bss_of_image m k.library
-    → four ≡ searched_candidates k m
-unfolding searched_candidates
-searched_words k m words one two three four h p q r s =
-    let named : two ≡ runtime_of_image m k.program ++ runtime_of_image m k.library =
-    q ∙ ap (λ ws. ws ++ runtime_of_image m k.library) (p ∙ ap (λ ws. ws ++ runtime_of_image m k.program) h) in
-    s ∙ ap (λ ws. ws ++ bss_of_image m k.library) (r ∙ ap (λ ws. ws ++ bss_of_image m k.program) named)
-    ∙ append_assoc (runtime_of_image m k.program ++ runtime_of_image m k.library) (bss_of_image m k.program)
-    (bss_of_image m k.library)
-
 -- ---- those that a record leads to
 
 pub words_recorded : (l : Layout) (m : Memory) (a count : ℕ) (words one : List ℕ) → words ≡ []
@@ -159,9 +134,6 @@ pub record_led : (l : Layout) (m : Memory) (a : ℕ) (words one others : List �
 unfolding others_led_to
 record_led l m a words one others h p e =
     e ∙ ap (other_than a) (p ∙ ap (λ ws. ws ++ record_candidates l m a) h)
-
-pub bss_none : (m : Memory) (binary : Option BinaryInfo) (words : List ℕ) → binary ≡ None → words ≡ words ++ bss_of_image m (option_map facts_of binary)
-bss_none m binary words e = rw e (sym (append-nil words))
 
 words_few : (bytes : List ℕ) → 8 * length (words_of bytes) ≤ length bytes
 unfolding words_of

@@ -1,6 +1,6 @@
 -- The interpreters that are found are shown, each once.
 use Rattle.std.proofs.Common.{◌≡◌, ℕ, zero, suc, ◌+◌, ◌<◌, Bool, true, false, ltb, not, ◌||◌, ◌&&◌, List, [], ◌∷◌, ◌++◌}
-use Rattle.std.proofs.Common.{length, map, refl, sym, ◌∙◌, ap, arith, length-append}
+use Rattle.std.proofs.Common.{length, map, refl, sym, subst, ◌∙◌, ap, arith, length-append}
 use Rattle.std.specs.Prelude.{Ok, Err, Option, Some, None, Result, IfOk, nat_eq, if◌then◌else◌}
 use Rattle.std.proofs.lemmas.Bool.Decides.{nat_tests}
 use Rattle.std.proofs.lemmas.List.Elements.{All-append, All-cons, All-map, All-nil, All-weaker}
@@ -13,18 +13,20 @@ use Rattle.py_stacks.specs.Interpreter.{interpreter_named_by, threads_head}
 use Rattle.py_stacks.specs.declared.error.StackError.{StackError}
 use Rattle.py_process.specs.Facts.{Known}
 use Rattle.py_fronts.specs.declared.interpreters.FoundInterpreter.{FoundInterpreter}
-use Rattle.py_fronts.specs.declared.interpreters.FoundInterpreters.{FoundInterpreters}
+use Rattle.py_fronts.specs.declared.interpreters.InterpreterSearch.{InterpreterSearch}
 use Rattle.py_fronts.specs.Answers.{IsOrNoMemory}
-use Rattle.py_fronts.specs.Candidates.{named_candidates, others_led_to, searched_candidates}
+use Rattle.py_fronts.specs.Candidates.{named_candidates, others_led_to}
 use Rattle.py_fronts.specs.Front.{Ending}
 use Rattle.py_fronts.specs.Front.Ending.{Whole, Cut, Broken}
 use Rattle.py_fronts.specs.Interpreters.{Finds, address_at, after_candidate, after_candidates, after_record_of}
-use Rattle.py_fronts.specs.Interpreters.{after_records, finds_of, finds_result, headed_at, headed_by, interpreter_limit}
+use Rattle.py_fronts.specs.Interpreters.{after_records, finds_of, headed_at, headed_by, interpreter_limit}
 use Rattle.py_fronts.specs.Interpreters.{interpreters_at, is_found, names_it, none_found, shown_head, shown_where}
-use Rattle.py_fronts.specs.Interpreters.{named_if, whole_head, with_head, with_name}
+use Rattle.py_fronts.specs.Interpreters.{Told, named_if, told_at, told_result, whole_head, with_head, with_name}
+use Rattle.py_fronts.specs.Interpreters.{with_their_records}
 use Rattle.py_fronts.specs.ShownInterpreters.{AreShown, EachOnce, IsHeaded, IsShown}
 use Rattle.py_fronts.specs.ThreadFronts.{threads_front}
 use Rattle.py_fronts.proofs.FoundMarks.{found_kept, same_by}
+use Rattle.py_fronts.proofs.SearchLaws.{found_part}
 
 named_by_test : (named a head h : ℕ) (b : Bool) → nat_eq named a ≡ b → ◌≡◌ {A = Option ℕ} (if b then Some head else None) (Some h) → (named ≡ a) × (head ≡ h)
 named_by_test named a head h true e s = (same_by named a e, let k : head ≡ h = cc in k)
@@ -155,13 +157,21 @@ unfolding after_records
 records_shown c l m zero index r s = s
 records_shown c l m (suc turns) index r s = records_shown c l m turns (index + 1) (after_record_of c l m r (address_at r.found index)) (record_shown c l m r (address_at r.found index) s)
 
-pub interpreters_shown : (c : ℕ → Bool) (k : Known) (v : Version) (l : Layout) (m : Memory) → AreShown c l m (interpreters_at c k v l m)
-unfolding interpreters_at
-interpreters_shown c k v l m =
+list_shown : (c : ℕ → Bool) (k : Known) (v : Version) (l : Layout) (m : Memory) (xs : List ℕ)
+    → AreShown c l m (with_their_records true c l m
+    (with_their_records false c l m none_found (named_candidates k v l m)) xs)
+list_shown c k v l m xs =
     let none : AreShown c l m none_found = record { each = All-nil (IsShown c l m); once = tt; few = omega arith } in
     let named = records_shown c l m interpreter_limit 0 _ (candidates_shown false c l m none_found (named_candidates k v l m) none) in
-    records_shown c l m interpreter_limit 0 _ (candidates_shown true c l m _ (searched_candidates k m) named)
+    records_shown c l m interpreter_limit 0 _ (candidates_shown true c l m _ xs named)
 
-pub shown_right : (c : ℕ → Bool) (k : Known) (v : Version) (l : Layout) (m : Memory) (r : Result FoundInterpreters StackError) → IsOrNoMemory (interpreters_at c k v l m) (finds_result r) → IfOk r (λ finds. AreShown c l m (finds_of finds))
-shown_right c k v l m (Ok finds) e = rw e (interpreters_shown c k v l m)
+pub interpreters_shown : (c : ℕ → Bool) (k : Known) (v : Version) (l : Layout) (m : Memory) → AreShown c l m (interpreters_at c k v l m)
+interpreters_shown c k v l m =
+    let part = found_part c k v l m in
+    subst (AreShown c l m) (sym part.finds) (list_shown c k v l m part.looked)
+
+pub shown_right : (c : ℕ → Bool) (k : Known) (v : Version) (l : Layout) (m : Memory) (r : Result InterpreterSearch StackError)
+    → IsOrNoMemory (told_at c k v l m) (told_result r) → IfOk r (λ search. AreShown c l m (finds_of search.finds))
+shown_right c k v l m (Ok search) e =
+    subst (AreShown c l m) (sym (ap (λ (t : Told). t.finds) e)) (interpreters_shown c k v l m)
 shown_right c k v l m (Err e) h = tt

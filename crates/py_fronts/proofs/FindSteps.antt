@@ -11,54 +11,29 @@ use Rattle.process_memory.proofs.Reading.{reading_gives, reading_here, reading_n
 use Rattle.py_fields.specs.declared.layout.Layout.{Layout}
 use Rattle.py_stacks.specs.declared.error.StackError.{StackError}
 use Rattle.py_stacks.specs.declared.error.StackError.TheVariants as stack
-use Rattle.py_fronts.specs.declared.chain_end.ChainEnd.{ChainEnd}
 use Rattle.py_fronts.specs.declared.interpreters.FoundInterpreters.{FoundInterpreters}
 use Rattle.py_fields.specs.declared.version.Version.{Version}
 use Rattle.py_process.specs.Facts.{Known}
 use Rattle.py_fronts.specs.Candidates.{named_candidates, others_led_to, searched_candidates}
-use Rattle.py_fronts.specs.ChainEnds.{ending_of}
-use Rattle.py_fronts.specs.Front.{Ending}
 use Rattle.py_fronts.specs.Interpreters.{Finds, Takes, Taking, Turning, address_at, after_candidate, after_candidates}
 use Rattle.py_fronts.specs.Interpreters.{after_record_of, after_records, candidate_reads, candidates_reads, finds_of, headed_at}
 use Rattle.py_fronts.specs.Interpreters.{interpreter_limit, interpreters_at, is_found, none_found, reads_of_record, record_reads}
 use Rattle.py_fronts.specs.Interpreters.{records_reads, taking_reads, with_their_records}
 use Rattle.py_fronts.specs.declared.interpreters.FoundInterpreter.{FoundInterpreter}
-use Rattle.py_fronts.specs.Interpreters.{shown_head, whole_head, with_name, with_one}
-use Rattle.py_fronts.specs.ThreadFronts.{threads_front}
+use Rattle.py_fronts.specs.Interpreters.{shown_head, with_name, with_one}
+use Rattle.py_fronts.specs.declared.search.Looked.{Looked}
+use Rattle.py_fronts.specs.declared.search.Searching.{Searching}
+use Rattle.py_fronts.specs.Interpreters.{Search, after_looks, looked_at, looked_by, search_at, search_begins, search_from}
+use Rattle.py_fronts.specs.Interpreters.{search_of, told_at, told_of, walked_by}
 use Rattle.py_fronts.proofs.FoundMarks.{addresses, by_addresses, there_below, there_is}
+use Rattle.py_fronts.proofs.SearchLaws.{found_part}
 use Rattle.py_fronts.proofs.Growing.{Grows, at_still, candidates_grow, grows_on, records_grow}
 
 -- ---- one candidate
 
-pub reads_two : (searched : Bool) (c : ℕ → Bool) (l : Layout) (m : Memory) (a : ℕ) → 2 ≤ candidate_reads searched c l m a
-reads_two false c l m a = omega arith
-reads_two true c l m a = omega arith
-
-pub reads_all : (searched : Bool) (c : ℕ → Bool) (l : Layout) (m : Memory) (a head : ℕ) (found : Option ℕ) → searched ≡ true
-    → found ≡ Some head → found ≡ headed_at c l m a
-    → candidate_reads searched c l m a ≡ 2 + (1 + length (threads_front l a m head).members)
-reads_all searched c l m a head found by_search e is =
-    let there : headed_at c l m a ≡ Some head = sym is ∙ e in
-    rw (by_search, there) refl
-
-none_shown : (searched : Bool) (c : ℕ → Bool) (l : Layout) (m : Memory) (a : ℕ) → headed_at c l m a ≡ None → None ≡ shown_head searched c l m a
+pub named_is : (c : ℕ → Bool) (l : Layout) (m : Memory) (a : ℕ) → shown_head false c l m a ≡ headed_at c l m a
 unfolding shown_head
-none_shown false c l m a e = rw e refl
-none_shown true c l m a e = rw e refl
-
-pub shown_none : (searched : Bool) (c : ℕ → Bool) (l : Layout) (m : Memory) (a : ℕ) (head : Option ℕ) → head ≡ None → head ≡ headed_at c l m a → None ≡ shown_head searched c l m a
-shown_none searched c l m a head none is = none_shown searched c l m a (sym is ∙ none)
-
-pub shown_named : (searched : Bool) (c : ℕ → Bool) (l : Layout) (m : Memory) (a : ℕ) (found : Option ℕ) (head : ℕ) → searched ≡ false → found ≡ Some head → found ≡ headed_at c l m a → Some head ≡ shown_head searched c l m a
-unfolding shown_head
-shown_named searched c l m a found head by_name e is = rw by_name (sym e ∙ is)
-
-pub shown_searched : (searched : Bool) (c : ℕ → Bool) (l : Layout) (m : Memory) (a : ℕ) (found : Option ℕ) (head : ℕ) (end : ChainEnd) (result : Option ℕ) → searched ≡ true → found ≡ Some head → found ≡ headed_at c l m a
-    → ending_of end ≡ (threads_front l a m head).ending → result ≡ whole_head (ending_of end) head → result ≡ shown_head searched c l m a
-unfolding shown_head
-shown_searched searched c l m a found head end result by_search e is ends r =
-    let there : headed_at c l m a ≡ Some head = sym is ∙ e in
-    rw (by_search, there) (r ∙ ap (λ (x : Ending). whole_head x head) ends)
+named_is c l m a = refl
 
 pub taken_before : (searched : Bool) (c : ℕ → Bool) (l : Layout) (m : Memory) (r new : Finds) (a : ℕ) (known : Bool)
     → known ≡ is_found r.found a → known ≡ true → new ≡ with_name r searched a → new ≡ after_candidate searched c l m r a
@@ -242,18 +217,23 @@ grows_reads l m r new grows =
       sum_by-append (record_reads l m) (addresses r.found) grows.added,
     )
 
+-- those that are named have no more records than all that are found
 pub first_reads : (c : ℕ → Bool) (k : Known) (v : Version) (l : Layout) (m : Memory)
     → records_reads l m (with_their_records false c l m none_found (named_candidates k v l m)).found
     ≤ records_reads l m (interpreters_at c k v l m).found
-unfolding interpreters_at
 first_reads c k v l m =
     let first = with_their_records false c l m none_found (named_candidates k v l m) in
-    let searched = after_candidates true c l m first (searched_candidates k m) in
-    grows_reads l m first (with_their_records true c l m first (searched_candidates k m))
-    (grows_on first searched _ (candidates_grow true c l m first (searched_candidates k m))
-    (records_grow c l m interpreter_limit 0 searched))
+    let part = found_part c k v l m in
+    let searched = after_candidates true c l m first part.looked in
+    omega (
+      arith,
+      grows_reads l m first (with_their_records true c l m first part.looked)
+          (grows_on first searched _ (candidates_grow true c l m first part.looked)
+          (records_grow c l m interpreter_limit 0 searched)),
+      ap (λ (r : Finds). records_reads l m r.found) part.finds,
+    )
 
-none_is : (start : FoundInterpreters) → start.found.items ≡ [] → start.more ≡ false → finds_of start ≡ none_found
+pub none_is : (start : FoundInterpreters) → start.found.items ≡ [] → start.more ≡ false → finds_of start ≡ none_found
 none_is start none no_more = ap (λ xs. record { found = xs; more = start.more }) none
     ∙ ap (λ b. record { found = []; more = b }) no_more
 
@@ -261,7 +241,7 @@ pub two_each : (c : ℕ → Bool) (l : Layout) (m : Memory) (xs : List ℕ) → 
 two_each c l m [] = refl
 two_each c l m (x ∷ xs) = omega (arith, sum_by-cons (candidate_reads false c l m) x xs, two_each c l m xs)
 
--- what the first pass costs, and the second
+-- what those that are named cost
 pub named_cost : (c : ℕ → Bool) (k : Known) (v : Version) (l : Layout) (m : Memory) (start : FoundInterpreters)
     (read : List ℕ) → start.found.items ≡ [] → start.more ≡ false → read ≡ named_candidates k v l m
     → taking_reads false c l m (finds_of start) read
@@ -273,27 +253,46 @@ named_cost c k v l m start read none no_more e =
     ∙ ap (λ n. n + records_reads l m (with_their_records false c l m none_found (named_candidates k v l m)).found)
     (two_each c l m (named_candidates k v l m))
 
-pub searched_cost : (c : ℕ → Bool) (k : Known) (v : Version) (l : Layout) (m : Memory) (start one : FoundInterpreters)
-    (read read' : List ℕ) → start.found.items ≡ [] → start.more ≡ false → read ≡ named_candidates k v l m
-    → finds_of one ≡ with_their_records false c l m (finds_of start) read → read' ≡ searched_candidates k m
-    → taking_reads true c l m (finds_of one) read'
-    ≡ candidates_reads true c l m (searched_candidates k m) + records_reads l m (interpreters_at c k v l m).found
-unfolding interpreters_at
-searched_cost c k v l m start one read read' none no_more e first e' =
-    ap (λ r. taking_reads true c l m r read')
-    (first ∙ ap (λ r. with_their_records false c l m r read) (none_is start none no_more)
-    ∙ ap (with_their_records false c l m none_found) e)
-    ∙ ap (taking_reads true c l m (with_their_records false c l m none_found (named_candidates k v l m))) e'
+pub named_found : (c : ℕ → Bool) (k : Known) (v : Version) (l : Layout) (m : Memory) (start one : FoundInterpreters)
+    (named read : List ℕ) (count : ℕ) → start.found.items ≡ [] → start.more ≡ false → named ≡ named_candidates k v l m
+    → read ≡ named → count ≡ length named → finds_of one ≡ with_their_records false c l m (finds_of start) read
+    → search_of (record { finds = one; addresses = count; members = 0 }) ≡ search_begins c k v l m
+unfolding search_begins
+named_found c k v l m start one named read count none no_more n r long first =
+    let one_is : finds_of one ≡ with_their_records false c l m none_found (named_candidates k v l m) =
+    first ∙ ap (λ x. with_their_records false c l m x read) (none_is start none no_more)
+    ∙ ap (with_their_records false c l m none_found) (r ∙ n) in
+    ap (λ x. search_from x count) one_is
+    ∙ ap (search_from (with_their_records false c l m none_found (named_candidates k v l m))) (long ∙ ap length n)
 
--- ---- all of them
+-- ---- the search, and all of them
 
-pub interpreters_found : (c : ℕ → Bool) (k : Known) (v : Version) (l : Layout) (m : Memory) (start one two : FoundInterpreters) (named read searched read' : List ℕ) → start.found.items ≡ [] → start.more ≡ false → named ≡ named_candidates k v l m → read ≡ named
-    → finds_of one ≡ after_records c l m 16 0 (after_candidates false c l m (finds_of start) read) → searched ≡ searched_candidates k m → read' ≡ searched
-    → finds_of two ≡ after_records c l m 16 0 (after_candidates true c l m (finds_of one) read') → finds_of two ≡ interpreters_at c k v l m
+pub search_is : (c : ℕ → Bool) (k : Known) (v : Version) (l : Layout) (m : Memory) (one two : Searching)
+    → search_of one ≡ search_begins c k v l m
+    → search_of two ≡ after_looks c l m (search_of one) (searched_candidates k m)
+    → search_of two ≡ search_at c k v l m
+unfolding search_at
+search_is c k v l m one two first second = second ∙ ap (λ s. after_looks c l m s (searched_candidates k m)) first
+
+-- as many members are walked as it says
+pub search_cost : (c : ℕ → Bool) (k : Known) (v : Version) (l : Layout) (m : Memory) (one : Searching)
+    → search_of one ≡ search_begins c k v l m
+    → walked_by c l m (search_of one) (searched_candidates k m) ≤ (search_at c k v l m).members
+unfolding search_at
+search_cost c k v l m one first =
+    omega (arith, ap (λ s. (after_looks c l m s (searched_candidates k m)).members) first)
+
+pub records_of_search : (c : ℕ → Bool) (k : Known) (v : Version) (l : Layout) (m : Memory) (two : Searching)
+    → search_of two ≡ search_at c k v l m
+    → after_records c l m 16 0 (finds_of two.finds) ≡ interpreters_at c k v l m
 unfolding interpreters_at
-interpreters_found c k v l m start one two named read searched read' none no_more n r first s t second =
-    let begins = none_is start none no_more in
-    let one_is : finds_of one ≡ after_records c l m 16 0 (after_candidates false c l m none_found (named_candidates k v l m)) =
-    first ∙ ap (λ x. after_records c l m 16 0 (after_candidates false c l m x read)) begins ∙ ap (λ ws. after_records c l m 16 0 (after_candidates false c l m none_found ws)) (r ∙ n) in
-    second ∙ ap (λ x. after_records c l m 16 0 (after_candidates true c l m x read')) one_is
-    ∙ ap (λ ws. after_records c l m 16 0 (after_candidates true c l m (after_records c l m 16 0 (after_candidates false c l m none_found (named_candidates k v l m))) ws)) (t ∙ s)
+records_of_search c k v l m two e = ap (λ (s : Search). after_records c l m 16 0 s.finds) e
+
+pub told_is : (c : ℕ → Bool) (k : Known) (v : Version) (l : Layout) (m : Memory) (two : Searching)
+    (finds : FoundInterpreters) (looked : Looked) → search_of two ≡ search_at c k v l m
+    → looked ≡ looked_by k (search_of two) → finds_of finds ≡ after_records c l m 16 0 (finds_of two.finds)
+    → told_of (record { finds = finds; looked = looked }) ≡ told_at c k v l m
+unfolding looked_at
+told_is c k v l m two finds looked e l_is records =
+    ap (λ r. record { finds = r; looked = looked }) (records ∙ records_of_search c k v l m two e)
+    ∙ ap (λ x. record { finds = interpreters_at c k v l m; looked = x }) (l_is ∙ ap (looked_by k) e)

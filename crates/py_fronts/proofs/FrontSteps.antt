@@ -15,9 +15,11 @@ use Rattle.py_stacks.specs.declared.error.StackError.TheVariants as stack
 use Rattle.py_process.specs.Facts.{Known}
 use Rattle.py_fronts.specs.declared.fronts.InterpreterFront.{InterpreterFront}
 use Rattle.py_fronts.specs.declared.interpreters.FoundInterpreter.{FoundInterpreter}
+use Rattle.py_fronts.specs.declared.interpreters.InterpreterSearch.{InterpreterSearch}
+use Rattle.py_fronts.specs.Interpreters.{Told, told_at, told_of}
 use Rattle.py_fronts.specs.Fronts.{FrontsShown, InterpreterShown, Passing, found_left, fronts_at, interpreter_front}
 use Rattle.py_fronts.specs.Fronts.{fronts_reads, interpreter_of_front, interpreters_fronts, threads_from}
-use Rattle.py_fronts.specs.Interpreters.{Finds, interpreters_at}
+use Rattle.py_fronts.specs.Interpreters.{interpreters_at}
 use Rattle.py_fronts.specs.ThreadFronts.{ReadingThreads, ThreadsShown, left_after, threads_of, threads_reads}
 
 fronts_append : (q : Asked) (l : Layout) (m : Memory) (limit left : ℕ) (xs : List FoundInterpreter) (one : FoundInterpreter)
@@ -108,12 +110,20 @@ module _ {q : Asked} {l : Layout} {limit before : ℕ} {s0 s1 : Seen} {found : L
       → ReadingBy (λ m. fronts_reads q (interpreters_fronts q l m limit before found)) s0 s1 (λ m. map interpreter_of_front shown ≡ interpreters_fronts q l m limit before found)
   passing_done w = reading_gives _ _ w.reading (omega (arith, w.cost, ap (cost_of q) (reading_here w.reading).0)) (λ m p. p.0)
 
-pub fronts_found : (c : ℕ → Bool) (k : Known) (v : Version) (l : Layout) (m : Memory) (q : Asked) (limit : ℕ) (finds : Finds) (found : List FoundInterpreter) (is : List InterpreterShown) → finds ≡ interpreters_at c k v l m → found ≡ finds.found
-    → is ≡ interpreters_fronts q l m limit 4194304 found → ◌≡◌ {A = FrontsShown} (record { interpreters = is; more = finds.more }) (fronts_at c k v l m q limit)
+pub fronts_found : (c : ℕ → Bool) (k : Known) (v : Version) (l : Layout) (m : Memory) (q : Asked) (limit : ℕ)
+    (search : InterpreterSearch) (found : List FoundInterpreter) (is : List InterpreterShown)
+    → told_of search ≡ told_at c k v l m → found ≡ search.finds.found.items
+    → is ≡ interpreters_fronts q l m limit 4194304 found → ◌≡◌ {A = FrontsShown}
+    (record { interpreters = is; more = search.finds.more; looked = search.looked }) (fronts_at c k v l m q limit)
 unfolding fronts_at
-fronts_found c k v l m q limit finds found is f e h =
-    ap (λ x. record { interpreters = x; more = finds.more }) (h ∙ ap (interpreters_fronts q l m limit 4194304) e)
-    ∙ ap (λ (x : Finds). record { interpreters = interpreters_fronts q l m limit 4194304 x.found; more = x.more }) f
+fronts_found c k v l m q limit search found is f e h =
+    ap (λ x. record { interpreters = x; more = search.finds.more; looked = search.looked })
+    (h ∙ ap (interpreters_fronts q l m limit 4194304) e)
+    ∙ ap (λ (t : Told). record {
+      interpreters = interpreters_fronts q l m limit 4194304 t.finds.found;
+      more = t.finds.more;
+      looked = t.looked;
+    }) f
 
 pub fronts_cost : (c : ℕ → Bool) (k : Known) (v : Version) (l : Layout) (m : Memory) (q : Asked) (limit : ℕ) (found : List FoundInterpreter) → found ≡ (interpreters_at c k v l m).found
     → fronts_reads q (interpreters_fronts q l m limit 4194304 found) ≡ fronts_reads q (fronts_at c k v l m q limit).interpreters

@@ -22,7 +22,7 @@ use Rattle.py_fronts.specs.ChainEnds.{ending_of}
 use Rattle.py_fronts.specs.Front.{Break, Ending, Front, front_at}
 use Rattle.py_fronts.specs.Front.Break.{Stray}
 use Rattle.py_fronts.specs.Front.Ending.{Whole, Cut}
-use Rattle.py_fronts.specs.Interpreters.{Chaining, HeadIs, headed_at, headed_by, names_it}
+use Rattle.py_fronts.specs.Interpreters.{Chaining, HeadIs, Walked, headed_at, headed_by, names_it, walked_of}
 use Rattle.py_fronts.specs.ThreadFronts.{ThreadIs, after_record, thread_of, threads_front}
 use Rattle.py_fronts.proofs.FrontLaws.{behind_ends, behind_more, front_end, front_full, front_stop}
 
@@ -87,8 +87,14 @@ next_at l i m a r e = e
 pub chaining_init : (l : Layout) (i head : ℕ) (s : Seen) → Chaining l i head s s 0 head
 chaining_init l i head s = record { members = []; within = omega arith; long = refl; reading = reading_none _ s _ (λ m. rw sub-zero refl) }
 
-ends_there : (l : Layout) (i head : ℕ) (m : Memory) (members : List ℕ) (ending : Ending) → threads_front l i m head ≡ record { members = members; ending = ending } → ending ≡ (threads_front l i m head).ending
-ends_there l i head m members ending e = sym (ap (λ (f : Front). f.ending) e)
+abbrev pub walked : ℕ → Ending → Walked
+walked n ending = record { members = n; ending = ending }
+
+ends_there : (l : Layout) (i head : ℕ) (m : Memory) (members : List ℕ) (count : ℕ) (ending : Ending)
+    → length members ≡ count → threads_front l i m head ≡ record { members = members; ending = ending }
+    → walked count ending ≡ walked_of (threads_front l i m head)
+ends_there l i head m members count ending long e =
+    ap (λ n. walked n ending) (sym long) ∙ sym (ap (λ (f : Front). walked_of f) e)
 
 module _ {l : Layout} {i head : ℕ} {s0 s1 : Seen} {count at : ℕ} where
   pub chaining_more : {s2 : Seen} (thread : Vec ℕ Global) (next : ℕ) → Chaining l i head s0 s1 count at → at ≢ 0 → count < thread_limit
@@ -108,25 +114,25 @@ module _ {l : Layout} {i head : ℕ} {s0 s1 : Seen} {count at : ℕ} where
       let rest = front_at (thread_of l i (byte_at s0.pieces)) (thread_limit - count) at in
       omega (arith, w.long, ap (λ (f : Front). length f.members) (reading_here w.reading), length-append w.members rest.members)
 
-  pub chaining_done : Chaining l i head s0 s1 count at → at ≡ 0 → ReadingBy (λ m. 1 + length (threads_front l i m head).members) s0 s1 (λ m. Whole ≡ (threads_front l i m head).ending)
+  pub chaining_done : Chaining l i head s0 s1 count at → at ≡ 0 → ReadingBy (λ m. 1 + length (threads_front l i m head).members) s0 s1 (λ m. walked count Whole ≡ walked_of (threads_front l i m head))
   chaining_done w null = reading_gives _ _ w.reading (omega (arith, chain_within w))
-      (λ m p. ends_there l i head m w.members Whole (behind_ends (thread_of l i m) (thread_limit - count) w.members (threads_front l i m head) at Whole (front_end (thread_of l i m) (thread_limit - count) at null) p))
+      (λ m p. ends_there l i head m w.members count Whole w.long (behind_ends (thread_of l i m) (thread_limit - count) w.members (threads_front l i m head) at Whole (front_end (thread_of l i m) (thread_limit - count) at null) p))
 
-  pub chaining_full : Chaining l i head s0 s1 count at → at ≢ 0 → count ≡ thread_limit → ReadingBy (λ m. 1 + length (threads_front l i m head).members) s0 s1 (λ m. Cut ≡ (threads_front l i m head).ending)
+  pub chaining_full : Chaining l i head s0 s1 count at → at ≢ 0 → count ≡ thread_limit → ReadingBy (λ m. 1 + length (threads_front l i m head).members) s0 s1 (λ m. walked count Cut ≡ walked_of (threads_front l i m head))
   chaining_full w some full =
       let none : thread_limit - count ≡ 0 = omega arith in
       reading_gives _ _ w.reading (omega (arith, chain_within w))
-      (λ m p. ends_there l i head m w.members Cut (behind_ends (thread_of l i m) 0 w.members (threads_front l i m head) at Cut (front_full (thread_of l i m) at some) (rw none at p)))
+      (λ m p. ends_there l i head m w.members count Cut w.long (behind_ends (thread_of l i m) 0 w.members (threads_front l i m head) at Cut (front_full (thread_of l i m) at some) (rw none at p)))
 
   pub chaining_broken : {s2 : Seen} (end : ChainEnd) → Chaining l i head s0 s1 count at → at ≢ 0 → count < thread_limit → Reading 1 s1 s2 (λ m. ThreadIs l i (record_at m at l.thread.size) (Ok (Broken end)))
-      → ReadingBy (λ m. 1 + length (threads_front l i m head).members) s0 s2 (λ m. ending_of end ≡ (threads_front l i m head).ending)
+      → ReadingBy (λ m. 1 + length (threads_front l i m head).members) s0 s2 (λ m. walked count (ending_of end) ≡ walked_of (threads_front l i m head))
   chaining_broken end w some below r =
       let room : thread_limit - count ≡ suc (thread_limit - (count + 1)) = omega arith in
-      reading_gives _ _ (reading_then (λ m. ending_of end ≡ (threads_front l i m head).ending) w.reading r
+      reading_gives _ _ (reading_then (λ m. walked count (ending_of end) ≡ walked_of (threads_front l i m head)) w.reading r
       (λ m p d.
       let stops = front_stop (thread_of l i m) (thread_limit - (count + 1)) at d.0 some (next_at l i m at (Err d.0) d.1) in
       let is : front_at (thread_of l i m) (suc (thread_limit - (count + 1))) at ≡ record { members = []; ending = ending_of end } = stops ∙ ap (λ (e : Ending). record { members = []; ending = e }) (sym d.2) in
-      ends_there l i head m w.members (ending_of end) (behind_ends (thread_of l i m) (suc (thread_limit - (count + 1))) w.members (threads_front l i m head) at (ending_of end) is (rw room at p))))
+      ends_there l i head m w.members count (ending_of end) w.long (behind_ends (thread_of l i m) (suc (thread_limit - (count + 1))) w.members (threads_front l i m head) at (ending_of end) is (rw room at p))))
       (omega (arith, chain_within w)) (λ m h. h)
 
   pub chaining_lost : {s2 : Seen} (e f : StackError) → Chaining l i head s0 s1 count at → count < thread_limit → Reading 1 s1 s2 (λ m. f ≡ stack.OutOfMemory) → e ≡ f → ReadingBy (λ m. 1 + length (threads_front l i m head).members) s0 s2 (λ m. e ≡ stack.OutOfMemory)

@@ -14,10 +14,13 @@ pub mod ThreadsLaws
 pub mod ReadLimits
 pub mod IdleSteps
 pub mod CandidateSteps
+pub mod SectionSteps
 pub mod HeadSteps
 pub mod FoundMarks
 pub mod Growing
 pub mod FindSteps
+pub mod SearchSteps
+pub mod SearchLaws
 pub mod FindLaws
 pub mod FrontSteps
 pub mod MemberFrames

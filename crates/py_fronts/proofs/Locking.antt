@@ -18,6 +18,7 @@ use Rattle.py_fronts.specs.Fronts.{FrontsShown, fronts_at, interpreter_of_front}
 use Rattle.py_fronts.specs.declared.crash.Crash.{Crash}
 use Rattle.py_fronts.specs.declared.lock.LockState.{LockState}
 use Rattle.py_fronts.specs.declared.salvaged.SalvagedInterpreter.{SalvagedInterpreter}
+use Rattle.py_fronts.specs.declared.search.Looked.{Looked}
 use Rattle.py_fronts.specs.Locks.{lock_told}
 use Rattle.py_fronts.specs.Salvaged.{Locking, SalvagedShown, locked, salvaged_at, with_lock, with_locks}
 
@@ -69,24 +70,31 @@ module _ {machine : Machine} {k : Known} {v : Version} {l : Layout} where
 
 -- as many are read as there are
 pub read_few : (c : ℕ → Bool) (k : Known) (v : Version) (l : Layout) (m : Memory) (q : Asked) (limit : ℕ)
-    (fronts : List InterpreterFront) (more : Bool) → ◌≡◌ {A = FrontsShown}
-    (record { interpreters = map interpreter_of_front fronts; more = more }) (fronts_at c k v l m q limit)
+    (fronts : List InterpreterFront) (more : Bool) (looked : Looked) → ◌≡◌ {A = FrontsShown}
+    (record { interpreters = map interpreter_of_front fronts; more = more; looked = looked })
+    (fronts_at c k v l m q limit)
     → length fronts ≡ length (fronts_at c k v l m q limit).interpreters
-read_few c k v l m q limit fronts more e =
+read_few c k v l m q limit fronts more looked e =
     omega (arith, ap (λ (f : FrontsShown). length f.interpreters) e, length-map fronts interpreter_of_front)
 
 pub salvaged_is : (c : ℕ → Bool) (machine : Machine) (k : Known) (v : Version) (l : Layout) (m : Memory) (q : Asked)
-    (limit : ℕ) (crash : Option Crash) (fronts read : List InterpreterFront) (more : Bool)
+    (limit : ℕ) (crash : Option Crash) (fronts read : List InterpreterFront) (more : Bool) (looked : Looked)
     (shown : List SalvagedInterpreter)
-    → ◌≡◌ {A = FrontsShown} (record { interpreters = map interpreter_of_front fronts; more = more })
+    → ◌≡◌ {A = FrontsShown} (record {
+      interpreters = map interpreter_of_front fronts;
+      more = more;
+      looked = looked;
+    })
     (fronts_at c k v l m q limit) → read ≡ fronts → map locked shown ≡ with_locks machine k v l m read
-    → ◌≡◌ {A = SalvagedShown} (record { interpreters = map locked shown; more = more; crash = crash })
+    → ◌≡◌ {A = SalvagedShown}
+    (record { interpreters = map locked shown; more = more; looked = looked; crash = crash })
     (salvaged_at c machine k v l m q limit crash)
 unfolding salvaged_at
-salvaged_is c machine k v l m q limit crash fronts read more shown e same h =
-    ap (λ xs. record { interpreters = xs; more = more; crash = crash }) (h ∙ ap (with_locks machine k v l m) same)
+salvaged_is c machine k v l m q limit crash fronts read more looked shown e same h =
+    ap (λ xs. record { interpreters = xs; more = more; looked = looked; crash = crash }) (h ∙ ap (with_locks machine k v l m) same)
     ∙ ap (λ (f : FrontsShown). record {
       interpreters = map (with_lock machine k v l m) f.interpreters;
       more = f.more;
+      looked = f.looked;
       crash = crash;
     }) e

@@ -15,18 +15,18 @@ use Rattle.py_fields.specs.declared.layout.Layout.{Layout}
 use Rattle.py_stacks.specs.declared.error.StackError.{StackError}
 use Rattle.py_process.specs.Facts.{Known}
 use Rattle.py_fronts.specs.declared.interpreters.FoundInterpreter.{FoundInterpreter}
-use Rattle.py_fronts.specs.declared.interpreters.FoundInterpreters.{FoundInterpreters}
+use Rattle.py_fronts.specs.declared.interpreters.InterpreterSearch.{InterpreterSearch}
 use Rattle.py_fronts.specs.Answers.{IsOrNoMemory}
 use Rattle.py_fronts.specs.Candidates.{named_candidates, other_than, others_led_to, record_candidates}
-use Rattle.py_fronts.specs.Candidates.{searched_candidates}
 use Rattle.py_fronts.specs.Interpreters.{Finds, address_at, after_candidate, after_candidates, after_record_of}
-use Rattle.py_fronts.specs.Interpreters.{after_records, finds_of, finds_result, headed_at, interpreter_limit}
+use Rattle.py_fronts.specs.Interpreters.{after_records, finds_of, headed_at, interpreter_limit}
 use Rattle.py_fronts.specs.Interpreters.{interpreters_at, is_found, named_if, none_found, shown_head, with_head}
-use Rattle.py_fronts.specs.Interpreters.{with_name, with_one}
-use Rattle.py_fronts.specs.ShownInterpreters.{AreMarked, IsMarked, IsNamed, IsShown}
+use Rattle.py_fronts.specs.Interpreters.{Told, told_at, told_result, with_name, with_one, with_their_records}
+use Rattle.py_fronts.specs.ShownInterpreters.{AreMarked, AreShown, IsMarked, IsNamed, IsShown}
 use Rattle.py_fronts.proofs.AllFound.{all_but, is_headed, record_reaches}
 use Rattle.py_fronts.proofs.Growing.{Grows, candidates_grow, grows_on, records_grow, same_grows, still}
 use Rattle.py_fronts.proofs.FindLaws.{interpreters_shown}
+use Rattle.py_fronts.proofs.SearchLaws.{found_part}
 use Rattle.py_fronts.proofs.FoundMarks.{found_at, found_kept, found_more, is_searched, less_searched, mark_at}
 use Rattle.py_fronts.proofs.FoundMarks.{none_searched, not_searched, same_address, same_by, searched_more}
 
@@ -270,18 +270,19 @@ found_name a r i d below (inl has) = mark_at r.found i d below has.1
 found_name a r i d below (inr has) =
     absurd (let both : true ≡ false = sym (found_at r.found i d below) ∙ has.0 in cc)
 
-pub interpreters_marked : (c : ℕ → Bool) (k : Known) (v : Version) (l : Layout) (m : Memory)
-    → AreMarked k v l m (interpreters_at c k v l m)
-unfolding interpreters_at
-interpreters_marked c k v l m =
+list_marked : (c : ℕ → Bool) (k : Known) (v : Version) (l : Layout) (m : Memory) (xs : List ℕ)
+    → AreShown c l m (with_their_records true c l m
+    (with_their_records false c l m none_found (named_candidates k v l m)) xs)
+    → AreMarked k v l m (with_their_records true c l m
+    (with_their_records false c l m none_found (named_candidates k v l m)) xs)
+list_marked c k v l m xs shown =
     let named = after_candidates false c l m none_found (named_candidates k v l m) in
     let first = after_records c l m interpreter_limit 0 named in
-    let searched = after_candidates true c l m first (searched_candidates k m) in
+    let searched = after_candidates true c l m first xs in
     let all = after_records c l m interpreter_limit 0 searched in
     let P = IsNamed k v l m all.found in
-    let two = candidates_grow true c l m first (searched_candidates k m) in
+    let two = candidates_grow true c l m first xs in
     let three = records_grow c l m interpreter_limit 0 searched in
-    let shown = interpreters_shown c k v l m in
     let led = led_to_named k v l m all in
     let none : FoundInterpreter = record { address = 0; head = 0; searched = false } in
     let one_told = told_candidates P false c l m none_found (named_candidates k v l m)
@@ -289,9 +290,9 @@ interpreters_marked c k v l m =
     (named_candidates k v l m) (All-contains_itself (named_candidates k v l m))) (All-nil (ByName P)) in
     let first_told = told_records P c l m all interpreter_limit 0 named led (grows_on first searched all two three)
     one_told in
-    let two_told = told_candidates P true c l m first (searched_candidates k m)
-    (All-weaker (Contains (searched_candidates k m)) (λ b. true ≡ false → P b) (λ b h e. absurd (cc))
-    (searched_candidates k m) (All-contains_itself (searched_candidates k m))) first_told in
+    let two_told = told_candidates P true c l m first xs
+    (All-weaker (Contains xs) (λ b. true ≡ false → P b) (λ b h e. absurd (cc))
+    xs (All-contains_itself xs)) first_told in
     let all_told = told_records P c l m all interpreter_limit 0 searched led (same_grows all) two_told in
     All-from_get_or (IsMarked k v l m all.found) all.found none
     (λ i below.
@@ -301,7 +302,7 @@ interpreters_marked c k v l m =
       found_by_name = All-get_or (ByName P) all.found i none below all_told;
       named = λ is. found_name one.address all i none below (elim is [
         | inl by_head ↦ records_kept c l m one.address interpreter_limit 0 searched
-            (candidates_kept true c l m one.address first (searched_candidates k m)
+            (candidates_kept true c l m one.address first xs
             (records_kept c l m one.address interpreter_limit 0 named
             (All-contains (IsNamedIn c l m named) (named_candidates k v l m) one.address
             (names_given c l m none_found (named_candidates k v l m)) by_head one.head headed)))
@@ -316,8 +317,16 @@ interpreters_marked c k v l m =
       ]);
     })
 
+pub interpreters_marked : (c : ℕ → Bool) (k : Known) (v : Version) (l : Layout) (m : Memory)
+    → AreMarked k v l m (interpreters_at c k v l m)
+interpreters_marked c k v l m =
+    let part = found_part c k v l m in
+    subst (AreMarked k v l m) (sym part.finds)
+    (list_marked c k v l m part.looked (subst (AreShown c l m) part.finds (interpreters_shown c k v l m)))
+
 pub marked_right : (c : ℕ → Bool) (k : Known) (v : Version) (l : Layout) (m : Memory)
-    (r : Result FoundInterpreters StackError) → IsOrNoMemory (interpreters_at c k v l m) (finds_result r)
-    → IfOk r (λ finds. AreMarked k v l m (finds_of finds))
-marked_right c k v l m (Ok finds) e = subst (AreMarked k v l m) (sym e) (interpreters_marked c k v l m)
+    (r : Result InterpreterSearch StackError) → IsOrNoMemory (told_at c k v l m) (told_result r)
+    → IfOk r (λ search. AreMarked k v l m (finds_of search.finds))
+marked_right c k v l m (Ok search) e =
+    subst (AreMarked k v l m) (sym (ap (λ (t : Told). t.finds) e)) (interpreters_marked c k v l m)
 marked_right c k v l m (Err e) h = tt

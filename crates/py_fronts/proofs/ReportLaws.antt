@@ -6,7 +6,8 @@ use Rattle.std.proofs.lemmas.Bool.Decides.{nat_tests}
 use Rattle.std.proofs.lemmas.List.{length-map, map-append}
 use Rattle.std.proofs.lemmas.List.Elements.{All-cons, All-contains, All-head, All-nil, All-tail, Contains-append_cases}
 use Rattle.std.proofs.lemmas.List.Elements.{Contains-append_left, Contains-append_right}
-use Rattle.std.specs.Prelude.{All, Contains, ◌||◌, IfOk, Option, Some, None, Ok, Err, Result, nat_eq}
+use Rattle.std.proofs.Common.{◌/◌, subst}
+use Rattle.std.specs.Prelude.{All, Contains, ◌||◌, nat_lt, if◌then◌else◌, IfOk, Option, Some, None, Ok, Err, Result, nat_eq}
 use Rattle.std.specs.List.{filter, flat_map}
 use Rattle.elf64_core.specs.Fields.{u64_in}
 use Rattle.process_memory.specs.Memory.{Found, Memory, ◌>>=◌, record_at}
@@ -21,18 +22,19 @@ use Rattle.py_stacks.specs.Interpreter.{interpreter_named_by, named_at, threads_
 use Rattle.py_stacks.specs.Threads.{AreTraces, AreTracesOf, IsTraceOf, Trace, thread_after, thread_limit}
 use Rattle.py_stacks.specs.declared.error.StackError.{StackError}
 use Rattle.py_process.specs.Candidates.{IsInterpreterIn, candidates_of, head_by, runtime_words, section_words}
-use Rattle.py_process.specs.Candidates.{words_of_image, words_of_images}
+use Rattle.py_process.specs.Candidates.{words_in, words_of_image, words_of_images}
 use Rattle.py_process.specs.Facts.{Facts, Known}
 use Rattle.py_process.specs.Reports.{bare_call}
 use Rattle.py_fronts.specs.declared.fronts.Fronts.{Fronts}
 use Rattle.py_fronts.specs.declared.interpreters.FoundInterpreter.{FoundInterpreter}
-use Rattle.py_fronts.specs.declared.interpreters.FoundInterpreters.{FoundInterpreters}
+use Rattle.py_fronts.specs.declared.interpreters.InterpreterSearch.{InterpreterSearch}
 use Rattle.py_fronts.specs.declared.thread_front.ThreadsFront.{ThreadsFront}
 use Rattle.py_fronts.specs.Answers.{IsOrNoMemory}
 use Rattle.py_fronts.specs.BesideReports.{AgreeWithReport, AgreesWithReport, FindsReported, IsReported, NameIt}
 use Rattle.py_fronts.specs.BesideReports.{NoTextAtNull, ShowTraces, ShowsCalls, ShowsTrace, frames_among, is_shown}
 use Rattle.py_fronts.specs.Candidates.{bss_of_image, head_given, head_in_sections, named_candidates, or_else}
-use Rattle.py_fronts.specs.Candidates.{record_candidates, runtime_of_image, searched_candidates}
+use Rattle.py_fronts.specs.Candidates.{has_long_section, is_long_image, record_candidates, runtime_of_image}
+use Rattle.py_fronts.specs.Candidates.{searched_candidates, section_count, section_limit, section_there, words_there}
 use Rattle.py_fronts.specs.FirstFrames.{ShowsEnds}
 use Rattle.py_fronts.specs.FrameFronts.{FramesShown, all_members_limit, chain_from, chain_of_thread, frames_shown}
 use Rattle.py_fronts.specs.FrameFronts.{thread_members_limit}
@@ -40,13 +42,15 @@ use Rattle.py_fronts.specs.Front.{Break, Front, Leads, front_at, or_lost}
 use Rattle.py_fronts.specs.Front.Ending.{Whole, Cut}
 use Rattle.py_fronts.specs.Fronts.{InterpreterShown, fronts_at, fronts_result, interpreter_front, interpreters_fronts}
 use Rattle.py_fronts.specs.Fronts.{threads_from}
-use Rattle.py_fronts.specs.Interpreters.{Finds, finds_of, finds_result, interpreters_at, is_found}
+use Rattle.py_fronts.specs.Interpreters.{Finds, Told, finds_of, interpreters_at, is_found, told_at, told_result}
 use Rattle.py_fronts.specs.Members.{caller_of, is_kept, members_front}
 use Rattle.py_fronts.specs.ShownInterpreters.{AreAll, IsHeaded, IsShown, IsTaken, IsTakenWhole}
 use Rattle.py_fronts.specs.Standings.{Stood, standing_at}
 use Rattle.py_fronts.specs.ThreadFronts.{after_record, front_shown, left_after, thread_of, thread_shown, threads_front}
 use Rattle.py_fronts.specs.ThreadFronts.{threads_of, threads_result, threads_shown}
 use Rattle.py_fronts.proofs.AllFound.{interpreters_all}
+use Rattle.py_fronts.proofs.SearchLaws.{neither, not_ended}
+use Rattle.py_fronts.proofs.SectionSteps.{record_there}
 use Rattle.py_fronts.proofs.FindLaws.{interpreters_shown}
 use Rattle.py_fronts.proofs.FirstFrameLaws.{ends_found}
 use Rattle.py_fronts.proofs.FrontLaws.{chain_front, front_full, front_more, front_only, some_next}
@@ -198,25 +202,51 @@ threads_agree q l m limit left i head (Err e) h = tt
 
 -- ---- the interpreter of a report is found
 
-in_image : (m : Memory) (image : Option Facts) (a : ℕ) → Contains (words_of_image m image) a
-    → Contains (runtime_of_image m image) a ⊎ Contains (bss_of_image m image) a
-in_image m None a h = inl h
-in_image m (Some facts) a h = Contains-append_cases (runtime_words m facts.pyruntime_addr facts.pyruntime_size)
-    (section_words m facts.bss_addr facts.bss_size) a h
+-- the words of a section that is all there, and has no more than are looked at
+found_words : (m : Memory) (at size x : ℕ) (d : Found (List ℕ)) → record_at m at size ≡ d
+    → nat_lt section_limit (size / 8) ≡ false → Contains (words_in d) x → Contains (section_there m at size) x
+found_words m at size x (Ok bytes) e short h =
+    let all : size / 8 ≡ section_count size = grind (arith, nat_tests) in
+    subst (λ ws. Contains ws x) (record_there m at size bytes e ∙ ap (words_there m at) all) h
+found_words m at size x (Err f) e short h = absurd (omega (arith, h.1))
 
-in_images : (m : Memory) (k : Known) (a : ℕ) → Contains (words_of_images m k) a → Contains (searched_candidates k m) a
+in_section : (m : Memory) (at size x : ℕ) → nat_lt section_limit (size / 8) ≡ false → Contains (section_words m at size) x
+    → Contains (section_there m at size) x
+in_section m at size x short h = found_words m at size x (record_at m at size) refl short h
+
+in_runtime : (m : Memory) (at size x : ℕ) (none : Bool) → nat_lt section_limit (size / 8) ≡ false
+    → Contains (if none then [] else section_words m at size) x
+    → Contains (if none then [] else section_there m at size) x
+in_runtime m at size x true short h = h
+in_runtime m at size x false short h = in_section m at size x short h
+
+in_image : (m : Memory) (image : Option Facts) (a : ℕ) → is_long_image image ≡ false
+    → Contains (words_of_image m image) a → Contains (runtime_of_image m image) a ⊎ Contains (bss_of_image m image) a
+in_image m None a short h = inl h
+in_image m (Some facts) a short h =
+    let p = neither (nat_lt section_limit (facts.pyruntime_size / 8)) (nat_lt section_limit (facts.bss_size / 8)) short in
+    elim (Contains-append_cases (runtime_words m facts.pyruntime_addr facts.pyruntime_size)
+    (section_words m facts.bss_addr facts.bss_size) a h) [
+      | inl runtime ↦ inl (in_runtime m facts.pyruntime_addr facts.pyruntime_size a (nat_eq facts.pyruntime_addr 0) p.0
+          runtime)
+      | inr bss ↦ inr (in_section m facts.bss_addr facts.bss_size a p.1 bss)
+    ]
+
+in_images : (m : Memory) (k : Known) (a : ℕ) → has_long_section k ≡ false → Contains (words_of_images m k) a
+    → Contains (searched_candidates k m) a
 unfolding searched_candidates
-in_images m k a h =
+in_images m k a short h =
+    let p = neither (is_long_image k.program) (is_long_image k.library) short in
     let runtimes = runtime_of_image m k.program ++ runtime_of_image m k.library in
     let sections = bss_of_image m k.program ++ bss_of_image m k.library in
     elim (Contains-append_cases (words_of_image m k.program) (words_of_image m k.library) a h) [
-      | inl program ↦ elim (in_image m k.program a program) [
+      | inl program ↦ elim (in_image m k.program a p.0 program) [
         | inl one ↦ Contains-append_left runtimes sections a
             (Contains-append_left (runtime_of_image m k.program) (runtime_of_image m k.library) a one)
         | inr one ↦ Contains-append_right runtimes sections a
             (Contains-append_left (bss_of_image m k.program) (bss_of_image m k.library) a one)
       ]
-      | inr library ↦ elim (in_image m k.library a library) [
+      | inr library ↦ elim (in_image m k.library a p.1 library) [
         | inl one ↦ Contains-append_left runtimes sections a
             (Contains-append_right (runtime_of_image m k.program) (runtime_of_image m k.library) a one)
         | inr one ↦ Contains-append_right runtimes sections a
@@ -233,14 +263,15 @@ in_given : (k : Known) (v : Version) (l : Layout) (m : Memory) (a : ℕ) → Con
 unfolding head_given
 in_given k v l m a h = in_first (head_by l.head k v l m) (head_in_sections k v l m) a h
 
-in_either : (k : Known) (v : Version) (l : Layout) (m : Memory) (a : ℕ) → Contains (candidates_of k v l m) a
+in_either : (k : Known) (v : Version) (l : Layout) (m : Memory) (a : ℕ) → has_long_section k ≡ false
+    → Contains (candidates_of k v l m) a
     → Contains (named_candidates k v l m) a ⊎ Contains (searched_candidates k m) a
 unfolding candidates_of named_candidates
-in_either k v l m a h =
+in_either k v l m a short h =
     let heads = head_given k v l m in
     elim (Contains-append_cases (head_by l.head k v l m) (words_of_images m k) a h) [
       | inl head ↦ inl (Contains-append_left heads (flat_map (record_candidates l m) heads) a (in_given k v l m a head))
-      | inr words ↦ inr (in_images m k a words)
+      | inr words ↦ inr (in_images m k a short words)
     ]
 
 names_back : (l : Layout) (m : Memory) (a head : ℕ) → named_at l m a ≡ Ok a → threads_head l m a ≡ Ok head
@@ -262,12 +293,12 @@ reported_headed c l m a null is =
     }
 
 reported_by : (c : ℕ → Bool) (k : Known) (v : Version) (l : Layout) (m : Memory) (r : Finds) → AreAll c k v l m r
-    → c 0 ≡ false → (a : ℕ) → IsReported c k v l m a → is_found r.found a ≡ true
-reported_by c k v l m r all null a h =
+    → has_long_section k ≡ false → c 0 ≡ false → (a : ℕ) → IsReported c k v l m a → is_found r.found a ≡ true
+reported_by c k v l m r all short null a h =
     let here : Contains (candidates_of k v l m) a = rw h.first.parts
     (Contains-append_right h.first.before (a ∷ h.first.after) a (0, omega arith, refl)) in
     let headed = reported_headed c l m a null h.first.is in
-    elim (in_either k v l m a here) [
+    elim (in_either k v l m a short here) [
       | inl named ↦ All-contains (IsTaken c l m r) (named_candidates k v l m) a all.named named h.first.is.head headed
       | inr searched ↦ All-contains (IsTakenWhole c l m r) (searched_candidates k m) a all.searched searched
           h.first.is.head headed
@@ -275,11 +306,14 @@ reported_by c k v l m r all null a h =
     ]
 
 pub reported_found : (c : ℕ → Bool) (k : Known) (v : Version) (l : Layout) (m : Memory)
-    (r : Result FoundInterpreters StackError) → IsOrNoMemory (interpreters_at c k v l m) (finds_result r)
-    → IfOk r (λ finds. FindsReported c k v l m (finds_of finds))
-reported_found c k v l m (Ok finds) e = λ few null a h. ap (λ (x : Finds). is_found x.found a) e
+    (r : Result InterpreterSearch StackError) → IsOrNoMemory (told_at c k v l m) (told_result r)
+    → IfOk r (λ search. search.looked.ended ≡ false → FindsReported c k v l m (finds_of search.finds))
+reported_found c k v l m (Ok search) e = λ ended few null a h.
+    let all_looked = ap (λ (t : Told). t.looked.ended) (sym e) ∙ ended in
+    ap (λ (t : Told). is_found t.finds.found a) e
     ∙ reported_by c k v l m (interpreters_at c k v l m)
-    (interpreters_all c k v l m (ap (λ (x : Finds). x.more) (sym e) ∙ few)) null a h
+    (interpreters_all c k v l m (ap (λ (t : Told). t.finds.more) (sym e) ∙ few) all_looked)
+    (not_ended c k v l m all_looked).short null a h
 reported_found c k v l m (Err e) h = tt
 
 -- ---- all fronts
@@ -309,8 +343,9 @@ agree_at : (c : ℕ → Bool) (k : Known) (v : Version) (l : Layout) (m : Memory
     → AgreeWithReport c k v l m (fronts_at c k v l m q limit)
 unfolding fronts_at
 agree_at c k v l m q limit = record {
-  shown = λ few null a h. same_addresses q l m limit all_members_limit (interpreters_at c k v l m).found a
-      ∙ reported_by c k v l m (interpreters_at c k v l m) (interpreters_all c k v l m few) null a h;
+  shown = λ few ended null a h. same_addresses q l m limit all_members_limit (interpreters_at c k v l m).found a
+      ∙ reported_by c k v l m (interpreters_at c k v l m) (interpreters_all c k v l m few ended)
+      (not_ended c k v l m ended).short null a h;
   each = each_agrees c q l m limit all_members_limit (interpreters_at c k v l m).found
       (interpreters_shown c k v l m).each;
 }

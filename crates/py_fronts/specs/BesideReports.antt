@@ -82,9 +82,9 @@ FindsReported contains k v l m r = r.more ≡ false → contains 0 ≡ false →
 abbrev pub is_shown : List InterpreterShown → ℕ → Bool
 is_shown shown a = list_any (λ one. nat_eq one.address a) shown
 
--- the interpreter of a report is shown, and each that is shown has its threads
+-- the interpreter of a report is shown where the search did not end before all was looked at, and each that is shown has its threads
 pub record AgreeWithReport (contains : ℕ → Bool) (k : Known) (v : Version) (l : Layout) (m : Memory)
     (fronts : FrontsShown) : Type 0 where
-  pub shown : fronts.more ≡ false → contains 0 ≡ false → (a : ℕ) → IsReported contains k v l m a
-      → is_shown fronts.interpreters a ≡ true
+  pub shown : fronts.more ≡ false → fronts.looked.ended ≡ false → contains 0 ≡ false → (a : ℕ)
+      → IsReported contains k v l m a → is_shown fronts.interpreters a ≡ true
   pub each : All (λ (one : InterpreterShown). AgreesWithReport l m one.address one.threads) fronts.interpreters

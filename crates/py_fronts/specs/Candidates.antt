@@ -1,34 +1,88 @@
 -- The addresses that may be an interpreter's: those of the search, and those that the record of one leads to. CPython
 -- chains its interpreters by `next`, which stands in front of the head of their threads; from 3.13 on one that runs
 -- nothing has no thread. The section `.PyRuntime` has the runtime's record and nothing else.
-use Rattle.std.specs.Prelude.{◌≡◌, ℕ, zero, suc, ◌+◌, ◌*◌, ◌-◌, ◌/◌, ◌≤◌, min, nat_eq, if◌then◌else◌, List, [], ◌∷◌}
-use Rattle.std.specs.Prelude.{◌++◌, flat_map, not}
+use Rattle.std.specs.Prelude.{◌≡◌, ℕ, zero, suc, ◌+◌, ◌*◌, ◌-◌, ◌/◌, ◌≤◌, min, nat_eq, nat_lt, if◌then◌else◌, List, []}
+use Rattle.std.specs.Prelude.{◌∷◌, ◌++◌, flat_map, not, Bool, false, ◌||◌}
 use Rattle.std.specs.Prelude.{length, Option, Some, None, Result, Ok, Err, Vec}
 use Rattle.std.specs.List.{filter}
 use Rattle.std.specs.Global.{Global}
-use Rattle.process_memory.specs.Memory.{Found, Memory, word_at}
+use Rattle.std.specs.Int.{w64, from_le_bytes}
+use Rattle.process_memory.specs.Memory.{Found, Memory, bytes_at, word_at}
 use Rattle.process_memory.specs.Seen.{Reading, ReadingBy, Seen}
 use Rattle.py_fields.specs.declared.version.Version.{Version}
 use Rattle.py_fields.specs.declared.layout.Layout.{Layout}
 use Rattle.py_stacks.specs.Interpreter.{threads_head}
 use Rattle.py_stacks.specs.declared.error.StackError.{StackError}
 use Rattle.py_stacks.specs.declared.error.StackError.TheVariants.{OutOfMemory}
-use Rattle.py_process.specs.Candidates.{head_by, head_from, runtime_words, section_words}
+use Rattle.py_process.specs.Candidates.{head_by, head_from, section_words}
 use Rattle.py_process.specs.Facts.{Facts, Known}
 
 -- how many words of the record of an interpreter are candidates at most
 abbrev pub record_words_limit : ℕ
 record_words_limit = 1024
 
+-- the word at an address, where all its bytes are in memory
+abbrev pub word_or_none : Option (List ℕ) → List ℕ
+word_or_none None = []
+word_or_none (Some bytes) = from_le_bytes w64 bytes ∷ []
+
+-- of so many words, one after another, those that are in memory
+unfoldable pub words_there : Memory → (a count : ℕ) → List ℕ
+words_there m a zero = []
+words_there m a (suc count) = word_or_none (bytes_at m a 8) ++ words_there m (a + 8) count
+
+-- how many words of a section are looked at at most: those of its first 32 MiB
+abbrev pub section_limit : ℕ
+section_limit = 4194304
+
+abbrev pub section_count : ℕ → ℕ
+section_count size = min (size / 8) section_limit
+
+-- the words of a section that are in memory, though others are not
+abbrev pub section_there : Memory → (addr size : ℕ) → List ℕ
+section_there m addr size = words_there m addr (section_count size)
+
+-- those of a runtime section, where there is one
+abbrev pub runtime_there : Memory → (addr size : ℕ) → List ℕ
+runtime_there m addr size = if nat_eq addr 0 then [] else section_there m addr size
+
 -- the words of an image's runtime section
 abbrev pub runtime_of_image : Memory → Option Facts → List ℕ
 runtime_of_image m None = []
-runtime_of_image m (Some facts) = runtime_words m facts.pyruntime_addr facts.pyruntime_size
+runtime_of_image m (Some facts) = runtime_there m facts.pyruntime_addr facts.pyruntime_size
 
 -- the words of its bss
 abbrev pub bss_of_image : Memory → Option Facts → List ℕ
 bss_of_image m None = []
-bss_of_image m (Some facts) = section_words m facts.bss_addr facts.bss_size
+bss_of_image m (Some facts) = section_there m facts.bss_addr facts.bss_size
+
+-- whether one of its sections has more words than are looked at
+abbrev pub is_long_image : Option Facts → Bool
+is_long_image None = false
+is_long_image (Some facts) =
+    nat_lt section_limit (facts.pyruntime_size / 8) || nat_lt section_limit (facts.bss_size / 8)
+
+-- of the images of a process
+abbrev pub has_long_section : Known → Bool
+has_long_section k = is_long_image k.program || is_long_image k.library
+
+-- how many words are looked at at most: in the runtime section of an image, in its bss, and in those of both images
+abbrev pub runtime_count : Option Facts → ℕ
+runtime_count None = 0
+runtime_count (Some facts) = section_count facts.pyruntime_size
+
+abbrev pub bss_count : Option Facts → ℕ
+bss_count None = 0
+bss_count (Some facts) = section_count facts.bss_size
+
+abbrev pub runtime_counts : Known → ℕ
+runtime_counts k = runtime_count k.program + runtime_count k.library
+
+abbrev pub bss_counts : Known → ℕ
+bss_counts k = bss_count k.program + bss_count k.library
+
+abbrev pub words_in_sections : Known → ℕ
+words_in_sections k = runtime_counts k + bss_counts k
 
 -- how many interpreters without a thread are passed by in a row at most
 abbrev pub idle_limit : ℕ
@@ -106,10 +160,16 @@ head_given k v l m = or_else (head_by l.head k v l m) (head_in_sections k v l m)
 unfoldable pub named_candidates : Known → Version → Layout → Memory → List ℕ
 named_candidates k v l m = with_records l m (head_given k v l m)
 
--- those that are found by search alone: the words of the runtime sections, and those of the bss
+-- those that are found by search alone: the words of the runtime sections, and those of the bss, as far as they are
+-- in memory
+abbrev pub runtimes_there : Known → Memory → List ℕ
+runtimes_there k m = runtime_of_image m k.program ++ runtime_of_image m k.library
+
+abbrev pub bsses_there : Known → Memory → List ℕ
+bsses_there k m = bss_of_image m k.program ++ bss_of_image m k.library
+
 unfoldable pub searched_candidates : Known → Memory → List ℕ
-searched_candidates k m = (runtime_of_image m k.program ++ runtime_of_image m k.library)
-    ++ (bss_of_image m k.program ++ bss_of_image m k.library)
+searched_candidates k m = runtimes_there k m ++ bsses_there k m
 
 -- ---- as they are read
 
@@ -142,3 +202,8 @@ pub record Following (l : Layout) (place first : ℕ) (old new : Seen) (start wo
 pub record Leading (l : Layout) (old new : Seen) (start taken candidates : List ℕ) (place : ℕ) : Type 0 where
   pub stands : place ≡ 8 * length taken
   pub reading : ReadingBy (λ m. 2 * length (led_to l m 0 taken)) old new (λ m. candidates ≡ start ++ led_to l m 0 taken)
+
+-- the words of a piece that were read one by one so far
+pub record Adding (at count : ℕ) (old new : Seen) (start words : List ℕ) (done : ℕ) : Type 0 where
+  pub within : done ≤ count
+  pub reading : Reading done old new (λ m. words ≡ start ++ words_there m at done)

@@ -13,7 +13,8 @@ use Rattle.py_fronts.specs.declared.fronts.Fronts.{Fronts}
 use Rattle.py_fronts.specs.declared.fronts.InterpreterFront.{InterpreterFront}
 use Rattle.py_fronts.specs.declared.interpreters.FoundInterpreter.{FoundInterpreter}
 use Rattle.py_fronts.specs.FrameFronts.{all_members_limit}
-use Rattle.py_fronts.specs.Interpreters.{interpreters_at, interpreters_reads}
+use Rattle.py_fronts.specs.declared.search.Looked.{Looked}
+use Rattle.py_fronts.specs.Interpreters.{interpreters_at, interpreters_reads, looked_at}
 use Rattle.py_fronts.specs.Standings.{standing_reads}
 use Rattle.py_fronts.specs.ThreadFronts.{ThreadsShown, front_shown, left_after, threads_front, threads_of}
 use Rattle.py_fronts.specs.ThreadFronts.{threads_reads}
@@ -48,11 +49,13 @@ found_left q l m limit left (one ∷ rest) =
 pub record FrontsShown : Type 0 where
   pub interpreters : List InterpreterShown
   pub more : Bool
+  pub looked : Looked
 
 unfoldable pub fronts_at : (ℕ → Bool) → Known → Version → Layout → Memory → Asked → ℕ → FrontsShown
 fronts_at contains k v l m q limit = record {
   interpreters = interpreters_fronts q l m limit all_members_limit (interpreters_at contains k v l m).found;
   more = (interpreters_at contains k v l m).more;
+  looked = looked_at contains k v l m;
 }
 
 -- ---- as they are read
@@ -66,7 +69,11 @@ interpreters_result (Ok is) = Ok (map interpreter_of_front is.items)
 interpreters_result (Err e) = Err e
 
 abbrev pub fronts_result : {E : Type 0} → Result Fronts E → Result FrontsShown E
-fronts_result (Ok f) = Ok (record { interpreters = map interpreter_of_front f.interpreters.items; more = f.more })
+fronts_result (Ok f) = Ok (record {
+  interpreters = map interpreter_of_front f.interpreters.items;
+  more = f.more;
+  looked = f.looked;
+})
 fronts_result (Err e) = Err e
 
 -- the reads of all interpreters: those of the threads of each

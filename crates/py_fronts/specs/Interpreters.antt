@@ -1,6 +1,6 @@
 -- The interpreters of a process that are shown, and how each was found.
-use Rattle.std.specs.Prelude.{◌≡◌, ℕ, zero, suc, ◌+◌, ◌*◌, ◌-◌, ◌≤◌, nat_eq, nat_lt, Bool, true, false, not}
-use Rattle.std.specs.Prelude.{◌&&◌, if◌then◌else◌, List, [], ◌∷◌, ◌++◌, length, map, slice_get, sum_by, take}
+use Rattle.std.specs.Prelude.{◌≡◌, ℕ, zero, suc, ◌+◌, ◌*◌, ◌-◌, ◌^◌, ◌≤◌, min, nat_eq, nat_le, nat_lt, Bool, true, false}
+use Rattle.std.specs.Prelude.{not, ◌||◌, ◌&&◌, if◌then◌else◌, List, [], ◌∷◌, ◌++◌, length, map, slice_get, sum_by, take}
 use Rattle.std.specs.Prelude.{option_map, Option, Some, None}
 use Rattle.std.specs.Prelude.{Result, Ok, Err}
 use Rattle.std.specs.List.{list_any}
@@ -13,14 +13,19 @@ use Rattle.py_stacks.specs.declared.error.StackError.{StackError}
 use Rattle.py_stacks.specs.declared.error.StackError.TheVariants.{OutOfMemory}
 use Rattle.py_process.specs.Facts.{Known}
 use Rattle.py_process.specs.Sections.{IsSearched}
-use Rattle.py_fronts.specs.declared.chain_end.ChainEnd.{ChainEnd}
 use Rattle.py_fronts.specs.declared.interpreters.FoundInterpreter.{FoundInterpreter}
 use Rattle.py_fronts.specs.declared.interpreters.FoundInterpreters.{FoundInterpreters}
+use Rattle.py_fronts.specs.declared.interpreters.InterpreterSearch.{InterpreterSearch}
+use Rattle.py_fronts.specs.declared.search.Looked.{Looked}
+use Rattle.py_fronts.specs.declared.search.Searching.{Searching}
+use Rattle.py_fronts.specs.declared.search.ThreadsWalk.{ThreadsWalk}
+use Rattle.py_fronts.specs.declared.search.Trial.{Trial}
 use Rattle.py_fronts.specs.declared.thread_front.Thread.{Thread}
 use Rattle.py_fronts.specs.declared.thread_front.Thread.TheVariants.{At, Broken as Outside}
-use Rattle.py_fronts.specs.Candidates.{named_candidates, others_led_to, record_candidates, searched_candidates}
+use Rattle.py_fronts.specs.Candidates.{has_long_section, named_candidates, others_led_to, record_candidates}
+use Rattle.py_fronts.specs.Candidates.{searched_candidates, words_in_sections, words_there}
 use Rattle.py_fronts.specs.ChainEnds.{ending_of}
-use Rattle.py_fronts.specs.Front.{Ending, behind, front_at}
+use Rattle.py_fronts.specs.Front.{Ending, Front, behind, front_at}
 use Rattle.py_fronts.specs.Front.Ending.{Whole, Cut, Broken}
 use Rattle.py_fronts.specs.ThreadFronts.{thread_of, threads_front}
 use Rattle.py_stacks.specs.Threads.{thread_limit}
@@ -123,23 +128,137 @@ with_their_records searched contains l m r xs =
 abbrev pub none_found : Finds
 none_found = record { found = []; more = false }
 
+-- ---- the search
+
+-- how many members of chains of threads are walked for those that are found by search alone
+abbrev pub search_limit : ℕ
+search_limit = 4194304
+
+-- what was found so far, how many addresses were looked at (no more than a word holds are counted), and how many
+-- members were walked
+pub record Search : Type 0 where
+  pub finds : Finds
+  pub addresses : ℕ
+  pub members : ℕ
+
+-- the members that are walked for an address: those of its chain of threads, where it is an interpreter's
+abbrev pub chain_length : Layout → Memory → ℕ → Option ℕ → ℕ
+chain_length l m a None = 0
+chain_length l m a (Some head) = length (threads_front l a m head).members
+
+-- and was not found before
+abbrev pub walked_for : (ℕ → Bool) → Layout → Memory → List FoundInterpreter → ℕ → ℕ
+walked_for contains l m found a = if is_found found a then 0 else chain_length l m a (headed_at contains l m a)
+
+abbrev pub look_at : (ℕ → Bool) → Layout → Memory → Search → ℕ → Search
+look_at contains l m s a = record {
+  finds = after_candidate true contains l m s.finds a;
+  addresses = min (s.addresses + 1) (2 ^ 64 - 1);
+  members = s.members + walked_for contains l m s.finds.found a;
+}
+
+-- while fewer members were walked than the limit
+abbrev pub look_within : (ℕ → Bool) → Layout → Memory → Search → ℕ → Search
+look_within contains l m s a = if nat_lt s.members search_limit then look_at contains l m s a else s
+
+-- after some addresses, in order
+unfoldable pub after_looks : (ℕ → Bool) → Layout → Memory → Search → List ℕ → Search
+after_looks contains l m s [] = s
+after_looks contains l m s (a ∷ rest) = after_looks contains l m (look_within contains l m s a) rest
+
+-- those that are named were looked at first
+abbrev pub search_from : Finds → ℕ → Search
+search_from r addresses = record { finds = r; addresses = addresses; members = 0 }
+
+unfoldable pub search_begins : (ℕ → Bool) → Known → Version → Layout → Memory → Search
+search_begins contains k v l m =
+    search_from (with_their_records false contains l m none_found (named_candidates k v l m))
+    (length (named_candidates k v l m))
+
+unfoldable pub search_at : (ℕ → Bool) → Known → Version → Layout → Memory → Search
+search_at contains k v l m =
+    after_looks contains l m (search_begins contains k v l m) (searched_candidates k m)
+
+-- what is said of a search: it ended before all was looked at, where so many members were walked, or a section has more
+-- words than are looked at
+abbrev pub looked_by : Known → Search → Looked
+looked_by k s = record {
+  addresses = s.addresses;
+  members = s.members;
+  ended = nat_le search_limit s.members || has_long_section k;
+}
+
+unfoldable pub looked_at : (ℕ → Bool) → Known → Version → Layout → Memory → Looked
+looked_at contains k v l m = looked_by k (search_at contains k v l m)
+
 -- those that are found by name, with those that their records lead to; and then those that are found by search
 unfoldable pub interpreters_at : (ℕ → Bool) → Known → Version → Layout → Memory → Finds
-interpreters_at contains k v l m = with_their_records true contains l m
-    (with_their_records false contains l m none_found (named_candidates k v l m)) (searched_candidates k m)
+interpreters_at contains k v l m =
+    after_records contains l m interpreter_limit 0 (search_at contains k v l m).finds
+
+-- they, and what was looked at for them
+pub record Told : Type 0 where
+  pub finds : Finds
+  pub looked : Looked
+
+abbrev pub told_at : (ℕ → Bool) → Known → Version → Layout → Memory → Told
+told_at contains k v l m =
+    record { finds = interpreters_at contains k v l m; looked = looked_at contains k v l m }
 
 -- ---- as they are read
 
 abbrev pub finds_of : FoundInterpreters → Finds
 finds_of r = record { found = r.found.items; more = r.more }
 
-abbrev pub finds_result : {E : Type 0} → Result FoundInterpreters E → Result Finds E
-finds_result (Ok r) = Ok (finds_of r)
-finds_result (Err e) = Err e
+-- the walk of a chain of threads: how many it meets, and how it ends
+pub record Walked : Type 0 where
+  pub members : ℕ
+  pub ending : Ending
 
-abbrev pub ending_result : {E : Type 0} → Result ChainEnd E → Result Ending E
-ending_result (Ok e) = Ok (ending_of e)
-ending_result (Err e) = Err e
+abbrev pub walked_of : Front → Walked
+walked_of front = record { members = length front.members; ending = front.ending }
+
+abbrev pub walk_of : ThreadsWalk → Walked
+walk_of w = record { members = w.members; ending = ending_of w.end }
+
+abbrev pub walk_result : {E : Type 0} → Result ThreadsWalk E → Result Walked E
+walk_result (Ok w) = Ok (walk_of w)
+walk_result (Err e) = Err e
+
+-- an address that is tried: its first thread, where it is shown, and how many members are walked for it
+pub record Tried : Type 0 where
+  pub head : Option ℕ
+  pub members : ℕ
+
+abbrev pub try_at : (ℕ → Bool) → Layout → Memory → ℕ → Tried
+try_at contains l m a =
+    record { head = shown_head true contains l m a; members = chain_length l m a (headed_at contains l m a) }
+
+abbrev pub tried_of : Trial → Tried
+tried_of t = record { head = t.head; members = t.members }
+
+abbrev pub tried_result : {E : Type 0} → Result Trial E → Result Tried E
+tried_result (Ok t) = Ok (tried_of t)
+tried_result (Err e) = Err e
+
+abbrev pub search_of : Searching → Search
+search_of s = record { finds = finds_of s.finds; addresses = s.addresses; members = s.members }
+
+-- the search after some more; want of memory may always be answered
+abbrev pub Looks : Search → Searching → Result (Unit {0}) StackError → Type 0
+Looks wanted new (Ok u) = search_of new ≡ wanted
+Looks wanted new (Err e) = e ≡ OutOfMemory
+
+abbrev pub searching_result : {E : Type 0} → Result Searching E → Result Search E
+searching_result (Ok s) = Ok (search_of s)
+searching_result (Err e) = Err e
+
+abbrev pub told_of : InterpreterSearch → Told
+told_of s = record { finds = finds_of s.finds; looked = s.looked }
+
+abbrev pub told_result : {E : Type 0} → Result InterpreterSearch E → Result Told E
+told_result (Ok s) = Ok (told_of s)
+told_result (Err e) = Err e
 
 -- the address of a thread, where there is one
 abbrev pub HeadIs : ℕ → Thread → Option ℕ → Type 0
@@ -207,11 +326,28 @@ pub record Turning (contains : ℕ → Bool) (l : Layout) (start : Finds) (old n
       (λ m. after_records contains l m interpreter_limit 0 start
       ≡ after_records contains l m (interpreter_limit - index) index (finds_of finds))
 
--- how many reads it takes to find them all at most: four for each that is named; for each word that is searched two,
--- and those of its threads; and twice those of the records of all that are shown
+-- how many members were walked by some more
+abbrev pub walked_by : (ℕ → Bool) → Layout → Memory → Search → List ℕ → ℕ
+walked_by contains l m s xs = (after_looks contains l m s xs).members - s.members
+
+-- the reads of some addresses: three for each, and those of the members that are walked
+abbrev pub looks_reads : (ℕ → Bool) → Layout → Memory → Search → List ℕ → ℕ
+looks_reads contains l m s xs = 3 * length xs + walked_by contains l m s xs
+
+-- those of so many words of a section: two for each, and those of the addresses in them
+abbrev pub words_reads : (ℕ → Bool) → Layout → Memory → Search → (at count : ℕ) → ℕ
+words_reads contains l m s at count = 5 * count + walked_by contains l m s (words_there m at count)
+
+-- the reads of those that are named
+abbrev pub named_reads : (ℕ → Bool) → Known → Version → Layout → Memory → ℕ
+named_reads contains k v l m = 7 + 4 * length (named_candidates k v l m)
+    + records_reads l m (with_their_records false contains l m none_found (named_candidates k v l m)).found
+
+-- how many reads it takes to find them all at most: four for each that is named; for each word of the sections five,
+-- and one for each member that is walked; and twice those of the records of all that are shown
 abbrev pub interpreters_reads : (ℕ → Bool) → Known → Version → Layout → Memory → ℕ
 interpreters_reads contains k v l m =
-    11 + 4 * length (named_candidates k v l m) + candidates_reads true contains l m (searched_candidates k m)
+    7 + 4 * length (named_candidates k v l m) + 5 * words_in_sections k + (search_at contains k v l m).members
     + 2 * records_reads l m (interpreters_at contains k v l m).found
 
 -- what the search for interpreters owes: each read is one of fewer than 65536 bytes, or of exactly a section

@@ -15,6 +15,7 @@ use Rattle.py_fronts.specs.Fronts.{InterpreterShown, all_most, fronts_at, fronts
 use Rattle.py_fronts.specs.Interpreters.{interpreters_at, interpreters_reads}
 use Rattle.py_fronts.specs.declared.crash.Crash.{Crash}
 use Rattle.py_fronts.specs.declared.lock.LockState.{LockState}
+use Rattle.py_fronts.specs.declared.search.Looked.{Looked}
 use Rattle.py_fronts.specs.declared.salvaged.Salvaged.{Salvaged}
 use Rattle.py_fronts.specs.declared.salvaged.SalvagedInterpreter.{SalvagedInterpreter}
 use Rattle.py_fronts.specs.Crashes.{is_crashed}
@@ -39,6 +40,7 @@ with_lock machine k v l m i = record { interpreter = i; lock = lock_told machine
 pub record SalvagedShown : Type 0 where
   pub interpreters : List LockedInterpreter
   pub more : Bool
+  pub looked : Looked
   pub crash : Option Crash
 
 -- the fronts of a process, each interpreter with its own lock
@@ -47,6 +49,7 @@ unfoldable pub salvaged_at : (ℕ → Bool) → Machine → Known → Version �
 salvaged_at contains machine k v l m q limit crash = record {
   interpreters = map (with_lock machine k v l m) (fronts_at contains k v l m q limit).interpreters;
   more = (fronts_at contains k v l m q limit).more;
+  looked = (fronts_at contains k v l m q limit).looked;
   crash = crash;
 }
 
@@ -63,7 +66,12 @@ abbrev pub with_locks : Machine → Known → Version → Layout → Memory → 
 with_locks machine k v l m fronts = map (with_lock machine k v l m) (map interpreter_of_front fronts)
 
 abbrev pub salvaged_result : {E : Type 0} → Result Salvaged E → Result SalvagedShown E
-salvaged_result (Ok s) = Ok (record { interpreters = map locked s.interpreters.items; more = s.more; crash = s.crash })
+salvaged_result (Ok s) = Ok (record {
+  interpreters = map locked s.interpreters.items;
+  more = s.more;
+  looked = s.looked;
+  crash = s.crash;
+})
 salvaged_result (Err e) = Err e
 
 -- the reads of all: those of the search and of the fronts, and three for each lock

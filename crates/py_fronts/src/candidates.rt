@@ -7,12 +7,11 @@ ghost use Rattle.py_fields.specs.Sound.{IsSound};
 ghost use Rattle.py_stacks.specs.StackError.{stack_fault};
 ghost use Rattle.py_process.specs.Candidates.{ListIs, section_words, words_of};
 ghost use Rattle.py_process.specs.Facts.{facts_of, known_of};
-ghost use Rattle.py_process.specs.Sections.{IsSection, IsSectionIn};
 ghost use Rattle.py_fronts.specs.Answers.{IsOrNoMemory};
-ghost use Rattle.py_fronts.specs.Candidates.{AddsWords, behind_idle, bss_of_image, found_or_none, head_given};
+ghost use Rattle.py_fronts.specs.Candidates.{AddsWords, behind_idle, found_or_none, head_given};
 ghost use Rattle.py_fronts.specs.Candidates.{head_in_sections, led_to, named_candidates, next_by, other_than};
 ghost use Rattle.py_fronts.specs.Candidates.{others_led_to, record_candidates, record_most, record_words_reads};
-ghost use Rattle.py_fronts.specs.Candidates.{record_words, runtime_in, runtime_of_image, searched_candidates};
+ghost use Rattle.py_fronts.specs.Candidates.{record_words, runtime_in};
 ghost use Rattle.py_fronts.specs.Candidates.{words_result};
 
 use elf64_core::u64_in;
@@ -30,7 +29,7 @@ const RECORD_WORDS_LIMIT: u32 = 1024;
 const IDLE_LIMIT: u32 = 64;
 
 /// Adds the words of some bytes; a tail of fewer than 8 is dropped.
-fn add_words(words: &mut Vec<u64>, bytes: &[u8]) -> Result<(), AllocFailed<u64>>
+pub(crate) fn add_words(words: &mut Vec<u64>, bytes: &[u8]) -> Result<(), AllocFailed<u64>>
     ensures { OnOk result (words.new.items ≡ words.old.items ++ words_of bytes.now) }
 {
     for word in bytes.chunks_exact(8) {
@@ -57,47 +56,6 @@ fn add_section<P: ProcessMemory>(
     };
     add_words(words, &bytes)?;
     Ok(())
-}
-
-/// Adds those of an image's runtime section, where it has one. At most one read.
-fn add_runtime<P: ProcessMemory>(
-    alloc: Global,
-    process: &mut P,
-    words: &mut Vec<u64>,
-    binary: &Option<BinaryInfo>,
-) -> Result<(), StackError>
-    ensures { ReadingOf (IsSectionIn (option_map facts_of binary.now)) 1 (P.seen process.old) (P.seen process.new)
-        (λ m. AddsWords words.old.items (runtime_of_image m (option_map facts_of binary.now)) words.new.items result) }
-{
-    let Some(binary) = binary else {
-        return Ok(());
-    };
-    if binary.pyruntime_addr == 0 {
-        return Ok(());
-    }
-    add_section(
-        alloc,
-        process,
-        words,
-        binary.pyruntime_addr,
-        binary.pyruntime_size,
-    )
-}
-
-/// Adds those of an image's bss. At most one read.
-fn add_bss<P: ProcessMemory>(
-    alloc: Global,
-    process: &mut P,
-    words: &mut Vec<u64>,
-    binary: &Option<BinaryInfo>,
-) -> Result<(), StackError>
-    ensures { ReadingOf (IsSectionIn (option_map facts_of binary.now)) 1 (P.seen process.old) (P.seen process.new)
-        (λ m. AddsWords words.old.items (bss_of_image m (option_map facts_of binary.now)) words.new.items result) }
-{
-    match binary {
-        Some(binary) => add_section(alloc, process, words, binary.bss_addr, binary.bss_size),
-        None => Ok(()),
-    }
 }
 
 /// Nothing, where a word of an interpreter can't be read; want of memory is handed on.
@@ -319,25 +277,6 @@ pub fn named_candidates<M: ContainsAddr, P: ProcessMemory>(
         Ok(None) => Ok(Vec::new(alloc)),
         Err(_) => Err(StackError::OutOfMemory),
     }
-}
-
-/// The candidates that are found by search alone, in order: the words of the program's runtime section and of the
-/// library's, and then those of the program's bss and of the library's. The one error is want of memory. At most 4
-/// reads.
-pub fn searched_candidates<M: ContainsAddr, P: ProcessMemory>(
-    alloc: Global,
-    info: &PythonProcessInfo<M>,
-    process: &mut P,
-) -> Result<Vec<u64>, StackError>
-    ensures { ReadingOf (IsSection (known_of info.now)) 4 (P.seen process.old) (P.seen process.new)
-        (λ m. IsOrNoMemory (searched_candidates (known_of info.now) m) (words_result result)) }
-{
-    let mut words = Vec::new(alloc);
-    add_runtime(alloc, process, &mut words, &info.python_binary)?;
-    add_runtime(alloc, process, &mut words, &info.libpython_binary)?;
-    add_bss(alloc, process, &mut words, &info.python_binary)?;
-    add_bss(alloc, process, &mut words, &info.libpython_binary)?;
-    Ok(words)
 }
 
 /// Drops an address wherever it stands.

@@ -13,6 +13,7 @@ use crate::{ChainEnd, Standing};
 use process_memory::ProcessMemory;
 use py_fields::Layout;
 use py_stacks::{Asked, Records, StackError, first_frame};
+use shared_texts::SharedTexts;
 use std::alloc::Global;
 
 /// The frames of a thread, the newest first, as far as its chain of callers goes.
@@ -69,6 +70,7 @@ pub(crate) fn show_ends<P: ProcessMemory>(
     limit: usize,
     chain: &Chain,
     records: &mut Records,
+    texts: &mut SharedTexts,
 ) -> Result<FramesFront, StackError>
     requires sound { IsSound layout.now }
     requires few { limit ≤ 4096 }
@@ -76,8 +78,8 @@ pub(crate) fn show_ends<P: ProcessMemory>(
         IsOrNoMemory (frames_shown asked layout.now m limit (chained chain.now)) (frames_front_result result)) }
 {
     let ends = ends_of(&chain.kept, limit);
-    let first = read_standings(alloc, process, layout, asked, ends.first, records)?;
-    let last = read_standings(alloc, process, layout, asked, ends.last, records)?;
+    let first = read_standings(alloc, process, layout, asked, ends.first, records, texts)?;
+    let last = read_standings(alloc, process, layout, asked, ends.last, records, texts)?;
     Ok(FramesFront {
         first,
         between: ends.between,

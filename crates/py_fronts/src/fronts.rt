@@ -11,7 +11,7 @@ ghost use Rattle.py_fronts.specs.Fronts.{interpreters_fronts, interpreters_resul
 
 use crate::interpreters::find_interpreters;
 use crate::threads::get_threads_front;
-use crate::{FoundInterpreter, ThreadsFront};
+use crate::{FoundInterpreter, Looked, ThreadsFront};
 use image_memory::ContainsAddr;
 use process_memory::ProcessMemory;
 use py_fields::{Layout, Version};
@@ -40,6 +40,8 @@ pub struct Fronts {
     pub interpreters: Vec<InterpreterFront>,
     /// Whether there are more.
     pub more: bool,
+    /// What was looked at for them.
+    pub looked: Looked,
 }
 
 /// The threads of each of some interpreters, in order; what one of them meets is no longer left for the others.
@@ -96,11 +98,13 @@ fn all_fronts<M: ContainsAddr, P: ProcessMemory>(
         (fronts_at (M.contains info.now.maps) (known_of info.now) version.now layout.now m asked limit)
         (fronts_result result)) }
 {
-    let finds = find_interpreters(alloc, info, process, version, layout)?;
-    let interpreters = read_interpreters(alloc, process, layout, asked, limit, &finds.found)?;
+    let search = find_interpreters(alloc, info, process, version, layout)?;
+    let found = &search.finds.found;
+    let interpreters = read_interpreters(alloc, process, layout, asked, limit, found)?;
     Ok(Fronts {
         interpreters,
-        more: finds.more,
+        more: search.finds.more,
+        looked: search.looked,
     })
 }
 
@@ -110,7 +114,8 @@ fn all_fronts<M: ContainsAddr, P: ProcessMemory>(
 ///
 /// Where the same memory has a report of an interpreter, and each thread of the report names that interpreter, then:
 ///
-/// - it is among these, if there are no more than are shown and no map holds address 0;
+/// - it is among these, if there are no more than are shown, the search did not end before all was looked at, and no map
+///   holds address 0;
 /// - if it is shown and no text stands at address 0, its chain of threads is whole, and they are the report's by their
 ///   ids, in order. The frames of each, by their names and marks, are the report's but for some that stand hidden
 ///   between the first and the last, no more than are counted there; or its chain of frames is cut, of fewer than 16384

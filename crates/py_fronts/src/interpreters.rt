@@ -1,28 +1,24 @@
 //! Which interpreters of a process are shown.
-ghost use Rattle.std.specs.Prelude.{◌≡◌, ℕ, ◌+◌, ◌*◌, ◌≤◌, ◌^◌, false, IfOk, OnOk, length, map};
+ghost use Rattle.std.specs.Prelude.{◌≡◌, ℕ, ◌+◌, ◌*◌, ◌<◌, ◌≤◌, ◌^◌, false, IfOk, OnOk, length, map};
 ghost use Rattle.process_memory.specs.Memory.{byte_at};
 ghost use Rattle.process_memory.specs.Seen.{Reading, ReadingBy};
 ghost use Rattle.py_fields.specs.Sound.{IsSound};
 ghost use Rattle.py_process.specs.Facts.{known_of};
 ghost use Rattle.py_fronts.specs.Answers.{IsOrNoMemory};
 ghost use Rattle.py_fronts.specs.BesideReports.{FindsReported};
-ghost use Rattle.py_fronts.specs.Candidates.{named_candidates, record_candidates, record_most, searched_candidates};
+ghost use Rattle.py_fronts.specs.Candidates.{record_candidates, record_most};
 ghost use Rattle.py_stacks.specs.Interpreter.{interpreter_named_by, threads_head};
 ghost use Rattle.py_fronts.specs.Interpreters.{HeadIs, Looking, Takes, address_at, after_candidate, after_candidates};
 ghost use Rattle.py_fronts.specs.Interpreters.{after_record_of, after_records, candidate_reads, candidates_reads};
-ghost use Rattle.py_fronts.specs.Interpreters.{ending_result};
-ghost use Rattle.py_fronts.specs.Interpreters.{finds_of, finds_result, headed_at, headed_by, interpreters_at, is_found};
-ghost use Rattle.py_fronts.specs.Interpreters.{named_if, with_name};
-ghost use Rattle.py_fronts.specs.Interpreters.{names_it, reads_of_record, records_reads, shown_head, taking_reads};
-ghost use Rattle.py_fronts.specs.Interpreters.{whole_head, with_one, with_their_records};
-ghost use Rattle.py_fronts.specs.ChainEnds.{ending_of};
+ghost use Rattle.py_fronts.specs.Interpreters.{finds_of, headed_at, headed_by, is_found, named_if, named_reads};
+ghost use Rattle.py_fronts.specs.Interpreters.{names_it, reads_of_record, records_reads, search_begins};
+ghost use Rattle.py_fronts.specs.Interpreters.{searching_result, taking_reads, told_at, told_result, with_one};
+ghost use Rattle.py_fronts.specs.Interpreters.{with_their_records};
 ghost use Rattle.py_fronts.specs.ShownInterpreters.{AreAll, AreMarked, AreShown};
-ghost use Rattle.py_fronts.specs.ThreadFronts.{threads_front};
 
-use crate::ChainEnd;
-use crate::candidates::{named_candidates, nothing_read, others_led_to, searched_candidates};
-use crate::thread_front::{THREAD_LIMIT, Thread, read_thread};
-use elf64_core::u64_in;
+use crate::candidates::{named_candidates, nothing_read, others_led_to};
+use crate::search::{Looked, Searching, look_in_sections, looked_by};
+use crate::thread_front::{Thread, read_thread};
 use image_memory::ContainsAddr;
 use process_memory::ProcessMemory;
 use py_fields::{Layout, Version};
@@ -52,6 +48,15 @@ pub struct FoundInterpreters {
     pub found: Vec<FoundInterpreter>,
     /// Whether there are more.
     pub more: bool,
+}
+
+/// The interpreters that are shown, and what was looked at for them.
+#[derive(Debug, Drop)]
+pub struct InterpreterSearch {
+    /// The interpreters.
+    pub finds: FoundInterpreters,
+    /// What the search looked at.
+    pub looked: Looked,
 }
 
 /// The address of a thread of the interpreter, where there is one.
@@ -107,7 +112,7 @@ fn first_thread<M: ContainsAddr, P: ProcessMemory>(
 
 /// The first thread of an address that is an interpreter's. Nothing is read where no map holds it; else at most 2
 /// reads.
-fn headed_at<M: ContainsAddr, P: ProcessMemory>(
+pub(crate) fn headed_at<M: ContainsAddr, P: ProcessMemory>(
     alloc: Global,
     maps: &M,
     process: &mut P,
@@ -124,73 +129,8 @@ fn headed_at<M: ContainsAddr, P: ProcessMemory>(
     first_thread(alloc, maps, process, layout, addr)
 }
 
-/// How the front of an interpreter's threads ends. At most one read for each of them, and one more.
-fn threads_end<P: ProcessMemory>(
-    alloc: Global,
-    process: &mut P,
-    layout: &Layout,
-    interpreter: u64,
-    head: u64,
-) -> Result<ChainEnd, StackError>
-    requires sound { IsSound layout.now }
-    ensures { ReadingBy (λ m. 1 + length (threads_front layout.now interpreter m head).members) (P.seen process.old)
-        (P.seen process.new)
-        (λ m. IsOrNoMemory (threads_front layout.now interpreter m head).ending (ending_result result)) }
-{
-    let mut count = 0;
-    let mut at = head;
-    while at != 0 {
-        if count == THREAD_LIMIT {
-            return Ok(ChainEnd::Cut);
-        }
-        let next = read_thread(alloc, process, layout, interpreter, at)?;
-        let thread = match next {
-            Thread::At(thread) => thread,
-            Thread::Broken(end) => return Ok(end),
-        };
-        count += 1;
-        at = u64_in(&thread, layout.thread.next as usize);
-    }
-    Ok(ChainEnd::Whole)
-}
-
-/// The first thread, where its chain is whole.
-fn whole_head(end: ChainEnd, head: u64) -> Option<u64>
-    ensures { result ≡ whole_head (ending_of end) head }
-{
-    match end {
-        ChainEnd::Whole => Some(head),
-        _ => None,
-    }
-}
-
-/// The first thread of an address that is shown as an interpreter. At most 2 reads, and for one that is found by search
-/// alone those of its threads.
-fn shown_head<M: ContainsAddr, P: ProcessMemory>(
-    alloc: Global,
-    maps: &M,
-    process: &mut P,
-    layout: &Layout,
-    searched: bool,
-    addr: u64,
-) -> Result<Option<u64>, StackError>
-    requires sound { IsSound layout.now }
-    ensures { ReadingBy (λ m. candidate_reads searched (M.contains maps.now) layout.now m addr) (P.seen process.old)
-        (P.seen process.new) (λ m. IsOrNoMemory (shown_head searched (M.contains maps.now) layout.now m addr) result) }
-{
-    let head = match headed_at(alloc, maps, process, layout, addr)? {
-        Some(head) => head,
-        None => return Ok(None),
-    };
-    if !searched {
-        return Ok(Some(head));
-    }
-    let end = threads_end(alloc, process, layout, addr, head)?;
-    Ok(whole_head(end, head))
-}
-
 /// Whether an address was found already.
-fn is_found(found: &[FoundInterpreter], addr: u64) -> bool
+pub(crate) fn is_found(found: &[FoundInterpreter], addr: u64) -> bool
     ensures { result ≡ is_found (found.now) addr }
 {
     found.iter().any(|one| one.address == addr)
@@ -205,17 +145,8 @@ fn mark_named(found: &mut Vec<FoundInterpreter>, addr: u64)
     }
 }
 
-/// Notes of an address that was found that it is named, unless it comes by search again.
-fn note_name(finds: &mut FoundInterpreters, searched: bool, addr: u64)
-    ensures { finds_of finds.new ≡ with_name (finds_of finds.old) searched addr }
-{
-    if !searched {
-        mark_named(&mut finds.found, addr);
-    }
-}
-
 /// Takes an interpreter, where no more than 16 are then; else there are more.
-fn take(
+pub(crate) fn take(
     finds: &mut FoundInterpreters,
     one: FoundInterpreter,
 ) -> Result<(), AllocFailed<FoundInterpreter>>
@@ -228,56 +159,55 @@ fn take(
     Ok(())
 }
 
-/// Takes a candidate, where it is shown and was not found before; else only its name is noted.
+/// Takes a candidate that is named, where it is shown and was not found before; else only its name is noted. At most 2
+/// reads.
 fn take_candidate<M: ContainsAddr, P: ProcessMemory>(
     alloc: Global,
     maps: &M,
     process: &mut P,
     layout: &Layout,
-    searched: bool,
     addr: u64,
     finds: &mut FoundInterpreters,
 ) -> Result<(), StackError>
     requires sound { IsSound layout.now }
-    ensures { ReadingBy (λ m. candidate_reads searched (M.contains maps.now) layout.now m addr) (P.seen process.old)
+    ensures { ReadingBy (λ m. candidate_reads false (M.contains maps.now) layout.now m addr) (P.seen process.old)
         (P.seen process.new) (λ m. Takes
-        (after_candidate searched (M.contains maps.now) layout.now m (finds_of finds.old) addr) finds.new result) }
+        (after_candidate false (M.contains maps.now) layout.now m (finds_of finds.old) addr) finds.new result) }
 {
     if is_found(&finds.found, addr) {
-        note_name(finds, searched, addr);
+        mark_named(&mut finds.found, addr);
         return Ok(());
     }
-    let head = match shown_head(alloc, maps, process, layout, searched, addr)? {
+    let head = match headed_at(alloc, maps, process, layout, addr)? {
         Some(head) => head,
         None => return Ok(()),
     };
     let one = FoundInterpreter {
         address: addr,
         head,
-        searched,
+        searched: false,
     };
     take(finds, one)?;
     Ok(())
 }
 
-/// Takes candidates, in order.
+/// Takes candidates that are named, in order.
 fn take_candidates<M: ContainsAddr, P: ProcessMemory>(
     alloc: Global,
     maps: &M,
     process: &mut P,
     layout: &Layout,
-    searched: bool,
     candidates: &[u64],
     finds: &mut FoundInterpreters,
 ) -> Result<(), StackError>
     requires sound { IsSound layout.now }
-    ensures { ReadingBy (λ m. candidates_reads searched (M.contains maps.now) layout.now m candidates.now)
+    ensures { ReadingBy (λ m. candidates_reads false (M.contains maps.now) layout.now m candidates.now)
         (P.seen process.old) (P.seen process.new) (λ m. Takes
-        (after_candidates searched (M.contains maps.now) layout.now m (finds_of finds.old) candidates.now)
+        (after_candidates false (M.contains maps.now) layout.now m (finds_of finds.old) candidates.now)
         finds.new result) }
 {
     for addr in candidates {
-        take_candidate(alloc, maps, process, layout, searched, *addr, finds)?;
+        take_candidate(alloc, maps, process, layout, *addr, finds)?;
     }
     Ok(())
 }
@@ -313,7 +243,7 @@ fn take_record<M: ContainsAddr, P: ProcessMemory>(
         None => return Ok(()),
     };
     let candidates = others_led_to(alloc, process, layout, interpreter)?;
-    take_candidates(alloc, maps, process, layout, false, &candidates, finds)
+    take_candidates(alloc, maps, process, layout, &candidates, finds)
 }
 
 /// Takes those that the records of all that are found lead to, in turn.
@@ -336,24 +266,51 @@ fn take_records<M: ContainsAddr, P: ProcessMemory>(
     Ok(())
 }
 
-/// Takes those of some candidates, and those that the records of all that are found lead to.
+/// Takes those of some candidates that are named, and those that the records of all that are found lead to.
 fn take_with_records<M: ContainsAddr, P: ProcessMemory>(
     alloc: Global,
     maps: &M,
     process: &mut P,
     layout: &Layout,
-    searched: bool,
     candidates: &[u64],
     finds: &mut FoundInterpreters,
 ) -> Result<(), StackError>
     requires sound { IsSound layout.now }
-    ensures { Reading (taking_reads searched (M.contains maps.now) layout.now
+    ensures { Reading (taking_reads false (M.contains maps.now) layout.now
         (byte_at (P.seen process.old).pieces) (finds_of finds.old) candidates.now) (P.seen process.old)
-        (P.seen process.new) (λ m. Takes (with_their_records searched (M.contains maps.now) layout.now m
+        (P.seen process.new) (λ m. Takes (with_their_records false (M.contains maps.now) layout.now m
         (finds_of finds.old) candidates.now) finds.new result) }
 {
-    take_candidates(alloc, maps, process, layout, searched, candidates, finds)?;
+    take_candidates(alloc, maps, process, layout, candidates, finds)?;
     take_records(alloc, maps, process, layout, finds)
+}
+
+/// Those that are named, from which the search goes on: at most 7 reads, 4 for each candidate that is named, and those
+/// of the records of all that are found.
+fn find_named<M: ContainsAddr, P: ProcessMemory>(
+    alloc: Global,
+    info: &PythonProcessInfo<M>,
+    process: &mut P,
+    version: &Version,
+    layout: &Layout,
+) -> Result<Searching, StackError>
+    requires sound { IsSound layout.now }
+    ensures { ReadingBy (λ m. named_reads (M.contains info.now.maps) (known_of info.now) version.now layout.now m)
+        (P.seen process.old) (P.seen process.new) (λ m. IsOrNoMemory
+        (search_begins (M.contains info.now.maps) (known_of info.now) version.now layout.now m)
+        (searching_result result)) }
+{
+    let mut finds = FoundInterpreters {
+        found: Vec::new(alloc),
+        more: false,
+    };
+    let named = named_candidates(alloc, info, process, version, layout)?;
+    take_with_records(alloc, &info.maps, process, layout, &named, &mut finds)?;
+    Ok(Searching {
+        finds,
+        addresses: named.len() as u64,
+        members: 0,
+    })
 }
 
 /// See `find_interpreters`.
@@ -363,26 +320,19 @@ fn find_all<M: ContainsAddr, P: ProcessMemory>(
     process: &mut P,
     version: &Version,
     layout: &Layout,
-) -> Result<FoundInterpreters, StackError>
+) -> Result<InterpreterSearch, StackError>
     requires sound { IsSound layout.now }
     ensures { Looking (M.contains info.now.maps) (known_of info.now) version.now layout.now (P.seen process.old)
         (P.seen process.new) (λ m. IsOrNoMemory
-        (interpreters_at (M.contains info.now.maps) (known_of info.now) version.now layout.now m)
-        (finds_result result)) }
+        (told_at (M.contains info.now.maps) (known_of info.now) version.now layout.now m)
+        (told_result result)) }
 {
-    let mut finds = FoundInterpreters {
-        found: Vec::new(alloc),
-        more: false,
-    };
-    let named = named_candidates(alloc, info, process, version, layout)?;
-    take_with_records(
-        alloc, &info.maps, process, layout, false, &named, &mut finds,
-    )?;
-    let searched = searched_candidates(alloc, info, process)?;
-    take_with_records(
-        alloc, &info.maps, process, layout, true, &searched, &mut finds,
-    )?;
-    Ok(finds)
+    let mut search = find_named(alloc, info, process, version, layout)?;
+    look_in_sections(alloc, info, process, layout, &mut search)?;
+    let looked = looked_by(info, &search);
+    let mut finds = search.finds;
+    take_records(alloc, &info.maps, process, layout, &mut finds)?;
+    Ok(InterpreterSearch { finds, looked })
 }
 
 /// The interpreters of a process that are shown, in the order in which they are found.
@@ -392,44 +342,49 @@ fn find_all<M: ContainsAddr, P: ProcessMemory>(
 /// leads to an interpreter by one of its words in front of the head of its threads, of which at most 1024 are looked
 /// at, in turn; and where the address that it holds has no thread, by the word at the same place there, past at most
 /// 64 such in a row. Then those that are found by search alone: the words of the program's runtime section and of the
-/// library's, and those of their bss, and again those that the records of these lead to. Each address is taken once,
-/// and 16 at most; `more` says whether there is another. One that was found by search counts as named
+/// library's, and those of their bss, as far as they are in memory and among the first 4,194,304 of their section; and
+/// again those that the records of these lead to. The search ends where 4,194,304 members of chains of threads were
+/// walked for those of it (`looked`), each of which is walked once where it is taken. Each address is taken once, and
+/// 16 at most; `more` says whether there is another. One that was found by search counts as named
 /// (`FoundInterpreter::searched`) where the record of another one, found before it or after, leads to it.
 ///
 /// An address is an interpreter's where a map holds it, the word of its first thread is in memory, is not 0 and lies in
 /// a map, and the record of that thread names the address. One that is found by search alone is taken only where its
 /// chain of threads is whole.
 ///
-/// The one error is want of memory. At most 11 reads, and 4 for each candidate that is named; for each that is found by
-/// search 2, and where it is an interpreter's one more and one for each of its threads, of which 4096 are met at most;
-/// and twice for each interpreter that is shown one for its record, and 4 for each that it leads to. A record leads to
-/// at most 65 for each of its words that are looked at.
+/// The one error is want of memory. At most 7 reads, and 4 for each candidate that is named; for each word of the
+/// sections that is looked at 5, and one for each member that is walked; and twice for each interpreter that is shown
+/// one for its record, and 4 for each that it leads to. A record leads to at most 65 for each of its words that are
+/// looked at.
 pub fn find_interpreters<M: ContainsAddr, P: ProcessMemory>(
     alloc: Global,
     info: &PythonProcessInfo<M>,
     process: &mut P,
     version: &Version,
     layout: &Layout,
-) -> Result<FoundInterpreters, StackError>
+) -> Result<InterpreterSearch, StackError>
     requires sound { IsSound layout.now }
     ensures answer { Looking (M.contains info.now.maps) (known_of info.now) version.now layout.now (P.seen process.old)
         (P.seen process.new) (λ m. IsOrNoMemory
-        (interpreters_at (M.contains info.now.maps) (known_of info.now) version.now layout.now m)
-        (finds_result result)) }
+        (told_at (M.contains info.now.maps) (known_of info.now) version.now layout.now m)
+        (told_result result)) }
     ensures right { Looking (M.contains info.now.maps) (known_of info.now) version.now layout.now (P.seen process.old)
         (P.seen process.new)
-        (λ m. IfOk result (λ finds. AreShown (M.contains info.now.maps) layout.now m (finds_of finds))) }
+        (λ m. IfOk result (λ search. AreShown (M.contains info.now.maps) layout.now m (finds_of search.finds))) }
     // one was found by search alone where nothing names it, and nowhere else
     ensures marked { Looking (M.contains info.now.maps) (known_of info.now) version.now layout.now (P.seen process.old)
         (P.seen process.new) (λ m. IfOk result
-        (λ finds. AreMarked (known_of info.now) version.now layout.now m (finds_of finds))) }
-    // none is left out
+        (λ search. AreMarked (known_of info.now) version.now layout.now m (finds_of search.finds))) }
+    // none is left out where it did not end before
     ensures all { Looking (M.contains info.now.maps) (known_of info.now) version.now layout.now (P.seen process.old)
-        (P.seen process.new) (λ m. IfOk result (λ finds. finds.more ≡ false
-        → AreAll (M.contains info.now.maps) (known_of info.now) version.now layout.now m (finds_of finds))) }
+        (P.seen process.new) (λ m. IfOk result (λ search. search.finds.more ≡ false → search.looked.ended ≡ false
+        → AreAll (M.contains info.now.maps) (known_of info.now) version.now layout.now m (finds_of search.finds))) }
     ensures report { Looking (M.contains info.now.maps) (known_of info.now) version.now layout.now (P.seen process.old)
-        (P.seen process.new) (λ m. IfOk result (λ finds.
-        FindsReported (M.contains info.now.maps) (known_of info.now) version.now layout.now m (finds_of finds))) }
+        (P.seen process.new) (λ m. IfOk result (λ search. search.looked.ended ≡ false → FindsReported
+        (M.contains info.now.maps) (known_of info.now) version.now layout.now m (finds_of search.finds))) }
+    // the budget of the search
+    ensures walked { Looking (M.contains info.now.maps) (known_of info.now) version.now layout.now (P.seen process.old)
+        (P.seen process.new) (λ m. IfOk result (λ search. search.looked.members < 4194304 + 4096)) }
     ensures few { (a : ℕ) → length (record_candidates layout.now (byte_at (P.seen process.old).pieces) a)
         ≤ record_most layout.now }
 {

@@ -11,6 +11,7 @@ ghost use Rattle.py_fronts.specs.Salvaged.{salvage_most, salvaged_result, with_l
 use crate::crash::{Crash, crashed_at};
 use crate::fronts::{InterpreterFront, get_fronts};
 use crate::lock::{LockState, lock_state};
+use crate::search::Looked;
 use elf64_core::Machine;
 use image_memory::ContainsAddr;
 use process_memory::ProcessMemory;
@@ -35,6 +36,8 @@ pub struct Salvaged {
     pub interpreters: Vec<SalvagedInterpreter>,
     /// Whether there are more.
     pub more: bool,
+    /// What was looked at for them.
+    pub looked: Looked,
     /// The thread that got a signal, where one did.
     pub crash: Option<Crash>,
 }
@@ -104,11 +107,13 @@ pub fn salvage<M: ContainsAddr, P: ProcessMemory>(
 {
     let fronts = get_fronts(alloc, info, process, version, layout, asked, limit)?;
     let more = fronts.more;
+    let looked = fronts.looked;
     let found = fronts.interpreters;
     let interpreters = with_locks(alloc, info, process, machine, version, layout, found)?;
     Ok(Salvaged {
         interpreters,
         more,
+        looked,
         crash,
     })
 }

@@ -18,8 +18,9 @@ use py_builtins::{ObjectError, copy_string};
 use py_fields::Layout;
 use py_stacks::{
     Asked, Frame, LocalVariable, Records, StackError, is_entered, is_hidden, read_locals,
-    read_records,
+    read_records, share_texts,
 };
+use shared_texts::SharedTexts;
 use std::alloc::Global;
 
 /// What stands for a member of a thread's chain of frames that is not left out.
@@ -152,6 +153,7 @@ fn read_frame<P: ProcessMemory>(
     layout: &Layout,
     asked: Asked,
     records: &mut Records,
+    texts: &mut SharedTexts,
     filename: Text,
     name: Text,
 ) -> Result<Standing, StackError>
@@ -176,6 +178,7 @@ fn read_frame<P: ProcessMemory>(
         is_entry,
         is_shim_entry,
     };
+    let frame = share_texts(alloc, texts, frame)?;
     let fault = locals.fault;
     Ok(Standing::Frame { frame, fault })
 }
@@ -211,6 +214,7 @@ fn read_named<P: ProcessMemory>(
     asked: Asked,
     at: u64,
     records: &mut Records,
+    texts: &mut SharedTexts,
 ) -> Result<Standing, StackError>
     requires sound { IsSound layout.now }
     requires whole { AreWhole layout.now records.old }
@@ -220,7 +224,9 @@ fn read_named<P: ProcessMemory>(
 {
     match read_texts(alloc, process, layout, records) {
         Ok((filename, name)) => {
-            read_frame(alloc, process, layout, asked, records, filename, name)
+            read_frame(
+                alloc, process, layout, asked, records, texts, filename, name,
+            )
         }
         Err(why) => nameless(at, why),
     }
@@ -234,18 +240,20 @@ fn read_standing<P: ProcessMemory>(
     asked: Asked,
     at: u64,
     records: &mut Records,
+    texts: &mut SharedTexts,
 ) -> Result<Standing, StackError>
     requires sound { IsSound layout.now }
     ensures { Reading (standing_reads asked) (P.seen process.old) (P.seen process.new) (λ m.
         IsOrNoMemory (standing_at asked layout.now m at) (stood_result result)) }
 {
     match read_records(process, layout, at, records) {
-        Ok(()) => read_named(alloc, process, layout, asked, at, records),
+        Ok(()) => read_named(alloc, process, layout, asked, at, records, texts),
         Err(error) => unread(at, error),
     }
 }
 
-/// What stands for the members at some addresses, in order. The one error is want of memory. At most 526 reads for
+/// What stands for the members at some addresses, in order; the texts of their frames share their bytes with those of the
+/// same characters that were met before. The one error is want of memory. At most 526 reads for
 /// each, and those of its locals.
 pub(crate) fn read_standings<P: ProcessMemory>(
     alloc: Global,
@@ -254,6 +262,7 @@ pub(crate) fn read_standings<P: ProcessMemory>(
     asked: Asked,
     members: &[u64],
     records: &mut Records,
+    texts: &mut SharedTexts,
 ) -> Result<Vec<Standing>, StackError>
     requires sound { IsSound layout.now }
     ensures { Reading (standing_reads asked * length members.now) (P.seen process.old) (P.seen process.new) (λ m.
@@ -261,7 +270,7 @@ pub(crate) fn read_standings<P: ProcessMemory>(
 {
     let mut standings = Vec::new(alloc);
     for at in members {
-        let standing = read_standing(alloc, process, layout, asked, *at, records)?;
+        let standing = read_standing(alloc, process, layout, asked, *at, records, texts)?;
         standings.push(standing)?;
     }
     Ok(standings)

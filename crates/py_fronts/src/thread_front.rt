@@ -15,6 +15,7 @@ use elf64_core::u64_in;
 use process_memory::{ProcessMemory, ReadFault, record};
 use py_fields::Layout;
 use py_stacks::{Asked, Records, StackError, native_id};
+use shared_texts::SharedTexts;
 use std::alloc::Global;
 
 /// How many threads of an interpreter are met at most.
@@ -100,6 +101,7 @@ fn read_thread_front<P: ProcessMemory>(
     at: u64,
     thread: &[u8],
     records: &mut Records,
+    texts: &mut SharedTexts,
 ) -> Result<ThreadFront, StackError>
     requires sound { IsSound layout.now }
     requires few { limit ≤ 4096 }
@@ -111,7 +113,7 @@ fn read_thread_front<P: ProcessMemory>(
 {
     let most = left.min(THREAD_MEMBERS_LIMIT);
     let chain = read_chain(alloc, process, layout, most, thread, records)?;
-    let frames = show_ends(alloc, process, layout, asked, limit, &chain, records)?;
+    let frames = show_ends(alloc, process, layout, asked, limit, &chain, records, texts)?;
     let thread_id = u64_in(thread, layout.thread.id as usize);
     let os_thread_id = native_id(layout.thread.native_id, thread);
     Ok(ThreadFront {
@@ -155,6 +157,7 @@ pub(crate) fn walk_threads<P: ProcessMemory>(
     ensures few { IfOk result (λ front. length front.threads.items ≤ 4096) }
 {
     let mut records = new_records(alloc);
+    let mut texts = SharedTexts::new(alloc);
     let mut threads = Vec::new(alloc);
     let mut at = head;
     while at != 0 {
@@ -178,6 +181,7 @@ pub(crate) fn walk_threads<P: ProcessMemory>(
             at,
             &thread,
             &mut records,
+            &mut texts,
         )?;
         *left = room - front.frames.met;
         at = u64_in(&thread, layout.thread.next as usize);

@@ -17,7 +17,8 @@ use elf64_core::Text;
 use process_memory::{ProcessMemory, word_past};
 use py_builtins::{DictCursor, ObjectError, Slot, copy_long, copy_string, read_type};
 use py_fields::{Dicts, Layout};
-use std::alloc::{AllocFailed, Global};
+use shared_texts::SharedTexts;
+use std::alloc::{AllocError, AllocFailed, Global};
 use std::collections::BTreeMap;
 
 /// How many slots are looked at, at most.
@@ -124,14 +125,22 @@ fn read_thread<P: ProcessMemory>(
     read_given(alloc, process, layout, slot, left)
 }
 
-/// Adds a name, where there is one.
-fn add_name(names: &mut Vec<Named>, named: Option<Named>) -> Result<(), AllocFailed<Named>>
+/// Adds a name, where there is one, which shares its bytes with those of the same characters before it.
+fn add_name(
+    alloc: Global,
+    texts: &mut SharedTexts,
+    names: &mut Vec<Named>,
+    named: Option<Named>,
+) -> Result<(), AllocError>
     ensures { OnOk result (names.new.items ≡ names.old.items ++ kept_name named) }
 {
-    match named {
-        None => Ok(()),
-        Some(named) => names.push(named),
-    }
+    let Some(named) = named else {
+        return Ok(());
+    };
+    let id = named.id;
+    let name = texts.share(alloc, named.name)?;
+    names.push(Named { id, name })?;
+    Ok(())
 }
 
 /// The names of a dict's entries, where so many slots may be looked at. At most 12 reads for each that is.
@@ -150,6 +159,7 @@ fn read_each<P: ProcessMemory>(
         (λ m. names_from layout.now m dict.now.slots dict.now.slots.count 0 limit) (items_of result) }
     ensures memory { result ≢ Err (NamesError.Object ObjectError.OutOfMemory) }
 {
+    let mut texts = SharedTexts::new(alloc);
     let mut names = Vec::new(alloc);
     let mut left = limit;
     for number in 0..dict.remaining() {
@@ -158,7 +168,7 @@ fn read_each<P: ProcessMemory>(
         }
         let given = read_thread(alloc, process, layout, dict, number, left - 1)?;
         left = given.left;
-        add_name(&mut names, given.named)?;
+        add_name(alloc, &mut texts, &mut names, given.named)?;
     }
     Ok(names)
 }

@@ -14,6 +14,7 @@ pub mod Images
 pub mod Libraries
 pub mod Locks
 pub mod Marks
+pub mod NamedVersions
 pub mod Parts
 pub mod ReportLaws
 pub mod Searches

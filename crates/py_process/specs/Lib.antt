@@ -7,6 +7,7 @@ pub mod Findings
 pub mod Library
 pub mod LibraryFronts
 pub mod Lock
+pub mod NamedVersions
 pub mod Programs
 pub mod Ranges
 pub mod Refusals

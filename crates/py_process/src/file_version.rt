@@ -22,7 +22,7 @@ fn last_start(path: &[u8]) -> usize
 }
 
 /// What stands behind the last slash of a path, or all of it.
-fn last_part(path: &[u8]) -> &[u8]
+pub(crate) fn last_part(path: &[u8]) -> &[u8]
     ensures { result.now ≡ after_last is_slash path.now }
 {
     &path[last_start(path)..]
@@ -40,7 +40,7 @@ fn dot_place(text: &[u8]) -> usize
 }
 
 /// What stands before the first dot, and what behind it.
-fn split_at_dot(text: &[u8]) -> Option<(&[u8], &[u8])>
+pub(crate) fn split_at_dot(text: &[u8]) -> Option<(&[u8], &[u8])>
     ensures { MatchOption result (slice_split is_dot text.now ≡ text.now ∷ [])
         (λ parts. slice_split is_dot text.now ≡ parts.0.now ∷ slice_split is_dot parts.1.now) }
 {
@@ -52,7 +52,7 @@ fn split_at_dot(text: &[u8]) -> Option<(&[u8], &[u8])>
 }
 
 /// The number that one or more ASCII digits write, where it is below 2^64.
-fn decimal(digits: &[u8]) -> Option<u64>
+pub(crate) fn decimal(digits: &[u8]) -> Option<u64>
     ensures { result ≡ decimal_of digits.now }
 {
     let mut number: u64 = 0;

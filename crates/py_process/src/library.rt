@@ -86,6 +86,9 @@ fn has_version(bytes: &[u8]) -> bool
 fn begins_library(bytes: &[u8]) -> bool
     ensures { result ≡ begins_library bytes.now }
 {
+    let [b'/', ..] = bytes else {
+        return false;
+    };
     match bytes.strip_prefix(b"/libpython") {
         Some(rest) => has_version(rest),
         None => false,
@@ -113,5 +116,5 @@ fn has_library(bytes: &[u8]) -> bool
 pub fn is_python_lib(pathname: &[u8]) -> bool
     ensures { IsTrue result ↔ IsLibrary pathname.now }
 {
-    str::from_utf8(pathname).is_ok() && has_library(pathname)
+    has_library(pathname) && str::from_utf8(pathname).is_ok()
 }

@@ -7,7 +7,8 @@ use Rattle.serde_json.specs.declared.value.Value.{Value}
 use Rattle.py_selftest.specs.declared.checking.KeyTold.{KeyTold}
 use Rattle.py_selftest.specs.declared.tree.Listed.{Listed}
 use Rattle.py_selftest.specs.Checking.{key_shown}
-use Rattle.py_selftest.specs.Text.{count_told, differ_text, differing_text, is_told, one_if}
+use Rattle.py_selftest.specs.Text.{count_told, differ_text, differing_text, is_told}
+use Rattle.py_selftest.specs.Questions.{one_if}
 use Rattle.py_selftest.specs.Trees.{listed_from, listed_of}
 use Rattle.py_selftest.proofs.Rest.{next, part_more, value_more}
 

@@ -5,3 +5,6 @@ pub mod Plain
 pub mod Rest
 pub mod Seeking
 pub mod Verdicts
+pub mod Counting
+pub mod Folding
+pub mod Made

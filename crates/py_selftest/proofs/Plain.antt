@@ -9,6 +9,12 @@ use Rattle.py_selftest.specs.declared.trusting.Build.TheVariants.{FreeThreaded, 
 use Rattle.py_selftest.specs.declared.tree.Listed.{Listed}
 use Rattle.py_selftest.specs.declared.tree.Listed.TheVariants.{Told, Differing, Untold}
 use Rattle.py_selftest.specs.Checking.{CheckShown, KeyShown}
+use Rattle.py_selftest.specs.declared.questions.Answer.{Answer}
+use Rattle.py_selftest.specs.declared.telling.Release.{Release}
+use Rattle.py_selftest.specs.Trees.{doubt_tree, known_tree, release_tree}
+use Rattle.py_selftest.specs.Questions.{has_no_right_frame}
+use Rattle.py_selftest.specs.declared.checking.Verdict.{Verdict}
+use Rattle.py_selftest.specs.declared.checking.Verdict.TheVariants.{Agrees, Differs, Doubtful, Silent, NotDescribed}
 use Rattle.py_selftest.specs.Trees.{build_tree, check_tree, is_listed, key_tree, listed_from}
 use Rattle.py_selftest.specs.Trees.{listed_tree, number_tree}
 
@@ -40,6 +46,22 @@ build None = refl
 build (Some FreeThreaded) = refl
 build (Some TraceRefs) = refl
 
+known : (answers : List Answer) → has_float (known_tree answers) ≡ false
+known [] = refl
+known (a ∷ rest) = refl
+
+release : (r : Option Release) → has_float (release_tree r) ≡ false
+release None = refl
+release (Some r) = refl
+
+doubt : (v : Verdict) (b : Bool) → has_float (doubt_tree v b) ≡ false
+doubt Agrees b = refl
+doubt Differs b = refl
+doubt Doubtful b = refl
+doubt Silent b = refl
+doubt NotDescribed b = refl
+
 pub no_float : (c : CheckShown) → has_float (check_tree c) ≡ false
-no_float c = λ i. build c.build i || (items Differing c.keys i || (false || (items Untold c.keys i
-    || (items Told c.keys i || (false || false)))))
+no_float c = λ i. build c.build i || (items Differing c.keys i
+    || (doubt c.verdict (has_no_right_frame c.known) i || (known c.known i || (items Untold c.keys i
+    || (release c.other_table i || (items Told c.keys i || (false || false)))))))

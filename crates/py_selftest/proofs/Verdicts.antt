@@ -7,12 +7,21 @@ use Rattle.std.proofs.lemmas.Bool.Decides.{nat_tests}
 use Rattle.process_memory.specs.Memory.{Memory, Found, ◌>>=◌}
 use Rattle.py_fields.specs.declared.layout.Layout.{Layout}
 use Rattle.py_selftest.specs.declared.checking.Trust.{Trust}
-use Rattle.py_selftest.specs.declared.checking.Verdict.TheVariants.{Agrees, Differs}
+use Rattle.py_selftest.specs.declared.checking.Verdict.TheVariants.{Agrees, Differs, Doubtful}
 use Rattle.py_selftest.specs.declared.telling.Release.{Release}
 use Rattle.py_selftest.specs.declared.telling.Types.{Types}
 use Rattle.py_selftest.specs.Checking.{Agree, AllAgree, CheckShown, Says, Differ, KeyShown, OneDiffers, are_other}
 use Rattle.py_selftest.specs.Checking.{check_at, check_if}
-use Rattle.py_selftest.specs.Checking.{check_of, described_at, differs, keys_from, unconfirmed, lacks, not_described}
+use Rattle.py_selftest.specs.Checking.{check_of, described_at, differs, keys_from, unconfirmed, lacks, undescribed}
+use Rattle.py_selftest.specs.Checking.{undescribed_at}
+use Rattle.py_selftest.specs.Questions.{has_no_right_frame}
+use Rattle.py_selftest.specs.Telling.{kept}
+use Rattle.py_selftest.specs.Trusting.{table_at}
+use Rattle.py_selftest.specs.Walking.{MetShown, met_at}
+use Rattle.py_selftest.specs.declared.checking.Verdict.{Verdict}
+use Rattle.py_selftest.specs.declared.questions.Answer.{Answer}
+use Rattle.py_selftest.specs.declared.trusting.Table.{Table}
+use Rattle.py_selftest.specs.declared.walking.ThreadPlace.{ThreadPlace}
 use Rattle.py_selftest.specs.Checking.{trust_at, verdict_of}
 use Rattle.process_memory.specs.Seen.{Answers, read_fault}
 use Rattle.process_memory.specs.declared.memory.ReadFault.{ReadFault}
@@ -80,57 +89,83 @@ differ_one (k ∷ ks) h = elim (differs k) as
       | false ↦ λ e g. inr (differ_one ks g)
     ] refl h
 
-agrees_if : (d l doubted : Bool)
-    → (if d then Differs else (if l then unconfirmed doubted else Agrees)) ≡ Agrees
-    → (d ≡ false) × (l ≡ false)
-agrees_if true l doubted h = absurd (cc)
-agrees_if false true true h = absurd (cc)
-agrees_if false true false h = absurd (cc)
-agrees_if false false doubted h = (refl, refl)
+-- by whether a number differs, whether no frame has a right answer, and whether a needed number is not told
+abbrev by_three : Bool → Bool → Bool → Bool → Verdict
+by_three d n l doubted = if d then Differs else (if n then Doubtful else (if l then unconfirmed doubted else Agrees))
 
-differs_if : (d l doubted : Bool)
-    → (if d then Differs else (if l then unconfirmed doubted else Agrees)) ≡ Differs → d ≡ true
-differs_if true l doubted h = refl
-differs_if false true true h = absurd (cc)
-differs_if false true false h = absurd (cc)
-differs_if false false doubted h = absurd (cc)
+agrees_if : (d n l doubted : Bool) → by_three d n l doubted ≡ Agrees → (d ≡ false) × (n ≡ false) × (l ≡ false)
+agrees_if true n l doubted h = absurd (cc)
+agrees_if false true l doubted h = absurd (cc)
+agrees_if false false true true h = absurd (cc)
+agrees_if false false true false h = absurd (cc)
+agrees_if false false false doubted h = (refl, refl, refl)
 
-verdict_agrees : (doubted : Bool) (ks : List KeyShown) → verdict_of doubted ks ≡ Agrees → AllAgree ks
-verdict_agrees doubted ks h =
-    let both = agrees_if (list_any differs ks) (list_any lacks ks) doubted h in agree_all ks both.0 both.1
+differs_if : (d n l doubted : Bool) → by_three d n l doubted ≡ Differs → d ≡ true
+differs_if true n l doubted h = refl
+differs_if false true l doubted h = absurd (cc)
+differs_if false false true true h = absurd (cc)
+differs_if false false true false h = absurd (cc)
+differs_if false false false doubted h = absurd (cc)
 
-verdict_differs : (doubted : Bool) (ks : List KeyShown) → verdict_of doubted ks ≡ Differs → OneDiffers ks
-verdict_differs doubted ks h = differ_one ks (differs_if (list_any differs ks) (list_any lacks ks) doubted h)
+module _ (doubted : Bool) (known : List Answer) (ks : List KeyShown) where
+  verdict_agrees : verdict_of doubted known ks ≡ Agrees → AllAgree ks
+  verdict_agrees h =
+      let all = agrees_if (list_any differs ks) (has_no_right_frame known) (list_any lacks ks) doubted h in
+      agree_all ks all.0 all.2
+
+  verdict_right : verdict_of doubted known ks ≡ Agrees → has_no_right_frame known ≡ false
+  verdict_right h =
+      let all = agrees_if (list_any differs ks) (has_no_right_frame known) (list_any lacks ks) doubted h in all.1
+
+  verdict_differs : verdict_of doubted known ks ≡ Differs → OneDiffers ks
+  verdict_differs h = differ_one ks
+      (differs_if (list_any differs ks) (has_no_right_frame known) (list_any lacks ks) doubted h)
 
 module _ (m : Memory) (l : Layout) where
-  by_keys : (trust : Trust) (d : Found (List KeyShown)) (c : CheckShown)
-      → (d >>= (λ keys. Ok (check_of trust keys))) ≡ Ok c → Says c
-  by_keys trust (Err f) c e = absurd (cc)
-  by_keys trust (Ok keys) c e =
-      let same : check_of trust keys ≡ c = cc in
+  by_keys : (trust : Trust) (known : List Answer) (d : Found (List KeyShown)) (c : CheckShown)
+      → (d >>= (λ keys. Ok (check_of trust known keys))) ≡ Ok c → Says c
+  by_keys trust known (Err f) c e = absurd (cc)
+  by_keys trust known (Ok keys) c e =
+      let same : check_of trust known keys ≡ c = cc in
       subst Says same (record {
-        agrees = verdict_agrees trust.doubted keys;
-        differs = verdict_differs trust.doubted keys;
+        agrees = verdict_agrees trust.doubted known keys;
+        some_right = verdict_right trust.doubted known keys;
+        differs = verdict_differs trust.doubted known keys;
       })
 
-  by_trust : (d : Found Trust) (c : CheckShown)
-      → (d >>= (λ trust. keys_from m l trust.telling the_rows >>= (λ keys. Ok (check_of trust keys)))) ≡ Ok c → Says c
-  by_trust (Err f) c e = absurd (cc)
-  by_trust (Ok trust) c e = by_keys trust (keys_from m l trust.telling the_rows) c e
+  by_trust : (known : List Answer) (d : Found Trust) (c : CheckShown)
+      → (d >>= (λ trust. keys_from m l trust.telling the_rows >>= (λ keys. Ok (check_of trust known keys)))) ≡ Ok c
+      → Says c
+  by_trust known (Err f) c e = absurd (cc)
+  by_trust known (Ok trust) c e = by_keys trust known (keys_from m l trust.telling the_rows) c e
 
-  by_described : (types : Types) (runtime : Option ℕ) (release : Release) (b : Bool) (c : CheckShown)
-      → check_if m l types runtime release b ≡ Ok c → Says c
-  unfolding described_at
-  by_described types runtime release true c e = by_trust (trust_at m types runtime release) c e
-  by_described types runtime release false c e =
-      let same : not_described ≡ c = cc in
-      subst Says same (record { agrees = λ h. tt; differs = λ h. absurd (cc) })
+  by_met : (runtime : Option ℕ) (release : Release) (d : Found MetShown) (c : CheckShown)
+      → (d >>= (λ met. trust_at m met.types runtime release
+      >>= (λ trust. keys_from m l trust.telling the_rows >>= (λ keys. Ok (check_of trust met.answers keys))))) ≡ Ok c
+      → Says c
+  by_met runtime release (Err f) c e = absurd (cc)
+  by_met runtime release (Ok met) c e = by_trust met.answers (trust_at m met.types runtime release) c e
+
+  by_table : (d : Found (Option Table)) (c : CheckShown) → (d >>= (λ table. Ok (undescribed table))) ≡ Ok c → Says c
+  by_table (Err f) c e = absurd (cc)
+  by_table (Ok table) c e =
+      let same : undescribed table ≡ c = cc in
+      subst Says same
+      (record { agrees = λ h. tt; some_right = λ h. absurd (cc); differs = λ h. absurd (cc) })
+
+  by_described : (types : Types) (runtime : Option ℕ) (release : Release) (threads : List ThreadPlace) (b : Bool)
+      (c : CheckShown) → check_if m l types runtime release threads b ≡ Ok c → Says c
+  unfolding described_at undescribed_at
+  by_described types runtime release threads true c e =
+      by_met runtime release (met_at l release m types threads) c e
+  by_described types runtime release threads false c e = by_table (kept (table_at m release runtime)) c e
 
   -- what the answer over a memory says
-  pub check_says : (types : Types) (runtime : Option ℕ) (release : Release) (c : CheckShown)
-      → check_at m l types runtime release ≡ Ok c → Says c
+  pub check_says : (types : Types) (runtime : Option ℕ) (release : Release) (threads : List ThreadPlace)
+      (c : CheckShown) → check_at m l types runtime release threads ≡ Ok c → Says c
   unfolding check_at
-  check_says types runtime release c e = by_described types runtime release (is_described release) c e
+  check_says types runtime release threads c e =
+      by_described types runtime release threads (is_described release) c e
 
 pub says_of : (r : Result LayoutCheck ReadFault) (d : Found CheckShown) → ((c : CheckShown) → d ≡ Ok c → Says c)
     → Answers read_fault d (check_result r) → IfOk r (λ check. Says (check_shown check))

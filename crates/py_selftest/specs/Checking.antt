@@ -13,16 +13,21 @@ use Rattle.py_selftest.specs.declared.checking.LayoutCheck.{LayoutCheck}
 use Rattle.py_selftest.specs.declared.checking.Trust.{Trust}
 use Rattle.py_selftest.specs.declared.checking.Verdict.{Verdict}
 use Rattle.py_selftest.specs.declared.checking.Verdict.TheVariants.{Agrees, Differs, Doubtful, Silent, NotDescribed}
+use Rattle.py_selftest.specs.declared.questions.Answer.{Answer}
 use Rattle.py_selftest.specs.declared.rows.BuiltIn.TheVariants.{Metatype}
 use Rattle.py_selftest.specs.declared.telling.Release.{Release}
 use Rattle.py_selftest.specs.declared.telling.Telling.{Telling}
 use Rattle.py_selftest.specs.declared.telling.Types.{Types}
 use Rattle.py_selftest.specs.declared.trusting.Build.{Build}
 use Rattle.py_selftest.specs.declared.trusting.Table.{Table}
+use Rattle.py_selftest.specs.declared.walking.ThreadPlace.{ThreadPlace}
 use Rattle.py_selftest.specs.Keys.{key_name, number_in}
 use Rattle.py_selftest.specs.Rows.{Row, the_rows}
 use Rattle.py_selftest.specs.Telling.{applies, kept, member_told, row_told}
-use Rattle.py_selftest.specs.Trusting.{address_if, build_of, is_described, is_doubted, own_place_at, table_at, trusted}
+use Rattle.py_selftest.specs.Trusting.{address_if, build_of, is_described, is_doubted, other_of, own_place_at}
+use Rattle.py_selftest.specs.Trusting.{table_at, trusted}
+use Rattle.py_selftest.specs.Questions.{has_no_right_frame}
+use Rattle.py_selftest.specs.Walking.{met_at}
 
 -- a number of a layout, beside what the process says; one is needed where a layout is confirmed only if it is told
 pub record KeyShown : Type 0 where
@@ -72,11 +77,12 @@ lacks k = k.needed && (is_none k.layout || is_none k.process)
 abbrev pub unconfirmed : Bool → Verdict
 unconfirmed doubted = if doubted then Doubtful else Silent
 
--- what is said of a layout by its numbers
-abbrev pub verdict_of : Bool → List KeyShown → Verdict
-verdict_of doubted keys =
+-- what is said of a layout by its numbers and the known answers
+abbrev pub verdict_of : Bool → List Answer → List KeyShown → Verdict
+verdict_of doubted known keys =
     if list_any differs keys then Differs
-    else (if list_any lacks keys then unconfirmed doubted else Agrees)
+    else (if has_no_right_frame known then Doubtful
+    else (if list_any lacks keys then unconfirmed doubted else Agrees))
 
 abbrev pub untried : Types → Release → Option ℕ → Telling
 untried types release own = record { types = types; own = own; table = None; release = release }
@@ -91,6 +97,7 @@ trust_of types runtime release own size table = record {
     release = release;
   };
   build = build_of release own table;
+  other_table = other_of table;
   doubted = is_doubted own size;
 }
 
@@ -105,35 +112,58 @@ trust_at m types runtime release = do
 pub record CheckShown : Type 0 where
   pub verdict : Verdict
   pub build : Option Build
+  pub other_table : Option Release
+  pub known : List Answer
   pub keys : List KeyShown
 
 abbrev pub check_shown : LayoutCheck → CheckShown
-check_shown c = record { verdict = c.verdict; build = c.build; keys = map key_shown c.keys.items }
+check_shown c = record {
+  verdict = c.verdict;
+  build = c.build;
+  other_table = c.other_table;
+  known = c.known.items;
+  keys = map key_shown c.keys.items;
+}
 
 abbrev pub check_result : Result LayoutCheck ReadFault → Result CheckShown ReadFault
 check_result (Ok check) = Ok (check_shown check)
 check_result (Err error) = Err error
 
-abbrev pub check_of : Trust → List KeyShown → CheckShown
-check_of trust keys = record { verdict = verdict_of trust.doubted keys; build = trust.build; keys = keys }
+abbrev pub check_of : Trust → List Answer → List KeyShown → CheckShown
+check_of trust known keys = record {
+  verdict = verdict_of trust.doubted known keys;
+  build = trust.build;
+  other_table = trust.other_table;
+  known = known;
+  keys = keys;
+}
 
--- the same of a version of which it is known what its types tell
-unfoldable pub described_at : Memory → Layout → Types → Option ℕ → Release → Found CheckShown
-described_at m l types runtime release = do
-  trust ← trust_at m types runtime release
+-- the same of a version of which it is known what its types tell: by the types that are known, and those that the
+-- frames lead to
+unfoldable pub described_at : Memory → Layout → Types → Option ℕ → Release → List ThreadPlace → Found CheckShown
+described_at m l types runtime release threads = do
+  met ← met_at l release m types threads
+  trust ← trust_at m met.types runtime release
   keys ← keys_from m l trust.telling the_rows
-  Ok (check_of trust keys)
+  Ok (check_of trust met.answers keys)
 
-abbrev pub not_described : CheckShown
-not_described = record { verdict = NotDescribed; build = None; keys = [] }
+abbrev pub undescribed : Option Table → CheckShown
+undescribed table =
+    record { verdict = NotDescribed; build = None; other_table = other_of table; known = []; keys = [] }
 
-abbrev pub check_if : Memory → Layout → Types → Option ℕ → Release → Bool → Found CheckShown
-check_if m l types runtime release true = described_at m l types runtime release
-check_if m l types runtime release false = Ok not_described
+unfoldable pub undescribed_at : Memory → Option ℕ → Release → Found CheckShown
+undescribed_at m runtime release = do
+  table ← kept (table_at m release runtime)
+  Ok (undescribed table)
+
+abbrev pub check_if : Memory → Layout → Types → Option ℕ → Release → List ThreadPlace → Bool → Found CheckShown
+check_if m l types runtime release threads true = described_at m l types runtime release threads
+check_if m l types runtime release threads false = undescribed_at m runtime release
 
 -- a layout, beside what the process says of itself
-unfoldable pub check_at : Memory → Layout → Types → Option ℕ → Release → Found CheckShown
-check_at m l types runtime release = check_if m l types runtime release (is_described release)
+unfoldable pub check_at : Memory → Layout → Types → Option ℕ → Release → List ThreadPlace → Found CheckShown
+check_at m l types runtime release threads =
+    check_if m l types runtime release threads (is_described release)
 
 -- ---- what the answers say
 
@@ -160,4 +190,5 @@ OneDiffers (k ∷ ks) = Differ k ⊎ OneDiffers ks
 -- what an answer says of each number
 pub record Says (c : CheckShown) : Type 0 where
   pub agrees : c.verdict ≡ Agrees → AllAgree c.keys
+  pub some_right : c.verdict ≡ Agrees → has_no_right_frame c.known ≡ false
   pub differs : c.verdict ≡ Differs → OneDiffers c.keys

@@ -6,3 +6,6 @@ pub mod Trusting
 pub mod Checking
 pub mod Text
 pub mod Trees
+pub mod Classes
+pub mod Questions
+pub mod Walking

@@ -1,11 +1,15 @@
 -- The lines that say what a process says of a layout.
 use Rattle.std.specs.Prelude.{ℕ, ◌+◌, ◌++◌, ◌&&◌, Bool, true, false, if◌then◌else◌, List, [], ◌∷◌, codes}
-use Rattle.std.specs.Prelude.{Option, Some, None, is_none, is_some, decimal}
+use Rattle.std.specs.Prelude.{Option, Some, None, is_none, is_some, decimal, length}
 use Rattle.py_selftest.specs.declared.checking.Verdict.{Verdict}
 use Rattle.py_selftest.specs.declared.checking.Verdict.TheVariants.{Agrees, Differs, Doubtful, Silent, NotDescribed}
 use Rattle.py_selftest.specs.declared.trusting.Build.{Build}
 use Rattle.py_selftest.specs.declared.trusting.Build.TheVariants.{FreeThreaded, TraceRefs}
+use Rattle.py_selftest.specs.declared.questions.Answer.{Answer}
+use Rattle.py_selftest.specs.declared.questions.Counted.TheVariants.{Right}
+use Rattle.py_selftest.specs.declared.telling.Release.{Release}
 use Rattle.py_selftest.specs.Checking.{CheckShown, KeyShown, differs}
+use Rattle.py_selftest.specs.Questions.{count_known, has_no_right_frame, one_if}
 
 abbrev pub is_as_asked : Bool → Option ℕ → Bool
 is_as_asked told process = if told then is_some process else is_none process
@@ -13,10 +17,6 @@ is_as_asked told process = if told then is_some process else is_none process
 -- a number that the layout has is told, or is not told
 abbrev pub is_told : Bool → KeyShown → Bool
 is_told told k = is_some k.layout && is_as_asked told k.process
-
-abbrev pub one_if : Bool → ℕ
-one_if true = 1
-one_if false = 0
 
 -- how many are
 unfoldable pub count_told : Bool → List KeyShown → ℕ
@@ -52,14 +52,37 @@ build_text None = []
 build_text (Some FreeThreaded) = codes "The process is of a free-threaded build\n"
 build_text (Some TraceRefs) = codes "The process is of a build with trace refs\n"
 
+abbrev pub release_text : ℕ → ℕ → List ℕ
+release_text major minor = codes "The process has a table of places (_Py_DebugOffsets) that says it is of "
+    ++ (decimal major ++ (codes "." ++ (decimal minor ++ codes ": nothing is read by it\n")))
+
+-- of which version a table says that it is, where its form is not known
+abbrev pub table_text : Option Release → List ℕ
+table_text None = []
+table_text (Some release) = release_text release.major release.minor
+
+abbrev pub right_text : ℕ → ℕ → List ℕ
+right_text right of =
+    codes "Known answers: " ++ (decimal right ++ (codes " of " ++ (decimal of ++ codes " are right\n")))
+
+-- how many known answers are right, where there are some
+abbrev pub known_text : List Answer → List ℕ
+known_text [] = []
+known_text (a ∷ rest) = right_text (count_known Right (a ∷ rest)) (length (a ∷ rest))
+
+-- why a layout is doubted
+abbrev pub doubt_text : Bool → List ℕ
+doubt_text by_frames = if by_frames then codes "Layout doubtful, no known answer of a frame is right"
+    else codes "Layout not confirmed, type's own table is none that is known"
+
 -- what is said of a layout by its numbers
-abbrev pub verdict_text : Verdict → List KeyShown → List ℕ
-verdict_text Agrees keys = codes "Layout agrees" ++ counts_text keys
-verdict_text Differs keys = differing_text keys
-verdict_text Doubtful keys =
-    codes "Layout not confirmed, type's own table is none that is known" ++ counts_text keys
-verdict_text Silent keys = codes "Layout not confirmed" ++ counts_text keys
-verdict_text NotDescribed keys = codes "Layout not confirmed: this version's types are not known\n"
+abbrev pub verdict_text : Verdict → List Answer → List KeyShown → List ℕ
+verdict_text Agrees known keys = codes "Layout agrees" ++ counts_text keys
+verdict_text Differs known keys = differing_text keys
+verdict_text Doubtful known keys = doubt_text (has_no_right_frame known) ++ counts_text keys
+verdict_text Silent known keys = codes "Layout not confirmed" ++ counts_text keys
+verdict_text NotDescribed known keys = codes "Layout not confirmed: this version's types are not known\n"
 
 abbrev pub check_text : CheckShown → List ℕ
-check_text c = build_text c.build ++ verdict_text c.verdict c.keys
+check_text c = build_text c.build
+    ++ (table_text c.other_table ++ (verdict_text c.verdict c.known c.keys ++ known_text c.known))

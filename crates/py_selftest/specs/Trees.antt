@@ -1,11 +1,16 @@
 -- The JSON of what a process says of a layout. The keys of an object stand in the order of their bytes.
-use Rattle.std.specs.Prelude.{ℕ, ◌++◌, Bool, true, false, if◌then◌else◌, List, [], ◌∷◌, Option, Some, None, codes}
+use Rattle.std.specs.Prelude.{ℕ, ◌++◌, Bool, true, false, if◌then◌else◌, List, []}
+use Rattle.std.specs.Prelude.{◌∷◌, Option, Some, None, codes, length}
 use Rattle.serde_json.specs.Data.{Data, array, member, no_members, null, number, object, string, unsigned}
 use Rattle.serde_json.specs.View.{items_of}
 use Rattle.py_selftest.specs.declared.checking.Verdict.{Verdict}
 use Rattle.py_selftest.specs.declared.checking.Verdict.TheVariants.{Agrees, Differs, Doubtful, Silent, NotDescribed}
 use Rattle.py_selftest.specs.declared.trusting.Build.{Build}
 use Rattle.py_selftest.specs.declared.trusting.Build.TheVariants.{FreeThreaded, TraceRefs}
+use Rattle.py_selftest.specs.declared.questions.Answer.{Answer}
+use Rattle.py_selftest.specs.declared.questions.Counted.TheVariants.{Right}
+use Rattle.py_selftest.specs.declared.telling.Release.{Release}
+use Rattle.py_selftest.specs.Questions.{count_known, has_no_right_frame}
 use Rattle.py_selftest.specs.Checking.{CheckShown, KeyShown, differs}
 use Rattle.py_selftest.specs.Text.{is_told}
 use Rattle.py_selftest.specs.declared.tree.Listed.{Listed}
@@ -48,6 +53,37 @@ build_tree None = null
 build_tree (Some FreeThreaded) = string (codes "free-threaded")
 build_tree (Some TraceRefs) = string (codes "trace-refs")
 
+abbrev pub right_tree : ℕ → ℕ → Data
+right_tree right of = object (
+    member (codes "of") (number (unsigned of)) (
+    member (codes "right") (number (unsigned right)) no_members))
+
+-- how many known answers are right, and how many there are
+abbrev pub known_tree : List Answer → Data
+known_tree [] = null
+known_tree (a ∷ rest) = right_tree (count_known Right (a ∷ rest)) (length (a ∷ rest))
+
+abbrev pub numbers_tree : ℕ → ℕ → Data
+numbers_tree major minor = object (
+    member (codes "major") (number (unsigned major)) (
+    member (codes "minor") (number (unsigned minor)) no_members))
+
+-- a version
+abbrev pub release_tree : Option Release → Data
+release_tree None = null
+release_tree (Some release) = numbers_tree release.major release.minor
+
+-- why a layout is doubted, where it is
+abbrev pub doubt_word : Bool → List ℕ
+doubt_word by_frames = if by_frames then codes "frames" else codes "type"
+
+abbrev pub doubt_tree : Verdict → Bool → Data
+doubt_tree Agrees by_frames = null
+doubt_tree Differs by_frames = null
+doubt_tree Doubtful by_frames = string (doubt_word by_frames)
+doubt_tree Silent by_frames = null
+doubt_tree NotDescribed by_frames = null
+
 abbrev pub verdict_word : Verdict → List ℕ
 verdict_word Agrees = codes "agrees"
 verdict_word Differs = codes "differs"
@@ -59,7 +95,9 @@ abbrev pub check_tree : CheckShown → Data
 check_tree c = object (
     member (codes "build") (build_tree c.build) (
     member (codes "differ") (list_tree Differing c.keys) (
-    member (codes "known") null (
+    member (codes "doubt") (doubt_tree c.verdict (has_no_right_frame c.known)) (
+    member (codes "known") (known_tree c.known) (
     member (codes "not_told") (list_tree Untold c.keys) (
+    member (codes "other_table") (release_tree c.other_table) (
     member (codes "told") (list_tree Told c.keys) (
-    member (codes "verdict") (string (verdict_word c.verdict)) no_members))))))
+    member (codes "verdict") (string (verdict_word c.verdict)) no_members))))))))

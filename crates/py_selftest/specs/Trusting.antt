@@ -3,7 +3,7 @@
 -- are
 -- the cookie, the version and the lock's word of the table (`_Py_DebugOffsets`). That the types tell only where `type`
 -- confirms one of these places by its own members, and the table only by the form of 3.13, is this project's.
-use Rattle.std.specs.Prelude.{ℕ, ◌+◌, ◌/◌, ◌==◌, ◌&&◌, not, Bool, false, if◌then◌else◌, is_some, nat_le}
+use Rattle.std.specs.Prelude.{ℕ, ◌+◌, ◌/◌, ◌%◌, ◌==◌, ◌&&◌, not, Bool, false, if◌then◌else◌, is_some, nat_le}
 use Rattle.std.specs.Prelude.{Option, Some, None, Ok}
 use Rattle.process_memory.specs.Memory.{Memory, Found, ◌>>=◌, word_at}
 use Rattle.py_selftest.specs.declared.telling.Release.{Release}
@@ -41,7 +41,15 @@ abbrev pub is_doubted : Option ℕ → Option ℕ → Bool
 is_doubted own size = is_some size && not (is_confirmed own size)
 
 abbrev pub no_types : Types
-no_types = record { metatype = None; code = None; frame = None; tuple = None; bytes = None; long = None }
+no_types = record {
+  metatype = None;
+  code = None;
+  frame = None;
+  text = None;
+  tuple = None;
+  bytes = None;
+  long = None;
+}
 
 -- the types that tell: all, or none where `type` confirms nothing
 abbrev pub trusted : Types → Option ℕ → Option ℕ → Types
@@ -54,7 +62,7 @@ has_form r version = r.major == 3 && r.minor == 13 && version / 65536 == 0x030d
 -- a table, by its cookie `xdebugpy`, its version, and whether there is no lock
 abbrev pub table_by : Release → ℕ → ℕ → ℕ → Option Table
 table_by r cookie version free = if cookie == 0x7970677562656478
-    then Some (record { is_known = has_form r version; free_threaded = free == 1 }) else None
+    then Some (record { is_known = has_form r version; version = version; free_threaded = free == 1 }) else None
 
 unfoldable pub table_at : Memory → Release → Option ℕ → Found (Option Table)
 table_at m r None = Ok None
@@ -68,6 +76,15 @@ table_at m r (Some runtime) = do
 abbrev pub address_if : Option Table → Option ℕ → Option ℕ
 address_if None runtime = None
 address_if (Some table) runtime = if table.is_known then runtime else None
+
+-- the first two numbers of a version word (`PY_VERSION_HEX`)
+abbrev pub release_by : ℕ → Release
+release_by version = record { major = version / 16777216; minor = version / 65536 % 256 }
+
+-- of which version a table says that it is, where its form is not known
+abbrev pub other_of : Option Table → Option Release
+other_of None = None
+other_of (Some table) = if table.is_known then None else Some (release_by table.version)
 
 abbrev pub is_free : Option Table → Bool
 is_free None = false

@@ -4,16 +4,21 @@ ghost use Rattle.std.specs.List.{list_any};
 ghost use Rattle.process_memory.specs.Seen.{Reads, read_fault};
 ghost use Rattle.process_memory.specs.declared.memory.ReadFault.TheVariants.{OutOfMemory};
 ghost use Rattle.py_selftest.specs.Checking.{Says, are_other, check_at, check_if, check_of, check_result, check_shown};
-ghost use Rattle.py_selftest.specs.Checking.{described_at, differs, key_shown, key_told, keys_from, keys_result, lacks};
-ghost use Rattle.py_selftest.specs.Checking.{trust_at, trust_of, unconfirmed, untried, verdict_of};
+ghost use Rattle.py_selftest.specs.Checking.{described_at, differs, key_shown, key_told};
+ghost use Rattle.py_selftest.specs.Checking.{keys_from, keys_result, lacks};
+ghost use Rattle.py_selftest.specs.Checking.{trust_at, trust_of, unconfirmed, undescribed};
+ghost use Rattle.py_selftest.specs.Checking.{undescribed_at, untried, verdict_of};
 ghost use Rattle.py_selftest.specs.Rows.{row_of};
 
 use crate::keys::{Key, key_name, number_in};
+use crate::questions::{Answer, has_no_right_frame};
 use crate::rows::{BuiltIn, Row, rows};
 use crate::telling::{Release, Telling, Types, applies, kept, member_told, row_told};
 use crate::trusting::{
-    Build, Table, address_if, build_of, is_described, is_doubted, own_place, read_table, trusted,
+    Build, Table, address_if, build_of, is_described, is_doubted, other_of, own_place, read_table,
+    trusted,
 };
+use crate::walking::{ThreadPlace, meet};
 use process_memory::{ProcessMemory, ReadFault};
 use py_fields::Layout;
 use std::alloc::Global;
@@ -41,7 +46,8 @@ pub enum Verdict {
     Agrees,
     /// One that is told is another one.
     Differs,
-    /// Needed numbers are not told, and `type` says of itself what can't be.
+    /// None of at least eight frames has a known answer that is right; or needed numbers are not told, and `type` says
+    /// of itself what can't be.
     Doubtful,
     /// Needed numbers are not told.
     Silent,
@@ -55,6 +61,10 @@ pub struct LayoutCheck {
     pub verdict: Verdict,
     /// The build, where it is none of the usual ones.
     pub build: Option<Build>,
+    /// Of which version the process's own table says that it is, where that is none whose form is known.
+    pub other_table: Option<Release>,
+    /// The known answers that were found, and which are right.
+    pub(crate) known: Vec<Answer>,
     /// All numbers of a layout but sizes, in the order of a layout file.
     pub keys: Vec<KeyTold>,
 }
@@ -165,13 +175,18 @@ fn unconfirmed(doubted: bool) -> Verdict
     }
 }
 
-/// What is said of a layout by its numbers. `doubted` is whether `type` says of itself what can't be.
-fn verdict_of(doubted: bool, keys: &[KeyTold]) -> Verdict
-    ensures { result ≡ verdict_of doubted (map key_shown keys.now) }
+/// What is said of a layout by its numbers and the known answers. `doubted` is whether `type` says of itself what can't
+/// be.
+fn verdict_of(doubted: bool, known: &[Answer], keys: &[KeyTold]) -> Verdict
+    ensures { result ≡ verdict_of doubted known.now (map key_shown keys.now) }
 {
     let differing = any_differs(keys);
     if differing {
         return Verdict::Differs;
+    }
+    let no_right = has_no_right_frame(known);
+    if no_right {
+        return Verdict::Doubtful;
     }
     let lacking = any_lacks(keys);
     if lacking {
@@ -185,6 +200,7 @@ fn verdict_of(doubted: bool, keys: &[KeyTold]) -> Verdict
 struct Trust {
     telling: Telling,
     build: Option<Build>,
+    other_table: Option<Release>,
     doubted: bool,
 }
 
@@ -219,6 +235,7 @@ fn trust_of(
             release,
         },
         build: build_of(release, own, table),
+        other_table: other_of(table),
         doubted: is_doubted(own, size),
     }
 }
@@ -248,18 +265,20 @@ fn read_trust<P: ProcessMemory>(
     Ok(trust_of(types, runtime, release, own, size, table))
 }
 
-/// A layout beside what is told, by the numbers.
-fn check_of(trust: &Trust, keys: Vec<KeyTold>) -> LayoutCheck
-    ensures { check_shown result ≡ check_of trust.now (map key_shown keys.items) }
+/// A layout beside what is told, by the numbers and the known answers.
+fn check_of(trust: &Trust, known: Vec<Answer>, keys: Vec<KeyTold>) -> LayoutCheck
+    ensures { check_shown result ≡ check_of trust.now known.items (map key_shown keys.items) }
 {
     LayoutCheck {
-        verdict: verdict_of(trust.doubted, &keys),
+        verdict: verdict_of(trust.doubted, &known, &keys),
         build: trust.build,
+        other_table: trust.other_table,
+        known,
         keys,
     }
 }
 
-/// A layout beside what a process of a version tells that is known. At most 58542 reads.
+/// A layout beside what a process of a version tells that is known. At most 104814 reads.
 fn described_check<P: ProcessMemory>(
     alloc: Global,
     process: &mut P,
@@ -267,16 +286,45 @@ fn described_check<P: ProcessMemory>(
     types: &Types,
     runtime: Option<u64>,
     release: Release,
+    threads: &[ThreadPlace],
 ) -> Result<LayoutCheck, ReadFault>
-    ensures { Reads read_fault 58542 (P.seen process.old) (P.seen process.new)
-        (λ m. described_at m layout.now types.now runtime release) (check_result result) }
+    ensures { Reads read_fault 104814 (P.seen process.old) (P.seen process.new)
+        (λ m. described_at m layout.now types.now runtime release threads.now) (check_result result) }
 {
-    let trust = read_trust(alloc, process, types, runtime, release)?;
+    let met = meet(alloc, process, layout, release, types, threads)?;
+    let trust = read_trust(alloc, process, &met.types, runtime, release)?;
     let keys = keys_told(alloc, process, layout, &trust.telling, rows())?;
-    Ok(check_of(&trust, keys))
+    Ok(check_of(&trust, met.answers, keys))
 }
 
-/// The same, if that is known of this version.
+/// What is told of a version of which it is not known what its types tell.
+fn undescribed(alloc: Global, table: Option<Table>) -> LayoutCheck
+    ensures { check_shown result ≡ undescribed table }
+{
+    LayoutCheck {
+        verdict: Verdict::NotDescribed,
+        build: None,
+        other_table: other_of(table),
+        known: Vec::new(alloc),
+        keys: Vec::new(alloc),
+    }
+}
+
+/// The same, where that is all that is read. At most 3 reads.
+fn undescribed_check<P: ProcessMemory>(
+    alloc: Global,
+    process: &mut P,
+    runtime: Option<u64>,
+    release: Release,
+) -> Result<LayoutCheck, ReadFault>
+    ensures { Reads read_fault 3 (P.seen process.old) (P.seen process.new)
+        (λ m. undescribed_at m runtime release) (check_result result) }
+{
+    let table = kept(read_table(process, release, runtime))?;
+    Ok(undescribed(alloc, table))
+}
+
+/// The one or the other. At most 104814 reads.
 fn check_if<P: ProcessMemory>(
     alloc: Global,
     process: &mut P,
@@ -284,36 +332,40 @@ fn check_if<P: ProcessMemory>(
     types: &Types,
     runtime: Option<u64>,
     release: Release,
+    threads: &[ThreadPlace],
     described: bool,
 ) -> Result<LayoutCheck, ReadFault>
-    ensures { Reads read_fault 58542 (P.seen process.old) (P.seen process.new)
-        (λ m. check_if m layout.now types.now runtime release described) (check_result result) }
+    ensures { Reads read_fault 104814 (P.seen process.old) (P.seen process.new)
+        (λ m. check_if m layout.now types.now runtime release threads.now described) (check_result result) }
 {
     if described {
-        return described_check(alloc, process, layout, types, runtime, release);
+        return described_check(alloc, process, layout, types, runtime, release, threads);
     }
-    Ok(LayoutCheck {
-        verdict: Verdict::NotDescribed,
-        build: None,
-        keys: Vec::new(alloc),
-    })
+    undescribed_check(alloc, process, runtime, release)
 }
 
-/// A layout, beside what its process says of itself: of each number whether the process tells it, and which.
+/// A layout, beside what its process says of itself: of each number whether the process tells it, and which; and how
+/// many known answers are right of those to which the layout's numbers lead.
 ///
 /// `types` are the addresses of built-in types and `runtime` that of the runtime record (`_PyRuntime`), as the symbols
-/// of the images have them; `release` is the version of the Python that ran. A type tells where its members stand, and
-/// how many bytes an instance has, by the words at its own place (`tp_members`, `tp_basicsize`); the types tell only
-/// where `type` names itself, 8 or 24 bytes from its address, and says by its own member `__basicsize__` that this word
-/// stands where it is read. The table of 3.13 at the front of the runtime record tells with its cookie and its version
-/// alone. A member of another width than the layout's reader reads tells nothing.
+/// of the images have them; `release` is the version of the Python that ran; `threads` are the threads of its
+/// interpreters, as the layout leads to them, of which the first 64 are asked, and of each one's frames the newest 16.
 ///
-/// `Differs` comes where a number that is told is not the layout's; else `Agrees` where the needed ones are told:
-/// those of
-/// code, and before 3.11 those of frames; else `Doubtful` where `type` says that its word of a size stands elsewhere,
-/// and `Silent` where not. `NotDescribed` comes for other versions than 2.7 and 3.6 to 3.13, with no numbers.
+/// A type tells where its members stand, and how many bytes an instance has, by the words at its own place
+/// (`tp_members`, `tp_basicsize`); the types tell only where `type` names itself, 8 or 24 bytes from its address, and
+/// says by its own member `__basicsize__` that this word stands where it is read. Types that no symbol names are the
+/// classes of a frame, its code and what that holds, each by its own name alone. The table of 3.13 at the front of the
+/// runtime record tells with its cookie and its version alone; another one with the cookie is told by the version that
+/// it says, and nothing is read by it. A member of another width than the layout's reader reads tells nothing.
 ///
-/// What is not in memory tells nothing: that is no error. The one error is want of memory. At most 58542 reads.
+/// `Differs` comes where a number that is told is not the layout's; else `Doubtful` where at least eight frames have
+/// an answer, and none a right one; else `Agrees` where the needed ones are told: those of code, and before 3.11 those
+/// of frames; else `Doubtful` where `type` says that its word of a size stands elsewhere, and `Silent` where not.
+/// `NotDescribed` comes for other versions than 2.7 and 3.6 to 3.13, with no numbers. Known answers decide nothing
+/// else: a broken process fails some.
+///
+/// What is not in memory tells nothing and answers nothing: that is no error. The one error is want of memory. At most
+/// 104814 reads.
 pub fn check_layout<P: ProcessMemory>(
     alloc: Global,
     process: &mut P,
@@ -321,15 +373,20 @@ pub fn check_layout<P: ProcessMemory>(
     types: &Types,
     runtime: Option<u64>,
     release: Release,
+    threads: &[ThreadPlace],
 ) -> Result<LayoutCheck, ReadFault>
-    // each number that is told is the one that the words of the process's own types or of its own table name
-    ensures right { Reads read_fault 58542 (P.seen process.old) (P.seen process.new)
-        (λ m. check_at m layout.now types.now runtime release) (check_result result) }
+    // each number that is told is the one that the words of the process's own types or of its own table name, and each
+    // known answer is what the words say to which the layout leads
+    ensures right { Reads read_fault 104814 (P.seen process.old) (P.seen process.new)
+        (λ m. check_at m layout.now types.now runtime release threads.now) (check_result result) }
 
-    // where the answer is Agrees, each number of the layout that is told is the one in memory, and the needed ones are
-    // told; where it is Differs, the memory has another number than the layout
+    // where the answer is Agrees, each number of the layout that is told is the one in memory, the needed ones are
+    // told, and of eight frames one has an answer that is right; where it is Differs, the memory has another number
+    // than the layout
     ensures says { IfOk result (λ check. Says (check_shown check)) }
 {
     let described = is_described(release);
-    check_if(alloc, process, layout, types, runtime, release, described)
+    check_if(
+        alloc, process, layout, types, runtime, release, threads, described,
+    )
 }

@@ -55,7 +55,7 @@ fn is_named(chars: &[u8], name: &str) -> bool
 const NAME_LIMIT: usize = 1024;
 
 /// Whether a name stands at an address, with a nul behind it; one of more than 1024 bytes never does. At most one read.
-fn is_called<P: ProcessMemory>(
+pub(crate) fn is_called<P: ProcessMemory>(
     alloc: Global,
     process: &mut P,
     name: &str,

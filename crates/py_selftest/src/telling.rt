@@ -22,6 +22,8 @@ pub struct Types {
     pub metatype: Option<u64>,
     pub code: Option<u64>,
     pub frame: Option<u64>,
+    /// `str` of Python 3.
+    pub text: Option<u64>,
     pub tuple: Option<u64>,
     /// `bytes`, or `str` of Python 2.
     pub bytes: Option<u64>,
@@ -120,7 +122,7 @@ fn line_table(release: Release) -> &'static str
 }
 
 /// A number less another one; none where that is larger.
-fn less(number: u64, by: u64) -> Option<u64>
+pub(crate) fn less(number: u64, by: u64) -> Option<u64>
     ensures { result ≡ less number by }
 {
     number.checked_sub(by)
@@ -227,8 +229,8 @@ fn source_told<P: ProcessMemory>(
     }
 }
 
-/// The number of a word of the table. One read.
-fn word_told<P: ProcessMemory>(
+/// The number of a word of a record, as of the table. One read.
+pub(crate) fn word_told<P: ProcessMemory>(
     process: &mut P,
     table: u64,
     at: u64,

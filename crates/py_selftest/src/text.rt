@@ -2,11 +2,13 @@
 ghost use Rattle.std.specs.Prelude.{◌≡◌, ◌≤◌, ◌++◌, OnOk, map, string_bytes};
 ghost use Rattle.py_selftest.specs.Checking.{check_shown, key_shown};
 ghost use Rattle.py_selftest.specs.Text.{build_text, check_text, count_told, counts_text, differ_text};
-ghost use Rattle.py_selftest.specs.Text.{differing_text, is_as_asked, is_told, numbers_of, numbers_text, one_if};
+ghost use Rattle.py_selftest.specs.Text.{differing_text, is_as_asked, is_told, numbers_of, numbers_text};
 ghost use Rattle.py_selftest.specs.Text.{told_text};
-ghost use Rattle.py_selftest.specs.Text.{verdict_text};
+ghost use Rattle.py_selftest.specs.Text.{doubt_text, known_text, release_text, right_text, table_text, verdict_text};
 
 use crate::checking::{KeyTold, LayoutCheck, Verdict, differs};
+use crate::questions::{Answer, Counted, count_known, has_no_right_frame, one_if};
+use crate::telling::Release;
 use crate::trusting::Build;
 use std::alloc::AllocError;
 
@@ -26,14 +28,6 @@ pub(crate) fn is_told(key: &KeyTold, told: bool) -> bool
     ensures { result ≡ is_told told (key_shown key.now) }
 {
     key.layout.is_some() && is_as_asked(key.process, told)
-}
-
-/// One for what is so, else none.
-fn one_if(is: bool) -> u64
-    ensures is { result ≡ one_if is }
-    ensures most { result ≤ 1 }
-{
-    if is { 1 } else { 0 }
 }
 
 /// How many numbers of the layout are told, or are not told.
@@ -123,10 +117,60 @@ fn push_build(text: &mut String, build: Option<Build>) -> Result<(), AllocError>
     }
 }
 
+/// Of which version a table says that it is, where its form is not known.
+fn push_table(text: &mut String, table: Option<Release>) -> Result<(), AllocError>
+    ensures { OnOk result (string_bytes text.new ≡ string_bytes text.old ++ table_text table) }
+{
+    match table {
+        None => Ok(()),
+        Some(release) => push_release(text, release.major, release.minor),
+    }
+}
+
+/// The same, by the version's two numbers.
+fn push_release(text: &mut String, major: u64, minor: u64) -> Result<(), AllocError>
+    ensures { OnOk result (string_bytes text.new ≡ string_bytes text.old ++ release_text major minor) }
+{
+    text.push_str("The process has a table of places (_Py_DebugOffsets) that says it is of ")?;
+    write!(text, "{major}.{minor}: nothing is read by it\n")
+}
+
+/// How many known answers are right.
+fn push_right(text: &mut String, right: u64, of: u64) -> Result<(), AllocError>
+    ensures { OnOk result (string_bytes text.new ≡ string_bytes text.old ++ right_text right of) }
+{
+    write!(text, "Known answers: {right} of {of} are right\n")
+}
+
+/// The same; nothing where there are none.
+fn push_known(text: &mut String, known: &[Answer]) -> Result<(), AllocError>
+    ensures { OnOk result (string_bytes text.new ≡ string_bytes text.old ++ known_text known.now) }
+{
+    if known.is_empty() {
+        return Ok(());
+    }
+    push_right(text, count_known(known, Counted::Right), known.len() as u64)
+}
+
+/// Why a layout is doubted.
+fn push_doubt(text: &mut String, by_frames: bool) -> Result<(), AllocError>
+    ensures { OnOk result (string_bytes text.new ≡ string_bytes text.old ++ doubt_text by_frames) }
+{
+    if by_frames {
+        return text.push_str("Layout doubtful, no known answer of a frame is right");
+    }
+    text.push_str("Layout not confirmed, type's own table is none that is known")
+}
+
 /// What is said of a layout by its numbers.
-fn push_verdict(text: &mut String, verdict: Verdict, keys: &[KeyTold]) -> Result<(), AllocError>
+fn push_verdict(
+    text: &mut String,
+    verdict: Verdict,
+    known: &[Answer],
+    keys: &[KeyTold],
+) -> Result<(), AllocError>
     ensures { OnOk result (string_bytes text.new ≡ string_bytes text.old
-        ++ verdict_text verdict (map key_shown keys.now)) }
+        ++ verdict_text verdict known.now (map key_shown keys.now)) }
 {
     match verdict {
         Verdict::Agrees => {
@@ -135,7 +179,7 @@ fn push_verdict(text: &mut String, verdict: Verdict, keys: &[KeyTold]) -> Result
         }
         Verdict::Differs => push_differing(text, keys),
         Verdict::Doubtful => {
-            text.push_str("Layout not confirmed, type's own table is none that is known")?;
+            push_doubt(text, has_no_right_frame(known))?;
             push_counts(text, keys)
         }
         Verdict::Silent => {
@@ -150,12 +194,14 @@ fn push_verdict(text: &mut String, verdict: Verdict, keys: &[KeyTold]) -> Result
 
 /// Appends the lines that say what a process says of a layout, each with a line feed at its end: `Layout agrees: 31
 /// keys
-/// told, 12 not told`; a line `Layout differs: frame.locals is 360, the process says 352` for each number that does; or
+/// told, 12 not told`; a line `Layout differs: frame.locals is 360, the process says 352` for each number that does;
 /// `Layout not confirmed: ..`. In front stands the build, where it is none of the usual ones. The one error is want of
 /// memory.
 pub fn push_check(text: &mut String, check: &LayoutCheck) -> Result<(), AllocError>
     ensures { OnOk result (string_bytes text.new ≡ string_bytes text.old ++ check_text (check_shown check.now)) }
 {
     push_build(text, check.build)?;
-    push_verdict(text, check.verdict, &check.keys)
+    push_table(text, check.other_table)?;
+    push_verdict(text, check.verdict, &check.known, &check.keys)?;
+    push_known(text, &check.known)
 }

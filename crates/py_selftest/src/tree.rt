@@ -4,9 +4,13 @@ ghost use Rattle.serde_json.specs.View.{view};
 ghost use Rattle.serde_json.specs.Written.{has_float};
 ghost use Rattle.py_selftest.specs.Checking.{check_shown, key_shown};
 ghost use Rattle.py_selftest.specs.Trees.{build_tree, check_tree, is_listed, key_tree, list_tree, listed_of};
-ghost use Rattle.py_selftest.specs.Trees.{listed_tree, number_tree, verdict_word};
+ghost use Rattle.py_selftest.specs.Trees.{known_tree, listed_tree, number_tree, numbers_tree};
+ghost use Rattle.py_selftest.specs.Trees.{release_tree, right_tree};
+ghost use Rattle.py_selftest.specs.Trees.{doubt_tree, doubt_word, verdict_word};
 
 use crate::checking::{KeyTold, LayoutCheck, Verdict, differs};
+use crate::questions::{Answer, Counted, count_known, has_no_right_frame};
+use crate::telling::Release;
 use crate::text::is_told;
 use crate::trusting::Build;
 use serde_json::{Value, json};
@@ -117,6 +121,70 @@ fn build_value(alloc: Global, build: Option<Build>) -> Result<Value, AllocError>
     }
 }
 
+/// How many known answers are right, and how many there are.
+fn right_value(alloc: Global, right: u64, of: u64) -> Result<Value, AllocError>
+    ensures { IfOk result (λ value. view value ≡ right_tree right of) }
+{
+    json!(in alloc; {
+        "of": of,
+        "right": right
+    })
+}
+
+/// The same; null where there are none.
+fn known_value(alloc: Global, known: &[Answer]) -> Result<Value, AllocError>
+    ensures { IfOk result (λ value. view value ≡ known_tree known.now) }
+{
+    if known.is_empty() {
+        return Ok(Value::Null);
+    }
+    right_value(
+        alloc,
+        count_known(known, Counted::Right),
+        known.len() as u64,
+    )
+}
+
+/// A version by its first two numbers, or null.
+fn release_value(alloc: Global, release: Option<Release>) -> Result<Value, AllocError>
+    ensures { IfOk result (λ value. view value ≡ release_tree release) }
+{
+    match release {
+        None => Ok(Value::Null),
+        Some(release) => numbers_value(alloc, release.major, release.minor),
+    }
+}
+
+/// The same, by the numbers.
+fn numbers_value(alloc: Global, major: u64, minor: u64) -> Result<Value, AllocError>
+    ensures { IfOk result (λ value. view value ≡ numbers_tree major minor) }
+{
+    json!(in alloc; {
+        "major": major,
+        "minor": minor
+    })
+}
+
+/// Why a layout is doubted.
+fn doubt_word(by_frames: bool) -> &'static str
+    ensures { result.now ≡ doubt_word by_frames }
+{
+    if by_frames { "frames" } else { "type" }
+}
+
+/// The same, or null where it is not.
+fn doubt_value(alloc: Global, verdict: Verdict, by_frames: bool) -> Result<Value, AllocError>
+    ensures { IfOk result (λ value. view value ≡ doubt_tree verdict by_frames) }
+{
+    match verdict {
+        Verdict::Doubtful => Value::try_from_str(alloc, doubt_word(by_frames)),
+        Verdict::Agrees => Ok(Value::Null),
+        Verdict::Differs => Ok(Value::Null),
+        Verdict::Silent => Ok(Value::Null),
+        Verdict::NotDescribed => Ok(Value::Null),
+    }
+}
+
 /// What is said of a layout, as a word.
 fn verdict_word(verdict: Verdict) -> &'static str
     ensures { result.now ≡ verdict_word verdict }
@@ -135,25 +203,32 @@ fn object_value(alloc: Global, check: &LayoutCheck) -> Result<Value, AllocError>
     ensures { IfOk result (λ value. view value ≡ check_tree (check_shown check.now)) }
 {
     let build = build_value(alloc, check.build)?;
+    let doubt = doubt_value(alloc, check.verdict, has_no_right_frame(&check.known))?;
+    let known = known_value(alloc, &check.known)?;
+    let other_table = release_value(alloc, check.other_table)?;
     let differ = list_value(alloc, Listed::Differing, &check.keys)?;
     let not_told = list_value(alloc, Listed::Untold, &check.keys)?;
     let told = list_value(alloc, Listed::Told, &check.keys)?;
     json!(in alloc; {
         "build": build,
         "differ": differ,
-        "known": null,
+        "doubt": doubt,
+        "known": known,
         "not_told": not_told,
+        "other_table": other_table,
         "told": told,
         "verdict": verdict_word(check.verdict)
     })
 }
 
 /// What a process says of a layout, as a JSON value: an object with `verdict`: `agrees`, `differs`, `doubtful`,
-/// `silent`
-/// or `not described`; `build`: `free-threaded`, `trace-refs`, or null for a usual one; `told`, the numbers of the
-/// layout
-/// that the process tells, each an object with its `key`, the `layout`'s number and the `process`'s; `differ`, those of
-/// them that are two numbers; `not_told`, the keys of the others; and `known`, null.
+/// `silent` or `not described`; `build`: `free-threaded`, `trace-refs`, or null for a usual one; `told`, the numbers
+/// of the layout that the process tells, each an object with its `key`, the `layout`'s number and the `process`'s;
+/// `differ`, those of them that are two numbers; `doubt`, `frames` or `type` where it is doubted, by whether no answer of a frame is right, else
+/// null; `not_told`, the keys of the others; `known`, null, or an object that
+/// says how many known answers are `right`, and `of` how many; and `other_table`, null, or the `major` and `minor`
+/// number of the version that the process's own table of places says, where its form is not known, so that nothing is
+/// read by it.
 ///
 /// The keys of an object stand in the order of their bytes. The one error is want of memory.
 pub fn check_value(alloc: Global, check: &LayoutCheck) -> Result<Value, AllocError>

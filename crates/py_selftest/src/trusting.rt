@@ -2,8 +2,9 @@
 //! and the table of 3.13, if it has its cookie and this version's form.
 ghost use Rattle.std.specs.Prelude.{◌≡◌};
 ghost use Rattle.process_memory.specs.Seen.{Reads, read_fault};
-ghost use Rattle.py_selftest.specs.Trusting.{address_if, build_of, has_form, is_confirmed, is_described, is_doubted};
-ghost use Rattle.py_selftest.specs.Trusting.{is_free, is_wide};
+ghost use Rattle.py_selftest.specs.Trusting.{address_if, build_of, has_form, is_confirmed};
+ghost use Rattle.py_selftest.specs.Trusting.{is_described, is_doubted, other_of};
+ghost use Rattle.py_selftest.specs.Trusting.{is_free, is_wide, release_by};
 ghost use Rattle.py_selftest.specs.Trusting.{own_from, own_place_at, table_at, table_by, trusted};
 
 use crate::telling::{Release, Types, is_before};
@@ -36,6 +37,8 @@ pub enum Build {
 pub(crate) struct Table {
     /// Whether its form is known: that of 3.13.
     pub(crate) is_known: bool,
+    /// The version that it says.
+    pub(crate) version: u64,
     pub(crate) free_threaded: bool,
 }
 
@@ -112,6 +115,7 @@ pub(crate) fn trusted(types: &Types, own: Option<u32>, size: Option<u64>) -> Typ
             metatype: None,
             code: None,
             frame: None,
+            text: None,
             tuple: None,
             bytes: None,
             long: None,
@@ -135,6 +139,7 @@ fn table_by(release: Release, cookie: u64, version: u64, free: u64) -> Option<Ta
     }
     Some(Table {
         is_known: has_form(release, version),
+        version,
         free_threaded: free == 1,
     })
 }
@@ -165,6 +170,32 @@ pub(crate) fn address_if(table: Option<Table>, runtime: Option<u64>) -> Option<u
 {
     match table {
         Some(table) => { if table.is_known { runtime } else { None } }
+        None => None,
+    }
+}
+
+/// The first two numbers of a version word (`PY_VERSION_HEX`).
+fn release_by(version: u64) -> Release
+    ensures { result ≡ release_by version }
+{
+    Release {
+        major: version / 0x100_0000,
+        minor: version / 0x1_0000 % 0x100,
+    }
+}
+
+/// Of which version a table says that it is, where its form is not known.
+pub(crate) fn other_of(table: Option<Table>) -> Option<Release>
+    ensures { result ≡ other_of table }
+{
+    match table {
+        Some(table) => {
+            if table.is_known {
+                None
+            } else {
+                Some(release_by(table.version))
+            }
+        }
         None => None,
     }
 }

@@ -1,5 +1,5 @@
 //! The frames of a thread: its whole chain of callers, less the members that are skipped.
-ghost use Rattle.std.specs.Prelude.{◌≡◌, OnOk};
+ghost use Rattle.std.specs.Prelude.{◌≡◌, IfOk, OnOk};
 ghost use Rattle.py_fields.specs.Sound.{IsSound};
 ghost use Rattle.py_builtins.specs.Consulted.{ConsultsBy};
 ghost use Rattle.py_stacks.specs.StackError.{stack_fault};
@@ -12,7 +12,8 @@ use crate::records::Records;
 use crate::{Frame, StackError};
 use process_memory::ProcessMemory;
 use py_fields::Layout;
-use std::alloc::{AllocFailed, Global};
+use shared_texts::SharedTexts;
+use std::alloc::{AllocError, Global};
 
 /// How many members of a thread's chain are met at most.
 const MEMBER_LIMIT: usize = 16384;
@@ -27,8 +28,46 @@ fn mark_last(frames: &mut Vec<Frame>)
     }
 }
 
+/// The same frame, whose two texts share their bytes with those of the same characters that were met before. The one
+/// error is want of memory.
+pub fn share_texts(
+    alloc: Global,
+    texts: &mut SharedTexts,
+    frame: Frame,
+) -> Result<Frame, AllocError>
+    ensures { IfOk result (λ shared. shared ≡ frame) }
+{
+    let Frame {
+        name,
+        filename,
+        module,
+        short_filename,
+        line,
+        locals,
+        is_entry,
+        is_shim_entry,
+    } = frame;
+    let name = texts.share(alloc, name)?;
+    let filename = texts.share(alloc, filename)?;
+    Ok(Frame {
+        name,
+        filename,
+        module,
+        short_filename,
+        line,
+        locals,
+        is_entry,
+        is_shim_entry,
+    })
+}
+
 /// Adds what a member shows as; one that is skipped marks the frame before it.
-fn add_part(frames: &mut Vec<Frame>, part: Option<Frame>) -> Result<(), AllocFailed<Frame>>
+fn add_part(
+    alloc: Global,
+    texts: &mut SharedTexts,
+    frames: &mut Vec<Frame>,
+    part: Option<Frame>,
+) -> Result<(), AllocError>
     ensures { OnOk result (Adds frames.old.items part frames.new.items) }
 {
     match part {
@@ -36,14 +75,18 @@ fn add_part(frames: &mut Vec<Frame>, part: Option<Frame>) -> Result<(), AllocFai
             mark_last(frames);
             Ok(())
         }
-        Some(frame) => frames.push(frame),
+        Some(frame) => {
+            frames.push(share_texts(alloc, texts, frame)?)?;
+            Ok(())
+        }
     }
 }
 
 /// The frames of a thread from its first one on, the newest first.
 ///
 /// They are the members of the whole chain of callers, to null, less those that are skipped. Each frame is
-/// marked where the next member is skipped or there is none. The error is the first of these, in order: for
+/// marked where the next member is skipped or there is none. Its texts share their bytes with those of the same
+/// characters before it. The error is the first of these, in order: for
 /// each member those of `read_member`; `ChainLimit` where 16384 members were met and the next is not 0. Else
 /// it is want of memory. At most 6 reads for each member that is met, and those of its detail.
 pub(crate) fn read_frames<P: ProcessMemory>(
@@ -53,6 +96,7 @@ pub(crate) fn read_frames<P: ProcessMemory>(
     asked: Asked,
     first: u64,
     records: &mut Records,
+    texts: &mut SharedTexts,
 ) -> Result<Vec<Frame>, StackError>
     requires sound { IsSound layout.now }
     ensures { ConsultsBy layout.now stack_fault
@@ -67,7 +111,7 @@ pub(crate) fn read_frames<P: ProcessMemory>(
             return Err(StackError::ChainLimit);
         }
         let (back, part) = read_member(alloc, process, layout, asked, frames.len(), at, records)?;
-        add_part(&mut frames, part)?;
+        add_part(alloc, texts, &mut frames, part)?;
         met += 1;
         at = back;
     }

@@ -27,6 +27,7 @@ mod values;
 pub use asked::{Asked, LineNo};
 pub use config::Config;
 pub use error::StackError;
+pub use frames::share_texts;
 pub use holder::get_gil_threadid;
 pub use interpreter::{get_first_thread, is_interpreter, is_interpreter_from};
 pub use lines::{first_line, offset_of, read_line};

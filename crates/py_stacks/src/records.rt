@@ -12,6 +12,7 @@ use crate::StackError;
 use crate::members::code_of;
 use process_memory::{ProcessMemory, record_in};
 use py_fields::Layout;
+use shared_texts::SharedTexts;
 use std::alloc::Global;
 
 /// The two records of a member of a thread's chain of frames, with their addresses. A buffer of them is used again
@@ -33,6 +34,8 @@ pub struct Records {
 pub(crate) struct Scratch {
     pub(crate) thread: Vec<u8>,
     pub(crate) member: Records,
+    /// The texts of the frames that were kept.
+    pub(crate) texts: SharedTexts,
 }
 
 impl Scratch {
@@ -46,6 +49,7 @@ impl Scratch {
                 code_at: 0,
                 code: Vec::new(alloc),
             },
+            texts: SharedTexts::new(alloc),
         }
     }
 }

@@ -70,7 +70,15 @@ pub(crate) fn read_trace<P: ProcessMemory>(
 {
     read_bytes(process, at, layout.thread.size, &mut scratch.thread)?;
     let first = first_frame(process, layout, &scratch.thread)?;
-    let frames = read_frames(alloc, process, layout, asked, first, &mut scratch.member)?;
+    let frames = read_frames(
+        alloc,
+        process,
+        layout,
+        asked,
+        first,
+        &mut scratch.member,
+        &mut scratch.texts,
+    )?;
     let thread_id = u64_in(&scratch.thread, layout.thread.id as usize);
     let next = u64_in(&scratch.thread, layout.thread.next as usize);
     let os_thread_id = native_id(layout.thread.native_id, &scratch.thread);

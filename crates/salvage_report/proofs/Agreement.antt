@@ -14,6 +14,7 @@ use Rattle.py_process.proofs.FindingLaws.{ChoosesOnce}
 use Rattle.core_stacks.specs.Process.{OpenedProcess, ProcessIs}
 use Rattle.core_stacks.proofs.Layouts.{chooses_once}
 use Rattle.core_stacks.proofs.Opening.{process_agree}
+use Rattle.py_fronts.specs.declared.search.Looked.{Looked}
 use Rattle.py_fronts.specs.Salvaged.{LockedInterpreter, locked, salvaged_at}
 use Rattle.py_fronts.specs.declared.crash.Crash.{Crash}
 use Rattle.py_fronts.specs.declared.salvaged.SalvagedInterpreter.{SalvagedInterpreter}
@@ -27,7 +28,7 @@ use Rattle.salvage_report.proofs.Recorded.{records_apart, records_exclude, recor
 use Rattle.salvage_report.proofs.Recorded.{tables_once}
 use Rattle.salvage_report.specs.Outcome.{IsCoreFaultless, IsCoreOutcome, IsFaultless, IsFaultlessBy, IsOutcomeBy}
 use Rattle.salvage_report.specs.Outcome.{IsLeft, IsLeftOf, IsOutcome, IsSalvagedBy, IsShowable, Outcome}
-use Rattle.salvage_report.specs.Outcome.{cause_status, left_at, looked_at}
+use Rattle.salvage_report.specs.Outcome.{cause_status, left_at}
 use Rattle.salvage_report.specs.Outcome.{outcome_status, shown_or_none}
 use Rattle.named_images.specs.Named.{images_read}
 use Rattle.program_run.specs.Ends.{IsOwn}
@@ -50,14 +51,14 @@ pub cause_own : (cause : Cause) → IsOwn (cause_status cause)
 cause_own (Core e) = core_own e
 cause_own (Layouts e) = layouts_own e
 cause_own (Records e) = records_own e
-cause_own (NoInterpreter addresses) = own 1 (inl refl)
+cause_own (NoInterpreter addresses members) = own 1 (inl refl)
 cause_own OutOfMemory = own 5 (inr (omega arith))
 
 pub cause_within : (cause : Cause) → cause_status cause ≤ 6
 cause_within (Core e) = core_within e
 cause_within (Layouts e) = layouts_within e
 cause_within (Records e) = records_within e
-cause_within (NoInterpreter addresses) = omega arith
+cause_within (NoInterpreter addresses members) = omega arith
 cause_within OutOfMemory = omega arith
 
 -- ---- layouts
@@ -90,7 +91,7 @@ module _ (layouts : List Layout) (once : ChoosesOnce layouts) where
 
 -- whether some interpreters are shown is what their values say
 abbrev SameKind : List SalvagedInterpreter → List SalvagedInterpreter → Type 0
-SameKind is js = (n m : ℕ) (s t : List ℕ) → outcome_status (shown_or_none is n s) ≡ outcome_status
+SameKind is js = (n m : Looked) (s t : List ℕ) → outcome_status (shown_or_none is n s) ≡ outcome_status
     (shown_or_none js m t)
 
 none_some : (x : LockedInterpreter) (xs : List LockedInterpreter) → [] ≡ x ∷ xs → ⊥
@@ -102,7 +103,7 @@ same_kind [] (j ∷ js) same n m s t = absurd (none_some (locked j) (map locked 
 same_kind (i ∷ is) [] same n m s t = absurd (none_some (locked i) (map locked is) (sym same))
 same_kind (i ∷ is) (j ∷ js) same n m s t = refl
 
-some_shown : (is : List SalvagedInterpreter) (n : ℕ) (s : List ℕ) (cause : Cause) → map locked is ≢ []
+some_shown : (is : List SalvagedInterpreter) (n : Looked) (s : List ℕ) (cause : Cause) → map locked is ≢ []
     → Err cause ≡ shown_or_none is n s → ⊥
 some_shown [] n s cause some e = some refl
 some_shown (i ∷ is) n s cause some e = absurd (cc)
@@ -119,7 +120,7 @@ module _ (s : Salvage) (ts : List RecordTable) (bytes : List ℕ) (images : Push
       ap outcome_status is
       ∙ same_kind left.salvaged.interpreters.items other.salvaged.interpreters.items
       (shown_of o left left.salvaged.crash h ∙ sym (shown_of o other left.salvaged.crash k))
-      (looked_at o) (looked_at o) (shown_left s left) (shown_left s other)
+      left.salvaged.looked other.salvaged.looked (shown_left s left) (shown_left s other)
       ∙ sym (ap outcome_status also)
 
   salvaged_agree : (layouts : List Layout) → ChoosesOnce layouts
@@ -135,7 +136,7 @@ module _ (s : Salvage) (ts : List RecordTable) (bytes : List ℕ) (images : Push
   salvaged_sound layouts once good = steps_sound cause_status (λ cause. ⊥) (λ error. Core error)
       (ProcessIs bytes images layouts) (IsLeftOf s ts bytes images)
       (λ e error ne. opened_apart layouts once bytes images good.opened e good.is_opened error (core_one e ne).1)
-      (λ o found cause ne h. some_shown h.0.salvaged.interpreters.items (looked_at o) (shown_left s h.0) cause
+      (λ o found cause ne h. some_shown h.0.salvaged.interpreters.items h.0.salvaged.looked (shown_left s h.0) cause
       (λ none. good.shown (sym (shown_of good.opened h.0 good.crash
       (subst (λ q. IsLeft s ts bytes images q h.0) (opened_once layouts once bytes images o good.opened found good.is_opened)
       h.1)) ∙ none)) h.2)

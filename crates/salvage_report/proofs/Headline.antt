@@ -19,7 +19,8 @@ use Rattle.salvage_report.specs.declared.cause.Cause.{Cause}
 use Rattle.salvage_report.specs.Headline.{AreTables, HasSalvaged, SaysLayout, SaysNames, SaysRegisters}
 use Rattle.salvage_report.specs.Headline.{SaysExceptions, SaysNative, SaysSignal, SaysTasks}
 use Rattle.memory_sections.specs.Told.{ToldIf}
-use Rattle.salvage_report.specs.Outcome.{IsCoreOutcome, IsOutcomeBy, IsSalvagedBy, Outcome, looked_at, shown_or_none}
+use Rattle.py_fronts.specs.declared.search.Looked.{Looked}
+use Rattle.salvage_report.specs.Outcome.{IsCoreOutcome, IsOutcomeBy, IsSalvagedBy, Outcome, shown_or_none}
 use Rattle.named_images.specs.Named.{images_read}
 use Rattle.program_run.specs.Ends.{Reaches}
 use Rattle.program_run.specs.Reading.{AreRead}
@@ -29,7 +30,7 @@ use Rattle.process_memory.specs.Memory.{Found}
 use Rattle.py_selftest.specs.Checking.{CheckShown, check_shown}
 use Rattle.py_selftest.specs.declared.checking.LayoutCheck.{LayoutCheck}
 use Rattle.py_selftest.proofs.Verdicts.{check_says}
-use Rattle.salvage_report.specs.LayoutChecked.{CheckIs, layout_checked, release_of, types_of}
+use Rattle.salvage_report.specs.LayoutChecked.{CheckIs, layout_checked, release_of, thread_places, types_of}
 use Rattle.py_process.specs.Facts.{symbol_known}
 use Rattle.py_process.specs.Reports.{memory_in}
 use Rattle.memory_sections.specs.Pythons.{python_threads}
@@ -40,7 +41,7 @@ no_text : (s : List ℕ) (cause : Cause) → ◌≡◌ {A = Outcome} (Ok s) (Err
 no_text s cause is = cc
 
 -- where a text is shown, some interpreter is, and it is that text
-shows : (is : List SalvagedInterpreter) (n : ℕ) (t written : List ℕ)
+shows : (is : List SalvagedInterpreter) (n : Looked) (t written : List ℕ)
     → ◌≡◌ {A = Outcome} (Ok written) (shown_or_none is n t)
     → (is ≢ []) × (written ≡ t)
 shows [] n t written same = absurd (no_text written _ same)
@@ -53,7 +54,7 @@ module _ (s : Salvage) (told : Told) (old new : SinkSeen) (written : List ℕ)
       → IsSalvagedBy s tables bytes (images_read s.images images) layouts (Ok written) → HasSalvaged s told old new
   by_left records tables bytes text images layouts judged read says (inl (e, is, h)) = absurd (no_text written _ is)
   by_left records tables bytes text images layouts judged read says (inr (o, opened, (left, h, is))) =
-      let shown = shows left.salvaged.interpreters.items (looked_at o) (shown_left s left) written is in
+      let shown = shows left.salvaged.interpreters.items left.salvaged.looked (shown_left s left) written is in
       record {
         records = records;
         core = bytes;
@@ -132,14 +133,15 @@ pub says_layout : (s : Salvage) (told : Told) (old new : SinkSeen) → HasSalvag
     → s.sections.check_layout ≡ true → SaysLayout s told old new
 says_layout s told old new h asked =
     let o = h.opened in
-    let one = checked_one s.sections.check_layout (layout_checked o) h.left.check h.is_left.check asked in
+    let one = checked_one s.sections.check_layout (layout_checked o h.left.salvaged.interpreters.items) h.left.check h.is_left.check asked in
     record {
       has = h;
       check = one.0;
       is = one.1;
       checked = one.2;
       says = check_says (memory_in o.dumped) o.layout (types_of o.known o.version)
-          (symbol_known o.known (codes "_PyRuntime")) (release_of o.version) (check_shown one.0) one.2;
+          (symbol_known o.known (codes "_PyRuntime")) (release_of o.version)
+          (thread_places h.left.salvaged.interpreters.items) (check_shown one.0) one.2;
     }
 
 -- what is read in memory is told where it is asked for

@@ -16,6 +16,7 @@ use Rattle.py_records.specs.declared.table.RecordTable.{RecordTable}
 use Rattle.py_records.specs.Versions.{records_of}
 use Rattle.memory_sections.specs.Told.{AreMemoryTold}
 use Rattle.memory_sections.specs.declared.told.MemoryTold.{MemoryTold}
+use Rattle.py_fronts.specs.declared.search.Looked.{Looked}
 use Rattle.py_fronts.specs.Salvaged.{SalvagedShown, salvaged_at}
 use Rattle.py_fronts.specs.declared.crash.Crash.{Crash}
 use Rattle.py_fronts.specs.declared.salvaged.Salvaged.{Salvaged}
@@ -27,7 +28,7 @@ use Rattle.salvage_report.specs.declared.sections.Told.{Told}
 use Rattle.core_stacks.specs.declared.process.Process.{Process}
 use Rattle.salvage_report.specs.Crashed.{CrashTold}
 use Rattle.core_stacks.specs.Process.{IsProcess, OpenedProcess, opened_of}
-use Rattle.salvage_report.specs.Outcome.{IsLeft, IsLeftOf, Outcome, asked_of, looked_at, shown_or_none}
+use Rattle.salvage_report.specs.Outcome.{IsLeft, IsLeftOf, Outcome, asked_of, shown_or_none}
 use Rattle.py_selftest.specs.declared.checking.LayoutCheck.{LayoutCheck}
 use Rattle.salvage_report.specs.LayoutChecked.{CheckIs, process_checked}
 use Rattle.salvage_report.specs.Sections.{AreTold}
@@ -41,11 +42,11 @@ same_crash : (contains : ℕ → Bool) (machine : Machine) (k : Known) (v : Vers
 unfolding salvaged_at
 same_crash contains machine k v l m q limit crash = refl
 
-nothing_shown : (is : List SalvagedInterpreter) (n : ℕ) (t : List ℕ) → is ≡ []
-    → ◌≡◌ {A = Outcome} (Err (NoInterpreter n)) (shown_or_none is n t)
+nothing_shown : (is : List SalvagedInterpreter) (n : Looked) (t : List ℕ) → is ≡ []
+    → ◌≡◌ {A = Outcome} (Err (NoInterpreter n.addresses n.members)) (shown_or_none is n t)
 nothing_shown is n t none = ap (λ xs. shown_or_none xs n t) (sym none)
 
-something_shown : (is : List SalvagedInterpreter) (n : ℕ) (t : List ℕ) → is ≢ []
+something_shown : (is : List SalvagedInterpreter) (n : Looked) (t : List ℕ) → is ≢ []
     → ◌≡◌ {A = Outcome} (Ok t) (shown_or_none is n t)
 something_shown [] n t some = absurd (some refl)
 something_shown (i ∷ is) n t some = refl
@@ -55,7 +56,7 @@ module _ (s : Salvage) (ts : List RecordTable) (p : Process) (crash : Option Cra
     (bytes : List ℕ) (images : Pushed) (layouts : List Layout) (is : IsProcess bytes images layouts p)
     (told : CrashTold bytes crash)
     (sections : Told) (are : AreTold s.sections p.dump.core p.notes.process salvaged.interpreters.items sections)
-    (check : Option LayoutCheck) (checks : CheckIs s.sections.check_layout (process_checked p) check)
+    (check : Option LayoutCheck) (checks : CheckIs s.sections.check_layout (process_checked p salvaged.interpreters.items) check)
     (memory : MemoryTold) (reads : AreMemoryTold s.sections p.dump.core images p.layout (records_of ts p.version)
     (byte_at (regions_of p.dump)) salvaged.interpreters.items memory) where
   abbrev opened : OpenedProcess
@@ -95,19 +96,15 @@ module _ (s : Salvage) (ts : List RecordTable) (p : Process) (crash : Option Cra
         (byte_at (regions_of p.dump)) salvaged.interpreters.items memory) is.same reads;
   }
 
-  pub none_left : (n : ℕ) → salvaged.interpreters.items ≡ [] → n ≡ looked_at opened
-      → IsLeftOf s ts bytes images opened (Err (NoInterpreter n))
-  none_left n none count = (
-    left,
-    is_left,
-    ap (λ k. Err (NoInterpreter k)) count ∙ nothing_shown salvaged.interpreters.items (looked_at opened)
-        (shown_left s left) none,
-  )
+  pub none_left : salvaged.interpreters.items ≡ []
+      → IsLeftOf s ts bytes images opened (Err (NoInterpreter salvaged.looked.addresses salvaged.looked.members))
+  none_left none =
+      (left, is_left, nothing_shown salvaged.interpreters.items salvaged.looked (shown_left s left) none)
 
   pub some_left : (text : List ℕ) → salvaged.interpreters.items ≢ [] → text ≡ shown_left s left
       → IsLeftOf s ts bytes images opened (Ok text)
   some_left text some shown = (
     left,
     is_left,
-    ap (λ t. Ok t) shown ∙ something_shown salvaged.interpreters.items (looked_at opened) (shown_left s left) some,
+    ap (λ t. Ok t) shown ∙ something_shown salvaged.interpreters.items salvaged.looked (shown_left s left) some,
   )

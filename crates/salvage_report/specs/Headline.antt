@@ -44,8 +44,8 @@ AreTables (text ∷ others) tables = AreRightFor text (Ok tables)
 -- The text of what is left of a process was written, or its JSON where the words ask for that: of at least one
 -- interpreter, and of the fronts over the memory of the core and its images, each interpreter with its own lock, and
 -- the thread that the core's first status record is of, and what is told in the sections that are asked for
--- (`IsLeft`): by the tables that the file of records says, where one is named, by the bytes of the core, by
--- the layouts that the files gave, and by all the images, each under its path. Which bytes a file gave is said where the
+-- (`IsLeft`): by the tables that the file of records says, where one is named, by the bytes of the core, by the
+-- layouts that the files gave, and by all the images, each under its path. Which bytes a file gave is said where the
 -- files tell, and what was written where the stream tells.
 pub record HasSalvaged (s : Salvage) (told : Told) (old new : SinkSeen) : Type 0 where
   pub records : List (List ℕ)
@@ -80,13 +80,14 @@ pub record SaysRegisters (s : Salvage) (told : Told) (old new : SinkSeen) : Type
       (threads_told (machine_of has.core) (python_threads has.left.salvaged.interpreters.items) notes)
 
 -- What the process says of its layout: it is what the words of its own types and of its own table say, over the memory
--- of the core and its images. Where the layout agrees, each of its numbers that is told is the process's, and the
--- needed ones are told; where it differs, one that is told is another one.
+-- of the core and its images, and the known answers are what the words say to which the layout leads from the threads
+-- that are shown. Where the layout agrees, each of its numbers that is told is the process's, the needed ones are
+-- told, and of eight frames one has an answer that is right; where it differs, a number that is told is another one.
 pub record SaysLayout (s : Salvage) (told : Told) (old new : SinkSeen) : Type 0 where
   pub has : HasSalvaged s told old new
   pub check : LayoutCheck
   pub is : has.left.check ≡ Some check
-  pub checked : layout_checked has.opened ≡ Ok (check_shown check)
+  pub checked : layout_checked has.opened has.left.salvaged.interpreters.items ≡ Ok (check_shown check)
   pub says : Says (check_shown check)
 
 -- ---- the sections that are read in the memory of the core and its images

@@ -1,6 +1,8 @@
--- What a process says of its layout, by the symbols of its images. Which symbols name the built-in types and the runtime
--- record is CPython's rule (Include/cpython, `PyAPI_DATA`).
-use Rattle.std.specs.Prelude.{◌≡◌, ℕ, ◌==◌, Bool, true, false, if◌then◌else◌, List, Option, Some, None, Ok, codes, option_map}
+-- What a process says of its layout, by the symbols of its images. Which symbols name the built-in types and the
+-- runtime record is CPython's rule (Include/cpython, `PyAPI_DATA`).
+use Rattle.std.specs.Prelude.{◌≡◌, ℕ, ◌==◌, Bool, true, false, if◌then◌else◌, List, Option, Some, None, Ok, codes}
+use Rattle.std.specs.Prelude.{map, option_map}
+use Rattle.std.specs.List.{flat_map}
 use Rattle.image_memory.specs.Backed.{regions_of}
 use Rattle.process_memory.specs.Memory.{Found, Memory, byte_at}
 use Rattle.py_fields.specs.declared.layout.Layout.{Layout}
@@ -11,6 +13,9 @@ use Rattle.py_selftest.specs.Checking.{CheckShown, check_at, check_shown}
 use Rattle.py_selftest.specs.declared.checking.LayoutCheck.{LayoutCheck}
 use Rattle.py_selftest.specs.declared.telling.Release.{Release}
 use Rattle.py_selftest.specs.declared.telling.Types.{Types}
+use Rattle.py_selftest.specs.declared.walking.ThreadPlace.{ThreadPlace}
+use Rattle.py_fronts.specs.declared.salvaged.SalvagedInterpreter.{SalvagedInterpreter}
+use Rattle.py_fronts.specs.declared.thread_front.ThreadFront.{ThreadFront}
 use Rattle.core_stacks.specs.Process.{OpenedProcess}
 use Rattle.core_stacks.specs.declared.process.Process.{Process}
 
@@ -27,21 +32,35 @@ types_of k v = record {
   metatype = symbol_known k (codes "PyType_Type");
   code = symbol_known k (codes "PyCode_Type");
   frame = symbol_known k (codes "PyFrame_Type");
+  text = symbol_known k (codes "PyUnicode_Type");
   tuple = symbol_known k (codes "PyTuple_Type");
   bytes = symbol_known k (bytes_symbol v);
   long = symbol_known k (codes "PyLong_Type");
 }
 
-abbrev pub checked_by : Memory → Layout → Known → Version → Found CheckShown
-checked_by m l k v = check_at m l (types_of k v) (symbol_known k (codes "_PyRuntime")) (release_of v)
+-- a thread of an interpreter, by its record's address
+abbrev pub thread_place : ℕ → ThreadFront → ThreadPlace
+thread_place interpreter t = record { address = t.address; interpreter = interpreter }
 
--- the layout of an opened process, beside what the process says, over the memory of its core and images
-abbrev pub layout_checked : OpenedProcess → Found CheckShown
-layout_checked o = checked_by (memory_in o.dumped) o.layout o.known o.version
+abbrev pub places_of : SalvagedInterpreter → List ThreadPlace
+places_of i = map (thread_place i.front.address) i.front.threads.threads.items
+
+-- the threads of the interpreters that are shown, in the order of the interpreters and of their chains
+abbrev pub thread_places : List SalvagedInterpreter → List ThreadPlace
+thread_places is = flat_map places_of is
+
+abbrev pub checked_by : Memory → Layout → Known → Version → List SalvagedInterpreter → Found CheckShown
+checked_by m l k v is =
+    check_at m l (types_of k v) (symbol_known k (codes "_PyRuntime")) (release_of v) (thread_places is)
+
+-- the layout of an opened process, beside what the process says, over the memory of its core and images, with the
+-- threads that are shown
+abbrev pub layout_checked : OpenedProcess → List SalvagedInterpreter → Found CheckShown
+layout_checked o is = checked_by (memory_in o.dumped) o.layout o.known o.version is
 
 -- the same of the code's own value of it
-abbrev pub process_checked : Process → Found CheckShown
-process_checked p = checked_by (byte_at (regions_of p.dump)) p.layout (known_of p.info) p.version
+abbrev pub process_checked : Process → List SalvagedInterpreter → Found CheckShown
+process_checked p is = checked_by (byte_at (regions_of p.dump)) p.layout (known_of p.info) p.version is
 
 -- it is told where it is asked for
 abbrev pub CheckIs : Bool → Found CheckShown → Option LayoutCheck → Type 0

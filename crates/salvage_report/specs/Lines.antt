@@ -22,8 +22,9 @@ abbrev pub cause_parts : Cause → List (List ℕ)
 cause_parts (Core error) = core_parts error
 cause_parts (Layouts error) = layout_parts error
 cause_parts (Records error) = record_parts error
-cause_parts (NoInterpreter addresses) =
-    codes "no interpreter found: " ∷ decimal addresses ∷ codes " addresses looked at" ∷ []
+cause_parts (NoInterpreter addresses members) =
+    codes "no interpreter found: " ∷ decimal addresses ∷ codes " addresses looked at, " ∷ decimal members
+    ∷ codes " members walked" ∷ []
 cause_parts OutOfMemory = codes "out of memory" ∷ []
 
 -- what is said of a cause

@@ -16,7 +16,7 @@ use Rattle.py_records.specs.declared.error.RecordsError.TheVariants as records
 use Rattle.py_records.specs.declared.table.RecordTable.{RecordTable}
 use Rattle.py_records.specs.Versions.{records_of}
 use Rattle.memory_sections.specs.Told.{AreMemoryTold}
-use Rattle.py_fronts.specs.Candidates.{named_candidates, searched_candidates}
+use Rattle.py_fronts.specs.declared.search.Looked.{Looked}
 use Rattle.py_fronts.specs.Salvaged.{SalvagedShown, locked, salvaged_at}
 use Rattle.py_fronts.specs.declared.crash.Crash.{Crash}
 use Rattle.py_fronts.specs.declared.salvaged.Salvaged.{Salvaged}
@@ -47,7 +47,12 @@ asked_of s = record { lineno = LastInstruction; locals = not (nat_eq s.locals 0)
 
 -- what is left of the interpreters of an opened process, as values
 abbrev pub salvaged_of : Salvaged → SalvagedShown
-salvaged_of s = record { interpreters = map locked s.interpreters.items; more = s.more; crash = s.crash }
+salvaged_of s = record {
+  interpreters = map locked s.interpreters.items;
+  more = s.more;
+  looked = s.looked;
+  crash = s.crash;
+}
 
 -- it is what the fronts over the memory of the core and its images are, each interpreter with its own lock
 abbrev pub left_at : Salvage → List ℕ → OpenedProcess → Option Crash → SalvagedShown
@@ -62,25 +67,20 @@ pub record IsLeft (s : Salvage) (ts : List RecordTable) (bytes : List ℕ) (imag
   pub crash : CrashTold bytes left.salvaged.crash
   pub salvaged : salvaged_of left.salvaged ≡ left_at s bytes o left.salvaged.crash
   pub told : AreTold s.sections bytes left.process left.salvaged.interpreters.items left.told
-  pub check : CheckIs s.sections.check_layout (layout_checked o) left.check
+  pub check : CheckIs s.sections.check_layout (layout_checked o left.salvaged.interpreters.items) left.check
   pub memory : AreMemoryTold s.sections bytes images o.layout (records_of ts o.version) (memory_in o.dumped)
       left.salvaged.interpreters.items left.memory
 
--- how many addresses are looked at where no interpreter is shown, repeats included
-abbrev pub looked_at : OpenedProcess → ℕ
-looked_at o = length (named_candidates o.known o.version o.layout (memory_in o.dumped))
-    + length (searched_candidates o.known (memory_in o.dumped))
+-- the text, or that no interpreter is shown, with what was looked at
+abbrev pub shown_or_none : List SalvagedInterpreter → Looked → List ℕ → Outcome
+shown_or_none [] looked text = Err (NoInterpreter looked.addresses looked.members)
+shown_or_none (i ∷ is) looked text = Ok text
 
--- the text, or that no interpreter is shown
-abbrev pub shown_or_none : List SalvagedInterpreter → ℕ → List ℕ → Outcome
-shown_or_none [] addresses text = Err (NoInterpreter addresses)
-shown_or_none (i ∷ is) addresses text = Ok text
-
-abbrev pub left_outcome : Salvage → OpenedProcess → Left → Outcome
-left_outcome s o left = shown_or_none left.salvaged.interpreters.items (looked_at o) (shown_left s left)
+abbrev pub left_outcome : Salvage → Left → Outcome
+left_outcome s left = shown_or_none left.salvaged.interpreters.items left.salvaged.looked (shown_left s left)
 
 abbrev pub IsLeftOf : Salvage → List RecordTable → List ℕ → Pushed → OpenedProcess → Outcome → Type 0
-IsLeftOf s ts bytes images o outcome = (left : Left) × IsLeft s ts bytes images o left × (outcome ≡ left_outcome s o left)
+IsLeftOf s ts bytes images o outcome = (left : Left) × IsLeft s ts bytes images o left × (outcome ≡ left_outcome s left)
 
 -- ---- over the contents of the files
 
@@ -144,7 +144,7 @@ abbrev pub cause_status : Cause → ℕ
 cause_status (Core error) = core_status error
 cause_status (Layouts error) = layouts_status error
 cause_status (Records error) = records_status error
-cause_status (NoInterpreter addresses) = 1
+cause_status (NoInterpreter addresses members) = 1
 cause_status OutOfMemory = 5
 
 abbrev pub outcome_status : Outcome → ℕ

@@ -1,5 +1,5 @@
 -- What the code's own values of an opened process stand for.
-use Rattle.std.specs.Prelude.{ℕ, ◌+◌, List, length, Option, Result, Vec}
+use Rattle.std.specs.Prelude.{ℕ, List, Option, Result, Vec}
 use Rattle.std.specs.Global.{Global}
 use Rattle.elf64_core.specs.Header.{machine_of}
 use Rattle.image_memory.specs.Backed.{regions_of}
@@ -11,7 +11,6 @@ use Rattle.py_stacks.specs.declared.error.StackError.{StackError}
 use Rattle.py_process.specs.Facts.{known_of}
 use Rattle.py_records.specs.declared.table.RecordTable.{RecordTable}
 use Rattle.py_fronts.specs.Answers.{IsOrNoMemory}
-use Rattle.py_fronts.specs.Candidates.{named_candidates, searched_candidates}
 use Rattle.py_fronts.specs.Salvaged.{salvaged_at, salvaged_result}
 use Rattle.py_fronts.specs.declared.crash.Crash.{Crash}
 use Rattle.py_fronts.specs.declared.salvaged.Salvaged.{Salvaged}
@@ -26,12 +25,6 @@ use Rattle.salvage_report.specs.Outcome.{IsAnswer, IsLeftOf, asked_of}
 abbrev pub Salvages : Salvage → Process → Option Crash → Result Salvaged StackError → Type 0
 Salvages s p crash result = IsOrNoMemory (salvaged_at (tests p.info.maps) (machine_of p.dump.core) (known_of p.info)
     p.version p.layout (byte_at (regions_of p.dump)) (asked_of s) s.limit crash) (salvaged_result result)
-
--- how many addresses are looked at
-abbrev pub Counts : Process → Result ℕ StackError → Type 0
-Counts p result = IsOrNoMemory
-    (length (named_candidates (known_of p.info) p.version p.layout (byte_at (regions_of p.dump)))
-    + length (searched_candidates (known_of p.info) (byte_at (regions_of p.dump)))) result
 
 -- the text of what is left of it, or that no interpreter is shown
 abbrev pub ShowsLeft : Salvage → List RecordTable → Pushed → Process → Option Crash

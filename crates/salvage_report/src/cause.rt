@@ -19,8 +19,9 @@ pub(crate) enum Cause {
     Layouts(LayoutError),
     /// The file of records has a fault.
     Records(RecordsError),
-    /// Of so many addresses, repeats included, none is an interpreter's that is shown.
-    NoInterpreter { addresses: u64 },
+    /// Of so many addresses, repeats included, none is an interpreter's that is shown; so many members of chains of
+    /// threads were walked for those that are found by search alone.
+    NoInterpreter { addresses: u64, members: u64 },
     /// There was no memory left.
     OutOfMemory,
 }

@@ -1,12 +1,14 @@
 //! What a process says of its layout.
-ghost use Rattle.std.specs.Prelude.{◌≡◌, IfOk, Some, true};
+ghost use Rattle.std.specs.Prelude.{◌≡◌, ◌++◌, IfOk, OnOk, Some, map, true};
 ghost use Rattle.py_process.specs.Facts.{known_of, symbol_known};
-ghost use Rattle.salvage_report.specs.LayoutChecked.{CheckIs, bytes_symbol, process_checked, release_of, types_of};
+ghost use Rattle.salvage_report.specs.LayoutChecked.{CheckIs, bytes_symbol, process_checked, release_of};
+ghost use Rattle.salvage_report.specs.LayoutChecked.{thread_place, thread_places, types_of};
 
 use core_stacks::Process;
 use missed_reads::{Missed, Misses};
+use py_fronts::{SalvagedInterpreter, ThreadFront};
 use py_layout::Version;
-use py_selftest::{LayoutCheck, Release, Types, check_layout};
+use py_selftest::{LayoutCheck, Release, ThreadPlace, Types, check_layout};
 use std::alloc::{AllocError, Global};
 
 /// The address of a symbol of the images.
@@ -35,6 +37,7 @@ fn types_of(process: &Process) -> Types
         metatype: symbol_of(process, b"PyType_Type"),
         code: symbol_of(process, b"PyCode_Type"),
         frame: symbol_of(process, b"PyFrame_Type"),
+        text: symbol_of(process, b"PyUnicode_Type"),
         tuple: symbol_of(process, b"PyTuple_Type"),
         bytes: symbol_of(process, bytes_symbol(&process.version)),
         long: symbol_of(process, b"PyLong_Type"),
@@ -51,15 +54,68 @@ fn release_of(version: &Version) -> Release
     }
 }
 
-/// What the process says of its layout. Reads that are refused are kept. The one error is want of memory.
-fn checked(alloc: Global, process: &Process, misses: &mut Misses) -> Result<LayoutCheck, AllocError>
-    ensures { IfOk result (λ check. CheckIs true (process_checked process.now) (Some check)) }
+/// A thread of an interpreter, by its record's address.
+fn thread_place(interpreter: u64, thread: &ThreadFront) -> ThreadPlace
+    ensures { result ≡ thread_place interpreter thread.now }
 {
+    ThreadPlace {
+        address: thread.address,
+        interpreter,
+    }
+}
+
+/// Adds the threads of an interpreter, in the order of their chain.
+fn add_places(
+    places: &mut Vec<ThreadPlace>,
+    interpreter: u64,
+    threads: &[ThreadFront],
+) -> Result<(), AllocError>
+    ensures { OnOk result (places.new.items ≡ places.old.items ++ map (thread_place interpreter) threads.now) }
+{
+    for thread in threads {
+        places.push(thread_place(interpreter, thread))?;
+    }
+    Ok(())
+}
+
+/// The threads of all interpreters that are shown, in the order of the interpreters and of their chains.
+fn thread_places(
+    alloc: Global,
+    interpreters: &[SalvagedInterpreter],
+) -> Result<Vec<ThreadPlace>, AllocError>
+    ensures { IfOk result (λ places. places.items ≡ thread_places interpreters.now) }
+{
+    let mut places = Vec::new(alloc);
+    for interpreter in interpreters {
+        let front = &interpreter.front;
+        add_places(&mut places, front.address, &front.threads.threads)?;
+    }
+    Ok(places)
+}
+
+/// What the process says of its layout. Reads that are refused are kept. The one error is want of memory.
+fn checked(
+    alloc: Global,
+    process: &Process,
+    interpreters: &[SalvagedInterpreter],
+    misses: &mut Misses,
+) -> Result<LayoutCheck, AllocError>
+    ensures { IfOk result (λ check. CheckIs true (process_checked process.now interpreters.now) (Some check)) }
+{
+    let threads = thread_places(alloc, interpreters)?;
     let mut view = Missed::new(process.dump.view(), misses);
     let types = types_of(process);
     let runtime = symbol_of(process, b"_PyRuntime");
     let release = release_of(&process.version);
-    match check_layout(alloc, &mut view, &process.layout, &types, runtime, release) {
+    match check_layout(
+        alloc,
+        &mut view,
+        &process.layout,
+        &types,
+        runtime,
+        release,
+        &threads,
+    ) {
         Ok(check) => Ok(check),
         Err(_) => Err(AllocError),
     }
@@ -70,13 +126,14 @@ pub(crate) fn check_section(
     alloc: Global,
     asked: bool,
     process: &Process,
+    interpreters: &[SalvagedInterpreter],
     misses: &mut Misses,
 ) -> Result<Option<LayoutCheck>, AllocError>
-    ensures { IfOk result (CheckIs asked (process_checked process.now)) }
+    ensures { IfOk result (CheckIs asked (process_checked process.now interpreters.now)) }
 {
     if !asked {
         return Ok(None);
     }
-    let check = checked(alloc, process, misses)?;
+    let check = checked(alloc, process, interpreters, misses)?;
     Ok(Some(check))
 }

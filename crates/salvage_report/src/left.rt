@@ -9,7 +9,7 @@ ghost use Rattle.salvage_words.specs.Seen.{asked_salvage};
 ghost use Rattle.salvage_report.specs.Outcome.{IsAnswer, IsCoreOutcome, IsSalvagedBy};
 ghost use Rattle.program_run.specs.Reading.{core_contents};
 ghost use Rattle.core_stacks.specs.Process.{OpensProcess};
-ghost use Rattle.salvage_report.specs.Seen.{Counts, Salvages, ShowsLeft};
+ghost use Rattle.salvage_report.specs.Seen.{Salvages, ShowsLeft};
 
 use crate::cause::Cause;
 use crate::crash::first_crash;
@@ -23,9 +23,7 @@ use memory_sections::{MemoryTold, tell_memory};
 use missed_reads::{Missed, Misses};
 use named_images::image_list;
 use program_run::CoreFiles;
-use py_fronts::{
-    Crash, Salvaged, SalvagedInterpreter, named_candidates, salvage, searched_candidates,
-};
+use py_fronts::{Crash, Salvaged, SalvagedInterpreter, salvage};
 use py_layout::{Layouts, Version};
 use py_process::CoreError;
 use py_records::RecordTables;
@@ -79,25 +77,6 @@ fn salvaged_of(
     )
 }
 
-/// How many addresses were looked at for interpreters, where none of them is shown: repeats are counted.
-fn count_addresses(alloc: Global, process: &Process) -> Result<u64, StackError>
-    requires sound { IsSound process.now.layout }
-    ensures { Counts process.now result }
-{
-    let mut view = process.dump.view();
-    let mut addresses = named_candidates(
-        alloc,
-        &process.info,
-        &mut view,
-        &process.version,
-        &process.layout,
-    )?;
-    let mut again = process.dump.view();
-    let searched = searched_candidates(alloc, &process.info, &mut again)?;
-    addresses.extend_from_slice(&searched)?;
-    Ok(addresses.len() as u64)
-}
-
 /// What is told in the sections that are read in the process's memory. Reads that are refused are kept.
 fn memory_of(
     alloc: Global,
@@ -139,7 +118,13 @@ fn shown_left(
     ensures { ShowsLeft (asked_salvage words.now) tables.now images.now process crash result }
 {
     let salvaged = salvaged_of(alloc, words, &process, crash, misses)?;
-    let check = check_section(alloc, words.sections.check_layout, &process, misses)?;
+    let check = check_section(
+        alloc,
+        words.sections.check_layout,
+        &process,
+        &salvaged.interpreters,
+        misses,
+    )?;
     let memory = memory_of(
         alloc,
         words.sections,
@@ -159,8 +144,8 @@ fn shown_left(
         misses,
     )?;
     if salvaged.interpreters.is_empty() {
-        let addresses = count_addresses(alloc, &process)?;
-        return Err(Cause::NoInterpreter { addresses });
+        let (addresses, members) = (salvaged.looked.addresses, salvaged.looked.members);
+        return Err(Cause::NoInterpreter { addresses, members });
     }
     let Process { notes, version, .. } = process;
     let left = Left {

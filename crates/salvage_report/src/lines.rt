@@ -45,10 +45,12 @@ pub(crate) fn cause_parts<'a>(cause: &'a Cause) -> Parts<'a>
         Cause::Core(error) => core_parts(error),
         Cause::Layouts(error) => layout_parts(error),
         Cause::Records(error) => record_parts(error),
-        Cause::NoInterpreter { addresses } => parts(&[
+        Cause::NoInterpreter { addresses, members } => parts(&[
             Part::Text("no interpreter found: "),
             Part::Decimal(*addresses),
-            Part::Text(" addresses looked at"),
+            Part::Text(" addresses looked at, "),
+            Part::Decimal(*members),
+            Part::Text(" members walked"),
         ]),
         Cause::OutOfMemory => text_part("out of memory"),
     }

@@ -2,7 +2,9 @@
 use crate::made::{Words, memory_of};
 use process_memory::Part;
 use py_fields::Layout;
-use py_selftest::{LayoutCheck, Release, Types, Verdict, check_layout, check_value, push_check};
+use py_selftest::{
+    LayoutCheck, Release, ThreadPlace, Types, Verdict, check_layout, check_value, push_check,
+};
 use std::alloc::{AllocError, Global};
 use std::test::Fail;
 
@@ -13,12 +15,28 @@ const MEMBERS: u64 = 0x2000;
 
 const NAME: u64 = 0x3000;
 
+/// A table of places, which says that it is of 3.14.
+const TABLE: u64 = 0x4000;
+
+const EMPTY: &str = "{\"build\":null,\"differ\":[],\"doubt\":null,\"known\":null,\"not_told\":[],";
+
+const OTHER: &str =
+    ",\"other_table\":{\"major\":3,\"minor\":14},\"told\":[],\"verdict\":\"not described\"}";
+
+const TABLE_LINE: &str =
+    "The process has a table of places (_Py_DebugOffsets) that says it is of 3.14: nothing is read by it";
+
+/// A thread without a frame, of the interpreter 7.
+const THREAD: u64 = 0x5000;
+
 fn process(alloc: Global) -> Result<Part, AllocError> {
-    let words: [Words<'_>; 4] = [
+    let words: [Words<'_>; 6] = [
         (TYPE, &[1, TYPE, 0, 0]),
         (TYPE + 240, &[MEMBERS]),
         (MEMBERS, &[NAME, 19, 32, 0, 0, 0]),
         (NAME, &[0x7363_6973_6162_5f5f, 0x5f_5f65_7a69]),
+        (TABLE, &[0x7970_6775_6265_6478, 0x030e_00f0, 0]),
+        (THREAD + 16, &[7, 0]),
     ];
     memory_of(alloc, &words)
 }
@@ -30,12 +48,25 @@ fn checked(alloc: Global, minor: u64) -> Result<LayoutCheck, Fail> {
         metatype: Some(TYPE),
         code: None,
         frame: None,
+        text: None,
         tuple: None,
         bytes: None,
         long: None,
     };
     let release = Release { major: 3, minor };
-    Ok(check_layout(alloc, &mut part, &Layout::sample(), &types, None, release)?)
+    let threads = [ThreadPlace {
+        address: THREAD,
+        interpreter: 7,
+    }];
+    Ok(check_layout(
+        alloc,
+        &mut part,
+        &Layout::sample(),
+        &types,
+        Some(TABLE),
+        release,
+        &threads,
+    )?)
 }
 
 #[test]
@@ -44,10 +75,10 @@ fn what_is_not_told_confirms_nothing(rt: HostRuntime) -> Result<(), Fail> {
     assert!(rt; check.verdict == Verdict::Silent);
     let mut text = String::new(rt.alloc());
     push_check(&mut text, &check)?;
-    assert!(rt;
-        text.as_str() == "Layout not confirmed: 1 keys told, 43 not told\n",
-        "{text}"
-    );
+    let mut lines = text.as_str().lines();
+    assert!(rt; lines.next() == Some(TABLE_LINE));
+    assert!(rt; lines.next() == Some("Layout not confirmed: 1 keys told, 43 not told"));
+    assert!(rt; lines.next() == Some("Known answers: 1 of 1 are right"));
     Ok(())
 }
 
@@ -56,8 +87,7 @@ fn versions_that_are_not_known_have_a_value(rt: HostRuntime) -> Result<(), Fail>
     let check = checked(rt.alloc(), 14)?;
     let value = check_value(rt.alloc(), &check)?;
     let text = value.to_string(rt.alloc())?;
-    let expected =
-        "{\"build\":null,\"differ\":[],\"known\":null,\"not_told\":[],\"told\":[],\"verdict\":\"not described\"}";
-    assert!(rt; text.as_str() == expected, "{text}");
+    assert!(rt; text.as_str().starts_with(EMPTY), "{text}");
+    assert!(rt; text.as_str().ends_with(OTHER), "{text}");
     Ok(())
 }

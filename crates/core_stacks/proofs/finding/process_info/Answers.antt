@@ -4,8 +4,12 @@ use Rattle.image_memory.specs.MapTables.{tests}
 use Rattle.image_memory.specs.Maps.{in_maps}
 use Rattle.std.proofs.lemmas.Result.{err_from_is_err_and}
 use Rattle.py_process.specs.Programs.{ArePrograms, MapsSay}
-use Rattle.core_stacks.specs.Seen.{known_in, programs_now}
+use Rattle.core_stacks.specs.Seen.{HaveOneName, known_in, programs_now}
+use Rattle.core_stacks.proofs.FirstMaps.{have_one_name}
 use Rattle.core_stacks.proofs.finding.process_info.Goals as goal
+
+pub programs_of-requires : goal.programs_of-requires
+programs_of-requires c = subst (λ maps. HaveOneName maps) (sym c.deref.ensures.value) (have_one_name _ _ c.maps-maps.ensures.are)
 
 pub returns-in_err-programs : goal.returns-in_err-programs
 returns-in_err-programs c =

@@ -6,6 +6,7 @@ use Rattle.py_fronts.proofs.ReportLaws.{reported_found}
 use Rattle.py_fronts.proofs.CandidateSteps.{candidates_few}
 use Rattle.py_fronts.proofs.FindLaws.{shown_right}
 use Rattle.py_fronts.proofs.NameLaws.{marked_right}
+use Rattle.py_fronts.proofs.SearchLaws.{walked_few}
 use Rattle.py_fronts.proofs.interpreters.find_interpreters.Goals as goal
 
 pub returns-clause-right : goal.returns-clause-right
@@ -30,6 +31,12 @@ pub returns-clause-report : goal.returns-clause-report
 returns-clause-report g c =
     reading_gives _ _ c.find_all.ensures (le_refl _)
     (λ m a. reported_found (g.M.ContainsAddr.contains c.args.info.now.maps) (known_of c.args.info.now)
+    c.args.version.now c.args.layout.now m c.find_all.result a)
+
+pub returns-clause-walked : goal.returns-clause-walked
+returns-clause-walked g c =
+    reading_gives _ _ c.find_all.ensures (le_refl _)
+    (λ m a. walked_few (g.M.ContainsAddr.contains c.args.info.now.maps) (known_of c.args.info.now)
     c.args.version.now c.args.layout.now m c.find_all.result a)
 
 pub returns-clause-few : goal.returns-clause-few

@@ -1,11 +1,12 @@
 use Rattle.std.proofs.Common.{arith, ap, drop, get_or, sym, take-append-drop, ◌+◌, ◌++◌, ◌∙◌}
 use Rattle.std.proofs.lemmas.List.{take_all, take_more}
 use Rattle.std.proofs.lemmas.Result.{err_from_is_err_and}
+use Rattle.std.specs.Prelude.{false}
 use Rattle.py_fronts.proofs.FindSteps.{taking_done, taking_init, taking_lost, taking_more}
 use Rattle.py_fronts.proofs.interpreters.take_candidates.Goals as goal
 
 pub loop-addr-init : goal.loop-addr-init
-loop-addr-init g c = taking_init c.args.searched (g.M.ContainsAddr.contains c.args.maps.now) c.args.layout.now c.args.finds.now _
+loop-addr-init g c = taking_init false (g.M.ContainsAddr.contains c.args.maps.now) c.args.layout.now c.args.finds.now _
 
 pub returns-in_err-take_candidate : goal.returns-in_err-take_candidate
 returns-in_err-take_candidate g c =

@@ -16,7 +16,7 @@ returns-in_err-interpreters-clause-answer g c =
     let few = read_few (g.M.ContainsAddr.contains c.args.info.now.maps) (known_of c.args.info.now) c.args.version.now
     c.args.layout.now (byte_at (g.P.ProcessMemory.seen c.args.process.now).pieces) c.args.asked c.args.limit
     c.in_ok-fronts.fronts.interpreters.items
-    c.in_ok-fronts.fronts.more (reading_here c.in_ok-fronts.ensures.answer) in
+    c.in_ok-fronts.fronts.more c.in_ok-fronts.fronts.looked (reading_here c.in_ok-fronts.ensures.answer) in
     rw p.1 (lost_then _ c.in_ok-fronts.ensures.answer
     (searching (known_of c.args.info.now) c.in_err-interpreters.ensures) p.2 (omega (arith, few)))
 
@@ -25,19 +25,19 @@ returns-clause-answer g c =
     let few = read_few (g.M.ContainsAddr.contains c.args.info.now.maps) (known_of c.args.info.now) c.args.version.now
     c.args.layout.now (byte_at (g.P.ProcessMemory.seen c.args.process.now).pieces) c.args.asked c.args.limit
     c.in_ok-fronts.fronts.interpreters.items
-    c.in_ok-fronts.fronts.more (reading_here c.in_ok-fronts.ensures.answer) in
+    c.in_ok-fronts.fronts.more c.in_ok-fronts.fronts.looked (reading_here c.in_ok-fronts.ensures.answer) in
     reading_gives _ _
     (reading_then _ c.in_ok-fronts.ensures.answer
     (searching (known_of c.args.info.now) c.in_ok-interpreters.ensures)
     (λ m a b. salvaged_is (g.M.ContainsAddr.contains c.args.info.now.maps) c.args.machine (known_of c.args.info.now)
-    c.args.version.now c.args.layout.now m c.args.asked c.args.limit c.args.crash _ _ _ _ a refl b))
+    c.args.version.now c.args.layout.now m c.args.asked c.args.limit c.args.crash _ _ _ _ _ a refl b))
     (omega (arith, few)) (λ m h. h)
 
 pub returns-in_err-interpreters-clause-most : goal.returns-in_err-interpreters-clause-most
 returns-in_err-interpreters-clause-most g c =
     let few = read_few (g.M.ContainsAddr.contains c.args.info.now.maps) (known_of c.args.info.now) c.args.version.now
     c.args.layout.now (byte_at (g.P.ProcessMemory.seen c.args.process.now).pieces) c.args.asked c.args.limit
-    c.in_ok-fronts.fronts.interpreters.items c.in_ok-fronts.fronts.more (reading_here c.in_ok-fronts.ensures.answer) in
+    c.in_ok-fronts.fronts.interpreters.items c.in_ok-fronts.fronts.more c.in_ok-fronts.fronts.looked (reading_here c.in_ok-fronts.ensures.answer) in
     let number = shown_number (g.M.ContainsAddr.contains c.args.info.now.maps) (known_of c.args.info.now)
     c.args.version.now c.args.layout.now (byte_at (g.P.ProcessMemory.seen c.args.process.now).pieces) c.args.asked
     c.args.limit in
@@ -47,7 +47,7 @@ pub returns-clause-most : goal.returns-clause-most
 returns-clause-most g c =
     let few = read_few (g.M.ContainsAddr.contains c.args.info.now.maps) (known_of c.args.info.now) c.args.version.now
     c.args.layout.now (byte_at (g.P.ProcessMemory.seen c.args.process.now).pieces) c.args.asked c.args.limit
-    c.in_ok-fronts.fronts.interpreters.items c.in_ok-fronts.fronts.more (reading_here c.in_ok-fronts.ensures.answer) in
+    c.in_ok-fronts.fronts.interpreters.items c.in_ok-fronts.fronts.more c.in_ok-fronts.fronts.looked (reading_here c.in_ok-fronts.ensures.answer) in
     let number = shown_number (g.M.ContainsAddr.contains c.args.info.now.maps) (known_of c.args.info.now)
     c.args.version.now c.args.layout.now (byte_at (g.P.ProcessMemory.seen c.args.process.now).pieces) c.args.asked
     c.args.limit in

@@ -28,6 +28,13 @@ returns-in_err-is_shim_entry g c =
     let few = locals_few c.args.asked.locals c.args.layout.now (member_of c.args.records.now) in
     rw p.1 (lost_then _ (reading_then _ c.in_ok-line.ensures (consulting_short c.read_locals-read.ensures) (λ m a b. a)) c.in_err-is_shim_entry.ensures p.2 (omega (arith, few)))
 
+pub returns-in_err-frame : goal.returns-in_err-frame
+returns-in_err-frame g c =
+    let p = err_from_is_err_and c.from_residual-in_err-frame.result c.from_residual-in_err-frame.ensures.1 in
+    let few = locals_few c.args.asked.locals c.args.layout.now (member_of c.args.records.now) in
+    let shim = rw (rw c.deref-2.ensures.value at c.u64_in-back.ensures) at c.in_ok-is_shim_entry.ensures in
+    rw p.1 (reading_gives _ _ (reading_then _ (reading_both c.in_ok-line.ensures (consulting_short c.read_locals-read.ensures)) shim (λ m a b. p.2)) (omega (arith, few)) (λ m h. h))
+
 pub returns : goal.returns
 returns g c =
     let few = locals_few c.args.asked.locals c.args.layout.now (member_of c.args.records.now) in
@@ -35,6 +42,6 @@ returns g c =
     let entry = rw c.deref.ensures.value at c.is_entered-is_entry.ensures in
     let back = rw c.deref-2.ensures.value at c.u64_in-back.ensures in
     let shim = rw back at c.in_ok-is_shim_entry.ensures in
-    reading_gives _ _ (reading_then _ (reading_both c.in_ok-line.ensures (consulting_short c.read_locals-read.ensures)) shim
+    rw c.in_ok-frame.ensures (reading_gives _ _ (reading_then _ (reading_both c.in_ok-line.ensures (consulting_short c.read_locals-read.ensures)) shim
     (λ m a b. frame_stands c.args.asked c.args.layout.now m (member_of c.args.records.now) c.args.filename c.args.name _ c.in_ok-locals.locals c.is_entered-is_entry.result c.in_ok-is_shim_entry.is_shim_entry (fit ∙ a.0)
-    (locals_shown _ c.read_locals-read.result c.in_ok-locals.locals a.1 c.in_ok-locals.ensures) entry b)) (omega (arith, few)) (λ m h. h)
+    (locals_shown _ c.read_locals-read.result c.in_ok-locals.locals a.1 c.in_ok-locals.ensures) entry b)) (omega (arith, few)) (λ m h. h))

@@ -15,11 +15,18 @@ count_is = refl
 how_many : (rows : List Row) → map row_of rows ≡ the_rows → length rows ≡ 56
 how_many rows is = sym (length-map rows row_of) ∙ ap length is ∙ count_is
 
+pub returns-in_err-met : goal.returns-in_err-met
+unfolding described_at
+returns-in_err-met g c =
+    let p = err_from_is_err_and c.from_residual.result c.from_residual.ensures.1 in
+    rw p.1 (reads_halt 104814 p.0 _ c.in_err-met.ensures (ap read_fault p.2) (omega arith))
+
 pub returns-in_err-trust : goal.returns-in_err-trust
 unfolding described_at
 returns-in_err-trust g c =
-    let p = err_from_is_err_and c.from_residual.result c.from_residual.ensures.1 in
-    rw p.1 (reads_halt 58542 p.0 _ c.in_err-trust.ensures (ap read_fault p.2) (omega arith))
+    let p = err_from_is_err_and c.from_residual-in_err-trust.result c.from_residual-in_err-trust.ensures.1 in
+    rw p.1 (reads_next 104814 _ c.in_ok-met.ensures
+    (reads_halt 58542 p.0 _ c.in_err-trust.ensures (ap read_fault p.2) (omega arith)) (omega arith))
 
 pub returns-in_err-keys : goal.returns-in_err-keys
 unfolding described_at
@@ -27,13 +34,15 @@ returns-in_err-keys g c =
     let p = err_from_is_err_and c.from_residual-in_err-keys.result c.from_residual-in_err-keys.ensures.1 in
     let many = how_many c.rows.result.now c.rows.ensures in
     let told = rw c.rows.ensures at c.in_err-keys.ensures in
-    rw p.1 (reads_next 58542 _ c.in_ok-trust.ensures
-    (reads_halt 57512 p.0 _ told (ap read_fault p.2) (omega (arith, many))) (omega arith))
+    rw p.1 (reads_next 104814 _ c.in_ok-met.ensures
+    (reads_next 58542 _ c.in_ok-trust.ensures
+    (reads_halt 57512 p.0 _ told (ap read_fault p.2) (omega (arith, many))) (omega arith)) (omega arith))
 
 pub returns : goal.returns
 unfolding described_at
 returns g c =
     let many = how_many c.rows.result.now c.rows.ensures in
     let told = rw c.rows.ensures at c.in_ok-keys.ensures in
-    reads_next 58542 _ c.in_ok-trust.ensures
-    (reads_next 57512 _ told (reads_end 0 (sym c.check_of.ensures)) (omega (arith, many))) (omega arith)
+    reads_next 104814 _ c.in_ok-met.ensures
+    (reads_next 58542 _ c.in_ok-trust.ensures
+    (reads_next 57512 _ told (reads_end 0 (sym c.check_of.ensures)) (omega (arith, many))) (omega arith)) (omega arith)

@@ -1,7 +1,8 @@
 use Rattle.std.proofs.Common.{◌∙◌, ap, arith, map}
 use Rattle.std.proofs.lemmas.List.{at_drop_all}
 use Rattle.py_selftest.specs.Checking.{key_shown}
-use Rattle.py_selftest.specs.Text.{count_told, one_if}
+use Rattle.py_selftest.specs.Text.{count_told}
+use Rattle.py_selftest.specs.Questions.{one_if}
 use Rattle.py_selftest.proofs.KeyTexts.{count_more}
 use Rattle.py_selftest.proofs.text.count_told.Goals as goal
 

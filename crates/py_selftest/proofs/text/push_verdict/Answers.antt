@@ -13,9 +13,9 @@ both (Ok x) before middle after one two first second =
     second ∙ ap (λ t. t ++ two) first ∙ append_assoc before one two
 both (Err e) before middle after one two first second = tt
 
-pub returns-in_ok-push_str-in-Doubtful : goal.returns-in_ok-push_str-in-Doubtful
-returns-in_ok-push_str-in-Doubtful c = rw c.in-Doubtful.is (both c.push_counts-in-Doubtful.result _ _ _ _ _
-    c.in_ok-push_str-in-Doubtful.ensures.bytes c.push_counts-in-Doubtful.ensures)
+pub returns-in_ok-push_doubt-in-Doubtful : goal.returns-in_ok-push_doubt-in-Doubtful
+returns-in_ok-push_doubt-in-Doubtful c = rw c.in-Doubtful.is (both c.push_counts-in-Doubtful.result _ _ _ _ _
+    (rw c.has_no_right_frame.ensures at c.in_ok-push_doubt-in-Doubtful.ensures) c.push_counts-in-Doubtful.ensures)
 
 pub returns-in-NotDescribed : goal.returns-in-NotDescribed
 returns-in-NotDescribed c =

@@ -10,5 +10,12 @@ pub returns-in-Ok : goal.returns-in-Ok
 returns-in-Ok c =
     let here = over_this (regions_of c.args.process.now.dump)
     (ap (λ (s : Seen). s.pieces) (c.new-view.ensures ∙ c.view.ensures)) c.check_layout.ensures.right in
-    let is = rw (c.types_of-types.ensures, c.symbol_of-runtime.ensures, c.release_of-release.ensures) at here.is in
-    subst (λ r. AnswerIs read_fault (process_checked c.args.process.now) (check_result r)) c.in-Ok.is is
+    let is = rw (
+      c.types_of-types.ensures,
+      c.symbol_of-runtime.ensures,
+      c.release_of-release.ensures,
+      c.deref.ensures.value,
+      c.in_ok-threads.ensures,
+    ) at here.is in
+    subst (λ r. AnswerIs read_fault (process_checked c.args.process.now c.args.interpreters.now) (check_result r))
+    c.in-Ok.is is

@@ -5,6 +5,7 @@ use Rattle.image_memory.specs.Backed.{regions_of}
 use Rattle.process_memory.specs.Memory.{byte_at}
 use Rattle.py_records.specs.Versions.{records_of}
 use Rattle.memory_sections.specs.Told.{AreMemoryTold}
+use Rattle.salvage_report.specs.LayoutChecked.{CheckIs, process_checked}
 use Rattle.salvage_report.specs.Sections.{AreTold}
 use Rattle.salvage_report.proofs.Remains.{none_left, some_left}
 use Rattle.salvage_report.proofs.left.shown_left.Goals as goal
@@ -24,11 +25,6 @@ returns-in_err-memory c =
     let p = err_from_is_err_and c.from_residual-in_err-memory.result c.from_residual-in_err-memory.ensures.1 in
     rw (p.1, p.2) (λ bytes layouts is told ne. absurd (ne refl))
 
-pub returns-in_err-addresses : goal.returns-in_err-addresses
-returns-in_err-addresses c =
-    let p = err_from_is_err_and c.from_residual-in_err-addresses.result c.from_residual-in_err-addresses.ensures.1 in
-    rw (p.1, p.2) (λ bytes layouts is told ne. absurd (ne refl))
-
 pub returns-in_err-told : goal.returns-in_err-told
 returns-in_err-told c =
     let p = err_from_is_err_and c.from_residual-in_err-told.result c.from_residual-in_err-told.ensures.1 in
@@ -44,16 +40,18 @@ returns-then-is_empty c = λ bytes layouts is crashed ne.
     let asked = c.args.words.now.sections in
     let process = c.args.process.notes.process in
     let told = c.in_ok-told.told in
-    let core = subst (λ core. AreTold asked core process c.deref-2.result.now told) c.core-core.ensures.same
+    let core = subst (λ core. AreTold asked core process c.deref-3.result.now told) c.core-core.ensures.same
     c.in_ok-told.ensures in
-    let sections = subst (λ xs. AreTold asked c.args.process.dump.core process xs told) c.deref-2.ensures.value core in
+    let sections = subst (λ xs. AreTold asked c.args.process.dump.core process xs told) c.deref-3.ensures.value core in
     let memory = subst (λ xs. AreMemoryTold asked c.args.process.dump.core c.args.images.now c.args.process.layout
     (records_of c.args.tables.now c.args.process.version) (byte_at (regions_of c.args.process.dump)) xs
-    c.in_ok-memory.memory) c.deref.ensures.value c.in_ok-memory.ensures in
+    c.in_ok-memory.memory) c.deref-2.ensures.value c.in_ok-memory.ensures in
+    let check = subst (λ xs. CheckIs asked.check_layout (process_checked c.args.process xs) c.in_ok-check.check)
+    c.deref.ensures.value c.in_ok-check.ensures in
     let none : salvaged.interpreters.items ≡ [] = empty salvaged.interpreters.items (search rules) in
     none_left (asked_salvage c.args.words.now) c.args.tables.now c.args.process c.args.crash salvaged c.in_ok-salvaged.ensures bytes
-    c.args.images.now layouts is crashed told sections c.in_ok-check.check c.in_ok-check.ensures c.in_ok-memory.memory
-    memory c.in_ok-addresses.addresses none c.in_ok-addresses.ensures
+    c.args.images.now layouts is crashed told sections c.in_ok-check.check check c.in_ok-memory.memory
+    memory none
 
 pub returns-in_err-shown : goal.returns-in_err-shown
 returns-in_err-shown c =
@@ -66,14 +64,16 @@ returns c = λ bytes layouts is crashed.
     let asked = c.args.words.now.sections in
     let process = c.args.process.notes.process in
     let told = c.in_ok-told.told in
-    let core = subst (λ core. AreTold asked core process c.deref-2.result.now told) c.core-core.ensures.same
+    let core = subst (λ core. AreTold asked core process c.deref-3.result.now told) c.core-core.ensures.same
     c.in_ok-told.ensures in
-    let sections = subst (λ xs. AreTold asked c.args.process.dump.core process xs told) c.deref-2.ensures.value core in
+    let sections = subst (λ xs. AreTold asked c.args.process.dump.core process xs told) c.deref-3.ensures.value core in
     let memory = subst (λ xs. AreMemoryTold asked c.args.process.dump.core c.args.images.now c.args.process.layout
     (records_of c.args.tables.now c.args.process.version) (byte_at (regions_of c.args.process.dump)) xs
-    c.in_ok-memory.memory) c.deref.ensures.value c.in_ok-memory.ensures in
+    c.in_ok-memory.memory) c.deref-2.ensures.value c.in_ok-memory.ensures in
+    let check = subst (λ xs. CheckIs asked.check_layout (process_checked c.args.process xs) c.in_ok-check.check)
+    c.deref.ensures.value c.in_ok-check.ensures in
     let full : length salvaged.interpreters.items ≢ 0 = search rules in
     let some : salvaged.interpreters.items ≢ [] = λ none. full (ap length none) in
     some_left (asked_salvage c.args.words.now) c.args.tables.now c.args.process c.args.crash salvaged c.in_ok-salvaged.ensures bytes
-    c.args.images.now layouts is crashed told sections c.in_ok-check.check c.in_ok-check.ensures c.in_ok-memory.memory
+    c.args.images.now layouts is crashed told sections c.in_ok-check.check check c.in_ok-memory.memory
     memory c.in_ok-shown.field-0.items some c.in_ok-shown.ensures

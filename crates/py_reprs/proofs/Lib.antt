@@ -1,0 +1,12 @@
+pub mod Pieces
+pub mod Views
+pub mod Fewer
+pub mod Utf
+pub mod Listing
+pub mod Told
+pub mod Shares
+pub mod Telling
+pub mod Mapping
+pub mod Opening
+pub mod Picking
+pub mod Held

@@ -1,0 +1,13 @@
+pub mod Trees
+pub mod Kinds
+pub mod Limits
+pub mod Fronts
+pub mod Found
+pub mod Numbers
+pub mod Texts
+pub mod Names
+pub mod Places
+pub mod LevelForms
+pub mod Slots
+pub mod Levels
+pub mod Values

@@ -1,0 +1,38 @@
+use Rattle.std.proofs.Common.{ap, sym, arith}
+use Rattle.std.proofs.lemmas.Result.{err_from_is_err_and}
+use Rattle.process_memory.specs.Seen.{read_fault}
+use Rattle.process_memory.proofs.Reading.{reads_next, reads_halt, reads_end, reading_short}
+use Rattle.py_selftest.specs.Questions.{object_told}
+use Rattle.std.specs.Prelude.{Some}
+use Rattle.py_selftest.proofs.questions.object_told.Goals as goal
+
+pub returns-in_err-class : goal.returns-in_err-class
+unfolding object_told
+returns-in_err-class g c =
+    let p = err_from_is_err_and c.from_residual.result c.from_residual.ensures.1 in
+    rw p.1 (reads_halt 3 p.0 _ (reading_short c.in_err-class.ensures.answer) (ap read_fault p.2) (omega arith))
+
+pub returns-in_err-of_class : goal.returns-in_err-of_class
+unfolding object_told
+returns-in_err-of_class g c =
+    let p = err_from_is_err_and c.from_residual-in_err-of_class.result c.from_residual-in_err-of_class.ensures.1 in
+    rw p.1 (reads_next 3 _ (reading_short c.in_ok-class.ensures.answer)
+    (reads_halt 2 p.0 _ (reading_short c.in_err-of_class.ensures.answer) (ap read_fault p.2) (omega arith)) (omega
+    arith))
+
+pub returns-in_err-flags : goal.returns-in_err-flags
+unfolding object_told
+returns-in_err-flags g c =
+    let p = err_from_is_err_and c.from_residual-in_err-flags.result c.from_residual-in_err-flags.ensures.1 in
+    rw p.1 (reads_next 3 _ (reading_short c.in_ok-class.ensures.answer)
+    (reads_next 2 _ (reading_short c.in_ok-of_class.ensures.answer)
+    (reads_halt 1 p.0 _ (reading_short c.in_err-flags.ensures.answer) (ap read_fault p.2) (omega arith)) (omega
+    arith)) (omega arith))
+
+pub returns : goal.returns
+unfolding object_told
+returns g c =
+    (reads_next 3 _ (reading_short c.in_ok-class.ensures.answer)
+    (reads_next 2 _ (reading_short c.in_ok-of_class.ensures.answer)
+    (reads_next 1 _ (reading_short c.in_ok-flags.ensures.answer)
+    (reads_end 0 (ap (λ b. Some b) (sym c.has_types.ensures))) (omega arith)) (omega arith)) (omega arith))

@@ -1,0 +1,4 @@
+pub mod Quotes
+pub mod Literals
+pub mod Integers
+pub mod Floats
