@@ -25,13 +25,14 @@ from concurrent.futures import ProcessPoolExecutor
 from dataclasses import dataclass
 from pathlib import Path
 from random import Random
-from typing import Callable, Dict, Iterator, List, Optional, Sequence, Tuple
+from typing import Any, Callable, Dict, Iterator, List, Optional, Sequence, Tuple
 
 from rooms import BUILT_LISTING, BUILT_SALVAGE, ROOT  # (first: it makes the other rooms known)
 
 import changes
 import rows_dump
 import rows_frames
+import rows_layout_check
 import rows_merge
 import rows_names
 import rows_native
@@ -55,7 +56,7 @@ SECONDS, MEMORY = 10, 300 * 10 ** 6
 COMMANDS: Dict[str, Callable[[], List[Row]]] = {
     "dump": rows_dump.rows, "walk": rows_walk.rows, "triage": rows_triage.rows, "reach": rows_reach.rows,
     "merge": rows_merge.rows, "locate": rows_slim.rows, "slim": rows_slim.slim_rows, "sample": lambda: [],
-    "pysalvage": lambda: [*rows_salvage.rows(), *rows_names.rows(), *rows_native.rows(), *rows_tasks.rows()], "frames": rows_frames.rows}
+    "pysalvage": lambda: [*rows_salvage.rows(), *rows_names.rows(), *rows_native.rows(), *rows_tasks.rows(), *rows_layout_check.rows()], "frames": rows_frames.rows}
 """The commands, and whose rows the cases begin with. (`pysalvage` and `listing`, which has `frames`, are programs of their
 own. Those of `sample` begin with cores that it writes.)"""
 
@@ -235,18 +236,30 @@ OWN_TEXTS = ("--exceptions", "--native")
 """Those whose text isn't made again from the JSON here."""
 
 
+def made_up_number(run: Run, tree: Dict[str, Any]) -> Optional[str]:
+    """A number that the process tells of the layout stands in the files: the word of a member's place, or of how many bytes an instance
+    has, of which up to 8 are taken off. (Where a type names its own is 8 or 24.)"""
+    told = (tree["layout_check"] or {"told": []})["told"]
+    data = b"\0".join(it.read_bytes() for it in Path(run.folder).iterdir() if it.is_file()) if told else b""
+    for it in told:
+        words = [((it["process"] + more) % 2 ** 64).to_bytes(8, "little") for more in (0, 1, 8)]
+        if it["key"] != "object.klass" and not it["key"].startswith("gil.") and not any(word in data for word in words):
+            return f"{it['key']} is told as {it['process']}, which stands in no file"
+    return None
+
+
 def fault_of_salvage(run: Run, out: bytes) -> Optional[str]:
     """JSON must have what docs/SALVAGE.md says, and a text must be that of its JSON."""
     limit, sections = frames_asked(run.words), sections_asked(run.words)
     if any(re.fullmatch(r"--json|-l*j.*", it) for it in options_of(run.words)):
-        tree_of(out, limit, sections)
-        return None
+        return made_up_number(run, tree_of(out, limit, sections))
     answer = run.again("-j", *run.words)
     if answer.status != 0 or answer.said:
         return f"status {answer.status} with -j: {answer.said!r}"
     tree = tree_of(answer.out, limit, sections)
-    if set(OWN_TEXTS) & set(sections):
-        return None
+    made_up = made_up_number(run, tree)
+    if made_up or set(OWN_TEXTS) & set(sections):
+        return made_up
     text = text_of(tree, core_named(run.words))
     return None if out == text.encode() else "the text isn't that of its JSON"
 

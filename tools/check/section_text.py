@@ -1,7 +1,7 @@
 """What the sections of `pysalvage` have to have in its JSON, and in its text, by docs/SALVAGE.md."""
 
 import re
-from typing import Any, Collection, Dict, List, Sequence, Tuple
+from typing import Any, Collection, Dict, List, Optional, Sequence, Tuple
 
 import rooms  # noqa: F401
 from child_cores import Failure
@@ -85,11 +85,29 @@ VERDICTS = ("agrees", "differs", "doubtful", "silent", "not described")
 """What is said of a layout."""
 
 
+KNOWN = 64 * (1 + 16 * 8)
+"""How many known answers there are at most: one of each thread, and eight of each of its frames."""
+
+
+def check_known(known: Optional[Tree]) -> None:
+    """Fails where known answers aren't so many of so many."""
+    if known is None:
+        return
+    check_keys(known, "of", "right")
+    if not 0 <= known["right"] <= known["of"] <= KNOWN or known["of"] == 0:
+        raise Failure(f"{known['right']} of {known['of']} are no known answers")
+
+
 def check_layout(tree: Tree) -> None:
     """Fails where an object isn't a layout beside what its process says of itself."""
-    check_keys(tree, "build", "differ", "known", "not_told", "told", "verdict")
-    if tree["verdict"] not in VERDICTS or tree["build"] not in (None, "free-threaded", "trace-refs") or tree["known"] is not None:
+    check_keys(tree, "build", "differ", "doubt", "known", "not_told", "other_table", "told", "verdict")
+    if tree["verdict"] not in VERDICTS or tree["build"] not in (None, "free-threaded", "trace-refs"):
         raise Failure(f"{tree['verdict']!r} of {tree['build']!r} is no verdict")
+    if tree["other_table"] is not None:
+        check_keys(tree["other_table"], "major", "minor")
+    if (tree["verdict"] == "doubtful") != (tree["doubt"] in ("frames", "type")):
+        raise Failure(f"{tree['verdict']!r}, doubted by {tree['doubt']!r}")
+    check_known(tree["known"])
     for it in (*tree["told"], *tree["differ"]):
         check_keys(it, "key", "layout", "process")
     others = [it for it in tree["told"] if it["layout"] != it["process"]]
@@ -188,13 +206,22 @@ def layout_lines(tree: Tree) -> List[str]:
         return []
     builds = {"free-threaded": "The process is of a free-threaded build", "trace-refs": "The process is of a build with trace refs"}
     lines = [builds[check["build"]]] if check["build"] else []
+    table, known = check["other_table"], check["known"]
+    lines += [f"The process has a table of places (_Py_DebugOffsets) that says it is of {table['major']}.{table['minor']}: nothing is read by it"] if table else []
+    last = [f"Known answers: {known['right']} of {known['of']} are right"] if known else []
+    return [*lines, *verdict_lines(check), *last]
+
+
+def verdict_lines(check: Tree) -> List[str]:
+    """The lines of what is said of a layout by its numbers."""
     if check["verdict"] == "differs":
-        return lines + [f"Layout differs: {it['key']} is {it['layout']}, the process says {it['process']}" for it in check["differ"]]
+        return [f"Layout differs: {it['key']} is {it['layout']}, the process says {it['process']}" for it in check["differ"]]
     if check["verdict"] == "not described":
-        return [*lines, "Layout not confirmed: this version's types are not known"]
-    fronts = {"agrees": "Layout agrees", "silent": "Layout not confirmed",
-              "doubtful": "Layout not confirmed, type's own table is none that is known"}
-    return [*lines, f"{fronts[check['verdict']]}: {len(check['told'])} keys told, {len(check['not_told'])} not told"]
+        return ["Layout not confirmed: this version's types are not known"]
+    by_frames = "Layout doubtful, no known answer of a frame is right"
+    fronts = {"agrees": "Layout agrees", "silent": "Layout not confirmed", "doubtful": by_frames if check["doubt"] == "frames" else
+              "Layout not confirmed, type's own table is none that is known"}
+    return [f"{fronts[check['verdict']]}: {len(check['told'])} keys told, {len(check['not_told'])} not told"]
 
 
 # ---- tasks

@@ -3,8 +3,8 @@
 import struct
 from typing import Sequence
 
-from made import NO_BITS, NOTE, STRINGS, SYMBOLS, Section, Segment, core_file, image_file
-from small_core import BSS, bss, heap, mapped
+from made import NO_BITS, NOTE, STRINGS, SYMBOLS, EXAMPLE, Objects, Section, Segment, core_file, image_file, layout_of
+from small_core import BSS, HEAP, bss, heap, heap_of_locals, mapped
 
 MANY = 1000
 """How many entries share some bytes."""
@@ -34,17 +34,22 @@ def over(data: bytes, first: int, others: Sequence[int], mem_size: bool = False)
     return bytes(made)
 
 
-def of_long_name() -> bytes:
+def usual() -> Segment:
+    """The objects of the small core, each of whose frames has names of its variables: none."""
+    return heap_of_locals(lambda objects, numbers, texts: [], "", 0).segment(6)
+
+
+def of_long_name(mark: bytes = b"n") -> bytes:
     """A core of so many load segments at one address, whose file's name is long."""
     at = 0x9000000
-    first = Segment(at, b"", 5, 0x1000, b"/" + b"n" * LONG)
-    return core_file([heap().segment(6), mapped(), bss(), first, *[Segment(at, b"", 5, 0x1000)] * (MANY - 1)])
+    first = Segment(at, b"", 5, 0x1000, b"/" + mark * LONG)
+    return core_file([usual(), mapped(), bss(), first, *[Segment(at, b"", 5, 0x1000)] * (MANY - 1)])
 
 
 def of_notes() -> bytes:
     """A core of so many note segments over the same notes."""
     notes = Segment(0, EMPTY_NOTE * (LONG // len(EMPTY_NOTE)), 0, kind=NOTE)
-    own = [heap().segment(6), mapped(), bss(), notes]
+    own = [usual(), mapped(), bss(), notes]
     data = core_file([*own, *[Segment(0, b"", 0, kind=NOTE)] * (MANY - 1)])
     return over(data, 3, range(4, 3 + MANY))
 
@@ -56,9 +61,9 @@ def of_bss() -> bytes:
     return over(core_file([*own, *places]), 2, range(3, 2 + MANY), mem_size=True)
 
 
-def image_of_bss() -> bytes:
-    """Its program."""
-    return image_file([Segment(0x400000, b"", 5, 0x1000)], (BSS, LONG * MANY))
+def image_of_bss(size: int) -> bytes:
+    """A program whose bss has so many bytes."""
+    return image_file([Segment(0x400000, b"", 5, 0x1000)], (BSS, size))
 
 
 def image_of_symbols(count: int, length: int) -> bytes:
@@ -82,3 +87,43 @@ def image_of_sections(count: int, length: int) -> bytes:
     for number in range(3, 3 + count):
         struct.pack_into("<I", made, heads + 64 * number, place)
     return bytes(made)
+
+
+def of_names(count: int) -> bytes:
+    """A core whose interpreter has so many names of threads, which are one text."""
+    objects = heap()
+    numbers, texts, dicts, things = (objects.klass(name, flag) for name, flag in (("int", 24), ("str", 28), ("dict", 29), ("object", 0)))
+    module = objects.klass("module", 0)
+    objects.word(module + 40, 16)
+    objects.word(things + 40, 16)
+
+    def dict_of(*entries: Sequence[int]) -> int:
+        keys = objects.record("keys", None, used=len(entries), slots=8)
+        objects.write(keys + 40 + 8, b"".join(struct.pack("<3Q", 0, one, other) for one, other in entries))
+        return objects.of_class(objects.record("dict", None, keys=keys), dicts)
+
+    def instance(klass: int, attributes: int) -> int:
+        at = objects.write(objects.free(), bytes(32))
+        objects.word(at + 16, attributes)
+        return objects.of_class(at, klass)
+
+    text = lambda text: objects.text(text, klass=texts)
+    thread = instance(things, dict_of((text("_name"), text("t" * 4095))))
+    active = dict_of(*((objects.number(0x7F00 + number, numbers), thread) for number in range(count)))
+    objects.word(HEAP + 16, dict_of((text("threading"), instance(module, dict_of((text("_active"), active))))))
+    return core_file([objects.segment(6), mapped(), bss()])
+
+
+def of_hidden_frames(threads: int) -> bytes:
+    """A core of so many threads, each of 16,384 members of its own chain that aren't shown. (The members are the same ones.)"""
+    objects = Objects(layout_of(EXAMPLE), HEAP)
+    place = objects.record("interpreter")
+    code = objects.record("code", None, filename=objects.text("<shim>"), name=objects.text("f"))
+    first = objects.frames([code] * 16384)
+    objects.threads(place, [{"id": 0x7F00 + number, "frame": first} for number in range(threads)])
+    return core_file([objects.segment(6), mapped(), bss()])
+
+
+def layout_of_tables(tables: int) -> str:
+    """The example's layout, with a key that there isn't: so many inline tables that say nothing."""
+    return f"{EXAMPLE}x = [{'{a={b={}}},' * tables}]\n"

@@ -78,6 +78,13 @@ def of_locals(
     slots: Callable[[Objects, int, int], Sequence[int]], names: Sequence[str], arguments: int, count: Optional[int] = None
 ) -> bytes:
     """The small core with variables in its first frame."""
+    return core_file([heap_of_locals(slots, names, arguments, count).segment(6), mapped(), bss()])
+
+
+def heap_of_locals(
+    slots: Callable[[Objects, int, int], Sequence[int]], names: Sequence[str], arguments: int, count: Optional[int] = None
+) -> Objects:
+    """Its objects."""
     objects = heap(locals_at=HEAP)
     numbers, texts = objects.klass("int", 24), objects.klass("str", 28)
     tuple_of = objects.items([objects.text(name) for name in names])
@@ -86,4 +93,4 @@ def of_locals(
                    nlocals=len(names) if count is None else count, varnames=tuple_of)
     frame = objects.frame(found, objects.free(), code=CODE, back=CALLER)
     objects.word(THREAD + 24, frame)
-    return core_file([objects.segment(6), mapped(), bss()])
+    return objects

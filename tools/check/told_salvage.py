@@ -238,13 +238,13 @@ def runtime(head: int, holder: int) -> Segment:
 
 
 def image_of(random: Random) -> Tuple[bytes, int]:
-    """The program's file with the symbol of the runtime, and how many words are looked at in its section: none, where
-    that claims more than there is, up to 2^63 bytes."""
+    """The program's file with the symbol of the runtime, and how many words are looked at in its section: those that are there,
+    though it claims more, up to 2^63 bytes."""
     if random.random() < 0.5:
         return NAMED, 74
     size = random.choice((1 << random.randrange(10, 64), random.randrange(593, 2 ** 63)))
     sections = [Section(".PyRuntime", 1, RUNTIME, None, size)]
-    return image_file([Segment(0x400000, b"", 5, 0x1000)], (BSS, 16), [Symbol("_PyRuntime", RUNTIME)], sections), 0
+    return image_file([Segment(0x400000, b"", 5, 0x1000)], (BSS, 16), [Symbol("_PyRuntime", RUNTIME)], sections), 74
 
 
 def told_of(random: Random, files: Files, tree: Tree, options: Sequence[str]) -> Told:
@@ -267,7 +267,7 @@ def left(random: Random, command: str) -> Told:
     files = files_of(core_file([*whole.segments, mapped(), bss(0, 0), runtime(HEAP, holder)], notes), program=image)
     if not any(it["threads"] for it in whole.interpreters):
         # (the head, the word in front of its threads, those of the runtime section, and the bss' two)
-        return Told(WORDS["pysalvage"], files, 1, f"no interpreter found: {4 + words} addresses looked at")
+        return Told(WORDS["pysalvage"], files, 1, f"no interpreter found: {4 + words} addresses looked at, 0 members walked")
     tree = {"interpreters": list(whole.interpreters), "more": whole.more, "process": None,
             **NONE_TOLD, "layout_check": None, "missing": None, "registers": None, "signal": 11 if notes else None, "signal_info": None, "version": "3.9.0"}
     return told_of(random, files, tree, () if limit == 100 else ("-n", str(limit)))
@@ -279,7 +279,8 @@ def searched(random: Random, command: str) -> Told:
     files = files_of(core_file([*whole.segments, mapped(), bss()]), program=PROGRAM)
     one = whole.interpreters[0]
     if one["threads_end"] != WHOLE:
-        return Told(WORDS["pysalvage"], files, 1, "no interpreter found: 2 addresses looked at")
+        line = f"no interpreter found: 2 addresses looked at, {len(one['threads'])} members walked"
+        return Told(WORDS["pysalvage"], files, 1, line)
     tree = {"interpreters": [with_marks({**one, "searched": True}, None, None)], "more": False, "process": None,
             **NONE_TOLD, "layout_check": None, "missing": None, "registers": None, "signal": None, "signal_info": None, "version": "3.9.0"}
     return told_of(random, files, tree, ())

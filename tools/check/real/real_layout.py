@@ -156,7 +156,7 @@ def check_layouts(salvage: Path, core: Left, tables: Sequence[Table], room: Path
         other = told_by(salvage, core, it.under(core.version).text, room)
         is_alike = {core.version, it.covered[:2]} == ALIKE
         (counts.alike if is_alike else counts.others).append(other.verdict == AGREES)
-        if other.verdict == AGREES and not (is_alike and (other.known == (0, 0) or other.known[0] < other.known[1])):
+        if other.verdict == AGREES and not is_alike:
             raise Failure(f"it agrees with the layout of {it.covered[0]}.{it.covered[1]}")
     assert told.tree is not None
     known = f", {told.known[1]} known answers" if told.known[1] else ""

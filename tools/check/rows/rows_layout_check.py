@@ -2,18 +2,25 @@
 
 import json
 import struct
-from typing import Dict, Iterator, List, Optional, Tuple
+from typing import Dict, Iterator, List, Optional, Sequence, Tuple
 
-from made import EXAMPLE, Section, Segment, Symbol, core_file, image_file, layout_of
+from made import EXAMPLE, Objects, Section, Segment, Symbol, core_file, image_file, layout_of
 from row import Row
 from rows_salvage import GOOD, RUNTIME, broken_tree, runtime, salvage
-from small_core import BSS, HEAP, TEXT, bss, files_of, heap, mapped, small
+from small_core import CODE as FIRST_CODE, FRAME as FIRST_FRAME
+from small_core import BSS, CALLER, FILE, FUNCTION, HEAP, MODULE, MODULE_CODE, TEXT, THREAD, bss, files_of, heap, mapped, small
 
 TYPES = 0x520000
 """Where the types stand."""
 
-SIZE = 0x4000
-NAMES = ("PyType_Type", "PyCode_Type", "PyFrame_Type", "PyTuple_Type", "PyBytes_Type", "PyLong_Type")
+SIZE = 0x8000
+NAMES = ("PyType_Type", "PyCode_Type", "PyFrame_Type", "PyTuple_Type", "PyBytes_Type", "PyLong_Type", "PyUnicode_Type")
+CALLED = ("type", "code", "frame", "tuple", "bytes", "int", "str")
+"""Their symbols, and their names in Python."""
+
+CALLED_AT = 0x7C00
+"""Where those names stand, from the types on."""
+
 OBJECT, INT, SIZE_CODE, ULONG = 6, 1, 19, 12
 """Codes of members: of an object, an int, a size, and an unsigned long."""
 
@@ -64,6 +71,8 @@ def types(members: Dict[str, Members], basic: Dict[str, int], own: int = 8, base
     for number, name in enumerate(NAMES):
         at = 0x400 * number
         struct.pack_into("<Q", data, at + own, TYPES)
+        struct.pack_into("<Q", data, at + own + 16, TYPES + CALLED_AT + 32 * number)
+        data[CALLED_AT + 32 * number : CALLED_AT + 32 * number + len(CALLED[number])] = CALLED[number].encode()
         struct.pack_into("<Q", data, at + own + 24, basic.get(name, 0))
         struct.pack_into("<Q", data, at + own + 248, base)
         struct.pack_into("<Q", data, at + own + 232, TYPES + free if name in members else 0)
@@ -79,12 +88,17 @@ def types(members: Dict[str, Members], basic: Dict[str, int], own: int = 8, base
 USUAL = {"PyType_Type": TYPE, "PyCode_Type": CODE, "PyFrame_Type": FRAME}
 
 
-def files(memory: Optional[bytes], layout: str = EXAMPLE) -> Dict[str, bytes]:
-    """The files of a core with this memory of types, and of an image that names them."""
-    symbols = [Symbol("_PyRuntime", RUNTIME)] + [Symbol(name, TYPES + 0x400 * it) for it, name in enumerate(NAMES)]
+def type_at(name: str) -> int:
+    """Where a type stands."""
+    return TYPES + 0x400 * CALLED.index(name)
+
+
+def files(memory: Optional[bytes], layout: str = EXAMPLE, objects: Optional[Objects] = None, names: Sequence[str] = NAMES) -> Dict[str, bytes]:
+    """The files of a core with this memory of types, and of an image that names these."""
+    symbols = [Symbol("_PyRuntime", RUNTIME)] + [Symbol(name, TYPES + 0x400 * it) for it, name in enumerate(NAMES) if name in names]
     image = image_file([Segment(0x400000, b"", 5, 0x1000)], (BSS, 16), symbols, [
         Section(".PyRuntime", 1, RUNTIME, None, 592)])
-    maps = [heap().segment(6), mapped(), bss(0, 0), runtime(HEAP)]
+    maps = [(objects or heap()).segment(6), mapped(), bss(0, 0), runtime(HEAP)]
     return files_of(core_file(maps + ([Segment(TYPES, memory, 6)] if memory is not None else [])), layout, image)
 
 
@@ -93,11 +107,36 @@ def counts(told: int) -> str:
     return f": {told} keys told, {len(KEYS) - told} not told\n"
 
 
-def tree(verdict: str, told: List[str], differ: Dict[str, int], build: Optional[str] = None) -> Dict[str, object]:
-    """The section's value: the keys that are told, and what the process says of those that differ."""
+def known(right: int, of: int) -> str:
+    """How many known answers are right."""
+    return f"Known answers: {right} of {of} are right\n"
+
+
+def frames_of(count: int) -> Objects:
+    """The objects of the small core with so many frames of `f` in place of its two."""
+    objects = heap()
+    objects.word(THREAD + place("thread.frame"), objects.frames([FIRST_CODE] * count))
+    return objects
+
+
+def classed() -> Objects:
+    """The objects of the small core, each of its class, whose functions have names of variables and a line table."""
+    objects = heap()
+    names, table = objects.of_class(objects.items([]), type_at("tuple")), objects.of_class(objects.table(b"ab"), type_at("bytes"))
+    objects.word(objects.free(), 0)
+    for at in (FIRST_CODE, MODULE_CODE):
+        objects.word(at + place("code.varnames"), names)
+        objects.word(at + place("code.table"), table)
+    for at, name in ((FIRST_CODE, "code"), (MODULE_CODE, "code"), (FIRST_FRAME, "frame"), (CALLER, "frame"), (FILE, "str"), (FUNCTION, "str"), (MODULE, "str")):
+        objects.of_class(at, type_at(name))
+    return objects
+
+
+def tree(verdict: str, told: List[str], differ: Dict[str, int], build: Optional[str] = None, of: int = 7) -> Dict[str, object]:
+    """The section's value: the keys that are told, what the process says of those that differ, and that one known answer is right."""
     number = lambda key: {"key": key, "layout": place(key), "process": differ.get(key, place(key))}
-    return {"build": build, "differ": [number(key) for key in told if key in differ], "known": None,
-            "not_told": [key for key in KEYS if key not in told], "told": [number(key) for key in told], "verdict": verdict}
+    return {"build": build, "differ": [number(key) for key in told if key in differ], "doubt": None, "known": {"of": of, "right": 1},
+            "not_told": [key for key in KEYS if key not in told], "other_table": None, "told": [number(key) for key in told], "verdict": verdict}
 
 
 def changed(name: str, members: Members, **more: Tuple[int, int]) -> Dict[str, Members]:
@@ -108,8 +147,8 @@ def changed(name: str, members: Members, **more: Tuple[int, int]) -> Dict[str, M
 def rows() -> Iterator[Row]:
     """All of them."""
     check = f"{GOOD} --check-layout"
-    say = lambda what, memory, line: salvage(TELLING + what, check, files(memory), TEXT + line)
-    yield salvage(TELLING + "no symbols", check, files_of(small()), TEXT + "Layout not confirmed" + counts(0))
+    say = lambda what, memory, line: salvage(TELLING + what, check, files(memory), TEXT + line + known(1, 7))
+    yield salvage(TELLING + "no symbols", check, files_of(small()), TEXT + "Layout not confirmed" + counts(0) + known(1, 1))
     yield salvage(TELLING + "without the flag the text has no line", GOOD, files(types(USUAL, BASIC)), TEXT)
     yield say("agrees", types(USUAL, BASIC), "Layout agrees" + counts(len(TOLD)))
     yield say("no memory of types", None, "Layout not confirmed" + counts(0))
@@ -123,12 +162,25 @@ def rows() -> Iterator[Row]:
               "Layout agrees" + counts(len(TOLD) - 1))
     yield say("a member whose name goes on", types(changed("PyCode_Type", {}, **{f"{it}_": CODE[it] for it in CODE}), BASIC),
               "Layout not confirmed" + counts(len(TOLD) - len(CODE)))
+    fillers = lambda count: {f"x{at}": (INT, 0) for at in range(count)}
+    yield say("256 members, of which the last are code's", types(changed("PyCode_Type", {**fillers(256 - len(CODE)), **CODE}), BASIC),
+              "Layout agrees" + counts(len(TOLD)))
+    yield say("256 members before those of code", types(changed("PyCode_Type", {**fillers(256), **CODE}), BASIC),
+              "Layout not confirmed" + counts(len(TOLD) - len(CODE)))
     yield say("a type whose size stands elsewhere", types(changed("PyType_Type", TYPE, __basicsize__=(SIZE_CODE, 40)), BASIC),
               "Layout not confirmed, type's own table is none that is known" + counts(1))
     yield say("a type that does not name itself", bytes(SIZE), "Layout not confirmed" + counts(0))
     wide = types(changed("PyType_Type", TYPE, __basicsize__=(SIZE_CODE, 48)), BASIC, own=24)
     yield say("trace refs", wide, "The process is of a build with trace refs\n"
               "Layout differs: object.klass is 8, the process says 24\n")
+    shown = lambda count: TEXT.replace(TEXT.split("0x7F00\n")[1], "    f (a.py)\n" * count)
+    yield salvage(TELLING + "eight frames without a right answer", check, files(types(USUAL, BASIC), objects=frames_of(8)),
+                  shown(8) + "Layout doubtful, no known answer of a frame is right" + counts(len(TOLD)) + known(1, 25))
+    yield salvage(TELLING + "seven frames without one decide nothing", check, files(types(USUAL, BASIC), objects=frames_of(7)),
+                  shown(7) + "Layout agrees" + counts(len(TOLD)) + known(1, 22))
+    # (in this layout the flags of a type stand where it says how many bytes an instance has)
+    yield salvage(TELLING + "types without symbols", check, files(types(USUAL, {**BASIC, "PyUnicode_Type": 1 << 28}), objects=classed(), names=()),
+                  TEXT.replace("f (a.py)", "f (a.py:3)").replace("<module> (a.py)", "<module> (a.py:1)") + "Layout agrees" + counts(len(TOLD) - 1) + known(15, 15))
     text = lambda it: json.dumps(it, indent=2, ensure_ascii=False) + "\n"
     whole = lambda part: {**plain_tree(), "layout_check": part}
     yield salvage(TELLING + "JSON without the flag", f"{GOOD} -j", files(types(USUAL, BASIC)), text(whole(None)))

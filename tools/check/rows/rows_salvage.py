@@ -166,8 +166,9 @@ def causes() -> Iterator[Row]:
         ("a bad image", files_of(small(), program=b"text"), b"bad image: " + PATH),
         ("half a bss", files_of(small(bss=Segment(BSS, bytes(8), 6, 16))), b"version unreadable at 0x500000, 16 bytes"),
         ("a version without a layout", files_of(small(bss=version), program=program), b"no layout for Python 3.14.0rc1+dev"),
-        ("no interpreter", files_of(small(bss=bss(0x400000, THREAD))), b"no interpreter found: 2 addresses looked at"),
-        ("addresses that repeat", named(Objects(layout_of(EXAMPLE), HEAP), THREAD, THREAD), b"no interpreter found: 77 addresses looked at"),
+        ("no interpreter", files_of(small(bss=bss(0x400000, THREAD))), b"no interpreter found: 2 addresses looked at, 0 members walked"),
+        ("addresses that repeat", named(Objects(layout_of(EXAMPLE), HEAP), THREAD, THREAD),
+         b"no interpreter found: 77 addresses looked at, 0 members walked"),
     ):
         yield salvage(f"cause: {what}", GOOD, files, line=line)
 
@@ -329,12 +330,34 @@ def interpreters() -> Iterator[Row]:
     broken = heap()
     broken.record("thread", THREAD, interp=HEAP, next=0x70000000, id=0x7F00)
     yield salvage("interpreters: by search, with a broken chain", GOOD, files_of(core_file([broken.segment(6), mapped(), bss()])),
-                  line=b"no interpreter found: 2 addresses looked at")
+                  line=b"no interpreter found: 2 addresses looked at, 1 members walked")
     yield salvage("interpreters: by search in the runtime section, with a broken chain", GOOD, named(broken, 0, HEAP),
-                  line=b"no interpreter found: 77 addresses looked at")
+                  line=b"no interpreter found: 77 addresses looked at, 1 members walked")
+    yield from parts_of_sections()
     maps = [broken.segment(6), mapped(), bss(0, 0), runtime(HEAP)]
     yield salvage("interpreters: by the place of the runtime section, with a broken chain", GOOD,
                   files_of(core_file(maps), program=STRIPPED), head + "... threads unreadable at 0x70000000, 64 bytes\nThread 0x7F00\n")
+
+
+def parts_of_sections() -> Iterator[Row]:
+    """The words that are there of a runtime section of which some are missing, and the budget of the search."""
+    objects, (one, two) = several(2, False)
+    found = lambda lock: f"Python v3.9.0\n\nInterpreter 0x{one:x}\n{lock}Thread 0x1\nInterpreter 0x{two:x} (found by search)\n{lock}Thread 0x2\n"
+    lost = "... lock unreadable at 0x510238, 8 bytes\n"
+    whole = runtime(one, two).data
+    for what, parts in (
+        ("its last word", [(0, 584)]), ("half of its last word", [(0, 588)]), ("its first word", [(8, 592)]),
+        ("a byte of its first word", [(1, 592)]), ("one between", [(0, 256), (264, 592)]), ("all but the two", [(32, 48)]),
+    ):
+        maps = [objects.segment(6), mapped(), bss(0, 0), *(Segment(RUNTIME + begin, whole[begin:end], 6) for begin, end in parts)]
+        yield salvage(f"interpreters: by search in the runtime section without {what}", GOOD, files_of(core_file(maps), program=NAMED),
+                      found(lost if len(parts) == 1 and parts[0][1] < 576 else ""))
+    ring = heap()
+    ring.record("thread", THREAD, interp=HEAP, next=THREAD, id=0x7F00)
+    image = image_file([Segment(0x400000, b"", 5, 0x1000)], (BSS, 8 * 1100))
+    maps = [ring.segment(6), mapped(), bss(*[0x400000] * 50, *[HEAP] * 1050)]
+    yield salvage("interpreters: as many members as are walked by search", GOOD, files_of(core_file(maps), program=image),
+                  line=b"no interpreter found: 1074 addresses looked at, 4194304 members walked")
 
 
 def names() -> Iterator[Row]:
@@ -461,7 +484,7 @@ def missed() -> Iterator[Row]:
     text = lambda it: json.dumps(it, indent=2, ensure_ascii=False) + "\n"
     yield salvage("missing: the text is the same", missing, files_of(small()), TEXT)
     for what, files, line, blocks in (
-        ("no interpreter", files_of(small(bss=bss(0x400000, THREAD))), b"no interpreter found: 2 addresses looked at", []),
+        ("no interpreter", files_of(small(bss=bss(0x400000, THREAD))), b"no interpreter found: 2 addresses looked at, 0 members walked", []),
         ("half a bss", files_of(small(bss=Segment(BSS, bytes(8), 6, 16))), b"version unreadable at 0x500000, 16 bytes", [BSS >> 16]),
         ("no core", {**files_of(small()), "core": b"text"}, b"not an ELF64 little-endian file", []),
     ):

@@ -143,10 +143,11 @@ def number(key: str, layout: int, process: Optional[int] = None) -> Tree:
 
 
 def layout_check(verdict: str, told: Sequence[Tree] = (), not_told: Sequence[str] = (), build: Optional[str] = None,
-                 known: Optional[Tree] = None) -> Tree:
-    """What a process tells of the layout."""
+                 known: Optional[Tree] = None, doubt: Optional[str] = None) -> Tree:
+    """What a process tells of the layout, and why that is doubtful."""
     differ = [it for it in told if it["layout"] != it["process"]]
-    return {"build": build, "differ": differ, "known": known, "not_told": list(not_told), "told": list(told), "verdict": verdict}
+    return {"build": build, "differ": differ, "doubt": doubt, "known": known, "not_told": list(not_told), "other_table": None, "told": list(told),
+            "verdict": verdict}
 
 
 # ---- what `pystacks dump` writes

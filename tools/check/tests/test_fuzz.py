@@ -97,10 +97,10 @@ class Fuzz(unittest.TestCase):
     def test_lines_of_each_program(self):
         said = lambda line, status: f"echo '{line}' >&2; exit {status}"
         self.assertIsNone(self.fault(said("pystacks: no interpreter found", 1)))
-        self.assertIn("the line", self.fault(said("pystacks: no interpreter found: 2 addresses looked at", 1)))
+        self.assertIn("the line", self.fault(said("pystacks: no interpreter found: 2 addresses looked at, 0 members walked", 1)))
         salvage = lambda line, status: self.fault(said(line, status), SALVAGE, command="pysalvage")
         for line, status in (
-            ("no interpreter found: 2 addresses looked at", 1), ("version unreadable at 0x10, 8 bytes", 1),
+            ("no interpreter found: 2 addresses looked at, 0 members walked", 1), ("version unreadable at 0x10, 8 bytes", 1),
             ("bad words", 2), ("cannot read a\nb", 3), ("out of memory", 5), ("layouts: not TOML", 6),
         ):
             self.assertIsNone(salvage(f"pysalvage: {line}", status))

@@ -85,8 +85,9 @@ class Layouts(Case):
 
     def test_nothing_is_withheld_without_a_difference(self):
         for check, line in (
-            (layout_check("doubtful", known={"right": 3, "of": 40}), "layout: doubtful, 3 of 40 known answers are right"),
-            (layout_check("doubtful"), "layout: doubtful, `type` tells of itself what isn't known"),
+            (layout_check("doubtful", known={"right": 0, "of": 40}, doubt="frames"), "layout: doubtful, 0 of 40 known answers are right"),
+            (layout_check("doubtful", known={"right": 40, "of": 40}, doubt="type"), "layout: doubtful, `type` tells of itself what isn't known"),
+            (layout_check("doubtful", doubt="type"), "layout: doubtful, `type` tells of itself what isn't known"),
             (layout_check("silent"), "layout: unconfirmed, since the process tells too little"),
             (layout_check("not described"), "layout: unconfirmed, since it isn't known where a process of this version tells it"),
         ):

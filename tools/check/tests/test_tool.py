@@ -254,10 +254,10 @@ class Shown(Case):
         self.assertEqual(self.tool("--plain", "-j"), (0, stand_ins.dump_json([CRASHED]), ""))
 
     def test_refused(self):
-        self.programs(salvage(), status=1, said=b"pysalvage: no interpreter found: 7 addresses looked at\n")
+        self.programs(salvage(), status=1, said=b"pysalvage: no interpreter found: 7 addresses looked at, 0 members walked\n")
         status, out, said = self.tool()
         self.assertEqual((status, out, said.count("\n")), (1, "", 2))
-        wanted = f"pysalvage: no interpreter found: 7 addresses looked at\ndump_core: next: {ROOT}/docs/MESSAGES.md has"
+        wanted = f"pysalvage: no interpreter found: 7 addresses looked at, 0 members walked\ndump_core: next: {ROOT}/docs/MESSAGES.md has"
         self.assertTrue(said.startswith(wanted), said)
         self.assertEqual(self.tool("--collapsed"), (status, out, said))
 

@@ -25,6 +25,10 @@ AGREES, DIFFERS, DOUBTFUL, SILENT = "agrees", "differs", "doubtful", "silent"
 """What may come of it. (Another word is that of a version that doesn't describe itself in a form that is known.)"""
 
 
+FRAMES = "frames"
+"""What a doubt is called that comes of the known answers."""
+
+
 def number_of(tree: Tree) -> Number:
     """A number that is told."""
     return Number(tree["key"], tree["layout"], tree["process"])
@@ -34,7 +38,7 @@ def layout_told(tree: Optional[Tree]) -> Optional[LayoutTold]:
     """What is told of the layout, if anything is."""
     if tree is None:
         return None
-    known = tree["known"]
+    known = tree["known"] if tree["doubt"] == FRAMES else None
     return LayoutTold(
         tree["verdict"], tuple(number_of(it) for it in tree["told"]), tuple(number_of(it) for it in tree["differ"]),
         tuple(str(it) for it in tree["not_told"]), tree["build"] or "", (known["right"], known["of"]) if known else None)
