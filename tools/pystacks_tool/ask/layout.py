@@ -38,7 +38,7 @@ def layout_told(tree: Optional[Tree]) -> Optional[LayoutTold]:
     """What is told of the layout, if anything is."""
     if tree is None:
         return None
-    known = tree["known"] if tree["doubt"] == FRAMES else None
+    known = tree["known"] if tree.get("doubt") == FRAMES else None
     return LayoutTold(
         tree["verdict"], tuple(number_of(it) for it in tree["told"]), tuple(number_of(it) for it in tree["differ"]),
         tuple(str(it) for it in tree["not_told"]), tree["build"] or "", (known["right"], known["of"]) if known else None)
