@@ -202,6 +202,8 @@ class LayoutTold(NamedTuple):
     """Which other build it is of, if it is of one that was recognised."""
     known: Optional[Tuple[int, int]] = None
     """How many of the answers that are known are right, and how many there are."""
+    doubt: str = ""
+    """What makes it doubtful, where it is and the program says so."""
 
 
 LONGEST = 79

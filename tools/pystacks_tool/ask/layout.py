@@ -38,10 +38,11 @@ def layout_told(tree: Optional[Tree]) -> Optional[LayoutTold]:
     """What is told of the layout, if anything is."""
     if tree is None:
         return None
-    known = tree["known"] if tree.get("doubt") == FRAMES else None
+    known = tree["known"]
     return LayoutTold(
         tree["verdict"], tuple(number_of(it) for it in tree["told"]), tuple(number_of(it) for it in tree["differ"]),
-        tuple(str(it) for it in tree["not_told"]), tree["build"] or "", (known["right"], known["of"]) if known else None)
+        tuple(str(it) for it in tree["not_told"]), tree["build"] or "", (known["right"], known["of"]) if known else None,
+        tree.get("doubt") or "")
 
 
 def layout_in(text: str) -> Optional[LayoutTold]:
@@ -67,8 +68,9 @@ def layout_lines(told: Optional[LayoutTold]) -> List[str]:
         rest = [f"layout: {more} more number{'s differ' if more > 1 else ' differs'}"] if more > 0 else []
         return build + [f"layout: {line_of(it)}" for it in told.differ[:MOST]] + rest
     if told.verdict == DOUBTFUL:
-        known = f"{told.known[0]} of {told.known[1]} known answers are right" if told.known else "`type` tells of itself what isn't known"
-        return [f"layout: doubtful, {known}"]
+        known = told.known if told.doubt == FRAMES else None
+        why = f"{known[0]} of {known[1]} known answers are right" if known else "`type` tells of itself what isn't known"
+        return [f"layout: doubtful, {why}"]
     if told.verdict == SILENT:
         return ["layout: unconfirmed, since the process tells too little"]
     return ["layout: unconfirmed, since it isn't known where a process of this version tells it"]
