@@ -5,8 +5,9 @@ import os
 import re
 import sys
 from pathlib import Path
-from typing import List, Sequence
+from typing import List, Sequence, Tuple
 
+from pystacks_tool.ask.values import SECRETS
 from pystacks_tool.command import run
 from pystacks_tool.faults import NO_ROOM, Fault, call, say
 from pystacks_tool.options import ALL_FRAMES, BY, Options
@@ -32,6 +33,8 @@ is run, which shows whole stacks or none. docs/MESSAGES.md has each line of the 
 def add_shown(parser: argparse.ArgumentParser) -> None:
     """Adds what is shown of a core."""
     parser.add_argument("-l", "--locals", action="count", default=0, help="show locals; twice, longer ones")
+    parser.add_argument("--hide", metavar="WORD", action="append", default=[], help="hide the values of names and keys that hold this word; repeatable")
+    parser.add_argument("--show-secrets", action="store_true", help=f"with --html: hide no values but by --hide (else those of {', '.join(SECRETS)})")
     parser.add_argument("--no-signal", action="store_true", help="without the line that says how the signal came about")
     parser.add_argument("--registers", action="store_true", help="show the registers of each thread")
     parser.add_argument("--native", action="store_true", help="show the native stack of each thread")
@@ -124,10 +127,16 @@ def parser_for(name: str) -> argparse.ArgumentParser:
     return parser
 
 
+def hidden_by(words: argparse.Namespace) -> Tuple[str, ...]:
+    """The words by which values are hidden: those that are said, and for a page, which is shared, those of secrets."""
+    own = tuple(it.lower() for it in words.hide if it)
+    return own + SECRETS if words.html and not words.show_secrets else own
+
+
 def options_of(words: argparse.Namespace) -> Options:
     """The words, each with its type."""
     return Options(
-        cores=tuple("/dev/stdin" if it == "-" else it for it in words.core), locals=words.locals, signal=not words.no_signal, registers=words.registers, tasks=not words.no_tasks,
+        cores=tuple("/dev/stdin" if it == "-" else it for it in words.core), locals=words.locals, hidden=hidden_by(words), signal=not words.no_signal, registers=words.registers, tasks=not words.no_tasks,
         exceptions=not words.no_exceptions,
         native=words.native, strict=words.strict, where=not words.no_where, shows_all=words.all, shows_stacks=words.stacks, frames=words.frames, source=words.source, json=words.json,
         collapsed=words.collapsed, html=words.html, group=words.group, plain=words.plain, root=words.root, maps=words.maps,
@@ -164,6 +173,8 @@ def clash(options: Options) -> str:
         return fault
     if options.collapsed and options.locals:
         return "--collapsed takes no -l"
+    if options.plain and options.hidden:
+        return "--plain takes no --hide: the program's text is passed on"
     if options.plain and options.frames is not None:
         return "--plain takes no --frames: the program shows whole stacks"
     if len(forms) > 1 and forms != ["json", "plain"]:

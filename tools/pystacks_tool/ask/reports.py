@@ -1,12 +1,11 @@
 """The report on a core, by what the programs tell of it.
 
-Where `pysalvage` is there it is asked, since it shows what is left of a broken process. It tells no values of locals, so
-where these are asked for they are those of `pystacks dump`, if that gives a report. Where `pysalvage` isn't there
-`pystacks dump` is asked alone.
+Where `pysalvage` is there it is asked, since it shows what is left of a broken process. Of one that tells no values of locals, or
+no names, these are those of `pystacks dump`, if that gives a report. Where `pysalvage` isn't there `pystacks dump` is asked alone.
 """
 
 import json
-from functools import lru_cache
+from functools import lru_cache, partial
 from pathlib import Path
 from typing import List, NamedTuple, Optional
 
@@ -21,6 +20,7 @@ from pystacks_tool.ask.salvage import NamesAndValues, names_and_values, report_b
 from pystacks_tool.ask.task_frames import with_running_frames
 from pystacks_tool.ask.task_text import tasks_in
 from pystacks_tool.ask.tasks import FLAG as TASKS
+from pystacks_tool.ask.values import hide_in_frames, tells_values
 from pystacks_tool.cores.images import OTHER_FILE
 from pystacks_tool.cores.opened import OpenedCore
 from pystacks_tool.faults import NO_PROGRAM, Fault, say, shown
@@ -42,11 +42,11 @@ def decoded(text: bytes) -> str:
     return text.decode("utf-8", "replace")
 
 
-def ask_for_names_and_values(options: Options, core: OpenedCore, salvage: Path) -> NamesAndValues:
-    """With -l the values of locals, where `pystacks dump` has a report, and the names of threads; nothing where `pysalvage` tells all
-    that is asked for."""
+def ask_for_names_and_values(options: Options, core: OpenedCore, salvage: Path, told: Tree) -> NamesAndValues:
+    """With -l the values of locals, where `pystacks dump` has a report, and the names of threads; nothing where what `pysalvage` told has
+    all that is asked for."""
     program = Path(options.program) if options.program else PROGRAM
-    if not program.is_file() or knows(salvage, NAMES) and not options.locals:
+    if not program.is_file() or knows(salvage, NAMES) and (not options.locals or tells_values(told)):
         return NamesAndValues()
     answer = ask(core, dump_command(options, core, "-j", *["-l"] * options.locals))
     try:
@@ -63,7 +63,8 @@ def ask_salvage(options: Options, core: OpenedCore, program: Path) -> Outcome:
     told = layout_in(decoded(answer.out))
     if told is not None and told.verdict == DIFFERS and not options.any_layout:
         return Outcome(refusal(told))
-    tree, report = report_by_salvage(decoded(answer.out), core.name, ask_for_names_and_values(options, core, program))
+    added = partial(ask_for_names_and_values, options, core, program)
+    tree, report = report_by_salvage(decoded(answer.out), core.name, added, options.hidden)
     report = with_running_frames(with_tasks(options, core, program, with_system_ids(report)))
     if not options.registers:
         # (they were asked for the ids of threads alone)
@@ -139,6 +140,7 @@ def ask_dump(options: Options, core: OpenedCore) -> Outcome:
         trees = json.loads(decoded(answer.out))
     except ValueError as error:
         raise Unexpected(f"its JSON: {error!r}") from None
+    hide_in_frames((frame for thread in trees for frame in thread["frames"]), options.hidden)
     report = report_by_dump(trees, core.known, core.name, options.frames)
     return Outcome(answer, arranged(report), tree_of(report, trees, options.frames))
 
