@@ -75,7 +75,7 @@ def items_text(tree: Tree, parts: List[str]) -> str:
 
 def named(tree: Tree, key: str = "name") -> str:
     """A name, or a question mark."""
-    return tree[key] if tree.get(key) is not None else "?"
+    return str(tree[key]) if tree.get(key) is not None else "?"
 
 
 LEAVES: Dict[str, Callable[[Tree], str]] = {
@@ -111,7 +111,7 @@ def key_name(tree: Tree) -> str:
     """A key, where it is a text or bytes; else nothing."""
     if isinstance(tree.get("hex"), str):
         return bytes.fromhex(tree["hex"]).decode("latin-1")
-    return tree["value"] if tree["kind"] in ("str", "unicode") else ""
+    return str(tree["value"]) if tree["kind"] in ("str", "unicode") else ""
 
 
 def hidden_pair(pair: List[Tree], words: Sequence[str], levels: int) -> List[Tree]:
