@@ -5,8 +5,8 @@ no names, these are those of `pystacks dump`, if that gives a report. Where `pys
 """
 
 import json
+import os
 from functools import lru_cache, partial
-from pathlib import Path
 from typing import List, NamedTuple, Optional, Tuple
 
 from pystacks_tool.ask.dump import Tree, Unexpected, report_by_dump, tree_of
@@ -18,7 +18,6 @@ from pystacks_tool.ask.programs import NAMES, ask, dump_command, native_command,
 from pystacks_tool.ask.run import Answer, knows
 from pystacks_tool.ask.salvage import NamesAndValues, names_and_values, report_by_salvage, with_system_ids
 from pystacks_tool.ask.task_frames import with_running_frames
-from pystacks_tool.ask.task_text import tasks_in
 from pystacks_tool.ask.tasks import FLAG as TASKS
 from pystacks_tool.ask.values import hide_in_frames, tells_values
 from pystacks_tool.cores.images import OTHER_FILE
@@ -43,11 +42,10 @@ def decoded(text: bytes) -> str:
     return text.decode("utf-8", "replace")
 
 
-def ask_for_names_and_values(options: Options, core: OpenedCore, salvage: Path, told: Tree) -> NamesAndValues:
+def ask_for_names_and_values(options: Options, core: OpenedCore, salvage: str, told: Tree) -> NamesAndValues:
     """With -l the values of locals, where `pystacks dump` has a report, and the names of threads; nothing where what `pysalvage` told has
     all that is asked for."""
-    program = Path(options.program) if options.program else PROGRAM
-    if not program.is_file() or knows(salvage, NAMES) and (not options.locals or tells_values(told)):
+    if not os.path.isfile(options.program or PROGRAM) or knows(salvage, NAMES) and (not options.locals or tells_values(told)):
         return NamesAndValues()
     answer = ask(core, dump_command(options, core, "-j", *["-l"] * options.locals))
     try:
@@ -56,7 +54,7 @@ def ask_for_names_and_values(options: Options, core: OpenedCore, salvage: Path, 
         return NamesAndValues()
 
 
-def asked_once(options: Options, core: OpenedCore, program: Path) -> Tuple[Answer, bool]:
+def asked_once(options: Options, core: OpenedCore, program: str) -> Tuple[Answer, bool]:
     """What `pysalvage` answers, and whether native stacks are in it: so they are of a core that is handed over whole and has no more than
     `MANY` threads, where they are wanted by its signal."""
     known = core.known if core.part is None else Known()
@@ -66,7 +64,7 @@ def asked_once(options: Options, core: OpenedCore, program: Path) -> Tuple[Answe
     return (ask_over(options, core, program), False) if joins and answer.status == NO_ROOM else (answer, joins)
 
 
-def ask_salvage(options: Options, core: OpenedCore, program: Path) -> Outcome:
+def ask_salvage(options: Options, core: OpenedCore, program: str) -> Outcome:
     """What `pysalvage` tells, with names and values."""
     answer, has_native = asked_once(options, core, program)
     if answer.status != 0:
@@ -97,13 +95,15 @@ MISSING = 4
 """How many files that weren't at hand are named."""
 
 
-def with_tasks(options: Options, core: OpenedCore, program: Path, report: Report) -> Report:
+def with_tasks(options: Options, core: OpenedCore, program: str, report: Report) -> Report:
     """The report with the tasks of asyncio, where they are asked for in a run of its own."""
     if not options.tasks or not knows(program, TASKS) or not tells_tasks_as_text(options, core):
         return report
     answer = ask(core, tasks_command(options, program, core))
     if answer.status != 0:
         return report._replace(tasks=(Tasks("", fault=f"pysalvage ended with status {answer.status}"),))
+    from pystacks_tool.ask.task_text import tasks_in
+
     return report._replace(tasks=tasks_in(decoded(answer.out)))
 
 
@@ -115,12 +115,12 @@ MANY = 1000
 """Of more threads native stacks are asked for in a run of its own: their JSON is long, and what it lacks is lost alone."""
 
 
-def wants_native(options: Options, program: Path, signal: Optional[int]) -> bool:
+def wants_native(options: Options, program: str, signal: Optional[int]) -> bool:
     """Whether native stacks are asked for, or may tell where the process died."""
     return (options.native or options.where and signal in DEATHS) and knows(program, NATIVE)
 
 
-def native_told(options: Options, core: OpenedCore, program: Path, tree: Tree, has_native: bool) -> Optional[List[Tree]]:
+def native_told(options: Options, core: OpenedCore, program: str, tree: Tree, has_native: bool) -> Optional[List[Tree]]:
     """The native stacks that a core's JSON has, which keeps them only where they are asked for, or those of a run of its own; nothing
     where that has none."""
     if has_native:
@@ -130,7 +130,7 @@ def native_told(options: Options, core: OpenedCore, program: Path, tree: Tree, h
     return list(json.loads(decoded(answer.out))[NATIVE_KEY]) if answer.status == 0 else None
 
 
-def with_native(options: Options, core: OpenedCore, program: Path, report: Report, tree: Tree, has_native: bool) -> Report:
+def with_native(options: Options, core: OpenedCore, program: str, report: Report, tree: Tree, has_native: bool) -> Report:
     """The report with native stacks, where these are wanted. Where they can't be had it is as it was: they are told beside the stacks."""
     if not wants_native(options, program, report.signal):
         if has_native:
