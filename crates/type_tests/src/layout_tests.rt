@@ -26,17 +26,27 @@ const OTHER: &str =
 const TABLE_LINE: &str =
     "The process has a table of places (_Py_DebugOffsets) that says it is of 3.14: nothing is read by it";
 
-/// A thread without a frame, of the interpreter 7.
+/// A thread without a frame, whose id is 99.
 const THREAD: u64 = 0x5000;
 
+/// Its interpreter, what that names as its modules, and the class of this, whose flags say that it is a dict.
+const INTERPRETER: u64 = 0x6000;
+
+const MODULES: u64 = 0x7000;
+
+const CLASS: u64 = 0x8000;
+
 fn process(alloc: Global) -> Result<Part, AllocError> {
-    let words: [Words<'_>; 6] = [
+    let words: [Words<'_>; 9] = [
         (TYPE, &[1, TYPE, 0, 0]),
         (TYPE + 240, &[MEMBERS]),
         (MEMBERS, &[NAME, 19, 32, 0, 0, 0]),
         (NAME, &[0x7363_6973_6162_5f5f, 0x5f_5f65_7a69]),
         (TABLE, &[0x7970_6775_6265_6478, 0x030e_00f0, 0]),
-        (THREAD + 16, &[7, 0]),
+        (THREAD + 16, &[INTERPRETER, 0, 99]),
+        (INTERPRETER + 16, &[MODULES]),
+        (MODULES + 8, &[CLASS]),
+        (CLASS + 32, &[0x2000_0000]),
     ];
     memory_of(alloc, &words)
 }
@@ -56,7 +66,7 @@ fn checked(alloc: Global, minor: u64) -> Result<LayoutCheck, Fail> {
     let release = Release { major: 3, minor };
     let threads = [ThreadPlace {
         address: THREAD,
-        interpreter: 7,
+        interpreter: INTERPRETER,
     }];
     Ok(check_layout(
         alloc,
@@ -65,6 +75,7 @@ fn checked(alloc: Global, minor: u64) -> Result<LayoutCheck, Fail> {
         &types,
         Some(TABLE),
         release,
+        &[5, 99],
         &threads,
     )?)
 }
@@ -78,7 +89,7 @@ fn what_is_not_told_confirms_nothing(rt: HostRuntime) -> Result<(), Fail> {
     let mut lines = text.as_str().lines();
     assert!(rt; lines.next() == Some(TABLE_LINE));
     assert!(rt; lines.next() == Some("Layout not confirmed: 1 keys told, 43 not told"));
-    assert!(rt; lines.next() == Some("Known answers: 1 of 1 are right"));
+    assert!(rt; lines.next() == Some("Known answers: 3 of 3 are right"));
     Ok(())
 }
 

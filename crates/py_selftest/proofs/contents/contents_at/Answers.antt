@@ -1,7 +1,7 @@
-use Rattle.std.proofs.Common.{◌≡◌, ◌∙◌, ap, sym, refl, arith}
+use Rattle.std.proofs.Common.{ap, refl, arith}
 use Rattle.std.proofs.lemmas.Result.{err_from_is_err_and}
 use Rattle.process_memory.specs.Seen.{read_fault}
-use Rattle.process_memory.proofs.Reading.{reads_next, reads_halt, reads_end, reads_same, reads_within, reading_short}
+use Rattle.process_memory.proofs.Reading.{reads_next, reads_halt, reads_end}
 use Rattle.py_selftest.specs.Contents.{contents_at, largest_told, float_told, truth_told}
 use Rattle.py_selftest.proofs.Found.{reads_told}
 use Rattle.py_selftest.proofs.contents.contents_at.Goals as goal

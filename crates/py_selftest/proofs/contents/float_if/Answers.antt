@@ -1,8 +1,5 @@
-use Rattle.std.proofs.Common.{◌≡◌, ◌∙◌, ap, sym, refl, arith}
-use Rattle.std.proofs.lemmas.Result.{err_from_is_err_and}
-use Rattle.process_memory.specs.Seen.{read_fault}
-use Rattle.process_memory.proofs.Reading.{reads_next, reads_halt, reads_end, reads_same, reads_within, reading_short}
-use Rattle.py_selftest.specs.Contents.{float_if}
+use Rattle.std.proofs.Common.{refl}
+use Rattle.process_memory.proofs.Reading.{reads_end}
 use Rattle.py_selftest.proofs.contents.float_if.Goals as goal
 
 pub returns-in-None : goal.returns-in-None

@@ -1,7 +1,6 @@
-use Rattle.std.proofs.Common.{◌≡◌, ◌∙◌, ap, sym, refl, arith}
+use Rattle.std.proofs.Common.{arith}
 use Rattle.std.proofs.lemmas.Result.{err_from_is_err_and}
-use Rattle.process_memory.specs.Seen.{read_fault}
-use Rattle.process_memory.proofs.Reading.{reads_next, reads_halt, reads_end, reads_same, reads_within, reading_short}
+use Rattle.process_memory.proofs.Reading.{reads_next, reads_halt, reading_short}
 use Rattle.py_selftest.specs.Contents.{module_named}
 use Rattle.py_selftest.proofs.contents.module_named.Goals as goal
 

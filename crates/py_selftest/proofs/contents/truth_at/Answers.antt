@@ -1,10 +1,8 @@
-use Rattle.std.proofs.Common.{◌≡◌, ◌∙◌, ap, sym, refl, arith}
+use Rattle.std.proofs.Common.{ap, sym, arith}
 use Rattle.std.specs.Prelude.{Some}
 use Rattle.std.proofs.lemmas.Result.{err_from_is_err_and}
-use Rattle.process_memory.specs.Seen.{read_fault}
-use Rattle.process_memory.proofs.Reading.{reads_next, reads_halt, reads_end, reads_same, reads_within, reading_short}
+use Rattle.process_memory.proofs.Reading.{reads_next, reads_halt, reads_end}
 use Rattle.py_builtins.proofs.Consulted.{consulting_short}
-use Rattle.py_names.specs.NamesError.{names_fault}
 use Rattle.py_selftest.specs.Contents.{truth_at}
 use Rattle.py_selftest.proofs.contents.truth_at.Goals as goal
 

@@ -1,8 +1,8 @@
-use Rattle.std.proofs.Common.{◌≡◌, ◌∙◌, ap, sym, refl, arith}
+use Rattle.std.proofs.Common.{ap, arith}
 use Rattle.std.proofs.lemmas.Result.{err_from_is_err_and}
 use Rattle.process_memory.specs.Seen.{read_fault}
-use Rattle.process_memory.proofs.Reading.{reads_next, reads_halt, reads_end, reads_same, reads_within, reading_short}
-use Rattle.py_selftest.specs.Threads.{dict_told, modules_told}
+use Rattle.process_memory.proofs.Reading.{reads_next, reads_halt, reading_short}
+use Rattle.py_selftest.specs.Threads.{modules_told}
 use Rattle.py_selftest.proofs.threads.modules_told.Goals as goal
 
 pub returns-in_err-object : goal.returns-in_err-object

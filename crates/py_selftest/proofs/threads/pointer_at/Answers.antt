@@ -1,7 +1,7 @@
-use Rattle.std.proofs.Common.{◌≡◌, ◌∙◌, ap, sym, refl, arith}
+use Rattle.std.proofs.Common.{ap, sym, arith}
 use Rattle.std.proofs.lemmas.Result.{err_from_is_err_and}
 use Rattle.process_memory.specs.Seen.{read_fault}
-use Rattle.process_memory.proofs.Reading.{reads_next, reads_halt, reads_end, reads_same, reads_within, reading_short}
+use Rattle.process_memory.proofs.Reading.{reads_next, reads_halt, reads_end, reading_short}
 use Rattle.std.specs.Prelude.{Some}
 use Rattle.py_selftest.specs.Threads.{pointer_at}
 use Rattle.py_selftest.proofs.threads.pointer_at.Goals as goal

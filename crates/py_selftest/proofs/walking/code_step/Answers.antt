@@ -1,8 +1,7 @@
-use Rattle.std.proofs.Common.{◌≡◌, ◌∙◌, ap, sym, refl, arith}
+use Rattle.std.proofs.Common.{ap, sym, arith}
 use Rattle.std.proofs.lemmas.Result.{err_from_is_err_and}
 use Rattle.process_memory.specs.Seen.{read_fault}
-use Rattle.process_memory.proofs.Reading.{reads_next, reads_halt, reads_end, reads_same, reads_within, reading_short}
-use Rattle.py_selftest.proofs.Keeping.{reads_kept}
+use Rattle.process_memory.proofs.Reading.{reads_next, reads_halt, reads_end, reads_same}
 use Rattle.py_selftest.specs.Walking.{code_step, met_shown}
 use Rattle.py_selftest.proofs.Made.{reads_made}
 use Rattle.py_selftest.proofs.walking.code_step.Goals as goal
