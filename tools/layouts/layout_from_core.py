@@ -120,7 +120,7 @@ class Asked:
 
     core: OpenedCore
     options: Options
-    program: Path
+    program: str
     folder: Path
     guesses: int = 0
     """How many known answers may be of no interpreter of Python's."""
