@@ -85,8 +85,8 @@ VERDICTS = ("agrees", "differs", "doubtful", "silent", "not described")
 """What is said of a layout."""
 
 
-KNOWN = 64 * (1 + 16 * 8)
-"""How many known answers there are at most: one of each thread, and eight of each of its frames."""
+KNOWN = 64 * (3 + 16 * 9) + 3
+"""How many known answers there are at most: three of each of 64 threads, nine of each of its 16 frames, and three of modules."""
 
 
 def check_known(known: Optional[Tree]) -> None:

@@ -14,7 +14,7 @@ from pathlib import Path
 from typing import Dict, List, Optional, Sequence, Set, Tuple
 
 from layout_plan import VERSIONS, Version, plan_of
-from pystacks_tool.ask.layout import AGREES, DIFFERS, FLAG, layout_in, line_of
+from pystacks_tool.ask.layout import AGREES, DIFFERS, FLAG, guesses_in, layout_in, line_of
 from pystacks_tool.ask.parts import ask_over
 from pystacks_tool.ask.run import Answer, knows
 from pystacks_tool.cores.opened import OpenedCore, open_core
@@ -122,6 +122,8 @@ class Asked:
     options: Options
     program: str
     folder: Path
+    guesses: int = 0
+    """How many known answers may be of no interpreter of Python's."""
 
     def answer(self, table: Optional[Table] = None) -> Answer:
         """What is told by a layout, or by those of the core's machine."""
@@ -136,9 +138,11 @@ class Asked:
         answer = self.answer(table)
         if answer.status != 0:
             raise Fault(f"by the nearest layout the program says `{last_line(answer)}`", NO_STACKS, DERIVE)
-        told = layout_in(answer.out.decode("utf-8", "replace"))
+        text = answer.out.decode("utf-8", "replace")
+        told = layout_in(text)
         if told is None:
             raise Fault("the program told nothing of the layout", NO_PROGRAM, "use the program of this version")
+        self.guesses = guesses_in(text)
         return told
 
 
@@ -167,11 +171,11 @@ def settled(asked: Asked, table: Table) -> Tuple[Table, LayoutTold]:
         if told.verdict != DIFFERS or not own:
             break
         table = table.with_numbers(own).with_sizes()
-    check(told)
+    check(told, asked.guesses)
     return table, told
 
 
-def check(told: LayoutTold) -> None:
+def check(told: LayoutTold, guesses: int) -> None:
     """Refuses a layout of which the process doesn't agree with all that it tells."""
     if told.build:
         raise Fault(f"the process is of a {told.build} build, whose records have another form", NO_STACKS, DERIVE)
@@ -179,7 +183,7 @@ def check(told: LayoutTold) -> None:
         raise Fault(f"it doesn't come to agree: {', '.join(map(line_of, told.differ[:3]))}", NO_STACKS, DERIVE)
     if told.verdict != AGREES:
         raise Fault(f"the process tells too little ({told.verdict})", NO_STACKS, DERIVE)
-    if told.known is not None and told.known[0] < told.known[1]:
+    if told.known is not None and told.known[0] + guesses < told.known[1]:
         right, count = told.known
         raise Fault(f"{right} of {count} known answers are right: every one has to be", NO_STACKS, "take a core of a process that is whole")
 

@@ -30,7 +30,8 @@ use Rattle.process_memory.specs.Memory.{Found}
 use Rattle.py_selftest.specs.Checking.{CheckShown, check_shown}
 use Rattle.py_selftest.specs.declared.checking.LayoutCheck.{LayoutCheck}
 use Rattle.py_selftest.proofs.Verdicts.{check_says}
-use Rattle.salvage_report.specs.LayoutChecked.{CheckIs, layout_checked, release_of, thread_places, types_of}
+use Rattle.salvage_report.specs.Pointers.{pointers_of}
+use Rattle.salvage_report.specs.LayoutChecked.{CheckIs, CheckTold, layout_checked, release_of, thread_places, types_of}
 use Rattle.py_process.specs.Facts.{symbol_known}
 use Rattle.py_process.specs.Reports.{memory_in}
 use Rattle.memory_sections.specs.Pythons.{python_threads}
@@ -123,25 +124,29 @@ says_registers s told old new h asked =
     }
 
 -- what is told where it is asked for
-checked_one : (asked : Bool) (checked : Found CheckShown) (told : Option LayoutCheck) → CheckIs asked checked told
-    → asked ≡ true → (check : LayoutCheck) × (told ≡ Some check) × (checked ≡ Ok (check_shown check))
-checked_one false checked told is on = absurd (cc)
-checked_one true checked None is on = absurd is
-checked_one true checked (Some check) is on = (check, refl, is)
+checked_one : (asked : Bool) (bytes : List ℕ) (checked : List ℕ → Found CheckShown) (told : Option LayoutCheck)
+    → CheckIs asked bytes checked told
+    → asked ≡ true → (check : LayoutCheck) × (told ≡ Some check) × CheckTold bytes checked check
+checked_one false bytes checked told is on = absurd (cc)
+checked_one true bytes checked None is on = absurd is
+checked_one true bytes checked (Some check) is on = (check, refl, is)
 
 pub says_layout : (s : Salvage) (told : Told) (old new : SinkSeen) → HasSalvaged s told old new
     → s.sections.check_layout ≡ true → SaysLayout s told old new
 says_layout s told old new h asked =
     let o = h.opened in
-    let one = checked_one s.sections.check_layout (layout_checked o h.left.salvaged.interpreters.items) h.left.check h.is_left.check asked in
+    let one = checked_one s.sections.check_layout h.core (layout_checked o h.left.salvaged.interpreters.items) h.left.check h.is_left.check asked in
     record {
       has = h;
       check = one.0;
       is = one.1;
-      checked = one.2;
+      notes = one.2.notes;
+      are = one.2.are;
+      checked = one.2.is;
       says = check_says (memory_in o.dumped) o.layout (types_of o.known o.version)
           (symbol_known o.known (codes "_PyRuntime")) (release_of o.version)
-          (thread_places h.left.salvaged.interpreters.items) (check_shown one.0) one.2;
+          (pointers_of (machine_of h.core) one.2.notes)
+          (thread_places h.left.salvaged.interpreters.items) (check_shown one.0) one.2.is;
     }
 
 -- what is read in memory is told where it is asked for

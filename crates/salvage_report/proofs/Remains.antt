@@ -56,7 +56,8 @@ module _ (s : Salvage) (ts : List RecordTable) (p : Process) (crash : Option Cra
     (bytes : List ℕ) (images : Pushed) (layouts : List Layout) (is : IsProcess bytes images layouts p)
     (told : CrashTold bytes crash)
     (sections : Told) (are : AreTold s.sections p.dump.core p.notes.process salvaged.interpreters.items sections)
-    (check : Option LayoutCheck) (checks : CheckIs s.sections.check_layout (process_checked p salvaged.interpreters.items) check)
+    (check : Option LayoutCheck)
+    (checks : CheckIs s.sections.check_layout p.dump.core (process_checked p salvaged.interpreters.items) check)
     (memory : MemoryTold) (reads : AreMemoryTold s.sections p.dump.core images p.layout (records_of ts p.version)
     (byte_at (regions_of p.dump)) salvaged.interpreters.items memory) where
   abbrev opened : OpenedProcess
@@ -91,7 +92,8 @@ module _ (s : Salvage) (ts : List RecordTable) (p : Process) (crash : Option Cra
     salvaged = found ∙ ap (λ t. over t p.dump.core crash) is.tested ∙ ap (λ b. over (in_maps is.maps) b crash) is.same
         ∙ ap (over (in_maps is.maps) bytes) (sym handed);
     told = subst (λ core. AreTold s.sections core p.notes.process salvaged.interpreters.items sections) is.same are;
-    check = checks;
+    check = subst (λ core. CheckIs s.sections.check_layout core (process_checked p salvaged.interpreters.items) check)
+        is.same checks;
     memory = subst (λ core. AreMemoryTold s.sections core images p.layout (records_of ts p.version)
         (byte_at (regions_of p.dump)) salvaged.interpreters.items memory) is.same reads;
   }

@@ -32,6 +32,7 @@ use Rattle.named_images.specs.Named.{images_read}
 use Rattle.program_run.specs.Reading.{AreRead}
 use Rattle.salvage_report.specs.Reading.{files_of}
 use Rattle.salvage_report.specs.LayoutChecked.{layout_checked}
+use Rattle.salvage_report.specs.Pointers.{pointers_of}
 use Rattle.memory_sections.specs.Pythons.{python_threads}
 use Rattle.salvage_report.specs.Sections.{own_id, registers_shown}
 use Rattle.salvage_report.specs.Texts.{shown_left}
@@ -81,13 +82,17 @@ pub record SaysRegisters (s : Salvage) (told : Told) (old new : SinkSeen) : Type
 
 -- What the process says of its layout: it is what the words of its own types and of its own table say, over the memory
 -- of the core and its images, and the known answers are what the words say to which the layout leads from the threads
--- that are shown. Where the layout agrees, each of its numbers that is told is the process's, the needed ones are
--- told, and of eight frames one has an answer that is right; where it differs, a number that is told is another one.
+-- that are shown, beside the thread pointers that the core's notes tell. Where the layout agrees, each of its numbers
+-- that is told is the process's, the needed ones are told, and of eight frames that were met one has an answer that is
+-- right; where it differs, a number that is told is another one.
 pub record SaysLayout (s : Salvage) (told : Told) (old new : SinkSeen) : Type 0 where
   pub has : HasSalvaged s told old new
   pub check : LayoutCheck
   pub is : has.left.check ≡ Some check
-  pub checked : layout_checked has.opened has.left.salvaged.interpreters.items ≡ Ok (check_shown check)
+  pub notes : List Noted
+  pub are : AreNotesOfCore has.core notes
+  pub checked : layout_checked has.opened has.left.salvaged.interpreters.items
+      (pointers_of (machine_of has.core) notes) ≡ Ok (check_shown check)
   pub says : Says (check_shown check)
 
 -- ---- the sections that are read in the memory of the core and its images

@@ -1,5 +1,6 @@
 pub mod Reading
 pub mod Crashed
+pub mod Pointers
 pub mod LayoutChecked
 pub mod Texts
 pub mod Outcome

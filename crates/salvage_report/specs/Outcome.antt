@@ -67,7 +67,7 @@ pub record IsLeft (s : Salvage) (ts : List RecordTable) (bytes : List ℕ) (imag
   pub crash : CrashTold bytes left.salvaged.crash
   pub salvaged : salvaged_of left.salvaged ≡ left_at s bytes o left.salvaged.crash
   pub told : AreTold s.sections bytes left.process left.salvaged.interpreters.items left.told
-  pub check : CheckIs s.sections.check_layout (layout_checked o left.salvaged.interpreters.items) left.check
+  pub check : CheckIs s.sections.check_layout bytes (layout_checked o left.salvaged.interpreters.items) left.check
   pub memory : AreMemoryTold s.sections bytes images o.layout (records_of ts o.version) (memory_in o.dumped)
       left.salvaged.interpreters.items left.memory
 

@@ -1,9 +1,11 @@
 //! What a process says of its layout.
 ghost use Rattle.std.specs.Prelude.{◌≡◌, ◌++◌, IfOk, OnOk, Some, map, true};
 ghost use Rattle.py_process.specs.Facts.{known_of, symbol_known};
+ghost use Rattle.py_fields.specs.Sound.{IsSound};
 ghost use Rattle.salvage_report.specs.LayoutChecked.{CheckIs, bytes_symbol, process_checked, release_of};
 ghost use Rattle.salvage_report.specs.LayoutChecked.{thread_place, thread_places, types_of};
 
+use crate::pointers::thread_pointers;
 use core_stacks::Process;
 use missed_reads::{Missed, Misses};
 use py_fronts::{SalvagedInterpreter, ThreadFront};
@@ -100,9 +102,12 @@ fn checked(
     interpreters: &[SalvagedInterpreter],
     misses: &mut Misses,
 ) -> Result<LayoutCheck, AllocError>
-    ensures { IfOk result (λ check. CheckIs true (process_checked process.now interpreters.now) (Some check)) }
+    requires sound { IsSound process.now.layout }
+    ensures { IfOk result (λ check. CheckIs true process.now.dump.core
+        (process_checked process.now interpreters.now) (Some check)) }
 {
     let threads = thread_places(alloc, interpreters)?;
+    let pointers = thread_pointers(alloc, process.dump.core())?;
     let mut view = Missed::new(process.dump.view(), misses);
     let types = types_of(process);
     let runtime = symbol_of(process, b"_PyRuntime");
@@ -114,6 +119,7 @@ fn checked(
         &types,
         runtime,
         release,
+        &pointers,
         &threads,
     ) {
         Ok(check) => Ok(check),
@@ -129,7 +135,8 @@ pub(crate) fn check_section(
     interpreters: &[SalvagedInterpreter],
     misses: &mut Misses,
 ) -> Result<Option<LayoutCheck>, AllocError>
-    ensures { IfOk result (CheckIs asked (process_checked process.now interpreters.now)) }
+    requires sound { IsSound process.now.layout }
+    ensures { IfOk result (CheckIs asked process.now.dump.core (process_checked process.now interpreters.now)) }
 {
     if !asked {
         return Ok(None);

@@ -13,6 +13,7 @@ mod layout_check;
 mod left;
 mod lines;
 mod missing;
+mod pointers;
 mod records;
 mod sections;
 mod text;

@@ -10,6 +10,22 @@ LOST = 0x7000_0000
 """An address where nothing is."""
 
 
+def dict_of(objects: Objects, of: int, *entries: Sequence[int]) -> int:
+    """Puts a dict of at most 8 entries, a key and a value each, of this class."""
+    keys = objects.record("keys", None, used=len(entries), slots=8)
+    first = keys + 40 + 8
+    for number, (one, other) in enumerate(entries):
+        objects.write(first + 24 * number, struct.pack("<3Q", 0, one, other))
+    return objects.of_class(objects.record("dict", None, keys=keys), of)
+
+
+def instance_of(objects: Objects, of: int, attributes: int) -> int:
+    """Puts an object of this class whose attributes are this dict's: the class says that 16 bytes behind it that is named."""
+    at = objects.write(objects.free(), bytes(32))
+    objects.word(at + 16, attributes)
+    return objects.of_class(at, of)
+
+
 def named_threads(
     keys: Sequence[Union[str, int]] = ("sys", "threading"), ids: Sequence[int] = (0x7F00, 0x7F01), own: int = 0x7F00,
     smashed: Optional[int] = None, nameless: Optional[int] = None,
@@ -25,18 +41,6 @@ def named_threads(
     objects.word(module + 40, 16)
     objects.word(place["object"] + 40, 16)
 
-    def dict_of(*entries: Sequence[int]) -> int:
-        keys = objects.record("keys", None, used=len(entries), slots=8)
-        first = keys + 40 + 8
-        for number, (one, other) in enumerate(entries):
-            objects.write(first + 24 * number, struct.pack("<3Q", 0, one, other))
-        return objects.of_class(objects.record("dict", None, keys=keys), place["dict"])
-
-    def instance(klass: int, attributes: int) -> int:
-        at = objects.write(objects.free(), bytes(32))
-        objects.word(at + 16, attributes)
-        return objects.of_class(at, klass)
-
     def text(text: str) -> int:
         return objects.text(text, klass=place["str"])
 
@@ -45,12 +49,12 @@ def named_threads(
             return text(key)
         return key if key > 65535 else objects.record("string", None, length=key, state=100)
 
-    threads = [instance(place["object"], dict_of((0, 0), (text("_name"), text(name)), (text("_name"), text("sys"))))
+    threads = [instance_of(objects, place["object"], dict_of(objects, place["dict"], (0, 0), (text("_name"), text(name)), (text("_name"), text("sys"))))
                for name in ("MainThread", "Worker")]
     if smashed is not None:
         objects.of_class(threads[smashed], LOST)
     numbers = [LOST if at == nameless else objects.number(number, place["int"]) for at, number in enumerate(ids)]
-    active = dict_of(*zip(numbers, threads))
-    threading = instance(module, dict_of((text("sys"), 0), (text("_active"), active)))
-    objects.word(HEAP + 16, dict_of((0, 0), *((key_of(key), threading) for key in keys)))
+    active = dict_of(objects, place["dict"], *zip(numbers, threads))
+    threading = instance_of(objects, module, dict_of(objects, place["dict"], (text("sys"), 0), (text("_active"), active)))
+    objects.word(HEAP + 16, dict_of(objects, place["dict"], (0, 0), *((key_of(key), threading) for key in keys)))
     return objects

@@ -5,8 +5,9 @@ import struct
 from typing import Dict, Iterator, List, Optional, Sequence, Tuple
 
 from made import EXAMPLE, Objects, Section, Segment, Symbol, core_file, image_file, layout_of
+from named_threads import dict_of, instance_of
 from row import Row
-from rows_salvage import GOOD, RUNTIME, broken_tree, runtime, salvage
+from rows_salvage import GOOD, RUNTIME, broken_tree, runtime, salvage, status_record
 from small_core import CODE as FIRST_CODE, FRAME as FIRST_FRAME
 from small_core import BSS, CALLER, FILE, FUNCTION, HEAP, MODULE, MODULE_CODE, TEXT, THREAD, bss, files_of, heap, mapped, small
 
@@ -93,13 +94,14 @@ def type_at(name: str) -> int:
     return TYPES + 0x400 * CALLED.index(name)
 
 
-def files(memory: Optional[bytes], layout: str = EXAMPLE, objects: Optional[Objects] = None, names: Sequence[str] = NAMES) -> Dict[str, bytes]:
-    """The files of a core with this memory of types, and of an image that names these."""
+def files(memory: Optional[bytes], layout: str = EXAMPLE, objects: Optional[Objects] = None, names: Sequence[str] = NAMES,
+          notes: Sequence[bytes] = ()) -> Dict[str, bytes]:
+    """The files of a core with this memory of types and these notes, and of an image that names these."""
     symbols = [Symbol("_PyRuntime", RUNTIME)] + [Symbol(name, TYPES + 0x400 * it) for it, name in enumerate(NAMES) if name in names]
     image = image_file([Segment(0x400000, b"", 5, 0x1000)], (BSS, 16), symbols, [
         Section(".PyRuntime", 1, RUNTIME, None, 592)])
     maps = [(objects or heap()).segment(6), mapped(), bss(0, 0), runtime(HEAP)]
-    return files_of(core_file(maps + ([Segment(TYPES, memory, 6)] if memory is not None else [])), layout, image)
+    return files_of(core_file(maps + ([Segment(TYPES, memory, 6)] if memory is not None else []), notes), layout, image)
 
 
 def counts(told: int) -> str:
@@ -119,9 +121,32 @@ def frames_of(count: int) -> Objects:
     return objects
 
 
+def dict_modules() -> Objects:
+    """The objects of the small core, whose modules are of a class that derives from that of dicts, and hold nothing."""
+    objects = heap()
+    objects.word(HEAP + place("interpreter.modules"), dict_of(objects, objects.klass("Modules", 29)))
+    return objects
+
+
+def contents(largest: int = 0x10FFFF, finite: int = 0x7FEF_FFFF_FFFF_FFFF, truth: int = 1, called: str = "bool") -> Objects:
+    """The same with `sys`, which has the largest character and in `float_info` the largest finite number, and `builtins`, which has
+    `True`, of a class of this name."""
+    objects = heap()
+    klass = {it: objects.klass(it, flag) for it, flag in (("str", 28), ("dict", 29), ("int", 24), (called, 24), ("module", 0))}
+    objects.word(klass["module"] + place("klass.dict_offset"), 16)
+    text = lambda it: objects.text(it, klass=klass["str"])
+    module = lambda *entries: instance_of(objects, klass["module"], dict_of(objects, klass["dict"], *entries))
+    number = objects.record("float")
+    objects.word(number + place("float.value"), finite)
+    sys = module((text("maxunicode"), objects.number(largest, klass["int"])), (text("float_info"), objects.items([number])))
+    builtins = module((text("True"), objects.number(truth, klass[called])))
+    objects.word(HEAP + place("interpreter.modules"), dict_of(objects, klass["dict"], (text("sys"), sys), (text("builtins"), builtins)))
+    return objects
+
+
 def classed() -> Objects:
     """The objects of the small core, each of its class, whose functions have names of variables and a line table."""
-    objects = heap()
+    objects = dict_modules()
     names, table = objects.of_class(objects.items([]), type_at("tuple")), objects.of_class(objects.table(b"ab"), type_at("bytes"))
     objects.word(objects.free(), 0)
     for at in (FIRST_CODE, MODULE_CODE):
@@ -132,7 +157,7 @@ def classed() -> Objects:
     return objects
 
 
-def tree(verdict: str, told: List[str], differ: Dict[str, int], build: Optional[str] = None, of: int = 7) -> Dict[str, object]:
+def tree(verdict: str, told: List[str], differ: Dict[str, int], build: Optional[str] = None, of: int = 8) -> Dict[str, object]:
     """The section's value: the keys that are told, what the process says of those that differ, and that one known answer is right."""
     number = lambda key: {"key": key, "layout": place(key), "process": differ.get(key, place(key))}
     return {"build": build, "differ": [number(key) for key in told if key in differ], "doubt": None, "known": {"of": of, "right": 1},
@@ -147,8 +172,8 @@ def changed(name: str, members: Members, **more: Tuple[int, int]) -> Dict[str, M
 def rows() -> Iterator[Row]:
     """All of them."""
     check = f"{GOOD} --check-layout"
-    say = lambda what, memory, line: salvage(TELLING + what, check, files(memory), TEXT + line + known(1, 7))
-    yield salvage(TELLING + "no symbols", check, files_of(small()), TEXT + "Layout not confirmed" + counts(0) + known(1, 1))
+    say = lambda what, memory, line: salvage(TELLING + what, check, files(memory), TEXT + line + known(1, 8))
+    yield salvage(TELLING + "no symbols", check, files_of(small()), TEXT + "Layout not confirmed" + counts(0) + known(1, 2))
     yield salvage(TELLING + "without the flag the text has no line", GOOD, files(types(USUAL, BASIC)), TEXT)
     yield say("agrees", types(USUAL, BASIC), "Layout agrees" + counts(len(TOLD)))
     yield say("no memory of types", None, "Layout not confirmed" + counts(0))
@@ -173,14 +198,29 @@ def rows() -> Iterator[Row]:
     wide = types(changed("PyType_Type", TYPE, __basicsize__=(SIZE_CODE, 48)), BASIC, own=24)
     yield say("trace refs", wide, "The process is of a build with trace refs\n"
               "Layout differs: object.klass is 8, the process says 24\n")
+    told = lambda what, right, of, **more: salvage(
+        TELLING + what, check, files(types(USUAL, BASIC), **more),
+        ("Signal 0: core\n" if more.get("notes") else "") + TEXT + "Layout agrees" + counts(len(TOLD)) + known(right, of))
+    yield told("modules of a class that derives from dict", 2, 8, objects=dict_modules())
+    yield told("a thread's id is one of the thread pointers", 2, 9, notes=[status_record(0, 4, 5), status_record(0, 5, 0x7F00)])
+    yield told("a thread's id is none of the thread pointers", 1, 9, notes=[status_record(0, 4, 0x7F01)])
+    yield told("a status record that is too short tells no thread pointer", 1, 8, notes=[status_record(0, 4, 0x7F01, 280)])
+    yield told("contents of sys and builtins", 5, 11, objects=contents())
+    for what, parts in (("another largest character", {"largest": 65535}), ("another finite number", {"finite": 7}), ("a True of 0", {"truth": 0}),
+                        ("a True of another class", {"called": "Bool"})):
+        yield told(f"contents: {what}", 4, 11, objects=contents(**parts))
     shown = lambda count: TEXT.replace(TEXT.split("0x7F00\n")[1], "    f (a.py)\n" * count)
     yield salvage(TELLING + "eight frames without a right answer", check, files(types(USUAL, BASIC), objects=frames_of(8)),
-                  shown(8) + "Layout doubtful, no known answer of a frame is right" + counts(len(TOLD)) + known(1, 25))
+                  shown(8) + "Layout doubtful, no known answer of a frame is right" + counts(len(TOLD)) + known(1, 26))
+    yield salvage(TELLING + "eight frames of which no type is known", check, files(None, objects=frames_of(8), names=()),
+                  shown(8) + "Layout doubtful, no known answer of a frame is right" + counts(0) + known(1, 2))
+    yield salvage(TELLING + "seven frames of which no type is known", check, files(None, objects=frames_of(7), names=()),
+                  shown(7) + "Layout not confirmed" + counts(0) + known(1, 2))
     yield salvage(TELLING + "seven frames without one decide nothing", check, files(types(USUAL, BASIC), objects=frames_of(7)),
-                  shown(7) + "Layout agrees" + counts(len(TOLD)) + known(1, 22))
+                  shown(7) + "Layout agrees" + counts(len(TOLD)) + known(1, 23))
     # (in this layout the flags of a type stand where it says how many bytes an instance has)
     yield salvage(TELLING + "types without symbols", check, files(types(USUAL, {**BASIC, "PyUnicode_Type": 1 << 28}), objects=classed(), names=()),
-                  TEXT.replace("f (a.py)", "f (a.py:3)").replace("<module> (a.py)", "<module> (a.py:1)") + "Layout agrees" + counts(len(TOLD) - 1) + known(15, 15))
+                  TEXT.replace("f (a.py)", "f (a.py:3)").replace("<module> (a.py)", "<module> (a.py:1)") + "Layout agrees" + counts(len(TOLD) - 1) + known(16, 16))
     text = lambda it: json.dumps(it, indent=2, ensure_ascii=False) + "\n"
     whole = lambda part: {**plain_tree(), "layout_check": part}
     yield salvage(TELLING + "JSON without the flag", f"{GOOD} -j", files(types(USUAL, BASIC)), text(whole(None)))

@@ -38,7 +38,7 @@ told = [dict(key=key, layout=numbers.get(key, 0), process={shift} + number + {wa
 differ = [it for it in told if it["layout"] != it["process"]]
 verdict = {verdict!r} or ("differs" if differ else "agrees")
 check = dict(verdict=verdict, build={build!r}, told=told, differ=differ, not_told=[], known={known!r})
-print(json.dumps(dict(layout_check=check, version="%d.%d.%d" % (major, minor, patch), missing=None)))
+print(json.dumps(dict(layout_check=check, interpreters={interpreters!r}, version="%d.%d.%d" % (major, minor, patch), missing=None)))
 """
 
 
@@ -57,11 +57,12 @@ class Case(unittest.TestCase):
         """The layout of a version."""
         return next(it for it in self.tables if it.covered[:2] == (3, minor))
 
-    def asked(self, version, truth, *words, verdict="", build=None, known=None, help_text="--check-layout", shift=0, wanders=0):
+    def asked(self, version, truth, *words, verdict="", build=None, known=None, help_text="--check-layout", shift=0, wanders=0,
+              interpreters=()):
         """What the command comes to: the status, what is printed, and what is said."""
         program = self.folder / "pysalvage"
         program.write_text(PROGRAM.format(python=sys.executable, version=version, truth=truth, verdict=verdict, build=build, known=known,
-                                          help_text=help_text, shift=shift, wanders=wanders))
+                                          help_text=help_text, shift=shift, wanders=wanders, interpreters=list(interpreters)))
         program.chmod(0o700)
         command = [sys.executable, "-B", TOOLS / "layouts" / "derive_layout.py", "--from-core", self.core, "--salvage", program, *words]
         ran = subprocess.run([str(it) for it in command], stdin=subprocess.DEVNULL, stdout=subprocess.PIPE, stderr=subprocess.PIPE, text=True, timeout=60)
@@ -97,6 +98,12 @@ class Written(Case):
         self.assertEqual(table.covered, (3, 14, 14))
         self.assertEqual({key for key in own.numbers if own.numbers[key] != table.numbers[key]}, {"code.filename", "code.name", "code.varnames"})
         self.assertEqual([it for it in table.lines if "minor" not in it and "{" not in it], [it for it in own.lines if "minor" not in it and "{" not in it])
+
+    def test_wrong_answers_of_what_search_alone_found(self):
+        found, guess = ({"searched": it, "threads": [{}]} for it in (False, True))
+        for known, interpreters, status in ((38, [found, guess], 0), (37, [found, guess], 1), (39, [guess, guess], 1), (39, [found], 1)):
+            got = self.asked((3, 13, 0), {"code.name": 120}, known={"right": known, "of": 40}, interpreters=interpreters)[0]
+            self.assertEqual(got, status, (known, interpreters))
 
     def test_into_a_file(self):
         path = self.folder / "own.toml"

@@ -53,6 +53,15 @@ def layout_in(text: str) -> Optional[LayoutTold]:
         raise Unexpected(f"its JSON: {error!r}") from None
 
 
+def guesses_in(text: str) -> int:
+    """How many known answers may be of no interpreter of Python's, by the JSON of a core: where one was found otherwise, those of each
+    that search alone found, its modules and the id of each of its threads."""
+    found = json.loads(text).get("interpreters") or []
+    if all(it["searched"] for it in found):
+        return 0
+    return sum(1 + len(it["threads"]) for it in found if it["searched"])
+
+
 def line_of(it: Number) -> str:
     """A number that differs."""
     return f"{it.key} is {it.layout}, the process says {it.process}"

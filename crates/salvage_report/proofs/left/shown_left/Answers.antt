@@ -46,7 +46,8 @@ returns-then-is_empty c = λ bytes layouts is crashed ne.
     let memory = subst (λ xs. AreMemoryTold asked c.args.process.dump.core c.args.images.now c.args.process.layout
     (records_of c.args.tables.now c.args.process.version) (byte_at (regions_of c.args.process.dump)) xs
     c.in_ok-memory.memory) c.deref-2.ensures.value c.in_ok-memory.ensures in
-    let check = subst (λ xs. CheckIs asked.check_layout (process_checked c.args.process xs) c.in_ok-check.check)
+    let check = subst
+    (λ xs. CheckIs asked.check_layout c.args.process.dump.core (process_checked c.args.process xs) c.in_ok-check.check)
     c.deref.ensures.value c.in_ok-check.ensures in
     let none : salvaged.interpreters.items ≡ [] = empty salvaged.interpreters.items (search rules) in
     none_left (asked_salvage c.args.words.now) c.args.tables.now c.args.process c.args.crash salvaged c.in_ok-salvaged.ensures bytes
@@ -70,7 +71,8 @@ returns c = λ bytes layouts is crashed.
     let memory = subst (λ xs. AreMemoryTold asked c.args.process.dump.core c.args.images.now c.args.process.layout
     (records_of c.args.tables.now c.args.process.version) (byte_at (regions_of c.args.process.dump)) xs
     c.in_ok-memory.memory) c.deref-2.ensures.value c.in_ok-memory.ensures in
-    let check = subst (λ xs. CheckIs asked.check_layout (process_checked c.args.process xs) c.in_ok-check.check)
+    let check = subst
+    (λ xs. CheckIs asked.check_layout c.args.process.dump.core (process_checked c.args.process xs) c.in_ok-check.check)
     c.deref.ensures.value c.in_ok-check.ensures in
     let full : length salvaged.interpreters.items ≢ 0 = search rules in
     let some : salvaged.interpreters.items ≢ [] = λ none. full (ap length none) in
