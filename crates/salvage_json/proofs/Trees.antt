@@ -23,6 +23,7 @@ use Rattle.py_fronts.specs.declared.crash.Crash.{Crash}
 use Rattle.py_fronts.specs.declared.lock.LockState.{LockState}
 use Rattle.py_fronts.specs.declared.lock.LockState.TheVariants.{Holder, Unreadable}
 use Rattle.py_fronts.specs.declared.salvaged.SalvagedInterpreter.{SalvagedInterpreter}
+use Rattle.py_fronts.specs.declared.search.Looked.{Looked}
 use Rattle.py_fronts.specs.Crashes.{is_crashed}
 use Rattle.py_fronts.specs.Salvaged.{first_crashed}
 use Rattle.salvage_json.specs.Kinds.{end_tree, fault_or_null, fault_tree, lock_tree, why_tree}
@@ -32,6 +33,7 @@ use Rattle.thread_names.specs.declared.names.InterpreterNames.{InterpreterNames}
 use Rattle.thread_names.specs.declared.names.ThreadName.{ThreadName}
 use Rattle.salvage_json.specs.Threads.{frames_tree, id_tree, name_tree, placed_trees, reversed_trees, thread_tree}
 use Rattle.salvage_json.specs.Threads.{threads_tree}
+use Rattle.salvage_json.specs.Salvaged.{ended_tree}
 use Rattle.salvage_json.specs.Salvaged.{interpreter_tree, interpreter_trees, interpreters_tree, process_tree}
 use Rattle.salvage_json.specs.Salvaged.{signal_tree, placed_trees as placed_of_all}
 
@@ -173,3 +175,10 @@ process (Some p) = ap (λ b. b || false) (integer p.0)
 pub signal : (s : Option ℤ) → has_float (signal_tree s) ≡ false
 signal None = refl
 signal (Some s) = integer s
+
+ended_by : (b : Bool) (l : Looked) → l.ended ≡ b → has_float (ended_tree l) ≡ false
+ended_by true l e = rw e refl
+ended_by false l e = rw e refl
+
+pub ended : (l : Looked) → has_float (ended_tree l) ≡ false
+ended l = ended_by l.ended l refl

@@ -1,11 +1,14 @@
 -- The JSON of what is left of a process.
-use Rattle.std.specs.Prelude.{ℕ, ℤ, ◌+◌, ◌++◌, List, map, drop, take, Option, Some, None, codes, encode_utf8_all}
+use Rattle.std.specs.Prelude.{ℕ, ℤ, ◌+◌, ◌++◌, if◌then◌else◌, List, map, drop, take, Option, Some, None}
+use Rattle.std.specs.Prelude.{codes, encode_utf8_all}
 use Rattle.serde_json.specs.Data.{Data, array, boolean, member, no_members, null, number, object, string}
+use Rattle.serde_json.specs.Data.{unsigned}
 use Rattle.serde_json.specs.Find.{of_integer}
 use Rattle.serde_json.specs.View.{items_of}
 use Rattle.py_fronts.specs.Salvaged.{first_crashed}
 use Rattle.py_fronts.specs.declared.crash.Crash.{Crash}
 use Rattle.py_fronts.specs.declared.salvaged.SalvagedInterpreter.{SalvagedInterpreter}
+use Rattle.py_fronts.specs.declared.search.Looked.{Looked}
 use Rattle.thread_names.specs.Lookup.{threads_named}
 use Rattle.thread_names.specs.declared.names.InterpreterNames.{InterpreterNames}
 use Rattle.salvage_json.specs.Kinds.{address_tree, end_tree, lock_tree}
@@ -35,6 +38,14 @@ ordered_trees crash names is = placed_trees crash names is (first_crashed crash 
 
 abbrev pub interpreters_tree : Option Crash → List InterpreterNames → List SalvagedInterpreter → Data
 interpreters_tree crash names is = array (items_of (ordered_trees crash names is))
+
+-- what a search looked at that ended before all was looked at
+abbrev pub ended_tree : Looked → Data
+ended_tree l = if l.ended
+    then object (
+    member (codes "addresses") (number (unsigned l.addresses)) (
+    member (codes "members") (number (unsigned l.members)) no_members))
+    else null
 
 -- the process that a core tells, where it tells one
 abbrev pub process_tree : Option (ℤ × List ℕ) → Data

@@ -6,4 +6,4 @@ mod member;
 mod salvaged;
 mod thread;
 
-pub use salvaged::{interpreters_value, process_value, signal_value};
+pub use salvaged::{ended_value, interpreters_value, process_value, signal_value};

@@ -3,12 +3,12 @@ ghost use Rattle.std.specs.Prelude.{◌≡◌, ◌++◌, IfOk, OnOk, map};
 ghost use Rattle.serde_json.specs.View.{view};
 ghost use Rattle.thread_names.specs.Lookup.{threads_named};
 ghost use Rattle.salvage_json.specs.Salvaged.{interpreter_tree, interpreter_trees, interpreters_tree, ordered_trees};
-ghost use Rattle.salvage_json.specs.Salvaged.{process_tree, signal_tree};
+ghost use Rattle.salvage_json.specs.Salvaged.{ended_tree, process_tree, signal_tree};
 
 use crate::kind::{address_value, end_value, lock_value};
 use crate::thread::threads_value;
 use elf64_core::Text;
-use py_fronts::{Crash, SalvagedInterpreter, first_crashed};
+use py_fronts::{Crash, Looked, SalvagedInterpreter, first_crashed};
 use serde_json::{Value, json};
 use std::alloc::{AllocError, Global};
 use thread_names::{InterpreterNames, threads_named};
@@ -89,6 +89,21 @@ pub fn interpreters_value(
     let mut values = Vec::new(alloc);
     add_ordered(alloc, &mut values, crash, names, interpreters)?;
     Ok(Value::Array(values))
+}
+
+/// What the search for interpreters looked at, where it ended before all was: how many addresses, and how many members
+/// of chains of threads; null where it looked at all. The one error is want of memory.
+pub fn ended_value(alloc: Global, looked: &Looked) -> Result<Value, AllocError>
+    ensures { IfOk result (λ value. view value ≡ ended_tree looked.now) }
+{
+    if !looked.ended {
+        return Ok(Value::Null);
+    }
+    let (addresses, members) = (looked.addresses, looked.members);
+    json!(in alloc; {
+        "addresses": addresses,
+        "members": members
+    })
 }
 
 /// The process that a core tells, by its id and its arguments: an object, or null where it tells none. The one error is

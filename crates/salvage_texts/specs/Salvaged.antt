@@ -1,6 +1,6 @@
 -- The text of what is left of a process's stacks.
 use Rattle.std.specs.Prelude.{ℕ, ◌+◌, ◌++◌, nat_lt, Bool, true, false, if◌then◌else◌, List, [], length, map, drop, take}
-use Rattle.std.specs.Prelude.{Option, Some, None, codes}
+use Rattle.std.specs.Prelude.{Option, Some, None, codes, decimal}
 use Rattle.std.specs.List.{concat}
 use Rattle.py_fronts.specs.declared.fronts.InterpreterFront.{InterpreterFront}
 use Rattle.py_fronts.specs.declared.crash.Crash.{Crash}
@@ -8,6 +8,7 @@ use Rattle.py_fronts.specs.declared.lock.LockState.{LockState}
 use Rattle.py_fronts.specs.declared.lock.LockState.TheVariants.{Holder, Unreadable}
 use Rattle.py_fronts.specs.declared.salvaged.Salvaged.{Salvaged}
 use Rattle.py_fronts.specs.declared.salvaged.SalvagedInterpreter.{SalvagedInterpreter}
+use Rattle.py_fronts.specs.declared.search.Looked.{Looked}
 use Rattle.core_texts.specs.Parts.{address_text}
 use Rattle.thread_names.specs.Lookup.{threads_named}
 use Rattle.thread_names.specs.declared.names.InterpreterNames.{InterpreterNames}
@@ -47,6 +48,15 @@ placed_interpreters several crash names is (Some i) = interpreters_text several 
 abbrev pub ordered_text : Option Crash → List InterpreterNames → List SalvagedInterpreter → List ℕ
 ordered_text crash names is = placed_interpreters (nat_lt 1 (length is)) crash names is (first_crashed crash is)
 
+abbrev pub more_text : Bool → List ℕ
+more_text more = if more then codes "... more than 16 interpreters\n" else []
+
+-- the line of a search that ended before all was looked at
+abbrev pub ended_text : Looked → List ℕ
+ended_text looked = if looked.ended
+    then codes "... the search ended after " ++ (decimal looked.members ++ (codes " members and "
+    ++ (decimal looked.addresses ++ codes " addresses\n")))
+    else []
+
 abbrev pub salvaged_text : List InterpreterNames → Salvaged → List ℕ
-salvaged_text names s = ordered_text s.crash names s.interpreters.items
-    ++ (if s.more then codes "... more than 16 interpreters\n" else [])
+salvaged_text names s = ordered_text s.crash names s.interpreters.items ++ (more_text s.more ++ ended_text s.looked)

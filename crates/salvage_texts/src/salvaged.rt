@@ -2,11 +2,11 @@
 ghost use Rattle.std.specs.Prelude.{◌≡◌, ◌++◌, IfOk, OnOk, string_bytes};
 ghost use Rattle.py_stacks.specs.declared.trace.Frame.{Frame};
 ghost use Rattle.salvage_texts.specs.Marks.{IsNoMark};
-ghost use Rattle.salvage_texts.specs.Salvaged.{ordered_text, salvaged_text};
+ghost use Rattle.salvage_texts.specs.Salvaged.{ended_text, more_text, ordered_text, salvaged_text};
 ghost use Rattle.salvage_texts.specs.Standings.{frame_line};
 
 use crate::interpreter::push_interpreters;
-use py_fronts::{Crash, Salvaged, SalvagedInterpreter, first_crashed};
+use py_fronts::{Crash, Looked, Salvaged, SalvagedInterpreter, first_crashed};
 use std::alloc::{AllocError, Global};
 use thread_names::InterpreterNames;
 
@@ -45,6 +45,30 @@ fn push_ordered(
     )
 }
 
+/// The line that there are more interpreters, where there are.
+fn push_more(text: &mut String, more: bool) -> Result<(), AllocError>
+    ensures { OnOk result (string_bytes text.new ≡ string_bytes text.old ++ more_text more) }
+{
+    if more {
+        return text.push_str("... more than 16 interpreters\n");
+    }
+    Ok(())
+}
+
+/// The line that the search ended before all was looked at, where it did.
+fn push_ended(text: &mut String, looked: &Looked) -> Result<(), AllocError>
+    ensures { OnOk result (string_bytes text.new ≡ string_bytes text.old ++ ended_text looked.now) }
+{
+    if looked.ended {
+        let (addresses, members) = (looked.addresses, looked.members);
+        return write!(
+            text,
+            "... the search ended after {members} members and {addresses} addresses\n"
+        );
+    }
+    Ok(())
+}
+
 /// The lines of what is left.
 fn push_salvaged(
     alloc: Global,
@@ -56,15 +80,13 @@ fn push_salvaged(
         ≡ string_bytes text.old ++ salvaged_text names.now salvaged.now) }
 {
     push_ordered(alloc, text, salvaged.crash, names, &salvaged.interpreters)?;
-    if salvaged.more {
-        return text.push_str("... more than 16 interpreters\n");
-    }
-    Ok(())
+    push_more(text, salvaged.more)?;
+    push_ended(text, &salvaged.looked)
 }
 
 /// The text of what is left: each interpreter with the line of its address, where there are several, the lines of what
 /// is missing of its lock and of its threads, and its threads, each with its frames and how these end; and last, where
-/// there are more than 16 interpreters, a line that says so.
+/// there are more than 16 interpreters, or the search for them ended before all was looked at, a line that says so.
 ///
 /// A thread is marked where it holds the lock of its interpreter, and where it got the signal, and has the name that is
 /// told of its id in its interpreter, if one is. The first interpreter
