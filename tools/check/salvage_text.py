@@ -136,11 +136,13 @@ def check_interpreter(tree: object) -> None:
 def check_told(tree: object, limit: int, sections: Collection[str] = ()) -> None:
     """Fails where something is no JSON of this program, which shows so many frames at each end of a thread, and these
     sections."""
-    need_keys(tree, "exceptions", "interpreters", "layout_check", "missing", "more", "names", "native", "process", "registers", "signal",
-              "signal_info", "tasks", "version")
+    need_keys(tree, "exceptions", "interpreters", "layout_check", "missing", "more", "names", "native", "process", "registers",
+              "search_ended", "signal", "signal_info", "tasks", "version", "version_by_names")
     check_sections(tree, sections)
-    need_truths(tree["more"])
+    need_truths(tree["more"], tree["version_by_names"])
     need_texts(tree["version"])
+    need(not tree["version_by_names"] or re.fullmatch(r"\d+\.\d+", tree["version"]), f"the version {tree['version']} by names of files")
+    check_ended(tree["search_ended"])
     need(tree["signal"] is None or type(tree["signal"]) is int, "a signal that is no number")
     if tree["process"] is not None:
         need_keys(tree["process"], "arguments", "pid")
@@ -153,6 +155,14 @@ def check_told(tree: object, limit: int, sections: Collection[str] = ()) -> None
     need(len({it["address"] for it in interpreters}) == len(interpreters), "an interpreter that is told twice")
     check_counts(interpreters, limit)
     check_crashed(interpreters, tree["signal"])
+
+
+def check_ended(tree: object) -> None:
+    """Fails where something doesn't tell that a search ended before all was looked at, or that it looked at all."""
+    if tree is not None:
+        need_keys(tree, "addresses", "members")
+        for it in tree.values() if isinstance(tree, dict) else ():
+            need_number(it)
 
 
 def check_counts(interpreters: Iterable[Tree], limit: int) -> None:
@@ -226,9 +236,11 @@ def text_of(tree: Tree, core: str) -> str:
     lines = [] if signal is None else [f"Signal {signal}: {escaped(core, False)}"]
     lines += signal_lines(tree)
     lines += [] if process is None else [f"Process {process['pid']}: {escaped(process['arguments'], False)}"]
-    lines += [f"Python v{tree['version']}", ""]
+    lines += [f"Python v{tree['version']}{' (by the names of files)' if tree['version_by_names'] else ''}", ""]
     lines += [line for it in interpreters for line in lines_of_interpreter(it, len(interpreters) > 1)]
     lines += ["... more than 16 interpreters"] if tree["more"] else []
+    ended = tree["search_ended"]
+    lines += [f"... the search ended after {ended['members']} members and {ended['addresses']} addresses"] if ended else []
     lines += [front + escaped(name, False) for front, name in name_lines(tree)]
     lines += task_lines(tree["tasks"] or [])
     lines += register_lines(tree)

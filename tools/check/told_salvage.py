@@ -269,7 +269,8 @@ def left(random: Random, command: str) -> Told:
         # (the head, the word in front of its threads, those of the runtime section, and the bss' two)
         return Told(WORDS["pysalvage"], files, 1, f"no interpreter found: {4 + words} addresses looked at, 0 members walked")
     tree = {"interpreters": list(whole.interpreters), "more": whole.more, "process": None,
-            **NONE_TOLD, "layout_check": None, "missing": None, "registers": None, "signal": 11 if notes else None, "signal_info": None, "version": "3.9.0"}
+            **NONE_TOLD, "layout_check": None, "missing": None, "registers": None, "search_ended": None,
+            "signal": 11 if notes else None, "signal_info": None, "version": "3.9.0", "version_by_names": False}
     return told_of(random, files, tree, () if limit == 100 else ("-n", str(limit)))
 
 
@@ -282,7 +283,8 @@ def searched(random: Random, command: str) -> Told:
         line = f"no interpreter found: 2 addresses looked at, {len(one['threads'])} members walked"
         return Told(WORDS["pysalvage"], files, 1, line)
     tree = {"interpreters": [with_marks({**one, "searched": True}, None, None)], "more": False, "process": None,
-            **NONE_TOLD, "layout_check": None, "missing": None, "registers": None, "signal": None, "signal_info": None, "version": "3.9.0"}
+            **NONE_TOLD, "layout_check": None, "missing": None, "registers": None, "search_ended": None,
+            "signal": None, "signal_info": None, "version": "3.9.0", "version_by_names": False}
     return told_of(random, files, tree, ())
 
 

@@ -153,13 +153,13 @@ def last_line(answer: Answer) -> str:
 
 
 def version_of(answer: Answer) -> Tuple[int, int, int]:
-    """The dead process's version, by what is told of it, or by the line that no layout covers it."""
+    """The dead process's version, by what is told of it, or by the line that no layout covers it. The names of files tell no patch: 0."""
     found = UNKNOWN.search(answer.said.decode("utf-8", "replace"))
     if answer.status == 0:
-        found = re.match(r"(\d+)\.(\d+)\.(\d+)", str(json.loads(answer.out.decode("utf-8", "replace"))["version"]))
+        found = re.match(r"(\d+)\.(\d+)(?:\.(\d+))?", str(json.loads(answer.out.decode("utf-8", "replace"))["version"]))
     if found is None:
         raise Fault(f"the program says `{last_line(answer)}`", NO_STACKS, "without its version no layout can be chosen")
-    major, minor, patch = map(int, found.groups())
+    major, minor, patch = (int(it or 0) for it in found.groups())
     return major, minor, patch
 
 

@@ -246,6 +246,8 @@ class Report(NamedTuple):
     """Whether they are shown."""
     other: Optional[int] = None
     """The system's id of the thread that got the signal, where that is none of Python's."""
+    ended: str = ""
+    """What is said of the search for interpreters, where it ended before all was looked at."""
 
     @property
     def threads(self) -> List[Thread]:

@@ -11,9 +11,9 @@ use Rattle.py_process.specs.declared.core_error.CoreError.{CoreError}
 use Rattle.py_process.specs.declared.core_error.CoreError.TheVariants as core
 use Rattle.py_process.proofs.Agreement.{err_is, ok_is, ok_kept, ok_not_err}
 use Rattle.py_process.proofs.FindingLaws.{ChoosesOnce}
-use Rattle.core_stacks.specs.Process.{OpenedProcess, ProcessIs}
+use Rattle.core_stacks.specs.Named.{ProcessOrNamed}
+use Rattle.core_stacks.specs.Process.{OpenedProcess}
 use Rattle.core_stacks.proofs.Layouts.{chooses_once}
-use Rattle.core_stacks.proofs.Opening.{process_agree}
 use Rattle.py_fronts.specs.declared.search.Looked.{Looked}
 use Rattle.py_fronts.specs.Salvaged.{LockedInterpreter, locked, salvaged_at}
 use Rattle.py_fronts.specs.declared.crash.Crash.{Crash}
@@ -24,11 +24,12 @@ use Rattle.salvage_report.specs.declared.cause.Cause.TheVariants.{Core, Layouts,
 use Rattle.salvage_report.specs.declared.left.Left.{Left}
 use Rattle.py_records.specs.File.{IsRightFor as AreRightFor}
 use Rattle.py_records.specs.declared.table.RecordTable.{RecordTable}
+use Rattle.salvage_report.proofs.NamedOpening.{opened_agree}
 use Rattle.salvage_report.proofs.Recorded.{records_apart, records_exclude, records_flaw, records_own, records_within}
 use Rattle.salvage_report.proofs.Recorded.{tables_once}
 use Rattle.salvage_report.specs.Outcome.{IsCoreFaultless, IsCoreOutcome, IsFaultless, IsFaultlessBy, IsOutcomeBy}
 use Rattle.salvage_report.specs.Outcome.{IsLeft, IsLeftOf, IsOutcome, IsSalvagedBy, IsShowable, Outcome}
-use Rattle.salvage_report.specs.Outcome.{cause_status, left_at}
+use Rattle.salvage_report.specs.Outcome.{cause_status, left_at, tables_for}
 use Rattle.salvage_report.specs.Outcome.{outcome_status, shown_or_none}
 use Rattle.named_images.specs.Named.{images_read}
 use Rattle.program_run.specs.Ends.{IsOwn}
@@ -69,22 +70,22 @@ laid_once text a b one other = ok_unique (IsRightFor text) (right-unique text) a
 -- ---- the opened process
 
 module _ (layouts : List Layout) (once : ChoosesOnce layouts) where
-  opened_once : (bytes : List ℕ) (images : Pushed) (o p : OpenedProcess) → ProcessIs bytes images layouts (Ok o)
-      → ProcessIs bytes images layouts (Ok p) → o ≡ p
-  opened_once bytes images o p one other = ok_is o p (process_agree bytes images layouts once (Ok o) (Ok p) one other
+  opened_once : (bytes : List ℕ) (images : Pushed) (o p : OpenedProcess) → ProcessOrNamed bytes images layouts (Ok o)
+      → ProcessOrNamed bytes images layouts (Ok p) → o ≡ p
+  opened_once bytes images o p one other = ok_is o p (opened_agree bytes images layouts once (Ok o) (Ok p) one other
       (ok_kept o) (ok_kept p))
 
   opened_apart : (bytes : List ℕ) (images : Pushed) (o : OpenedProcess) (e : CoreError)
-      → ProcessIs bytes images layouts (Ok o) → ProcessIs bytes images layouts (Err e)
+      → ProcessOrNamed bytes images layouts (Ok o) → ProcessOrNamed bytes images layouts (Err e)
       → e ≢ core.OutOfMemory → ⊥
   opened_apart bytes images o e one other ne =
-      ok_not_err o e (process_agree bytes images layouts once (Ok o) (Err e) one other (ok_kept o)
+      ok_not_err o e (opened_agree bytes images layouts once (Ok o) (Err e) one other (ok_kept o)
       (λ is. ne (err_is e core.OutOfMemory is)))
 
   opened_excludes : (bytes : List ℕ) (images : Pushed) → Excludes cause_status (λ error. Core error)
-      (ProcessIs bytes images layouts)
+      (ProcessOrNamed bytes images layouts)
   opened_excludes bytes images =
-      core_exclude cause_status (λ error. Core error) (λ e. refl) (ProcessIs bytes images layouts)
+      core_exclude cause_status (λ error. Core error) (λ e. refl) (ProcessOrNamed bytes images layouts)
       (opened_apart bytes images)
 
 -- ---- what is left
@@ -108,7 +109,7 @@ some_shown : (is : List SalvagedInterpreter) (n : Looked) (s : List ℕ) (cause 
 some_shown [] n s cause some e = some refl
 some_shown (i ∷ is) n s cause some e = absurd (cc)
 
-module _ (s : Salvage) (ts : List RecordTable) (bytes : List ℕ) (images : Pushed) where
+module _ (s : Salvage) (bytes : List ℕ) (images : Pushed) (ts : List RecordTable) where
   -- the interpreters that are shown don't depend on which thread got the signal
   shown_of : (o : OpenedProcess) (left : Left) (crash : Option Crash) → IsLeft s ts bytes images o left
       → map locked left.salvaged.interpreters.items ≡ (left_at s bytes o crash).interpreters
@@ -123,23 +124,26 @@ module _ (s : Salvage) (ts : List RecordTable) (bytes : List ℕ) (images : Push
       left.salvaged.looked other.salvaged.looked (shown_left s left) (shown_left s other)
       ∙ sym (ap outcome_status also)
 
+module _ (s : Salvage) (ts : List RecordTable) (bytes : List ℕ) (images : Pushed) where
   salvaged_agree : (layouts : List Layout) → ChoosesOnce layouts
       → AgreeIn (IsSalvagedBy s ts bytes images layouts)
   salvaged_agree layouts once = steps_agree cause_status (λ n. n) (λ error. Core error)
-      (ProcessIs bytes images layouts) (IsLeftOf s ts bytes images)
+      (ProcessOrNamed bytes images layouts) (λ o. IsLeftOf s (tables_for ts o) bytes images o)
       (opened_excludes layouts once bytes images)
-      (λ o p one other a b x y na nb. left_agree o a b x
-      (subst (λ q. IsLeftOf s ts bytes images q b) (opened_once layouts once bytes images p o other one) y) na nb)
+      (λ o p one other a b x y na nb. left_agree s bytes images (tables_for ts o) o a b x
+      (subst (λ q. IsLeftOf s (tables_for ts q) bytes images q b)
+      (opened_once layouts once bytes images p o other one) y)
+      na nb)
 
   salvaged_sound : (layouts : List Layout) → ChoosesOnce layouts → IsShowable s bytes images layouts
       → NoCause (IsSalvagedBy s ts bytes images layouts)
   salvaged_sound layouts once good = steps_sound cause_status (λ cause. ⊥) (λ error. Core error)
-      (ProcessIs bytes images layouts) (IsLeftOf s ts bytes images)
+      (ProcessOrNamed bytes images layouts) (λ o. IsLeftOf s (tables_for ts o) bytes images o)
       (λ e error ne. opened_apart layouts once bytes images good.opened e good.is_opened error (core_one e ne).1)
       (λ o found cause ne h. some_shown h.0.salvaged.interpreters.items h.0.salvaged.looked (shown_left s h.0) cause
-      (λ none. good.shown (sym (shown_of good.opened h.0 good.crash
-      (subst (λ q. IsLeft s ts bytes images q h.0) (opened_once layouts once bytes images o good.opened found good.is_opened)
-      h.1)) ∙ none)) h.2)
+      (λ none. good.shown (sym (shown_of s bytes images (tables_for ts good.opened) good.opened h.0 good.crash
+      (subst (λ q. IsLeft s (tables_for ts q) bytes images q h.0)
+      (opened_once layouts once bytes images o good.opened found good.is_opened) h.1)) ∙ none)) h.2)
 
 core_outcomes_agree : (s : Salvage) (ts : List RecordTable) (contents : List (List ℕ))
     → AgreeIn (IsCoreOutcome s ts contents)

@@ -21,6 +21,7 @@ use Rattle.salvage_report.specs.Headline.{SaysExceptions, SaysNative, SaysSignal
 use Rattle.memory_sections.specs.Told.{ToldIf}
 use Rattle.py_fronts.specs.declared.search.Looked.{Looked}
 use Rattle.salvage_report.specs.Outcome.{IsCoreOutcome, IsOutcomeBy, IsSalvagedBy, Outcome, shown_or_none}
+use Rattle.salvage_report.specs.Outcome.{tables_for}
 use Rattle.named_images.specs.Named.{images_read}
 use Rattle.program_run.specs.Ends.{Reaches}
 use Rattle.program_run.specs.Reading.{AreRead}
@@ -61,13 +62,15 @@ module _ (s : Salvage) (told : Told) (old new : SinkSeen) (written : List ℕ)
         core = bytes;
         text = text;
         images = images;
-        tables = tables;
+        all_tables = tables;
         judged = judged;
         read = read;
         layouts = layouts;
         says = says;
         opened = o;
         is_opened = opened;
+        tables = tables_for tables o;
+        tables_are = refl;
         left = left;
         is_left = h;
         some = shown.0;

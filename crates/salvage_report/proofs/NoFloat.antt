@@ -15,7 +15,7 @@ use Rattle.thread_registers.specs.Threads.{ThreadShown}
 use Rattle.thread_registers.specs.Trees.{threads_tree}
 use Rattle.thread_registers.proofs.Plain.{no_float as threads}
 use Rattle.memory_sections.specs.Told.{names_given}
-use Rattle.salvage_json.proofs.Trees.{integer, interpreters, process, signal}
+use Rattle.salvage_json.proofs.Trees.{ended, integer, interpreters, process, signal}
 use Rattle.memory_sections.proofs.Plain.{exceptions, names, native, tasks}
 use Rattle.missed_reads.specs.Told.{RefusedTold, missed_tree}
 use Rattle.missed_reads.proofs.NoFloat.{no_float as missed}
@@ -92,5 +92,6 @@ no_float limit left = λ i. exceptions left.memory.exceptions i
     || (interpreters left.salvaged.crash (names_given left.memory.names) left.salvaged.interpreters.items i
     || (check_section (check_of left.check) i || (missing_section (missing_shown left.told.missing) i
     || (false || (names left.memory.names i || (native limit left.memory.native i || (process left.process
-    i || (threads_section (registers_shown left.told.registers) i || (signal left.signal i
-    || (info_section left.told.signal i || (tasks left.memory.tasks i || (false || false))))))))))))
+    i || (threads_section (registers_shown left.told.registers) i || (ended left.salvaged.looked i
+    || (signal left.signal i || (info_section left.told.signal i || (tasks left.memory.tasks i
+    || (false || (false || false))))))))))))))

@@ -1,6 +1,6 @@
 -- What is left of an opened process.
 use Rattle.std.proofs.Common.{◌≡◌, ◌≢◌, ℕ, List, [], ◌∷◌, refl, sym, ap, subst, ◌∙◌}
-use Rattle.std.specs.Prelude.{Bool, Option, Ok, Err}
+use Rattle.std.specs.Prelude.{Bool, Option, Ok, Err, is_some}
 use Rattle.elf64_core.specs.declared.header.Machine.{Machine}
 use Rattle.elf64_core.specs.Header.{machine_of}
 use Rattle.image_memory.specs.Backed.{regions_of}
@@ -27,7 +27,7 @@ use Rattle.salvage_report.specs.declared.left.Left.{Left}
 use Rattle.salvage_report.specs.declared.sections.Told.{Told}
 use Rattle.core_stacks.specs.declared.process.Process.{Process}
 use Rattle.salvage_report.specs.Crashed.{CrashTold}
-use Rattle.core_stacks.specs.Process.{IsProcess, OpenedProcess, opened_of}
+use Rattle.core_stacks.specs.Process.{IsProcessOf, OpenedProcess, opened_of}
 use Rattle.salvage_report.specs.Outcome.{IsLeft, IsLeftOf, Outcome, asked_of, shown_or_none}
 use Rattle.py_selftest.specs.declared.checking.LayoutCheck.{LayoutCheck}
 use Rattle.salvage_report.specs.LayoutChecked.{CheckIs, process_checked}
@@ -53,7 +53,7 @@ something_shown (i ∷ is) n t some = refl
 
 module _ (s : Salvage) (ts : List RecordTable) (p : Process) (crash : Option Crash) (salvaged : Salvaged)
     (found : Salvages s p crash (Ok salvaged))
-    (bytes : List ℕ) (images : Pushed) (layouts : List Layout) (is : IsProcess bytes images layouts p)
+    (bytes : List ℕ) (images : Pushed) (is : IsProcessOf bytes p)
     (told : CrashTold bytes crash)
     (sections : Told) (are : AreTold s.sections p.dump.core p.notes.process salvaged.interpreters.items sections)
     (check : Option LayoutCheck)
@@ -68,6 +68,7 @@ module _ (s : Salvage) (ts : List RecordTable) (p : Process) (crash : Option Cra
     signal = p.notes.signal;
     process = p.notes.process;
     version = p.version;
+    named = is_some p.untold;
     salvaged = salvaged;
     told = sections;
     check = check;
@@ -87,6 +88,7 @@ module _ (s : Salvage) (ts : List RecordTable) (p : Process) (crash : Option Cra
   is_left : IsLeft s ts bytes images opened left
   is_left = record {
     version_is = refl;
+    named_is = refl;
     notes = is.notes;
     crash = subst (CrashTold bytes) (sym handed) told;
     salvaged = found ∙ ap (λ t. over t p.dump.core crash) is.tested ∙ ap (λ b. over (in_maps is.maps) b crash) is.same

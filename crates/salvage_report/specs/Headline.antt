@@ -17,7 +17,8 @@ use Rattle.py_records.specs.File.{IsRightFor as AreRightFor}
 use Rattle.py_records.specs.declared.table.RecordTable.{RecordTable}
 use Rattle.salvage_words.specs.Salvage.{Salvage}
 use Rattle.salvage_report.specs.declared.left.Left.{Left}
-use Rattle.core_stacks.specs.Process.{OpenedProcess, ProcessIs}
+use Rattle.core_stacks.specs.Named.{ProcessOrNamed}
+use Rattle.core_stacks.specs.Process.{OpenedProcess}
 use Rattle.py_process.specs.Reports.{memory_in}
 use Rattle.thread_names.specs.declared.names.InterpreterNames.{InterpreterNames}
 use Rattle.memory_sections.specs.Each.{EachTold}
@@ -27,7 +28,7 @@ use Rattle.native_stacks.specs.declared.stacks.NativeStacks.{NativeStacks}
 use Rattle.py_records.specs.Versions.{records_of}
 use Rattle.exception_texts.specs.declared.told.InterpreterExceptions.{InterpreterExceptions}
 use Rattle.task_texts.specs.declared.told.InterpreterTasks.{InterpreterTasks}
-use Rattle.salvage_report.specs.Outcome.{IsLeft}
+use Rattle.salvage_report.specs.Outcome.{IsLeft, tables_for}
 use Rattle.named_images.specs.Named.{images_read}
 use Rattle.program_run.specs.Reading.{AreRead}
 use Rattle.salvage_report.specs.Reading.{files_of}
@@ -53,13 +54,16 @@ pub record HasSalvaged (s : Salvage) (told : Told) (old new : SinkSeen) : Type 0
   pub core : List ℕ
   pub text : List ℕ
   pub images : List (List ℕ)
-  pub tables : List RecordTable
-  pub judged : AreTables records tables
+  pub all_tables : List RecordTable
+  pub judged : AreTables records all_tables
   pub read : AreRead told (files_of s) (records ++ core ∷ text ∷ images)
   pub layouts : List Layout
   pub says : IsRightFor text (Ok layouts)
   pub opened : OpenedProcess
-  pub is_opened : ProcessIs core (images_read s.images images) layouts (Ok opened)
+  pub is_opened : ProcessOrNamed core (images_read s.images images) layouts (Ok opened)
+  -- none of them counts where the names of files alone tell the version
+  pub tables : List RecordTable
+  pub tables_are : tables ≡ tables_for all_tables opened
   pub left : Left
   pub is_left : IsLeft s tables core (images_read s.images images) opened left
   pub some : left.salvaged.interpreters.items ≢ []

@@ -1,5 +1,5 @@
 -- What is come to over the contents of the files.
-use Rattle.std.specs.Prelude.{◌≡◌, ◌≢◌, ℕ, ◌+◌, nat_eq, not, List}
+use Rattle.std.specs.Prelude.{◌≡◌, ◌≢◌, ℕ, ◌+◌, nat_eq, not, if◌then◌else◌, is_some, List}
 use Rattle.std.specs.Prelude.{[], ◌∷◌, length, Option, Some, None, Result, Ok, Err, Vec}
 use Rattle.std.specs.Global.{Global}
 use Rattle.elf64_core.specs.Header.{machine_of}
@@ -26,7 +26,8 @@ use Rattle.salvage_report.specs.declared.cause.Cause.{Cause}
 use Rattle.salvage_report.specs.declared.cause.Cause.TheVariants.{Core, Layouts, NoInterpreter, OutOfMemory, Records}
 use Rattle.salvage_report.specs.declared.left.Left.{Left}
 use Rattle.salvage_report.specs.Crashed.{CrashTold}
-use Rattle.core_stacks.specs.Process.{OpenedProcess, ProcessIs}
+use Rattle.core_stacks.specs.Named.{ProcessOrNamed}
+use Rattle.core_stacks.specs.Process.{OpenedProcess}
 use Rattle.named_images.specs.Named.{images_read}
 use Rattle.program_run.specs.Outcomes.{IsAnswerBy, OutcomeThen, status_by}
 pub use Rattle.program_run.specs.Statuses.{core_status, layouts_status}
@@ -63,6 +64,7 @@ left_at s bytes o crash = salvaged_at (in_maps o.dumped.maps) (machine_of bytes)
 pub record IsLeft (s : Salvage) (ts : List RecordTable) (bytes : List ℕ) (images : Pushed) (o : OpenedProcess)
     (left : Left) : Type 0 where
   pub version_is : left.version ≡ o.version
+  pub named_is : left.named ≡ is_some o.untold
   pub notes : NotesTell bytes left.signal left.process
   pub crash : CrashTold bytes left.salvaged.crash
   pub salvaged : salvaged_of left.salvaged ≡ left_at s bytes o left.salvaged.crash
@@ -84,10 +86,15 @@ IsLeftOf s ts bytes images o outcome = (left : Left) × IsLeft s ts bytes images
 
 -- ---- over the contents of the files
 
+-- the tables of records that count: none where the names of files alone tell the version, since its patch isn't known
+abbrev pub tables_for : List RecordTable → OpenedProcess → List RecordTable
+tables_for ts o = if is_some o.untold then [] else ts
+
 -- a core and its images by these layouts, and by these tables of records
 abbrev pub IsSalvagedBy : Salvage → List RecordTable → List ℕ → Pushed → List Layout → Outcome → Type 0
 IsSalvagedBy s ts bytes images layouts outcome =
-    OutcomeThen (λ error. Core error) (ProcessIs bytes images layouts) (IsLeftOf s ts bytes images) outcome
+    OutcomeThen (λ error. Core error) (ProcessOrNamed bytes images layouts)
+    (λ o. IsLeftOf s (tables_for ts o) bytes images o) outcome
 
 -- by the files of the core: the layouts are judged, and then the process is opened, and its interpreters are looked for
 abbrev pub IsCoreOutcome : Salvage → List RecordTable → List (List ℕ) → Outcome → Type 0
@@ -114,7 +121,7 @@ IsOutcome s contents outcome = IsOutcomeBy s.records s contents outcome
 
 pub record IsShowable (s : Salvage) (bytes : List ℕ) (images : Pushed) (layouts : List Layout) : Type 0 where
   pub opened : OpenedProcess
-  pub is_opened : ProcessIs bytes images layouts (Ok opened)
+  pub is_opened : ProcessOrNamed bytes images layouts (Ok opened)
   pub crash : Option Crash
   pub shown : (left_at s bytes opened crash).interpreters ≢ []
 

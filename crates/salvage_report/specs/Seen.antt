@@ -6,7 +6,6 @@ use Rattle.image_memory.specs.Backed.{regions_of}
 use Rattle.image_memory.specs.Images.{Pushed}
 use Rattle.image_memory.specs.MapTables.{tests}
 use Rattle.process_memory.specs.Memory.{byte_at}
-use Rattle.py_fields.specs.declared.layout.Layout.{Layout}
 use Rattle.py_stacks.specs.declared.error.StackError.{StackError}
 use Rattle.py_process.specs.Facts.{known_of}
 use Rattle.py_records.specs.declared.table.RecordTable.{RecordTable}
@@ -18,7 +17,7 @@ use Rattle.salvage_words.specs.Salvage.{Salvage}
 use Rattle.salvage_report.specs.declared.cause.Cause.{Cause}
 use Rattle.core_stacks.specs.declared.process.Process.{Process}
 use Rattle.salvage_report.specs.Crashed.{CrashTold}
-use Rattle.core_stacks.specs.Process.{IsProcess, opened_of}
+use Rattle.core_stacks.specs.Process.{IsProcessOf, opened_of}
 use Rattle.salvage_report.specs.Outcome.{IsAnswer, IsLeftOf, asked_of}
 
 -- what is left of its interpreters
@@ -29,6 +28,5 @@ Salvages s p crash result = IsOrNoMemory (salvaged_at (tests p.info.maps) (machi
 -- the text of what is left of it, or that no interpreter is shown
 abbrev pub ShowsLeft : Salvage → List RecordTable → Pushed → Process → Option Crash
     → Result (Vec ℕ Global) Cause → Type 0
-ShowsLeft s ts images p crash result = (bytes : List ℕ) (layouts : List Layout)
-    (is : IsProcess bytes images layouts p) → CrashTold bytes crash
+ShowsLeft s ts images p crash result = (bytes : List ℕ) (is : IsProcessOf bytes p) → CrashTold bytes crash
     → IsAnswer (IsLeftOf s ts bytes images (opened_of is.maps p)) result

@@ -1,5 +1,6 @@
 -- The text of what is left of a process, with its head lines; the help; the program's version.
-use Rattle.std.specs.Prelude.{ℕ, ℤ, ◌++◌, false, List, [], Option, Some, None, if◌then◌else◌, codes}
+use Rattle.std.specs.Prelude.{ℕ, ℤ, ◌++◌, Bool, true, false, List, [], Option, Some, None, if◌then◌else◌, codes}
+use Rattle.std.specs.Prelude.{decimal}
 use Rattle.std.specs.Fmt.{signed_decimal}
 use Rattle.bstr.specs.Utf8.{lossy_chars}
 use Rattle.py_fields.specs.Version.{version_text}
@@ -28,8 +29,11 @@ process_text (Some process) = codes "Process " ++ (signed_decimal process.0 ++ (
 abbrev pub core_name : List ℕ → List ℕ
 core_name core = escaped false (lossy_chars core)
 
-abbrev pub version_line : Version → List ℕ
-version_line version = codes "Python v" ++ (version_text version ++ codes "\n\n")
+-- the version; of one that the names of files tell the major and the minor number alone, and that they do
+abbrev pub version_line : (named : Bool) → Version → List ℕ
+version_line false v = codes "Python v" ++ (version_text v ++ codes "\n\n")
+version_line true v = codes "Python v" ++ (decimal v.major ++ (codes "." ++ (decimal v.minor
+    ++ codes " (by the names of files)\n\n")))
 
 -- the text of a section; of one that isn't asked for there is none
 abbrev pub section_text : {T : Type 0} → (T → List ℕ) → Option T → List ℕ
@@ -40,7 +44,7 @@ section_text text (Some told) = text told
 -- the sections that are read in memory; the registers, and what the process says of the layout
 abbrev pub left_text : List ℕ → (limit : ℕ) → Left → List ℕ
 left_text core limit left = signal_text (core_name core) left.signal ++ (section_text info_text left.told.signal
-    ++ (process_text left.process ++ (version_line left.version
+    ++ (process_text left.process ++ (version_line left.named left.version
     ++ (salvaged_text (names_given left.memory.names) left.salvaged ++ (memory_text limit left.memory
     ++ (section_text threads_text (registers_shown left.told.registers)
     ++ section_text check_text (check_of left.check)))))))

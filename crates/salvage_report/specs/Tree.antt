@@ -1,14 +1,15 @@
 -- The JSON of what is left of a process, and of what is told in its sections: one object, which has the key of each
 -- section, null where it isn't asked for.
-use Rattle.std.specs.Prelude.{ℕ, ◌++◌, List, map, Option, Some, None, codes}
+use Rattle.std.specs.Prelude.{ℕ, ◌++◌, Bool, true, false, List, map, Option, Some, None, codes, decimal}
 use Rattle.json.specs.Layout.{pretty}
 use Rattle.json.specs.Tree.{json_tokens}
 use Rattle.serde_json.specs.Data.{Data, Members, boolean, member, no_members, null, object, string}
 use Rattle.serde_json.specs.Written.{outline}
 use Rattle.py_fields.specs.Version.{version_text}
+use Rattle.py_fields.specs.declared.version.Version.{Version}
 use Rattle.crash_signal.specs.Trees.{signal_tree as info_tree}
 use Rattle.thread_registers.specs.Trees.{threads_tree}
-use Rattle.salvage_json.specs.Salvaged.{interpreters_tree, process_tree, signal_tree}
+use Rattle.salvage_json.specs.Salvaged.{ended_tree, interpreters_tree, process_tree, signal_tree}
 use Rattle.memory_sections.specs.Told.{names_given}
 use Rattle.memory_sections.specs.Values.{exceptions_tree_if, names_tree_if, native_tree_if, tasks_tree_if}
 use Rattle.missed_reads.specs.Told.{RefusedTold, missed_tree}
@@ -34,6 +35,11 @@ first_members limit left =
     member (codes "names") (names_tree_if left.memory.names) (
     member (codes "native") (native_tree_if limit left.memory.native) no_members))))))
 
+-- a version; of one that the names of files tell the major and the minor number alone
+abbrev pub told_version : (named : Bool) → Version → List ℕ
+told_version false v = version_text v
+told_version true v = decimal v.major ++ (codes "." ++ decimal v.minor)
+
 -- the keys stand in the order of their bytes
 abbrev pub left_tree : (limit : ℕ) → Left → Data
 left_tree limit left = object (
@@ -47,10 +53,12 @@ left_tree limit left = object (
     member (codes "native") (native_tree_if limit left.memory.native) (
     member (codes "process") (process_tree left.process) (
     member (codes "registers") (section_tree threads_tree (registers_shown left.told.registers)) (
+    member (codes "search_ended") (ended_tree left.salvaged.looked) (
     member (codes "signal") (signal_tree left.signal) (
     member (codes "signal_info") (section_tree info_tree left.told.signal) (
     member (codes "tasks") (tasks_tree_if left.memory.tasks) (
-    member (codes "version") (string (version_text left.version)) no_members)))))))))))))
+    member (codes "version") (string (told_version left.named left.version)) (
+    member (codes "version_by_names") (boolean left.named) no_members)))))))))))))))
 
 -- the text of a tree: each item and member on a line of its own, two spaces deeper for each bracket
 abbrev pub pretty_text : Data → List ℕ

@@ -2,14 +2,13 @@
 ghost use Rattle.std.specs.Prelude.{◌≡◌, false, IfOk, string_bytes};
 ghost use Rattle.serde_json.specs.View.{members_view, view};
 ghost use Rattle.serde_json.specs.Written.{has_float};
-ghost use Rattle.py_fields.specs.Version.{version_text};
 ghost use Rattle.crash_signal.specs.Trees.{signal_tree as info_tree};
 ghost use Rattle.thread_registers.specs.Trees.{threads_tree};
 ghost use Rattle.missed_reads.specs.Told.{missed_tree, told_of};
 ghost use Rattle.py_selftest.specs.Trees.{check_tree};
 ghost use Rattle.salvage_report.specs.LayoutChecked.{check_of};
 ghost use Rattle.salvage_report.specs.Tree.{first_members, left_json, left_tree, missing_json};
-ghost use Rattle.salvage_report.specs.Tree.{missing_tree, pretty_text, section_tree};
+ghost use Rattle.salvage_report.specs.Tree.{missing_tree, pretty_text, section_tree, told_version};
 ghost use Rattle.salvage_report.specs.Sections.{missing_shown, registers_shown};
 
 use crate::left::Left;
@@ -18,7 +17,7 @@ use memory_sections::{exceptions_value, names_told, names_value, native_value, t
 use missed_reads::{MissedBlocks, Misses, missed_blocks, missed_value};
 use py_layout::Version;
 use py_selftest::{LayoutCheck, check_value};
-use salvage_json::{interpreters_value, process_value, signal_value};
+use salvage_json::{ended_value, interpreters_value, process_value, signal_value};
 use serde_json::{Map, Value, json, put};
 use std::alloc::{AllocError, Global};
 use thread_registers::{ThreadRegisters, threads_value};
@@ -66,9 +65,14 @@ fn layout_value(alloc: Global, check: &Option<LayoutCheck>) -> Result<Value, All
     }
 }
 
-fn version_of(alloc: Global, version: &Version) -> Result<String, AllocError>
-    ensures { IfOk result (λ text. string_bytes text ≡ version_text version.now) }
+/// The version; of one that the names of files tell the major and the minor number alone.
+fn version_of(alloc: Global, named: bool, version: &Version) -> Result<String, AllocError>
+    ensures { IfOk result (λ text. string_bytes text ≡ told_version named version.now) }
 {
+    if named {
+        let (major, minor) = (version.major, version.minor);
+        return format!(in alloc; "{major}.{minor}");
+    }
     format!(in alloc; "{version}")
 }
 
@@ -101,16 +105,19 @@ fn left_value(alloc: Global, limit: usize, left: &Left) -> Result<Value, AllocEr
     let mut map = first_members(alloc, limit, left)?;
     let process = process_value(alloc, &left.process)?;
     let registers = registers_value(alloc, &left.told.registers)?;
+    let search_ended = ended_value(alloc, &left.salvaged.looked)?;
     let signal = signal_value(alloc, left.signal)?;
     let signal_info = info_value(alloc, &left.told.signal)?;
     let tasks = tasks_value(alloc, &left.memory)?;
-    let version = version_of(alloc, &left.version)?;
+    let version = version_of(alloc, left.named, &left.version)?;
     put(&mut map, alloc, "process", process)?;
     put(&mut map, alloc, "registers", registers)?;
+    put(&mut map, alloc, "search_ended", search_ended)?;
     put(&mut map, alloc, "signal", signal)?;
     put(&mut map, alloc, "signal_info", signal_info)?;
     put(&mut map, alloc, "tasks", tasks)?;
     put(&mut map, alloc, "version", Value::String(version))?;
+    put(&mut map, alloc, "version_by_names", Value::Bool(left.named))?;
     Ok(Value::Object(map))
 }
 

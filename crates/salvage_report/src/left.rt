@@ -8,15 +8,16 @@ ghost use Rattle.memory_sections.specs.Told.{AreMemoryTold};
 ghost use Rattle.salvage_words.specs.Seen.{asked_salvage};
 ghost use Rattle.salvage_report.specs.Outcome.{IsAnswer, IsCoreOutcome, IsSalvagedBy};
 ghost use Rattle.program_run.specs.Reading.{core_contents};
-ghost use Rattle.core_stacks.specs.Process.{OpensProcess};
+ghost use Rattle.core_stacks.specs.Named.{OpensOrNamed};
 ghost use Rattle.salvage_report.specs.Seen.{Salvages, ShowsLeft};
 
 use crate::cause::Cause;
 use crate::crash::first_crash;
 use crate::layout_check::check_section;
+use crate::records::no_tables;
 use crate::sections::{Told, tell_sections};
 use crate::text::shown;
-use core_stacks::{Process, open};
+use core_stacks::{Process, open_named};
 use elf64_core::Text;
 use image_memory::Images;
 use memory_sections::{MemoryTold, tell_memory};
@@ -39,6 +40,8 @@ pub(crate) struct Left {
     pub(crate) signal: Option<i16>,
     pub(crate) process: Option<(i32, Text)>,
     pub(crate) version: Version,
+    /// Whether the names of mapped files alone tell it; its patch isn't known then.
+    pub(crate) named: bool,
     pub(crate) salvaged: Salvaged,
     pub(crate) told: Told,
     /// What the process says of its layout, where that is asked for.
@@ -147,11 +150,13 @@ fn shown_left(
         let (addresses, members) = (salvaged.looked.addresses, salvaged.looked.members);
         return Err(Cause::NoInterpreter { addresses, members });
     }
+    let named = process.untold.is_some();
     let Process { notes, version, .. } = process;
     let left = Left {
         signal: notes.signal,
         process: notes.process,
         version,
+        named,
         salvaged,
         told,
         check,
@@ -160,14 +165,19 @@ fn shown_left(
     Ok(shown(alloc, words, &left)?)
 }
 
-/// Keeps the range at which the version can't be read: the one read that is refused where a process can't be opened.
+/// Keeps the range at which the version can't be read: the one read that is refused where a process can't be opened, or
+/// only by the names of files.
 fn keep_version(opened: &Result<Process, CoreError>, misses: &mut Misses) {
-    if let Err(CoreError::UnreadableVersion { addr, len }) = opened {
+    let untold = match opened {
+        Ok(process) => process.untold.as_ref(),
+        Err(error) => Some(error),
+    };
+    if let Some(CoreError::UnreadableVersion { addr, len }) = untold {
         misses.add(*addr, *len);
     }
 }
 
-/// Opens the process of a core, as `core_stacks::open` does. A read that is refused is kept.
+/// Opens the process of a core, as `core_stacks::open_named` does. A read that is refused is kept.
 fn open_keeping(
     alloc: Global,
     core: Vec<u8>,
@@ -175,15 +185,16 @@ fn open_keeping(
     layouts: &Layouts,
     misses: &mut Misses,
 ) -> Result<Process, CoreError>
-    ensures opens { OpensProcess core.items images.now layouts.now result }
+    ensures opens { OpensOrNamed core.items images.now layouts.now result }
     ensures sound { IfOk result (λ process. IsSound process.layout) }
 {
-    let opened = open(alloc, core, images, layouts);
+    let opened = open_named(alloc, core, images, layouts);
     keep_version(&opened, misses);
     opened
 }
 
-/// The text of what is left of the process of a core, by its images, some layouts and some tables of records.
+/// The text of what is left of the process of a core, by its images, some layouts and some tables of records. Where the
+/// names of files alone tell the version no table counts, since the patch isn't known.
 fn salvage_core(
     alloc: Global,
     words: &SalvageWords,
@@ -199,6 +210,10 @@ fn salvage_core(
 {
     let process = open_keeping(alloc, core, images, layouts, misses)?;
     let crash = first_crash(alloc, process.dump.core())?;
+    if process.untold.is_some() {
+        let none = no_tables(alloc)?;
+        return shown_left(alloc, words, &none, images, process, crash, misses);
+    }
     shown_left(alloc, words, tables, images, process, crash, misses)
 }
 

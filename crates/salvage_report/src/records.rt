@@ -1,5 +1,5 @@
 //! The file of records, where one is named: what sections need of CPython beyond the layouts.
-ghost use Rattle.std.specs.Prelude.{◌≡◌, ◌≤◌, MatchResult};
+ghost use Rattle.std.specs.Prelude.{◌≡◌, ◌≤◌, [], MatchResult};
 ghost use Rattle.py_records.specs.File.{IsRightFor};
 ghost use Rattle.program_run.specs.Reading.{core_contents};
 ghost use Rattle.salvage_words.specs.Seen.{asked_salvage};
@@ -31,6 +31,16 @@ pub(crate) fn read_records<'a, F: Files>(
     }
 }
 
+/// No table of records. The one error is want of memory.
+pub(crate) fn no_tables(alloc: Global) -> Result<RecordTables, Cause>
+    ensures { MatchResult result (λ tables. tables ≡ []) (λ cause. cause ≡ Cause.OutOfMemory) }
+{
+    match RecordTables::of(alloc, Vec::new(alloc)) {
+        Ok(tables) => Ok(tables),
+        Err(_) => Err(Cause::OutOfMemory),
+    }
+}
+
 /// The text of what is left, over what the files hold: the records are judged first, where there are some, and there is
 /// none where no file is named.
 pub(crate) fn salvage_with(
@@ -45,9 +55,7 @@ pub(crate) fn salvage_with(
         (IsOutcomeWith (bytes_of_records records) (asked_salvage words.now) (core_contents files)) result }
 {
     let Some(text) = records else {
-        let Ok(tables) = RecordTables::of(alloc, Vec::new(alloc)) else {
-            return Err(Cause::OutOfMemory);
-        };
+        let tables = no_tables(alloc)?;
         return salvage_over(alloc, words, &tables, files, misses);
     };
     let tables = RecordTables::from_toml(alloc, &text)?;

@@ -58,10 +58,14 @@ fn push_process(
     text.push_str("\n")
 }
 
-/// The line of the version, and an empty one.
-fn push_version(text: &mut String, version: &Version) -> Result<(), AllocError>
-    ensures { OnOk result (string_bytes text.new ≡ string_bytes text.old ++ version_line version.now) }
+/// The line of the version, and an empty one. Of a version that the names of files tell the patch isn't known.
+fn push_version(text: &mut String, named: bool, version: &Version) -> Result<(), AllocError>
+    ensures { OnOk result (string_bytes text.new ≡ string_bytes text.old ++ version_line named version.now) }
 {
+    if named {
+        let (major, minor) = (version.major, version.minor);
+        return write!(text, "Python v{major}.{minor} (by the names of files)\n\n");
+    }
     write!(text, "Python v{version}\n\n")
 }
 
@@ -108,7 +112,7 @@ fn left_text(alloc: Global, core: &Name, limit: usize, left: &Left) -> Result<Ve
     push_signal(alloc, &mut text, core, left.signal)?;
     push_info(&mut text, &left.told.signal)?;
     push_process(alloc, &mut text, &left.process)?;
-    push_version(&mut text, &left.version)?;
+    push_version(&mut text, left.named, &left.version)?;
     let salvaged = salvaged_text(alloc, names_told(&left.memory), &left.salvaged)?;
     text.push_str(salvaged.as_str())?;
     push_memory(alloc, &mut text, limit, &left.memory)?;

@@ -54,7 +54,7 @@ PATH=FILE       FILE is read in place of the file that the process had mapped fr
 
 def rows() -> List[Row]:
     """All of them."""
-    parts = (words, order, described, causes, heads, marks, frames, threads, interpreters, names, trees, signals, registers,
+    parts = (words, order, described, causes, versions, heads, marks, frames, threads, interpreters, names, trees, signals, registers,
              missed)
     return [it for part in parts for it in part()]
 
@@ -164,13 +164,60 @@ def causes() -> Iterator[Row]:
         ("no map with a name", files_of(core_file([heap().segment(6), Segment(0x400000, b"", 5, 0x1000)])), b"no named executable map"),
         ("no image of an odd name", files_of(small(code=mapped(b"/lib/\xff.so"))), b"image not given: /lib/\xff.so"),
         ("a bad image", files_of(small(), program=b"text"), b"bad image: " + PATH),
-        ("half a bss", files_of(small(bss=Segment(BSS, bytes(8), 6, 16))), b"version unreadable at 0x500000, 16 bytes"),
         ("a version without a layout", files_of(small(bss=version), program=program), b"no layout for Python 3.14.0rc1+dev"),
         ("no interpreter", files_of(small(bss=bss(0x400000, THREAD))), b"no interpreter found: 2 addresses looked at, 0 members walked"),
         ("addresses that repeat", named(Objects(layout_of(EXAMPLE), HEAP), THREAD, THREAD),
          b"no interpreter found: 77 addresses looked at, 0 members walked"),
     ):
         yield salvage(f"cause: {what}", GOOD, files, line=line)
+
+
+HALF = Segment(BSS, struct.pack("<Q", HEAP), 6, 16)
+"""The first word of a bss, which is the interpreter; the other one is missing, so that nothing that is there tells a version."""
+
+BY_NAMES = TEXT.replace("3.9.0", "3.9 (by the names of files)")
+"""What is printed where the names of files alone tell the version."""
+
+
+def versions() -> Iterator[Row]:
+    """A version by the names of files, where nothing that is there tells it."""
+    other = lambda name: Segment(0x600000, bytes(16), 4, name=name)
+    line = b"version unreadable at 0x500000, 16 bytes"
+    image = lambda path: GOOD.replace("/usr/bin/python3.9", path)
+    yield salvage("version: by the program's name", GOOD, files_of(small(bss=HALF)), BY_NAMES)
+    for what, path, name in (
+        ("another file's", "/usr/bin/app", b"/lib/python3.9"), ("another file's with more behind it", "/usr/bin/app", b"/lib/python3.9.2"),
+        ("another file's with the letter of pymalloc", "/usr/bin/app", b"/lib/python3.9m"),
+        ("two files', which tell one", "/usr/bin/python3.9", b"/lib/libpython3.9.txt"),
+    ):
+        yield salvage(f"version: by {what}", image(path), files_of(small(code=mapped(path.encode()), bss=HALF, more=[other(name)])), BY_NAMES)
+    for what, path, name in (
+        ("two files, which tell two", "/usr/bin/python3.9", b"/lib/libpython3.8.txt"), ("a major number alone", "/usr/bin/app", b"/lib/python3"),
+        ("a folder's name", "/usr/bin/app", b"/lib/python3.9/a"), ("a version without a layout", "/usr/bin/app", b"/lib/python3.10"),
+        ("a free-threaded build", "/usr/bin/app", b"/lib/python3.9t"), ("a build that counts references", "/usr/bin/app", b"/lib/python3.9d"),
+        ("another word in front", "/usr/bin/app", b"/lib/xpython3.9"),
+    ):
+        yield salvage(f"version: none by {what}", image(path), files_of(small(code=mapped(path.encode()), bss=HALF, more=[other(name)])),
+                      line=line)
+    yield salvage("version: by names, as JSON", f"{GOOD} -j --missing", files_of(small(bss=HALF)), text_of_json(by_names()))
+    yield salvage("version: by names, without records", f"{GOOD} -j --tasks --records records", {**files_of(small(bss=HALF)), "records": RECORDS},
+                  text_of_json({**by_names(), "missing": None, "tasks": [
+                      {"frameworks": {"curio": False, "greenlet": False, "trio": False}, "interpreter": hex(HEAP), "tasks": None}]}))
+
+
+def by_names() -> Dict[str, object]:
+    """The JSON of the small core without half of its bss, of which the missing range is told."""
+    tree = broken_tree(0, [0, BSS >> 16])
+    interpreters = tree["interpreters"]
+    assert isinstance(interpreters, list)
+    interpreters[0]["searched"] = True
+    interpreters[0]["threads"][0]["frames"]["end"] = {"kind": "whole"}
+    return {**tree, "version": "3.9", "version_by_names": True}
+
+
+def text_of_json(tree: Dict[str, object]) -> str:
+    """An object as it is printed."""
+    return json.dumps(tree, indent=2, ensure_ascii=False) + "\n"
 
 
 def heads() -> Iterator[Row]:
@@ -354,10 +401,23 @@ def parts_of_sections() -> Iterator[Row]:
                       found(lost if len(parts) == 1 and parts[0][1] < 576 else ""))
     ring = heap()
     ring.record("thread", THREAD, interp=HEAP, next=THREAD, id=0x7F00)
+    place = ring.record("interpreter")
+    ring.threads(place, [{"id": 1}])
     image = image_file([Segment(0x400000, b"", 5, 0x1000)], (BSS, 8 * 1100))
     maps = [ring.segment(6), mapped(), bss(*[0x400000] * 50, *[HEAP] * 1050)]
     yield salvage("interpreters: as many members as are walked by search", GOOD, files_of(core_file(maps), program=image),
                   line=b"no interpreter found: 1074 addresses looked at, 4194304 members walked")
+    maps = [ring.segment(6), mapped(), bss(place, *[HEAP] * 1099)]
+    ended = "... the search ended after {} members and {} addresses\n"
+    yield salvage("interpreters: one, and as many members as are walked by search", GOOD, files_of(core_file(maps), program=image),
+                  "Python v3.9.0\n\nThread 0x1\n" + ended.format(4096 * 1024 + 1, 1025))
+    maps = [ring.segment(6), mapped(), bss(place, 0)]
+    image = image_file([Segment(0x400000, b"", 5, 0x1000)], (BSS, 8 * 4194305))
+    yield salvage("interpreters: one, and more words than are looked at in a section", GOOD, files_of(core_file(maps), program=image),
+                  "Python v3.9 (by the names of files)\n\nThread 0x1\n" + ended.format(1, 2))
+    tree = by_names()
+    yield salvage("interpreters: JSON of a search that ended", f"{GOOD} -j", files_of(small(bss=bss(HEAP, 0)), program=image),
+                  text_of_json({**tree, "missing": None, "search_ended": {"addresses": 2, "members": 1}}))
 
 
 def names() -> Iterator[Row]:
@@ -381,8 +441,8 @@ def trees() -> Iterator[Row]:
     interpreter = {"address": hex(HEAP), "lock": {"holder": 0, "kind": "read"}, "searched": False, "threads": [thread],
                    "threads_end": {"kind": "whole"}}
     tree = {"exceptions": None, "interpreters": [interpreter], "layout_check": None, "missing": None, "more": False, "names": None,
-            "native": None, "process": {"arguments": "p\n", "pid": 4}, "registers": None, "signal": 11, "signal_info": None, "tasks": None,
-            "version": "3.9.0"}
+            "native": None, "process": {"arguments": "p\n", "pid": 4}, "registers": None, "search_ended": None, "signal": 11, "signal_info": None,
+            "tasks": None, "version": "3.9.0", "version_by_names": False}
     notes = [status_record(11, 4, 0x7F00), process_record(4, b"p", b"p\n")]
     text = lambda it: json.dumps(it, indent=2, ensure_ascii=False) + "\n"
     yield salvage("JSON", f"{GOOD} -j", named(heap(), notes=notes), text(tree))
@@ -475,7 +535,8 @@ def broken_tree(back: int, blocks: Sequence[int]) -> Dict[str, object]:
     interpreter = {"address": hex(HEAP), "lock": {"holder": 0, "kind": "read"}, "searched": False, "threads": [thread],
                    "threads_end": {"kind": "whole"}}
     return {"exceptions": None, "interpreters": [interpreter], "layout_check": None, **missed_object(blocks), "more": False, "names": None,
-            "native": None, "process": None, "registers": None, "signal": None, "signal_info": None, "tasks": None, "version": "3.9.0"}
+            "native": None, "process": None, "registers": None, "search_ended": None, "signal": None, "signal_info": None, "tasks": None,
+            "version": "3.9.0", "version_by_names": False}
 
 
 def missed() -> Iterator[Row]:
@@ -485,10 +546,14 @@ def missed() -> Iterator[Row]:
     yield salvage("missing: the text is the same", missing, files_of(small()), TEXT)
     for what, files, line, blocks in (
         ("no interpreter", files_of(small(bss=bss(0x400000, THREAD))), b"no interpreter found: 2 addresses looked at, 0 members walked", []),
-        ("half a bss", files_of(small(bss=Segment(BSS, bytes(8), 6, 16))), b"version unreadable at 0x500000, 16 bytes", [BSS >> 16]),
+        ("half a bss", files_of(small(bss=Segment(BSS, bytes(8), 6, 16))),
+         b"no interpreter found: 1 addresses looked at, 0 members walked", [BSS >> 16]),
         ("no core", {**files_of(small()), "core": b"text"}, b"not an ELF64 little-endian file", []),
     ):
         yield salvage(f"missing: {what}", missing, files, text(missed_object(blocks)), line)
+    unnamed = files_of(small(code=mapped(b"/usr/bin/python"), bss=HALF))
+    yield salvage("missing: half a bss of a program whose name tells no version", missing.replace("python3.9", "python"), unnamed,
+                  text(missed_object([BSS >> 16])), b"version unreadable at 0x500000, 16 bytes")
     faulty = files_of(small(), "")
     yield salvage("missing: a faulty layout file", missing, faulty, line=b"layouts: table 0, key layout", status=6)
     for back, blocks in (

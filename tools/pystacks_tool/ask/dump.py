@@ -87,6 +87,6 @@ def tree_of(report: Report, threads: List[Tree], most: Optional[int] = None) -> 
     process = None if report.process is None else {"arguments": report.process[1], "pid": report.process[0]}
     return {
         "interpreters": [interpreter], "layout_check": None, "missing": None, "more": None, "names": None, "native": None,
-        "process": process, "registers": None, "signal": report.signal,
-        "signal_info": None, "tasks": None, "exceptions": None, "version": report.version or None,
+        "process": process, "registers": None, "search_ended": None, "signal": report.signal,
+        "signal_info": None, "tasks": None, "exceptions": None, "version": report.version or None, "version_by_names": None,
     }

@@ -160,6 +160,17 @@ def add(tree: Tree, added: NamesAndValues) -> None:
                         row["repr"] = added.values.get((row["name"], row["address"]))
 
 
+def version_told(tree: Tree) -> str:
+    """The version, and that the names of files alone tell it, where they do."""
+    version: str = tree["version"]
+    return version + (" (by the names of files)" if tree.get("version_by_names") else "")
+
+
+def ended_told(tree: Optional[Tree]) -> str:
+    """What is said of a search for interpreters that ended before all was looked at; nothing of another one."""
+    return "" if tree is None else f"the search ended after {tree['members']} members and {tree['addresses']} addresses"
+
+
 def report_by_salvage(text: str, core: str, added: Callable[[Tree], NamesAndValues], hidden: Sequence[str] = ()) -> Tuple[Tree, Report]:
     """The JSON of one core with what is added to it, less what is hidden by words, and the report that it gives."""
     try:
@@ -172,7 +183,7 @@ def report_by_salvage(text: str, core: str, added: Callable[[Tree], NamesAndValu
         registers = tuple(registers_of(it) for it in tree["registers"] or ())
         signal = signal_told(tree["signal_info"])
         layout = tuple(layout_lines(layout_told(tree.get(KEY))))
-        return tree, Report(interpreters, tree["version"], tree["signal"], told, tree["more"], True, core, signal, registers, layout,
-                            all_tasks(tree.get(TASKS)))
+        return tree, Report(interpreters, version_told(tree), tree["signal"], told, tree["more"], True, core, signal, registers, layout,
+                            all_tasks(tree.get(TASKS)), ended=ended_told(tree.get("search_ended")))
     except (ValueError, KeyError, TypeError) as error:
         raise Unexpected(f"its JSON: {error!r}") from None

@@ -110,6 +110,8 @@ def stacks_part(report: Report, front: str, style: Style) -> str:
             count += 1
     if report.has_more:
         parts.append("<p class=\"end\">... more than 16 interpreters</p>")
+    if report.ended:
+        parts.append(f"<p class=\"end\">... {text(report.ended)}</p>")
     return "\n".join(it for it in parts if it)
 
 

@@ -13,29 +13,29 @@ use Rattle.salvage_report.proofs.left.shown_left.Goals as goal
 pub returns-in_err-salvaged : goal.returns-in_err-salvaged
 returns-in_err-salvaged c =
     let p = err_from_is_err_and c.from_residual.result c.from_residual.ensures.1 in
-    rw (p.1, p.2) (λ bytes layouts is told ne. absurd (ne refl))
+    rw (p.1, p.2) (λ bytes is told ne. absurd (ne refl))
 
 pub returns-in_err-check : goal.returns-in_err-check
 returns-in_err-check c =
     let p = err_from_is_err_and c.from_residual-in_err-check.result c.from_residual-in_err-check.ensures.1 in
-    rw (p.1, p.2) (λ bytes layouts is told ne. absurd (ne refl))
+    rw (p.1, p.2) (λ bytes is told ne. absurd (ne refl))
 
 pub returns-in_err-memory : goal.returns-in_err-memory
 returns-in_err-memory c =
     let p = err_from_is_err_and c.from_residual-in_err-memory.result c.from_residual-in_err-memory.ensures.1 in
-    rw (p.1, p.2) (λ bytes layouts is told ne. absurd (ne refl))
+    rw (p.1, p.2) (λ bytes is told ne. absurd (ne refl))
 
 pub returns-in_err-told : goal.returns-in_err-told
 returns-in_err-told c =
     let p = err_from_is_err_and c.from_residual-in_err-told.result c.from_residual-in_err-told.ensures.1 in
-    rw (p.1, p.2) (λ bytes layouts is told ne. absurd (ne refl))
+    rw (p.1, p.2) (λ bytes is told ne. absurd (ne refl))
 
 empty : {T : Type 0} (xs : List T) → length xs ≡ 0 → xs ≡ []
 empty [] e = refl
 empty (x ∷ xs) e = absurd (omega (arith, e))
 
 pub returns-then-is_empty : goal.returns-then-is_empty
-returns-then-is_empty c = λ bytes layouts is crashed ne.
+returns-then-is_empty c = λ bytes is crashed ne.
     let salvaged = c.in_ok-salvaged.salvaged in
     let asked = c.args.words.now.sections in
     let process = c.args.process.notes.process in
@@ -51,16 +51,16 @@ returns-then-is_empty c = λ bytes layouts is crashed ne.
     c.deref.ensures.value c.in_ok-check.ensures in
     let none : salvaged.interpreters.items ≡ [] = empty salvaged.interpreters.items (search rules) in
     none_left (asked_salvage c.args.words.now) c.args.tables.now c.args.process c.args.crash salvaged c.in_ok-salvaged.ensures bytes
-    c.args.images.now layouts is crashed told sections c.in_ok-check.check check c.in_ok-memory.memory
+    c.args.images.now is crashed told sections c.in_ok-check.check check c.in_ok-memory.memory
     memory none
 
 pub returns-in_err-shown : goal.returns-in_err-shown
 returns-in_err-shown c =
     let p = err_from_is_err_and c.from_residual-in_err-shown.result c.from_residual-in_err-shown.ensures.1 in
-    rw (p.1, p.2) (λ bytes layouts is told ne. absurd (ne refl))
+    rw (p.1, p.2) (λ bytes is told ne. absurd (ne refl))
 
 pub returns : goal.returns
-returns c = λ bytes layouts is crashed.
+returns c = λ bytes is crashed.
     let salvaged = c.in_ok-salvaged.salvaged in
     let asked = c.args.words.now.sections in
     let process = c.args.process.notes.process in
@@ -77,5 +77,5 @@ returns c = λ bytes layouts is crashed.
     let full : length salvaged.interpreters.items ≢ 0 = search rules in
     let some : salvaged.interpreters.items ≢ [] = λ none. full (ap length none) in
     some_left (asked_salvage c.args.words.now) c.args.tables.now c.args.process c.args.crash salvaged c.in_ok-salvaged.ensures bytes
-    c.args.images.now layouts is crashed told sections c.in_ok-check.check check c.in_ok-memory.memory
+    c.args.images.now is crashed told sections c.in_ok-check.check check c.in_ok-memory.memory
     memory c.in_ok-shown.field-0.items some c.in_ok-shown.ensures
