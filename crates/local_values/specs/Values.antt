@@ -1,0 +1,54 @@
+-- The values of locals, by their addresses. That all of a process have so many nodes together is this project's bound.
+use Rattle.std.specs.Prelude.{◌≡◌, ℕ, zero, suc, ◌+◌, ◌-◌, ◌*◌, nat_eq, if◌then◌else◌, List, [], ◌∷◌, length, Option}
+use Rattle.std.specs.Prelude.{Some, None, option_map}
+use Rattle.std.specs.BTreeMap.{get}
+use Rattle.std.specs.List.{list_any}
+use Rattle.std.specs.Ordering.{nat_cmp}
+use Rattle.process_memory.specs.Memory.{Memory}
+use Rattle.py_fields.specs.declared.layout.Layout.{Layout}
+use Rattle.py_fronts.specs.declared.salvaged.SalvagedInterpreter.{SalvagedInterpreter}
+use Rattle.py_reprs.specs.declared.kinds.ReprTypes.{ReprTypes}
+use Rattle.py_reprs.specs.declared.limits.Limits.{Limits}
+use Rattle.py_reprs.specs.Limits.{limits_at}
+use Rattle.py_reprs.specs.Trees.{Tree, tree_of}
+use Rattle.py_reprs.specs.Values.{repr_at, value_cost}
+use Rattle.local_values.specs.Addresses.{shown_addresses}
+use Rattle.local_values.specs.Nodes.{nodes_of}
+use Rattle.local_values.specs.declared.values.LocalValues.{LocalValues}
+
+-- how many nodes all of them have together, until no other is begun
+abbrev pub node_limit : ℕ
+node_limit = 1048576
+
+-- those of some addresses whose values are read, where so many nodes are left: the first, until none is left
+unfoldable pub within : (ℕ → Tree) → (left : ℕ) → List ℕ → List ℕ
+within value left [] = []
+within value zero (a ∷ rest) = []
+within value (suc left) (a ∷ rest) = a ∷ within value (suc left - nodes_of (value a)) rest
+
+-- the value at an address, where that is among these
+abbrev pub value_among : (ℕ → Tree) → List ℕ → ℕ → Option Tree
+value_among value addresses a = if list_any (nat_eq a) addresses then Some (value a) else None
+
+-- the value that was read at an address
+unfoldable pub value_in : LocalValues → ℕ → Option Tree
+value_in values a = option_map tree_of (get nat_cmp values.values a)
+
+abbrev pub value_at : Layout → ReprTypes → Limits → Memory → ℕ → Tree
+value_at l t b m a = repr_at l t b m b.levels b.nodes a
+
+-- the values of some addresses: each that is within the limit has the one of memory, no other has one, and how many these
+-- are is told
+pub record AreValues (l : Layout) (t : ReprTypes) (b : Limits) (m : Memory) (addresses : List ℕ) (values : LocalValues)
+    : Type 0 where
+  pub are : (a : ℕ) → value_in values a ≡ value_among (value_at l t b m) (within (value_at l t b m) node_limit addresses) a
+  pub left_out : values.left_out + length (within (value_at l t b m) node_limit addresses) ≡ length addresses
+
+-- the values of the locals of all frames that are shown, by so many `-l`
+abbrev pub AreLocalValues : Layout → ReprTypes → (times : ℕ) → Memory → List SalvagedInterpreter → LocalValues → Type 0
+AreLocalValues l t times m interpreters values =
+    AreValues l t (limits_at times) m (shown_addresses interpreters) values
+
+-- how many reads one value takes at most
+abbrev pub local_cost : Limits → ℕ
+local_cost b = value_cost b b.nodes

@@ -1,0 +1,15 @@
+//! The values of the locals of the frames that are shown of a broken process, by their addresses.
+//!
+//! Of each local a frame keeps the address of its value. Each such address is read once, however many locals have it, in
+//! the order in which the frames are shown; all of them together take so many nodes at most, and what is behind is counted.
+#![tactic(auto)]
+
+mod addresses;
+mod nodes;
+mod values;
+
+pub use addresses::shown_addresses;
+pub use values::{LocalValues, read_local_values};
+
+#[cfg(test)]
+mod tests;
