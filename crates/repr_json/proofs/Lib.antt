@@ -1,2 +1,3 @@
 pub mod Parts
 pub mod NoFloat
+pub mod Kept

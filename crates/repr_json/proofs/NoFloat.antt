@@ -11,8 +11,9 @@ use Rattle.py_reprs.specs.Trees.Tree.{Absent, Nothing, Ellipsis, NotImplemented,
 use Rattle.py_reprs.specs.Trees.Tree.{HugeInteger, Float, Complex, Text, Bytes, Items, Pairs, Class, Function, Builtin}
 use Rattle.py_reprs.specs.Trees.Tree.{Module, Opaque, Lost, Damaged}
 use Rattle.py_reprs.specs.Trees.Trees.{no_trees, tree}
-use Rattle.repr_json.specs.Leaves.{name_tree, number_or_text, signed, small_integer_tree, small_number, complex_tree}
-use Rattle.repr_json.specs.Trees.{AreJson, IsJson, items_tree, pair_trees, pair_tree}
+use Rattle.repr_json.specs.Leaves.{name_tree, number_or_text, signed, small_integer_tree, small_number}
+use Rattle.repr_json.specs.Leaves.{complex_tree, part_tree}
+use Rattle.repr_json.specs.Trees.{AreJson, IsJson, items_kind, items_tree, pair_trees, pair_tree}
 
 or_first : (a b : Bool) → (a || b) ≡ false → a ≡ false
 or_first false b h = refl
@@ -59,8 +60,9 @@ container : (kind : List ℕ) (parts : List Data) (n : ℕ) → items_have_float
 container kind parts n h = ap (λ b. b || false) h
 
 mutual
-  pub no_float : (t : Tree) (d : Data) → IsJson t d → has_float d ≡ false
   unfolding IsJson
+
+  pub no_float : (t : Tree) (d : Data) → IsJson t d → has_float d ≡ false
   no_float Absent d is = ap has_float is
   no_float Nothing d is = ap has_float is
   no_float Ellipsis d is = ap has_float is
@@ -74,12 +76,13 @@ mutual
   no_float (Float bits) d is = ap has_float is.is
   no_float (Complex real imaginary) d is = ap has_float is.is
       ∙ ap (λ x. has_float (complex_tree x is.right)) is.left_is.is
-      ∙ ap (λ x. has_float (complex_tree _ x)) is.right_is.is
+      ∙ ap (λ x. has_float (complex_tree (part_tree real is.left_is.decimal) x)) is.right_is.is
   no_float (Text form front length) d is = ap has_float is
   no_float (Bytes form front length) d is = ap has_float is
-  no_float (Items form trees left_out) d is = ap has_float is.2 ∙ container _ is.0 left_out (no_floats trees is.0 is.1)
+  no_float (Items form trees left_out) d is = ap has_float is.2
+      ∙ container (items_kind form) is.0 left_out (no_floats trees is.0 is.1)
   no_float (Pairs keys values left_out) d is = ap has_float is.4
-      ∙ container _ (pair_trees is.0 is.1) left_out (pairs is.0 is.1 (no_floats keys is.0 is.2) (no_floats values is.1 is.3))
+      ∙ container (codes "dict") (pair_trees is.0 is.1) left_out (pairs is.0 is.1 (no_floats keys is.0 is.2) (no_floats values is.1 is.3))
   no_float (Class n addr) d is = ap has_float is ∙ ap (λ b. b || false) (name n)
   no_float (Function n file line addr) d is = ap has_float is
       ∙ (λ i. name file i || (false || (false || (name n i || false))))
@@ -90,7 +93,6 @@ mutual
   no_float (Damaged kind addr) d is = ap has_float is
 
   no_floats : (ts : Trees) (ds : List Data) → AreJson ts ds → items_have_float (items_of ds) ≡ false
-  unfolding IsJson
   no_floats no_trees ds is = ap (λ xs. items_have_float (items_of xs)) is
   no_floats (tree first rest) [] is = absurd is
   no_floats (tree first rest) (d ∷ ds) is =

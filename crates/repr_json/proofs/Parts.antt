@@ -7,9 +7,10 @@ use Rattle.serde_json.specs.View.{view}
 use Rattle.serde_json.specs.declared.value.Value.{Value}
 use Rattle.py_reprs.specs.declared.repr.Repr.{Repr}
 use Rattle.py_reprs.specs.Trees.{tree_of, trees_of}
+use Rattle.py_reprs.specs.Trees.Trees.{no_trees}
 use Rattle.repr_json.specs.Trees.{AreJson, IsJson, pair_tree, pair_trees}
 
-pub none_is : AreJson (trees_of (map tree_of [])) []
+pub none_is : AreJson no_trees []
 unfolding IsJson
 none_is = refl
 

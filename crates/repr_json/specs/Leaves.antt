@@ -1,6 +1,6 @@
 -- The JSON of values without others in them: an object whose kind says which. The keys of an object stand in the order
 -- of their bytes, addresses and bits are texts in hexadecimal digits. All of it is this project's own rule.
-use Rattle.std.specs.Prelude.{ℕ, ◌+◌, ◌*◌, ◌/◌, ◌%◌, ◌^◌, ℤ, pos, neg_ℤ, int_le, nat_le, nat_lt, ◌&&◌, Bool}
+use Rattle.std.specs.Prelude.{ℕ, ◌+◌, ◌*◌, ◌/◌, ◌%◌, ◌^◌, ℤ, pos, neg_ℤ, int_le, nat_le, nat_lt, ◌&&◌, Bool, false}
 use Rattle.std.specs.Prelude.{if◌then◌else◌, List, [], ◌∷◌, ◌++◌, Option, Some, None, codes, encode_utf8}
 use Rattle.std.specs.Prelude.{encode_utf8_all}
 use Rattle.std.specs.Fmt.{digits, signed_decimal}

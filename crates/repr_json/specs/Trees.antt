@@ -94,17 +94,3 @@ unfoldable mutual
   AreJson no_trees ds = ds ≡ []
   AreJson (tree first rest) [] = ⊥
   AreJson (tree first rest) (d ∷ ds) = IsJson first d × AreJson rest ds
-
--- the JSON of a container, by that of its items
-pub record IsContainer (kind : List ℕ) (trees : Trees) (left_out : ℕ) (d : Data) : Type 0 where
-  pub parts : List Data
-  pub each : AreJson trees parts
-  pub is : d ≡ items_tree kind parts left_out
-
--- that of a dict
-pub record IsDict (keys values : Trees) (left_out : ℕ) (d : Data) : Type 0 where
-  pub ks : List Data
-  pub each_key : AreJson keys ks
-  pub vs : List Data
-  pub each_value : AreJson values vs
-  pub is : d ≡ items_tree (codes "dict") (pair_trees ks vs) left_out

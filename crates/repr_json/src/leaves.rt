@@ -1,5 +1,5 @@
 //! Values without others in them, but for numbers.
-ghost use Rattle.std.specs.Prelude.{◌≡◌, ◌++◌, ◌<◌, IfOk, OnOk, codes, string_bytes};
+ghost use Rattle.std.specs.Prelude.{◌≡◌, ◌++◌, ◌<◌, IfOk, codes, false, string_bytes};
 ghost use Rattle.std.specs.Fmt.{digits};
 ghost use Rattle.serde_json.specs.View.{view};
 ghost use Rattle.repr_json.specs.Leaves.{bytes_kind, bytes_tree, character_of, characters, damaged_tree, function_tree};

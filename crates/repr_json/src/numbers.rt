@@ -1,5 +1,5 @@
 //! Numbers.
-ghost use Rattle.std.specs.Prelude.{◌≡◌, IfOk, string_bytes};
+ghost use Rattle.std.specs.Prelude.{◌≡◌, ◌≤◌, IfOk, IfSome, string_bytes};
 ghost use Rattle.std.specs.Fmt.{signed_decimal};
 ghost use Rattle.serde_json.specs.View.{view};
 ghost use Rattle.python_literals.specs.Floats.{IsFloatText};
@@ -39,7 +39,8 @@ const EXACT: u64 = 9_007_199_254_740_992;
 
 /// The number of two digits of 30 bits at most, where it is that small.
 fn small_number(digits: &[u32]) -> Option<u64>
-    ensures { result ≡ small_number digits.now }
+    ensures value { result ≡ small_number digits.now }
+    ensures small { IfSome result (λ n. n ≤ 9007199254740992) }
 {
     match digits {
         [] => Some(0),
@@ -102,9 +103,10 @@ fn small_text(alloc: Global, number: i64) -> Result<String, AllocError>
 }
 
 /// Python 2's `int`.
-pub(crate) fn small_integer_value(alloc: Global, number: i64) -> Result<Value, AllocError>
-    ensures { IfOk result (λ own. view own ≡ small_integer_tree number) }
+pub(crate) fn small_integer_value(alloc: Global, number: &i64) -> Result<Value, AllocError>
+    ensures { IfOk result (λ own. view own ≡ small_integer_tree number.now) }
 {
+    let number = *number;
     if -9_007_199_254_740_992 <= number && number <= 9_007_199_254_740_992 {
         let small = json!(in alloc; number)?;
         return valued(alloc, "int", small);

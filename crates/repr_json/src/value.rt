@@ -1,8 +1,8 @@
 //! The JSON of a value.
-ghost use Rattle.std.specs.Prelude.{◌≡◌, IfOk, map};
+ghost use Rattle.std.specs.Prelude.{◌≡◌, IfOk, codes, map};
 ghost use Rattle.serde_json.specs.View.{view};
 ghost use Rattle.py_reprs.specs.Trees.{tree_of, trees_of};
-ghost use Rattle.repr_json.specs.Trees.{AreJson, IsContainer, IsDict, IsJson, items_kind, items_tree, pair_trees};
+ghost use Rattle.repr_json.specs.Trees.{AreJson, IsJson, items_kind, items_tree, pair_tree, pair_trees};
 
 use crate::leaves::{
     bytes_value, damaged_value, function_value, kind_value, lost_value, named_value, opaque_value,
@@ -46,6 +46,43 @@ fn container(
     })
 }
 
+/// A key and its value.
+fn pair(alloc: Global, key: Value, value: Value) -> Result<Value, AllocError>
+    ensures { IfOk result (λ own. view own ≡ pair_tree (view key) (view value)) }
+{
+    json!(in alloc; [key, value])
+}
+
+/// Keys and values side by side.
+fn pairs_of(alloc: Global, keys: Vec<Value>, values: Vec<Value>) -> Result<Vec<Value>, AllocError>
+    ensures { IfOk result (λ pairs. map view pairs.items
+        ≡ pair_trees (map view keys.items) (map view values.items)) }
+{
+    let mut pairs = Vec::new(alloc);
+    let mut left = values.into_iter();
+    for key in keys {
+        let Some(value) = left.next() else {
+            return Ok(pairs);
+        };
+        pairs.push(pair(alloc, key, value)?)?;
+    }
+    Ok(pairs)
+}
+
+/// A dict by what it shows.
+fn dict(
+    alloc: Global,
+    keys: Vec<Value>,
+    values: Vec<Value>,
+    left_out: u64,
+) -> Result<Value, AllocError>
+    ensures { IfOk result (λ own. view own ≡ items_tree (codes "dict")
+        (pair_trees (map view keys.items) (map view values.items)) left_out) }
+{
+    let pairs = pairs_of(alloc, keys, values)?;
+    container(alloc, "dict", pairs, left_out)
+}
+
 /// A value as JSON: an object whose `kind` says what it is, with its parts. The one error is want of memory.
 #[cycle(values)]
 pub fn repr_value(alloc: Global, value: &Repr) -> Result<Value, AllocError>
@@ -62,7 +99,7 @@ pub fn repr_value(alloc: Global, value: &Repr) -> Result<Value, AllocError>
             is_negative,
             digits,
         } => integer_value(alloc, *form, *is_negative, digits),
-        Repr::SmallInteger(number) => small_integer_value(alloc, *number),
+        Repr::SmallInteger(number) => small_integer_value(alloc, number),
         Repr::HugeInteger {
             form,
             is_negative,
@@ -85,12 +122,19 @@ pub fn repr_value(alloc: Global, value: &Repr) -> Result<Value, AllocError>
             form,
             items,
             left_out,
-        } => items_value(alloc, items_kind(*form), items, *left_out),
+        } => {
+            let items = each_value(alloc, items)?;
+            container(alloc, items_kind(*form), items, *left_out)
+        }
         Repr::Pairs {
             keys,
             values,
             left_out,
-        } => pairs_value(alloc, keys, values, *left_out),
+        } => {
+            let keys = each_value(alloc, keys)?;
+            let values = each_value(alloc, values)?;
+            dict(alloc, keys, values, *left_out)
+        }
         Repr::Class { name, addr } => named_value(alloc, "class", name, *addr),
         Repr::Function {
             name,
@@ -116,46 +160,4 @@ fn each_value(alloc: Global, values: &[Repr]) -> Result<Vec<Value>, AllocError>
         own.push(repr_value(alloc, &values[number])?)?;
     }
     Ok(own)
-}
-
-/// A container.
-#[cycle(values)]
-fn items_value(
-    alloc: Global,
-    kind: &str,
-    items: &[Repr],
-    left_out: u64,
-) -> Result<Value, AllocError>
-    ensures { IfOk result (λ own. IsContainer kind.now (trees_of (map tree_of items.now)) left_out (view own)) }
-{
-    let own = each_value(alloc, items)?;
-    container(alloc, kind, own, left_out)
-}
-
-/// A dict, by its keys and their values.
-#[cycle(values)]
-fn pairs_value(
-    alloc: Global,
-    keys: &[Repr],
-    values: &[Repr],
-    left_out: u64,
-) -> Result<Value, AllocError>
-    ensures { IfOk result (λ own. IsDict (trees_of (map tree_of keys.now)) (trees_of (map tree_of values.now)) left_out
-        (view own)) }
-{
-    let keys = each_value(alloc, keys)?;
-    let values = each_value(alloc, values)?;
-    let pairs = pairs_of(alloc, keys, values)?;
-    container(alloc, "dict", pairs, left_out)
-}
-
-/// Keys and values side by side.
-fn pairs_of(alloc: Global, keys: Vec<Value>, values: Vec<Value>) -> Result<Vec<Value>, AllocError>
-    ensures { IfOk result (λ pairs. map view pairs.items ≡ pair_trees (map view keys.items) (map view values.items)) }
-{
-    let mut pairs = Vec::new(alloc);
-    for (key, value) in keys.into_iter().zip(values) {
-        pairs.push(json!(in alloc; [key, value])?)?;
-    }
-    Ok(pairs)
 }

@@ -33,6 +33,8 @@ pub use Rattle.program_run.specs.Statuses.{core_status, layouts_status}
 use Rattle.salvage_report.specs.LayoutChecked.{CheckIs, layout_checked}
 use Rattle.salvage_report.specs.Sections.{AreTold}
 use Rattle.salvage_report.specs.Texts.{shown_left}
+use Rattle.salvage_report.specs.Values.{AreShown}
+use Rattle.local_values.specs.Addresses.{shown_addresses}
 use Rattle.std.specs.Prelude.{map}
 
 -- a text, or the cause why there is none
@@ -70,6 +72,7 @@ pub record IsLeft (s : Salvage) (ts : List RecordTable) (bytes : List ℕ) (imag
   pub check : CheckIs s.sections.check_layout (layout_checked o left.salvaged.interpreters.items) left.check
   pub memory : AreMemoryTold s.sections bytes images o.layout (records_of ts o.version) (memory_in o.dumped)
       left.salvaged.interpreters.items left.memory
+  pub values : AreShown s.json left.memory.values (shown_addresses left.salvaged.interpreters.items) left.values
 
 -- the text, or that no interpreter is shown, with what was looked at
 abbrev pub shown_or_none : List SalvagedInterpreter → Looked → List ℕ → Outcome

@@ -1,5 +1,5 @@
 //! What is left of a process, and what is told in its sections, as JSON.
-ghost use Rattle.std.specs.Prelude.{◌≡◌, false, IfOk, string_bytes};
+ghost use Rattle.std.specs.Prelude.{◌≡◌, false, IfOk, OnOk, string_bytes};
 ghost use Rattle.serde_json.specs.View.{members_view, view};
 ghost use Rattle.serde_json.specs.Written.{has_float};
 ghost use Rattle.py_fields.specs.Version.{version_text};
@@ -7,12 +7,15 @@ ghost use Rattle.crash_signal.specs.Trees.{signal_tree as info_tree};
 ghost use Rattle.thread_registers.specs.Trees.{threads_tree};
 ghost use Rattle.missed_reads.specs.Told.{missed_tree, told_of};
 ghost use Rattle.py_selftest.specs.Trees.{check_tree};
+ghost use Rattle.repr_json.specs.Shown.{HasNoFloat};
 ghost use Rattle.salvage_report.specs.LayoutChecked.{check_of};
 ghost use Rattle.salvage_report.specs.Tree.{first_members, left_json, left_tree, missing_json};
 ghost use Rattle.salvage_report.specs.Tree.{missing_tree, pretty_text, section_tree};
 ghost use Rattle.salvage_report.specs.Sections.{missing_shown, registers_shown};
+ghost use Rattle.salvage_report.specs.Values.{put_left_out};
 
 use crate::left::Left;
+use crate::values::values_left_out;
 use crash_signal::{CrashSignal, Untold};
 use memory_sections::{exceptions_value, names_told, names_value, native_value, tasks_value};
 use missed_reads::{MissedBlocks, Misses, missed_blocks, missed_value};
@@ -79,7 +82,13 @@ fn first_members(alloc: Global, limit: usize, left: &Left) -> Result<Map<String,
     let salvaged = &left.salvaged;
     let exceptions = exceptions_value(alloc, &left.memory)?;
     let told = names_told(&left.memory);
-    let interpreters = interpreters_value(alloc, salvaged.crash, told, &salvaged.interpreters)?;
+    let interpreters = interpreters_value(
+        alloc,
+        &left.values,
+        salvaged.crash,
+        told,
+        &salvaged.interpreters,
+    )?;
     let layout_check = layout_value(alloc, &left.check)?;
     let missing = missing_value(alloc, &left.told.missing)?;
     let names = names_value(alloc, &left.memory)?;
@@ -93,6 +102,21 @@ fn first_members(alloc: Global, limit: usize, left: &Left) -> Result<Map<String,
     put(&mut map, alloc, "names", names)?;
     put(&mut map, alloc, "native", native)?;
     Ok(map)
+}
+
+/// Adds how many values of locals are left out, where values are asked for.
+fn put_left_out(
+    alloc: Global,
+    map: &mut Map<String, Value>,
+    count: Option<u64>,
+) -> Result<(), AllocError>
+    ensures { OnOk result (members_view map.new.entries ≡ put_left_out count (members_view map.old.entries)) }
+{
+    let Some(count) = count else {
+        return Ok(());
+    };
+    let count = json!(in alloc; count)?;
+    put(map, alloc, "values_left_out", count)
 }
 
 fn left_value(alloc: Global, limit: usize, left: &Left) -> Result<Value, AllocError>
@@ -110,6 +134,7 @@ fn left_value(alloc: Global, limit: usize, left: &Left) -> Result<Value, AllocEr
     put(&mut map, alloc, "signal", signal)?;
     put(&mut map, alloc, "signal_info", signal_info)?;
     put(&mut map, alloc, "tasks", tasks)?;
+    put_left_out(alloc, &mut map, values_left_out(&left.memory.values))?;
     put(&mut map, alloc, "version", Value::String(version))?;
     Ok(Value::Object(map))
 }
@@ -126,6 +151,7 @@ fn pretty(alloc: Global, value: &Value) -> Result<String, AllocError>
 /// of a section that isn't asked for is null. Of a native stack the first and the last `limit` frames are there. The one
 /// error is want of memory.
 pub(crate) fn left_json(alloc: Global, limit: usize, left: &Left) -> Result<String, AllocError>
+    requires { HasNoFloat left.now.values }
     ensures { IfOk result (λ text. string_bytes text ≡ left_json limit left.now) }
 {
     let value = left_value(alloc, limit, left)?;

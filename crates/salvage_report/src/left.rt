@@ -16,6 +16,7 @@ use crate::crash::first_crash;
 use crate::layout_check::check_section;
 use crate::sections::{Told, tell_sections};
 use crate::text::shown;
+use crate::values::shown_values;
 use core_stacks::{Process, open};
 use elf64_core::Text;
 use image_memory::Images;
@@ -29,6 +30,7 @@ use py_process::CoreError;
 use py_records::RecordTables;
 use py_selftest::LayoutCheck;
 use py_stacks::{Asked, LineNo, StackError};
+use repr_json::ShownValues;
 use salvage_words::{SalvageWords, Sections};
 use std::alloc::{AllocError, Global};
 
@@ -45,6 +47,8 @@ pub(crate) struct Left {
     pub(crate) check: Option<LayoutCheck>,
     /// What is told in the sections that are read in its memory.
     pub(crate) memory: MemoryTold,
+    /// The values of locals, as they are shown.
+    pub(crate) values: ShownValues,
 }
 
 /// What is left of the interpreters of a process. Reads that are refused are kept.
@@ -147,6 +151,7 @@ fn shown_left(
         let (addresses, members) = (salvaged.looked.addresses, salvaged.looked.members);
         return Err(Cause::NoInterpreter { addresses, members });
     }
+    let values = shown_values(alloc, words.json, &memory.values, &salvaged.interpreters)?;
     let Process { notes, version, .. } = process;
     let left = Left {
         signal: notes.signal,
@@ -156,6 +161,7 @@ fn shown_left(
         told,
         check,
         memory,
+        values,
     };
     Ok(shown(alloc, words, &left)?)
 }

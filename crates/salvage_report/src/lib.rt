@@ -16,5 +16,6 @@ mod missing;
 mod records;
 mod sections;
 mod text;
+mod values;
 
 pub use command::run;
