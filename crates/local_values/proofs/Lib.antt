@@ -1,0 +1,3 @@
+pub mod Once
+pub mod Filling
+pub mod Counted

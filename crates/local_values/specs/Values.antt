@@ -1,7 +1,7 @@
 -- The values of locals, by their addresses. That all of a process have so many nodes together is this project's bound.
 use Rattle.std.specs.Prelude.{◌≡◌, ℕ, zero, suc, ◌+◌, ◌-◌, ◌*◌, nat_eq, if◌then◌else◌, List, [], ◌∷◌, length, Option}
 use Rattle.std.specs.Prelude.{Some, None, option_map}
-use Rattle.std.specs.BTreeMap.{get}
+use Rattle.std.specs.BTreeMap.{BTreeMap, get}
 use Rattle.std.specs.List.{list_any}
 use Rattle.std.specs.Ordering.{nat_cmp}
 use Rattle.process_memory.specs.Memory.{Memory}
@@ -9,6 +9,7 @@ use Rattle.py_fields.specs.declared.layout.Layout.{Layout}
 use Rattle.py_fronts.specs.declared.salvaged.SalvagedInterpreter.{SalvagedInterpreter}
 use Rattle.py_reprs.specs.declared.kinds.ReprTypes.{ReprTypes}
 use Rattle.py_reprs.specs.declared.limits.Limits.{Limits}
+use Rattle.py_reprs.specs.declared.repr.Repr.{Repr}
 use Rattle.py_reprs.specs.Limits.{limits_at}
 use Rattle.py_reprs.specs.Trees.{Tree, tree_of}
 use Rattle.py_reprs.specs.Values.{repr_at, value_cost}
@@ -30,9 +31,17 @@ within value (suc left) (a ∷ rest) = a ∷ within value (suc left - nodes_of (
 abbrev pub value_among : (ℕ → Tree) → List ℕ → ℕ → Option Tree
 value_among value addresses a = if list_any (nat_eq a) addresses then Some (value a) else None
 
+-- the value that a map has at an address
+abbrev pub held_in : BTreeMap ℕ Repr → ℕ → Option Tree
+held_in values a = option_map tree_of (get nat_cmp values a)
+
 -- the value that was read at an address
 unfoldable pub value_in : LocalValues → ℕ → Option Tree
-value_in values a = option_map tree_of (get nat_cmp values.values a)
+value_in values a = held_in values.values a
+
+-- one more value at an address
+abbrev pub with_value : (ℕ → Option Tree) → ℕ → Tree → ℕ → Option Tree
+with_value held addr value a = if nat_eq a addr then Some value else held a
 
 abbrev pub value_at : Layout → ReprTypes → Limits → Memory → ℕ → Tree
 value_at l t b m a = repr_at l t b m b.levels b.nodes a

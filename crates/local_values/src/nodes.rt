@@ -11,11 +11,14 @@ use py_reprs::Repr;
 pub(crate) fn left_after(left: u64, value: &Repr) -> u64
     ensures { result ≡ left - nodes_of (tree_of value.now) }
 {
-    let left = left.saturating_sub(1);
+    let rest = left.saturating_sub(1);
     match value {
-        Repr::Items { items, .. } => left_after_all(left, items),
-        Repr::Pairs { keys, values, .. } => left_after_all(left_after_all(left, keys), values),
-        _ => left,
+        Repr::Items { items, .. } => left_after_all(rest, items),
+        Repr::Pairs { keys, values, .. } => {
+            let behind = left_after_all(rest, keys);
+            left_after_all(behind, values)
+        }
+        _ => rest,
     }
 }
 
@@ -24,9 +27,9 @@ pub(crate) fn left_after(left: u64, value: &Repr) -> u64
 fn left_after_all(left: u64, values: &[Repr]) -> u64
     ensures { result ≡ left - nodes_in (trees_of (map tree_of values.now)) }
 {
-    let mut left = left;
+    let mut rest = left;
     for number in 0..values.len() {
-        left = left_after(left, &values[number]);
+        rest = left_after(rest, &values[number]);
     }
-    left
+    rest
 }

@@ -1,11 +1,11 @@
 //! The values of locals.
-ghost use Rattle.std.specs.Prelude.{◌≡◌, ◌*◌, IfOk, length, option_copied, option_map};
+ghost use Rattle.std.specs.Prelude.{◌≡◌, ◌*◌, ℕ, IfOk, OnOk, length, option_copied, option_map};
 ghost use Rattle.process_memory.specs.Seen.{Reading};
 ghost use Rattle.py_fields.specs.Sound.{IsSound};
 ghost use Rattle.py_reprs.specs.Limits.{limits_at};
 ghost use Rattle.py_reprs.specs.Trees.{tree_of};
 ghost use Rattle.local_values.specs.Addresses.{shown_addresses};
-ghost use Rattle.local_values.specs.Values.{AreLocalValues, AreValues, local_cost, value_in};
+ghost use Rattle.local_values.specs.Values.{AreLocalValues, AreValues, held_in, local_cost, value_in, with_value};
 
 use crate::addresses::shown_addresses;
 use crate::nodes::left_after;
@@ -44,6 +44,14 @@ impl LocalValues {
     }
 }
 
+/// Keeps the value at an address. The one error is want of memory.
+fn keep(values: &mut BTreeMap<u64, Repr>, addr: u64, value: Repr) -> Result<(), ReprError>
+    ensures { OnOk result ((a : ℕ) → held_in values.new a ≡ with_value (held_in values.old) addr (tree_of value) a) }
+{
+    values.insert(addr, value)?;
+    Ok(())
+}
+
 /// The values at some addresses, each of which stands there once. See `read_local_values`.
 fn read_values<P: ProcessMemory>(
     alloc: Global,
@@ -67,7 +75,7 @@ fn read_values<P: ProcessMemory>(
         let addr = addresses[number];
         let value = read_repr(alloc, process, layout, types, limits, addr)?;
         left = left_after(left, &value);
-        values.insert(addr, value)?;
+        keep(&mut values, addr, value)?;
     }
     Ok(LocalValues {
         values,
