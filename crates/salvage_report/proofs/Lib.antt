@@ -8,3 +8,4 @@ pub mod Headline
 pub mod NoFloat
 pub mod TellingRefused
 pub mod Saying
+pub mod Shown

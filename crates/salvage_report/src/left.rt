@@ -147,11 +147,11 @@ fn shown_left(
         &salvaged.interpreters,
         misses,
     )?;
+    let values = shown_values(alloc, words.json, &memory.values, &salvaged.interpreters)?;
     if salvaged.interpreters.is_empty() {
         let (addresses, members) = (salvaged.looked.addresses, salvaged.looked.members);
         return Err(Cause::NoInterpreter { addresses, members });
     }
-    let values = shown_values(alloc, words.json, &memory.values, &salvaged.interpreters)?;
     let Process { notes, version, .. } = process;
     let left = Left {
         signal: notes.signal,

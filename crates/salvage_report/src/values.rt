@@ -23,7 +23,7 @@ fn keep(
 {
     shown.keep_text(alloc, addr, value)?;
     if json {
-        shown.keep_json(alloc, addr, value)?;
+        return shown.keep_json(alloc, addr, value);
     }
     Ok(())
 }
@@ -95,9 +95,11 @@ pub(crate) fn push_left_out(
     ensures { OnOk result (string_bytes text.new ≡ string_bytes text.old
         ++ left_out_text (values_left_out values.now)) }
 {
-    match values_left_out(values) {
-        Some(0) => Ok(()),
-        Some(count) => write!(text, "... {count} more values are not shown\n"),
-        None => Ok(()),
+    let Some(count) = values_left_out(values) else {
+        return Ok(());
+    };
+    if count == 0 {
+        return Ok(());
     }
+    write!(text, "... {count} more values are not shown\n")
 }

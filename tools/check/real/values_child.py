@@ -14,7 +14,7 @@ import struct
 import sys
 
 IS_2 = sys.version_info[0] == 2
-DEEPEST = 7
+DEEPEST = 13
 """How deep trees are said: deeper than any value is shown by the levels that are asked for here."""
 
 EXACT = 2 ** 53
@@ -49,7 +49,7 @@ def bits_of(number):
 
 def part(number):
     """A part of a complex number."""
-    return {"bits": hexadecimal(bits_of(number)), "text": repr(complex(0, number)).rstrip("j") if number == number else "nan"}
+    return {"bits": hexadecimal(bits_of(number)), "text": repr(number)}
 
 
 def integer_tree(number, kind):
