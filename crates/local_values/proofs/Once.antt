@@ -47,8 +47,10 @@ module _ {all : List ℕ} {i : ℕ} {had : ℕ → Bool} {once : List ℕ} where
       no : (b : Bool) → true ≡ not b → b ≡ false
       no true e = cc
       no false e = refl
+
       unmet : list_any (nat_eq x) once ≡ false
       unmet = sym (t.met x) ∙ no (had x) added
+
       turned : (b c : Bool) → cond b true c ≡ (c || b)
       turned true true = refl
       turned true false = refl
@@ -68,8 +70,10 @@ module _ {all : List ℕ} {i : ℕ} {had : ℕ → Bool} {once : List ℕ} where
       yes : (b : Bool) → false ≡ not b → b ≡ true
       yes true e = refl
       yes false e = cc
+
       known : list_any (nat_eq x) once ≡ true
       known = sym (t.met x) ∙ yes (had x) added
+
       stays : (q : ℕ) (b : Bool) → nat_eq q x ≡ b → cond b true (had q) ≡ had q
       stays q true e = sym (ap had (eqb-true q x e) ∙ yes (had x) added)
       stays q false e = refl

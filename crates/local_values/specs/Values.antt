@@ -46,12 +46,16 @@ with_value held addr value a = if nat_eq a addr then Some value else held a
 abbrev pub value_at : Layout → ReprTypes → Limits → Memory → ℕ → Tree
 value_at l t b m a = repr_at l t b m b.levels b.nodes a
 
--- the values of some addresses: each that is within the limit has the one of memory, no other has one, and how many these
--- are is told
-pub record AreValues (l : Layout) (t : ReprTypes) (b : Limits) (m : Memory) (addresses : List ℕ) (values : LocalValues)
-    : Type 0 where
-  pub are : (a : ℕ) → value_in values a ≡ value_among (value_at l t b m) (within (value_at l t b m) node_limit addresses) a
-  pub left_out : values.left_out + length (within (value_at l t b m) node_limit addresses) ≡ length addresses
+-- those of some addresses that are within the limit
+abbrev pub read_of : (ℕ → Tree) → List ℕ → List ℕ
+read_of value addresses = within value node_limit addresses
+
+-- the values of some addresses: each that is within the limit has the one of memory, no other has one, and how many
+-- others there are is told
+pub record AreValues (l : Layout) (t : ReprTypes) (b : Limits) (m : Memory) (addresses : List ℕ)
+    (values : LocalValues) : Type 0 where
+  pub are : (a : ℕ) → value_in values a ≡ value_among (value_at l t b m) (read_of (value_at l t b m) addresses) a
+  pub left_out : values.left_out + length (read_of (value_at l t b m) addresses) ≡ length addresses
 
 -- the values of the locals of all frames that are shown, by so many `-l`
 abbrev pub AreLocalValues : Layout → ReprTypes → (times : ℕ) → Memory → List SalvagedInterpreter → LocalValues → Type 0

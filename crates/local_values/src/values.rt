@@ -27,16 +27,16 @@ pub struct LocalValues {
 }
 
 impl LocalValues {
-    /// The value at an address; none where it was not read: no local that is shown has it, or so many nodes were taken by
-    /// the values before it. It takes the time of some comparisons, as many as halve the values.
+    /// The value at an address; none where it was not read: no local that is shown has it, or so many nodes were taken
+    /// by the values before it. It takes the time of some comparisons, as many as halve the values.
     pub fn get(&self, addr: u64) -> Option<&Repr>
         ensures { option_map tree_of (option_copied result) ≡ value_in self.now addr }
     {
         self.values.get(&addr)
     }
 
-    /// How many addresses of locals that are shown have no value here, each counted once: before them so many nodes were
-    /// taken.
+    /// How many addresses of locals that are shown have no value here, each counted once: before them so many nodes
+    /// were taken.
     pub fn left_out(&self) -> u64
         ensures { result ≡ self.now.left_out }
     {

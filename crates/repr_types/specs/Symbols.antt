@@ -4,29 +4,27 @@
 use Rattle.std.specs.Prelude.{ℕ, List, [], ◌∷◌, Option, None, codes, get_or, map}
 use Rattle.process_memory.specs.Memory.{Memory}
 use Rattle.py_fields.specs.declared.layout.Layout.{Layout}
-use Rattle.py_process.specs.Binary.{symbol_at}
-use Rattle.py_process.specs.declared.process_info.PythonProcessInfo.{PythonProcessInfo}
+use Rattle.py_process.specs.Facts.{Known, symbol_known}
 use Rattle.py_reprs.specs.declared.kinds.ReprTypes.{ReprTypes}
 use Rattle.repr_types.specs.Found.{class_named, type_named}
-
--- the address of a symbol of a process's images
-abbrev pub symbol_in : {M : Type 0} → PythonProcessInfo M → List ℕ → Option ℕ
-symbol_in info name = symbol_at info.python_binary info.libpython_binary name
 
 unfoldable pub not_implemented : List ℕ
 not_implemented = codes "_Py_NotImplementedStruct"
 
-abbrev pub value_symbols : (List ℕ → Option ℕ) → List (Option ℕ)
-value_symbols symbol =
-    symbol (codes "_Py_NoneStruct") ∷ symbol (codes "_Py_EllipsisObject") ∷ symbol not_implemented ∷ []
+abbrev pub value_symbols : Known → List (Option ℕ)
+value_symbols k =
+    symbol_known k (codes "_Py_NoneStruct") ∷ symbol_known k (codes "_Py_EllipsisObject")
+    ∷ symbol_known k not_implemented ∷ []
 
-abbrev pub type_symbols : (List ℕ → Option ℕ) → List (Option ℕ)
-type_symbols symbol =
-    symbol (codes "PyBool_Type") ∷ symbol (codes "PyFloat_Type") ∷ symbol (codes "PyComplex_Type")
-    ∷ symbol (codes "PyByteArray_Type") ∷ symbol (codes "PySet_Type") ∷ symbol (codes "PyFrozenSet_Type")
-    ∷ symbol (codes "PyRange_Type") ∷ symbol (codes "PySlice_Type") ∷ symbol (codes "PyCell_Type")
-    ∷ symbol (codes "PyFunction_Type") ∷ symbol (codes "PyMethod_Type") ∷ symbol (codes "PyCFunction_Type")
-    ∷ symbol (codes "PyModule_Type") ∷ []
+abbrev pub type_symbols : Known → List (Option ℕ)
+type_symbols k =
+    symbol_known k (codes "PyBool_Type") ∷ symbol_known k (codes "PyFloat_Type")
+    ∷ symbol_known k (codes "PyComplex_Type") ∷ symbol_known k (codes "PyByteArray_Type")
+    ∷ symbol_known k (codes "PySet_Type") ∷ symbol_known k (codes "PyFrozenSet_Type")
+    ∷ symbol_known k (codes "PyRange_Type") ∷ symbol_known k (codes "PySlice_Type")
+    ∷ symbol_known k (codes "PyCell_Type") ∷ symbol_known k (codes "PyFunction_Type")
+    ∷ symbol_known k (codes "PyMethod_Type") ∷ symbol_known k (codes "PyCFunction_Type")
+    ∷ symbol_known k (codes "PyModule_Type") ∷ []
 
 abbrev pub each_of : List (Option ℕ) → ℕ → Option ℕ
 each_of found number = get_or found number None
@@ -53,5 +51,5 @@ types_by classes types = record {
 }
 
 -- each type by its own symbol, or by that of its object
-unfoldable pub repr_types_at : (List ℕ → Option ℕ) → Layout → Memory → ReprTypes
-repr_types_at symbol l m = types_by (map (class_named l m) (value_symbols symbol)) (map (type_named l m) (type_symbols symbol))
+unfoldable pub repr_types_at : Known → Layout → Memory → ReprTypes
+repr_types_at k l m = types_by (map (class_named l m) (value_symbols k)) (map (type_named l m) (type_symbols k))

@@ -1,7 +1,8 @@
 //! The types by which values are told, by the symbols of a process's images.
-ghost use Rattle.std.specs.Prelude.{◌≡◌, IfOk, List, ℕ, Option};
+ghost use Rattle.std.specs.Prelude.{◌≡◌, IfOk};
 ghost use Rattle.process_memory.specs.Seen.{Reading};
-ghost use Rattle.repr_types.specs.Symbols.{each_of, repr_types_at, symbol_in, types_by, type_symbols, value_symbols};
+ghost use Rattle.py_process.specs.Facts.{known_of, symbol_known};
+ghost use Rattle.repr_types.specs.Symbols.{each_of, repr_types_at, types_by, type_symbols, value_symbols};
 
 use crate::found::{classes_named, types_named};
 use image_memory::ContainsAddr;
@@ -13,14 +14,14 @@ use std::alloc::Global;
 
 /// The address of a symbol of a process's images.
 fn symbol_of<M: ContainsAddr>(info: &PythonProcessInfo<M>, name: &[u8]) -> Option<u64>
-    ensures { result ≡ symbol_in info.now name.now }
+    ensures { result ≡ symbol_known (known_of info.now) name.now }
 {
     info.get_symbol(name).copied()
 }
 
 /// Those of the objects of types that have no symbol of their own.
 fn value_symbols<M: ContainsAddr>(info: &PythonProcessInfo<M>) -> [Option<u64>; 3]
-    ensures { result ≡ value_symbols (symbol_in info.now) }
+    ensures { result ≡ value_symbols (known_of info.now) }
 {
     [
         symbol_of(info, b"_Py_NoneStruct"),
@@ -31,7 +32,7 @@ fn value_symbols<M: ContainsAddr>(info: &PythonProcessInfo<M>) -> [Option<u64>; 
 
 /// Those of the other types.
 fn type_symbols<M: ContainsAddr>(info: &PythonProcessInfo<M>) -> [Option<u64>; 13]
-    ensures { result ≡ type_symbols (symbol_in info.now) }
+    ensures { result ≡ type_symbols (known_of info.now) }
 {
     [
         symbol_of(info, b"PyBool_Type"),
@@ -98,7 +99,7 @@ pub fn find_repr_types<M: ContainsAddr, P: ProcessMemory>(
     layout: &Layout,
 ) -> Result<ReprTypes, ReprError>
     ensures { Reading 29 (P.seen process.old) (P.seen process.new)
-        (λ m. IfOk result (λ types. types ≡ repr_types_at (symbol_in info.now) layout.now m)) }
+        (λ m. IfOk result (λ types. types ≡ repr_types_at (known_of info.now) layout.now m)) }
 {
     let values = value_symbols(info);
     let classes = classes_named(alloc, process, layout, &values)?;

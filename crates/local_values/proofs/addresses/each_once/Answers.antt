@@ -18,12 +18,12 @@ loop-addr-init c = record {
 
 pub loop-addr-preserved : goal.loop-addr-preserved
 loop-addr-preserved c = elim c.if-added.branch [
-  then-added+in_ok-push w ↦
-    met_new _ c.loop-addr.invariant c.loop-addr-test.true refl (sym w.if-added.true ∙ c.in_ok-added.ensures.added)
-    c.in_ok-added.ensures.updates.0 (ap (λ v. v.items) w.once-is ∙ w.in_ok-push.ensures.items)
+  | then-added+in_ok-push w ↦
+      met_new _ c.loop-addr.invariant c.loop-addr-test.true refl (sym w.if-added.true ∙ c.in_ok-added.ensures.added)
+      c.in_ok-added.ensures.updates.0 (ap (λ v. v.items) w.once-is ∙ w.in_ok-push.ensures.items)
   | else-added w ↦
-    met_again _ c.loop-addr.invariant c.loop-addr-test.true refl (sym w.if-added.false ∙ c.in_ok-added.ensures.added)
-    c.in_ok-added.ensures.updates.0 (ap (λ v. v.items) w.once-is)
+      met_again _ c.loop-addr.invariant c.loop-addr-test.true refl (sym w.if-added.false ∙ c.in_ok-added.ensures.added)
+      c.in_ok-added.ensures.updates.0 (ap (λ v. v.items) w.once-is)
 ]
 
 pub returns : goal.returns

@@ -23,7 +23,7 @@ left_after-returns-in-Pairs t c =
     (ap nodes_of (ap tree_of c.in-Pairs.is ∙ tree-Pairs c.in-Pairs.keys c.in-Pairs.values c.in-Pairs.left_out))
 
 pub left_after-returns-in_default : goal.left_after-returns-in_default
-left_after-returns-in_default t c = 
+left_after-returns-in_default t c =
     let one = leaf_nodes c.args.value.now c.in_default.not-Items c.in_default.not-Pairs in
     omega (arith, one, c.saturating_sub-rest.ensures)
 
