@@ -8,4 +8,3 @@ pub mod Headline
 pub mod NoFloat
 pub mod TellingRefused
 pub mod Saying
-pub mod Shown

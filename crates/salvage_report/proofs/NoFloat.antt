@@ -1,7 +1,10 @@
 -- The tree of all that is told has no float.
 use Rattle.std.proofs.Common.{◌≡◌, ℕ, ℤ, false, List, Option, Some, None, Result, Ok, Err, refl}
 use Rattle.std.specs.Prelude.{◌||◌, codes}
-use Rattle.serde_json.specs.Written.{has_float}
+use Rattle.serde_json.specs.Data.{member, no_members, string}
+use Rattle.serde_json.specs.Written.{has_float, members_have_float}
+use Rattle.py_fields.specs.Version.{version_text}
+use Rattle.repr_json.specs.Shown.{HasNoFloat}
 use Rattle.crash_signal.specs.Tables.{meaning_of, name_of}
 use Rattle.crash_signal.specs.Trees.{call_tree, cause_tree, fault_tree}
 use Rattle.crash_signal.specs.Trees.{plain_tree, sender_tree, signal_tree, untold_tree}
@@ -25,6 +28,7 @@ use Rattle.py_selftest.proofs.Plain.{no_float as checked}
 use Rattle.salvage_report.specs.LayoutChecked.{check_of}
 use Rattle.salvage_report.specs.Tree.{left_tree, missing_tree, section_tree}
 use Rattle.salvage_report.specs.Sections.{missing_shown, registers_shown}
+use Rattle.shown_values.specs.LeftOut.{values_left_out, with_left_out}
 use Rattle.salvage_report.specs.declared.left.Left.{Left}
 
 -- ---- how the signal came about
@@ -87,10 +91,18 @@ check_section (Some told) = checked told
 pub missing_no_float : (told : RefusedTold) → has_float (missing_tree told) ≡ false
 missing_no_float told = λ i. missed told i || false
 
-pub no_float : (limit : ℕ) (left : Left) → has_float (left_tree limit left) ≡ false
-no_float limit left = λ i. exceptions left.memory.exceptions i
-    || (interpreters left.salvaged.crash (names_given left.memory.names) left.salvaged.interpreters.items i
+-- the key that says how many values are left out
+counted : (count : Option ℕ) (version : List ℕ)
+    → members_have_float (with_left_out count (member (codes "version") (string version) no_members)) ≡ false
+counted None version = refl
+counted (Some n) version = refl
+
+pub no_float : (limit : ℕ) (left : Left) → HasNoFloat left.values → has_float (left_tree limit left) ≡ false
+no_float limit left plain = λ i. exceptions left.memory.exceptions i
+    || (interpreters left.values plain left.salvaged.crash (names_given left.memory.names)
+    left.salvaged.interpreters.items i
     || (check_section (check_of left.check) i || (missing_section (missing_shown left.told.missing) i
     || (false || (names left.memory.names i || (native limit left.memory.native i || (process left.process
     i || (threads_section (registers_shown left.told.registers) i || (signal left.signal i
-    || (info_section left.told.signal i || (tasks left.memory.tasks i || (false || false))))))))))))
+    || (info_section left.told.signal i || (tasks left.memory.tasks i
+    || counted (values_left_out left.memory.values) (version_text left.version) i)))))))))))

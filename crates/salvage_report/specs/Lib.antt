@@ -1,7 +1,6 @@
 pub mod Reading
 pub mod Crashed
 pub mod LayoutChecked
-pub mod Values
 pub mod Texts
 pub mod Outcome
 pub mod Lines

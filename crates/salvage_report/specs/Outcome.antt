@@ -33,7 +33,7 @@ pub use Rattle.program_run.specs.Statuses.{core_status, layouts_status}
 use Rattle.salvage_report.specs.LayoutChecked.{CheckIs, layout_checked}
 use Rattle.salvage_report.specs.Sections.{AreTold}
 use Rattle.salvage_report.specs.Texts.{shown_left}
-use Rattle.salvage_report.specs.Values.{AreShown}
+use Rattle.shown_values.specs.Values.{AreShown}
 use Rattle.local_values.specs.Addresses.{shown_addresses}
 use Rattle.std.specs.Prelude.{map}
 

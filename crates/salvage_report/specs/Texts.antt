@@ -16,7 +16,7 @@ use Rattle.salvage_report.specs.Tree.{left_json}
 use Rattle.py_selftest.specs.Text.{check_text}
 use Rattle.salvage_report.specs.LayoutChecked.{check_of}
 use Rattle.salvage_report.specs.Sections.{registers_shown}
-use Rattle.salvage_report.specs.Values.{left_out_text, values_left_out}
+use Rattle.shown_values.specs.LeftOut.{left_out_text, values_left_out}
 use Rattle.salvage_report.specs.declared.left.Left.{Left}
 
 -- the process that a core tells, by its id and arguments, where it tells one; what could end the line is escaped

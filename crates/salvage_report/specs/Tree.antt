@@ -15,7 +15,7 @@ use Rattle.missed_reads.specs.Told.{RefusedTold, missed_tree}
 use Rattle.py_selftest.specs.Trees.{check_tree}
 use Rattle.salvage_report.specs.LayoutChecked.{check_of}
 use Rattle.salvage_report.specs.Sections.{missing_shown, registers_shown}
-use Rattle.salvage_report.specs.Values.{values_left_out, with_left_out}
+use Rattle.shown_values.specs.LeftOut.{values_left_out, with_left_out}
 use Rattle.salvage_report.specs.declared.left.Left.{Left}
 
 -- a section's value, or null

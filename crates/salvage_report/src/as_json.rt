@@ -1,5 +1,5 @@
 //! What is left of a process, and what is told in its sections, as JSON.
-ghost use Rattle.std.specs.Prelude.{◌≡◌, false, IfOk, OnOk, string_bytes};
+ghost use Rattle.std.specs.Prelude.{◌≡◌, false, IfOk, string_bytes};
 ghost use Rattle.serde_json.specs.View.{members_view, view};
 ghost use Rattle.serde_json.specs.Written.{has_float};
 ghost use Rattle.py_fields.specs.Version.{version_text};
@@ -12,10 +12,8 @@ ghost use Rattle.salvage_report.specs.LayoutChecked.{check_of};
 ghost use Rattle.salvage_report.specs.Tree.{first_members, left_json, left_tree, missing_json};
 ghost use Rattle.salvage_report.specs.Tree.{missing_tree, pretty_text, section_tree};
 ghost use Rattle.salvage_report.specs.Sections.{missing_shown, registers_shown};
-ghost use Rattle.salvage_report.specs.Values.{put_left_out};
 
 use crate::left::Left;
-use crate::values::values_left_out;
 use crash_signal::{CrashSignal, Untold};
 use memory_sections::{exceptions_value, names_told, names_value, native_value, tasks_value};
 use missed_reads::{MissedBlocks, Misses, missed_blocks, missed_value};
@@ -23,6 +21,7 @@ use py_layout::Version;
 use py_selftest::{LayoutCheck, check_value};
 use salvage_json::{interpreters_value, process_value, signal_value};
 use serde_json::{Map, Value, json, put};
+use shown_values::put_left_out;
 use std::alloc::{AllocError, Global};
 use thread_registers::{ThreadRegisters, threads_value};
 
@@ -104,21 +103,6 @@ fn first_members(alloc: Global, limit: usize, left: &Left) -> Result<Map<String,
     Ok(map)
 }
 
-/// Adds how many values of locals are left out, where values are asked for.
-fn put_left_out(
-    alloc: Global,
-    map: &mut Map<String, Value>,
-    count: Option<u64>,
-) -> Result<(), AllocError>
-    ensures { OnOk result (members_view map.new.entries ≡ put_left_out count (members_view map.old.entries)) }
-{
-    let Some(count) = count else {
-        return Ok(());
-    };
-    let count = json!(in alloc; count)?;
-    put(map, alloc, "values_left_out", count)
-}
-
 fn left_value(alloc: Global, limit: usize, left: &Left) -> Result<Value, AllocError>
     ensures { IfOk result (λ value. view value ≡ left_tree limit left.now) }
 {
@@ -134,7 +118,7 @@ fn left_value(alloc: Global, limit: usize, left: &Left) -> Result<Value, AllocEr
     put(&mut map, alloc, "signal", signal)?;
     put(&mut map, alloc, "signal_info", signal_info)?;
     put(&mut map, alloc, "tasks", tasks)?;
-    put_left_out(alloc, &mut map, values_left_out(&left.memory.values))?;
+    put_left_out(alloc, &mut map, &left.memory.values)?;
     put(&mut map, alloc, "version", Value::String(version))?;
     Ok(Value::Object(map))
 }

@@ -16,7 +16,6 @@ use crate::crash::first_crash;
 use crate::layout_check::check_section;
 use crate::sections::{Told, tell_sections};
 use crate::text::shown;
-use crate::values::shown_values;
 use core_stacks::{Process, open};
 use elf64_core::Text;
 use image_memory::Images;
@@ -32,6 +31,7 @@ use py_selftest::LayoutCheck;
 use py_stacks::{Asked, LineNo, StackError};
 use repr_json::ShownValues;
 use salvage_words::{SalvageWords, Sections};
+use shown_values::shown_values;
 use std::alloc::{AllocError, Global};
 
 /// What is left of a process: the signal that its core tells and the process, the version, what is left of its

@@ -16,6 +16,5 @@ mod missing;
 mod records;
 mod sections;
 mod text;
-mod values;
 
 pub use command::run;

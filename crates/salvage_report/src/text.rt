@@ -13,7 +13,6 @@ ghost use Rattle.salvage_report.specs.Texts.{version_line};
 
 use crate::as_json::left_json;
 use crate::left::Left;
-use crate::values::push_left_out;
 use crash_signal::{CrashSignal, Untold};
 use elf64_core::{Name, Text};
 use memory_sections::{names_told, push_memory};
@@ -21,6 +20,7 @@ use py_layout::Version;
 use py_selftest::LayoutCheck;
 use salvage_texts::{push_escaped, salvaged_text};
 use salvage_words::SalvageWords;
+use shown_values::push_left_out;
 use std::alloc::{AllocError, Global};
 use thread_registers::{ThreadRegisters, push_threads};
 

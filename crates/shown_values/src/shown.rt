@@ -1,9 +1,9 @@
 //! The values of locals, as they are shown.
-ghost use Rattle.std.specs.Prelude.{◌≡◌, ◌++◌, IfOk, OnOk, Some, string_bytes};
+ghost use Rattle.std.specs.Prelude.{IfOk, OnOk, Some};
 ghost use Rattle.local_values.specs.Addresses.{shown_addresses};
 ghost use Rattle.py_reprs.specs.Trees.{tree_of};
 ghost use Rattle.local_values.specs.Values.{value_in};
-ghost use Rattle.salvage_report.specs.Values.{AreShown, Keeps, KeepsFound, left_out_text, values_left_out};
+ghost use Rattle.shown_values.specs.Values.{AreShown, Keeps, KeepsFound};
 
 use local_values::{LocalValues, shown_addresses};
 use py_fronts::SalvagedInterpreter;
@@ -62,7 +62,7 @@ fn show_each(
 
 /// The values of the locals of some interpreters, as they are shown: none where none are asked for. The one error is want
 /// of memory.
-pub(crate) fn shown_values(
+pub fn shown_values(
     alloc: Global,
     json: bool,
     values: &Option<LocalValues>,
@@ -75,31 +75,4 @@ pub(crate) fn shown_values(
     };
     let addresses = shown_addresses(alloc, interpreters)?;
     show_each(alloc, json, values, &addresses)
-}
-
-/// How many values of locals are left out; none where no values are asked for.
-pub(crate) fn values_left_out(values: &Option<LocalValues>) -> Option<u64>
-    ensures { result ≡ values_left_out values.now }
-{
-    match values {
-        Some(values) => Some(values.left_out()),
-        None => None,
-    }
-}
-
-/// The line that says how many values are left out, where any are.
-pub(crate) fn push_left_out(
-    text: &mut String,
-    values: &Option<LocalValues>,
-) -> Result<(), AllocError>
-    ensures { OnOk result (string_bytes text.new ≡ string_bytes text.old
-        ++ left_out_text (values_left_out values.now)) }
-{
-    let Some(count) = values_left_out(values) else {
-        return Ok(());
-    };
-    if count == 0 {
-        return Ok(());
-    }
-    write!(text, "... {count} more values are not shown\n")
 }

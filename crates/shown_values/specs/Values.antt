@@ -1,9 +1,8 @@
 -- The values of locals, as they are shown: for each address of a local that is shown the text of its value, and its JSON
 -- where that is asked for.
-use Rattle.std.specs.Prelude.{◌≡◌, ℕ, ◌++◌, ◌==◌, nat_eq, Bool, true, false, if◌then◌else◌, List, [], Option, Some}
-use Rattle.std.specs.Prelude.{None, codes, decimal, ⊤}
+use Rattle.std.specs.Prelude.{◌≡◌, ℕ, nat_eq, Bool, true, false, if◌then◌else◌, List, Option, Some, None, ⊤}
 use Rattle.std.specs.List.{list_any}
-use Rattle.serde_json.specs.Data.{Data, Members, member, number, put, unsigned}
+use Rattle.serde_json.specs.Data.{Data}
 use Rattle.serde_json.specs.Written.{has_float}
 use Rattle.py_reprs.specs.Trees.{Tree}
 use Rattle.repr_texts.specs.Writing.{Writes}
@@ -55,24 +54,3 @@ pub record Keeps (json : Bool) (addr : ℕ) (value : Tree) (old new : ShownValue
 abbrev pub KeepsFound : Bool → ℕ → Option Tree → ShownValues → ShownValues → Type 0
 KeepsFound json addr None old new = new ≡ old
 KeepsFound json addr (Some value) old new = Keeps json addr value old new
-
--- how many values are left out, where any are asked for
-abbrev pub values_left_out : Option LocalValues → Option ℕ
-values_left_out None = None
-values_left_out (Some values) = Some values.left_out
-
--- the line that says how many, where any are
-abbrev pub left_out_text : Option ℕ → List ℕ
-left_out_text None = []
-left_out_text (Some count) =
-    if count == 0 then [] else codes "... " ++ (decimal count ++ codes " more values are not shown\n")
-
--- the key that says how many, where values are asked for
-abbrev pub with_left_out : Option ℕ → Members → Members
-with_left_out None rest = rest
-with_left_out (Some count) rest = member (codes "values_left_out") (number (unsigned count)) rest
-
--- the same, put into members that are there
-abbrev pub put_left_out : Option ℕ → Members → Members
-put_left_out None members = members
-put_left_out (Some count) members = put (codes "values_left_out") (number (unsigned count)) members

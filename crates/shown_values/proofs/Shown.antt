@@ -11,7 +11,7 @@ use Rattle.repr_json.specs.Shown.{HasNoFloat, KeepsJson, KeepsText, data_in, kep
 use Rattle.repr_json.specs.declared.shown.ShownValues.{ShownValues}
 use Rattle.local_values.specs.Values.{value_in}
 use Rattle.local_values.specs.declared.values.LocalValues.{LocalValues}
-use Rattle.salvage_report.specs.Values.{AreShown, IsJsonOf, IsTextOf, Keeps, KeepsFound, KeepsTree, for_json, value_of}
+use Rattle.shown_values.specs.Values.{AreShown, IsJsonOf, IsTextOf, Keeps, KeepsFound, KeepsTree, for_json, value_of}
 
 -- ---- one value
 
