@@ -18,9 +18,11 @@ from pathlib import Path
 from typing import Dict, Iterator, List, Optional, Sequence
 
 from install import DOORS, put
+from pystacks_tool import pages
 from pystacks_tool.faults import CANNOT_WRITE, NO_PROGRAM, Fault, shown
-from pystacks_tool.pages import ROOT
 from pystacks_tool.version import VERSION
+
+ROOT = Path(pages.ROOT)
 
 MAINTAINER = "the pystacks authors <pystacks@example.org>"
 """Who is named where nobody else is: a place for a name, since the project has no address."""

@@ -10,11 +10,15 @@
 This file is the door: what it opens stands in the package pystacks_tool beside it, of which it says which file is missing.
 """
 
+import gc
 import os
 import sys
 
 # (what only looks at a core leaves nothing behind)
 sys.dont_write_bytecode = True
+
+# (a run is short and makes few cycles, and looking for them costs a tenth of its own time)
+gc.disable()
 
 NO_PROGRAM = 127
 

@@ -23,9 +23,12 @@ from typing import List, Optional
 
 sys.dont_write_bytecode = True
 
+from pystacks_tool import pages, places
 from pystacks_tool.faults import BAD_WORDS, CANNOT_WRITE, Fault, say, shown
-from pystacks_tool.pages import ROOT
-from pystacks_tool.places import LAYOUTS, MACHINES, PROGRAM, SALVAGE, commit, program_at, salvage_at, version_line
+from pystacks_tool.places import MACHINES, PROGRAM, SALVAGE, commit, program_at, salvage_at, version_line
+
+ROOT = Path(pages.ROOT)
+LAYOUTS = Path(places.LAYOUTS)
 
 PAGES = ("CORES", "DIFFERENCES", "DUMP", "FLEET", "HANDLER", "HOSTILE", "LAYOUTS", "MERGE", "MESSAGES", "REACH", "SALVAGE", "SAMPLE", "SLIM", "SPEED", "TOOL",
          "TRIAGE", "WALK")
@@ -186,8 +189,8 @@ def main(given: Optional[List[str]] = None) -> int:
     parser.add_argument("--version", action="version", version=version_line(), help="the project's version, and its commit")
     words = parser.parse_args(given)
     try:
-        salvage = salvage_at(words.salvage, SALVAGE)
-        program = program_at(words.program, PROGRAM)
+        beside = salvage_at(words.salvage, SALVAGE)
+        program, salvage = Path(program_at(words.program, PROGRAM)), Path(beside) if beside else None
         if words.deb:
             from debian_package import packaged
             lines = packaged(Path(words.deb), program, salvage, words.maintainer)

@@ -77,7 +77,7 @@ def slimmed(command: List[bytes], core: OpenedCore, level: int, out: str) -> int
 
 def run(options: Options, name: str, out: str) -> int:
     """Makes the small core, and says how it is read."""
-    program = os.fspath(program_at(options.program, PROGRAM))
+    program = program_at(options.program, PROGRAM)
     check_free(out)
     core = open_core(options, name)
     command = command_of([program, core.word, core.layouts], [core.name])

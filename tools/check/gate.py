@@ -59,6 +59,7 @@ CHECKS = (
     Check("tests/test_parts"),
     Check("tests/test_collapse"),
     Check("tests/test_exceptions"),
+    Check("tests/test_values"),
     Check("tests/test_core_text"),
     Check("tests/test_layout_check"),
     Check("tests/test_layout_from_core"),

@@ -120,7 +120,7 @@ class Asked:
 
     core: OpenedCore
     options: Options
-    program: Path
+    program: str
     folder: Path
 
     def answer(self, table: Optional[Table] = None) -> Answer:

@@ -4,15 +4,16 @@ import argparse
 import os
 import re
 import sys
-from pathlib import Path
-from typing import List, Sequence
+from functools import lru_cache
+from typing import List, Sequence, Tuple
 
+from pystacks_tool.ask.values import SECRETS
 from pystacks_tool.command import run
 from pystacks_tool.faults import NO_ROOM, Fault, call, say
 from pystacks_tool.options import ALL_FRAMES, BY, Options
 from pystacks_tool.output import written
 from pystacks_tool.pages import ROOT, with_places
-from pystacks_tool.places import LAYOUTS, MACHINES, PROGRAM, SALVAGE, version_line
+from pystacks_tool.places import LAYOUTS, MACHINES, PROGRAM, SALVAGE, beside, version_line
 
 LARGEST = 1 << 26
 """The most MB that --memory takes."""
@@ -32,6 +33,8 @@ is run, which shows whole stacks or none. docs/MESSAGES.md has each line of the 
 def add_shown(parser: argparse.ArgumentParser) -> None:
     """Adds what is shown of a core."""
     parser.add_argument("-l", "--locals", action="count", default=0, help="show locals; twice, longer ones")
+    parser.add_argument("--hide", metavar="WORD", action="append", default=[], help="hide the values of names and keys that hold this word; repeatable")
+    parser.add_argument("--show-secrets", action="store_true", help=f"with --html: hide no values but by --hide (else those of {', '.join(SECRETS)})")
     parser.add_argument("--no-signal", action="store_true", help="without the line that says how the signal came about")
     parser.add_argument("--registers", action="store_true", help="show the registers of each thread")
     parser.add_argument("--native", action="store_true", help="show the native stack of each thread")
@@ -112,10 +115,29 @@ def frames_at_end(word: str) -> int:
     return int(word)
 
 
+class Help(argparse.RawDescriptionHelpFormatter):
+    """The form of the help, as wide as the terminal. It is made for each word, and finds that width itself, since `argparse` imports what
+    does so for it."""
+
+    def __init__(self, prog: str) -> None:
+        super().__init__(prog, width=width() - 2)
+
+
+@lru_cache(maxsize=1)
+def width() -> int:
+    """How wide the terminal is, as the standard library has it."""
+    said = os.environ.get("COLUMNS", "")
+    if said.isdecimal() and int(said) > 0:
+        return int(said)
+    try:
+        return os.get_terminal_size(1).columns or 80
+    except OSError:
+        return 80
+
+
 def parser_for(name: str) -> argparse.ArgumentParser:
     """The parser of the tool's words."""
-    parser = argparse.ArgumentParser(
-        prog=name, description=WHAT, epilog=with_places(EXAMPLES.format(name)), formatter_class=argparse.RawDescriptionHelpFormatter)
+    parser = argparse.ArgumentParser(prog=name, description=WHAT, epilog=with_places(EXAMPLES.format(name)), formatter_class=Help)
     parser.add_argument("core", metavar="CORE", nargs="*", help="the core's file, or - for the standard input; several with --group, --keys and --collapsed")
     add_shown(parser)
     add_many(parser)
@@ -124,10 +146,16 @@ def parser_for(name: str) -> argparse.ArgumentParser:
     return parser
 
 
+def hidden_by(words: argparse.Namespace) -> Tuple[str, ...]:
+    """The words by which values are hidden: those that are said, and for a page, which is shared, those of secrets."""
+    own = tuple(it.lower() for it in words.hide if it)
+    return own + SECRETS if words.html and not words.show_secrets else own
+
+
 def options_of(words: argparse.Namespace) -> Options:
     """The words, each with its type."""
     return Options(
-        cores=tuple("/dev/stdin" if it == "-" else it for it in words.core), locals=words.locals, signal=not words.no_signal, registers=words.registers, tasks=not words.no_tasks,
+        cores=tuple("/dev/stdin" if it == "-" else it for it in words.core), locals=words.locals, hidden=hidden_by(words), signal=not words.no_signal, registers=words.registers, tasks=not words.no_tasks,
         exceptions=not words.no_exceptions,
         native=words.native, strict=words.strict, where=not words.no_where, shows_all=words.all, shows_stacks=words.stacks, frames=words.frames, source=words.source, json=words.json,
         collapsed=words.collapsed, html=words.html, group=words.group, plain=words.plain, root=words.root, maps=words.maps,
@@ -164,6 +192,8 @@ def clash(options: Options) -> str:
         return fault
     if options.collapsed and options.locals:
         return "--collapsed takes no -l"
+    if options.plain and options.hidden:
+        return "--plain takes no --hide: the program's text is passed on"
     if options.plain and options.frames is not None:
         return "--plain takes no --frames: the program shows whole stacks"
     if len(forms) > 1 and forms != ["json", "plain"]:
@@ -188,9 +218,10 @@ def read_options(name: str, given: Sequence[str]) -> Options:
     return options
 
 
-def versions_in(path: Path) -> str:
+def versions_in(path: str) -> str:
     """The versions of Python that a layout file covers, from its own keys."""
-    text = path.read_text(encoding="utf-8", errors="replace")
+    with open(path, encoding="utf-8", errors="replace") as file:
+        text = file.read()
     numbers = [re.findall(rf"^{key} = (\d+)$", text, re.MULTILINE) for key in ("major", "first_minor", "last_minor")]
     rows = [f"{major}.{first}" if first == last else f"{major}.{first} to {major}.{last}" for major, first, last in zip(*numbers)]
     return ", ".join(rows)
@@ -200,10 +231,10 @@ def version_lines() -> List[str]:
     """The project's version, which is the layouts' too; the programs that are there; and what layouts there are."""
     lines = [version_line()]
     for name, program in (("pystacks", PROGRAM), ("pysalvage", SALVAGE)):
-        lines.append(f"{name}: {os.fspath(program)}" if program.is_file() else f"{name}: not built")
+        lines.append(f"{name}: {program}" if os.path.isfile(program) else f"{name}: not built")
     for machine in MACHINES.values():
-        path = LAYOUTS.with_name(f"cpython-{machine}.toml")
-        lines.append(f"layouts for {machine}: CPython {versions_in(path)}" if path.is_file() else f"layouts for {machine}: none")
+        path = beside(LAYOUTS, f"cpython-{machine}.toml")
+        lines.append(f"layouts for {machine}: CPython {versions_in(path)}" if os.path.isfile(path) else f"layouts for {machine}: none")
     return lines
 
 
@@ -212,7 +243,7 @@ def main(name: str, given: Sequence[str]) -> int:
     call(name.split()[-1])
     if given[:1] == ["--handle"]:
         # (the kernel's program, which runs by itself)
-        os.execv(sys.executable, [sys.executable, "-I", os.fspath(ROOT / "tools" / "core_handle.py"), *given[1:]])
+        os.execv(sys.executable, [sys.executable, "-I", os.path.join(ROOT, "tools", "core_handle.py"), *given[1:]])
     options = read_options(name, given)
     try:
         return written(version_lines()) if options.version else run(options)

@@ -12,6 +12,8 @@ class Local(NamedTuple):
     value: Optional[str]
     """Nothing where it isn't shown."""
     is_argument: bool = False
+    is_python: bool = False
+    """Whether it is written as Python writes it."""
 
 
 class Frame(NamedTuple):

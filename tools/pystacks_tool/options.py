@@ -19,6 +19,8 @@ class Options(NamedTuple):
     """The cores' files, by the user's names for them."""
     locals: int = 0
     """How often locals are asked for."""
+    hidden: Tuple[str, ...] = ()
+    """The words by whose names and keys values are hidden."""
     signal: bool = True
     """Whether it is asked how the signal came about."""
     registers: bool = False

@@ -1,22 +1,22 @@
-"""Where the tool finds what it hands over and runs: in the repository, or in a folder that tools/install.py made."""
+"""Where the tool finds what it hands over and runs: in the repository, or in a folder that tools/install.py made. Places are texts:
+the import of what has paths as objects takes a tenth of the tool's own time.
+"""
 
 import os
-import subprocess
-from pathlib import Path
 from typing import Dict, Optional
 
 from pystacks_tool.faults import BAD_WORDS, NO_PROGRAM, Fault, shown
 from pystacks_tool.pages import ROOT
 from pystacks_tool.version import VERSION
 
-INSTALLED = ROOT / "bin"
+INSTALLED = os.path.join(ROOT, "bin")
 """Where an installed folder has the programs."""
 
 
-def built(name: str) -> Path:
+def built(name: str) -> str:
     """The program of this name."""
-    own = INSTALLED / name
-    return own if own.is_file() else ROOT / "crates" / name / "out" / name
+    own = os.path.join(INSTALLED, name)
+    return own if os.path.isfile(own) else os.path.join(ROOT, "crates", name, "out", name)
 
 
 PROGRAM = built("pystacks")
@@ -32,7 +32,7 @@ NAMES: Dict[int, str] = {
 }
 """The machines that Linux runs on, by the same numbers."""
 
-LAYOUTS = ROOT / "layouts" / "cpython-x86_64.toml"
+LAYOUTS = os.path.join(ROOT, "layouts", "cpython-x86_64.toml")
 """Those of the first of them, which the program is handed where a core is none."""
 
 BUILD = "(cd crates/pystacks && rt run -- walk data/core sample 3.9.0 0x10000 0)"
@@ -48,59 +48,67 @@ def machine_name(number: int) -> str:
     return NAMES.get(number, f"machine {number}")
 
 
-def layouts_of(machine: Optional[int]) -> Path:
+def beside(path: str, name: str) -> str:
+    """The file of this name in the folder of another one."""
+    return os.path.join(os.path.dirname(path), name)
+
+
+def layouts_of(machine: Optional[int]) -> str:
     """The layouts of a core's machine, of all versions."""
     if machine is None:
         return LAYOUTS
     if machine not in MACHINES:
         line = f"layouts/ has none of the core's machine, {machine_name(machine)}: name a file by --layouts"
         raise Fault(line, BAD_WORDS, "docs/LAYOUTS.md says how a layout is derived from a build")
-    return LAYOUTS.with_name(f"cpython-{MACHINES[machine]}.toml")
+    return beside(LAYOUTS, f"cpython-{MACHINES[machine]}.toml")
 
 
-def records_of(machine: Optional[int]) -> Optional[Path]:
+def records_of(machine: Optional[int]) -> Optional[str]:
     """The records of a core's machine, of all versions, where there are any."""
     if machine not in MACHINES:
         return None
-    path = LAYOUTS.with_name(f"records-{MACHINES[machine]}.toml")
-    return path if path.is_file() else None
+    path = beside(LAYOUTS, f"records-{MACHINES[machine]}.toml")
+    return path if os.path.isfile(path) else None
 
 
-def named_at(named: str) -> Path:
+def named_at(named: str) -> str:
     """A program that is named. A name without a folder is that of a file here, and none that PATH leads to."""
-    return Path(named) if os.sep in named else Path.cwd() / named
+    return named if os.sep in named else os.path.join(os.getcwd(), named)
 
 
-def program_at(named: Optional[str], usual: Path) -> Path:
+def program_at(named: Optional[str], usual: str) -> str:
     """The program that is named, or the usual one. It has to be there."""
     program = named_at(named) if named else usual
-    if not program.is_file():
+    if not os.path.isfile(program):
         raise Fault(f"there is no program {shown(os.fsencode(program))}: {BUILD} builds it", NO_PROGRAM)
     return program
 
 
-def salvage_at(named: Optional[str], usual: Path) -> Optional[Path]:
+def salvage_at(named: Optional[str], usual: str) -> Optional[str]:
     """The program `pysalvage`: the one that is named, which has to be there, or the usual one, if it is there."""
-    if named and not Path(named).is_file():
+    if named and not os.path.isfile(named):
         raise Fault(f"there is no program {shown(os.fsencode(named))}", NO_PROGRAM, "build pysalvage, or leave --salvage out")
     program = named_at(named) if named else usual
-    return program if program.is_file() else None
+    return program if os.path.isfile(program) else None
 
 
-def salvage_program(named: Optional[str], program: Optional[str]) -> Optional[Path]:
+def salvage_program(named: Optional[str], program: Optional[str]) -> Optional[str]:
     """`pysalvage`, where it is there: the one that is named, or the one beside the named program, or the built one."""
-    return salvage_at(named, named_at(program).with_name("pysalvage") if program else SALVAGE)
+    return salvage_at(named, beside(named_at(program), "pysalvage") if program else SALVAGE)
 
 
 def commit() -> str:
     """The commit of the tool's files, where they are in a clone or the folder was installed from one; else nothing."""
-    kept = ROOT / "COMMIT"
-    if kept.is_file():
-        return kept.read_text(encoding="ascii", errors="replace").strip()
-    if not (ROOT / ".git").exists():
+    kept = os.path.join(ROOT, "COMMIT")
+    if os.path.isfile(kept):
+        with open(kept, encoding="ascii", errors="replace") as file:
+            return file.read().strip()
+    if not os.path.exists(os.path.join(ROOT, ".git")):
         return ""
+    import subprocess
+
     try:
-        command = ["git", "-C", str(ROOT), "rev-parse", "--short=12", "HEAD"]
+        command = ["git", "-C", ROOT, "rev-parse", "--short=12", "HEAD"]
         ran = subprocess.run(command, stdout=subprocess.PIPE, stderr=subprocess.DEVNULL, stdin=subprocess.DEVNULL, check=False)
     except OSError:
         return ""

@@ -1,6 +1,6 @@
 -- The process of a core, opened, before its interpreters are looked for: the steps are those of a report up to the
 -- layout.
-use Rattle.std.specs.Prelude.{◌≡◌, ℕ, List, Result, Ok, Err}
+use Rattle.std.specs.Prelude.{◌≡◌, ℕ, List, Option, None, Result, Ok, Err}
 use Rattle.image_memory.specs.Backed.{regions_of}
 use Rattle.image_memory.specs.Cores.{IsCore}
 use Rattle.image_memory.specs.Images.{Pushed}
@@ -16,15 +16,18 @@ use Rattle.py_process.specs.Steps.{Then}
 use Rattle.py_process.specs.declared.core_error.CoreError.{CoreError}
 use Rattle.core_stacks.specs.declared.process.Process.{Process}
 
--- what is dumped of a process, what is known of it by its images, its version, and the layout that covers that
+-- what is dumped of a process, what is known of it by its images, its version, and the layout that covers that; and why
+-- nothing that is there tells the version, where the names of its files alone do
 pub record OpenedProcess : Type 0 where
   pub dumped : Dumped
   pub known : Known
   pub version : Version
   pub layout : Layout
+  pub untold : Option CoreError
 
 abbrev pub IsOpenedBy : Dumped → Known → Version → Layout → Result OpenedProcess CoreError → Type 0
-IsOpenedBy d k v l result = result ≡ Ok (record { dumped = d; known = k; version = v; layout = l })
+IsOpenedBy d k v l result =
+    result ≡ Ok (record { dumped = d; known = k; version = v; layout = l; untold = None })
 
 -- the process of a core and its images, by some layouts, or the first cause why there is none
 abbrev pub ProcessIs : List ℕ → Pushed → List Layout → Result OpenedProcess CoreError → Type 0
@@ -40,7 +43,15 @@ opened_of maps p = record {
   known = known_of p.info;
   version = p.version;
   layout = p.layout;
+  untold = p.untold;
 }
+
+-- it is read of a core, and has what the core's notes tell
+pub record IsProcessOf (bytes : List ℕ) (p : Process) : Type 0 where
+  pub same : p.dump.core ≡ bytes
+  pub maps : List CoreMapRange
+  pub tested : tests p.info.maps ≡ in_maps maps
+  pub notes : NotesTell bytes p.notes.signal p.notes.process
 
 -- it is that of a core, and what the core's notes tell
 pub record IsProcess (bytes : List ℕ) (images : Pushed) (layouts : List Layout) (p : Process) : Type 0 where

@@ -19,7 +19,7 @@ pub use finding::process_info;
 pub use found::PythonBinaries;
 pub use named::named_version;
 pub use notes::Notes;
-pub use process::{Process, open};
+pub use process::{Process, open, open_named};
 pub use python_core::PythonCoreDump;
 pub use reporting::{Loaded, load, report, report_counted, report_over};
 pub use slimmed_error::SlimmedError;

@@ -1,9 +1,11 @@
 //! The process of a core, before its interpreters are looked for.
 ghost use Rattle.std.specs.Prelude.{IfOk};
 ghost use Rattle.py_fields.specs.Sound.{IsSound};
+ghost use Rattle.core_stacks.specs.Named.{OpensOrNamed};
 ghost use Rattle.core_stacks.specs.Process.{OpensProcess};
 
 use crate::finding::{process_info, read_version};
+use crate::named::{Covered, told_or_named};
 use crate::notes::Notes;
 use crate::reporting::{Loaded, load};
 use image_memory::{BackedDump, Images, MapTable};
@@ -24,6 +26,9 @@ pub struct Process {
     pub version: Version,
     /// The layout that covers that.
     pub layout: Layout,
+    /// Why nothing that is there tells the version, where the names of mapped files alone do: `UnreadableVersion` or
+    /// `NoVersion`. Of such a version the patch is not known, and is 0.
+    pub untold: Option<CoreError>,
 }
 
 /// Opens the process of a core, with the images that it had mapped, each under the path that the core has for it. No
@@ -52,5 +57,41 @@ pub fn open(
         info,
         version,
         layout,
+        untold: None,
+    })
+}
+
+/// Opens the process of a core as `open` does; and where nothing that is there tells its version, by the names of its
+/// mapped files, as `named_version` has them (`Process::untold`): a core that was cut may lack what tells it.
+///
+/// The errors are those of `open`: `UnreadableVersion` and `NoVersion` where no layout covers what names tell, or they
+/// tell none.
+pub fn open_named(
+    alloc: Global,
+    bytes: Vec<u8>,
+    images: &Images,
+    layouts: &Layouts,
+) -> Result<Process, CoreError>
+    ensures opens { OpensOrNamed bytes.items images.now layouts.now result }
+    ensures sound { IfOk result (λ process. IsSound process.layout) }
+{
+    let loaded = load(alloc, bytes, images)?;
+    let Loaded { dump, notes } = loaded;
+    let info = process_info(alloc, dump.core(), images)?;
+    let mut view = dump.view();
+    let told = read_version(alloc, &info, &mut view, layouts);
+    let covered = told_or_named(alloc, dump.core(), layouts, told)?;
+    let Covered {
+        version,
+        layout,
+        untold,
+    } = covered;
+    Ok(Process {
+        dump,
+        notes,
+        info,
+        version,
+        layout,
+        untold,
     })
 }

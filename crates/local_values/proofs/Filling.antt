@@ -36,24 +36,24 @@ kept_at k a value had has is =
     by_test false = refl
 
 -- of one address behind others the value is that of memory
-among_one : (value : ℕ → Tree) (xs : List ℕ) (x a : ℕ) (held : Option Tree) → held ≡ value_among value xs a
-    → (if nat_eq a x then Some (value x) else held) ≡ value_among value (xs ++ x ∷ []) a
-among_one value xs x a held is = by_test (nat_eq a x) refl
+among_one : (value : ℕ → Tree) (xs : List ℕ) (x a : ℕ) (before held : Option Tree) → held ≡ value_among value xs before a
+    → (if nat_eq a x then Some (value x) else held) ≡ value_among value (xs ++ x ∷ []) before a
+among_one value xs x a before held is = by_test (nat_eq a x) refl
   where
     by_test : (b : Bool) → nat_eq a x ≡ b
-        → (if b then Some (value x) else held) ≡ value_among value (xs ++ x ∷ []) a
+        → (if b then Some (value x) else held) ≡ value_among value (xs ++ x ∷ []) before a
     by_test true e =
         ap (λ y. Some (value y)) (sym (eqb-true a x e))
-        ∙ sym (ap (λ b. if b then Some (value a) else None) (among_more xs x a ∙ ap (λ b. list_any (nat_eq a) xs || b) e
+        ∙ sym (ap (λ b. if b then Some (value a) else before) (among_more xs x a ∙ ap (λ b. list_any (nat_eq a) xs || b) e
         ∙ or_true (list_any (nat_eq a) xs)))
     by_test false e =
-        is ∙ sym (ap (λ b. if b then Some (value a) else None) (among_more xs x a
+        is ∙ sym (ap (λ b. if b then Some (value a) else before) (among_more xs x a
         ∙ ap (λ b. list_any (nat_eq a) xs || b) e ∙ or_false (list_any (nat_eq a) xs)))
 
 -- the first of some addresses were read, where so many nodes are left; the values are held by these
-pub record Filled (value : ℕ → Tree) (all : List ℕ) (number left : ℕ) (held : ℕ → Option Tree) : Type 0 where
+pub record Filled (value : ℕ → Tree) (all : List ℕ) (number left : ℕ) (before held : ℕ → Option Tree) : Type 0 where
   pub read : within value node_limit all ≡ take number all ++ within value left (drop number all)
-  pub holds : (a : ℕ) → held a ≡ value_among value (take number all) a
+  pub holds : (a : ℕ) → held a ≡ value_among value (take number all) (before a) a
 
 within_more : (value : ℕ → Tree) (left a : ℕ) (rest : List ℕ) → left ≢ 0
     → within value left (a ∷ rest) ≡ a ∷ within value (left - nodes_of (value a)) rest
@@ -76,16 +76,15 @@ drop_more xs n less = drop-cons xs n 0 less ∙ ap (λ k. get_or xs n 0 ∷ drop
 drop_end : (xs : List ℕ) (n : ℕ) → length xs ≤ n → drop n xs ≡ []
 drop_end xs n le = nil_from_length (drop n xs) (omega (arith, length-drop n xs))
 
-pub filled_none : (value : ℕ → Tree) (all : List ℕ) (held : ℕ → Option Tree) → ((a : ℕ) → held a ≡ None)
-    → Filled value all 0 node_limit held
-filled_none value all held empty = record { read = refl; holds = λ a. empty a }
+pub filled_none : (value : ℕ → Tree) (all : List ℕ) (held : ℕ → Option Tree) → Filled value all 0 node_limit held held
+filled_none value all held = record { read = refl; holds = λ a. refl }
 
-module _ {value : ℕ → Tree} {all : List ℕ} {number left : ℕ} {held : ℕ → Option Tree} where
+module _ {value : ℕ → Tree} {all : List ℕ} {number left : ℕ} {before held : ℕ → Option Tree} where
   -- one more was read
-  pub filled_more : {next : ℕ} {holds : ℕ → Option Tree} (tree : Tree) → Filled value all number left held → left ≢ 0
+  pub filled_more : {next : ℕ} {holds : ℕ → Option Tree} (tree : Tree) → Filled value all number left before held → left ≢ 0
       → number < length all → tree ≡ value (get_or all number 0) → next ≡ left - nodes_of tree
       → ((a : ℕ) → holds a ≡ (if nat_eq a (get_or all number 0) then Some tree else held a))
-      → Filled value all (number + 1) next holds
+      → Filled value all (number + 1) next before holds
   filled_more {next = next} {holds = holds} tree t some less is rest same = record {
     read =
         t.read ∙ ap (λ xs. take number all ++ within value left xs) (drop_more all number less)
@@ -94,17 +93,17 @@ module _ {value : ℕ → Tree} {all : List ℕ} {number left : ℕ} {held : ℕ
         ∙ ap (λ xs. xs ++ within value (left - nodes_of (value (get_or all number 0))) (drop (number + 1) all)) (sym (take_more all number 0 less))
         ∙ ap (λ n. take (number + 1) all ++ within value n (drop (number + 1) all)) (ap (λ y. left - nodes_of y) (sym is) ∙ sym rest);
     holds = λ a. same a ∙ ap (λ y. if nat_eq a (get_or all number 0) then Some y else held a) is
-        ∙ among_one value (take number all) (get_or all number 0) a (held a) (t.holds a)
-        ∙ ap (λ xs. value_among value xs a) (sym (take_more all number 0 less));
+        ∙ among_one value (take number all) (get_or all number 0) a (before a) (held a) (t.holds a)
+        ∙ ap (λ xs. value_among value xs (before a) a) (sym (take_more all number 0 less));
   }
 
   -- what was read is all that is within the limit, where no node is left, or no address
-  pub filled_full : Filled value all number left held → left ≡ 0 → within value node_limit all ≡ take number all
+  pub filled_full : Filled value all number left before held → left ≡ 0 → within value node_limit all ≡ take number all
   filled_full t none =
       t.read ∙ ap (λ n. take number all ++ within value n (drop number all)) none
       ∙ ap (λ xs. take number all ++ xs) (within_none value (drop number all)) ∙ append-nil (take number all)
 
-  pub filled_end : Filled value all number left held → length all ≤ number → within value node_limit all ≡ take number all
+  pub filled_end : Filled value all number left before held → length all ≤ number → within value node_limit all ≡ take number all
   filled_end t full =
       t.read ∙ ap (λ xs. take number all ++ within value left xs) (drop_end all number full)
       ∙ ap (λ xs. take number all ++ xs) (within_end value left) ∙ append-nil (take number all)
@@ -117,28 +116,28 @@ le_cost cost number count le = grind arith
 
 -- the same of what is read in a process's memory, with its reads
 pub record Filling (value : Memory → ℕ → Tree) (cost : ℕ) (s0 s1 : Seen) (all : List ℕ) (number left : ℕ)
-    (held : ℕ → Option Tree) : Type 0 where
+    (before held : ℕ → Option Tree) : Type 0 where
   pub within : number ≤ length all
   pub spent : ℕ
   pub few : spent ≡ cost * number
-  pub reading : Reading spent s0 s1 (λ m. Filled (value m) all number left held)
+  pub reading : Reading spent s0 s1 (λ m. Filled (value m) all number left before held)
 
 pub filling_none : (value : Memory → ℕ → Tree) (cost : ℕ) (s : Seen) (all : List ℕ) (held : ℕ → Option Tree)
-    → ((a : ℕ) → held a ≡ None) → Filling value cost s s all 0 node_limit held
-filling_none value cost s all held empty = record {
+    → Filling value cost s s all 0 node_limit held held
+filling_none value cost s all held = record {
   within = omega arith;
   spent = 0;
   few = grind arith;
-  reading = reading_none 0 s _ (λ m. filled_none (value m) all held empty);
+  reading = reading_none 0 s _ (λ m. filled_none (value m) all held);
 }
 
 module _ {value : Memory → ℕ → Tree} {cost : ℕ} {s0 s1 : Seen} {all : List ℕ} {number left : ℕ}
-    {held : ℕ → Option Tree} where
+    {before held : ℕ → Option Tree} where
   pub filling_more : {s2 : Seen} {next : ℕ} {holds : ℕ → Option Tree} (tree : Tree)
-      → Filling value cost s0 s1 all number left held → left ≢ 0 → number < length all
+      → Filling value cost s0 s1 all number left before held → left ≢ 0 → number < length all
       → Reading cost s1 s2 (λ m. tree ≡ value m (get_or all number 0)) → next ≡ left - nodes_of tree
       → ((a : ℕ) → holds a ≡ (if nat_eq a (get_or all number 0) then Some tree else held a))
-      → Filling value cost s0 s2 all (number + 1) next holds
+      → Filling value cost s0 s2 all (number + 1) next before holds
   filling_more tree t some less read rest same = record {
     within = omega (arith, less);
     spent = t.spent + cost;
@@ -147,29 +146,29 @@ module _ {value : Memory → ℕ → Tree} {cost : ℕ} {s0 s1 : Seen} {all : Li
   }
 
   -- what was read is all, where no node is left, or no address
-  pub filling_full : (P : Memory → Type 0) → Filling value cost s0 s1 all number left held → left ≡ 0
-      → ((m : Memory) → ((a : ℕ) → held a ≡ value_among (value m) (within (value m) node_limit all) a)
+  pub filling_full : (P : Memory → Type 0) → Filling value cost s0 s1 all number left before held → left ≡ 0
+      → ((m : Memory) → ((a : ℕ) → held a ≡ value_among (value m) (within (value m) node_limit all) (before a) a)
       → length (within (value m) node_limit all) ≡ number → P m) → Reading (length all * cost) s0 s1 P
   filling_full P t none gives =
       reading_gives _ P t.reading (rw t.few (le_cost cost number (length all) t.within)) (λ m f.
       let is = filled_full f none in gives m
-      (λ a. f.holds a ∙ ap (λ xs. value_among (value m) xs a) (sym is))
+      (λ a. f.holds a ∙ ap (λ xs. value_among (value m) xs (before a) a) (sym is))
       (ap length is ∙ take_length all number t.within))
     where
       take_length : (xs : List ℕ) (n : ℕ) → n ≤ length xs → length (take n xs) ≡ n
       take_length xs n le = length-take-le n xs le
 
-  pub filling_end : (P : Memory → Type 0) → Filling value cost s0 s1 all number left held → length all ≤ number
-      → ((m : Memory) → ((a : ℕ) → held a ≡ value_among (value m) (within (value m) node_limit all) a)
+  pub filling_end : (P : Memory → Type 0) → Filling value cost s0 s1 all number left before held → length all ≤ number
+      → ((m : Memory) → ((a : ℕ) → held a ≡ value_among (value m) (within (value m) node_limit all) (before a) a)
       → length (within (value m) node_limit all) ≡ length all → P m) → Reading (length all * cost) s0 s1 P
   filling_end P t full gives =
       reading_gives _ P t.reading (rw t.few (le_cost cost number (length all) t.within)) (λ m f.
       let is = filled_end f full in gives m
-      (λ a. f.holds a ∙ ap (λ xs. value_among (value m) xs a) (sym is))
+      (λ a. f.holds a ∙ ap (λ xs. value_among (value m) xs (before a) a) (sym is))
       (ap length is ∙ ap length (take_all number all full)))
 
   -- a read that failed
-  pub filling_lost : {s2 : Seen} {P : Memory → Type 0} → Filling value cost s0 s1 all number left held
+  pub filling_lost : {s2 : Seen} {P : Memory → Type 0} → Filling value cost s0 s1 all number left before held
       → number < length all → Reading cost s1 s2 P → Reading (length all * cost) s0 s2 P
   filling_lost {P = P} t less read =
       let whole : cost * (number + 1) ≤ length all * cost = le_cost cost (number + 1) (length all) (omega (arith, less)) in

@@ -1,3 +1,4 @@
 pub mod Once
 pub mod Filling
 pub mod Counted
+pub mod Rounds

@@ -2,10 +2,11 @@
 ghost use Rattle.std.specs.Prelude.{◌≡◌, ◌*◌, ℕ, IfOk, OnOk, length, option_copied, option_map};
 ghost use Rattle.process_memory.specs.Seen.{Reading};
 ghost use Rattle.py_fields.specs.Sound.{IsSound};
-ghost use Rattle.py_reprs.specs.Limits.{limits_at};
 ghost use Rattle.py_reprs.specs.Trees.{tree_of};
 ghost use Rattle.local_values.specs.Addresses.{shown_addresses};
-ghost use Rattle.local_values.specs.Values.{AreLocalValues, AreValues, held_in, local_cost, value_in, with_value};
+ghost use Rattle.py_reprs.specs.Values.{repr_at};
+ghost use Rattle.local_values.specs.Values.{AreLocalValues, AreValues, IsRound, held_in, local_cost, rounds_cost};
+ghost use Rattle.local_values.specs.Values.{rounds_of, value_in, with_value};
 
 use crate::addresses::shown_addresses;
 use crate::nodes::left_after;
@@ -52,45 +53,88 @@ fn keep(values: &mut BTreeMap<u64, Repr>, addr: u64, value: Repr) -> Result<(), 
     Ok(())
 }
 
-/// The values at some addresses, each of which stands there once. See `read_local_values`.
-fn read_values<P: ProcessMemory>(
+/// Reads the values at some addresses, as they are shown within limits, until those that were read have so many nodes: each
+/// takes the place of the one that was there before. How many addresses are behind is told.
+fn read_round<P: ProcessMemory>(
     alloc: Global,
     process: &mut P,
     layout: &Layout,
     types: &ReprTypes,
     limits: &Limits,
     addresses: &[u64],
-) -> Result<LocalValues, ReprError>
+    values: &mut BTreeMap<u64, Repr>,
+) -> Result<u64, ReprError>
     requires sound { IsSound layout.now }
     ensures { Reading (length addresses.now * local_cost limits.now) (P.seen process.old) (P.seen process.new)
-        (λ m. IfOk result (AreValues layout.now types.now limits.now m addresses.now)) }
+        (λ m. IfOk result (IsRound
+        (λ a. repr_at layout.now types.now limits.now m limits.now.levels limits.now.nodes a)
+        addresses.now (held_in values.old) (held_in values.new))) }
 {
-    let mut values = BTreeMap::new(alloc);
     let mut left = NODE_LIMIT;
     for number in 0..addresses.len() {
         if left == 0 {
-            let left_out = (addresses.len() - number) as u64;
-            return Ok(LocalValues { values, left_out });
+            return Ok((addresses.len() - number) as u64);
         }
         let addr = addresses[number];
         let value = read_repr(alloc, process, layout, types, limits, addr)?;
         left = left_after(left, &value);
-        keep(&mut values, addr, value)?;
+        keep(values, addr, value)?;
     }
-    Ok(LocalValues {
-        values,
-        left_out: 0,
-    })
+    Ok(0)
 }
 
-/// The values of the locals of all frames that are shown of these interpreters, as they are shown by so many `-l`
-/// (`Limits::at`).
+/// The values at some addresses, by so many rounds. See `read_local_values`.
+fn read_rounds<P: ProcessMemory>(
+    alloc: Global,
+    process: &mut P,
+    layout: &Layout,
+    types: &ReprTypes,
+    rounds: u32,
+    addresses: &[u64],
+) -> Result<LocalValues, ReprError>
+    requires sound { IsSound layout.now }
+    ensures { Reading (rounds_cost (length addresses.now) rounds) (P.seen process.old) (P.seen process.new)
+        (λ m. IfOk result (AreValues layout.now types.now m rounds addresses.now)) }
+{
+    if rounds == 0 {
+        return Ok(LocalValues {
+            values: BTreeMap::new(alloc),
+            left_out: addresses.len() as u64,
+        });
+    }
+    let found = read_rounds(alloc, process, layout, types, rounds - 1, addresses)?;
+    let limits = Limits::at(rounds);
+    let mut values = found.values;
+    let behind = read_round(
+        alloc,
+        process,
+        layout,
+        types,
+        &limits,
+        addresses,
+        &mut values,
+    )?;
+    let left_out = found.left_out.min(behind);
+    Ok(LocalValues { values, left_out })
+}
+
+/// How many rounds there are by so many `-l`: from one to five.
+fn rounds_of(times: u32) -> u32
+    ensures { result ≡ rounds_of times }
+{
+    times.max(1).min(5)
+}
+
+/// The values of the locals of all frames that are shown of these interpreters, by so many `-l`.
 ///
-/// Each address is read once, in the order of `shown_addresses`: one is read where those before it have fewer than 2^20
-/// nodes together, one for each value and one for each within it. The addresses behind are left out, and counted.
+/// They are read in rounds: each address by one `-l` (`Limits::at`), then each by two, and so on, from one round to five.
+/// In each the addresses stand in the order of `shown_addresses`, and one is read where those before it have fewer than
+/// 2^20 nodes together in that round, one for each value and one for each within it. The value at an address is that of
+/// the last round in which it was read, so that what is shown by fewer `-l` is shown by more. The addresses that were read
+/// in no round are left out, and counted.
 ///
 /// What is not in memory is told in the values. The one error is want of memory. At most as many reads for each address
-/// as `read_repr` makes.
+/// and round as `read_repr` makes.
 pub fn read_local_values<P: ProcessMemory>(
     alloc: Global,
     process: &mut P,
@@ -100,11 +144,11 @@ pub fn read_local_values<P: ProcessMemory>(
     interpreters: &[SalvagedInterpreter],
 ) -> Result<LocalValues, ReprError>
     requires sound { IsSound layout.now }
-    ensures { Reading (length (shown_addresses interpreters.now) * local_cost (limits_at l))
+    ensures { Reading (rounds_cost (length (shown_addresses interpreters.now)) (rounds_of l))
         (P.seen process.old) (P.seen process.new)
         (λ m. IfOk result (AreLocalValues layout.now types.now l m interpreters.now)) }
 {
     let addresses = shown_addresses(alloc, interpreters)?;
-    let limits = Limits::at(l);
-    read_values(alloc, process, layout, types, &limits, &addresses)
+    let rounds = rounds_of(l);
+    read_rounds(alloc, process, layout, types, rounds, &addresses)
 }

@@ -23,7 +23,8 @@ use Rattle.py_fronts.specs.Interpreters.{Finds, address_at, after_candidate, aft
 use Rattle.py_fronts.specs.Interpreters.{after_records, finds_of, headed_at, headed_by, interpreter_limit}
 use Rattle.py_fronts.specs.Interpreters.{interpreters_at, is_found, none_found, shown_head, shown_where, whole_head}
 use Rattle.py_fronts.specs.Interpreters.{Told, looked_at, told_at, told_result, with_name, with_one, with_their_records}
-use Rattle.py_fronts.specs.ShownInterpreters.{AreAll, IsHeaded, IsTaken, IsTakenWhole}
+use Rattle.py_fronts.specs.ShownInterpreters.{AreAllNamed, AreAllSearched, IsHeaded, IsTaken}
+use Rattle.py_fronts.specs.ShownInterpreters.{IsTakenWhole}
 use Rattle.py_fronts.specs.ThreadFronts.{threads_front}
 use Rattle.py_fronts.proofs.FindLaws.{interpreters_shown}
 use Rattle.py_fronts.proofs.SearchLaws.{found_part, not_ended}
@@ -215,46 +216,78 @@ record_taken c l m r i d few below within =
 
 -- ---- all of them
 
-list_all : (c : ℕ → Bool) (k : Known) (v : Version) (l : Layout) (m : Memory) (xs : List ℕ) (all : Finds)
-    → all ≡ with_their_records true c l m (with_their_records false c l m none_found (named_candidates k v l m)) xs
-    → searched_candidates k m ≡ xs → length all.found ≤ interpreter_limit → all.more ≡ false → AreAll c k v l m all
-list_all c k v l m xs all is whole within few =
-    let named = after_candidates false c l m none_found (named_candidates k v l m) in
-    let first = after_records c l m interpreter_limit 0 named in
-    let searched = after_candidates true c l m first xs in
-    let last = after_records c l m interpreter_limit 0 searched in
-    let one = records_grow c l m interpreter_limit 0 named in
-    let two = candidates_grow true c l m first xs in
-    let three = records_grow c l m interpreter_limit 0 searched in
-    let none : FoundInterpreter = record { address = 0; head = 0; searched = false } in
-    let fewer : last.more ≡ false = ap (λ (r : Finds). r.more) (sym is) ∙ few in
-    let small : length last.found ≤ interpreter_limit = omega (arith, within, ap (λ (r : Finds). length r.found) is) in
-    subst (AreAll c k v l m) (sym is) (record {
-      named = named_then c l m none_found last (named_candidates k v l m)
-          (grows_on named first last one (grows_on first searched last two three)) fewer;
-      recorded = All-from_get_or (λ (h : FoundInterpreter). All (IsTaken c l m last) (record_candidates l m h.address))
-          last.found none (λ i below. record_taken c l m searched i none fewer below small);
-      searched = subst (λ ys. All (IsTakenWhole c l m last) ys) (sym whole)
-          (All-weaker (IsShownIn true c l m last) (IsTakenWhole c l m last)
-          (λ a h head headed whole. h head (is_whole c l m a head headed whole)) xs
-          (taken_then true c l m first last xs three fewer));
-    })
+module _ (c : ℕ → Bool) (k : Known) (v : Version) (l : Layout) (m : Memory) (xs : List ℕ) (all : Finds)
+    (is : all ≡ with_their_records true c l m (with_their_records false c l m none_found (named_candidates k v l m)) xs)
+    (within : length all.found ≤ interpreter_limit) (few : all.more ≡ false) where
+  abbrev named : Finds
+  named = after_candidates false c l m none_found (named_candidates k v l m)
 
-pub interpreters_all : (c : ℕ → Bool) (k : Known) (v : Version) (l : Layout) (m : Memory)
+  abbrev first : Finds
+  first = after_records c l m interpreter_limit 0 named
+
+  abbrev searched : Finds
+  searched = after_candidates true c l m first xs
+
+  abbrev last : Finds
+  last = after_records c l m interpreter_limit 0 searched
+
+  fewer : last.more ≡ false
+  fewer = ap (λ (r : Finds). r.more) (sym is) ∙ few
+
+  list_named : AreAllNamed c k v l m all
+  list_named =
+      let one = records_grow c l m interpreter_limit 0 named in
+      let two = candidates_grow true c l m first xs in
+      let three = records_grow c l m interpreter_limit 0 searched in
+      let none : FoundInterpreter = record { address = 0; head = 0; searched = false } in
+      let small : length last.found ≤ interpreter_limit =
+      omega (arith, within, ap (λ (r : Finds). length r.found) is) in
+      subst (AreAllNamed c k v l m) (sym is) (record {
+        named = named_then c l m none_found last (named_candidates k v l m)
+            (grows_on named first last one (grows_on first searched last two three)) fewer;
+        recorded = All-from_get_or
+            (λ (h : FoundInterpreter). All (IsTaken c l m last) (record_candidates l m h.address))
+            last.found none (λ i below. record_taken c l m searched i none fewer below small);
+      })
+
+  list_searched : searched_candidates k m ≡ xs → AreAllSearched c k l m all
+  list_searched whole =
+      subst (AreAllSearched c k l m) (sym is)
+      (subst (λ ys. All (IsTakenWhole c l m last) ys) (sym whole)
+      (All-weaker (IsShownIn true c l m last) (IsTakenWhole c l m last)
+      (λ a h head headed whole. h head (is_whole c l m a head headed whole)) xs
+      (taken_then true c l m first last xs (records_grow c l m interpreter_limit 0 searched) fewer)))
+
+-- those that are named, whether or not the search ended early
+pub named_all : (c : ℕ → Bool) (k : Known) (v : Version) (l : Layout) (m : Memory)
+    → (interpreters_at c k v l m).more ≡ false → AreAllNamed c k v l m (interpreters_at c k v l m)
+named_all c k v l m few =
+    let part = found_part c k v l m in
+    list_named c k v l m part.looked (interpreters_at c k v l m) part.finds (interpreters_shown c k v l m).few few
+
+pub searched_all : (c : ℕ → Bool) (k : Known) (v : Version) (l : Layout) (m : Memory)
     → (interpreters_at c k v l m).more ≡ false → (looked_at c k v l m).ended ≡ false
-    → AreAll c k v l m (interpreters_at c k v l m)
-interpreters_all c k v l m few ended =
+    → AreAllSearched c k l m (interpreters_at c k v l m)
+searched_all c k v l m few ended =
     let part = found_part c k v l m in
     let rest = part.all (not_ended c k v l m ended).below in
-    list_all c k v l m part.looked (interpreters_at c k v l m) part.finds
-    (part.parts ∙ ap (λ xs. part.looked ++ xs) rest ∙ append-nil part.looked) (interpreters_shown c k v l m).few few
+    list_searched c k v l m part.looked (interpreters_at c k v l m) part.finds (interpreters_shown c k v l m).few few
+    (part.parts ∙ ap (λ xs. part.looked ++ xs) rest ∙ append-nil part.looked)
 
-pub all_found : (c : ℕ → Bool) (k : Known) (v : Version) (l : Layout) (m : Memory)
+pub named_found_all : (c : ℕ → Bool) (k : Known) (v : Version) (l : Layout) (m : Memory)
+    (r : Result InterpreterSearch StackError) → IsOrNoMemory (told_at c k v l m) (told_result r)
+    → IfOk r (λ search. search.finds.more ≡ false → AreAllNamed c k v l m (finds_of search.finds))
+named_found_all c k v l m (Ok search) e = λ few.
+    subst (AreAllNamed c k v l m) (sym (ap (λ (t : Told). t.finds) e))
+    (named_all c k v l m (ap (λ (t : Told). t.finds.more) (sym e) ∙ few))
+named_found_all c k v l m (Err e) h = tt
+
+pub searched_found_all : (c : ℕ → Bool) (k : Known) (v : Version) (l : Layout) (m : Memory)
     (r : Result InterpreterSearch StackError) → IsOrNoMemory (told_at c k v l m) (told_result r)
     → IfOk r (λ search. search.finds.more ≡ false → search.looked.ended ≡ false
-    → AreAll c k v l m (finds_of search.finds))
-all_found c k v l m (Ok search) e = λ few ended.
-    subst (AreAll c k v l m) (sym (ap (λ (t : Told). t.finds) e))
-    (interpreters_all c k v l m (ap (λ (t : Told). t.finds.more) (sym e) ∙ few)
+    → AreAllSearched c k l m (finds_of search.finds))
+searched_found_all c k v l m (Ok search) e = λ few ended.
+    subst (AreAllSearched c k l m) (sym (ap (λ (t : Told). t.finds) e))
+    (searched_all c k v l m (ap (λ (t : Told). t.finds.more) (sym e) ∙ few)
     (ap (λ (t : Told). t.looked.ended) (sym e) ∙ ended))
-all_found c k v l m (Err e) h = tt
+searched_found_all c k v l m (Err e) h = tt

@@ -30,8 +30,9 @@ use Rattle.py_fronts.specs.declared.interpreters.FoundInterpreter.{FoundInterpre
 use Rattle.py_fronts.specs.declared.interpreters.InterpreterSearch.{InterpreterSearch}
 use Rattle.py_fronts.specs.declared.thread_front.ThreadsFront.{ThreadsFront}
 use Rattle.py_fronts.specs.Answers.{IsOrNoMemory}
-use Rattle.py_fronts.specs.BesideReports.{AgreeWithReport, AgreesWithReport, FindsReported, IsReported, NameIt}
-use Rattle.py_fronts.specs.BesideReports.{NoTextAtNull, ShowTraces, ShowsCalls, ShowsTrace, frames_among, is_shown}
+use Rattle.py_fronts.specs.BesideReports.{AgreeWithReport, AgreesWithReport, FindsReported, IsReported, IsSought}
+use Rattle.py_fronts.specs.BesideReports.{NameIt, NoTextAtNull, ShowTraces, ShowsCalls, ShowsTrace}
+use Rattle.py_fronts.specs.BesideReports.{frames_among, is_shown}
 use Rattle.py_fronts.specs.Candidates.{bss_of_image, head_given, head_in_sections, named_candidates, or_else}
 use Rattle.py_fronts.specs.Candidates.{has_long_section, is_long_image, record_candidates, runtime_of_image}
 use Rattle.py_fronts.specs.Candidates.{searched_candidates, section_count, section_limit, section_there, words_there}
@@ -42,13 +43,14 @@ use Rattle.py_fronts.specs.Front.{Break, Front, Leads, front_at, or_lost}
 use Rattle.py_fronts.specs.Front.Ending.{Whole, Cut}
 use Rattle.py_fronts.specs.Fronts.{InterpreterShown, fronts_at, fronts_result, interpreter_front, interpreters_fronts}
 use Rattle.py_fronts.specs.Fronts.{threads_from}
-use Rattle.py_fronts.specs.Interpreters.{Finds, Told, finds_of, interpreters_at, is_found, told_at, told_result}
+use Rattle.py_fronts.specs.Interpreters.{Told, finds_of, interpreters_at, is_found, looked_at, told_at}
+use Rattle.py_fronts.specs.Interpreters.{told_result}
 use Rattle.py_fronts.specs.Members.{caller_of, is_kept, members_front}
-use Rattle.py_fronts.specs.ShownInterpreters.{AreAll, IsHeaded, IsShown, IsTaken, IsTakenWhole}
+use Rattle.py_fronts.specs.ShownInterpreters.{IsHeaded, IsShown, IsTaken, IsTakenWhole}
 use Rattle.py_fronts.specs.Standings.{Stood, standing_at}
 use Rattle.py_fronts.specs.ThreadFronts.{after_record, front_shown, left_after, thread_of, thread_shown, threads_front}
 use Rattle.py_fronts.specs.ThreadFronts.{threads_of, threads_result, threads_shown}
-use Rattle.py_fronts.proofs.AllFound.{interpreters_all}
+use Rattle.py_fronts.proofs.AllFound.{named_all, searched_all}
 use Rattle.py_fronts.proofs.SearchLaws.{neither, not_ended}
 use Rattle.py_fronts.proofs.SectionSteps.{record_there}
 use Rattle.py_fronts.proofs.FindLaws.{interpreters_shown}
@@ -263,15 +265,15 @@ in_given : (k : Known) (v : Version) (l : Layout) (m : Memory) (a : ℕ) → Con
 unfolding head_given
 in_given k v l m a h = in_first (head_by l.head k v l m) (head_in_sections k v l m) a h
 
-in_either : (k : Known) (v : Version) (l : Layout) (m : Memory) (a : ℕ) → has_long_section k ≡ false
-    → Contains (candidates_of k v l m) a
-    → Contains (named_candidates k v l m) a ⊎ Contains (searched_candidates k m) a
+-- a candidate of a report is among the words of a section, where it isn't named
+in_words : (k : Known) (v : Version) (l : Layout) (m : Memory) (a : ℕ) → Contains (candidates_of k v l m) a
+    → Contains (named_candidates k v l m) a ⊎ Contains (words_of_images m k) a
 unfolding candidates_of named_candidates
-in_either k v l m a short h =
+in_words k v l m a h =
     let heads = head_given k v l m in
     elim (Contains-append_cases (head_by l.head k v l m) (words_of_images m k) a h) [
       | inl head ↦ inl (Contains-append_left heads (flat_map (record_candidates l m) heads) a (in_given k v l m a head))
-      | inr words ↦ inr (in_images m k a short words)
+      | inr words ↦ inr words
     ]
 
 names_back : (l : Layout) (m : Memory) (a head : ℕ) → named_at l m a ≡ Ok a → threads_head l m a ≡ Ok head
@@ -292,28 +294,40 @@ reported_headed c l m a null is =
       named = names_back l m a is.head is.is.named is.names;
     }
 
-reported_by : (c : ℕ → Bool) (k : Known) (v : Version) (l : Layout) (m : Memory) (r : Finds) → AreAll c k v l m r
-    → has_long_section k ≡ false → c 0 ≡ false → (a : ℕ) → IsReported c k v l m a → is_found r.found a ≡ true
-reported_by c k v l m r all short null a h =
-    let here : Contains (candidates_of k v l m) a = rw h.first.parts
-    (Contains-append_right h.first.before (a ∷ h.first.after) a (0, omega arith, refl)) in
-    let headed = reported_headed c l m a null h.first.is in
-    elim (in_either k v l m a short here) [
-      | inl named ↦ All-contains (IsTaken c l m r) (named_candidates k v l m) a all.named named h.first.is.head headed
-      | inr searched ↦ All-contains (IsTakenWhole c l m r) (searched_candidates k m) a all.searched searched
-          h.first.is.head headed
-          (ap (λ (f : Front). f.ending) (whole_threads l m a h.first.is.head h.traces h.are h.named headed.names))
-    ]
+-- an interpreter that is named is taken; so is one that is a word of a section, where all was looked at
+module _ (c : ℕ → Bool) (k : Known) (v : Version) (l : Layout) (m : Memory)
+    (few : (interpreters_at c k v l m).more ≡ false) (null : c 0 ≡ false) (a : ℕ) (h : IsReported c k v l m a) where
+  by_name : Contains (named_candidates k v l m) a → is_found (interpreters_at c k v l m).found a ≡ true
+  by_name named =
+      All-contains (IsTaken c l m (interpreters_at c k v l m)) (named_candidates k v l m) a
+      (named_all c k v l m few).named named h.first.is.head (reported_headed c l m a null h.first.is)
+
+  by_search : (looked_at c k v l m).ended ≡ false → Contains (words_of_images m k) a
+      → is_found (interpreters_at c k v l m).found a ≡ true
+  by_search ended words =
+      let headed = reported_headed c l m a null h.first.is in
+      All-contains (IsTakenWhole c l m (interpreters_at c k v l m)) (searched_candidates k m) a
+      (searched_all c k v l m few ended) (in_images m k a (not_ended c k v l m ended).short words) h.first.is.head
+      headed
+      (ap (λ (f : Front). f.ending) (whole_threads l m a h.first.is.head h.traces h.are h.named headed.names))
+
+  reported_by : IsSought (looked_at c k v l m).ended k v l m a → is_found (interpreters_at c k v l m).found a ≡ true
+  reported_by (inl named) = by_name named
+  reported_by (inr ended) =
+      let here : Contains (candidates_of k v l m) a = rw h.first.parts
+      (Contains-append_right h.first.before (a ∷ h.first.after) a (0, omega arith, refl)) in
+      elim (in_words k v l m a here) [
+        | inl named ↦ by_name named
+        | inr words ↦ by_search ended words
+      ]
 
 pub reported_found : (c : ℕ → Bool) (k : Known) (v : Version) (l : Layout) (m : Memory)
     (r : Result InterpreterSearch StackError) → IsOrNoMemory (told_at c k v l m) (told_result r)
-    → IfOk r (λ search. search.looked.ended ≡ false → FindsReported c k v l m (finds_of search.finds))
-reported_found c k v l m (Ok search) e = λ ended few null a h.
-    let all_looked = ap (λ (t : Told). t.looked.ended) (sym e) ∙ ended in
+    → IfOk r (λ search. FindsReported search.looked.ended c k v l m (finds_of search.finds))
+reported_found c k v l m (Ok search) e = λ few null a h sought.
     ap (λ (t : Told). is_found t.finds.found a) e
-    ∙ reported_by c k v l m (interpreters_at c k v l m)
-    (interpreters_all c k v l m (ap (λ (t : Told). t.finds.more) (sym e) ∙ few) all_looked)
-    (not_ended c k v l m all_looked).short null a h
+    ∙ reported_by c k v l m (ap (λ (t : Told). t.finds.more) (sym e) ∙ few) null a h
+    (subst (λ (t : Told). IsSought t.looked.ended k v l m a) e sought)
 reported_found c k v l m (Err e) h = tt
 
 -- ---- all fronts
@@ -343,9 +357,8 @@ agree_at : (c : ℕ → Bool) (k : Known) (v : Version) (l : Layout) (m : Memory
     → AgreeWithReport c k v l m (fronts_at c k v l m q limit)
 unfolding fronts_at
 agree_at c k v l m q limit = record {
-  shown = λ few ended null a h. same_addresses q l m limit all_members_limit (interpreters_at c k v l m).found a
-      ∙ reported_by c k v l m (interpreters_at c k v l m) (interpreters_all c k v l m few ended)
-      (not_ended c k v l m ended).short null a h;
+  shown = λ few null a h sought. same_addresses q l m limit all_members_limit (interpreters_at c k v l m).found a
+      ∙ reported_by c k v l m few null a h sought;
   each = each_agrees c q l m limit all_members_limit (interpreters_at c k v l m).found
       (interpreters_shown c k v l m).each;
 }

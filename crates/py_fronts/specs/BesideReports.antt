@@ -1,7 +1,7 @@
 -- What a front shows where the same memory has a report: its threads, and their frames. A report asks more of a memory,
 -- that each chain goes on to null, and has no frames without names.
-use Rattle.std.specs.Prelude.{◌≡◌, ◌≢◌, ℕ, ◌≤◌, ◌<◌, ◌⊎◌, nat_eq, Bool, true, false, All, List, [], ◌∷◌, ◌++◌, length}
-use Rattle.std.specs.Prelude.{map, Ok, ⊤}
+use Rattle.std.specs.Prelude.{◌≡◌, ◌≢◌, ℕ, ◌≤◌, ◌<◌, ◌⊎◌, nat_eq, Bool, true, false, All, Contains, List, [], ◌∷◌, ◌++◌}
+use Rattle.std.specs.Prelude.{length, map, Ok, ⊤}
 use Rattle.std.specs.List.{list_any}
 use Rattle.process_memory.specs.Memory.{Memory}
 use Rattle.py_fields.specs.declared.version.Version.{Version}
@@ -14,6 +14,7 @@ use Rattle.py_stacks.specs.Threads.{AreTraces, Trace}
 use Rattle.py_process.specs.Candidates.{IsFirstOf, candidates_of}
 use Rattle.py_process.specs.Facts.{Known}
 use Rattle.py_process.specs.Reports.{bare_call}
+use Rattle.py_fronts.specs.Candidates.{named_candidates}
 use Rattle.py_fronts.specs.FrameFronts.{FramesShown}
 use Rattle.py_fronts.specs.Front.Ending.{Whole, Cut}
 use Rattle.py_fronts.specs.Fronts.{FrontsShown, InterpreterShown}
@@ -73,18 +74,22 @@ pub record IsReported (contains : ℕ → Bool) (k : Known) (v : Version) (l : L
   pub are : AreTraces nothing l m a traces
   pub named : NameIt l m a are.threads
 
--- it is among those that were found, where there are no more of them, and no map holds address 0
-abbrev pub FindsReported : (ℕ → Bool) → Known → Version → Layout → Memory → Finds → Type 0
-FindsReported contains k v l m r = r.more ≡ false → contains 0 ≡ false → (a : ℕ) → IsReported contains k v l m a
-    → is_found r.found a ≡ true
+-- an address was looked at: it is named, or the search did not end before all was looked at
+abbrev pub IsSought : (ended : Bool) → Known → Version → Layout → Memory → ℕ → Type 0
+IsSought ended k v l m a = Contains (named_candidates k v l m) a ⊎ (ended ≡ false)
+
+-- it is among those that were found, where it was looked at, there are no more of them, and no map holds address 0
+abbrev pub FindsReported : (ended : Bool) → (ℕ → Bool) → Known → Version → Layout → Memory → Finds → Type 0
+FindsReported ended contains k v l m r = r.more ≡ false → contains 0 ≡ false → (a : ℕ) → IsReported contains k v l m a
+    → IsSought ended k v l m a → is_found r.found a ≡ true
 
 -- whether an interpreter is shown
 abbrev pub is_shown : List InterpreterShown → ℕ → Bool
 is_shown shown a = list_any (λ one. nat_eq one.address a) shown
 
--- the interpreter of a report is shown where the search did not end before all was looked at, and each that is shown has its threads
+-- the interpreter of a report is shown where it was looked at, and each that is shown has its threads
 pub record AgreeWithReport (contains : ℕ → Bool) (k : Known) (v : Version) (l : Layout) (m : Memory)
     (fronts : FrontsShown) : Type 0 where
-  pub shown : fronts.more ≡ false → fronts.looked.ended ≡ false → contains 0 ≡ false → (a : ℕ)
-      → IsReported contains k v l m a → is_shown fronts.interpreters a ≡ true
+  pub shown : fronts.more ≡ false → contains 0 ≡ false → (a : ℕ) → IsReported contains k v l m a
+      → IsSought fronts.looked.ended k v l m a → is_shown fronts.interpreters a ≡ true
   pub each : All (λ (one : InterpreterShown). AgreesWithReport l m one.address one.threads) fronts.interpreters

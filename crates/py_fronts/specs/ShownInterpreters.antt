@@ -42,13 +42,16 @@ abbrev pub IsTakenWhole : (ℕ → Bool) → Layout → Memory → Finds → ℕ
 IsTakenWhole contains l m r a = (head : ℕ) → IsHeaded contains l m a head → (threads_front l a m head).ending ≡ Whole
     → is_found r.found a ≡ true
 
--- none is left out: of the addresses that are named, of those that the record of one that is shown names, and of those
--- that are found by search alone
-pub record AreAll (contains : ℕ → Bool) (k : Known) (v : Version) (l : Layout) (m : Memory) (r : Finds) : Type 0 where
+-- none is left out of the addresses that are named, and of those that the record of one that is shown leads to
+pub record AreAllNamed (contains : ℕ → Bool) (k : Known) (v : Version) (l : Layout) (m : Memory)
+    (r : Finds) : Type 0 where
   pub named : All (IsTaken contains l m r) (named_candidates k v l m)
   pub recorded : All (λ (one : FoundInterpreter). All (IsTaken contains l m r) (record_candidates l m one.address))
       r.found
-  pub searched : All (IsTakenWhole contains l m r) (searched_candidates k m)
+
+-- nor of those that are found by search alone
+abbrev pub AreAllSearched : (ℕ → Bool) → Known → Layout → Memory → Finds → Type 0
+AreAllSearched contains k l m r = All (IsTakenWhole contains l m r) (searched_candidates k m)
 
 -- named is the head that symbols give, or else the runtime section; what its record leads to; and what the record of
 -- another interpreter that is shown leads to

@@ -114,8 +114,8 @@ fn all_fronts<M: ContainsAddr, P: ProcessMemory>(
 ///
 /// Where the same memory has a report of an interpreter, and each thread of the report names that interpreter, then:
 ///
-/// - it is among these, if there are no more than are shown, the search did not end before all was looked at, and no map
-///   holds address 0;
+/// - it is among these, if there are no more than are shown, no map holds address 0, and it is named, or the search did
+///   not end before all was looked at;
 /// - if it is shown and no text stands at address 0, its chain of threads is whole, and they are the report's by their
 ///   ids, in order. The frames of each, by their names and marks, are the report's but for some that stand hidden
 ///   between the first and the last, no more than are counted there; or its chain of frames is cut, of fewer than 16384

@@ -14,7 +14,7 @@ ghost use Rattle.py_fronts.specs.Interpreters.{finds_of, headed_at, headed_by, i
 ghost use Rattle.py_fronts.specs.Interpreters.{names_it, reads_of_record, records_reads, search_begins};
 ghost use Rattle.py_fronts.specs.Interpreters.{searching_result, taking_reads, told_at, told_result, with_one};
 ghost use Rattle.py_fronts.specs.Interpreters.{with_their_records};
-ghost use Rattle.py_fronts.specs.ShownInterpreters.{AreAll, AreMarked, AreShown};
+ghost use Rattle.py_fronts.specs.ShownInterpreters.{AreAllNamed, AreAllSearched, AreMarked, AreShown};
 
 use crate::candidates::{named_candidates, nothing_read, others_led_to};
 use crate::search::{Looked, Searching, look_in_sections, looked_by};
@@ -375,12 +375,16 @@ pub fn find_interpreters<M: ContainsAddr, P: ProcessMemory>(
     ensures marked { Looking (M.contains info.now.maps) (known_of info.now) version.now layout.now (P.seen process.old)
         (P.seen process.new) (λ m. IfOk result
         (λ search. AreMarked (known_of info.now) version.now layout.now m (finds_of search.finds))) }
-    // none is left out where it did not end before
+    // none is left out of those that are named, and of those that records lead to
+    ensures named { Looking (M.contains info.now.maps) (known_of info.now) version.now layout.now (P.seen process.old)
+        (P.seen process.new) (λ m. IfOk result (λ search. search.finds.more ≡ false → AreAllNamed
+        (M.contains info.now.maps) (known_of info.now) version.now layout.now m (finds_of search.finds))) }
+    // nor of those that are found by search alone, where it did not end before
     ensures all { Looking (M.contains info.now.maps) (known_of info.now) version.now layout.now (P.seen process.old)
         (P.seen process.new) (λ m. IfOk result (λ search. search.finds.more ≡ false → search.looked.ended ≡ false
-        → AreAll (M.contains info.now.maps) (known_of info.now) version.now layout.now m (finds_of search.finds))) }
+        → AreAllSearched (M.contains info.now.maps) (known_of info.now) layout.now m (finds_of search.finds))) }
     ensures report { Looking (M.contains info.now.maps) (known_of info.now) version.now layout.now (P.seen process.old)
-        (P.seen process.new) (λ m. IfOk result (λ search. search.looked.ended ≡ false → FindsReported
+        (P.seen process.new) (λ m. IfOk result (λ search. FindsReported search.looked.ended
         (M.contains info.now.maps) (known_of info.now) version.now layout.now m (finds_of search.finds))) }
     // the budget of the search
     ensures walked { Looking (M.contains info.now.maps) (known_of info.now) version.now layout.now (P.seen process.old)

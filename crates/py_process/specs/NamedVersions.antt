@@ -1,7 +1,8 @@
 -- The version that the names of a process's mapped files tell, where nothing else does: a major and a minor number, as
--- `libpython3.11.so.1.0` and `python3.11` have them. That names tell one is this project's own rule, after py-spy.
-use Rattle.std.specs.Prelude.{ℕ, nat_eq, ◌&&◌, not, Bool, false, if◌then◌else◌, List, [], ◌∷◌, ◌++◌, Option, Some, None}
-use Rattle.std.specs.Prelude.{option_and_then, option_map, codes}
+-- `libpython3.11.so.1.0`, `python3.11` and `libpython3.6m.so.1.0` have them. That names tell one is this project's own
+-- rule, after py-spy.
+use Rattle.std.specs.Prelude.{ℕ, ◌-◌, nat_eq, nat_lt, ◌&&◌, not, Bool, false, if◌then◌else◌, List, [], ◌∷◌, ◌++◌}
+use Rattle.std.specs.Prelude.{length, slice_index, take, Option, Some, None, option_and_then, option_map, codes}
 use Rattle.std.specs.List.{after_last, list_all, slice_split}
 use Rattle.image_memory.specs.declared.maps.CoreMapRange.{CoreMapRange}
 use Rattle.py_fields.specs.Version.{is_dot, release}
@@ -12,9 +13,15 @@ abbrev pub both_numbers : Option ℕ → Option ℕ → Option (ℕ × ℕ)
 both_numbers (Some major) (Some minor) = Some (major, minor)
 both_numbers _ _ = None
 
+-- less the letter `m` at its end, where one stands there: up to 3.7 it names a build with pymalloc, whose
+-- records are those of one without. No other letter of a build is taken away: their records are others
+abbrev pub without_m : List ℕ → List ℕ
+without_m text = if nat_lt 0 (length text) && nat_eq (slice_index text (length text - 1)) 109
+    then take (length text - 1) text else text
+
 -- the numbers of the first two parts between dots
 abbrev pub first_numbers : List (List ℕ) → Option (ℕ × ℕ)
-first_numbers (major ∷ minor ∷ rest) = both_numbers (decimal_of major) (decimal_of minor)
+first_numbers (major ∷ minor ∷ rest) = both_numbers (decimal_of major) (decimal_of (without_m minor))
 first_numbers _ = None
 
 abbrev pub numbers_in : List ℕ → Option (ℕ × ℕ)

@@ -3,12 +3,23 @@ ghost use Rattle.std.specs.Prelude.{◌≡◌, IfOk};
 ghost use Rattle.std.specs.List.{slice_split};
 ghost use Rattle.py_fields.specs.Version.{is_dot};
 ghost use Rattle.py_process.specs.NamedVersions.{differs, map_numbers, name_numbers, numbers_in, numbers_told};
-ghost use Rattle.py_process.specs.NamedVersions.{the_only, version_of_names};
+ghost use Rattle.py_process.specs.NamedVersions.{the_only, version_of_names, without_m};
 
 use crate::file_version::{decimal, last_part, split_at_dot};
 use image_memory::CoreMapRange;
 use py_fields::Version;
 use std::alloc::{AllocError, Global};
+
+/// A text less the letter `m` at its end, where one stands there.
+fn without_m(text: &[u8]) -> &[u8]
+    ensures { result.now ≡ without_m text.now }
+{
+    let length = text.len();
+    if length > 0 && text[length - 1] == b'm' {
+        return &text[..length - 1];
+    }
+    text
+}
 
 /// The numbers of the first two parts between dots.
 fn numbers_in(text: &[u8]) -> Option<(u64, u64)>
@@ -19,7 +30,7 @@ fn numbers_in(text: &[u8]) -> Option<(u64, u64)>
         Some((minor, _)) => minor,
         None => rest,
     };
-    Some((decimal(major)?, decimal(minor)?))
+    Some((decimal(major)?, decimal(without_m(minor))?))
 }
 
 /// The numbers that the last part of a path tells: behind `libpython`, or else behind `python`.
@@ -68,8 +79,9 @@ fn only_numbers(maps: &[CoreMapRange]) -> Option<(u64, u64)>
 }
 
 /// The version that the names of mapped files tell: the major and minor number of the last part of a path, behind
-/// `libpython` or `python` and a dot apart, as `libpython3.11.so.1.0` and `python3.11` have them. None where no name
-/// tells one, or two tell different ones. The patch isn't told, and is 0. The one error is want of memory.
+/// `libpython` or `python` and a dot apart, as `libpython3.11.so.1.0` and `python3.11` have them; behind the minor one
+/// `m` may stand, as in `libpython3.6m.so.1.0`. None where no name tells one, or two tell different ones. The patch
+/// isn't told, and is 0. The one error is want of memory.
 #[tactic(auto, unfolding(crate::specs::NamedVersions::version_of_names))]
 pub fn version_of_names(alloc: Global, maps: &[CoreMapRange]) -> Result<Option<Version>, AllocError>
     ensures { IfOk result (λ version. version ≡ version_of_names maps.now) }

@@ -57,8 +57,8 @@ module _ {S : Type 0} {spent : ℕ} {s0 s1 : Seen} {rest : Memory → ℕ → S 
 abbrev pub chain_rest : Layout → Release → Memory → ℕ → MetShown → Found MetShown
 chain_rest l r m number = chain_from l r m (16 - number)
 
-abbrev pub threads_rest : Layout → Release → List ThreadPlace → Memory → ℕ → MetShown → Found MetShown
-threads_rest l r threads m number = threads_from l r m (drop number threads)
+abbrev pub threads_rest : Layout → Release → List ℕ → List ThreadPlace → Memory → ℕ → MetShown → Found MetShown
+threads_rest l r pointers threads m number = threads_from l r pointers m (drop number threads)
 
 module _ (l : Layout) (r : Release) where
   chain_by : (m : Memory) (n k : ℕ) (s : MetShown) → n ≡ suc k
@@ -77,14 +77,15 @@ module _ (l : Layout) (r : Release) where
   pub chain_ends : (number : ℕ) → 16 ≤ number → (m : Memory) (s : MetShown) → chain_rest l r m number s ≡ Ok s
   chain_ends number all m s = chain_none m (16 - number) s (omega arith)
 
+module _ (l : Layout) (r : Release) (pointers : List ℕ) where
   pub threads_go : (threads : List ThreadPlace) (number : ℕ) (none : ThreadPlace) → number < length threads
       → (m : Memory) (s : MetShown)
-      → threads_rest l r threads m number s
-      ≡ (thread_step l r m (get_or threads number none) s >>= threads_rest l r threads m (number + 1))
+      → threads_rest l r pointers threads m number s
+      ≡ (thread_step l r pointers m (get_or threads number none) s >>= threads_rest l r pointers threads m (number + 1))
   unfolding threads_from
-  threads_go threads number none some m s = ap (λ ts. threads_from l r m ts s) (drop_more threads number none some)
+  threads_go threads number none some m s = ap (λ ts. threads_from l r pointers m ts s) (drop_more threads number none some)
 
   pub threads_end : (threads : List ThreadPlace) (number : ℕ) → length threads ≤ number → (m : Memory) (s : MetShown)
-      → threads_rest l r threads m number s ≡ Ok s
+      → threads_rest l r pointers threads m number s ≡ Ok s
   unfolding threads_from
-  threads_end threads number all m s = ap (λ ts. threads_from l r m ts s) (drop_all number threads all)
+  threads_end threads number all m s = ap (λ ts. threads_from l r pointers m ts s) (drop_all number threads all)

@@ -8,3 +8,4 @@ pub mod Verdicts
 pub mod Counting
 pub mod Folding
 pub mod Made
+pub mod Found

@@ -63,5 +63,5 @@ doubt NotDescribed b = refl
 
 pub no_float : (c : CheckShown) → has_float (check_tree c) ≡ false
 no_float c = λ i. build c.build i || (items Differing c.keys i
-    || (doubt c.verdict (has_no_right_frame c.known) i || (known c.known i || (items Untold c.keys i
+    || (doubt c.verdict (has_no_right_frame c.frames c.known) i || (known c.known i || (items Untold c.keys i
     || (release c.other_table i || (items Told c.keys i || (false || false)))))))

@@ -14,7 +14,9 @@ use Rattle.py_selftest.specs.Checking.{Agree, AllAgree, CheckShown, Says, Differ
 use Rattle.py_selftest.specs.Checking.{check_at, check_if}
 use Rattle.py_selftest.specs.Checking.{check_of, described_at, differs, keys_from, unconfirmed, lacks, undescribed}
 use Rattle.py_selftest.specs.Checking.{undescribed_at}
+use Rattle.py_selftest.specs.Contents.{add_contents, first_contents}
 use Rattle.py_selftest.specs.Questions.{has_no_right_frame}
+use Rattle.py_selftest.specs.declared.contents.ContentsTold.{ContentsTold}
 use Rattle.py_selftest.specs.Telling.{kept}
 use Rattle.py_selftest.specs.Trusting.{table_at}
 use Rattle.py_selftest.specs.Walking.{MetShown, met_at}
@@ -107,44 +109,53 @@ differs_if false false true true h = absurd (cc)
 differs_if false false true false h = absurd (cc)
 differs_if false false false doubted h = absurd (cc)
 
-module _ (doubted : Bool) (known : List Answer) (ks : List KeyShown) where
-  verdict_agrees : verdict_of doubted known ks ≡ Agrees → AllAgree ks
+module _ (doubted : Bool) (frames : ℕ) (known : List Answer) (ks : List KeyShown) where
+  verdict_agrees : verdict_of doubted frames known ks ≡ Agrees → AllAgree ks
   verdict_agrees h =
-      let all = agrees_if (list_any differs ks) (has_no_right_frame known) (list_any lacks ks) doubted h in
+      let all = agrees_if (list_any differs ks) (has_no_right_frame frames known) (list_any lacks ks) doubted h in
       agree_all ks all.0 all.2
 
-  verdict_right : verdict_of doubted known ks ≡ Agrees → has_no_right_frame known ≡ false
+  verdict_right : verdict_of doubted frames known ks ≡ Agrees → has_no_right_frame frames known ≡ false
   verdict_right h =
-      let all = agrees_if (list_any differs ks) (has_no_right_frame known) (list_any lacks ks) doubted h in all.1
+      let all = agrees_if (list_any differs ks) (has_no_right_frame frames known) (list_any lacks ks) doubted h in all.1
 
-  verdict_differs : verdict_of doubted known ks ≡ Differs → OneDiffers ks
+  verdict_differs : verdict_of doubted frames known ks ≡ Differs → OneDiffers ks
   verdict_differs h = differ_one ks
-      (differs_if (list_any differs ks) (has_no_right_frame known) (list_any lacks ks) doubted h)
+      (differs_if (list_any differs ks) (has_no_right_frame frames known) (list_any lacks ks) doubted h)
 
 module _ (m : Memory) (l : Layout) where
-  by_keys : (trust : Trust) (known : List Answer) (d : Found (List KeyShown)) (c : CheckShown)
-      → (d >>= (λ keys. Ok (check_of trust known keys))) ≡ Ok c → Says c
-  by_keys trust known (Err f) c e = absurd (cc)
-  by_keys trust known (Ok keys) c e =
-      let same : check_of trust known keys ≡ c = cc in
+  by_keys : (trust : Trust) (frames : ℕ) (known : List Answer) (d : Found (List KeyShown)) (c : CheckShown)
+      → (d >>= (λ keys. Ok (check_of trust frames known keys))) ≡ Ok c → Says c
+  by_keys trust frames known (Err f) c e = absurd (cc)
+  by_keys trust frames known (Ok keys) c e =
+      let same : check_of trust frames known keys ≡ c = cc in
       subst Says same (record {
-        agrees = verdict_agrees trust.doubted known keys;
-        some_right = verdict_right trust.doubted known keys;
-        differs = verdict_differs trust.doubted known keys;
+        agrees = verdict_agrees trust.doubted frames known keys;
+        some_right = verdict_right trust.doubted frames known keys;
+        differs = verdict_differs trust.doubted frames known keys;
       })
 
-  by_trust : (known : List Answer) (d : Found Trust) (c : CheckShown)
-      → (d >>= (λ trust. keys_from m l trust.telling the_rows >>= (λ keys. Ok (check_of trust known keys)))) ≡ Ok c
-      → Says c
-  by_trust known (Err f) c e = absurd (cc)
-  by_trust known (Ok trust) c e = by_keys trust known (keys_from m l trust.telling the_rows) c e
+  by_trust : (frames : ℕ) (known : List Answer) (d : Found Trust) (c : CheckShown)
+      → (d >>= (λ trust. keys_from m l trust.telling the_rows >>= (λ keys. Ok (check_of trust frames known keys))))
+      ≡ Ok c → Says c
+  by_trust frames known (Err f) c e = absurd (cc)
+  by_trust frames known (Ok trust) c e = by_keys trust frames known (keys_from m l trust.telling the_rows) c e
 
-  by_met : (runtime : Option ℕ) (release : Release) (d : Found MetShown) (c : CheckShown)
-      → (d >>= (λ met. trust_at m met.types runtime release
-      >>= (λ trust. keys_from m l trust.telling the_rows >>= (λ keys. Ok (check_of trust met.answers keys))))) ≡ Ok c
-      → Says c
-  by_met runtime release (Err f) c e = absurd (cc)
-  by_met runtime release (Ok met) c e = by_trust met.answers (trust_at m met.types runtime release) c e
+  by_contents : (runtime : Option ℕ) (release : Release) (met : MetShown) (d : Found ContentsTold) (c : CheckShown)
+      → (d >>= (λ contents. trust_at m met.types runtime release
+      >>= (λ trust. keys_from m l trust.telling the_rows
+      >>= (λ keys. Ok (check_of trust met.frames (add_contents met.answers contents) keys))))) ≡ Ok c → Says c
+  by_contents runtime release met (Err f) c e = absurd (cc)
+  by_contents runtime release met (Ok contents) c e =
+      by_trust met.frames (add_contents met.answers contents) (trust_at m met.types runtime release) c e
+
+  by_met : (runtime : Option ℕ) (release : Release) (threads : List ThreadPlace) (d : Found MetShown) (c : CheckShown)
+      → (d >>= (λ met. first_contents l m threads
+      >>= (λ contents. trust_at m met.types runtime release
+      >>= (λ trust. keys_from m l trust.telling the_rows
+      >>= (λ keys. Ok (check_of trust met.frames (add_contents met.answers contents) keys)))))) ≡ Ok c → Says c
+  by_met runtime release threads (Err f) c e = absurd (cc)
+  by_met runtime release threads (Ok met) c e = by_contents runtime release met (first_contents l m threads) c e
 
   by_table : (d : Found (Option Table)) (c : CheckShown) → (d >>= (λ table. Ok (undescribed table))) ≡ Ok c → Says c
   by_table (Err f) c e = absurd (cc)
@@ -153,19 +164,19 @@ module _ (m : Memory) (l : Layout) where
       subst Says same
       (record { agrees = λ h. tt; some_right = λ h. absurd (cc); differs = λ h. absurd (cc) })
 
-  by_described : (types : Types) (runtime : Option ℕ) (release : Release) (threads : List ThreadPlace) (b : Bool)
-      (c : CheckShown) → check_if m l types runtime release threads b ≡ Ok c → Says c
+  by_described : (types : Types) (runtime : Option ℕ) (release : Release) (pointers : List ℕ) (threads : List ThreadPlace) (b : Bool)
+      (c : CheckShown) → check_if m l types runtime release pointers threads b ≡ Ok c → Says c
   unfolding described_at undescribed_at
-  by_described types runtime release threads true c e =
-      by_met runtime release (met_at l release m types threads) c e
-  by_described types runtime release threads false c e = by_table (kept (table_at m release runtime)) c e
+  by_described types runtime release pointers threads true c e =
+      by_met runtime release threads (met_at l release pointers m types threads) c e
+  by_described types runtime release pointers threads false c e = by_table (kept (table_at m release runtime)) c e
 
   -- what the answer over a memory says
-  pub check_says : (types : Types) (runtime : Option ℕ) (release : Release) (threads : List ThreadPlace)
-      (c : CheckShown) → check_at m l types runtime release threads ≡ Ok c → Says c
+  pub check_says : (types : Types) (runtime : Option ℕ) (release : Release) (pointers : List ℕ) (threads : List ThreadPlace)
+      (c : CheckShown) → check_at m l types runtime release pointers threads ≡ Ok c → Says c
   unfolding check_at
-  check_says types runtime release threads c e =
-      by_described types runtime release threads (is_described release) c e
+  check_says types runtime release pointers threads c e =
+      by_described types runtime release pointers threads (is_described release) c e
 
 pub says_of : (r : Result LayoutCheck ReadFault) (d : Found CheckShown) → ((c : CheckShown) → d ≡ Ok c → Says c)
     → Answers read_fault d (check_result r) → IfOk r (λ check. Says (check_shown check))

@@ -21,6 +21,7 @@ use Rattle.py_selftest.specs.declared.telling.Types.{Types}
 use Rattle.py_selftest.specs.declared.trusting.Build.{Build}
 use Rattle.py_selftest.specs.declared.trusting.Table.{Table}
 use Rattle.py_selftest.specs.declared.walking.ThreadPlace.{ThreadPlace}
+use Rattle.py_selftest.specs.Contents.{add_contents, first_contents}
 use Rattle.py_selftest.specs.Keys.{key_name, number_in}
 use Rattle.py_selftest.specs.Rows.{Row, the_rows}
 use Rattle.py_selftest.specs.Telling.{applies, kept, member_told, row_told}
@@ -77,11 +78,11 @@ lacks k = k.needed && (is_none k.layout || is_none k.process)
 abbrev pub unconfirmed : Bool → Verdict
 unconfirmed doubted = if doubted then Doubtful else Silent
 
--- what is said of a layout by its numbers and the known answers
-abbrev pub verdict_of : Bool → List Answer → List KeyShown → Verdict
-verdict_of doubted known keys =
+-- what is said of a layout by its numbers, how many frames were met, and the known answers
+abbrev pub verdict_of : Bool → ℕ → List Answer → List KeyShown → Verdict
+verdict_of doubted frames known keys =
     if list_any differs keys then Differs
-    else (if has_no_right_frame known then Doubtful
+    else (if has_no_right_frame frames known then Doubtful
     else (if list_any lacks keys then unconfirmed doubted else Agrees))
 
 abbrev pub untried : Types → Release → Option ℕ → Telling
@@ -113,6 +114,7 @@ pub record CheckShown : Type 0 where
   pub verdict : Verdict
   pub build : Option Build
   pub other_table : Option Release
+  pub frames : ℕ
   pub known : List Answer
   pub keys : List KeyShown
 
@@ -121,6 +123,7 @@ check_shown c = record {
   verdict = c.verdict;
   build = c.build;
   other_table = c.other_table;
+  frames = c.frames;
   known = c.known.items;
   keys = map key_shown c.keys.items;
 }
@@ -129,41 +132,51 @@ abbrev pub check_result : Result LayoutCheck ReadFault → Result CheckShown Rea
 check_result (Ok check) = Ok (check_shown check)
 check_result (Err error) = Err error
 
-abbrev pub check_of : Trust → List Answer → List KeyShown → CheckShown
-check_of trust known keys = record {
-  verdict = verdict_of trust.doubted known keys;
+abbrev pub check_of : Trust → ℕ → List Answer → List KeyShown → CheckShown
+check_of trust frames known keys = record {
+  verdict = verdict_of trust.doubted frames known keys;
   build = trust.build;
   other_table = trust.other_table;
+  frames = frames;
   known = known;
   keys = keys;
 }
 
 -- the same of a version of which it is known what its types tell: by the types that are known, and those that the
 -- frames lead to
-unfoldable pub described_at : Memory → Layout → Types → Option ℕ → Release → List ThreadPlace → Found CheckShown
-described_at m l types runtime release threads = do
-  met ← met_at l release m types threads
+unfoldable pub described_at : Memory → Layout → Types → Option ℕ → Release → List ℕ → List ThreadPlace
+    → Found CheckShown
+described_at m l types runtime release pointers threads = do
+  met ← met_at l release pointers m types threads
+  contents ← first_contents l m threads
   trust ← trust_at m met.types runtime release
   keys ← keys_from m l trust.telling the_rows
-  Ok (check_of trust met.answers keys)
+  Ok (check_of trust met.frames (add_contents met.answers contents) keys)
 
 abbrev pub undescribed : Option Table → CheckShown
-undescribed table =
-    record { verdict = NotDescribed; build = None; other_table = other_of table; known = []; keys = [] }
+undescribed table = record {
+  verdict = NotDescribed;
+  build = None;
+  other_table = other_of table;
+  frames = 0;
+  known = [];
+  keys = [];
+}
 
 unfoldable pub undescribed_at : Memory → Option ℕ → Release → Found CheckShown
 undescribed_at m runtime release = do
   table ← kept (table_at m release runtime)
   Ok (undescribed table)
 
-abbrev pub check_if : Memory → Layout → Types → Option ℕ → Release → List ThreadPlace → Bool → Found CheckShown
-check_if m l types runtime release threads true = described_at m l types runtime release threads
-check_if m l types runtime release threads false = undescribed_at m runtime release
+abbrev pub check_if : Memory → Layout → Types → Option ℕ → Release → List ℕ → List ThreadPlace → Bool
+    → Found CheckShown
+check_if m l types runtime release pointers threads true = described_at m l types runtime release pointers threads
+check_if m l types runtime release pointers threads false = undescribed_at m runtime release
 
 -- a layout, beside what the process says of itself
-unfoldable pub check_at : Memory → Layout → Types → Option ℕ → Release → List ThreadPlace → Found CheckShown
-check_at m l types runtime release threads =
-    check_if m l types runtime release threads (is_described release)
+unfoldable pub check_at : Memory → Layout → Types → Option ℕ → Release → List ℕ → List ThreadPlace → Found CheckShown
+check_at m l types runtime release pointers threads =
+    check_if m l types runtime release pointers threads (is_described release)
 
 -- ---- what the answers say
 
@@ -190,5 +203,5 @@ OneDiffers (k ∷ ks) = Differ k ⊎ OneDiffers ks
 -- what an answer says of each number
 pub record Says (c : CheckShown) : Type 0 where
   pub agrees : c.verdict ≡ Agrees → AllAgree c.keys
-  pub some_right : c.verdict ≡ Agrees → has_no_right_frame c.known ≡ false
+  pub some_right : c.verdict ≡ Agrees → has_no_right_frame c.frames c.known ≡ false
   pub differs : c.verdict ≡ Differs → OneDiffers c.keys

@@ -8,4 +8,6 @@ pub mod Text
 pub mod Trees
 pub mod Classes
 pub mod Questions
+pub mod Threads
+pub mod Contents
 pub mod Walking

@@ -7,7 +7,7 @@ use Rattle.process_memory.specs.Memory.{Memory, Found, ◌>>=◌, word_at}
 use Rattle.py_fields.specs.declared.layout.Layout.{Layout}
 use Rattle.py_selftest.specs.declared.questions.Answer.{Answer}
 use Rattle.py_selftest.specs.declared.questions.Counted.{Counted}
-use Rattle.py_selftest.specs.declared.questions.Counted.TheVariants.{Right, RightOfFrames, Frames}
+use Rattle.py_selftest.specs.declared.questions.Counted.TheVariants.{Right, RightOfFrames}
 use Rattle.py_selftest.specs.declared.questions.FrameTold.{FrameTold}
 use Rattle.py_selftest.specs.declared.questions.Question.{Question}
 use Rattle.py_selftest.specs.declared.questions.Question.TheVariants as question
@@ -148,20 +148,13 @@ add_frame answers t = add (add (add (add (add (add (add (add (add answers
     question.Variables t.variables) question.Table t.table) question.End t.end)
     question.Instruction t.instruction) question.Local t.local
 
-abbrev pub is_of_code : Question → Bool
-is_of_code question.Interpreter = false
-is_of_code question.Frame = false
-is_of_code question.Code = true
-is_of_code question.Name = false
-is_of_code question.File = false
-is_of_code question.Variables = false
-is_of_code question.Table = false
-is_of_code question.End = false
-is_of_code question.Instruction = false
-is_of_code question.Local = false
-
 abbrev pub is_of_frame : Question → Bool
 is_of_frame question.Interpreter = false
+is_of_frame question.Pointer = false
+is_of_frame question.Modules = false
+is_of_frame question.Largest = false
+is_of_frame question.Float = false
+is_of_frame question.Truth = false
 is_of_frame question.Frame = true
 is_of_frame question.Code = true
 is_of_frame question.Name = true
@@ -172,11 +165,10 @@ is_of_frame question.End = true
 is_of_frame question.Instruction = true
 is_of_frame question.Local = true
 
--- those that are right, those of a frame that are, and one for each frame
+-- those that are right, and those of a frame that are
 abbrev pub is_counted : Counted → Answer → Bool
 is_counted Right a = a.right
 is_counted RightOfFrames a = a.right && is_of_frame a.question
-is_counted Frames a = is_of_code a.question
 
 abbrev pub one_if : Bool → ℕ
 one_if true = 1
@@ -187,6 +179,10 @@ unfoldable pub count_known : Counted → List Answer → ℕ
 count_known counted [] = 0
 count_known counted (a ∷ rest) = one_if (is_counted counted a) + count_known counted rest
 
--- there are at least eight frames, and none of them has an answer that is right
-abbrev pub has_no_right_frame : List Answer → Bool
-has_no_right_frame known = nat_le 8 (count_known Frames known) && count_known RightOfFrames known == 0
+-- at least eight frames were met, and none of them has an answer that is right
+abbrev pub has_no_right_frame : ℕ → List Answer → Bool
+has_no_right_frame frames known = nat_le 8 frames && count_known RightOfFrames known == 0
+
+-- a frame more, where fewer than eight were met: more are not counted
+abbrev pub one_more : ℕ → ℕ
+one_more frames = if nat_lt frames 8 then frames + 1 else frames

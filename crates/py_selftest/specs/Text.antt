@@ -76,13 +76,13 @@ doubt_text by_frames = if by_frames then codes "Layout doubtful, no known answer
     else codes "Layout not confirmed, type's own table is none that is known"
 
 -- what is said of a layout by its numbers
-abbrev pub verdict_text : Verdict → List Answer → List KeyShown → List ℕ
-verdict_text Agrees known keys = codes "Layout agrees" ++ counts_text keys
-verdict_text Differs known keys = differing_text keys
-verdict_text Doubtful known keys = doubt_text (has_no_right_frame known) ++ counts_text keys
-verdict_text Silent known keys = codes "Layout not confirmed" ++ counts_text keys
-verdict_text NotDescribed known keys = codes "Layout not confirmed: this version's types are not known\n"
+abbrev pub verdict_text : Verdict → ℕ → List Answer → List KeyShown → List ℕ
+verdict_text Agrees frames known keys = codes "Layout agrees" ++ counts_text keys
+verdict_text Differs frames known keys = differing_text keys
+verdict_text Doubtful frames known keys = doubt_text (has_no_right_frame frames known) ++ counts_text keys
+verdict_text Silent frames known keys = codes "Layout not confirmed" ++ counts_text keys
+verdict_text NotDescribed frames known keys = codes "Layout not confirmed: this version's types are not known\n"
 
 abbrev pub check_text : CheckShown → List ℕ
 check_text c = build_text c.build
-    ++ (table_text c.other_table ++ (verdict_text c.verdict c.known c.keys ++ known_text c.known))
+    ++ (table_text c.other_table ++ (verdict_text c.verdict c.frames c.known c.keys ++ known_text c.known))

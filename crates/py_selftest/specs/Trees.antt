@@ -95,7 +95,7 @@ abbrev pub check_tree : CheckShown → Data
 check_tree c = object (
     member (codes "build") (build_tree c.build) (
     member (codes "differ") (list_tree Differing c.keys) (
-    member (codes "doubt") (doubt_tree c.verdict (has_no_right_frame c.known)) (
+    member (codes "doubt") (doubt_tree c.verdict (has_no_right_frame c.frames c.known)) (
     member (codes "known") (known_tree c.known) (
     member (codes "not_told") (list_tree Untold c.keys) (
     member (codes "other_table") (release_tree c.other_table) (

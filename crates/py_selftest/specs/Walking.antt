@@ -10,24 +10,34 @@ use Rattle.py_fields.specs.declared.layout.Layout.{Layout}
 use Rattle.py_fields.specs.declared.layout.CframeAt.{CframeAt}
 use Rattle.py_selftest.specs.declared.questions.Answer.{Answer}
 use Rattle.py_selftest.specs.declared.questions.FrameTold.{FrameTold}
-use Rattle.py_selftest.specs.declared.questions.Question.TheVariants as question
 use Rattle.py_selftest.specs.declared.telling.Release.{Release}
 use Rattle.py_selftest.specs.declared.telling.Types.{Types}
+use Rattle.py_selftest.specs.declared.threads.ThreadTold.{ThreadTold}
 use Rattle.py_selftest.specs.declared.walking.Met.{Met}
 use Rattle.py_selftest.specs.declared.walking.ThreadPlace.{ThreadPlace}
 use Rattle.py_selftest.specs.Classes.{types_met}
-use Rattle.py_selftest.specs.Questions.{add, add_frame, frame_told}
+use Rattle.py_selftest.specs.Questions.{add_frame, frame_told, one_more}
 use Rattle.py_selftest.specs.Telling.{kept, word_told}
+use Rattle.py_selftest.specs.Threads.{add_thread, thread_told}
 
--- what was met so far: the next member of a chain of frames, or 0; the types; the answers
+-- what was met so far: the next member of a chain of frames, or 0; the interpreter of the thread that was asked last;
+-- the types; how many frames were met whose code names a file, 8 at most; the answers
 pub record MetShown : Type 0 where
   pub at : ℕ
+  pub interpreter : ℕ
   pub types : Types
+  pub frames : ℕ
   pub answers : List Answer
 
 -- the same, as the code has it
 abbrev pub met_shown : Met → MetShown
-met_shown met = record { at = met.at; types = met.types; answers = met.answers.items }
+met_shown met = record {
+  at = met.at;
+  interpreter = met.interpreter;
+  types = met.types;
+  frames = met.frames;
+  answers = met.answers.items;
+}
 
 abbrev pub met_result : Result Met ReadFault → Result MetShown ReadFault
 met_result (Ok met) = Ok (met_shown met)
@@ -67,10 +77,26 @@ or_null (Some at) = at
 
 -- what was met with a frame: its types, its answers, and where the chain goes on
 abbrev pub at_frame : MetShown → Types → ℕ → FrameTold → MetShown
-at_frame met types back told = record { at = back; types = types; answers = add_frame met.answers told }
+at_frame met types back told = record {
+  at = back;
+  interpreter = met.interpreter;
+  types = types;
+  frames = one_more met.frames;
+  answers = add_frame met.answers told;
+}
+
+-- the same of a member of the chain that is no frame whose code names a file
+abbrev pub passed_over : MetShown → ℕ → MetShown
+passed_over met back = record {
+  at = back;
+  interpreter = met.interpreter;
+  types = met.types;
+  frames = met.frames;
+  answers = met.answers;
+}
 
 unfoldable pub code_step : Layout → Memory → Release → MetShown → ℕ → Option ℕ → Found MetShown
-code_step l m r met back None = Ok (record { at = back; types = met.types; answers = met.answers })
+code_step l m r met back None = Ok (passed_over met back)
 code_step l m r met back (Some code) = do
   types ← types_met l m r met.types met.at code
   told ← frame_told l m r types met.at code
@@ -96,30 +122,35 @@ unfoldable pub chain_from : Layout → Release → Memory → ℕ → MetShown �
 chain_from l r m zero met = Ok met
 chain_from l r m (suc left) met = step_at l m r met >>= chain_from l r m left
 
--- a word is this one, where it is in memory
-abbrev pub same_word : Option ℕ → ℕ → Option Bool
-same_word None this = None
-same_word (Some word) this = Some (word == this)
-
-abbrev pub at_thread : MetShown → Option Bool → ℕ → MetShown
-at_thread met same newest =
-    record { at = newest; types = met.types; answers = add met.answers question.Interpreter same }
+-- what was met with a thread of an interpreter: its answers, and where its chain of frames begins
+abbrev pub at_thread : MetShown → ℕ → ThreadTold → ℕ → MetShown
+at_thread met interpreter told newest = record {
+  at = newest;
+  interpreter = interpreter;
+  types = met.types;
+  frames = met.frames;
+  answers = add_thread met.answers told;
+}
 
 -- what is met with a thread and the first 16 members of its chain of frames
-unfoldable pub thread_step : Layout → Release → Memory → ThreadPlace → MetShown → Found MetShown
-thread_step l r m thread met = do
-  interpreter ← kept (word_told m thread.address l.thread.interp)
+unfoldable pub thread_step : Layout → Release → List ℕ → Memory → ThreadPlace → MetShown → Found MetShown
+thread_step l r pointers m thread met = do
+  told ← thread_told l m pointers met.interpreter thread.interpreter thread.address
   newest ← kept (newest_at l m thread.address)
-  chain_from l r m 16 (at_thread met (same_word interpreter thread.interpreter) (or_null newest))
+  chain_from l r m 16 (at_thread met thread.interpreter told (or_null newest))
 
-unfoldable pub threads_from : Layout → Release → Memory → List ThreadPlace → MetShown → Found MetShown
-threads_from l r m [] met = Ok met
-threads_from l r m (thread ∷ threads) met = thread_step l r m thread met >>= threads_from l r m threads
+unfoldable pub threads_from : Layout → Release → List ℕ → Memory → List ThreadPlace → MetShown → Found MetShown
+threads_from l r pointers m [] met = Ok met
+threads_from l r pointers m (thread ∷ threads) met =
+    thread_step l r pointers m thread met >>= threads_from l r pointers m threads
 
 abbrev pub first_threads : List ThreadPlace → List ThreadPlace
 first_threads threads = take 64 threads
 
--- what is met with the first 64 threads, where these types are known
-abbrev pub met_at : Layout → Release → Memory → Types → List ThreadPlace → Found MetShown
-met_at l r m types threads =
-    threads_from l r m (first_threads threads) (record { at = 0; types = types; answers = [] })
+-- before any thread was asked, where these types are known
+abbrev pub met_none : Types → MetShown
+met_none types = record { at = 0; interpreter = 0; types = types; frames = 0; answers = [] }
+
+-- what is met with the first 64 threads, where these types and these thread pointers are known
+abbrev pub met_at : Layout → Release → List ℕ → Memory → Types → List ThreadPlace → Found MetShown
+met_at l r pointers m types threads = threads_from l r pointers m (first_threads threads) (met_none types)

@@ -3,6 +3,8 @@ ghost use Rattle.std.specs.Prelude.{◌≡◌, ◌+◌, ◌*◌, ◌++◌, ◌�
 ghost use Rattle.std.specs.List.{list_any};
 ghost use Rattle.process_memory.specs.Seen.{Reads, read_fault};
 ghost use Rattle.process_memory.specs.declared.memory.ReadFault.TheVariants.{OutOfMemory};
+ghost use Rattle.py_fields.specs.Sound.{IsSound};
+ghost use Rattle.py_selftest.specs.Contents.{add_contents};
 ghost use Rattle.py_selftest.specs.Checking.{Says, are_other, check_at, check_if, check_of, check_result, check_shown};
 ghost use Rattle.py_selftest.specs.Checking.{described_at, differs, key_shown, key_told};
 ghost use Rattle.py_selftest.specs.Checking.{keys_from, keys_result, lacks};
@@ -10,6 +12,7 @@ ghost use Rattle.py_selftest.specs.Checking.{trust_at, trust_of, unconfirmed, un
 ghost use Rattle.py_selftest.specs.Checking.{undescribed_at, untried, verdict_of};
 ghost use Rattle.py_selftest.specs.Rows.{row_of};
 
+use crate::contents::{ContentsTold, add_contents, first_contents};
 use crate::keys::{Key, key_name, number_in};
 use crate::questions::{Answer, has_no_right_frame};
 use crate::rows::{BuiltIn, Row, rows};
@@ -46,8 +49,8 @@ pub enum Verdict {
     Agrees,
     /// One that is told is another one.
     Differs,
-    /// None of at least eight frames has a known answer that is right; or needed numbers are not told, and `type` says
-    /// of itself what can't be.
+    /// None of at least eight frames that were met has a known answer that is right; or needed numbers are not told, and
+    /// `type` says of itself what can't be.
     Doubtful,
     /// Needed numbers are not told.
     Silent,
@@ -63,6 +66,8 @@ pub struct LayoutCheck {
     pub build: Option<Build>,
     /// Of which version the process's own table says that it is, where that is none whose form is known.
     pub other_table: Option<Release>,
+    /// How many frames were met whose code names a file, 8 at most.
+    pub(crate) frames: u64,
     /// The known answers that were found, and which are right.
     pub(crate) known: Vec<Answer>,
     /// All numbers of a layout but sizes, in the order of a layout file.
@@ -175,16 +180,16 @@ fn unconfirmed(doubted: bool) -> Verdict
     }
 }
 
-/// What is said of a layout by its numbers and the known answers. `doubted` is whether `type` says of itself what can't
-/// be.
-fn verdict_of(doubted: bool, known: &[Answer], keys: &[KeyTold]) -> Verdict
-    ensures { result ≡ verdict_of doubted known.now (map key_shown keys.now) }
+/// What is said of a layout by its numbers, how many frames were met, and the known answers. `doubted` is whether `type`
+/// says of itself what can't be.
+fn verdict_of(doubted: bool, frames: u64, known: &[Answer], keys: &[KeyTold]) -> Verdict
+    ensures { result ≡ verdict_of doubted frames known.now (map key_shown keys.now) }
 {
     let differing = any_differs(keys);
     if differing {
         return Verdict::Differs;
     }
-    let no_right = has_no_right_frame(known);
+    let no_right = has_no_right_frame(frames, known);
     if no_right {
         return Verdict::Doubtful;
     }
@@ -265,20 +270,31 @@ fn read_trust<P: ProcessMemory>(
     Ok(trust_of(types, runtime, release, own, size, table))
 }
 
-/// A layout beside what is told, by the numbers and the known answers.
-fn check_of(trust: &Trust, known: Vec<Answer>, keys: Vec<KeyTold>) -> LayoutCheck
-    ensures { check_shown result ≡ check_of trust.now known.items (map key_shown keys.items) }
+/// A layout beside what is told, by the numbers, how many frames were met, and the known answers.
+fn check_of(trust: &Trust, frames: u64, known: Vec<Answer>, keys: Vec<KeyTold>) -> LayoutCheck
+    ensures { check_shown result ≡ check_of trust.now frames known.items (map key_shown keys.items) }
 {
     LayoutCheck {
-        verdict: verdict_of(trust.doubted, &known, &keys),
+        verdict: verdict_of(trust.doubted, frames, &known, &keys),
         build: trust.build,
         other_table: trust.other_table,
+        frames,
         known,
         keys,
     }
 }
 
-/// A layout beside what a process of a version tells that is known. At most 104814 reads.
+/// Some answers, and those of what modules have.
+fn with_contents(known: Vec<Answer>, contents: &ContentsTold) -> Result<Vec<Answer>, ReadFault>
+    ensures added { IfOk result (λ all. all.items ≡ add_contents known.items contents.now) }
+    ensures memory { IfErr result (λ error. error ≡ OutOfMemory) }
+{
+    let mut all = known;
+    add_contents(&mut all, contents)?;
+    Ok(all)
+}
+
+/// A layout beside what a process of a version tells that is known. At most 129679 reads.
 fn described_check<P: ProcessMemory>(
     alloc: Global,
     process: &mut P,
@@ -286,15 +302,19 @@ fn described_check<P: ProcessMemory>(
     types: &Types,
     runtime: Option<u64>,
     release: Release,
+    pointers: &[u64],
     threads: &[ThreadPlace],
 ) -> Result<LayoutCheck, ReadFault>
-    ensures { Reads read_fault 104814 (P.seen process.old) (P.seen process.new)
-        (λ m. described_at m layout.now types.now runtime release threads.now) (check_result result) }
+    requires sound { IsSound layout.now }
+    ensures { Reads read_fault 129679 (P.seen process.old) (P.seen process.new)
+        (λ m. described_at m layout.now types.now runtime release pointers.now threads.now) (check_result result) }
 {
-    let met = meet(alloc, process, layout, release, types, threads)?;
+    let met = meet(alloc, process, layout, release, types, pointers, threads)?;
+    let contents = first_contents(alloc, process, layout, threads)?;
     let trust = read_trust(alloc, process, &met.types, runtime, release)?;
     let keys = keys_told(alloc, process, layout, &trust.telling, rows())?;
-    Ok(check_of(&trust, met.answers, keys))
+    let known = with_contents(met.answers, &contents)?;
+    Ok(check_of(&trust, met.frames, known, keys))
 }
 
 /// What is told of a version of which it is not known what its types tell.
@@ -305,6 +325,7 @@ fn undescribed(alloc: Global, table: Option<Table>) -> LayoutCheck
         verdict: Verdict::NotDescribed,
         build: None,
         other_table: other_of(table),
+        frames: 0,
         known: Vec::new(alloc),
         keys: Vec::new(alloc),
     }
@@ -324,7 +345,7 @@ fn undescribed_check<P: ProcessMemory>(
     Ok(undescribed(alloc, table))
 }
 
-/// The one or the other. At most 104814 reads.
+/// The one or the other. At most 129679 reads.
 fn check_if<P: ProcessMemory>(
     alloc: Global,
     process: &mut P,
@@ -332,14 +353,18 @@ fn check_if<P: ProcessMemory>(
     types: &Types,
     runtime: Option<u64>,
     release: Release,
+    pointers: &[u64],
     threads: &[ThreadPlace],
     described: bool,
 ) -> Result<LayoutCheck, ReadFault>
-    ensures { Reads read_fault 104814 (P.seen process.old) (P.seen process.new)
-        (λ m. check_if m layout.now types.now runtime release threads.now described) (check_result result) }
+    requires sound { IsSound layout.now }
+    ensures { Reads read_fault 129679 (P.seen process.old) (P.seen process.new)
+        (λ m. check_if m layout.now types.now runtime release pointers.now threads.now described) (check_result result) }
 {
     if described {
-        return described_check(alloc, process, layout, types, runtime, release, threads);
+        return described_check(
+            alloc, process, layout, types, runtime, release, pointers, threads,
+        );
     }
     undescribed_check(alloc, process, runtime, release)
 }
@@ -348,8 +373,9 @@ fn check_if<P: ProcessMemory>(
 /// many known answers are right of those to which the layout's numbers lead.
 ///
 /// `types` are the addresses of built-in types and `runtime` that of the runtime record (`_PyRuntime`), as the symbols
-/// of the images have them; `release` is the version of the Python that ran; `threads` are the threads of its
-/// interpreters, as the layout leads to them, of which the first 64 are asked, and of each one's frames the newest 16.
+/// of the images have them; `release` is the version of the Python that ran; `pointers` are the thread pointers among
+/// the registers, where they are known; `threads` are the threads of its interpreters, as the layout leads to them, of
+/// which the first 64 are asked, and of each one's frames the newest 16.
 ///
 /// A type tells where its members stand, and how many bytes an instance has, by the words at its own place
 /// (`tp_members`, `tp_basicsize`); the types tell only where `type` names itself, 8 or 24 bytes from its address, and
@@ -358,14 +384,14 @@ fn check_if<P: ProcessMemory>(
 /// runtime record tells with its cookie and its version alone; another one with the cookie is told by the version that
 /// it says, and nothing is read by it. A member of another width than the layout's reader reads tells nothing.
 ///
-/// `Differs` comes where a number that is told is not the layout's; else `Doubtful` where at least eight frames have
-/// an answer, and none a right one; else `Agrees` where the needed ones are told: those of code, and before 3.11 those
-/// of frames; else `Doubtful` where `type` says that its word of a size stands elsewhere, and `Silent` where not.
+/// `Differs` comes where a number that is told is not the layout's; else `Doubtful` where at least eight frames were
+/// met whose code names a file, and none has a right answer; else `Agrees` where the needed ones are told: those of
+/// code, and before 3.11 those of frames; else `Doubtful` where `type` says that its word of a size stands elsewhere, and `Silent` where not.
 /// `NotDescribed` comes for other versions than 2.7 and 3.6 to 3.13, with no numbers. Known answers decide nothing
 /// else: a broken process fails some.
 ///
 /// What is not in memory tells nothing and answers nothing: that is no error. The one error is want of memory. At most
-/// 104814 reads.
+/// 129679 reads.
 pub fn check_layout<P: ProcessMemory>(
     alloc: Global,
     process: &mut P,
@@ -373,20 +399,22 @@ pub fn check_layout<P: ProcessMemory>(
     types: &Types,
     runtime: Option<u64>,
     release: Release,
+    pointers: &[u64],
     threads: &[ThreadPlace],
 ) -> Result<LayoutCheck, ReadFault>
+    requires sound { IsSound layout.now }
     // each number that is told is the one that the words of the process's own types or of its own table name, and each
     // known answer is what the words say to which the layout leads
-    ensures right { Reads read_fault 104814 (P.seen process.old) (P.seen process.new)
-        (λ m. check_at m layout.now types.now runtime release threads.now) (check_result result) }
+    ensures right { Reads read_fault 129679 (P.seen process.old) (P.seen process.new)
+        (λ m. check_at m layout.now types.now runtime release pointers.now threads.now) (check_result result) }
 
     // where the answer is Agrees, each number of the layout that is told is the one in memory, the needed ones are
-    // told, and of eight frames one has an answer that is right; where it is Differs, the memory has another number
+    // told, and of eight frames that were met one has an answer that is right; where it is Differs, the memory has another number
     // than the layout
     ensures says { IfOk result (λ check. Says (check_shown check)) }
 {
     let described = is_described(release);
     check_if(
-        alloc, process, layout, types, runtime, release, threads, described,
+        alloc, process, layout, types, runtime, release, pointers, threads, described,
     )
 }

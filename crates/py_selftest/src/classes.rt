@@ -18,7 +18,7 @@ fn class_if(class: u64, is: bool) -> Option<u64>
 }
 
 /// The class of an object, if its own name is this one. At most 3 reads.
-fn class_named<P: ProcessMemory>(
+pub(crate) fn class_named<P: ProcessMemory>(
     alloc: Global,
     process: &mut P,
     layout: &Layout,

@@ -8,12 +8,14 @@
 
 mod checking;
 mod classes;
+mod contents;
 mod keys;
 mod members;
 mod questions;
 mod rows;
 mod telling;
 mod text;
+mod threads;
 mod tree;
 mod trusting;
 mod walking;

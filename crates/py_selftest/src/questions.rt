@@ -6,8 +6,8 @@ ghost use Rattle.process_memory.specs.declared.memory.ReadFault.TheVariants.{Out
 ghost use Rattle.py_selftest.specs.Questions.{class_told, end_told, frame_told, last_told};
 ghost use Rattle.py_selftest.specs.Questions.{member_class_told, text_type};
 ghost use Rattle.py_selftest.specs.Questions.{add, count_known, frame_type, has_no_right_frame, is_counted, is_end};
-ghost use Rattle.py_selftest.specs.Questions.{has_types, has_value, instruction_told, is_of_code, is_of_frame, local_told};
-ghost use Rattle.py_selftest.specs.Questions.{object_told, one_if, stands_in, table_told, value_told};
+ghost use Rattle.py_selftest.specs.Questions.{has_types, has_value, instruction_told, is_of_frame, local_told};
+ghost use Rattle.py_selftest.specs.Questions.{object_told, one_if, one_more, stands_in, table_told, value_told};
 ghost use Rattle.py_selftest.specs.Questions.{has_texts, text_told};
 
 use crate::telling::{Release, Types, is_before, kept, less};
@@ -17,11 +17,24 @@ use py_fields::Layout;
 /// How many bytes a line table has at most.
 const TABLE_LIMIT: u64 = 0x100_0000;
 
+/// How many frames have to be met before their answers make a layout doubtful.
+const ENOUGH_FRAMES: u64 = 8;
+
 /// A question.
 #[derive(Clone, Copy, PartialEq, Eq)]
 pub(crate) enum Question {
     /// Whether a thread of an interpreter's chain names that interpreter.
     Interpreter,
+    /// Whether the id of a thread is a thread pointer among the registers.
+    Pointer,
+    /// Whether what an interpreter names as its modules is a dict.
+    Modules,
+    /// Whether `sys.maxunicode` is the largest character's number.
+    Largest,
+    /// Whether the first item of `sys.float_info` is the largest finite number.
+    Float,
+    /// Whether `True` of `builtins` is of `bool`, and 1.
+    Truth,
     /// Whether the class of a frame is that of frames: up to 3.10.
     Frame,
     /// Whether the class of a frame's code is that of code.
@@ -257,8 +270,8 @@ fn has_value(count: u64, object: u64) -> bool
     count % 0x1_0000_0000 != 0 && object != 0
 }
 
-/// Whether the first variable of a frame has a class that is a type, where its code has one, and it has a value. At most 5
-/// reads.
+/// Whether the first variable of a frame has a class that is a type, where its code has one, and it has a value. At most
+/// 5 reads.
 fn local_told<P: ProcessMemory>(
     process: &mut P,
     layout: &Layout,
@@ -363,18 +376,6 @@ pub(crate) enum Counted {
     Right,
     /// Those of a frame that are.
     RightOfFrames,
-    /// Those of the class of a frame's code: one for each frame.
-    Frames,
-}
-
-/// Whether it is one of the class of a frame's code.
-fn is_of_code(question: Question) -> bool
-    ensures { result ≡ is_of_code question }
-{
-    match question {
-        Question::Code => true,
-        _ => false,
-    }
 }
 
 /// Whether it is one of a frame.
@@ -383,6 +384,11 @@ fn is_of_frame(question: Question) -> bool
 {
     match question {
         Question::Interpreter => false,
+        Question::Pointer => false,
+        Question::Modules => false,
+        Question::Largest => false,
+        Question::Float => false,
+        Question::Truth => false,
         _ => true,
     }
 }
@@ -394,7 +400,6 @@ fn is_counted(answer: Answer, counted: Counted) -> bool
     match counted {
         Counted::Right => answer.right,
         Counted::RightOfFrames => answer.right && is_of_frame(answer.question),
-        Counted::Frames => is_of_code(answer.question),
     }
 }
 
@@ -417,11 +422,21 @@ pub(crate) fn count_known(answers: &[Answer], counted: Counted) -> u64
     count
 }
 
-/// Whether there are at least eight frames, and none of them has an answer that is right.
-pub(crate) fn has_no_right_frame(known: &[Answer]) -> bool
-    ensures { result ≡ has_no_right_frame known.now }
+/// Whether at least eight frames were met, and none of them has an answer that is right.
+pub(crate) fn has_no_right_frame(frames: u64, known: &[Answer]) -> bool
+    ensures { result ≡ has_no_right_frame frames known.now }
 {
-    let frames = count_known(known, Counted::Frames);
     let right = count_known(known, Counted::RightOfFrames);
-    8 <= frames && right == 0
+    ENOUGH_FRAMES <= frames && right == 0
+}
+
+/// A frame more, where fewer than eight were met: more are not counted.
+pub(crate) fn one_more(frames: u64) -> u64
+    ensures { result ≡ one_more frames }
+{
+    if frames < ENOUGH_FRAMES {
+        frames + 1
+    } else {
+        frames
+    }
 }

@@ -166,11 +166,12 @@ fn push_doubt(text: &mut String, by_frames: bool) -> Result<(), AllocError>
 fn push_verdict(
     text: &mut String,
     verdict: Verdict,
+    frames: u64,
     known: &[Answer],
     keys: &[KeyTold],
 ) -> Result<(), AllocError>
     ensures { OnOk result (string_bytes text.new ≡ string_bytes text.old
-        ++ verdict_text verdict known.now (map key_shown keys.now)) }
+        ++ verdict_text verdict frames known.now (map key_shown keys.now)) }
 {
     match verdict {
         Verdict::Agrees => {
@@ -179,7 +180,7 @@ fn push_verdict(
         }
         Verdict::Differs => push_differing(text, keys),
         Verdict::Doubtful => {
-            push_doubt(text, has_no_right_frame(known))?;
+            push_doubt(text, has_no_right_frame(frames, known))?;
             push_counts(text, keys)
         }
         Verdict::Silent => {
@@ -193,8 +194,7 @@ fn push_verdict(
 }
 
 /// Appends the lines that say what a process says of a layout, each with a line feed at its end: `Layout agrees: 31
-/// keys
-/// told, 12 not told`; a line `Layout differs: frame.locals is 360, the process says 352` for each number that does;
+/// keys told, 12 not told`; a line `Layout differs: frame.locals is 360, the process says 352` for each number that does;
 /// `Layout not confirmed: ..`. In front stands the build, where it is none of the usual ones. The one error is want of
 /// memory.
 pub fn push_check(text: &mut String, check: &LayoutCheck) -> Result<(), AllocError>
@@ -202,6 +202,6 @@ pub fn push_check(text: &mut String, check: &LayoutCheck) -> Result<(), AllocErr
 {
     push_build(text, check.build)?;
     push_table(text, check.other_table)?;
-    push_verdict(text, check.verdict, &check.known, &check.keys)?;
+    push_verdict(text, check.verdict, check.frames, &check.known, &check.keys)?;
     push_known(text, &check.known)
 }

@@ -203,7 +203,11 @@ fn object_value(alloc: Global, check: &LayoutCheck) -> Result<Value, AllocError>
     ensures { IfOk result (λ value. view value ≡ check_tree (check_shown check.now)) }
 {
     let build = build_value(alloc, check.build)?;
-    let doubt = doubt_value(alloc, check.verdict, has_no_right_frame(&check.known))?;
+    let doubt = doubt_value(
+        alloc,
+        check.verdict,
+        has_no_right_frame(check.frames, &check.known),
+    )?;
     let known = known_value(alloc, &check.known)?;
     let other_table = release_value(alloc, check.other_table)?;
     let differ = list_value(alloc, Listed::Differing, &check.keys)?;
@@ -224,11 +228,10 @@ fn object_value(alloc: Global, check: &LayoutCheck) -> Result<Value, AllocError>
 /// What a process says of a layout, as a JSON value: an object with `verdict`: `agrees`, `differs`, `doubtful`,
 /// `silent` or `not described`; `build`: `free-threaded`, `trace-refs`, or null for a usual one; `told`, the numbers
 /// of the layout that the process tells, each an object with its `key`, the `layout`'s number and the `process`'s;
-/// `differ`, those of them that are two numbers; `doubt`, `frames` or `type` where it is doubted, by whether no answer of a frame is right, else
-/// null; `not_told`, the keys of the others; `known`, null, or an object that
-/// says how many known answers are `right`, and `of` how many; and `other_table`, null, or the `major` and `minor`
-/// number of the version that the process's own table of places says, where its form is not known, so that nothing is
-/// read by it.
+/// `differ`, those of them that are two numbers; `doubt`, `frames` or `type` where it is doubted, by whether no answer
+/// of a frame is right, else null; `not_told`, the keys of the others; `known`, null, or an object that says how many
+/// known answers are `right`, and `of` how many; and `other_table`, null, or the `major` and `minor` number of the
+/// version that the process's own table of places says, where its form is not known, so that nothing is read by it.
 ///
 /// The keys of an object stand in the order of their bytes. The one error is want of memory.
 pub fn check_value(alloc: Global, check: &LayoutCheck) -> Result<Value, AllocError>

@@ -4,12 +4,13 @@ ghost use Rattle.process_memory.specs.Seen.{Reads, read_fault};
 ghost use Rattle.process_memory.specs.declared.memory.ReadFault.TheVariants.{OutOfMemory};
 ghost use Rattle.py_selftest.specs.Walking.{at_frame, at_thread, chain_from, code_at, code_if, code_step, current_at};
 ghost use Rattle.py_selftest.specs.Walking.{first_threads, frame_step, met_result, met_shown};
-ghost use Rattle.py_selftest.specs.Walking.{newest_at, or_null, same_word};
+ghost use Rattle.py_selftest.specs.Walking.{newest_at, or_null, passed_over};
 ghost use Rattle.py_selftest.specs.Walking.{met_at, step_at, thread_step, threads_from, untagged};
 
 use crate::classes::types_met;
-use crate::questions::{Answer, FrameTold, Question, add_answer, frame_told};
+use crate::questions::{Answer, FrameTold, Question, add_answer, frame_told, one_more};
 use crate::telling::{Release, Types, kept, word_told};
+use crate::threads::{ThreadTold, add_thread, thread_told};
 use process_memory::{ProcessMemory, ReadFault, word_past};
 use py_fields::{CframeAt, Layout};
 use std::alloc::Global;
@@ -33,7 +34,11 @@ pub struct ThreadPlace {
 pub(crate) struct Met {
     /// The next member of a chain of frames; 0 at its end.
     pub(crate) at: u64,
+    /// The interpreter of the thread that was asked last; 0 before any was.
+    pub(crate) interpreter: u64,
     pub(crate) types: Types,
+    /// How many frames were met whose code names a file, 8 at most.
+    pub(crate) frames: u64,
     pub(crate) answers: Vec<Answer>,
 }
 
@@ -116,7 +121,12 @@ fn at_frame(met: Met, types: Types, back: u64, told: &FrameTold) -> Result<Met, 
     ensures met { IfOk result (λ new. met_shown new ≡ at_frame (met_shown met) types back told.now) }
     ensures memory { IfErr result (λ error. error ≡ OutOfMemory) }
 {
-    let Met { mut answers, .. } = met;
+    let Met {
+        interpreter,
+        frames,
+        mut answers,
+        ..
+    } = met;
     add_answer(&mut answers, Question::Frame, told.frame)?;
     add_answer(&mut answers, Question::Code, told.code)?;
     add_answer(&mut answers, Question::Name, told.name)?;
@@ -128,9 +138,24 @@ fn at_frame(met: Met, types: Types, back: u64, told: &FrameTold) -> Result<Met, 
     add_answer(&mut answers, Question::Local, told.local)?;
     Ok(Met {
         at: back,
+        interpreter,
         types,
+        frames: one_more(frames),
         answers,
     })
+}
+
+/// The same of a member of the chain that is no frame whose code names a file.
+fn passed_over(met: Met, back: u64) -> Met
+    ensures { met_shown result ≡ passed_over (met_shown met) back }
+{
+    Met {
+        at: back,
+        interpreter: met.interpreter,
+        types: met.types,
+        frames: met.frames,
+        answers: met.answers,
+    }
 }
 
 /// The same, by the member's code. At most 42 reads.
@@ -147,11 +172,7 @@ fn code_step<P: ProcessMemory>(
         (λ m. code_step layout.now m release (met_shown met) back code) (met_result result) }
 {
     match code {
-        None => Ok(Met {
-            at: back,
-            types: met.types,
-            answers: met.answers,
-        }),
+        None => Ok(passed_over(met, back)),
         Some(code) => {
             let types = types_met(alloc, process, layout, release, &met.types, met.at, code)?;
             let told = frame_told(process, layout, release, &types, met.at, code)?;
@@ -211,50 +232,51 @@ fn chain<P: ProcessMemory>(
     Ok(met)
 }
 
-/// Whether a word is this one, where it is in memory.
-fn same_word(word: Option<u64>, as_this: u64) -> Option<bool>
-    ensures { result ≡ same_word word as_this }
-{
-    match word {
-        Some(word) => Some(word == as_this),
-        None => None,
-    }
-}
-
-/// What was met with a thread: whether it names its interpreter, and where its chain of frames begins.
-fn at_thread(met: Met, same: Option<bool>, newest: u64) -> Result<Met, ReadFault>
-    ensures met { IfOk result (λ new. met_shown new ≡ at_thread (met_shown met) same newest) }
+/// What was met with a thread of an interpreter: its answers, and where its chain of frames begins.
+fn at_thread(met: Met, interpreter: u64, told: &ThreadTold, newest: u64) -> Result<Met, ReadFault>
+    ensures met { IfOk result (λ new. met_shown new ≡ at_thread (met_shown met) interpreter told.now newest) }
     ensures memory { IfErr result (λ error. error ≡ OutOfMemory) }
 {
     let Met {
         types,
+        frames,
         mut answers,
         ..
     } = met;
-    add_answer(&mut answers, Question::Interpreter, same)?;
+    add_thread(&mut answers, told)?;
     Ok(Met {
         at: newest,
+        interpreter,
         types,
+        frames,
         answers,
     })
 }
 
-/// What is met with a thread and its frames. At most 723 reads.
+/// What is met with a thread and its frames. At most 727 reads.
 fn thread_step<P: ProcessMemory>(
     alloc: Global,
     process: &mut P,
     layout: &Layout,
     release: Release,
+    pointers: &[u64],
     thread: &ThreadPlace,
     met: Met,
 ) -> Result<Met, ReadFault>
-    ensures { Reads read_fault 723 (P.seen process.old) (P.seen process.new)
-        (λ m. thread_step layout.now release m thread.now (met_shown met)) (met_result result) }
+    ensures { Reads read_fault 727 (P.seen process.old) (P.seen process.new)
+        (λ m. thread_step layout.now release pointers.now m thread.now (met_shown met)) (met_result result) }
 {
-    let interpreter = kept(word_told(process, thread.address, layout.thread.interp as u64))?;
-    let newest = kept(newest_frame(process, layout, thread.address))?;
-    let same = same_word(interpreter, thread.interpreter);
-    let begun = at_thread(met, same, or_null(newest))?;
+    let (interpreter, address) = (thread.interpreter, thread.address);
+    let told = thread_told(
+        process,
+        layout,
+        pointers,
+        met.interpreter,
+        interpreter,
+        address,
+    )?;
+    let newest = kept(newest_frame(process, layout, address))?;
+    let begun = at_thread(met, interpreter, &told, or_null(newest))?;
     chain(alloc, process, layout, release, begun)
 }
 
@@ -269,42 +291,46 @@ fn first_threads(threads: &[ThreadPlace]) -> &[ThreadPlace]
     &threads[..THREAD_LIMIT]
 }
 
-/// What is met with some threads. At most 723 reads for each.
+/// What is met with some threads. At most 727 reads for each.
 pub(crate) fn meet_threads<P: ProcessMemory>(
     alloc: Global,
     process: &mut P,
     layout: &Layout,
     release: Release,
+    pointers: &[u64],
     threads: &[ThreadPlace],
     begun: Met,
 ) -> Result<Met, ReadFault>
-    ensures { Reads read_fault (723 * length threads.now) (P.seen process.old) (P.seen process.new)
-        (λ m. threads_from layout.now release m threads.now (met_shown begun)) (met_result result) }
+    ensures { Reads read_fault (727 * length threads.now) (P.seen process.old) (P.seen process.new)
+        (λ m. threads_from layout.now release pointers.now m threads.now (met_shown begun)) (met_result result) }
 {
     let mut met = begun;
     for thread in threads {
-        met = thread_step(alloc, process, layout, release, thread, met)?;
+        met = thread_step(alloc, process, layout, release, pointers, thread, met)?;
     }
     Ok(met)
 }
 
-/// What is met with the first 64 threads and the first 16 members of each one's chain of frames. At most 46272 reads.
+/// What is met with the first 64 threads and the first 16 members of each one's chain of frames. At most 46528 reads.
 pub(crate) fn meet<P: ProcessMemory>(
     alloc: Global,
     process: &mut P,
     layout: &Layout,
     release: Release,
     types: &Types,
+    pointers: &[u64],
     threads: &[ThreadPlace],
 ) -> Result<Met, ReadFault>
-    ensures { Reads read_fault 46272 (P.seen process.old) (P.seen process.new)
-        (λ m. met_at layout.now release m types.now threads.now) (met_result result) }
+    ensures { Reads read_fault 46528 (P.seen process.old) (P.seen process.new)
+        (λ m. met_at layout.now release pointers.now m types.now threads.now) (met_result result) }
 {
     let begun = Met {
         at: 0,
+        interpreter: 0,
         types: *types,
+        frames: 0,
         answers: Vec::new(alloc),
     };
     let first = first_threads(threads);
-    meet_threads(alloc, process, layout, release, first, begun)
+    meet_threads(alloc, process, layout, release, pointers, first, begun)
 }

@@ -24,11 +24,13 @@ from typing import Dict, Iterator, List, Sequence, Tuple
 from rooms import ROOT, TOOLS  # (first: it makes the other rooms known)
 
 from child_cores import SECONDS, Failure, Skip, core_names, ended
+from pystacks_tool import places
 from pystacks_tool.cores.images import image_words, read_core
 from pystacks_tool.cores.maps import Use
-from pystacks_tool.places import LAYOUTS
 from each_python import tell_each
 from find_pythons import pythons
+
+LAYOUTS = Path(places.LAYOUTS)
 
 CHILD = Path(__file__).resolve().with_name("real_broken_child.py")
 

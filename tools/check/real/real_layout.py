@@ -30,11 +30,13 @@ from find_pythons import pythons
 from layout_from_core import Table, tables_in
 from layout_plan import Version
 from layout_swaps import swaps
+from pystacks_tool import places
 from pystacks_tool.ask.layout import AGREES, FLAG
 from pystacks_tool.ask.run import knows
-from pystacks_tool.places import LAYOUTS
 from real_core import derived_for, images_of, ran
 from real_salvage import left_by
+
+LAYOUTS = Path(places.LAYOUTS)
 
 PAGE = ROOT / "docs" / "LAYOUTS.md"
 

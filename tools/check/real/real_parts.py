@@ -110,7 +110,7 @@ def asked_over(salvage: Path, core: Path, layouts: Path, images: Sequence[str], 
 
 def text_of(tree: Tree) -> List[str]:
     """What the tool shows of a report."""
-    _, report = report_by_salvage(json.dumps(tree), "core", NamesAndValues())
+    _, report = report_by_salvage(json.dumps(tree), "core", lambda told: NamesAndValues())
     return list(report_lines(report, Style(False, True, None)))
 
 

@@ -17,14 +17,17 @@ from typing import List, Optional, Tuple
 from rooms import TOOLS  # (first: it makes the other rooms known)
 
 from carry_layouts import FIRST
+from pystacks_tool import places
 from pystacks_tool.cores.gaps import entries_in
 from pystacks_tool.cores.maps import is_library, maps_of, segments_of
-from pystacks_tool.places import LAYOUTS, PROGRAM
 from file_tables import TableError, add_file_table
 from join_layouts import joined, single_files
 from layout_plan import VERSIONS
 from made import AARCH64, EXAMPLE, NOTE, X86_64, Segment, build_id, core_file, elf_file, file_table, note
 from small_core import PROGRAM as IMAGE, TEXT, small_of
+
+LAYOUTS = Path(places.LAYOUTS)
+PROGRAM = Path(places.PROGRAM)
 
 TOOL = TOOLS / "dump_core.py"
 

@@ -18,11 +18,14 @@ from pathlib import Path
 from rooms import TOOLS  # (first: it makes the other rooms known)
 
 import stand_ins
-from pystacks_tool.places import PROGRAM, SALVAGE
+from pystacks_tool import places
 from pystacks_tool.version import VERSION
 from made import EXAMPLE, core_file
 from stand_ins import frame, interpreter, salvage, thread
 from small_core import PROGRAM as IMAGE, TEXT, small_of
+
+PROGRAM = Path(places.PROGRAM)
+SALVAGE = Path(places.SALVAGE)
 
 TREE = salvage(interpreter([thread(7, [frame("boom")], 99, True, True)]))
 SHOWN = "Signal 11 (SIGSEGV): core\nProcess 4711: python3 a.py\nPython v3.11.7\n\nThread 99 (gil) (crashed)\n    boom (a.py:1)\n"

@@ -13,8 +13,10 @@ from rooms import TOOLS  # (first: it makes the other rooms known)
 
 from layout_from_core import Table, nearest_in, tables_in
 from made import core_file
+from pystacks_tool import places
 from pystacks_tool.faults import Fault
-from pystacks_tool.places import LAYOUTS
+
+LAYOUTS = Path(places.LAYOUTS)
 
 PROGRAM = r"""#!{python} -IS
 import json, re, sys

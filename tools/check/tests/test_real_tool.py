@@ -14,10 +14,12 @@ from rooms import TOOLS  # (first: it makes the other rooms known)
 import real_tool
 import stand_ins
 from child_cores import Failure
-from pystacks_tool.places import LAYOUTS
 from made import core_file
 from real_tool import Shown, check_brief, check_tool, stacks_in
 from stand_ins import frame, local, thread
+from pystacks_tool import places
+
+LAYOUTS = Path(places.LAYOUTS)
 
 ROWS = [local("n", "12", True), local("s", None)]
 

@@ -14,10 +14,12 @@ from pathlib import Path
 
 from rooms import TOOLS  # (first: it makes the other rooms known)
 
-from pystacks_tool.places import PROGRAM
 from made import EXAMPLE
 from small_core import PROGRAM as IMAGE, TEXT, of_locals, small
 from slim_reader import check_slim, slim_file
+from pystacks_tool import places
+
+PROGRAM = Path(places.PROGRAM)
 
 STANDS_IN = """#!{python} -IS
 import sys

@@ -12,9 +12,11 @@ from pathlib import Path
 
 from rooms import TOOLS  # (first: it makes the other rooms known)
 
-from pystacks_tool.places import PROGRAM
 from made import EXAMPLE, core_file
 from small_core import CODE, FILE, HEAP, MODULE_CODE, PROGRAM as IMAGE, bss, heap, mapped
+from pystacks_tool import places
+
+PROGRAM = Path(places.PROGRAM)
 
 TOOL = TOOLS / "dump_core.py"
 

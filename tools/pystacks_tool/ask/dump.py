@@ -15,7 +15,7 @@ class Unexpected(Exception):
 
 def local_of(tree: Tree) -> Local:
     """A local."""
-    return Local(tree["name"], tree["repr"], tree["arg"])
+    return Local(tree["name"], tree["repr"], tree["arg"], tree.get("value") is not None)
 
 
 def frame_of(tree: Tree) -> Frame:

@@ -1,8 +1,6 @@
 """The names of native functions: of those for which a file has no symbol, by a debug file; and C++'s as people read them."""
 
 import re
-import shutil
-import subprocess
 from typing import Dict, Iterator, List, Optional
 
 from pystacks_tool.ask.dump import Tree
@@ -49,7 +47,12 @@ def add_names(told: List[Tree], words: List[bytes], root: Root) -> None:
 def readable_names(told: List[Tree]) -> Dict[str, str]:
     """C++'s names among those of the functions, as `c++filt` writes them, where it is there; it is asked once."""
     names = sorted({it["function"] for it in frames_in(told) if it["function"] and MANGLED.match(it["function"])})[:MOST]
-    program = shutil.which("c++filt") if names else None
+    if not names:
+        return {}
+    import shutil
+    import subprocess
+
+    program = shutil.which("c++filt")
     if program is None:
         return {}
     try:

@@ -4,7 +4,6 @@ A run over a part is a run over a memory, whole: what is answered last is shown,
 """
 
 import json
-from pathlib import Path
 from typing import Callable, List, Sequence, Tuple
 
 from pystacks_tool.ask.programs import ask, salvage_command
@@ -56,6 +55,6 @@ def ask_growing(core: OpenedCore, command: Callable[[], List[bytes]], is_told: b
     return answer
 
 
-def ask_over(options: Options, core: OpenedCore, program: Path) -> Answer:
-    """What `pysalvage` answers of a core, with the sections that are asked for but native stacks."""
-    return ask_growing(core, lambda: salvage_command(options, program, core))
+def ask_over(options: Options, core: OpenedCore, program: str, with_native: bool = False) -> Answer:
+    """What `pysalvage` answers of a core, with the sections that are asked for, and with native stacks where that is said."""
+    return ask_growing(core, lambda: salvage_command(options, program, core, with_native))

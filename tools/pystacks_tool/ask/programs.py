@@ -1,7 +1,6 @@
 """The programs that are asked of a core, and their words."""
 
 import os
-from pathlib import Path
 from typing import List, Sequence
 
 from pystacks_tool.ask.exceptions import FLAG as EXCEPTIONS
@@ -39,7 +38,7 @@ def command_of(words: Sequence[str], names: Sequence[str]) -> List[bytes]:
 
 def dump_command(options: Options, core: OpenedCore, *more: str) -> List[bytes]:
     """The words of `pystacks dump`."""
-    words = [os.fspath(program_at(options.program, PROGRAM)), "dump", f"--core={core.word}", f"--layouts={core.layouts}"]
+    words = [program_at(options.program, PROGRAM), "dump", f"--core={core.word}", f"--layouts={core.layouts}"]
     return [*command_of(words, [core.name]), *(os.fsencode(it) for it in more), *core.images]
 
 
@@ -61,30 +60,37 @@ def tells_tasks_as_text(options: Options, core: OpenedCore) -> bool:
     return not options.json and core.part is None and size_of(core) >= LARGE
 
 
-def tasks_command(options: Options, program: Path, core: OpenedCore) -> List[bytes]:
+def tasks_command(options: Options, program: str, core: OpenedCore) -> List[bytes]:
     """The words of `pysalvage` for tasks as text."""
     records = [f"--records={core.records}"] if core.records else []
-    words = [os.fspath(program), f"--layouts={core.layouts}", *records, "--frames=1", TASKS, "--", core.word]
+    words = [program, f"--layouts={core.layouts}", *records, "--frames=1", TASKS, "--", core.word]
     return [*command_of(words, [core.name]), *core.images]
 
 
-def salvage_command(options: Options, program: Path, core: OpenedCore) -> List[bytes]:
+def native_words(options: Options) -> List[str]:
+    """The flags for native stacks."""
+    return [NATIVE, *["--strict"] * options.strict]
+
+
+def salvage_command(options: Options, program: str, core: OpenedCore, with_native: bool = False) -> List[bytes]:
     """The words of `pysalvage`, which is asked for JSON by the layouts and the records of the core's machine, for the sections that are
-    shown, for what the process says of the layout, for the names and the system's ids of threads, and over a part of a core for what it missed."""
+    shown, for what the process says of the layout, for the names and the system's ids of threads, and over a part of a core for what it missed.
+    With native stacks each file goes with them that the process had mapped: any may be on a stack."""
     sections = ["--signal"] * options.signal + ["--missing"] * (core.part is not None)
     sections += [it for it in (REGISTERS, FLAG, NAMES) if knows(program, it)]
     sections += [TASKS] * (options.tasks and knows(program, TASKS) and not tells_tasks_as_text(options, core))
     sections += [EXCEPTIONS] * (options.exceptions and knows(program, EXCEPTIONS))
+    sections += native_words(options) * with_native
     records = [f"--records={core.records}"] if core.records else []
     ends = [f"--frames={options.frames}"] if options.frames is not None else []
     asked = ["-j", *ends, *["-l"] * options.locals, *sections, "--", core.word]
-    words = [os.fspath(program), f"--layouts={core.layouts}", *records, *asked]
-    return [*command_of(words, [core.name]), *core.images]
+    words = [program, f"--layouts={core.layouts}", *records, *asked]
+    return [*command_of(words, [core.name]), *core.images, *(core.other_images() if with_native else [])]
 
 
-def native_command(options: Options, program: Path, core: OpenedCore) -> List[bytes]:
-    """The words of `pysalvage` for native stacks alone, with each file that the process had mapped: any may be on a stack."""
+def native_command(options: Options, program: str, core: OpenedCore) -> List[bytes]:
+    """The words of `pysalvage` for native stacks alone, with each file that the process had mapped."""
     ends = [f"--frames={options.frames}"] if options.frames is not None else []
-    sections = [NATIVE, *["--strict"] * options.strict, *["--missing"] * (core.part is not None)]
-    words = [os.fspath(program), f"--layouts={core.layouts}", "-j", *ends, *sections, "--", core.word]
+    sections = [*native_words(options), *["--missing"] * (core.part is not None)]
+    words = [program, f"--layouts={core.layouts}", "-j", *ends, *sections, "--", core.word]
     return [*command_of(words, [core.name]), *core.images, *core.other_images()]

@@ -1,14 +1,13 @@
 """The report on a core, by what the programs tell of it.
 
-Where `pysalvage` is there it is asked, since it shows what is left of a broken process. It tells no values of locals, so
-where these are asked for they are those of `pystacks dump`, if that gives a report. Where `pysalvage` isn't there
-`pystacks dump` is asked alone.
+Where `pysalvage` is there it is asked, since it shows what is left of a broken process. Of one that tells no values of locals, or
+no names, these are those of `pystacks dump`, if that gives a report. Where `pysalvage` isn't there `pystacks dump` is asked alone.
 """
 
 import json
-from functools import lru_cache
-from pathlib import Path
-from typing import List, NamedTuple, Optional
+import os
+from functools import lru_cache, partial
+from typing import List, NamedTuple, Optional, Tuple
 
 from pystacks_tool.ask.dump import Tree, Unexpected, report_by_dump, tree_of
 from pystacks_tool.ask.layout import DIFFERS, layout_in, refusal
@@ -19,11 +18,12 @@ from pystacks_tool.ask.programs import NAMES, ask, dump_command, native_command,
 from pystacks_tool.ask.run import Answer, knows
 from pystacks_tool.ask.salvage import NamesAndValues, names_and_values, report_by_salvage, with_system_ids
 from pystacks_tool.ask.task_frames import with_running_frames
-from pystacks_tool.ask.task_text import tasks_in
 from pystacks_tool.ask.tasks import FLAG as TASKS
+from pystacks_tool.ask.values import hide_in_frames, tells_values
 from pystacks_tool.cores.images import OTHER_FILE
+from pystacks_tool.cores.known import Known
 from pystacks_tool.cores.opened import OpenedCore
-from pystacks_tool.faults import NO_PROGRAM, Fault, say, shown
+from pystacks_tool.faults import NO_PROGRAM, NO_ROOM, Fault, say, shown
 from pystacks_tool.model import Report, Tasks, arranged
 from pystacks_tool.options import Options
 from pystacks_tool.places import PROGRAM, salvage_program
@@ -42,11 +42,10 @@ def decoded(text: bytes) -> str:
     return text.decode("utf-8", "replace")
 
 
-def ask_for_names_and_values(options: Options, core: OpenedCore, salvage: Path) -> NamesAndValues:
-    """With -l the values of locals, where `pystacks dump` has a report, and the names of threads; nothing where `pysalvage` tells all
-    that is asked for."""
-    program = Path(options.program) if options.program else PROGRAM
-    if not program.is_file() or knows(salvage, NAMES) and not options.locals:
+def ask_for_names_and_values(options: Options, core: OpenedCore, salvage: str, told: Tree) -> NamesAndValues:
+    """With -l the values of locals, where `pystacks dump` has a report, and the names of threads; nothing where what `pysalvage` told has
+    all that is asked for."""
+    if not os.path.isfile(options.program or PROGRAM) or knows(salvage, NAMES) and (not options.locals or tells_values(told)):
         return NamesAndValues()
     answer = ask(core, dump_command(options, core, "-j", *["-l"] * options.locals))
     try:
@@ -55,15 +54,26 @@ def ask_for_names_and_values(options: Options, core: OpenedCore, salvage: Path) 
         return NamesAndValues()
 
 
-def ask_salvage(options: Options, core: OpenedCore, program: Path) -> Outcome:
+def asked_once(options: Options, core: OpenedCore, program: str) -> Tuple[Answer, bool]:
+    """What `pysalvage` answers, and whether native stacks are in it: so they are of a core that is handed over whole and has no more than
+    `MANY` threads, where they are wanted by its signal."""
+    known = core.known if core.part is None else Known()
+    joins = known.threads <= MANY and wants_native(options, program, known.signal)
+    answer = ask_over(options, core, program, joins)
+    # (what they alone need room for takes nothing from the others)
+    return (ask_over(options, core, program), False) if joins and answer.status == NO_ROOM else (answer, joins)
+
+
+def ask_salvage(options: Options, core: OpenedCore, program: str) -> Outcome:
     """What `pysalvage` tells, with names and values."""
-    answer = ask_over(options, core, program)
+    answer, has_native = asked_once(options, core, program)
     if answer.status != 0:
         return Outcome(answer)
     told = layout_in(decoded(answer.out))
     if told is not None and told.verdict == DIFFERS and not options.any_layout:
         return Outcome(refusal(told))
-    tree, report = report_by_salvage(decoded(answer.out), core.name, ask_for_names_and_values(options, core, program))
+    added = partial(ask_for_names_and_values, options, core, program)
+    tree, report = report_by_salvage(decoded(answer.out), core.name, added, options.hidden)
     report = with_running_frames(with_tasks(options, core, program, with_system_ids(report)))
     if not options.registers:
         # (they were asked for the ids of threads alone)
@@ -71,7 +81,7 @@ def ask_salvage(options: Options, core: OpenedCore, program: Path) -> Outcome:
     if core.part is not None:
         # (that is between the program and the tool)
         tree["missing"] = None
-    return Outcome(answer, arranged(with_native(options, core, program, report, tree)), tree)
+    return Outcome(answer, arranged(with_native(options, core, program, report, tree, has_native)), tree)
 
 
 def say_missing(files: List[str]) -> None:
@@ -85,13 +95,15 @@ MISSING = 4
 """How many files that weren't at hand are named."""
 
 
-def with_tasks(options: Options, core: OpenedCore, program: Path, report: Report) -> Report:
+def with_tasks(options: Options, core: OpenedCore, program: str, report: Report) -> Report:
     """The report with the tasks of asyncio, where they are asked for in a run of its own."""
     if not options.tasks or not knows(program, TASKS) or not tells_tasks_as_text(options, core):
         return report
     answer = ask(core, tasks_command(options, program, core))
     if answer.status != 0:
         return report._replace(tasks=(Tasks("", fault=f"pysalvage ended with status {answer.status}"),))
+    from pystacks_tool.ask.task_text import tasks_in
+
     return report._replace(tasks=tasks_in(decoded(answer.out)))
 
 
@@ -99,16 +111,35 @@ DEATHS = {4, 5, 6, 7, 8, 11, 31}
 """The signals of faults and of `abort`: native code may be where the process died."""
 
 
-def with_native(options: Options, core: OpenedCore, program: Path, report: Report, tree: Tree) -> Report:
-    """The report with native stacks, where these are asked for or may tell where the process died. Where they can't be had it is as it
-    was: they are told beside the stacks."""
-    if not (options.native or options.where and report.signal in DEATHS) or not knows(program, NATIVE):
+MANY = 1000
+"""Of more threads native stacks are asked for in a run of its own: their JSON is long, and what it lacks is lost alone."""
+
+
+def wants_native(options: Options, program: str, signal: Optional[int]) -> bool:
+    """Whether native stacks are asked for, or may tell where the process died."""
+    return (options.native or options.where and signal in DEATHS) and knows(program, NATIVE)
+
+
+def native_told(options: Options, core: OpenedCore, program: str, tree: Tree, has_native: bool) -> Optional[List[Tree]]:
+    """The native stacks that a core's JSON has, which keeps them only where they are asked for, or those of a run of its own; nothing
+    where that has none."""
+    if has_native:
+        told, tree[NATIVE_KEY] = tree[NATIVE_KEY], None
+        return list(told)
+    answer = ask_growing(core, lambda: native_command(options, program, core), options.native)
+    return list(json.loads(decoded(answer.out))[NATIVE_KEY]) if answer.status == 0 else None
+
+
+def with_native(options: Options, core: OpenedCore, program: str, report: Report, tree: Tree, has_native: bool) -> Report:
+    """The report with native stacks, where these are wanted. Where they can't be had it is as it was: they are told beside the stacks."""
+    if not wants_native(options, program, report.signal):
+        if has_native:
+            tree[NATIVE_KEY] = None
         return report
     try:
-        answer = ask_growing(core, lambda: native_command(options, program, core), options.native)
-        if answer.status != 0:
+        told = native_told(options, core, program, tree, has_native)
+        if told is None:
             return report
-        told = json.loads(decoded(answer.out))[NATIVE_KEY]
         add_names(told, [*core.images, *core.other_images()], core.root)
         names = readable_names(told)
         stacks = tuple(stack_of(it, names) for it in told)
@@ -139,6 +170,7 @@ def ask_dump(options: Options, core: OpenedCore) -> Outcome:
         trees = json.loads(decoded(answer.out))
     except ValueError as error:
         raise Unexpected(f"its JSON: {error!r}") from None
+    hide_in_frames((frame for thread in trees for frame in thread["frames"]), options.hidden)
     report = report_by_dump(trees, core.known, core.name, options.frames)
     return Outcome(answer, arranged(report), tree_of(report, trees, options.frames))
 

@@ -6,9 +6,7 @@ The name stands at the end of the first line of a report, and in lines of faults
 import os
 import resource
 import signal
-import subprocess
 from functools import lru_cache
-from pathlib import Path
 from typing import IO, List, NamedTuple, Sequence
 
 from pystacks_tool.faults import CANNOT_WRITE, NO_ROOM, Fault
@@ -55,6 +53,8 @@ def end_as(status: int) -> int:
 def run_over(command: List[bytes], fd: int, name: bytes) -> int:
     """Runs the program, which reads the core by this descriptor, and returns its status."""
     own = b"/proc/self/fd/%d" % fd
+    import subprocess
+
     # (the program ends by the same key)
     signal.signal(signal.SIGINT, signal.SIG_DFL)
     with spare_file() as lines:
@@ -81,6 +81,8 @@ def run_over(command: List[bytes], fd: int, name: bytes) -> int:
 @lru_cache(maxsize=4)
 def help_of(program: str) -> bytes:
     """The help of a program."""
+    import subprocess
+
     try:
         done = subprocess.run([program, "--help"], stdout=subprocess.PIPE, stderr=subprocess.DEVNULL, stdin=subprocess.DEVNULL, check=False)
     except OSError:
@@ -88,12 +90,12 @@ def help_of(program: str) -> bytes:
     return done.stdout
 
 
-def knows(program: Path, flag: str) -> bool:
+def knows(program: str, flag: str) -> bool:
     """Whether a program has a flag. (The tool's own does; an older one that is named may not.)"""
-    return program == SALVAGE or flag.encode("ascii") in help_of(os.fspath(program))
+    return program == SALVAGE or flag.encode("ascii") in help_of(program)
 
 
-def tells_missed(program: Path) -> bool:
+def tells_missed(program: str) -> bool:
     """Whether a program tells what it missed."""
     return knows(program, "--missing")
 
@@ -111,10 +113,34 @@ class Answer(NamedTuple):
     """Its lines, with the user's name for the core."""
 
 
+def status_of(waited: int) -> int:
+    """How a process ended, by what the system says of it: its status, or less than 0 by a signal."""
+    return -os.WTERMSIG(waited) if os.WIFSIGNALED(waited) else os.WEXITSTATUS(waited)
+
+
+def ran(command: Sequence[bytes], fds: Sequence[int], out: int, lines: int) -> int:
+    """Runs a program with its streams in these files, and with some files more, and returns how it ended. By the system's own call: the
+    import of the standard library's module for it takes as long as all else of the tool."""
+    files = [(os.POSIX_SPAWN_DUP2, out, 1), (os.POSIX_SPAWN_DUP2, lines, 2)]
+    were = [(fd, os.get_inheritable(fd)) for fd in fds]
+    for fd in fds:
+        os.set_inheritable(fd, True)
+    process = os.posix_spawn(command[0], list(command), os.environ, file_actions=files, setsigdef=(signal.SIGPIPE, signal.SIGXFSZ))
+    try:
+        return status_of(os.waitpid(process, 0)[1])
+    except BaseException:
+        os.kill(process, signal.SIGKILL)
+        os.waitpid(process, 0)
+        raise
+    finally:
+        for fd, was in were:
+            os.set_inheritable(fd, was)
+
+
 def answer_of(command: Sequence[bytes], fds: Sequence[int], own: bytes, name: bytes) -> Answer:
     """Runs the program over a core, of which it has the word `own` and the user another name, and keeps what it writes."""
     with spare_file() as out, spare_file() as lines:
-        status = subprocess.call(list(command), pass_fds=list(fds), stdout=out, stderr=lines)
+        status = ran(command, fds, out.fileno(), lines.fileno())
         length = out.seek(0, 2)
         if status in TOLD and length > LONGEST_ANSWER:
             line = f"the program wrote {length} bytes, more than {LONGEST_ANSWER}: --plain passes its text on"

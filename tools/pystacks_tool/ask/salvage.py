@@ -1,16 +1,17 @@
 """What `pysalvage -j` told of a core. How chains end is worded as its own text has it.
 
-It tells no values of locals: those of `pystacks dump` are added, where that has a report. Of a program that doesn't tell names of
-threads either they are that one's too.
+Of one that tells no values of locals those of `pystacks dump` are added, where that has a report, and of one that doesn't tell names
+of threads these too.
 """
 
 import json
-from typing import Callable, Dict, Iterable, Optional, Tuple
+from typing import Callable, Dict, Iterable, Optional, Sequence, Tuple
 
 from pystacks_tool.ask.dump import Tree, Unexpected, local_of
 from pystacks_tool.ask.layout import KEY, layout_lines, layout_told
 from pystacks_tool.ask.exceptions import KEY as EXCEPTIONS, all_with
 from pystacks_tool.ask.tasks import KEY as TASKS, all_tasks
+from pystacks_tool.ask.values import hide
 from pystacks_tool.model import Frame, Interpreter, Registers, Report, Thread
 
 Words = Dict[str, Callable[[], str]]
@@ -159,11 +160,12 @@ def add(tree: Tree, added: NamesAndValues) -> None:
                         row["repr"] = added.values.get((row["name"], row["address"]))
 
 
-def report_by_salvage(text: str, core: str, added: NamesAndValues) -> Tuple[Tree, Report]:
-    """The JSON of one core with what is added, and the report that it gives."""
+def report_by_salvage(text: str, core: str, added: Callable[[Tree], NamesAndValues], hidden: Sequence[str] = ()) -> Tuple[Tree, Report]:
+    """The JSON of one core with what is added to it, less what is hidden by words, and the report that it gives."""
     try:
         tree = json.loads(text)
-        add(tree, added)
+        add(tree, added(tree))
+        hide(tree, hidden)
         interpreters = all_with(tuple(interpreter_of(it) for it in tree["interpreters"]), tree.get(EXCEPTIONS))
         process = tree["process"]
         told: Optional[Tuple[int, str]] = None if process is None else (process["pid"], process["arguments"])

@@ -5,7 +5,6 @@ out; each under the path that the core has for it, and none of another build or 
 """
 
 import os
-from pathlib import Path
 from typing import IO, Callable, Dict, List, Mapping, Optional, Tuple, Union
 
 from pystacks_tool.cores.gaps import entries_in
@@ -198,7 +197,8 @@ def maps_in(path: str) -> Tuple[Entry, ...]:
     if not path:
         return ()
     try:
-        found = tuple(entries_in(Path(path).read_bytes()))
+        with open(path, "rb") as file:
+            found = tuple(entries_in(file.read()))
     except OSError as error:
         line = f"cannot read {shown(os.fsencode(path))}: {error.strerror}"
         raise Fault(line, BAD_WORDS, "--maps names a copy of the process's /proc/PID/maps") from None

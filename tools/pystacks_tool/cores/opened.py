@@ -1,7 +1,6 @@
 """A core as it is handed to a program: prepared where it has to be, with its images and layouts."""
 
 import os
-from pathlib import Path
 from typing import IO, Iterable, List, Optional, Sequence, Tuple
 
 from pystacks_tool.ask.run import knows, tells_missed
@@ -107,7 +106,8 @@ class OpenedCore:
 def free_memory() -> Optional[int]:
     """How much memory the system has free, where it tells."""
     try:
-        return available(Path("/proc/meminfo").read_text(encoding="ascii", errors="replace"))
+        with open("/proc/meminfo", encoding="ascii", errors="replace") as file:
+            return available(file.read())
     except OSError:
         return None
 
@@ -172,9 +172,9 @@ def open_core(options: Options, name: str) -> OpenedCore:
         raise Fault(trouble_of(path) or f"there is no file {shown(path)}", CANNOT_READ, "name the core's file; `ls -l` says who may read it")
     new = prepare_core(options, name, core)
     machine, files = read_core(new.file if new else core)
-    layouts = os.fspath(options.layouts or layouts_of(machine))
+    layouts = options.layouts or layouts_of(machine)
     wanted = [it for it in files if it.use is not Use.MEMORY or is_asked_for(options, it)]
-    records = os.fspath(options.records or records_of(machine) or "")
+    records = options.records or records_of(machine) or ""
     check_text(os.fsencode(it) for it in (name, layouts, records))
     root, others = options.files, [it for it in files if it.use is Use.MEMORY]
     if new is None or new.part is None:

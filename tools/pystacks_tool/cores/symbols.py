@@ -5,7 +5,6 @@ What is read is one table of symbols and its names, none longer than LONGEST. A 
 """
 
 import io
-import lzma
 import os
 import struct
 from bisect import bisect_right
@@ -92,6 +91,16 @@ def rows_of(table: bytes, names: bytes) -> List[Tuple[int, int, bytes]]:
     return rows
 
 
+def unpacked(data: bytes) -> Optional[IO[bytes]]:
+    """What is packed, as far as it may be long. (What unpacks it is imported where a file has it alone.)"""
+    import lzma
+
+    try:
+        return io.BytesIO(lzma.LZMADecompressor().decompress(data, max_length=LONGEST))
+    except (lzma.LZMAError, EOFError, ValueError, MemoryError):
+        return None
+
+
 def packed_in(file: IO[bytes]) -> Optional[IO[bytes]]:
     """The file that is packed into a file, if one is."""
     head = read_at(file, 0, 64)
@@ -102,10 +111,7 @@ def packed_in(file: IO[bytes]) -> Optional[IO[bytes]]:
     names = bytes_of(file, sections[number])
     for it in sections:
         if names[it.name: it.name + len(PACKED) + 1] == PACKED + b"\0":
-            try:
-                return io.BytesIO(lzma.LZMADecompressor().decompress(bytes_of(file, it), max_length=LONGEST))
-            except (lzma.LZMAError, EOFError, ValueError, MemoryError):
-                return None
+            return unpacked(bytes_of(file, it))
     return None
 
 

@@ -43,8 +43,8 @@ def group(options: Options) -> int:
         machine, files = shared_machine(cores), shared_files(cores)
     except Apart as reason:
         raise Fault(f"{reason}: group them apart", BAD_WORDS) from None
-    layouts = os.fspath(options.layouts or layouts_of(machine))
-    command = command_of([os.fspath(program_at(options.program, PROGRAM)), "triage", layouts], options.cores)
+    layouts = options.layouts or layouts_of(machine)
+    command = command_of([program_at(options.program, PROGRAM), "triage", layouts], options.cores)
     images = image_words(files, os.fsencode(options.root), machine)
     answer = group_answer([*command, *(core.word for core in cores), *images], cores)
     if answer.status != 0 and not options.plain:
@@ -56,7 +56,7 @@ def group(options: Options) -> int:
     if options.plain:
         write_all(1, text)
         return 0
-    records = os.fspath(options.records or records_of(machine) or "")
+    records = options.records or records_of(machine) or ""
     by_name = {core.name: OpenedCore(os.fsdecode(core.name), core.prepared, layouts, images, records=records) for core in cores}
     return show_groups(options, groups_of(text, list(by_name)), by_name)
 

@@ -15,7 +15,7 @@ from pystacks_tool.handler.handle import WHO
 from pystacks_tool.handler.settings import Settings
 from pystacks_tool.pages import ROOT
 
-DOOR = ROOT / "bin" / "pystacks-core-handle"
+DOOR = Path(ROOT) / "bin" / "pystacks-core-handle"
 
 FIRST = (5, 6)
 """The first Linux that has openat2. (Before 5.3 the words of a pattern are split once names stand in them.)"""

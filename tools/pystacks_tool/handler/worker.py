@@ -114,7 +114,7 @@ def put_line(task: Task, line: Line) -> None:
 
 def put_slim(task: Task, options: Options) -> None:
     """Writes the small core, where one can be made."""
-    program = os.fspath(program_at(options.program, PROGRAM))
+    program = program_at(options.program, PROGRAM)
     core = open_core(options._replace(whole=True), options.cores[0])
     command = command_of([program, core.word, core.layouts], [core.name])
     located(command, core)

@@ -4,9 +4,9 @@ from html import escape
 from typing import Iterator, Sequence
 
 from pystacks_tool.model import Frame, Local
-from pystacks_tool.show.escape import as_function, as_name, in_page, with_decimals
+from pystacks_tool.show.escape import as_function, as_name, in_page
 from pystacks_tool.show.folds import Fold
-from pystacks_tool.show.text import Style, place_of
+from pystacks_tool.show.text import Style, place_of, value_of
 
 
 def text(value: str) -> str:
@@ -16,8 +16,7 @@ def text(value: str) -> str:
 
 def local_row(it: Local) -> str:
     """A local."""
-    value = "?" if it.value is None else with_decimals(it.value)
-    return f"<dt>{text(as_name(it.name))}{' (argument)' if it.is_argument else ''}</dt><dd>{text(value)}</dd>"
+    return f"<dt>{text(as_name(it.name))}{' (argument)' if it.is_argument else ''}</dt><dd>{text(value_of(it))}</dd>"
 
 
 def frame_item(frame: Frame, style: Style) -> str:

@@ -141,12 +141,17 @@ def empty_line(threads: Sequence[Thread]) -> str:
 # ---- stacks
 
 
+def value_of(it: Local) -> str:
+    """A local's value: as Python writes it, or as `dump` does, whose floats are bits."""
+    return "?" if it.value is None else it.value if it.is_python else with_decimals(it.value)
+
+
 def local_lines(rows: List[Local], title: str) -> Iterator[str]:
     """Locals below their title."""
     if rows:
         yield f"        {title}:"
     for it in rows:
-        value = "?" if it.value is None else in_line(with_decimals(it.value))
+        value = in_line(value_of(it))
         yield f"            {as_name(it.name)}: {value}"
 
 

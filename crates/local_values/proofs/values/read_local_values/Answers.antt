@@ -9,4 +9,4 @@ returns-in_err-addresses g c =
     rw p.1 (reading_none _ _ _ (λ m. tt))
 
 pub returns : goal.returns
-returns g c = rw (c.deref.ensures.value ∙ c.in_ok-addresses.ensures, c.at-limits.ensures) at c.read_values.ensures
+returns g c = rw (c.deref.ensures.value ∙ c.in_ok-addresses.ensures, c.rounds_of-rounds.ensures) at c.read_rounds.ensures

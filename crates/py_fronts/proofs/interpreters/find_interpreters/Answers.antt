@@ -1,7 +1,7 @@
 use Rattle.std.proofs.Math.Nat.{le_refl}
 use Rattle.process_memory.proofs.Reading.{reading_gives}
 use Rattle.py_process.specs.Facts.{known_of}
-use Rattle.py_fronts.proofs.AllFound.{all_found}
+use Rattle.py_fronts.proofs.AllFound.{named_found_all, searched_found_all}
 use Rattle.py_fronts.proofs.ReportLaws.{reported_found}
 use Rattle.py_fronts.proofs.CandidateSteps.{candidates_few}
 use Rattle.py_fronts.proofs.FindLaws.{shown_right}
@@ -21,10 +21,16 @@ returns-clause-marked g c =
     (λ m a. marked_right (g.M.ContainsAddr.contains c.args.info.now.maps) (known_of c.args.info.now)
     c.args.version.now c.args.layout.now m c.find_all.result a)
 
+pub returns-clause-named : goal.returns-clause-named
+returns-clause-named g c =
+    reading_gives _ _ c.find_all.ensures (le_refl _)
+    (λ m a. named_found_all (g.M.ContainsAddr.contains c.args.info.now.maps) (known_of c.args.info.now)
+    c.args.version.now c.args.layout.now m c.find_all.result a)
+
 pub returns-clause-all : goal.returns-clause-all
 returns-clause-all g c =
     reading_gives _ _ c.find_all.ensures (le_refl _)
-    (λ m a. all_found (g.M.ContainsAddr.contains c.args.info.now.maps) (known_of c.args.info.now)
+    (λ m a. searched_found_all (g.M.ContainsAddr.contains c.args.info.now.maps) (known_of c.args.info.now)
     c.args.version.now c.args.layout.now m c.find_all.result a)
 
 pub returns-clause-report : goal.returns-clause-report

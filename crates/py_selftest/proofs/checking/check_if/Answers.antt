@@ -6,4 +6,4 @@ pub returns-then-described : goal.returns-then-described
 returns-then-described g c = rw c.if-described.true c.described_check.ensures
 
 pub returns : goal.returns
-returns g c = rw c.if-described.false (reads_within 104814 c.undescribed_check.ensures (omega arith))
+returns g c = rw c.if-described.false (reads_within 129679 c.undescribed_check.ensures (omega arith))

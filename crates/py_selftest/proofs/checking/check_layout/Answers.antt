@@ -9,13 +9,13 @@ pub returns-clause-right : goal.returns-clause-right
 unfolding check_at
 returns-clause-right g c =
     reads_same _ _ (λ m. ap
-    (check_if m c.args.layout.now c.args.types.now c.args.runtime c.args.release c.args.threads.now) (sym
+    (check_if m c.args.layout.now c.args.types.now c.args.runtime c.args.release c.args.pointers.now c.args.threads.now) (sym
     c.is_described-described.ensures)) c.check_if.ensures
 
 pub returns-clause-says : goal.returns-clause-says
 returns-clause-says g c =
     let m = byte_at (g.P.ProcessMemory.seen c.args.process.now).pieces in
     says_of c.check_if.result
-    (check_at m c.args.layout.now c.args.types.now c.args.runtime c.args.release c.args.threads.now)
-    (check_says m c.args.layout.now c.args.types.now c.args.runtime c.args.release c.args.threads.now)
+    (check_at m c.args.layout.now c.args.types.now c.args.runtime c.args.release c.args.pointers.now c.args.threads.now)
+    (check_says m c.args.layout.now c.args.types.now c.args.runtime c.args.release c.args.pointers.now c.args.threads.now)
     (reading_here (returns-clause-right g c))

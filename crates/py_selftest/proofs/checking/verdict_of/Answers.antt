@@ -17,7 +17,7 @@ returns-then-no_right c =
     let keys = c.args.keys.now in
     let same : list_any differs (map key_shown keys) ≡ false =
     sym (any_map key_shown differs keys) ∙ sym c.any_differs-differing.ensures ∙ c.if-differing.false in
-    let no_right : has_no_right_frame c.args.known.now ≡ true =
+    let no_right : has_no_right_frame c.args.frames c.args.known.now ≡ true =
     sym c.has_no_right_frame-no_right.ensures ∙ c.if-no_right.true in
     rw (same, no_right) refl
 
@@ -26,7 +26,7 @@ returns-then-lacking c =
     let keys = c.args.keys.now in
     let same : list_any differs (map key_shown keys) ≡ false =
     sym (any_map key_shown differs keys) ∙ sym c.any_differs-differing.ensures ∙ c.if-differing.false in
-    let right : has_no_right_frame c.args.known.now ≡ false =
+    let right : has_no_right_frame c.args.frames c.args.known.now ≡ false =
     sym c.has_no_right_frame-no_right.ensures ∙ c.if-no_right.false in
     let some : list_any lacks (map key_shown keys) ≡ true =
     sym (any_map key_shown lacks keys) ∙ sym c.any_lacks-lacking.ensures ∙ c.if-lacking.true in
@@ -37,7 +37,7 @@ returns c =
     let keys = c.args.keys.now in
     let same : list_any differs (map key_shown keys) ≡ false =
     sym (any_map key_shown differs keys) ∙ sym c.any_differs-differing.ensures ∙ c.if-differing.false in
-    let right : has_no_right_frame c.args.known.now ≡ false =
+    let right : has_no_right_frame c.args.frames c.args.known.now ≡ false =
     sym c.has_no_right_frame-no_right.ensures ∙ c.if-no_right.false in
     let none : list_any lacks (map key_shown keys) ≡ false =
     sym (any_map key_shown lacks keys) ∙ sym c.any_lacks-lacking.ensures ∙ c.if-lacking.false in

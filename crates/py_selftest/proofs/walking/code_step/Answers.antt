@@ -11,7 +11,7 @@ pub returns-in-None : goal.returns-in-None
 unfolding code_step
 returns-in-None g c =
     reads_same _ _ (λ m. ap (code_step c.args.layout.now m c.args.release (met_shown c.args.met) c.args.back)
-    c.in-None.is) (reads_end 42 refl)
+    c.in-None.is) (reads_end 42 (sym c.passed_over.ensures))
 
 pub returns-in_err-types-in-Some : goal.returns-in_err-types-in-Some
 unfolding code_step

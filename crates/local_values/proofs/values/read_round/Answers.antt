@@ -1,19 +1,12 @@
 use Rattle.std.proofs.Common.{ap, arith}
-use Rattle.std.specs.Prelude.{option_map}
-use Rattle.std.specs.BTreeMap.{is_at}
-use Rattle.std.specs.Map.{lookup}
-use Rattle.std.specs.Ordering.{nat_cmp}
 use Rattle.std.proofs.lemmas.Result.{err_from_is_err_and}
 use Rattle.process_memory.proofs.Reading.{reading_gives}
 use Rattle.py_reprs.specs.Trees.{tree_of}
-use Rattle.local_values.specs.Values.{value_in}
 use Rattle.local_values.proofs.Filling.{filling_end, filling_full, filling_lost, filling_more, filling_none}
-use Rattle.local_values.proofs.values.read_values.Goals as goal
+use Rattle.local_values.proofs.values.read_round.Goals as goal
 
 pub loop-number-init : goal.loop-number-init
-loop-number-init g c =
-    filling_none _ _ _ _ _
-    (λ a. ap (λ es. option_map tree_of (lookup (is_at (nat_cmp a)) es)) c.new-values.ensures.empty)
+loop-number-init g c = filling_none _ _ _ _ _
 
 pub loop-number-preserved : goal.loop-number-preserved
 loop-number-preserved g c =
@@ -21,10 +14,9 @@ loop-number-preserved g c =
     c.in_ok-value.ensures c.left_after-left.ensures c.in_ok-keep.ensures
 
 pub returns-then-left-eq0 : goal.returns-then-left-eq0
-unfolding value_in
 returns-then-left-eq0 g c =
     filling_full _ c.loop-number.invariant c.if-left-eq0.true
-    (λ m are count. record { are = are; left_out = omega (arith, count, c.loop-number-test.true) })
+    (λ m are count. record { are = are; past = omega (arith, count) })
 
 pub returns-in_err-value : goal.returns-in_err-value
 returns-in_err-value g c =
@@ -39,7 +31,6 @@ returns-in_err-keep g c =
     (omega arith) (λ m h. tt))
 
 pub returns : goal.returns
-unfolding value_in
 returns g c =
     filling_end _ c.loop-number.invariant c.loop-number-test.false
-    (λ m are count. record { are = are; left_out = omega (arith, count) })
+    (λ m are count. record { are = are; past = omega (arith, count) })

@@ -1,0 +1,18 @@
+use Rattle.std.proofs.Common.{◌≡◌, ◌∙◌, ap, sym, refl, arith}
+use Rattle.std.proofs.lemmas.Result.{err_from_is_err_and}
+use Rattle.process_memory.specs.Seen.{read_fault}
+use Rattle.process_memory.proofs.Reading.{reads_next, reads_halt, reads_end, reads_same, reads_within, reading_short}
+use Rattle.py_builtins.proofs.Consulted.{consulting_short}
+use Rattle.py_names.specs.NamesError.{names_fault}
+use Rattle.py_selftest.specs.Contents.{content_at}
+use Rattle.py_selftest.proofs.contents.content_at.Goals as goal
+
+pub returns-in_err-found : goal.returns-in_err-found
+unfolding content_at
+returns-in_err-found g c =
+    let p = err_from_is_err_and c.from_residual.result c.from_residual.ensures.1 in
+    rw p.1 (reads_halt 8200 p.0 _ c.in_err-found.ensures (ap names_fault p.2) (omega arith))
+
+pub returns : goal.returns
+unfolding content_at
+returns g c = reads_next 8200 _ c.in_ok-found.ensures c.entry_if.ensures (omega arith)

@@ -1,0 +1,29 @@
+use Rattle.std.proofs.Common.{◌≡◌, ◌∙◌, ap, sym, refl, arith}
+use Rattle.std.specs.Prelude.{Some}
+use Rattle.std.proofs.lemmas.Result.{err_from_is_err_and}
+use Rattle.process_memory.specs.Seen.{read_fault}
+use Rattle.process_memory.proofs.Reading.{reads_next, reads_halt, reads_end, reads_same, reads_within, reading_short}
+use Rattle.py_builtins.proofs.Consulted.{consulting_short}
+use Rattle.py_names.specs.NamesError.{names_fault}
+use Rattle.py_selftest.specs.Contents.{truth_at}
+use Rattle.py_selftest.proofs.contents.truth_at.Goals as goal
+
+pub returns-in_err-class : goal.returns-in_err-class
+unfolding truth_at
+returns-in_err-class g c =
+    let p = err_from_is_err_and c.from_residual.result c.from_residual.ensures.1 in
+    rw p.1 (reads_halt 5 p.0 _ c.in_err-class.ensures p.2.0 (omega arith))
+
+pub returns-in_err-told : goal.returns-in_err-told
+unfolding truth_at
+returns-in_err-told g c =
+    let p = err_from_is_err_and c.from_residual-in_err-told.result c.from_residual-in_err-told.ensures.1 in
+    rw p.1 (reads_next 5 _ c.in_ok-class.ensures
+    (reads_halt 2 p.0 _ (consulting_short c.in_err-told.ensures.answer) p.2.0 (omega arith)) (omega arith))
+
+pub returns : goal.returns
+unfolding truth_at
+returns g c =
+    reads_next 5 _ c.in_ok-class.ensures
+    (reads_next 2 _ (consulting_short c.in_ok-told.ensures.answer)
+    (reads_end 0 (ap (λ b. Some b) (sym c.both_told.ensures))) (omega arith)) (omega arith)
