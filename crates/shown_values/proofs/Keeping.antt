@@ -1,6 +1,7 @@
 -- The values of locals, kept one behind the other.
 use Rattle.std.proofs.Common.{◌≡◌, ◌∙◌, ap, sym, subst, refl, ℕ, Bool, true, false, List, [], ◌∷◌, ◌++◌, Option, Some, None}
-use Rattle.std.proofs.Common.{arith, eq-eqb, eqb-true, eqb-false, ne_eqb, take, get_or, length, ◌<◌, ◌+◌, if◌then◌else◌}
+use Rattle.std.proofs.Common.{arith, eq-eqb, eqb-true, ne_eqb, take, get_or, length, ◌<◌, ◌+◌, if◌then◌else◌}
+use Rattle.std.proofs.lemmas.Bool.{eqb-false}
 use Rattle.std.proofs.lemmas.List.{take_more}
 use Rattle.std.specs.Prelude.{nat_eq, ◌||◌}
 use Rattle.std.specs.List.{list_any}
