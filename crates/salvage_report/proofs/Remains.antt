@@ -57,8 +57,8 @@ module _ (s : Salvage) (ts : List RecordTable) (p : Process) (crash : Option Cra
     (told : CrashTold bytes crash)
     (sections : Told) (are : AreTold s.sections p.dump.core p.notes.process salvaged.interpreters.items sections)
     (check : Option LayoutCheck) (checks : CheckIs s.sections.check_layout (process_checked p salvaged.interpreters.items) check)
-    (memory : MemoryTold) (reads : AreMemoryTold s.sections p.dump.core images p.layout (records_of ts p.version)
-    (byte_at (regions_of p.dump)) salvaged.interpreters.items memory) where
+    (memory : MemoryTold) (reads : AreMemoryTold s.sections s.locals p.dump.core images (known_of p.info) p.layout
+    (records_of ts p.version) (byte_at (regions_of p.dump)) salvaged.interpreters.items memory) where
   abbrev opened : OpenedProcess
   opened = opened_of is.maps p
 
@@ -92,8 +92,8 @@ module _ (s : Salvage) (ts : List RecordTable) (p : Process) (crash : Option Cra
         ∙ ap (over (in_maps is.maps) bytes) (sym handed);
     told = subst (λ core. AreTold s.sections core p.notes.process salvaged.interpreters.items sections) is.same are;
     check = checks;
-    memory = subst (λ core. AreMemoryTold s.sections core images p.layout (records_of ts p.version)
-        (byte_at (regions_of p.dump)) salvaged.interpreters.items memory) is.same reads;
+    memory = subst (λ core. AreMemoryTold s.sections s.locals core images (known_of p.info) p.layout
+        (records_of ts p.version) (byte_at (regions_of p.dump)) salvaged.interpreters.items memory) is.same reads;
   }
 
   pub none_left : salvaged.interpreters.items ≡ []

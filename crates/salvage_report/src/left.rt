@@ -4,6 +4,7 @@ ghost use Rattle.image_memory.specs.Backed.{regions_of};
 ghost use Rattle.process_memory.specs.Memory.{byte_at};
 ghost use Rattle.py_fields.specs.Sound.{IsSound};
 ghost use Rattle.py_records.specs.Versions.{records_of};
+ghost use Rattle.py_process.specs.Facts.{known_of};
 ghost use Rattle.memory_sections.specs.Told.{AreMemoryTold};
 ghost use Rattle.salvage_words.specs.Seen.{asked_salvage};
 ghost use Rattle.salvage_report.specs.Outcome.{IsAnswer, IsCoreOutcome, IsSalvagedBy};
@@ -81,6 +82,7 @@ fn salvaged_of(
 fn memory_of(
     alloc: Global,
     asked: Sections,
+    times: u64,
     tables: &RecordTables,
     images: &Images,
     process: &Process,
@@ -88,13 +90,15 @@ fn memory_of(
     misses: &mut Misses,
 ) -> Result<MemoryTold, AllocError>
     requires sound { IsSound process.now.layout }
-    ensures { IfOk result (AreMemoryTold asked process.now.dump.core images.now process.now.layout
-        (records_of tables.now process.now.version) (byte_at (regions_of process.now.dump)) interpreters.now) }
+    ensures { IfOk result (AreMemoryTold asked times process.now.dump.core images.now (known_of process.now.info)
+        process.now.layout (records_of tables.now process.now.version) (byte_at (regions_of process.now.dump))
+        interpreters.now) }
 {
     let records = tables.records_of(&process.version);
     tell_memory(
         alloc,
         asked,
+        times,
         images,
         process,
         &records,
@@ -128,6 +132,7 @@ fn shown_left(
     let memory = memory_of(
         alloc,
         words.sections,
+        words.locals,
         tables,
         images,
         &process,

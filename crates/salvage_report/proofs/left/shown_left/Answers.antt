@@ -4,6 +4,7 @@ use Rattle.salvage_words.specs.Seen.{asked_salvage}
 use Rattle.image_memory.specs.Backed.{regions_of}
 use Rattle.process_memory.specs.Memory.{byte_at}
 use Rattle.py_records.specs.Versions.{records_of}
+use Rattle.py_process.specs.Facts.{known_of}
 use Rattle.memory_sections.specs.Told.{AreMemoryTold}
 use Rattle.salvage_report.specs.LayoutChecked.{CheckIs, process_checked}
 use Rattle.salvage_report.specs.Sections.{AreTold}
@@ -43,7 +44,8 @@ returns-then-is_empty c = λ bytes layouts is crashed ne.
     let core = subst (λ core. AreTold asked core process c.deref-3.result.now told) c.core-core.ensures.same
     c.in_ok-told.ensures in
     let sections = subst (λ xs. AreTold asked c.args.process.dump.core process xs told) c.deref-3.ensures.value core in
-    let memory = subst (λ xs. AreMemoryTold asked c.args.process.dump.core c.args.images.now c.args.process.layout
+    let memory = subst (λ xs. AreMemoryTold asked c.args.words.now.locals c.args.process.dump.core c.args.images.now
+    (known_of c.args.process.info) c.args.process.layout
     (records_of c.args.tables.now c.args.process.version) (byte_at (regions_of c.args.process.dump)) xs
     c.in_ok-memory.memory) c.deref-2.ensures.value c.in_ok-memory.ensures in
     let check = subst (λ xs. CheckIs asked.check_layout (process_checked c.args.process xs) c.in_ok-check.check)
@@ -67,7 +69,8 @@ returns c = λ bytes layouts is crashed.
     let core = subst (λ core. AreTold asked core process c.deref-3.result.now told) c.core-core.ensures.same
     c.in_ok-told.ensures in
     let sections = subst (λ xs. AreTold asked c.args.process.dump.core process xs told) c.deref-3.ensures.value core in
-    let memory = subst (λ xs. AreMemoryTold asked c.args.process.dump.core c.args.images.now c.args.process.layout
+    let memory = subst (λ xs. AreMemoryTold asked c.args.words.now.locals c.args.process.dump.core c.args.images.now
+    (known_of c.args.process.info) c.args.process.layout
     (records_of c.args.tables.now c.args.process.version) (byte_at (regions_of c.args.process.dump)) xs
     c.in_ok-memory.memory) c.deref-2.ensures.value c.in_ok-memory.ensures in
     let check = subst (λ xs. CheckIs asked.check_layout (process_checked c.args.process xs) c.in_ok-check.check)
